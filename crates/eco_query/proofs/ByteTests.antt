@@ -1,0 +1,89 @@
+-- The tests of bytes, names and digits.
+use Rattle.std.proofs.Common.{◌≡◌, ◌≢◌, ℕ, ◌+◌, ◌-◌, ◌*◌, ◌/◌, ◌%◌, ◌^◌, ◌<◌, ◌≤◌, ◌&&◌, ◌==◌, Bool, true, false, not, nat_lt, nat_le, if◌then◌else◌, List, [], ◌∷◌, ◌++◌, length, codes, decimal, Option, refl, ap, ◌∙◌, sym, arith}
+use Rattle.std.specs.Prelude.{IfSome}
+use Rattle.std.specs.List.{list_all}
+use Rattle.std.proofs.lemmas.Bool.{le-leb, leb-true}
+use Rattle.std.proofs.lemmas.Bool.Decides.{nat_tests}
+use Rattle.std.proofs.lemmas.Slice.Eq.{bytes_eq-Decides}
+use Rattle.std.proofs.lemmas.Fmt.{decimal_digit, decimal_step}
+use Rattle.std.proofs.lemmas.Map.Text.{is_eq-slice_cmp}
+use Rattle.eco_ids.specs.Names.{may_begin, may_follow, is_name, is_text}
+use Rattle.eco_query.specs.Tokens.{is_white, is_digit}
+use Rattle.eco_query.specs.Machine.{is_lone}
+
+-- ---- tests
+
+pub if_some_cond : {X : Type 0} (c : Bool) (x y : Option X) (P : X → Type 0) → (c ≡ true → IfSome x P) → (c ≡ false → IfSome y P)
+    → IfSome (if c then x else y) P
+if_some_cond true x y P f g = f refl
+if_some_cond false x y P f g = g refl
+
+pub and_left : (a b : Bool) → (a && b) ≡ true → a ≡ true
+and_left true b e = refl
+and_left false b e = cc
+
+pub and_right : (a b : Bool) → (a && b) ≡ true → b ≡ true
+and_right true b e = e
+and_right false b e = cc
+
+pub and_both : (a b : Bool) → a ≡ true → b ≡ true → (a && b) ≡ true
+and_both a b p q = rw (p, q) refl
+
+pub letter_not_white : (b : ℕ) → may_begin b ≡ true → is_white b ≡ false
+letter_not_white b e = grind (arith, nat_tests)
+
+pub white_not_word : (b : ℕ) → is_white b ≡ true → may_follow b ≡ false
+white_not_word b e = grind (arith, nat_tests)
+
+pub white_not_digit : (b : ℕ) → is_white b ≡ true → is_digit b ≡ false
+white_not_digit b e = grind (arith, nat_tests)
+
+pub digit_is : (b : ℕ) → is_digit b ≡ true → (48 ≤ b) × (b ≤ 57)
+digit_is b e = (leb-true 48 b (and_left _ _ e), leb-true b 57 (and_right _ _ e))
+
+pub is_digit_of : (n : ℕ) → n < 10 → is_digit (48 + n) ≡ true
+is_digit_of n lt = and_both _ _ (le-leb 48 (48 + n) (omega arith)) (le-leb (48 + n) 57 (omega arith))
+
+pub not_lone : (n : List ℕ) → not (is_lone n) ≡ true → n ≢ codes "_"
+not_lone n e h = let same : is_lone n ≡ true = (bytes_eq-Decides n (codes "_")).1 h in cc
+
+pub lone_not : (n : List ℕ) → n ≢ codes "_" → is_lone n ≡ false
+lone_not n ne = elim (is_lone n) as (λ c. is_lone n ≡ c → c ≡ false) [ true ↦ λ e. absurd (ne ((bytes_eq-Decides n (codes "_")).0 e)) | false ↦ λ e. refl ] refl
+
+pub one_digit : (b : ℕ) → is_digit b ≡ true → b ∷ [] ≡ decimal (b - 48)
+one_digit b d =
+    let range = digit_is b d in
+    let same : 48 + (b - 48) ≡ b = omega arith in
+    sym (decimal_digit (b - 48) (omega arith) ∙ ap (λ c. c ∷ []) same)
+
+pub more_digits : (n b : ℕ) → 0 < n → is_digit b ≡ true → 10 * n + (b - 48) < 2 ^ 64 → decimal n ++ b ∷ [] ≡ decimal (10 * n + (b - 48))
+more_digits n b pos d small =
+    let range = digit_is b d in
+    let high : (10 * n + (b - 48)) / 10 ≡ n = omega arith in
+    let low : 48 + (10 * n + (b - 48)) % 10 ≡ b = omega arith in
+    sym (decimal_step (10 * n + (b - 48)) (omega arith) small ∙ ap (λ k. decimal k ++ (48 + (10 * n + (b - 48)) % 10) ∷ []) high
+    ∙ ap (λ c. decimal n ++ c ∷ []) low)
+
+-- ---- names
+
+-- `_` is told by one test as by the other
+lone_is_text : (n : List ℕ) → is_text n (95 ∷ []) ≡ is_lone n
+lone_is_text n = is_eq-slice_cmp n (95 ∷ [])
+
+not_true : (a : Bool) → not a ≡ true → a ≡ false
+not_true true e = cc
+not_true false e = refl
+
+-- what a name is
+pub name_parts : (b : ℕ) (bs : List ℕ) → is_name (b ∷ bs) ≡ true
+    → (may_begin b ≡ true) × (list_all may_follow bs ≡ true) × (length bs < 63) × (is_lone (b ∷ bs) ≡ false)
+name_parts b bs e =
+    let rest = and_right _ _ e in
+    let last = and_right _ _ rest in
+    let small : length bs ≤ 62 = leb-true (length bs) 62 (and_left _ _ last) in
+    (and_left _ _ e, and_left _ _ rest, omega arith, sym (lone_is_text (b ∷ bs)) ∙ not_true _ (and_right _ _ last))
+
+pub name_of_parts : (b : ℕ) (bs : List ℕ) → may_begin b ≡ true → list_all may_follow bs ≡ true → length bs < 63 → is_lone (b ∷ bs) ≡ false
+    → is_name (b ∷ bs) ≡ true
+name_of_parts b bs letter words small lone =
+    and_both _ _ letter (and_both _ _ words (and_both _ _ (le-leb (length bs) 62 (omega arith)) (ap not (lone_is_text (b ∷ bs) ∙ lone))))

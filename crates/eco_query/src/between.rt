@@ -1,0 +1,171 @@
+//! What a byte does between tokens.
+ghost use Rattle.std.specs.Prelude.{◌≡◌, ◌+◌, ◌<◌, length, Option, IfSome, option_map, slice_index};
+ghost use Rattle.eco_query.specs.Machine as machine;
+ghost use Rattle.eco_query.specs.Machine.{part_or};
+ghost use Rattle.eco_query.specs.Points.{Draft, IsBegunAt, atom_view, before_view, marked, or_point, role_view, spot_view, step_view};
+
+use crate::access::Access;
+use crate::classes::{is_name_start, is_white_space};
+use crate::point::{Head, Mark, Point, Role, Spot, Step};
+use crate::written::{WrittenAtom, WrittenPart};
+
+/// Begins a part.
+pub fn begin_part<'a>(text: &'a [u8], at: usize, role: Role<'a>) -> Option<Point<'a>>
+    requires within { at < length text.now }
+    ensures begun { IfSome result (λ p. IsBegunAt (at + 1) p) }
+    ensures step { (d : Draft) (y : Option machine.Point) → or_point text.now (at + 1) d result y ≡ part_or at (role_view d role.entry) (slice_index text.now at) y }
+{
+    let byte = text[at];
+    if is_name_start(byte) {
+        Some(Point::Name(role, at))
+    } else if byte == b'#' {
+        Some(Point::Hash(role, at))
+    } else if byte == b'*' && role.takes_wildcard() {
+        Some(Point::At(Spot::Behind(role, WrittenPart::Each)))
+    } else {
+        None
+    }
+}
+
+/// What a byte does behind an atom.
+pub fn behind_atom<'a>(text: &'a [u8], at: usize, access: Access, head: Head, atom: WrittenAtom<'a>) -> Option<Step<'a>>
+    requires within { at < length text.now }
+    ensures begun { IfSome result (λ s. IsBegunAt (at + 1) s.point) }
+    ensures step { (d : Draft) → option_map (step_view text.now (at + 1) d) result
+        ≡ machine.behind_atom head (before_view d access head) (atom_view atom.entry) (slice_index text.now at) }
+{
+    let byte = text[at];
+    match head {
+        Head::Alone => None,
+        Head::Plain if byte == b'|' => Some(Step {
+            point: Point::Bar(access, atom),
+            mark: Mark::Same,
+        }),
+        _ if byte == b',' => Some(Step {
+            point: Point::At(Spot::Slot),
+            mark: Mark::Slot(access, head, atom),
+        }),
+        _ => None,
+    }
+}
+
+/// Begins an atom.
+pub fn begin_atom<'a>(text: &'a [u8], at: usize, access: Access, head: Head) -> Option<Point<'a>>
+    requires within { at < length text.now }
+    ensures begun { IfSome result (λ p. IsBegunAt (at + 1) p) }
+    ensures step { (d : Draft) (y : Option machine.Point) → or_point text.now (at + 1) d result y
+        ≡ machine.atom_or at (before_view d access head) (slice_index text.now at) y }
+{
+    if text[at] == b'(' {
+        Some(Point::At(Spot::Part(Role::First(access, head))))
+    } else {
+        begin_part(text, at, Role::Whole(access, head))
+    }
+}
+
+/// Begins a body.
+pub fn begin_body<'a>(text: &'a [u8], at: usize, access: Access) -> Option<Point<'a>>
+    requires within { at < length text.now }
+    ensures begun { IfSome result (λ p. IsBegunAt (at + 1) p) }
+    ensures step { (d : Draft) (y : Option machine.Point) → or_point text.now (at + 1) (marked Mark.Begin d) result y
+        ≡ machine.body_or at d.slots access (slice_index text.now at) y }
+{
+    match text[at] {
+        b'!' => Some(Point::At(Spot::Atom(access, Head::Without))),
+        b'?' => Some(Point::At(Spot::Atom(access, Head::Optional))),
+        _ => begin_atom(text, at, access, Head::Plain),
+    }
+}
+
+/// What a byte behind a part does.
+pub fn behind_part<'a>(text: &'a [u8], at: usize, role: Role<'a>, part: WrittenPart<'a>) -> Option<Step<'a>>
+    requires within { at < length text.now }
+    ensures begun { IfSome result (λ s. IsBegunAt (at + 1) s.point) }
+    ensures step { (d : Draft) → option_map (step_view text.now (at + 1) d) result
+        ≡ machine.enter at (spot_view d (Spot.Behind role.entry part.entry)) (slice_index text.now at) }
+{
+    let byte = text[at];
+    match role {
+        Role::Whole(access, head) => behind_atom(text, at, access, head, WrittenAtom::Single(part)),
+        Role::First(access, head) if byte == b',' => Some(Step {
+            point: Point::At(Spot::Part(Role::Second(access, head, part))),
+            mark: Mark::Same,
+        }),
+        Role::Second(access, head, left) if byte == b')' => Some(Step {
+            point: Point::At(Spot::After(access, head, WrittenAtom::Pair(left, part))),
+            mark: Mark::Same,
+        }),
+        _ => None,
+    }
+}
+
+/// What a byte does between tokens that is no white space.
+pub fn enter<'a>(text: &'a [u8], at: usize, spot: Spot<'a>) -> Option<Step<'a>>
+    requires within { at < length text.now }
+    ensures begun { IfSome result (λ s. IsBegunAt (at + 1) s.point) }
+    ensures step { (d : Draft) → option_map (step_view text.now (at + 1) d) result ≡ machine.enter at (spot_view d spot.entry) (slice_index text.now at) }
+{
+    let byte = text[at];
+    match spot {
+        Spot::Slot => match begin_body(text, at, Access::InOut) {
+            Some(point) => Some(Step {
+                point,
+                mark: Mark::Begin,
+            }),
+            None if byte == b'[' => Some(Step {
+                point: Point::At(Spot::Word),
+                mark: Mark::Same,
+            }),
+            None => None,
+        },
+        Spot::Word if matches!(byte, b'i' | b'o' | b'n') => Some(Step {
+            point: Point::Letters(at),
+            mark: Mark::Same,
+        }),
+        Spot::Shut(access) if byte == b']' => Some(Step {
+            point: Point::At(Spot::Body(access)),
+            mark: Mark::Same,
+        }),
+        Spot::Body(access) => match begin_body(text, at, access) {
+            Some(point) => Some(Step {
+                point,
+                mark: Mark::Begin,
+            }),
+            None => None,
+        },
+        Spot::Atom(access, head) => match begin_atom(text, at, access, head) {
+            Some(point) => Some(Step {
+                point,
+                mark: Mark::Same,
+            }),
+            None => None,
+        },
+        Spot::Part(role) => match begin_part(text, at, role) {
+            Some(point) => Some(Step {
+                point,
+                mark: Mark::Same,
+            }),
+            None => None,
+        },
+        Spot::Behind(role, part) => behind_part(text, at, role, part),
+        Spot::After(access, head, atom) => behind_atom(text, at, access, head, atom),
+        _ => None,
+    }
+}
+
+/// What a byte does between tokens.
+pub fn move_at<'a>(text: &'a [u8], at: usize, spot: Spot<'a>) -> Option<Step<'a>>
+    requires within { at < length text.now }
+    ensures begun { IfSome result (λ s. IsBegunAt (at + 1) s.point) }
+    ensures step { (d : Draft) → option_map (step_view text.now (at + 1) d) result ≡ machine.move_at at (spot_view d spot.entry) (slice_index text.now at) }
+{
+    if is_white_space(text[at]) {
+        Some(Step {
+            point: Point::At(spot),
+            mark: Mark::Same,
+        })
+    } else {
+        enter(text, at, spot)
+    }
+}
+

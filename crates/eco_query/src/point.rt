@@ -1,0 +1,77 @@
+//! How far a text has been read: the points of the reader, and what a byte does at them.
+ghost use Rattle.std.specs.Prelude.{◌≡◌};
+ghost use Rattle.eco_query.specs.Machine.{takes_wildcard};
+ghost use Rattle.eco_query.specs.Points.{Draft, role_view};
+
+use crate::access::Access;
+use crate::written::{WrittenAtom, WrittenPart};
+
+/// What stands before an atom: nothing or `||`, `!`, `?`; or nothing, and nothing may come behind it.
+#[derive(Clone, Copy, Debug)]
+pub enum Head {
+    Plain,
+    Without,
+    Optional,
+    Alone,
+}
+
+/// Which part it is: an atom of its own, the first or the second of a pair, or a reference that is all of the text.
+#[derive(Clone, Copy, Debug)]
+pub enum Role<'a> {
+    Whole(Access, Head),
+    First(Access, Head),
+    Second(Access, Head, WrittenPart<'a>),
+    Sole,
+}
+
+/// What is wanted between tokens.
+#[derive(Clone, Copy, Debug)]
+pub enum Spot<'a> {
+    Slot,
+    Word,
+    Shut(Access),
+    Body(Access),
+    Atom(Access, Head),
+    Part(Role<'a>),
+    Behind(Role<'a>, WrittenPart<'a>),
+    After(Access, Head, WrittenAtom<'a>),
+}
+
+/// Between tokens, or inside of one: some of an access word, one bar, some of a name or of a handle, with the place where
+/// it begins.
+#[derive(Clone, Copy, Debug)]
+pub enum Point<'a> {
+    At(Spot<'a>),
+    Letters(usize),
+    Bar(Access, WrittenAtom<'a>),
+    Name(Role<'a>, usize),
+    Hash(Role<'a>, usize),
+    Index(Role<'a>, usize, u32),
+    Dot(Role<'a>, usize, u32),
+    Generation(Role<'a>, usize, u32, u16),
+}
+
+/// What a byte puts down: nothing, a slot's beginning, an alternative, or the last atom of a slot.
+#[derive(Clone, Copy, Debug)]
+pub enum Mark<'a> {
+    Same,
+    Begin,
+    Other(Access, WrittenAtom<'a>),
+    Slot(Access, Head, WrittenAtom<'a>),
+}
+
+/// What a byte does.
+#[derive(Clone, Copy, Debug)]
+pub struct Step<'a> {
+    pub point: Point<'a>,
+    pub mark: Mark<'a>,
+}
+
+impl Role<'_> {
+    /// Whether `*` and `_` may stand there.
+    pub fn takes_wildcard(self) -> bool
+        ensures { (d : Draft) → result ≡ takes_wildcard (role_view d self.entry) }
+    {
+        !matches!(self, Role::Sole)
+    }
+}

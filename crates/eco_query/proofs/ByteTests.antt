@@ -1,5 +1,5 @@
 -- The tests of bytes, names and digits.
-use Rattle.std.proofs.Common.{◌≡◌, ◌≢◌, ℕ, ◌+◌, ◌-◌, ◌*◌, ◌/◌, ◌%◌, ◌^◌, ◌<◌, ◌≤◌, ◌&&◌, ◌==◌, Bool, true, false, not, nat_lt, nat_le, if◌then◌else◌, List, [], ◌∷◌, ◌++◌, length, codes, decimal, Option, refl, ap, ◌∙◌, sym, arith}
+use Rattle.std.proofs.Common.{◌≡◌, ◌≢◌, ℕ, zero, suc, ◌+◌, ◌-◌, ◌*◌, ◌/◌, ◌%◌, ◌^◌, ◌<◌, ◌≤◌, ◌&&◌, ◌==◌, Bool, true, false, not, nat_lt, nat_le, if◌then◌else◌, List, [], ◌∷◌, ◌++◌, length, codes, decimal, Option, refl, ap, ◌∙◌, sym, arith}
 use Rattle.std.specs.Prelude.{IfSome}
 use Rattle.std.specs.List.{list_all}
 use Rattle.std.proofs.lemmas.Bool.{le-leb, leb-true}
@@ -7,6 +7,8 @@ use Rattle.std.proofs.lemmas.Bool.Decides.{nat_tests}
 use Rattle.std.proofs.lemmas.Slice.Eq.{bytes_eq-Decides}
 use Rattle.std.proofs.lemmas.Fmt.{decimal_digit, decimal_step}
 use Rattle.std.proofs.lemmas.Map.Text.{is_eq-slice_cmp}
+use Rattle.std.proofs.lemmas.Str.{IsUtf8-from_ascii}
+use Rattle.std.specs.Str.{IsAscii, IsUtf8}
 use Rattle.eco_ids.specs.Names.{may_begin, may_follow, is_name, is_text}
 use Rattle.eco_query.specs.Tokens.{is_white, is_digit}
 use Rattle.eco_query.specs.Machine.{is_lone}
@@ -78,8 +80,8 @@ not_true false e = refl
 pub name_parts : (b : ℕ) (bs : List ℕ) → is_name (b ∷ bs) ≡ true
     → (may_begin b ≡ true) × (list_all may_follow bs ≡ true) × (length bs < 63) × (is_lone (b ∷ bs) ≡ false)
 name_parts b bs e =
-    let rest = and_right _ _ e in
-    let last = and_right _ _ rest in
+    let rest = and_right (may_begin b) _ e in
+    let last = and_right (list_all may_follow bs) _ rest in
     let small : length bs ≤ 62 = leb-true (length bs) 62 (and_left _ _ last) in
     (and_left _ _ e, and_left _ _ rest, omega arith, sym (lone_is_text (b ∷ bs)) ∙ not_true _ (and_right _ _ last))
 
@@ -87,3 +89,21 @@ pub name_of_parts : (b : ℕ) (bs : List ℕ) → may_begin b ≡ true → list_
     → is_name (b ∷ bs) ≡ true
 name_of_parts b bs letter words small lone =
     and_both _ _ letter (and_both _ _ words (and_both _ _ (le-leb (length bs) 62 (omega arith)) (ap not (lone_is_text (b ∷ bs) ∙ lone))))
+
+begins_follows : (b : ℕ) → may_begin b ≡ true → may_follow b ≡ true
+begins_follows b e = rw e refl
+
+may_follow_ascii : (b : ℕ) → may_follow b ≡ true → b < 128
+may_follow_ascii b e = grind (arith, nat_tests)
+
+words_ascii : (bs : List ℕ) → list_all may_follow bs ≡ true → IsAscii bs
+words_ascii [] e i = omega arith
+words_ascii (b ∷ bs) e zero = may_follow_ascii b (and_left _ _ e)
+words_ascii (b ∷ bs) e (suc i) = words_ascii bs (and_right _ _ e) i
+
+-- a name is a text
+pub name_utf8 : (n : List ℕ) → is_name n ≡ true → IsUtf8 n
+name_utf8 [] e = cc
+name_utf8 (b ∷ bs) e =
+    let (letter, words, small, lone) = name_parts b bs e in
+    IsUtf8-from_ascii (b ∷ bs) (words_ascii (b ∷ bs) (and_both _ _ (begins_follows b letter) words))

@@ -1,6 +1,11 @@
 pub mod ByteTests
+pub mod Fault
 pub mod Fronts
+pub mod Live
 pub mod Loops
 pub mod Rest
+pub mod Rows
+pub mod Runs
+pub mod Spelled
 pub mod Stuck
-pub mod Whole
+pub mod Tokens

@@ -20,243 +20,7 @@ use Rattle.eco_query.specs.declared.access.Access.TheVariants.{In, Out, InOut, I
 use Rattle.eco_query.specs.declared.point.Head.{Head}
 use Rattle.eco_query.specs.declared.point.Head.TheVariants.{Plain, Without, Optional, Alone}
 use Rattle.eco_query.specs.Machine.{Before, Role, whole, first, second, sole, takes_wildcard, Spot, slot, word, shut, body, atom, part, behind, after, Point, at, letters, bar, name_of, hash, index, dot, generation, body_of, slots_with, others_with, begun, part_of, is_front, access_of, part_or, atom_or, body_or, comma, behind_atom, enter, move_at, move}
-
-abbrev pub Sat : {X : Type 0} → Option X → (X → Type 0) → Type 0
-Sat None P = ⊥
-Sat (Some x) P = P x
-
-sat_if : {X : Type 0} (c : Bool) (x y : Option X) (P : X → Type 0) (G : Type 0) → (c ≡ true → Sat x P → G) → (c ≡ false → Sat y P → G)
-    → Sat (if c then x else y) P → G
-sat_if true x y P G f g s = f refl s
-sat_if false x y P G f g s = g refl s
-
-if_sat : {X : Type 0} (c : Bool) (x y : Option X) (P : X → Type 0) → c ≡ true → Sat x P → Sat (if c then x else y) P
-if_sat true x y P e s = s
-if_sat false x y P e s = cc
-
-else_sat : {X : Type 0} (c : Bool) (x y : Option X) (P : X → Type 0) → c ≡ false → Sat y P → Sat (if c then x else y) P
-else_sat true x y P e s = cc
-else_sat false x y P e s = s
-
-same_byte : (b k : ℕ) → (b == k) ≡ true → b ≡ k
-same_byte b k e = (Decides-eqb b k).0 e
-
--- ---- tokens
-
-pub tok_cons : (k : ℕ) (t : List ℕ) (b : ℕ) (u v : List ℕ) → IsTok (k ∷ t) (b ∷ u) v → (b ≡ k) × IsTok t u v
-tok_cons k t b u v (white, w, e) = (cc, (white, w, cc))
-
-pub tok_uncons : (k : ℕ) (t : List ℕ) (b : ℕ) (u v : List ℕ) → b ≡ k → IsTok t u v → IsTok (k ∷ t) (b ∷ u) v
-tok_uncons k t b u v same (white, w, e) = (white, w, cc)
-
-pub tok_nil : (k : ℕ) (t v : List ℕ) → IsTok (k ∷ t) [] v → ⊥
-tok_nil k t v (white, w, e) = cc
-
-abbrev Skip : (List ℕ → Type 0) → List ℕ → Type 0
-Skip X u = (v : List ℕ) × IsTok [] u v × X v
-
-skip_tok : (X : List ℕ → Type 0) (k b : ℕ) (u : List ℕ) → ((v : List ℕ) × IsTok (k ∷ []) (b ∷ u) v × X v) → (b ≡ k) × Skip X u
-skip_tok X k b u (v, t, x) = let s = tok_cons k [] b u v t in (s.0, (v, s.1, x))
-
-tok_skip : (X : List ℕ → Type 0) (k b : ℕ) (u : List ℕ) → b ≡ k → Skip X u → (v : List ℕ) × IsTok (k ∷ []) (b ∷ u) v × X v
-tok_skip X k b u same (v, t, x) = (v, tok_uncons k [] b u v same t, x)
-
--- ---- bytes
-
-white_elim : (P : ℕ → Type 0) → P 32 → P 9 → P 10 → P 13 → (b : ℕ) → is_white b ≡ true → P b
-white_elim P p q s t b w =
-    elim (b == 32) as (λ k. (b == 32) ≡ k → P b) [
-      | true ↦ λ e. subst P (sym (same_byte b 32 e)) p
-      | false ↦ λ e. elim (b == 9) as (λ k. (b == 9) ≡ k → P b) [
-          | true ↦ λ f. subst P (sym (same_byte b 9 f)) q
-          | false ↦ λ f. elim (b == 10) as (λ k. (b == 10) ≡ k → P b) [
-              | true ↦ λ g. subst P (sym (same_byte b 10 g)) s
-              | false ↦ λ g. let last : (b == 13) ≡ true = (rw (e, f, g) at w) in subst P (sym (same_byte b 13 last)) t
-            ] refl
-        ] refl
-    ] refl
-
-word_not : (b k : ℕ) → may_follow b ≡ true → may_follow k ≡ false → (b == k) ≡ false
-word_not b k w f =
-    elim (b == k) as (λ c. (b == k) ≡ c → c ≡ false) [
-      | true ↦ λ e. let g : may_follow k ≡ true = subst (λ x. may_follow x ≡ true) (same_byte b k e) w in cc
-      | false ↦ λ e. refl
-    ] refl
-
-behind_white : (h : Head) (c : Before) (x : WrittenAtom) (b : ℕ) → is_white b ≡ true → behind_atom h c x b ≡ None
-behind_white Plain c x b w = white_elim (λ b. behind_atom Plain c x b ≡ None) refl refl refl refl b w
-behind_white Without c x b w = white_elim (λ b. behind_atom Without c x b ≡ None) refl refl refl refl b w
-behind_white Optional c x b w = white_elim (λ b. behind_atom Optional c x b ≡ None) refl refl refl refl b w
-behind_white Alone c x b w = refl
-
-behind_word : (h : Head) (c : Before) (x : WrittenAtom) (b : ℕ) → may_follow b ≡ true → behind_atom h c x b ≡ None
-behind_word Plain c x b w = cond-false (b == 124) _ _ (word_not b 124 w refl) ∙ cond-false (b == 44) _ _ (word_not b 44 w refl)
-behind_word Without c x b w = cond-false (b == 44) _ _ (word_not b 44 w refl)
-behind_word Optional c x b w = cond-false (b == 44) _ _ (word_not b 44 w refl)
-behind_word Alone c x b w = refl
-
--- no white space goes on
-enter_white : (n : ℕ) (s : Spot) (b : ℕ) → is_white b ≡ true → enter n s b ≡ None
-enter_white n (slot ss) b w = white_elim (λ b. enter n (slot ss) b ≡ None) refl refl refl refl b w
-enter_white n (word ss) b w = white_elim (λ b. enter n (word ss) b ≡ None) refl refl refl refl b w
-enter_white n (shut ss a) b w = white_elim (λ b. enter n (shut ss a) b ≡ None) refl refl refl refl b w
-enter_white n (body ss a) b w = white_elim (λ b. enter n (body ss a) b ≡ None) refl refl refl refl b w
-enter_white n (atom c) b w = white_elim (λ b. enter n (atom c) b ≡ None) refl refl refl refl b w
-enter_white n (part o) b w = white_elim (λ b. enter n (part o) b ≡ None) refl refl refl refl b w
-enter_white n (behind (whole c) p) b w = behind_white c.head c (single p) b w
-enter_white n (behind (first c) p) b w = white_elim (λ b. enter n (behind (first c) p) b ≡ None) refl refl refl refl b w
-enter_white n (behind (second c p) q) b w = white_elim (λ b. enter n (behind (second c p) q) b ≡ None) refl refl refl refl b w
-enter_white n (behind (sole c) p) b w = refl
-enter_white n (after c x) b w = behind_white c.head c x b w
-
--- behind a name no letter or digit goes on
-word_stops : (n : ℕ) (o : Role) (p : WrittenPart) (b : ℕ) → may_follow b ≡ true → move_at n (behind o p) b ≡ None
-word_stops n o p b w =
-    let no : is_white b ≡ false = elim (is_white b) as (λ c. is_white b ≡ c → c ≡ false) [ true ↦ λ e. let f = white_not_word b e in cc | false ↦ λ e. refl ] refl in
-    cond-false (is_white b) _ _ no ∙ elim o as (λ o. enter n (behind o p) b ≡ None) [
-      | whole c ↦ behind_word c.head c (single p) b w
-      | first c ↦ cond-false (b == 44) _ _ (word_not b 44 w refl)
-      | second c q ↦ cond-false (b == 41) _ _ (word_not b 41 w refl)
-      | sole c ↦ refl
-    ]
-
-digit_word : (b : ℕ) → is_digit b ≡ true → may_follow b ≡ true
-digit_word b d = grind (arith, nat_tests)
-
-none_sat : {X : Type 0} (o : Option X) (P : X → Type 0) → o ≡ None → Sat o P → ⊥
-none_sat None P e s = s
-none_sat (Some x) P e s = cc
-
--- ---- access words
-
-four : (k : ℕ) → is_front (codes "in" ++ k ∷ []) ≡ false → is_front (codes "out" ++ k ∷ []) ≡ false → is_front (codes "inout" ++ k ∷ []) ≡ false
-    → is_front (codes "none" ++ k ∷ []) ≡ false → (a : Access) → is_front (access_word a ++ k ∷ []) ≡ false
-four k p q s t In = p
-four k p q s t Out = q
-four k p q s t InOut = s
-four k p q s t InOutNone = t
-
-word_ends : (b : ℕ) → is_white b ≡ true → (a : Access) → is_front (access_word a ++ b ∷ []) ≡ false
-word_ends b w =
-    white_elim (λ b. (a : Access) → is_front (access_word a ++ b ∷ []) ≡ false) (four 32 refl refl refl refl) (four 9 refl refl refl refl)
-    (four 10 refl refl refl refl) (four 13 refl refl refl refl) b w
-
-prefix_of : (k t : List ℕ) → is_prefix k (k ++ t) ≡ true
-prefix_of [] t = refl
-prefix_of (x ∷ k) t = cond-true (x == x) _ _ ((Decides-eqb x x).1 refl) ∙ prefix_of k t
-
-or_left : (a b : Bool) → a ≡ true → (a || b) ≡ true
-or_left a b e = rw e refl
-
-or_right : (a b : Bool) → b ≡ true → (a || b) ≡ true
-or_right true b e = refl
-or_right false b e = e
-
-front_of : (a : Access) (k t : List ℕ) → access_word a ≡ k ++ t → is_front k ≡ true
-front_of In k t e =
-    let f : codes "inout" ≡ k ++ (t ++ codes "out") = ap (λ s. s ++ codes "out") e ∙ append_assoc k t (codes "out") in
-    or_left _ _ (or_left _ _ (subst (λ s. is_prefix k s ≡ true) (sym f) (prefix_of k (t ++ codes "out"))))
-front_of Out k t e = or_left _ _ (or_right (is_prefix k (codes "inout")) _ (subst (λ s. is_prefix k s ≡ true) (sym e) (prefix_of k t)))
-front_of InOut k t e = or_left _ _ (or_left _ _ (subst (λ s. is_prefix k s ≡ true) (sym e) (prefix_of k t)))
-front_of InOutNone k t e =
-    or_right (is_prefix k (codes "inout") || is_prefix k (codes "out")) _ (subst (λ s. is_prefix k s ≡ true) (sym e) (prefix_of k t))
-
-access_of_word : (a : Access) → access_of (access_word a) ≡ Some a
-access_of_word In = refl
-access_of_word Out = refl
-access_of_word InOut = refl
-access_of_word InOutNone = refl
-
-word_of_access : (m : List ℕ) (Q : Access → Type 0) → Sat (access_of m) Q → (a : Access) × (access_word a ≡ m) × Q a
-word_of_access m Q s =
-    sat_if (bytes_eq m (codes "in")) _ _ Q _ (λ e q. (In, sym ((bytes_eq-Decides m (codes "in")).0 e), q))
-    (λ _ t. sat_if (bytes_eq m (codes "out")) _ _ Q _ (λ e q. (Out, sym ((bytes_eq-Decides m (codes "out")).0 e), q))
-    (λ _ t. sat_if (bytes_eq m (codes "inout")) _ _ Q _ (λ e q. (InOut, sym ((bytes_eq-Decides m (codes "inout")).0 e), q))
-    (λ _ t. sat_if (bytes_eq m (codes "none")) _ _ Q _ (λ e q. (InOutNone, sym ((bytes_eq-Decides m (codes "none")).0 e), q)) (λ _ z. absurd z) t) t) t) s
-
-then_out : {X Y : Type 0} (o : Option X) (f : X → Option Y) (P : Y → Type 0) → Sat (option_and_then f o) P → Sat o (λ x. Sat (f x) P)
-then_out None f P s = s
-then_out (Some x) f P s = s
-
-some_out : {X Y : Type 0} (o : Option X) (f : X → Y) (P : Y → Type 0) → Sat (option_and_then (λ x. Some (f x)) o) P → (x : X) × (o ≡ Some x) × P (f x)
-some_out None f P s = absurd s
-some_out (Some x) f P s = (x, refl, s)
-
--- ---- digits
-
--- digits behind a number, up to a bound
-abbrev pub digits : ℕ → ℕ → List ℕ → Option ℕ
-digits most i [] = Some i
-digits most i (b ∷ t) = if is_digit b then option_and_then (λ j. digits most j t) (grown most i b) else None
-
-digits_in : (most i j k : ℕ) (t : List ℕ) → digits most i (k ∷ t) ≡ Some j
-    → (is_digit k ≡ true) × (n : ℕ) × (grown most i k ≡ Some n) × (digits most n t ≡ Some j)
-digits_in most i j k t e =
-    elim (is_digit k) as (λ c. is_digit k ≡ c → (if c then option_and_then (λ j. digits most j t) (grown most i k) else None) ≡ Some j
-    → (is_digit k ≡ true) × (n : ℕ) × (grown most i k ≡ Some n) × (digits most n t ≡ Some j)) [
-      | true ↦ λ d f. elim (grown most i k) as (λ o. grown most i k ≡ o → option_and_then (λ j. digits most j t) o ≡ Some j
-          → (is_digit k ≡ true) × (n : ℕ) × (grown most i k ≡ Some n) × (digits most n t ≡ Some j)) [
-            | None ↦ λ _ g. absurd (let bad : ◌≡◌ {A = Option ℕ} None (Some j) = g in cc)
-            | Some n ↦ λ h g. (d, n, h, g)
-          ] refl f
-      | false ↦ λ _ f. absurd (let bad : ◌≡◌ {A = Option ℕ} None (Some j) = f in cc)
-    ] refl e
-
-digits_out : (most i j k n : ℕ) (t : List ℕ) → is_digit k ≡ true → grown most i k ≡ Some n → digits most n t ≡ Some j → digits most i (k ∷ t) ≡ Some j
-digits_out most i j k n t d g e = cond-true (is_digit k) _ _ d ∙ ap (λ o. option_and_then (λ j. digits most j t) o) g ∙ e
-
-digits_more : (most i j k n : ℕ) (t : List ℕ) → digits most i t ≡ Some j → is_digit k ≡ true → grown most j k ≡ Some n
-    → digits most i (t ++ k ∷ []) ≡ Some n
-digits_more most i j k n [] e d g =
-    let same : i ≡ j = cc in digits_out most i n k n [] d (rw same g) refl
-digits_more most i j k n (c ∷ t) e d g =
-    let (dc, m, gc, rest) = digits_in most i j c t e in digits_out most i n c m (t ++ k ∷ []) dc gc (digits_more most m j k n t rest d g)
-
--- a number's first digit and the others
-pub number_front : (most n : ℕ) → most < 2 ^ 64 → n ≤ most
-    → (c : ℕ) × (t : List ℕ) × (decimal n ≡ c ∷ t) × (is_digit c ≡ true) × (digits most (c - 48) t ≡ Some n)
-number_front most n fits le =
-    decimal_by_steps (λ m ds. m ≤ most → (c : ℕ) × (t : List ℕ) × (ds ≡ c ∷ t) × (is_digit c ≡ true) × (digits most (c - 48) t ≡ Some m))
-    (λ m lt _. let same : (48 + m) - 48 ≡ m = omega arith in (48 + m, [], refl, is_digit_of m lt, ap (λ k. Some k) same))
-    (λ m ds ge ih small.
-    let lt : m % 10 < 10 = omega arith in
-    let pos : 0 < m / 10 = omega arith in
-    let same : 10 * (m / 10) + ((48 + m % 10) - 48) ≡ m = omega arith in
-    let test : (nat_lt 0 (m / 10) && nat_le (10 * (m / 10) + ((48 + m % 10) - 48)) most) ≡ true =
-    and_both _ _ (lt-ltb 0 (m / 10) pos) (le-leb (10 * (m / 10) + ((48 + m % 10) - 48)) most (omega arith)) in
-    let grows : grown most (m / 10) (48 + m % 10) ≡ Some m =
-    cond-true (nat_lt 0 (m / 10) && nat_le (10 * (m / 10) + ((48 + m % 10) - 48)) most) _ _ test ∙ ap (λ k. Some k) same in
-    let (c, t, e, d, run) = ih (omega arith) in
-    (c, t ++ (48 + m % 10) ∷ [], ap (λ xs. xs ++ (48 + m % 10) ∷ []) e, d,
-    digits_more most (c - 48) (m / 10) (48 + m % 10) m t run (is_digit_of (m % 10) lt) grows))
-    n (omega arith) le
-
-grown_is : (most i k n : ℕ) → grown most i k ≡ Some n → (0 < i) × (n ≡ 10 * i + (k - 48)) × (n ≤ most)
-grown_is most i k n e =
-    elim (nat_lt 0 i && nat_le (10 * i + (k - 48)) most) as (λ c. (nat_lt 0 i && nat_le (10 * i + (k - 48)) most) ≡ c
-    → (if c then Some (10 * i + (k - 48)) else None) ≡ Some n → (0 < i) × (n ≡ 10 * i + (k - 48)) × (n ≤ most)) [
-      | true ↦ λ t f.
-          let same : 10 * i + (k - 48) ≡ n = cc in
-          let le : 10 * i + (k - 48) ≤ most = leb-true (10 * i + (k - 48)) most (and_right _ _ t) in
-          (ltb-true 0 i (and_left _ _ t), sym same, subst (λ k. k ≤ most) same le)
-      | false ↦ λ _ f. absurd (let bad : ◌≡◌ {A = Option ℕ} None (Some n) = f in cc)
-    ] refl e
-
-number_more : (most i j : ℕ) (t : List ℕ) → most < 2 ^ 64 → i ≤ most → digits most i t ≡ Some j → (decimal i ++ t ≡ decimal j) × (j ≤ most)
-number_more most i j [] fits le e = let same : i ≡ j = cc in (append-nil (decimal i) ∙ ap decimal same, omega arith)
-number_more most i j (k ∷ t) fits le e =
-    let (d, n, g, rest) = digits_in most i j k t e in
-    let (pos, same, small) = grown_is most i k n g in
-    let (f, last) = number_more most n j t fits small rest in
-    let grows : decimal i ++ k ∷ [] ≡ decimal n = more_digits i k pos d (omega arith) ∙ ap decimal (sym same) in
-    (sym (append_assoc (decimal i) (k ∷ []) t) ∙ ap (λ s. s ++ t) grows ∙ f, last)
-
-number_back : (most b j : ℕ) (t : List ℕ) → 9 ≤ most → most < 2 ^ 64 → is_digit b ≡ true → digits most (b - 48) t ≡ Some j
-    → (b ∷ t ≡ decimal j) × (j ≤ most)
-number_back most b j t least fits d e =
-    let range = digit_is b d in
-    let (f, last) = number_more most (b - 48) j t fits (omega arith) e in
-    (ap (λ s. s ++ t) (one_digit b d) ∙ f, last)
+use Rattle.eco_query.proofs.Tokens.{Sat, sat_if, if_sat, else_sat, same_byte, tok_cons, tok_uncons, tok_nil, Skip, skip_tok, tok_skip, white_elim, word_not, behind_white, behind_word, enter_white, word_stops, digit_word, none_sat, four, word_ends, prefix_of, or_left, or_right, front_of, access_of_word, word_of_access, then_out, some_out, digits, digits_in, digits_out, digits_more, number_front, grown_is, number_more, number_back}
 
 -- a reference is a name or a handle
 abbrev pub IsNamed : WrittenPart → Type 0
@@ -398,9 +162,18 @@ module _ (size : ℕ) (r : List WrittenSlot) where
       ] refl
   after_in Plain c x b u (y ∷ ys, v, ss, (a, d, tok, isy, more), slots, e) =
       let t = tok_cons 124 (codes "|") b u a tok in
-      subst (λ k. Sat (behind_atom Plain c x k) (λ q. Rest q u)) (sym t.0)
-      (a, t.1, atom_split (others_with c x) y a d isy (ys, v, ss, more, slots,
-      e ∙ ap (λ zs. c.slots ++ (record { access = c.access; body = alternatives zs }) ∷ ss) (sym (append_assoc c.others (x ∷ []) (y ∷ ys)))))
+      subst (λ k. Sat (behind_atom Plain c x k) (λ q. Rest q u)) (sym t.0) (
+        a,
+        t.1,
+        atom_split (others_with c x) y a d isy (
+          ys,
+          v,
+          ss,
+          more,
+          slots,
+          e ∙ ap (λ zs. c.slots ++ (record { access = c.access; body = alternatives zs }) ∷ ss) (sym (append_assoc c.others (x ∷ []) (y ∷ ys))),
+        ),
+      )
   after_in Without c x b u (ss, slots, e) = comma_in Without c x b u ss slots e
   after_in Optional c x b u (ss, slots, e) = comma_in Optional c x b u ss slots e
   after_in Alone c x b u (none, e) = cc
@@ -409,9 +182,14 @@ module _ (size : ℕ) (r : List WrittenSlot) where
   after_out Plain c x b u s =
       sat_if (b == 124) _ _ (λ q. Rest q u) _
       (λ e (a, tok, t).
-      let (y, d, isy, (ys, v, ss, more, slots, f)) = atom_join (others_with c x) a t in
-      (y ∷ ys, v, ss, (a, d, tok_uncons 124 (codes "|") b u a (same_byte b 124 e) tok, isy, more), slots,
-      f ∙ ap (λ zs. c.slots ++ (record { access = c.access; body = alternatives zs }) ∷ ss) (append_assoc c.others (x ∷ []) (y ∷ ys))))
+      let (y, d, isy, (ys, v, ss, more, slots, f)) = atom_join (others_with c x) a t in (
+        y ∷ ys,
+        v,
+        ss,
+        (a, d, tok_uncons 124 (codes "|") b u a (same_byte b 124 e) tok, isy, more),
+        slots,
+        f ∙ ap (λ zs. c.slots ++ (record { access = c.access; body = alternatives zs }) ∷ ss) (append_assoc c.others (x ∷ []) (y ∷ ys)),
+      ))
       (λ _ t. let (ss, slots, e) = comma_out Plain c x b u t in ([], b ∷ u, ss, refl, slots, e)) s
   after_out Without c x b u s = comma_out Without c x b u s
   after_out Optional c x b u s = comma_out Optional c x b u s
@@ -430,11 +208,11 @@ module _ (size : ℕ) (r : List WrittenSlot) where
   lone_taken o from m v f =
       elim (is_lone m) as (λ c. Follow o (if c then any else named from (name m)) v → (c && not (takes_wildcard o)) ≡ false) [
         | true ↦ λ f. elim o as (λ o. Follow o any v → not (takes_wildcard o) ≡ false) [
-            | whole c ↦ λ f. refl
-            | first c ↦ λ f. refl
-            | second c p ↦ λ f. refl
-            | sole c ↦ λ f. absurd f.0
-          ] f
+          | whole c ↦ λ f. refl
+          | first c ↦ λ f. refl
+          | second c p ↦ λ f. refl
+          | sole c ↦ λ f. absurd f.0
+        ] f
         | false ↦ λ f. refl
       ] f
 
@@ -478,8 +256,17 @@ module _ (size : ℕ) (r : List WrittenSlot) where
       ] refl f)
       (λ _ s. sat_if (b == 35) _ _ (λ q. Rest q u) _
       (λ e (i, g, v, small, least, tok, f).
-      inl (named n (handle i g), v, (35 ∷ (decimal i ++ (46 ∷ decimal g)), (sym (ap (λ s. 35 ∷ s) (append_assoc (decimal i) (codes ".") (decimal g))), small, least),
-      tok_uncons 35 (decimal i ++ (46 ∷ decimal g)) b u v (same_byte b 35 e) tok, place), f))
+      inl (
+        named n (handle i g),
+        v,
+        (
+          35 ∷ (decimal i ++ (46 ∷ decimal g)),
+          (sym (ap (λ s. 35 ∷ s) (append_assoc (decimal i) (codes ".") (decimal g))), small, least),
+          tok_uncons 35 (decimal i ++ (46 ∷ decimal g)) b u v (same_byte b 35 e) tok,
+          place,
+        ),
+        f,
+      ))
       (λ _ s. sat_if ((b == 42) && takes_wildcard o) _ _ (λ q. Rest q u) _
       (λ e (v, tok, f). inl (each, v, tok_uncons 42 [] b u v (same_byte b 42 (and_left _ _ e)) tok, f))
       (λ _ s. inr s) s) s) s

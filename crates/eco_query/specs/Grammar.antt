@@ -93,3 +93,16 @@ pub record PlacedReference : Type 0 where
 -- the text spells this reference: a name or a handle, with white space round it
 abbrev pub SpellsRef : List ℕ → PlacedReference → Type 0
 SpellsRef text r = SpellsId text (single (named r.at r.reference))
+
+-- what a reference that is spelled keeps to: its name is a name, its numbers are in range
+abbrev pub IsProper : Reference → Type 0
+IsProper r = (token : List ℕ) × IsToken token r
+
+abbrev pub IsProperPart : WrittenPart → Type 0
+IsProperPart (named at r) = IsProper r
+IsProperPart each = Unit {0}
+IsProperPart any = Unit {0}
+
+abbrev pub IsProperAtom : WrittenAtom → Type 0
+IsProperAtom (single p) = IsProperPart p
+IsProperAtom (pair p q) = IsProperPart p × IsProperPart q

@@ -1,5 +1,5 @@
 -- A machine that reads a text byte by byte, and stops at the first byte that no sentence has there.
-use Rattle.std.specs.Prelude.{ℕ, ◌+◌, ◌-◌, ◌*◌, ◌==◌, ◌||◌, ◌&&◌, Bool, true, false, not, List, [], ◌∷◌, ◌++◌, length, codes, Option, Some, None, option_map, option_and_then, nat_lt, nat_le, if◌then◌else◌}
+use Rattle.std.specs.Prelude.{◌≡◌, ◌⊎◌, ◌<◌, take, slice_index, ℕ, ◌+◌, ◌-◌, ◌*◌, ◌==◌, ◌||◌, ◌&&◌, Bool, true, false, not, List, [], ◌∷◌, ◌++◌, length, codes, Option, Some, None, option_map, option_and_then, nat_lt, nat_le, if◌then◌else◌}
 use Rattle.std.specs.Str.{bytes_eq}
 use Rattle.eco_ids.specs.Names.{may_begin, may_follow}
 use Rattle.eco_query.specs.Tokens.{name, handle, is_white, is_digit}
@@ -199,3 +199,12 @@ id_start = at (atom (begun [] InOut Alone))
 -- where a reference begins
 abbrev pub ref_start : Point
 ref_start = at (part (sole (begun [] InOut Alone)))
+
+-- the machine goes no further than this place: it has no move at the byte there, or the text ends there too early
+abbrev pub Stops : Point → List ℕ → ℕ → Type 0
+Stops start text n = (q : Point) × (runs advance (0, start) (take n text) ≡ Some (n, q))
+    × (((n < length text) × (move n q (slice_index text n) ≡ None)) ⊎ ((n ≡ length text) × (end q ≡ None)))
+
+-- the machine reads all of the text, and its end completes this atom
+abbrev pub EndsWith : Point → List ℕ → WrittenAtom → Type 0
+EndsWith start text x = (q : Point) × (c : Before) × (runs advance (0, start) text ≡ Some (length text, q)) × (end q ≡ Some (slots_with c.head c x))

@@ -15,17 +15,26 @@ Reads {X} Spells meaning text r =
     ((x : X) × Spells text x × (r ≡ meaning x))
     ⊎ ((at : ℕ) × IsFault (IsSpelled Spells) text at × (r ≡ Err (Syntax at)))
 
+-- a text spells one thing at most
+abbrev pub SpellsOnce : {X : Type 0} → (List ℕ → X → Type 0) → Type 0
+SpellsOnce {X} Spells = (text : List ℕ) (a b : X) → Spells text a → Spells text b → a ≡ b
+
+-- a text is answered in one way at most
+abbrev pub ReadsOnce : {X T : Type 0} → (List ℕ → X → Type 0) → (X → Result T Refusal) → Type 0
+ReadsOnce {X} {T} Spells meaning = (text : List ℕ) (r s : Result T Refusal) → Reads Spells meaning text r → Reads Spells meaning text s → r ≡ s
+
 -- the entity that was found, or else no entity has the name that begins there
 abbrev pub found_at : ℕ → Option Entity → Result Entity Refusal
 found_at at (Some e) = Ok e
 found_at at None = Err (UnknownName at)
 
 -- a handle means itself, living or not; a name the entity that has it
-abbrev pub entity_of : (List ℕ → Option Entity) → PlacedReference → Result Entity Refusal
-entity_of entity_named r = entity_at entity_named r.at r.reference where
-  entity_at : (List ℕ → Option Entity) → ℕ → Reference → Result Entity Refusal
-  entity_at entity_named at (name n) = found_at at (entity_named n)
-  entity_at entity_named at (handle i g) = Ok (record { index = i; generation = g })
+abbrev pub entity_of : (List ℕ → Option Entity) → ℕ → Reference → Result Entity Refusal
+entity_of entity_named at (name n) = found_at at (entity_named n)
+entity_of entity_named at (handle i g) = Ok (record { index = i; generation = g })
+
+abbrev pub entity_at : (List ℕ → Option Entity) → PlacedReference → Result Entity Refusal
+entity_at entity_named r = entity_of entity_named r.at r.reference
 
 abbrev pub is_wildcard : WrittenPart → Bool
 is_wildcard (named at r) = false
@@ -34,7 +43,7 @@ is_wildcard any = true
 
 -- a wildcard names no entity
 abbrev pub entity_of_part : (List ℕ → Option Entity) → WrittenPart → Result Entity Refusal
-entity_of_part entity_named (named at r) = entity_of entity_named (record { at = at; reference = r })
+entity_of_part entity_named (named at r) = entity_of entity_named at r
 entity_of_part entity_named each = Err WildcardHere
 entity_of_part entity_named any = Err WildcardHere
 

@@ -28,7 +28,13 @@ pub fn begin_part<'a>(text: &'a [u8], at: usize, role: Role<'a>) -> Option<Point
 }
 
 /// What a byte does behind an atom.
-pub fn behind_atom<'a>(text: &'a [u8], at: usize, access: Access, head: Head, atom: WrittenAtom<'a>) -> Option<Step<'a>>
+pub fn behind_atom<'a>(
+    text: &'a [u8],
+    at: usize,
+    access: Access,
+    head: Head,
+    atom: WrittenAtom<'a>,
+) -> Option<Step<'a>>
     requires within { at < length text.now }
     ensures begun { IfSome result (λ s. IsBegunAt (at + 1) s.point) }
     ensures step { (d : Draft) → option_map (step_view text.now (at + 1) d) result
@@ -78,7 +84,12 @@ pub fn begin_body<'a>(text: &'a [u8], at: usize, access: Access) -> Option<Point
 }
 
 /// What a byte behind a part does.
-pub fn behind_part<'a>(text: &'a [u8], at: usize, role: Role<'a>, part: WrittenPart<'a>) -> Option<Step<'a>>
+pub fn behind_part<'a>(
+    text: &'a [u8],
+    at: usize,
+    role: Role<'a>,
+    part: WrittenPart<'a>,
+) -> Option<Step<'a>>
     requires within { at < length text.now }
     ensures begun { IfSome result (λ s. IsBegunAt (at + 1) s.point) }
     ensures step { (d : Draft) → option_map (step_view text.now (at + 1) d) result
@@ -168,4 +179,3 @@ pub fn move_at<'a>(text: &'a [u8], at: usize, spot: Spot<'a>) -> Option<Step<'a>
         enter(text, at, spot)
     }
 }
-

@@ -1,4 +1,4 @@
-//! What a byte does inside of a token, and where a text may end.
+//! What a byte does inside of a token.
 ghost use Rattle.std.specs.Prelude.{◌≡◌, ◌+◌, ◌<◌, length, IfSome, option_map, slice_index};
 ghost use Rattle.eco_query.specs.Machine as machine;
 ghost use Rattle.eco_query.specs.Points.{Draft, IsBegunAt, IsInHandle, atom_view, before_view, part_view, point_view, role_view, step_view};
@@ -35,7 +35,11 @@ pub fn advance_name<'a>(text: &'a [u8], at: usize, role: Role<'a>, from: usize) 
             None
         }
     } else {
-        move_at(text, at, Spot::Behind(role, WrittenPart::Named(from, Reference::Name(word))))
+        move_at(
+            text,
+            at,
+            Spot::Behind(role, WrittenPart::Named(from, Reference::Name(word))),
+        )
     }
 }
 
@@ -77,7 +81,10 @@ pub fn advance_handle<'a>(text: &'a [u8], at: usize, point: Point<'a>) -> Option
             return move_at(
                 text,
                 at,
-                Spot::Behind(role, WrittenPart::Named(from, Reference::Handle(index, generation))),
+                Spot::Behind(
+                    role,
+                    WrittenPart::Named(from, Reference::Handle(index, generation)),
+                ),
             );
         }
         _ => return None,
@@ -140,7 +147,7 @@ pub fn advance_letters<'a>(text: &'a [u8], at: usize, from: usize) -> Option<Ste
 }
 
 /// What a byte does.
-pub fn advance_query<'a>(text: &'a [u8], at: usize, point: Point<'a>) -> Option<Step<'a>>
+pub fn advance<'a>(text: &'a [u8], at: usize, point: Point<'a>) -> Option<Step<'a>>
     requires within { at < length text.now }
     requires begun { IsBegunAt at point }
     ensures begun { IfSome result (λ s. IsBegunAt (at + 1) s.point) }
@@ -153,44 +160,4 @@ pub fn advance_query<'a>(text: &'a [u8], at: usize, point: Point<'a>) -> Option<
         Point::Name(role, from) => advance_name(text, at, role, from),
         _ => advance_handle(text, at, point),
     }
-}
-
-/// The atom that a part completes at the end of the text.
-fn last_part<'a>(role: Role<'a>, part: WrittenPart<'a>) -> Option<(Access, Head, WrittenAtom<'a>)>
-    ensures { (d : Draft) → option_map (λ l. machine.slots_with l.1 (before_view d l.0 l.1) (atom_view l.2)) result
-        ≡ machine.end_at (machine.behind (role_view d role.entry) (part_view part.entry)) }
-{
-    match (role, part) {
-        (Role::Whole(access, head), _) => Some((access, head, WrittenAtom::Single(part))),
-        (Role::Sole, WrittenPart::Named(_, _)) => {
-            Some((Access::InOut, Head::Alone, WrittenAtom::Single(part)))
-        }
-        _ => None,
-    }
-}
-
-/// The atom that the end of the text completes, with the access and the head of its slot.
-pub fn last_atom<'a>(text: &'a [u8], point: Point<'a>) -> Option<(Access, Head, WrittenAtom<'a>)>
-    requires begun { IsBegunAt (length text.now) point }
-    ensures { (d : Draft) → option_map (λ l. machine.slots_with l.1 (before_view d l.0 l.1) (atom_view l.2)) result
-        ≡ machine.end (point_view text.now (length text.now) d point.entry) }
-{
-    let (role, part) = match point {
-        Point::At(Spot::After(access, head, atom)) => return Some((access, head, atom)),
-        Point::At(Spot::Behind(role, part)) => (role, part),
-        Point::Name(role, from) => {
-            let word = &text[from..];
-            if word == b"_".as_slice() {
-                (role, WrittenPart::Any)
-            } else {
-                (role, WrittenPart::Named(from, Reference::Name(word)))
-            }
-        }
-        Point::Generation(role, from, index, generation) => (
-            role,
-            WrittenPart::Named(from, Reference::Handle(index, generation)),
-        ),
-        _ => return None,
-    };
-    last_part(role, part)
 }

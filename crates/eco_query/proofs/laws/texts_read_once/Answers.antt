@@ -1,0 +1,10 @@
+use Rattle.eco_query.specs.Grammar.{SpellsId, SpellsRef}
+use Rattle.eco_query.specs.Readings.{entity_at, id_of}
+use Rattle.eco_query.proofs.Spelled.{ref_once, id_once, reads_once}
+use Rattle.eco_query.proofs.laws.texts_read_once.Goals as goal
+
+pub returns-clause-reference : goal.returns-clause-reference
+returns-clause-reference c entity_named = reads_once SpellsRef (entity_at entity_named) ref_once
+
+pub returns-clause-id : goal.returns-clause-id
+returns-clause-id c entity_named = reads_once SpellsId (id_of entity_named) id_once

@@ -1,0 +1,12 @@
+use Rattle.std.proofs.Common.{[]}
+use Rattle.eco_query.specs.Machine as machine
+use Rattle.eco_query.specs.Points.{Draft, IsBegunAt, point_view, spot_view}
+use Rattle.eco_query.proofs.Loops.{Reached}
+use Rattle.eco_query.proofs.scan.scan_atom.Given as goal
+
+-- the machine has read the bytes so far, whatever was put down
+abbrev pub invariant-loop-at : goal.invariant-loop-at
+invariant-loop-at l = record {
+  run : (d : Draft) × Reached (machine.at (spot_view (record { slots = []; others = [] }) l.fn.start)) l.text l.at (point_view l.text l.at d l.point);
+  begun : IsBegunAt l.at l.point;
+}

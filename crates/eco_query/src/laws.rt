@@ -1,0 +1,18 @@
+//! Laws of the texts: each function does nothing, and its contract is the law.
+ghost use Rattle.std.specs.Prelude.{ℕ, List, Option};
+ghost use Rattle.eco_ids.specs.declared.entity.Entity.{Entity};
+ghost use Rattle.eco_query.specs.Grammar.{SpellsId, SpellsQuery, SpellsRef};
+ghost use Rattle.eco_query.specs.Readings.{ReadsOnce, SpellsOnce, entity_at, id_of};
+
+/// A text spells one thing at most.
+pub fn texts_spell_once()
+    ensures reference { SpellsOnce SpellsRef }
+    ensures id { SpellsOnce SpellsId }
+    ensures query { SpellsOnce SpellsQuery }
+{}
+
+/// Under any names a text is answered in one way at most: as what it spells, or as one refusal with one place.
+pub fn texts_read_once()
+    ensures reference { (entity_named : List ℕ → Option Entity) → ReadsOnce SpellsRef (entity_at entity_named) }
+    ensures id { (entity_named : List ℕ → Option Entity) → ReadsOnce SpellsId (id_of entity_named) }
+{}

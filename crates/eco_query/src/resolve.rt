@@ -1,0 +1,64 @@
+//! What a written reference or id means under some names.
+ghost use Rattle.std.specs.Prelude.{◌≡◌, ℕ};
+ghost use Rattle.eco_query.specs.Grammar.{IsProper, IsProperAtom, IsProperPart};
+ghost use Rattle.eco_query.specs.Points.{atom_view, part_view, reference_view};
+ghost use Rattle.eco_query.specs.Readings.{entity_of, entity_of_part, id_of, is_wildcard};
+
+use crate::names::Names;
+use crate::written::{Reference, WrittenAtom, WrittenPart};
+use eco_ids::{Entity, Id, Refusal};
+
+impl Reference<'_> {
+    /// A handle means itself, living or not. The place is where the name begins, for its refusal.
+    pub fn entity<N: Names>(self, at: usize, names: &N) -> Result<Entity, Refusal>
+        requires { IsProper (reference_view self) }
+        ensures { result ≡ entity_of (N.entity_named names.now) at (reference_view self.entry) }
+    {
+        match self {
+            Reference::Name(name) => {
+                let name = str::from_utf8(name).unwrap();
+                names.lookup(name).ok_or(Refusal::UnknownName { at })
+            }
+            Reference::Handle(index, generation) => Ok(Entity { index, generation }),
+        }
+    }
+}
+
+impl WrittenPart<'_> {
+    pub fn is_wildcard(self) -> bool
+        ensures { result ≡ is_wildcard (part_view self.entry) }
+    {
+        matches!(self, WrittenPart::Each | WrittenPart::Any)
+    }
+
+    /// The entity of a part; a wildcard names none.
+    pub fn entity<N: Names>(self, names: &N) -> Result<Entity, Refusal>
+        requires { IsProperPart (part_view self) }
+        ensures { result ≡ entity_of_part (N.entity_named names.now) (part_view self.entry) }
+    {
+        match self {
+            WrittenPart::Named(at, reference) => reference.entity(at, names),
+            WrittenPart::Each | WrittenPart::Any => Err(Refusal::WildcardHere),
+        }
+    }
+}
+
+impl WrittenAtom<'_> {
+    /// The id of an atom: wildcards are refused before unknown names.
+    pub fn id<N: Names>(self, names: &N) -> Result<Id, Refusal>
+        requires { IsProperAtom (atom_view self) }
+        ensures { result ≡ id_of (N.entity_named names.now) (atom_view self.entry) }
+    {
+        match self {
+            WrittenAtom::Single(part) => Ok(Id::One(part.entity(names)?)),
+            WrittenAtom::Pair(relationship, target) => {
+                if relationship.is_wildcard() || target.is_wildcard() {
+                    return Err(Refusal::WildcardHere);
+                }
+                let relationship = relationship.entity(names)?;
+                let target = target.entity(names)?;
+                Ok(Id::Two(relationship, target))
+            }
+        }
+    }
+}

@@ -1,0 +1,68 @@
+//! Reads a whole text, byte by byte.
+ghost use Rattle.std.specs.Prelude.{◌≡◌, length, [], IfErr, IfOk, option_map};
+ghost use Rattle.eco_query.specs.Machine as machine;
+ghost use Rattle.eco_query.specs.Machine.{EndsWith, Stops};
+ghost use Rattle.eco_query.specs.Points.{Draft, IsBegunAt, atom_view, before_view, part_view, point_view, role_view, spot_view};
+
+use crate::access::Access;
+use crate::inside::advance;
+use crate::point::{Head, Point, Role, Spot};
+use crate::written::{Reference, WrittenAtom, WrittenPart};
+
+/// Reads a text of one atom from a start. The error is how many bytes are the longest beginning of such a text.
+pub fn scan_atom<'a>(text: &'a [u8], start: Spot<'a>) -> Result<WrittenAtom<'a>, usize>
+    ensures found { IfOk result (λ x. EndsWith (machine.at (spot_view (record { slots = []; others = [] }) start.entry)) text.now (atom_view x)) }
+    ensures fault { IfErr result (λ n. Stops (machine.at (spot_view (record { slots = []; others = [] }) start.entry)) text.now n) }
+{
+    let mut point = Point::At(start);
+    for at in 0..text.len() {
+        let Some(step) = advance(text, at, point) else {
+            return Err(at);
+        };
+        point = step.point;
+    }
+    match last_atom(text, point) {
+        Some((_, _, atom)) => Ok(atom),
+        None => Err(text.len()),
+    }
+}
+
+/// The atom that a part completes at the end of the text.
+fn last_part<'a>(role: Role<'a>, part: WrittenPart<'a>) -> Option<(Access, Head, WrittenAtom<'a>)>
+    ensures { (d : Draft) → option_map (λ l. machine.slots_with l.1 (before_view d l.0 l.1) (atom_view l.2)) result
+        ≡ machine.end_at (machine.behind (role_view d role.entry) (part_view part.entry)) }
+{
+    match (role, part) {
+        (Role::Whole(access, head), _) => Some((access, head, WrittenAtom::Single(part))),
+        (Role::Sole, WrittenPart::Named(_, _)) => {
+            Some((Access::InOut, Head::Alone, WrittenAtom::Single(part)))
+        }
+        _ => None,
+    }
+}
+
+/// The atom that the end of the text completes, with the access and the head of its slot.
+pub fn last_atom<'a>(text: &'a [u8], point: Point<'a>) -> Option<(Access, Head, WrittenAtom<'a>)>
+    requires begun { IsBegunAt (length text.now) point }
+    ensures { (d : Draft) → option_map (λ l. machine.slots_with l.1 (before_view d l.0 l.1) (atom_view l.2)) result
+        ≡ machine.end (point_view text.now (length text.now) d point.entry) }
+{
+    let (role, part) = match point {
+        Point::At(Spot::After(access, head, atom)) => return Some((access, head, atom)),
+        Point::At(Spot::Behind(role, part)) => (role, part),
+        Point::Name(role, from) => {
+            let word = &text[from..];
+            if word == b"_".as_slice() {
+                (role, WrittenPart::Any)
+            } else {
+                (role, WrittenPart::Named(from, Reference::Name(word)))
+            }
+        }
+        Point::Generation(role, from, index, generation) => (
+            role,
+            WrittenPart::Named(from, Reference::Handle(index, generation)),
+        ),
+        _ => return None,
+    };
+    last_part(role, part)
+}

@@ -1,4 +1,4 @@
-ghost use Rattle.std.specs.Prelude.{Some, None, codes, if◌then◌else◌};
+ghost use Rattle.std.specs.Prelude.{◌≡◌, Some, None, codes, if◌then◌else◌};
 ghost use Rattle.std.specs.Str.{bytes_eq};
 
 use super::*;

@@ -34,6 +34,7 @@ RevivesWith w e d r new = MatchBool (is_free_at w e) (Answers tt (with_record w 
 abbrev pub Admits : {A : Type 0} → Indexed A → ℕ → Result (Unit {0}) Refusal → Indexed A → Type 0
 Admits w n r new = MatchBool (nat_le (length w.indices + n) w.limit) (Answers tt (admitted n w) r new) (Refuses NoMoreIds w r new)
 
+-- it may want memory where the indices lie below the limit
 abbrev pub may_admit : {A : Type 0} → Indexed A → ℕ → Bool
 may_admit w n = nat_le (length w.indices + n) w.limit
 
@@ -47,6 +48,7 @@ bare name = record { name = name; arity = None; held = [] }
 abbrev pub Creates : WorldState → Option (List ℕ) → Result Entity Refusal → WorldState → Type 0
 Creates w name = Makes (λ r. r.name) w (bare name)
 
+-- it may want memory where the name is fit and an index is left
 abbrev pub may_create : WorldState → Option (List ℕ) → Bool
 may_create = may_make (λ r. r.name)
 
@@ -58,6 +60,7 @@ component_record name fields = record { name = name; arity = Some fields; held =
 abbrev pub MakesComponent : WorldState → Option (List ℕ) → ℕ → Result Entity Refusal → WorldState → Type 0
 MakesComponent w name fields = Makes (λ r. r.name) w (component_record name fields)
 
+-- likewise
 abbrev pub may_make_component : WorldState → Option (List ℕ) → Bool
 may_make_component = may_make (λ r. r.name)
 
@@ -65,5 +68,6 @@ may_make_component = may_make (λ r. r.name)
 abbrev pub Revives : WorldState → Entity → Result (Unit {0}) Refusal → WorldState → Type 0
 Revives w e = RevivesWith w e (bare None)
 
+-- it may want memory where the handle is free
 abbrev pub may_revive : WorldState → Entity → Bool
 may_revive = is_free_at

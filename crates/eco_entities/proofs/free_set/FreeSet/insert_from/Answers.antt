@@ -1,0 +1,18 @@
+use Rattle.std.proofs.Common.{◌≡◌, ◌≤◌, length, ap, sym, ◌∙◌, arith}
+use Rattle.eco_entities.proofs.Levels.{flags_filled_from, nothing_filled, levelled-fill, length-bits_below}
+use Rattle.eco_entities.proofs.free_set.FreeSet.insert_from.Goals as goal
+
+pub invariant_of-self : goal.invariant_of-self
+invariant_of-self c =
+    levelled-fill c.self.inside.len c.args.from _ _ _ _ _ _ c.self.invariant c.if-from-self.true c.set_range.ensures
+    (rw c.div_ceil-words.ensures at c.set_range-then-from-self.ensures)
+    (rw (c.div_ceil.ensures, c.div_ceil-words.ensures) at c.set_range-then-from-self-2.ensures)
+
+pub returns-then-from-self : goal.returns-then-from-self
+returns-then-from-self c =
+    flags_filled_from c.self.inside.len c.args.from c.self.inside.indices c.set_range.new.self c.args.self.now c.self.view_is (omega arith) c.set_range.ensures
+
+pub returns-else-from-self : goal.returns-else-from-self
+returns-else-from-self c =
+    let whole : length c.args.self.now ≡ c.self.inside.len = ap length (sym c.self.view_is) ∙ length-bits_below _ _ in
+    nothing_filled c.args.self.now c.args.from (omega arith)

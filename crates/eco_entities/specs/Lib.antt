@@ -1,0 +1,2 @@
+pub mod FreeBits
+pub mod Words

@@ -1,0 +1,105 @@
+//! The set of free indices, as a bitmap of three levels.
+ghost use Rattle.std.specs.Prelude.{◌≡◌, ℕ, ◌+◌, ◌-◌, ◌^◌, ◌<◌, ◌≤◌, true, false, List, [], ◌++◌, length, take, replicate, slice_set, OnOk, OnErr};
+ghost use Rattle.std.specs.List.{position_from};
+
+use crate::level::{Level, WORD_BITS};
+use std::alloc::{AllocError, Global};
+use std::marker::Model;
+
+/// Which indices are free, as one flag for each index. The lowest free index is found in a few words.
+#[derive(Drop)]
+pub struct FreeSet {
+    len: usize,
+    // The bit of an index is set where it is free.
+    indices: Level,
+    // The bit of a word of `indices` is set where that word has one.
+    words: Level,
+    // The bit of a word of `words` is set where that word has one.
+    groups: Level,
+}
+
+impl Model for FreeSet {
+    ghost use Rattle.std.specs.Prelude.{Bool, List};
+    ghost use Rattle.eco_entities.specs.FreeBits.{bits_below, IsLevelled};
+
+    ghost Value = { List Bool };
+
+    ghost view = { λ s. bits_below s.len s.indices };
+
+    ghost invariant = { λ s. IsLevelled s.len s.indices s.words s.groups };
+}
+
+impl FreeSet {
+    /// Knows no index.
+    pub fn new(alloc: Global) -> FreeSet
+        ensures { result ≡ [] }
+    {
+        FreeSet {
+            len: 0,
+            indices: Level::new(alloc),
+            words: Level::new(alloc),
+            groups: Level::new(alloc),
+        }
+    }
+
+    /// The lowest free index.
+    pub fn lowest(&self) -> Option<usize>
+        ensures { result ≡ position_from (λ b. b) 0 self.now }
+    {
+        let group = self.groups.lowest_bit(self.groups.first_word()?);
+        let word = self.words.lowest_bit(group);
+        Some(self.indices.lowest_bit(word))
+    }
+
+    /// The index is free from now on.
+    pub fn insert(&mut self, index: usize)
+        requires { index < length self.old }
+        ensures { self.new ≡ slice_set self.old index true }
+    {
+        let word = index / WORD_BITS;
+        self.indices.set(index);
+        self.words.set(word);
+        self.groups.set(word / WORD_BITS);
+    }
+
+    /// The index isn't free any more.
+    pub fn remove(&mut self, index: usize)
+        requires { index < length self.old }
+        ensures { self.new ≡ slice_set self.old index false }
+    {
+        let word = index / WORD_BITS;
+        if self.indices.clear(index) && self.words.clear(word) {
+            let _ = self.groups.clear(word / WORD_BITS);
+        }
+    }
+
+    /// All indices from `from` on are free from now on.
+    pub fn insert_from(&mut self, from: usize)
+        requires { from ≤ length self.old }
+        ensures { self.new ≡ take from self.old ++ replicate (length self.old - from) true }
+    {
+        if from < self.len {
+            let word = from / WORD_BITS;
+            let words = self.len.div_ceil(WORD_BITS);
+            self.indices.set_range(from, self.len);
+            self.words.set_range(word, words);
+            self.groups.set_range(word / WORD_BITS, words.div_ceil(WORD_BITS));
+        }
+    }
+
+    /// Knows `count` more indices, which aren't free. An `Err` comes where a growth was refused, and leaves the set.
+    pub fn grow(&mut self, count: usize) -> Result<(), AllocError>
+        requires { length self.old + count < 2 ^ 32 }
+        ensures ok { OnOk result (self.new ≡ self.old ++ replicate count false) }
+        ensures err { OnErr result (self.new ≡ self.old) }
+    {
+        let len = self.len + count;
+        let indices = len.div_ceil(WORD_BITS);
+        let words = indices.div_ceil(WORD_BITS);
+        self.groups.grow_to(words.div_ceil(WORD_BITS))?;
+        self.words.grow_to(words)?;
+        self.indices.grow_to(indices)?;
+        self.len = len;
+        Ok(())
+    }
+}

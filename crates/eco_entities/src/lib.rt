@@ -1,0 +1,7 @@
+//! The entity index: which indices live, are free or retired, and each living entity's name and place.
+#![tactic(auto)]
+
+mod free_set;
+mod level;
+
+pub use free_set::FreeSet;

@@ -1,2 +1,4 @@
 pub mod Bits
 pub mod Levels
+pub mod Marks
+pub mod States

@@ -1,2 +1,4 @@
 pub mod FreeBits
+pub mod Registration
+pub mod Slots
 pub mod Words

@@ -3,5 +3,9 @@
 
 mod free_set;
 mod level;
+mod place;
+mod slot;
+mod slots;
 
 pub use free_set::FreeSet;
+pub use place::Place;

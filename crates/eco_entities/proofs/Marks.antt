@@ -1,15 +1,16 @@
 -- The marks of the free indices: they follow each change of a state.
-use Rattle.std.proofs.Common.{◌≡◌, ◌≢◌, ℕ, zero, suc, ◌+◌, ◌-◌, ◌<◌, ◌≤◌, Bool, true, false, List, [], ◌∷◌, ◌++◌, length, set, get_or, slice_get, slice_set, replicate, map, refl, sym, ap, ◌∙◌, Option, Some, None, MatchOption, option_map, inl, inr, arith, nat_lt, if◌then◌else◌}
+use Rattle.std.proofs.Common.{◌≡◌, ◌≢◌, ℕ, zero, suc, ◌+◌, ◌-◌, ◌<◌, ◌≤◌, Bool, true, false, List, [], ◌∷◌, ◌++◌, length, set, take, get_or, slice_get, slice_set, replicate, map, refl, sym, ap, ◌∙◌, Option, Some, None, MatchOption, option_map, inl, inr, arith, nat_lt, if◌then◌else◌}
 use Rattle.std.specs.List.{position_from}
 use Rattle.std.specs.Option.{option_or}
 use Rattle.std.proofs.lemmas.Bool.{cases_eq, ltb-true, lt-ltb, le-ltb, cond-true, cond-false}
-use Rattle.std.proofs.lemmas.List.{length-map, get_or-map, length-set, map-set, set-get_or, map-append}
+use Rattle.std.proofs.lemmas.List.{length-append, length-replicate, take_at, length-map, get_or-map, length-set, map-set, set-get_or, map-append}
 use Rattle.std.proofs.lemmas.Option.{slice_get_within, slice_get_past, slice_get-map, slice_get_read, get_or_from_slice_get}
 use Rattle.eco_ids.specs.declared.entity.Entity.{Entity}
-use Rattle.eco_ids.specs.Indices.{Indexed, IndexState, Retired, Free, Living, lowest_free, next_entity, is_alive, is_free_at, map_state, raised, with_death}
+use Rattle.eco_ids.specs.Indices.{Indexed, IndexState, Retired, Free, Living, lowest_free, next_entity, admitted, is_alive, is_free_at, map_state, raised, with_death}
 use Rattle.eco_entities.specs.Registration.{Registration, with_change}
 use Rattle.eco_entities.specs.Slots.{IsMarked, Fits, is_free, next_generation, state_of}
 use Rattle.eco_entities.specs.declared.slot.Slot.{Slot}
+use Rattle.eco_entities.specs.declared.slot.Slot.TheVariants as slot
 use Rattle.eco_entities.proofs.States.{slice_get-set_same, slice_get-set_other, alive_known, free_known, changed_states}
 
 -- one state changes, and its mark with it
@@ -173,3 +174,43 @@ next_over limit slots marks w m view none over =
     let whole : length (map state_of slots) ≡ length slots = length-map slots state_of in
     sym (ap (first_unknown limit) whole ∙ cond-false (nat_lt (length slots) limit) (Some (record { index = length slots; generation = 0 })) None (le-ltb (length slots) limit over))
     ∙ (sym (next_unknown limit (map state_of slots) (lowest_unmarked limit (map state_of slots) marks m none)) ∙ ap next_entity view)
+
+-- more free indices at the end
+
+pub fits-append : {A : Type 0} (xs ys : List (IndexState A)) → ((i : ℕ) → Fits (slice_get xs i)) → ((i : ℕ) → Fits (slice_get ys i)) → (i : ℕ) → Fits (slice_get (xs ++ ys) i)
+fits-append [] ys f g i = g i
+fits-append (x ∷ xs) ys f g zero = f zero
+fits-append (x ∷ xs) ys f g (suc i) = fits-append xs ys (λ j. f (suc j)) g i
+
+fits-fresh : (A : Type 0) (n i : ℕ) → Fits {A = A} (slice_get (replicate n (Free 0)) i)
+fits-fresh A zero i = tt
+fits-fresh A (suc n) zero = omega arith
+fits-fresh A (suc n) (suc i) = fits-fresh A n i
+
+map-replicate : {A B : Type 0} (f : A → B) (n : ℕ) (x : A) → map f (replicate n x) ≡ replicate n (f x)
+map-replicate f zero x = refl
+map-replicate f (suc n) x = ap (λ xs. f x ∷ xs) (map-replicate f n x)
+
+pub slots_admitted : (limit : ℕ) (slots slots' : List Slot) (marks grown marks' : List Bool) (w : Indexed Registration) (n : ℕ) → IsMarked limit (map state_of slots) marks → ◌≡◌ {A = Indexed Registration} (record { limit = limit; indices = map state_of slots }) w → length slots + n ≤ limit → slots' ≡ slots ++ replicate n (slot.Free 0) → grown ≡ marks ++ replicate n false → marks' ≡ take (length slots) grown ++ replicate (length grown - length slots) true → IsMarked limit (map state_of slots') marks' × (◌≡◌ {A = Indexed Registration} (record { limit = limit; indices = map state_of slots' }) (admitted n w))
+slots_admitted limit slots slots' marks grown marks' w n m view room more zeros filled =
+    let known : length marks ≡ length slots = ap length m.marked ∙ (length-map (map state_of slots) is_free ∙ length-map slots state_of) in
+    let whole : length grown - length slots ≡ n = let grown_by : length grown ≡ length marks + n = ap length zeros ∙ (length-append marks (replicate n false) ∙ rw length-replicate refl) in omega arith in
+    let front : take (length slots) grown ≡ marks = ap (take (length slots)) zeros ∙ take_at marks (replicate n false) (length slots) known in
+    let states : map state_of slots' ≡ map state_of slots ++ replicate n (Free 0) = ap (map state_of) more ∙ (map-append state_of slots (replicate n (slot.Free 0)) ∙ ap (λ ys. map state_of slots ++ ys) (map-replicate state_of n (slot.Free 0))) in
+    let marks_are : marks' ≡ map is_free (map state_of slots ++ replicate n (Free 0)) =
+        filled ∙ (rw (front, whole) refl
+        ∙ (ap (λ ms. ms ++ replicate n true) m.marked
+        ∙ sym (map-append is_free (map state_of slots) (replicate n (Free 0)) ∙ ap (λ ys. map is_free (map state_of slots) ++ ys) (map-replicate is_free n (Free 0))))) in
+    (rw states (record {
+      limited = m.limited;
+      within = rw (length-append, length-replicate, length-map) room;
+      marked = marks_are;
+      fit = fits-append (map state_of slots) (replicate n (Free 0)) m.fit (fits-fresh Registration n);
+    }),
+     rw states (ap (admitted n) view))
+
+pub room_inside : (limit : ℕ) (slots : List Slot) (w : Indexed Registration) (n : ℕ) → ◌≡◌ {A = Indexed Registration} (record { limit = limit; indices = map state_of slots }) w → length w.indices + n ≤ w.limit → length slots + n ≤ limit
+room_inside limit slots w n view room =
+    let known : length w.indices ≡ length slots = ap (λ (v : Indexed Registration). length v.indices) (sym view) ∙ length-map slots state_of in
+    let bound : limit ≡ w.limit = ap (λ (v : Indexed Registration). v.limit) view in
+    omega arith

@@ -1,9 +1,10 @@
 -- Lists of states: who lives or is free at an index, and what a change leaves of it.
-use Rattle.std.proofs.Common.{◌≡◌, ◌≢◌, ℕ, zero, suc, ◌+◌, ◌-◌, ◌<◌, ◌≤◌, ◌==◌, Bool, true, false, cond, List, [], ◌∷◌, ◌++◌, length, set, slice_get, slice_set, replicate, map, refl, sym, ap, ◌∙◌, Option, Some, None, is_some, option_map, inl, inr, arith, eq-eqb, eqb-true, IsTrue}
-use Rattle.std.proofs.lemmas.Bool.{cases_eq, cases_lt, false≢true, cond-true, ne_eqb}
-use Rattle.std.proofs.lemmas.Option.{none-some, same_Some, slice_get_within, slice_get_past}
+use Rattle.std.proofs.Common.{◌≡◌, ◌≢◌, ℕ, zero, suc, ◌+◌, ◌-◌, ◌<◌, ◌≤◌, ◌==◌, Bool, true, false, cond, List, [], ◌∷◌, ◌++◌, length, set, slice_get, slice_set, replicate, map, refl, sym, ap, ◌∙◌, Option, Some, None, is_some, option_map, ◌⊎◌, inl, inr, nat_lt, if◌then◌else◌, arith, eq-eqb, eqb-true, IsTrue}
+use Rattle.std.specs.Option.{option_or}
+use Rattle.std.proofs.lemmas.Bool.{cases_eq, ltb-true, false≢true, cond-true, ne_eqb}
+use Rattle.std.proofs.lemmas.Option.{none-some, cond_some, same_Some, slice_get_within, slice_get_past}
 use Rattle.eco_ids.specs.declared.entity.Entity.{Entity}
-use Rattle.eco_ids.specs.Indices.{Indexed, IndexState, Retired, Free, Living, record_in, record_of, is_alive, is_free_in, is_free_at, with_record, with_death, map_state}
+use Rattle.eco_ids.specs.Indices.{Indexed, IndexState, Retired, Free, Living, record_in, record_of, is_alive, is_free_in, is_free_at, with_record, with_death, map_state, lowest_free, next_entity}
 use Rattle.eco_entities.specs.Registration.{Registration, change_in, with_change}
 
 -- lists by their places
@@ -73,3 +74,39 @@ changed_states limit xs e x y change alive here is =
     let same : x ≡ Living e.generation (change living.0) = is ∙ ap (map_state change) (same_Some y (Living e.generation living.0) (sym here ∙ living.1)) in
     ap (λ z. record { limit = limit; indices = set xs e.index z }) same
     ∙ sym (ap (change_in (record { limit = limit; indices = xs }) e change) (record_at (record { limit = limit; indices = xs }) e living.0 living.1))
+
+-- who is made next is free at a known index, or comes first after the known ones
+
+lowest_on : {A : Type 0} (n : ℕ) (x : IndexState A) (xs : List (IndexState A)) (e : Entity) → (n + 1 ≤ e.index) × (slice_get xs (e.index - (n + 1)) ≡ Some (Free e.generation)) → (n ≤ e.index) × (slice_get (x ∷ xs) (e.index - n) ≡ Some (Free e.generation))
+lowest_on n x xs e h =
+    let above : n + 1 ≤ e.index = h.0 in
+    let place : e.index - n ≡ suc (e.index - (n + 1)) = omega arith in
+    (omega arith, rw place h.1)
+
+lowest_is : {A : Type 0} (n : ℕ) (xs : List (IndexState A)) (e : Entity) → lowest_free n xs ≡ Some e → (n ≤ e.index) × (slice_get xs (e.index - n) ≡ Some (Free e.generation))
+lowest_is n [] e h = absurd (none-some e h)
+lowest_is n (Retired ∷ xs) e h = lowest_on n Retired xs e (lowest_is (n + 1) xs e h)
+lowest_is n (Free g ∷ xs) e h =
+    let index : n ≡ e.index = ap (λ (x : Entity). x.index) (same_Some (record { index = n; generation = g }) e h) in
+    let generation : g ≡ e.generation = ap (λ (x : Entity). x.generation) (same_Some (record { index = n; generation = g }) e h) in
+    let here : e.index - n ≡ 0 = omega arith in
+    (omega arith, rw here (ap (λ m. Some (Free m)) generation))
+lowest_is n (Living g r ∷ xs) e h = lowest_on n (Living g r) xs e (lowest_is (n + 1) xs e h)
+
+next_or : {A : Type 0} (w : Indexed A) (e : Entity) (o : Option Entity) → lowest_free 0 w.indices ≡ o → option_or o (if nat_lt (length w.indices) w.limit then Some (record { index = length w.indices; generation = 0 }) else None) ≡ Some e → (slice_get w.indices e.index ≡ Some (Free e.generation)) ⊎ ((length w.indices < w.limit) × (record { index = length w.indices; generation = 0 } ≡ e))
+next_or w e None low h =
+    let found : (nat_lt (length w.indices) w.limit ≡ true) × (record { index = length w.indices; generation = 0 } ≡ e) = cond_some (nat_lt (length w.indices) w.limit) (record { index = length w.indices; generation = 0 }) e h in
+    inr (ltb-true _ _ found.0, found.1)
+next_or w e (Some x) low h =
+    let place : e.index - 0 ≡ e.index = omega arith in
+    inl (rw place at (lowest_is 0 w.indices e (low ∙ h)).1)
+
+pub next_is : {A : Type 0} (w : Indexed A) (e : Entity) → next_entity w ≡ Some e → (slice_get w.indices e.index ≡ Some (Free e.generation)) ⊎ ((length w.indices < w.limit) × (record { index = length w.indices; generation = 0 } ≡ e))
+next_is w e h = next_or w e (lowest_free 0 w.indices) refl h
+
+-- where its index isn't known, there is room for it
+pub next_room : {A : Type 0} (w : Indexed A) (e : Entity) → next_entity w ≡ Some e → length w.indices ≤ e.index → length w.indices + 1 ≤ w.limit
+next_room w e h past =
+    elim (next_is w e h)
+    [ inl free ↦ let within : e.index < length w.indices = slice_get_within w.indices e.index (Free e.generation) free in omega arith
+    | inr fresh ↦ let below : length w.indices < w.limit = fresh.0 in omega arith ]

@@ -1,11 +1,13 @@
 //! The entity index: which indices live, are free or retired, and each living entity's name and place.
 #![tactic(auto)]
 
+mod entity_index;
 mod free_set;
 mod level;
+mod names;
 mod place;
 mod slot;
 mod slots;
 
-pub use free_set::FreeSet;
+pub use entity_index::EntityIndex;
 pub use place::Place;

@@ -1,16 +1,18 @@
 //! The known indices: which of them live, are free or retired, and what is kept of the living.
-ghost use Rattle.std.specs.Prelude.{◌≡◌, ◌+◌, ◌≤◌, ◌<◌, ◌&&◌, nat_lt, [], ◌++◌, replicate, vec_len, vec_capacity, length, slice_get, IsTrue, None, option_map, string_bytes};
+ghost use Rattle.std.specs.Prelude.{◌≡◌, ◌+◌, ◌≤◌, ◌<◌, ◌&&◌, nat_lt, [], ◌++◌, replicate, vec_len, vec_capacity, length, slice_get, IsTrue, OnOk, OnErr, Some, None, option_map, string_bytes};
 ghost use Rattle.eco_ids.specs.Births.{Admits, may_admit, RevivesWith};
-ghost use Rattle.eco_ids.specs.Indices.{record_of, is_alive, is_free_at, next_entity, with_record, with_death};
+ghost use Rattle.eco_ids.specs.Indices.{record_of, is_alive, is_free_at, next_entity, admitted, with_record, with_death};
 ghost use Rattle.eco_ids.specs.Outcome.{Meets};
-ghost use Rattle.eco_entities.specs.Registration.{newcomer, entity_at, with_change, placed, renamed};
+ghost use Rattle.std.specs.Option.{option_copied};
+ghost use Rattle.eco_entities.specs.Registration.{newcomer, own_name, entity_at, with_change, placed, renamed};
 ghost use Rattle.eco_entities.specs.Slots.{registration_of, next_generation};
+ghost use Rattle.eco_entities.specs.Registry.{with_room};
 
 use crate::free_set::FreeSet;
 use crate::place::Place;
 use crate::slot::{Registered, Slot};
 use eco_ids::{Entity, Refusal};
-use std::alloc::Global;
+use std::alloc::{AllocError, Global};
 use std::marker::Model;
 
 #[derive(Drop)]
@@ -71,6 +73,13 @@ impl Slots {
         }
     }
 
+    /// The name of a living entity, if it has one.
+    pub(crate) fn name(&self, entity: Entity) -> Option<&str>
+        ensures { option_copied result ≡ own_name self.now entity }
+    {
+        self.get(entity)?.name.as_deref()
+    }
+
     /// Who lives at the index.
     pub(crate) fn entity_at(&self, index: u32) -> Option<Entity>
         ensures { result ≡ entity_at self.now index }
@@ -123,17 +132,38 @@ impl Slots {
     pub(crate) fn admit(&mut self, count: u32) -> Result<(), Refusal>
         ensures { Meets (Admits self.old count) (may_admit self.old count && nat_lt 0 count) self.old result self.new }
     {
-        let known = self.slots.len();
-        let count = count as usize;
-        if count > self.limit as usize - known {
+        if count > self.limit() - self.high() {
             return Err(Refusal::NoMoreIds);
         }
         if count > 0 {
-            self.slots.reserve(count)?;
-            self.free.grow(count)?;
-            self.free.insert_from(known);
-            push_fresh(&mut self.slots, count);
+            self.extend(count as usize)?;
         }
+        Ok(())
+    }
+
+    /// Makes the index of the next entity known, if it isn't. An `Err` leaves everything.
+    pub(crate) fn make_room(&mut self, entity: Entity) -> Result<(), AllocError>
+        requires { next_entity self.old ≡ Some entity }
+        ensures ok { OnOk result (self.new ≡ with_room self.old entity) }
+        ensures err { OnErr result (self.new ≡ self.old) }
+    {
+        if entity.index < self.high() {
+            return Ok(());
+        }
+        self.extend(1)
+    }
+
+    // Appends free indices, which lie below the limit.
+    fn extend(&mut self, count: usize) -> Result<(), AllocError>
+        requires { length self.old.indices + count ≤ self.old.limit }
+        ensures ok { OnOk result (self.new ≡ admitted count self.old) }
+        ensures err { OnErr result (self.new ≡ self.old) }
+    {
+        let known = self.slots.len();
+        self.slots.reserve(count)?;
+        self.free.grow(count)?;
+        self.free.insert_from(known);
+        push_fresh(&mut self.slots, count);
         Ok(())
     }
 

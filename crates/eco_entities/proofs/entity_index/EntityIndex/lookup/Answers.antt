@@ -1,0 +1,12 @@
+use Rattle.std.proofs.Common.{◌∙◌, ap}
+use Rattle.eco_ids.specs.Names.{bearer}
+use Rattle.eco_ids.specs.Indices.{Indexed}
+use Rattle.eco_entities.specs.Registration.{Registration, name_of}
+use Rattle.eco_entities.specs.Registry.{entity_of}
+use Rattle.eco_entities.proofs.Bearers.{registry_bearer}
+use Rattle.eco_entities.proofs.entity_index.EntityIndex.lookup.Goals as goal
+
+pub returns : goal.returns
+returns c =
+    c.get.ensures ∙ (registry_bearer (entity_of c.self.inside.names) c.self.inside.slots c.args.name.now c.self.invariant
+    ∙ ap (λ (w : Indexed Registration). bearer name_of w c.args.name.now) c.self.view_is)

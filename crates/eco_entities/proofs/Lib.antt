@@ -4,5 +4,6 @@ pub mod Levels
 pub mod Marks
 pub mod Owners
 pub mod Registers
+pub mod Renaming
 pub mod States
 pub mod Texts

@@ -77,3 +77,10 @@ module _ {found found' : List ℕ → Option Entity} {own own' : Entity → Opti
   pub registry_nameless : (e : Entity) → IsRegistry found own → own e ≡ None → Keeps found found' → ChangesAt own own' e None → IsRegistry found' own'
   registry_nameless e r nameless f o =
       registry_same r f (record { all = λ x. elim (cases_entity x e) [ inl same ↦ ap own' same ∙ (o.here ∙ (sym nameless ∙ ap own (sym same))) | inr apart ↦ o.others x apart ] })
+
+-- an entity gets another name in place of its old one
+pub registry_exchange : {found found' found'' : List ℕ → Option Entity} {own own' own'' : Entity → Option (List ℕ)} (old name : List ℕ) (e : Entity) → IsRegistry found own → own e ≡ Some old → ChangesAt found found' old None → ChangesAt own own' e None → found name ≡ None → is_name name ≡ true → ChangesAt found' found'' name (Some e) → ChangesAt own own'' e (Some name) → IsRegistry found'' own''
+registry_exchange {found'} old name e r named f o free good g p =
+    let still_free : found' name ≡ None = elim (cases_text name old) [ inl same ↦ ap found' same ∙ f.here | inr apart ↦ f.others name apart ∙ free ] in
+    registry_gain name e (registry_lose old e r named f o) o.here still_free good g
+    (record { here = p.here; others = λ j ne. p.others j ne ∙ sym (o.others j ne) })

@@ -1,18 +1,18 @@
 //! The index of all entities.
-ghost use Rattle.std.specs.Prelude.{◌≡◌, ℕ, ◌≤◌, ◌&&◌, nat_lt, true, [], length, List, Option, Some, None, IsTrue, OnOk, IfErr, MatchOption};
+ghost use Rattle.std.specs.Prelude.{◌≡◌, ◌↔◌, ℕ, ◌≤◌, ◌&&◌, nat_lt, true, [], length, List, Option, Some, None, IsTrue, OnOk, OnErr, MatchOption};
 ghost use Rattle.std.specs.Option.{option_copied};
 ghost use Rattle.eco_ids.specs.Births.{Admits, may_admit, Makes, may_make, RevivesWith, unfit_name};
+ghost use Rattle.eco_ids.specs.declared.entity.Entity.{Entity};
 ghost use Rattle.eco_ids.specs.Indices.{is_alive, next_entity, with_new, with_death};
 ghost use Rattle.eco_ids.specs.Names.{bearer, is_name};
 ghost use Rattle.eco_ids.specs.Outcome.{Meets};
-ghost use Rattle.eco_ids.specs.declared.refusal.Refusal.TheVariants.{OutOfMemory};
 ghost use Rattle.eco_entities.specs.Registration.{newcomer, name_of, own_name, own_place, entity_at, with_change, placed, renamed, Renames, may_rename};
 
 use crate::names::{Names, NewName};
 use crate::place::Place;
 use crate::slots::Slots;
-use eco_ids::{Entity, Refusal};
-use std::alloc::Global;
+use eco_ids::{Entity, Refusal, is_name};
+use std::alloc::{AllocError, Global};
 use std::marker::Model;
 
 /// Which indices are known, who lives there, under which name and at which place.
@@ -84,9 +84,10 @@ impl EntityIndex {
         self.slots.name(entity)
     }
 
-    /// The living entity of this name.
+    /// The living entity of this name. No two have the same.
     pub fn lookup(&self, name: &str) -> Option<Entity>
-        ensures { result ≡ bearer name_of self.now name.now }
+        ensures bearer { result ≡ bearer name_of self.now name.now }
+        ensures exact { (e : Entity) → (result ≡ Some e) ↔ (own_name self.now e ≡ Some name.now) }
     {
         self.names.get(name)
     }
@@ -96,6 +97,57 @@ impl EntityIndex {
         ensures { result ≡ entity_at self.now index }
     {
         self.slots.entity_at(index)
+    }
+
+    /// Makes an entity at the lowest free index, at the generation that its index has come to, else at the first unknown
+    /// index. It has this name, or none, and no place yet.
+    ///
+    /// Refused with `BadName` where the name is none, with `NameTaken` where a living entity has it, and with
+    /// `NoMoreIds` where every index below the limit is in use or retired, in this order.
+    pub fn create(&mut self, name: Option<&str>) -> Result<Entity, Refusal>
+        ensures { Meets (Makes name_of self.old (newcomer (option_copied name.entry))) (may_make name_of self.old (option_copied name.entry)) self.old result self.new }
+    {
+        self.check_name(name)?;
+        let Some(entity) = self.slots.next() else {
+            return Err(Refusal::NoMoreIds);
+        };
+        self.settle(entity, name)?;
+        Ok(entity)
+    }
+
+    // What stands against the name of a new entity.
+    fn check_name(&self, name: Option<&str>) -> Result<(), Refusal>
+        ensures { MatchOption (unfit_name name_of self.now (option_copied name.entry)) (result ≡ Ok tt) (λ why. result ≡ Err why) }
+    {
+        let Some(text) = name else {
+            return Ok(());
+        };
+        if !is_name(text) {
+            return Err(Refusal::BadName);
+        }
+        if self.lookup(text).is_some() {
+            return Err(Refusal::NameTaken);
+        }
+        Ok(())
+    }
+
+    // The next entity lives, with a name that nobody has, or none. An `Err` leaves everything.
+    fn settle(&mut self, entity: Entity, name: Option<&str>) -> Result<(), AllocError>
+        requires next { next_entity self.old ≡ Some entity }
+        requires fit { unfit_name name_of self.old (option_copied name) ≡ None }
+        ensures ok { OnOk result (self.new ≡ with_new self.old entity (newcomer (option_copied name.entry))) }
+        ensures err { OnErr result (self.new ≡ self.old) }
+    {
+        let Some(text) = name else {
+            self.slots.make_room(entity)?;
+            self.slots.settle(entity, None);
+            return Ok(());
+        };
+        let NewName { listed, own } = self.names.prepare(text)?;
+        self.slots.make_room(entity)?;
+        self.slots.settle(entity, Some(own));
+        self.names.insert(listed, entity);
+        Ok(())
     }
 
     /// Makes `count` more indices known. They are free at generation 0, and nobody lives there.
@@ -132,6 +184,47 @@ impl EntityIndex {
     {
         self.unname(entity);
         self.slots.kill(entity);
+    }
+
+    /// The living entity has this name, or none, from now on. Its own name again is done, and changes nothing.
+    ///
+    /// Refused with `NotAlive` where nobody lives there, with `BadName` where the name is none, and with `NameTaken` where
+    /// another living entity has it, in this order; the old name stays then.
+    pub fn rename(&mut self, entity: Entity, name: Option<&str>) -> Result<(), Refusal>
+        ensures { Meets (Renames self.old entity (option_copied name.entry)) (may_rename self.old entity (option_copied name.entry)) self.old result self.new }
+    {
+        if !self.is_alive(entity) {
+            return Err(Refusal::NotAlive);
+        }
+        let Some(text) = name else {
+            self.unname(entity);
+            return Ok(());
+        };
+        if !is_name(text) {
+            return Err(Refusal::BadName);
+        }
+        match self.lookup(text) {
+            Some(bearer) if bearer == entity => Ok(()),
+            Some(_) => Err(Refusal::NameTaken),
+            None => Ok(self.give_name(entity, text)?),
+        }
+    }
+
+    // The living entity has this name, which nobody has, in place of its old one. An `Err` leaves everything.
+    fn give_name(&mut self, entity: Entity, name: &str) -> Result<(), AllocError>
+        requires alive { IsTrue (is_alive self.old entity) }
+        requires proper { IsTrue (is_name name.now) }
+        requires free { bearer name_of self.old name.now ≡ None }
+        ensures ok { OnOk result (self.new ≡ with_change self.old entity (renamed (Some name.now))) }
+        ensures err { OnErr result (self.new ≡ self.old) }
+    {
+        let NewName { listed, own } = self.names.prepare(name)?;
+        if let Some(old) = self.slots.name(entity) {
+            self.names.remove(old);
+        }
+        self.slots.set_name(entity, Some(own));
+        self.names.insert(listed, entity);
+        Ok(())
     }
 
     // The living entity has no name any more.

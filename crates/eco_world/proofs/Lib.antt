@@ -1,0 +1,10 @@
+pub mod Adding
+pub mod Answering
+pub mod Changing
+pub mod Held
+pub mod Joined
+pub mod Rewrites
+pub mod Starting
+pub mod Steps
+pub mod Vacant
+pub mod Walk

@@ -1,0 +1,17 @@
+use Rattle.std.proofs.Common.{◌∷◌, [], not}
+use Rattle.std.specs.Bool.{MatchBool}
+use Rattle.std.proofs.lemmas.Result.{err_from_is_err_and}
+use Rattle.eco_ids.specs.declared.refusal.Refusal.TheVariants.{DeadId}
+use Rattle.eco_ids.specs.Outcome.{Answers}
+use Rattle.eco_ids.specs.Step.{Extends, unchanged}
+use Rattle.eco_ids.specs.World.{has, names_living}
+use Rattle.eco_world.proofs.Steps.{refused}
+use Rattle.eco_world.proofs.world.World.add.Goals as goal
+
+pub returns-in_err-check_actor : goal.returns-in_err-check_actor
+returns-in_err-check_actor c =
+    let w = c.args.self.now in
+    let e = c.args.entity in
+    let p = err_from_is_err_and c.from_residual.result c.from_residual.ensures.1 in
+    rw (p.1, p.2)
+    (refused w e _ ((not (names_living w c.args.id), DeadId) ∷ []) (λ r new. MatchBool (has w e c.args.id) (Answers tt w r new) (Extends w e c.args.id unchanged r new)) _ c.in_err-check_actor.ensures.err)

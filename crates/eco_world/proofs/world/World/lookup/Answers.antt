@@ -1,0 +1,6 @@
+use Rattle.std.proofs.Common.{sym, ◌∙◌}
+use Rattle.eco_world.proofs.Joined.{lookup_joined}
+use Rattle.eco_world.proofs.world.World.lookup.Goals as goal
+
+pub returns : goal.returns
+returns c = rw (← c.self.view_is) (c.lookup.ensures.bearer ∙ sym (lookup_joined c.self.inside.index c.self.inside.rows.items c.args.name.now))

@@ -1,9 +1,6 @@
 -- Who bears a name: the look-up in the registry and the search among the living find the same.
-use Rattle.std.proofs.Common.{◌≡◌, ◌≢◌, ℕ, zero, suc, ◌+◌, ◌-◌, ◌<◌, ◌≤◌, Bool, true, false, cond, List, [], ◌∷◌, slice_get, refl, sym, ap, ◌∙◌, Option, Some, None, MatchOption, option_map, option_and_then, find, inl, inr, arith}
-use Rattle.std.specs.Ordering.{is_eq, nat_cmp}
-use Rattle.std.specs.Cmp.Lexicographic.{slice_cmp}
-use Rattle.std.specs.Str.{bytes_eq}
-use Rattle.std.proofs.lemmas.Bool.{cases_eq, cases_Bool, false≢true, ne_eqb}
+use Rattle.std.proofs.Common.{◌≡◌, ℕ, zero, suc, ◌+◌, ◌-◌, ◌≤◌, Bool, true, false, cond, List, [], ◌∷◌, slice_get, refl, sym, ap, ◌∙◌, Option, Some, None, MatchOption, option_map, option_and_then, find, inl, inr, arith}
+use Rattle.std.proofs.lemmas.Bool.{cases_eq, false≢true, ne_eqb}
 use Rattle.std.proofs.lemmas.Map.Text.{is_eq-slice_cmp}
 use Rattle.std.proofs.lemmas.Option.{none-some, same_Some}
 use Rattle.std.proofs.lemmas.Slice.Eq.{bytes_eq-Decides}
@@ -12,7 +9,7 @@ use Rattle.eco_ids.specs.Indices.{Indexed, IndexState, Retired, Free, Living, re
 use Rattle.eco_ids.specs.Names.{is_text, is_called, bearer}
 use Rattle.eco_entities.specs.Registration.{Registration, name_of, own_name}
 use Rattle.eco_entities.specs.Registry.{IsRegistry}
-use Rattle.eco_entities.proofs.States.{record_here, state_at}
+use Rattle.eco_entities.proofs.States.{record_here}
 
 -- `is_text` is equality
 
@@ -56,9 +53,10 @@ found_later n x xs name (Some q) here rest =
 
 living_one : (g f : ℕ) (r q : Registration) → record_in (Some (Living g r)) f ≡ Some q → Some r ≡ Some q
 living_one g f r q h =
-    elim (cases_eq f g)
-    [ inl e ↦ sym (record_here g r) ∙ (ap (λ m. record_in (Some (Living g r)) m) (sym e) ∙ h)
-    | inr ne ↦ absurd (none-some q (sym (ap (λ b. cond b (Some r) None) (ne_eqb f g ne)) ∙ h)) ]
+    elim (cases_eq f g) [
+      | inl e ↦ sym (record_here g r) ∙ (ap (λ m. record_in (Some (Living g r)) m) (sym e) ∙ h)
+      | inr ne ↦ absurd (none-some q (sym (ap (λ b. cond b (Some r) None) (ne_eqb f g ne)) ∙ h))
+    ]
 
 found_living : (n g : ℕ) (r : Registration) (xs : List (IndexState Registration)) (name : List ℕ) (b : Bool) (o : Option (Entity × Registration)) → is_called name (name_of r) ≡ b → Found (n + 1) xs name o → Found n (Living g r ∷ xs) name (cond b (Some (record { index = n; generation = g }, r)) o)
 found_living n g r xs name true o e rest =

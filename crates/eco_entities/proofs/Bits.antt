@@ -1,14 +1,13 @@
 -- One bit of a list of words: set, cleared, and what the word around it then is.
-use Rattle.std.proofs.Common.{◌≡◌, ◌≢◌, ℕ, ◌+◌, ◌-◌, ◌*◌, ◌/◌, ◌%◌, ◌^◌, ◌<◌, ◌≤◌, zero, suc, ◌==◌, Bool, true, false, nat_lt, ◌||◌, Option, Some, None, MatchOption, cond, List, [], ◌∷◌, length, get_or, slice_index, slice_set, bit_and, bit_or, refl, sym, ap, ◌∙◌, ◌⊎◌, inl, inr, min, max, arith, subst, lit<, eq-eqb, eqb-true, replicate, ◌++◌}
-use Rattle.std.proofs.lemmas.Bool.{cases_eq, cases_lt, cases_Bool, ne_eqb, lt-ltb, le-ltb, ltb-true, ltb-false, false≢true}
-use Rattle.std.proofs.lemmas.Bool.Decides.{nat_tests}
-use Rattle.std.proofs.lemmas.List.{get_or-set_same, get_or-set_other, get_or_past, set_past, length-set}
+use Rattle.std.proofs.Common.{◌≡◌, ◌≢◌, ℕ, ◌+◌, ◌-◌, ◌*◌, ◌/◌, ◌%◌, ◌^◌, ◌<◌, ◌≤◌, zero, suc, ◌==◌, Bool, true, false, nat_lt, Option, Some, None, MatchOption, cond, List, [], ◌∷◌, length, get_or, refl, sym, ap, ◌∙◌, inl, inr, min, max, arith, lit<, eq-eqb, eqb-true, replicate, ◌++◌}
+use Rattle.std.proofs.lemmas.Bool.{cases_eq, cases_lt, lt-ltb, le-ltb, ltb-true, ltb-false}
+use Rattle.std.proofs.lemmas.List.{get_or-set_same, get_or-set_other, get_or_past, length-set}
 use Rattle.std.proofs.lemmas.Nat.Bits.{bit_at-zero, bit_at-lt, bit_at_set_same, bit_at_set_other, bit_at_clear_same, bit_at_clear_other, bit_at_or, bit_at_mask_inside, bit_at_mask_below, bit_at_mask_above, bit_at-trailing_zeros}
 use Rattle.std.proofs.Math.Nat.{pow-le-pow_right}
 use Rattle.std.proofs.lemmas.Nat.{pow_pos, and_le_l}
 use Rattle.std.specs.Int.Bits.{or_zero_r}
 use Rattle.std.specs.List.{position_from}
-use Rattle.std.specs.Int.{bit_at, bit_not, w64, trailing_zeros}
+use Rattle.std.specs.Int.{bit_at, w64, trailing_zeros}
 use Rattle.eco_entities.specs.Words.{has_bit, with_bit, without_bit, range_mask, FillsBits, IsFirstWord, IsLowestBit, Summarizes}
 
 -- a bit is set where the number's bit is 1
@@ -38,7 +37,7 @@ has_bit_of_zero ws k e = has_bit_zero ws k (ap (λ n. bit_at n (k % 64)) e ∙ b
 
 -- a number with a bit isn't 0
 pub pos_of_bit : (n i : ℕ) → bit_at n i ≡ 1 → 0 < n
-pos_of_bit zero i e = let one : 0 ≡ 1 = sym (bit_at-zero i) ∙ e in absurd (omega arith)
+pos_of_bit zero i e = absurd (omega (arith, bit_at-zero i, e))
 pos_of_bit (suc n) i e = omega arith
 
 -- a word with a bit isn't 0
@@ -62,11 +61,12 @@ pub has_bit-with_bit_other : (ws : List ℕ) (k j : ℕ) → j ≢ k → k / 64 
 unfolding with_bit
 has_bit-with_bit_other ws k j ne l =
     let below : k % 64 < 64 = omega arith in
-    elim (cases_eq (j / 64) (k / 64))
-    [ inl e ↦
-        let apart : j % 64 ≢ k % 64 = omega arith in
-        has_bit_same _ ws j (rw (e, get_or-set_same) (bit_at_set_other w64 _ (k % 64) below (j % 64) apart))
-    | inr apart ↦ has_bit_word _ ws j (rw get_or-set_other) ]
+    elim (cases_eq (j / 64) (k / 64)) [
+      | inl e ↦
+          let apart : j % 64 ≢ k % 64 = omega arith in
+          has_bit_same _ ws j (rw (e, get_or-set_same) (bit_at_set_other w64 _ (k % 64) below (j % 64) apart))
+      | inr apart ↦ has_bit_word _ ws j (rw get_or-set_other)
+    ]
 
 pub word-with_bit_other : (ws : List ℕ) (k w : ℕ) → w ≢ k / 64 → get_or (with_bit ws k) w 0 ≡ get_or ws w 0
 unfolding with_bit
@@ -89,11 +89,12 @@ unfolding without_bit
 has_bit-without_bit_other ws k j ne l =
     let below : k % 64 < 64 = omega arith in
     let here : j % 64 < 64 = omega arith in
-    elim (cases_eq (j / 64) (k / 64))
-    [ inl e ↦
-        let apart : j % 64 ≢ k % 64 = omega arith in
-        has_bit_same _ ws j (rw (e, get_or-set_same) (bit_at_clear_other w64 _ (k % 64) below (j % 64) here apart))
-    | inr apart ↦ has_bit_word _ ws j (rw get_or-set_other) ]
+    elim (cases_eq (j / 64) (k / 64)) [
+      | inl e ↦
+          let apart : j % 64 ≢ k % 64 = omega arith in
+          has_bit_same _ ws j (rw (e, get_or-set_same) (bit_at_clear_other w64 _ (k % 64) below (j % 64) here apart))
+      | inr apart ↦ has_bit_word _ ws j (rw get_or-set_other)
+    ]
 
 pub word-without_bit_other : (ws : List ℕ) (k w : ℕ) → w ≢ k / 64 → get_or (without_bit ws k) w 0 ≡ get_or ws w 0
 unfolding without_bit
@@ -104,23 +105,25 @@ word-without_bit_other ws k w ne = rw get_or-set_other
 -- a bit set below is set above
 pub summarizes-with_bit : (lower upper : List ℕ) (k : ℕ) → Summarizes lower upper → k / 64 < length lower → k / 64 / 64 < length upper → Summarizes (with_bit lower k) (with_bit upper (k / 64))
 summarizes-with_bit lower upper k s l u = record {
-  exact = λ w. elim (cases_eq w (k / 64))
-    [ inl e ↦
+  exact = λ w. elim (cases_eq w (k / 64)) [
+    | inl e ↦
         let set : has_bit (with_bit upper (k / 64)) w ≡ true = rw e (has_bit-with_bit_same upper (k / 64) u) in
         let there : 0 < get_or (with_bit lower k) w 0 = rw e (word_of_bit _ k (has_bit-with_bit_same lower k l)) in
         set ∙ sym (lt-ltb _ _ there)
-    | inr ne ↦ has_bit-with_bit_other upper (k / 64) w ne u ∙ (s.exact w ∙ ap (λ n. nat_lt 0 n) (sym (word-with_bit_other lower k w ne))) ];
+    | inr ne ↦ has_bit-with_bit_other upper (k / 64) w ne u ∙ (s.exact w ∙ ap (λ n. nat_lt 0 n) (sym (word-with_bit_other lower k w ne)))
+  ];
 }
 
 -- the last bit of a word is cleared above too
 pub summarizes_emptied : (lower upper : List ℕ) (k : ℕ) → Summarizes lower upper → get_or (without_bit lower k) (k / 64) 0 ≡ 0 → k / 64 / 64 < length upper → Summarizes (without_bit lower k) (without_bit upper (k / 64))
 summarizes_emptied lower upper k s z u = record {
-  exact = λ w. elim (cases_eq w (k / 64))
-    [ inl e ↦
+  exact = λ w. elim (cases_eq w (k / 64)) [
+    | inl e ↦
         let clear : has_bit (without_bit upper (k / 64)) w ≡ false = rw e (has_bit-without_bit_same upper (k / 64) u) in
         let none : get_or (without_bit lower k) w 0 ≤ 0 = rw e (omega (arith, z)) in
         clear ∙ sym (le-ltb _ _ none)
-    | inr ne ↦ has_bit-without_bit_other upper (k / 64) w ne u ∙ (s.exact w ∙ ap (λ n. nat_lt 0 n) (sym (word-without_bit_other lower k w ne))) ];
+    | inr ne ↦ has_bit-without_bit_other upper (k / 64) w ne u ∙ (s.exact w ∙ ap (λ n. nat_lt 0 n) (sym (word-without_bit_other lower k w ne)))
+  ];
 }
 
 -- clearing a bit adds none
@@ -131,12 +134,13 @@ word-without_bit_le ws k l = rw get_or-set_same (and_le_l _ _)
 -- a word that keeps a bit stays marked
 pub summarizes_kept : (lower upper : List ℕ) (k : ℕ) → Summarizes lower upper → (get_or (without_bit lower k) (k / 64) 0 ≡ 0 → ⊥) → k / 64 < length lower → Summarizes (without_bit lower k) upper
 summarizes_kept lower upper k s ne l = record {
-  exact = λ w. elim (cases_eq w (k / 64))
-    [ inl e ↦
+  exact = λ w. elim (cases_eq w (k / 64)) [
+    | inl e ↦
         let there : 0 < get_or (without_bit lower k) (k / 64) 0 = omega arith in
         let before : 0 < get_or lower (k / 64) 0 = omega (arith, word-without_bit_le lower k l) in
         rw e (s.exact (k / 64) ∙ (lt-ltb _ _ before ∙ sym (lt-ltb _ _ there)))
-    | inr apart ↦ s.exact w ∙ ap (λ n. nat_lt 0 n) (sym (word-without_bit_other lower k w apart)) ];
+    | inr apart ↦ s.exact w ∙ ap (λ n. nat_lt 0 n) (sym (word-without_bit_other lower k w apart))
+  ];
 }
 
 -- the lowest bit of the first word that has any
@@ -149,12 +153,13 @@ lowest_of_first ws at f fits =
     let place : (at * 64 + trailing_zeros w64 (get_or ws at 0)) % 64 ≡ trailing_zeros w64 (get_or ws at 0) = omega arith in
     record {
       set = has_bit_one ws _ (rw (word, place) found.1);
-      below = λ j l. elim (cases_lt (j / 64) at)
-        [ inl before ↦ has_bit_of_zero ws j (f.before (j / 64) before)
+      below = λ j l. elim (cases_lt (j / 64) at) [
+        | inl before ↦ has_bit_of_zero ws j (f.before (j / 64) before)
         | inr after ↦
             let same : j / 64 ≡ at = omega arith in
             let under : j % 64 < trailing_zeros w64 (get_or ws at 0) = omega arith in
-            has_bit_zero ws j (rw same (found.2 (j % 64) under)) ];
+            has_bit_zero ws j (rw same (found.2 (j % 64) under))
+      ];
     }
 
 -- a range
@@ -218,16 +223,19 @@ word_filled from to w old new f l after within =
 -- a range set below is a range set above
 pub summarizes_filled : (from to up_to : ℕ) (lower lower' upper upper' : List ℕ) → Summarizes lower upper → from < to → up_to ≡ to / 64 + min 1 (to % 64) → FillsBits from to lower lower' → FillsBits (from / 64) up_to upper upper' → Summarizes lower' upper'
 summarizes_filled from to up_to lower lower' upper upper' s l up f g = record {
-  exact = λ w. elim (cases_lt w (from / 64))
-    [ inl before ↦
+  exact = λ w. elim (cases_lt w (from / 64)) [
+    | inl before ↦
         let same : get_or lower' w 0 ≡ get_or lower w 0 = f.words w ∙ rw (mask_before from to w (omega arith) before) (or_zero_r _) in
         has_bit-fill_below (from / 64) up_to upper upper' w g before ∙ (s.exact w ∙ ap (λ n. nat_lt 0 n) (sym same))
-    | inr after ↦ elim (cases_lt w up_to)
-      [ inl within ↦ has_bit-fill_inside (from / 64) up_to upper upper' w g after within ∙ sym (lt-ltb _ _ (word_filled from to w lower lower' f l after (omega arith)))
+    | inr after ↦ elim (cases_lt w up_to) [
+      | inl within ↦ has_bit-fill_inside (from / 64) up_to upper upper' w g after within ∙ sym (lt-ltb _ _ (word_filled from to w lower lower' f l after (omega arith)))
       | inr past ↦
           let same : get_or lower' w 0 ≡ get_or lower w 0 = f.words w ∙ rw (mask_after from to w (omega arith) (omega arith)) (or_zero_r _) in
-          has_bit-fill_above (from / 64) up_to upper upper' w g past ∙ (s.exact w ∙ ap (λ n. nat_lt 0 n) (sym same)) ] ];
+          has_bit-fill_above (from / 64) up_to upper upper' w g past ∙ (s.exact w ∙ ap (λ n. nat_lt 0 n) (sym same))
+    ]
+  ];
 }
+
 -- words without bits at the end
 
 pub get_or-zeros : (ws : List ℕ) (n w : ℕ) → get_or (ws ++ replicate n 0) w 0 ≡ get_or ws w 0

@@ -1,13 +1,13 @@
 -- The three levels of a set of free indices: what each change leaves of them, and of the flags that they show.
-use Rattle.std.proofs.Common.{◌≡◌, ◌≢◌, ℕ, zero, suc, ◌+◌, ◌-◌, ◌*◌, ◌/◌, ◌%◌, ◌^◌, ◌<◌, ◌≤◌, Bool, true, false, List, [], ◌∷◌, ◌++◌, length, get_or, take, map, replicate, slice_set, refl, sym, ap, ◌∙◌, inl, inr, min, Option, Some, None, arith, rules}
-use Rattle.std.specs.List.{range_with_len, position_from}
+use Rattle.std.proofs.Common.{◌≡◌, ◌≢◌, ℕ, zero, suc, ◌+◌, ◌-◌, ◌*◌, ◌/◌, ◌%◌, ◌^◌, ◌<◌, ◌≤◌, Bool, true, false, List, [], ◌∷◌, ◌++◌, length, get_or, take, replicate, slice_set, refl, sym, ap, ◌∙◌, inl, inr, min, Some, None, arith}
+use Rattle.std.specs.List.{position_from}
 use Rattle.std.proofs.lemmas.Bool.{cases_eq, cases_lt, false≢true}
 use Rattle.std.proofs.lemmas.List.{append-nil, take_all, same_lists, length-set, length-append, length-replicate, length-take, get_or-set_same, get_or-set_other, get_or_append_left, get_or-append_right, get_or-replicate, get_or-take}
 use Rattle.std.proofs.lemmas.List.FromFn.{length-map-range_with_len, get_or-map-range_with_len}
 use Rattle.std.proofs.lemmas.Nat.Bits.{bit_at-zero}
 use Rattle.eco_entities.specs.Words.{has_bit, with_bit, without_bit, FillsBits, IsLowestBit, Summarizes}
 use Rattle.eco_entities.specs.FreeBits.{bits_below, IsLevelled}
-use Rattle.eco_entities.proofs.Bits.{length-with_bit, length-without_bit, has_bit-with_bit_same, has_bit-with_bit_other, has_bit-without_bit_same, has_bit-without_bit_other, has_bit-fill_inside, has_bit-fill_below, has_bit-fill_above, has_bit-appended, summarizes-with_bit, summarizes_emptied, summarizes_kept, summarizes_filled, summarizes-appended_above, summarizes-appended_below}
+use Rattle.eco_entities.proofs.Bits.{length-with_bit, length-without_bit, has_bit-with_bit_same, has_bit-with_bit_other, has_bit-without_bit_same, has_bit-without_bit_other, has_bit-fill_inside, has_bit-fill_below, has_bit-fill_above, has_bit-appended, summarizes-with_bit, summarizes_filled, summarizes-appended_above, summarizes-appended_below}
 
 -- the flags
 
@@ -28,20 +28,22 @@ flags_are n ws xs e same =
 pub flags-with_bit : (n : ℕ) (ws : List ℕ) (i : ℕ) → i < n → i / 64 < length ws → bits_below n (with_bit ws i) ≡ slice_set (bits_below n ws) i true
 flags-with_bit n ws i l room =
     flags_are n _ _ (length-set _ i true ∙ length-bits_below n ws)
-    (λ k d b. elim (cases_eq k i)
-      [ inl e ↦
+    (λ k d b. elim (cases_eq k i) [
+      | inl e ↦
           let there : i < length (bits_below n ws) = rw length-bits_below l in
           rw (e, get_or-set_same) (has_bit-with_bit_same ws i room)
-      | inr ne ↦ has_bit-with_bit_other ws i k ne room ∙ rw (get_or-set_other) (sym (get_or-bits_below n ws k d b)) ])
+      | inr ne ↦ has_bit-with_bit_other ws i k ne room ∙ rw (get_or-set_other) (sym (get_or-bits_below n ws k d b))
+    ])
 
 pub flags-without_bit : (n : ℕ) (ws : List ℕ) (i : ℕ) → i < n → i / 64 < length ws → bits_below n (without_bit ws i) ≡ slice_set (bits_below n ws) i false
 flags-without_bit n ws i l room =
     flags_are n _ _ (length-set _ i false ∙ length-bits_below n ws)
-    (λ k d b. elim (cases_eq k i)
-      [ inl e ↦
+    (λ k d b. elim (cases_eq k i) [
+      | inl e ↦
           let there : i < length (bits_below n ws) = rw length-bits_below l in
           rw (e, get_or-set_same) (has_bit-without_bit_same ws i room)
-      | inr ne ↦ has_bit-without_bit_other ws i k ne room ∙ rw (get_or-set_other) (sym (get_or-bits_below n ws k d b)) ])
+      | inr ne ↦ has_bit-without_bit_other ws i k ne room ∙ rw (get_or-set_other) (sym (get_or-bits_below n ws k d b))
+    ])
 
 -- the flags from `from` on are all set
 pub flags_filled : (n from : ℕ) (old new : List ℕ) → from ≤ n → FillsBits from n old new → bits_below n new ≡ take from (bits_below n old) ++ replicate (n - from) true
@@ -49,13 +51,14 @@ flags_filled n from old new l f =
     let front : length (take from (bits_below n old)) ≡ from = length-take from (bits_below n old) ∙ rw length-bits_below (omega arith) in
     let whole : length (take from (bits_below n old) ++ replicate (n - from) true) ≡ n = length-append (take from (bits_below n old)) (replicate (n - from) true) ∙ rw (front, length-replicate) (omega arith) in
     flags_are n _ _ whole
-    (λ k d b. elim (cases_lt k from)
-      [ inl before ↦
+    (λ k d b. elim (cases_lt k from) [
+      | inl before ↦
           let in_front : k < length (take from (bits_below n old)) = rw front before in
           has_bit-fill_below from n old new k f before ∙ rw (get_or_append_left, get_or-take) (sym (get_or-bits_below n old k d b))
       | inr after ↦
           let within : k - from < n - from = omega arith in
-          has_bit-fill_inside from n old new k f after b ∙ rw (get_or-append_right _ _ from k d front after, get_or-replicate) refl ])
+          has_bit-fill_inside from n old new k f after b ∙ rw (get_or-append_right _ _ from k d front after, get_or-replicate) refl
+    ])
 
 pub flags_filled_from : (n from : ℕ) (old new : List ℕ) (xs : List Bool) → bits_below n old ≡ xs → from ≤ n → FillsBits from n old new → bits_below n new ≡ take from xs ++ replicate (length xs - from) true
 flags_filled_from n from old new xs e l f =
@@ -67,13 +70,14 @@ pub flags_grown : (n m len : ℕ) (old new : List ℕ) → new ≡ old ++ replic
 flags_grown n m len old new a past =
     let whole : length (bits_below n old ++ replicate m false) ≡ n + m = length-append (bits_below n old) (replicate m false) ∙ rw (length-bits_below, length-replicate) refl in
     flags_are (n + m) _ _ whole
-    (λ k d b. has_bit-appended len old new k a ∙ elim (cases_lt k n)
-      [ inl before ↦
+    (λ k d b. has_bit-appended len old new k a ∙ elim (cases_lt k n) [
+      | inl before ↦
           let in_front : k < length (bits_below n old) = rw length-bits_below before in
           rw get_or_append_left (sym (get_or-bits_below n old k d before))
       | inr after ↦
           let within : k - n < m = omega arith in
-          past k after ∙ rw (get_or-append_right _ _ n k d (length-bits_below n old) after, get_or-replicate) refl ])
+          past k after ∙ rw (get_or-append_right _ _ n k d (length-bits_below n old) after, get_or-replicate) refl
+    ])
 
 -- the first flag that is set
 
@@ -108,8 +112,8 @@ pub levelled-set : (len : ℕ) (indices words groups : List ℕ) (i : ℕ) → I
 levelled-set len indices words groups i v l = record {
   bounded = v.bounded;
   indices_room = rw length-with_bit v.indices_room;
-  words_room = rw (length-with_bit, length-with_bit) v.words_room;
-  groups_room = rw (length-with_bit, length-with_bit) v.groups_room;
+  words_room = rw (length-with_bit indices i, length-with_bit words (i / 64)) v.words_room;
+  groups_room = rw (length-with_bit words (i / 64), length-with_bit groups (i / 64 / 64)) v.groups_room;
   indices_bounded = rw length-with_bit v.indices_bounded;
   words_bounded = rw length-with_bit v.words_bounded;
   groups_bounded = rw length-with_bit v.groups_bounded;

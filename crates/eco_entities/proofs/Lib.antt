@@ -1,6 +1,7 @@
 pub mod Bearers
 pub mod Bits
 pub mod Levels
+pub mod Lives
 pub mod Marks
 pub mod Owners
 pub mod Registers

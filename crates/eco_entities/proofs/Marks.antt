@@ -1,5 +1,5 @@
 -- The marks of the free indices: they follow each change of a state.
-use Rattle.std.proofs.Common.{◌≡◌, ◌≢◌, ℕ, zero, suc, ◌+◌, ◌-◌, ◌<◌, ◌≤◌, Bool, true, false, List, [], ◌∷◌, ◌++◌, length, set, take, get_or, slice_get, slice_set, replicate, map, refl, sym, ap, ◌∙◌, Option, Some, None, MatchOption, option_map, inl, inr, arith, nat_lt, if◌then◌else◌}
+use Rattle.std.proofs.Common.{◌≡◌, ℕ, zero, suc, ◌+◌, ◌-◌, ◌<◌, ◌≤◌, Bool, true, false, List, [], ◌∷◌, ◌++◌, length, set, take, get_or, slice_get, slice_set, replicate, map, refl, sym, ap, ◌∙◌, Option, Some, None, MatchOption, option_map, inl, inr, arith, nat_lt, if◌then◌else◌}
 use Rattle.std.specs.List.{position_from}
 use Rattle.std.specs.Option.{option_or}
 use Rattle.std.proofs.lemmas.Bool.{cases_eq, ltb-true, lt-ltb, le-ltb, cond-true, cond-false}
@@ -19,9 +19,10 @@ marked-set limit xs marks marks' i x m l fits e = record {
   limited = m.limited;
   within = rw length-set m.within;
   marked = e ∙ (ap (λ ms. set ms i (is_free x)) m.marked ∙ sym (map-set is_free xs i x));
-  fit = λ j. elim (cases_eq j i)
-    [ inl same ↦ rw (same, slice_get-set_same) fits
-    | inr apart ↦ rw slice_get-set_other (m.fit j) ];
+  fit = λ j. elim (cases_eq j i) [
+    | inl same ↦ rw (same, slice_get-set_same) fits
+    | inr apart ↦ rw slice_get-set_other (m.fit j)
+  ];
 }
 
 -- the lowest mark is the lowest free index
@@ -80,13 +81,14 @@ pub slot_changed : (limit : ℕ) (slots : List Slot) (marks : List Bool) (w : In
 slot_changed limit slots marks w e old new change m view alive read is =
     let within : e.index < length slots = alive_within limit slots w e view alive in
     let here : slice_get (map state_of slots) e.index ≡ Some (state_of old) = state_read slots e.index old within read in
-    let known : is_alive (record { limit = limit; indices = map state_of slots }) e ≡ true = ap (λ (v : Indexed Registration). is_alive v e) view ∙ alive in
-    (rw (map-set, is)
-     (marked_kept limit (map state_of slots) marks e.index (map_state change (state_of old)) (state_of old) m here
-      (is_free-map_state change (state_of old)) (fits-map_state change (state_of old) (fits_at limit (map state_of slots) marks e.index (state_of old) m here))),
-     rw map-set
-     (changed_states limit (map state_of slots) e (state_of new) (state_of old) change known here is
-      ∙ ap (λ (v : Indexed Registration). with_change v e change) view))
+    let known : is_alive (record { limit = limit; indices = map state_of slots }) e ≡ true = ap (λ (v : Indexed Registration). is_alive v e) view ∙ alive in (
+      rw (map-set, is)
+          (marked_kept limit (map state_of slots) marks e.index (map_state change (state_of old)) (state_of old) m here
+          (is_free-map_state change (state_of old)) (fits-map_state change (state_of old) (fits_at limit (map state_of slots) marks e.index (state_of old) m here))),
+      rw map-set
+          (changed_states limit (map state_of slots) e (state_of new) (state_of old) change known here is
+          ∙ ap (λ (v : Indexed Registration). with_change v e change) view),
+    )
 
 pub free_within : (limit : ℕ) (slots : List Slot) (w : Indexed Registration) (e : Entity) → ◌≡◌ {A = Indexed Registration} (record { limit = limit; indices = map state_of slots }) w → is_free_at w e ≡ true → e.index < length slots
 free_within limit slots w e view free =
@@ -98,9 +100,10 @@ with_state i x v = record v { indices = slice_set v.indices i x }
 
 -- another state at a known index
 pub slot_put : (limit : ℕ) (slots : List Slot) (marks marks' : List Bool) (w : Indexed Registration) (i : ℕ) (new : Slot) (x : IndexState Registration) → IsMarked limit (map state_of slots) marks → ◌≡◌ {A = Indexed Registration} (record { limit = limit; indices = map state_of slots }) w → i < length slots → state_of new ≡ x → Fits (Some x) → marks' ≡ set marks i (is_free x) → IsMarked limit (map state_of (set slots i new)) marks' × (◌≡◌ {A = Indexed Registration} (record { limit = limit; indices = map state_of (set slots i new) }) (record w { indices = slice_set w.indices i x }))
-slot_put limit slots marks marks' w i new x m view l is fits mark =
-    (rw (map-set, is) (marked-set limit (map state_of slots) marks marks' i x m (rw length-map l) fits mark),
-     rw (map-set, is) (ap (with_state i x) view))
+slot_put limit slots marks marks' w i new x m view l is fits mark = (
+  rw (map-set, is) (marked-set limit (map state_of slots) marks marks' i x m (rw length-map l) fits mark),
+  rw (map-set, is) (ap (with_state i x) view),
+)
 
 -- who lives isn't marked
 pub living_unmarked : (limit : ℕ) (slots : List Slot) (marks : List Bool) (w : Indexed Registration) (e : Entity) → IsMarked limit (map state_of slots) marks → ◌≡◌ {A = Indexed Registration} (record { limit = limit; indices = map state_of slots }) w → is_alive w e ≡ true → marks ≡ set marks e.index false
@@ -109,9 +112,9 @@ living_unmarked limit slots marks w e m view alive =
     let known : slice_get (map state_of slots) e.index ≡ Some (Living e.generation living.0) = ap (λ (v : Indexed Registration). slice_get v.indices e.index) view ∙ living.1 in
     let within : e.index < length (map state_of slots) = slice_get_within (map state_of slots) e.index (Living e.generation living.0) known in
     let mark : get_or marks e.index false ≡ false =
-        ap (λ ms. get_or ms e.index false) m.marked
-        ∙ (get_or-map is_free (map state_of slots) e.index (Living e.generation living.0) false within
-        ∙ ap is_free (get_or_from_slice_get (map state_of slots) e.index (Living e.generation living.0) (Living e.generation living.0) known)) in
+    ap (λ ms. get_or ms e.index false) m.marked
+    ∙ (get_or-map is_free (map state_of slots) e.index (Living e.generation living.0) false within
+    ∙ ap is_free (get_or_from_slice_get (map state_of slots) e.index (Living e.generation living.0) (Living e.generation living.0) known)) in
     sym (ap (λ b. set marks e.index b) (sym mark) ∙ set-get_or marks e.index false)
 
 fits_if : (A : Type 0) (g : ℕ) (b : Bool) → nat_lt g 65535 ≡ b → Fits {A = A} (Some (if b then Free (g + 1) else Retired))
@@ -198,16 +201,17 @@ slots_admitted limit slots slots' marks grown marks' w n m view room more zeros 
     let front : take (length slots) grown ≡ marks = ap (take (length slots)) zeros ∙ take_at marks (replicate n false) (length slots) known in
     let states : map state_of slots' ≡ map state_of slots ++ replicate n (Free 0) = ap (map state_of) more ∙ (map-append state_of slots (replicate n (slot.Free 0)) ∙ ap (λ ys. map state_of slots ++ ys) (map-replicate state_of n (slot.Free 0))) in
     let marks_are : marks' ≡ map is_free (map state_of slots ++ replicate n (Free 0)) =
-        filled ∙ (rw (front, whole) refl
-        ∙ (ap (λ ms. ms ++ replicate n true) m.marked
-        ∙ sym (map-append is_free (map state_of slots) (replicate n (Free 0)) ∙ ap (λ ys. map is_free (map state_of slots) ++ ys) (map-replicate is_free n (Free 0))))) in
-    (rw states (record {
-      limited = m.limited;
-      within = rw (length-append, length-replicate, length-map) room;
-      marked = marks_are;
-      fit = fits-append (map state_of slots) (replicate n (Free 0)) m.fit (fits-fresh Registration n);
-    }),
-     rw states (ap (admitted n) view))
+    filled ∙ (rw (front, whole) refl
+    ∙ (ap (λ ms. ms ++ replicate n true) m.marked
+    ∙ sym (map-append is_free (map state_of slots) (replicate n (Free 0)) ∙ ap (λ ys. map is_free (map state_of slots) ++ ys) (map-replicate is_free n (Free 0))))) in (
+      rw states (record {
+        limited = m.limited;
+        within = rw (length-append, length-replicate, length-map) room;
+        marked = marks_are;
+        fit = fits-append (map state_of slots) (replicate n (Free 0)) m.fit (fits-fresh Registration n);
+      }),
+      rw states (ap (admitted n) view),
+    )
 
 pub room_inside : (limit : ℕ) (slots : List Slot) (w : Indexed Registration) (n : ℕ) → ◌≡◌ {A = Indexed Registration} (record { limit = limit; indices = map state_of slots }) w → length w.indices + n ≤ w.limit → length slots + n ≤ limit
 room_inside limit slots w n view room =

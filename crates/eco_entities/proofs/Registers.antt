@@ -1,5 +1,5 @@
 -- The registry of names after each change.
-use Rattle.std.proofs.Common.{◌≡◌, ◌≢◌, ℕ, Bool, true, false, List, refl, sym, ap, ◌∙◌, Option, Some, None, ◌⊎◌, inl, inr}
+use Rattle.std.proofs.Common.{◌≡◌, ◌≢◌, ℕ, true, List, sym, ap, ◌∙◌, Option, Some, None, ◌⊎◌, inl, inr}
 use Rattle.std.proofs.lemmas.Bool.{cases_eq, cases_Bool, false≢true}
 use Rattle.std.proofs.lemmas.Option.{none-some, same_Some}
 use Rattle.std.proofs.lemmas.Slice.Eq.{bytes_eq-Decides}
@@ -11,18 +11,21 @@ use Rattle.eco_entities.specs.Registry.{IsRegistry, ChangesAt, Keeps}
 -- two texts are equal or not
 pub cases_text : (xs ys : List ℕ) → (xs ≡ ys) ⊎ (xs ≢ ys)
 cases_text xs ys =
-    elim (cases_Bool (bytes_eq xs ys))
-    [ inl t ↦ inl ((bytes_eq-Decides xs ys).0 t)
-    | inr f ↦ inr (λ e. false≢true (sym f ∙ (bytes_eq-Decides xs ys).1 e)) ]
+    elim (cases_Bool (bytes_eq xs ys)) [
+      | inl t ↦ inl ((bytes_eq-Decides xs ys).0 t)
+      | inr f ↦ inr (λ e. false≢true (sym f ∙ (bytes_eq-Decides xs ys).1 e))
+    ]
 
 -- two handles are equal or not
 pub cases_entity : (a b : Entity) → (a ≡ b) ⊎ (a ≢ b)
 cases_entity a b =
-    elim (cases_eq a.index b.index)
-    [ inl i ↦ elim (cases_eq a.generation b.generation)
-      [ inl g ↦ inl (ap (λ n. record { index = n; generation = a.generation }) i ∙ ap (λ n. record { index = b.index; generation = n }) g)
-      | inr ne ↦ inr (λ e. ne (ap (λ (x : Entity). x.generation) e)) ]
-    | inr ne ↦ inr (λ e. ne (ap (λ (x : Entity). x.index) e)) ]
+    elim (cases_eq a.index b.index) [
+      | inl i ↦ elim (cases_eq a.generation b.generation) [
+        | inl g ↦ inl (ap (λ n. record { index = n; generation = a.generation }) i ∙ ap (λ n. record { index = b.index; generation = n }) g)
+        | inr ne ↦ inr (λ e. ne (ap (λ (x : Entity). x.generation) e))
+      ]
+      | inr ne ↦ inr (λ e. ne (ap (λ (x : Entity). x.index) e))
+    ]
 
 module _ {found found' : List ℕ → Option Entity} {own own' : Entity → Option (List ℕ)} where
   -- nothing that it is about has changed
@@ -36,41 +39,47 @@ module _ {found found' : List ℕ → Option Entity} {own own' : Entity → Opti
   -- an entity without name gets one that nobody has
   pub registry_gain : (name : List ℕ) (e : Entity) → IsRegistry found own → own e ≡ None → found name ≡ None → is_name name ≡ true → ChangesAt found found' name (Some e) → ChangesAt own own' e (Some name) → IsRegistry found' own'
   registry_gain name e r nameless free good f o = record {
-    lives = λ n x h. elim (cases_text n name)
-      [ inl same ↦
+    lives = λ n x h. elim (cases_text n name) [
+      | inl same ↦
           let bearer : x ≡ e = same_Some x e (sym h ∙ (ap found' same ∙ f.here)) in
           ap own' bearer ∙ (o.here ∙ ap Some (sym same))
       | inr apart ↦
           let lived : own x ≡ Some n = r.lives n x (sym (f.others n apart) ∙ h) in
-          o.others x (λ is. none-some n (sym nameless ∙ (ap own (sym is) ∙ lived))) ∙ lived ];
-    listed = λ n x h. elim (cases_entity x e)
-      [ inl same ↦
+          o.others x (λ is. none-some n (sym nameless ∙ (ap own (sym is) ∙ lived))) ∙ lived
+    ];
+    listed = λ n x h. elim (cases_entity x e) [
+      | inl same ↦
           let called : n ≡ name = same_Some n name (sym h ∙ (ap own' same ∙ o.here)) in
           ap found' called ∙ (f.here ∙ ap Some (sym same))
       | inr apart ↦
           let was : found n ≡ Some x = r.listed n x (sym (o.others x apart) ∙ h) in
-          f.others n (λ is. none-some x (sym free ∙ (ap found (sym is) ∙ was))) ∙ was ];
-    proper = λ x. elim (cases_entity x e)
-      [ inl same ↦ ap is_proper (ap own' same ∙ o.here) ∙ good
-      | inr apart ↦ ap is_proper (o.others x apart) ∙ r.proper x ];
+          f.others n (λ is. none-some x (sym free ∙ (ap found (sym is) ∙ was))) ∙ was
+    ];
+    proper = λ x. elim (cases_entity x e) [
+      | inl same ↦ ap is_proper (ap own' same ∙ o.here) ∙ good
+      | inr apart ↦ ap is_proper (o.others x apart) ∙ r.proper x
+    ];
   }
 
   -- an entity loses its name
   pub registry_lose : (name : List ℕ) (e : Entity) → IsRegistry found own → own e ≡ Some name → ChangesAt found found' name None → ChangesAt own own' e None → IsRegistry found' own'
   registry_lose name e r named f o = record {
-    lives = λ n x h. elim (cases_text n name)
-      [ inl same ↦ absurd (none-some x (sym f.here ∙ (ap found' (sym same) ∙ h)))
+    lives = λ n x h. elim (cases_text n name) [
+      | inl same ↦ absurd (none-some x (sym f.here ∙ (ap found' (sym same) ∙ h)))
       | inr apart ↦
           let lived : own x ≡ Some n = r.lives n x (sym (f.others n apart) ∙ h) in
-          o.others x (λ is. apart (same_Some n name (sym lived ∙ (ap own is ∙ named)))) ∙ lived ];
-    listed = λ n x h. elim (cases_entity x e)
-      [ inl same ↦ absurd (none-some n (sym o.here ∙ (ap own' (sym same) ∙ h)))
+          o.others x (λ is. apart (same_Some n name (sym lived ∙ (ap own is ∙ named)))) ∙ lived
+    ];
+    listed = λ n x h. elim (cases_entity x e) [
+      | inl same ↦ absurd (none-some n (sym o.here ∙ (ap own' (sym same) ∙ h)))
       | inr apart ↦
           let was : found n ≡ Some x = r.listed n x (sym (o.others x apart) ∙ h) in
-          f.others n (λ is. apart (same_Some x e (sym was ∙ (ap found is ∙ r.listed name e named)))) ∙ was ];
-    proper = λ x. elim (cases_entity x e)
-      [ inl same ↦ ap is_proper (ap own' same ∙ o.here)
-      | inr apart ↦ ap is_proper (o.others x apart) ∙ r.proper x ];
+          f.others n (λ is. apart (same_Some x e (sym was ∙ (ap found is ∙ r.listed name e named)))) ∙ was
+    ];
+    proper = λ x. elim (cases_entity x e) [
+      | inl same ↦ ap is_proper (ap own' same ∙ o.here)
+      | inr apart ↦ ap is_proper (o.others x apart) ∙ r.proper x
+    ];
   }
 
   -- an entity without name still has none

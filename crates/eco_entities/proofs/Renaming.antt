@@ -1,12 +1,12 @@
 -- What a rename answers.
-use Rattle.std.proofs.Common.{◌≡◌, ◌≢◌, ℕ, zero, suc, Bool, true, false, not, ◌&&◌, List, [], ◌∷◌, set, slice_get, refl, sym, ap, ◌∙◌, Option, Some, None, is_some, Result, Ok, Err, MatchOption, option_and_then, inl, inr, eqb, eqb-true, eq-eqb}
+use Rattle.std.proofs.Common.{◌≡◌, ℕ, zero, suc, Bool, true, false, not, ◌&&◌, List, [], ◌∷◌, set, slice_get, refl, sym, ap, ◌∙◌, Option, Some, None, is_some, Result, Ok, Err, MatchOption, option_and_then, inl, inr, eqb, eqb-true, eq-eqb}
 use Rattle.std.proofs.lemmas.Bool.{cases_Bool, false≢true, and_parts, and_from}
 use Rattle.std.proofs.lemmas.Option.{none-some, same_Some}
 use Rattle.eco_ids.specs.declared.entity.Entity.{Entity}
 use Rattle.eco_ids.specs.declared.refusal.Refusal.{Refusal}
-use Rattle.eco_ids.specs.declared.refusal.Refusal.TheVariants.{NotAlive, BadName, NameTaken}
+use Rattle.eco_ids.specs.declared.refusal.Refusal.TheVariants.{BadName, NameTaken}
 use Rattle.eco_ids.specs.Births.{unfit_name, Makes}
-use Rattle.eco_ids.specs.Indices.{Indexed, IndexState, Living, is_alive, with_record}
+use Rattle.eco_ids.specs.Indices.{Indexed, Living, is_alive, with_record}
 use Rattle.eco_ids.specs.Names.{is_name, is_called, bearer}
 use Rattle.eco_ids.specs.Outcome.{Meets, first_refusal, is_out_of_memory}
 use Rattle.eco_entities.specs.Registration.{Registration, newcomer, name_of, own_name, with_change, change_in, renamed, Renames, may_rename}
@@ -16,9 +16,10 @@ use Rattle.eco_entities.proofs.States.{alive_known, record_at}
 -- who doesn't bear the name isn't called by it
 pub uncalled : (w : Indexed Registration) (e : Entity) (name : List ℕ) → (own_name w e ≡ Some name → ⊥) → is_called name (own_name w e) ≡ false
 uncalled w e name ne =
-    elim (cases_Bool (is_called name (own_name w e)))
-    [ inl called ↦ absurd (ne (called_same name (own_name w e) called))
-    | inr other ↦ other ]
+    elim (cases_Bool (is_called name (own_name w e))) [
+      | inl called ↦ absurd (ne (called_same name (own_name w e) called))
+      | inr other ↦ other
+    ]
 
 -- another has it
 pub rename_taken : (w : Indexed Registration) (e x : Entity) (name : List ℕ) → is_alive w e ≡ true → is_name name ≡ true → is_called name (own_name w e) ≡ false → bearer name_of w name ≡ Some x → Renames w e (Some name) (Err NameTaken) w

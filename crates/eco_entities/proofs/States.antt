@@ -1,10 +1,10 @@
 -- Lists of states: who lives or is free at an index, and what a change leaves of it.
-use Rattle.std.proofs.Common.{◌≡◌, ◌≢◌, ℕ, zero, suc, ◌+◌, ◌-◌, ◌<◌, ◌≤◌, ◌==◌, Bool, true, false, cond, List, [], ◌∷◌, ◌++◌, length, set, slice_get, slice_set, replicate, map, refl, sym, ap, ◌∙◌, Option, Some, None, is_some, option_map, ◌⊎◌, inl, inr, nat_lt, if◌then◌else◌, arith, eq-eqb, eqb-true, IsTrue}
+use Rattle.std.proofs.Common.{◌≡◌, ◌≢◌, ℕ, zero, suc, ◌+◌, ◌-◌, ◌<◌, ◌≤◌, ◌==◌, true, cond, List, [], ◌∷◌, length, set, slice_get, refl, sym, ap, ◌∙◌, Option, Some, None, is_some, ◌⊎◌, inl, inr, nat_lt, if◌then◌else◌, arith, eq-eqb, eqb-true}
 use Rattle.std.specs.Option.{option_or}
 use Rattle.std.proofs.lemmas.Bool.{cases_eq, ltb-true, false≢true, cond-true, ne_eqb}
-use Rattle.std.proofs.lemmas.Option.{none-some, cond_some, same_Some, slice_get_within, slice_get_past}
+use Rattle.std.proofs.lemmas.Option.{none-some, cond_some, same_Some, slice_get_within}
 use Rattle.eco_ids.specs.declared.entity.Entity.{Entity}
-use Rattle.eco_ids.specs.Indices.{Indexed, IndexState, Retired, Free, Living, record_in, record_of, is_alive, is_free_in, is_free_at, with_record, with_death, map_state, lowest_free, next_entity}
+use Rattle.eco_ids.specs.Indices.{Indexed, IndexState, Retired, Free, Living, record_in, record_of, is_alive, is_free_in, is_free_at, map_state, lowest_free, next_entity}
 use Rattle.eco_entities.specs.Registration.{Registration, change_in, with_change}
 
 -- lists by their places
@@ -38,9 +38,10 @@ living_in None g h = absurd (false≢true h)
 living_in (Some Retired) g h = absurd (false≢true h)
 living_in (Some (Free f)) g h = absurd (false≢true h)
 living_in {A} (Some (Living f r)) g h =
-    elim (cases_eq g f)
-    [ inl e ↦ (r, ap (λ n. Some (Living n r)) (sym e))
-    | inr ne ↦ absurd (false≢true (sym (ap (λ b. is_some (cond b (Some r) None)) (ne_eqb g f ne)) ∙ h)) ]
+    elim (cases_eq g f) [
+      | inl e ↦ (r, ap (λ n. Some (Living n r)) (sym e))
+      | inr ne ↦ absurd (false≢true (sym (ap (λ b. is_some (cond b (Some r) None)) (ne_eqb g f ne)) ∙ h))
+    ]
 
 -- the state of a living entity's index
 pub alive_known : {A : Type 0} (w : Indexed A) (e : Entity) → is_alive w e ≡ true → (r : A) × (slice_get w.indices e.index ≡ Some (Living e.generation r))
@@ -58,11 +59,12 @@ some_in None g r h = absurd (none-some r h)
 some_in (Some Retired) g r h = absurd (none-some r h)
 some_in (Some (Free f)) g r h = absurd (none-some r h)
 some_in (Some (Living f q)) g r h =
-    elim (cases_eq g f)
-    [ inl e ↦
-        let same : Some q ≡ Some r = sym (record_here f q) ∙ (ap (λ n. record_in (Some (Living f q)) n) (sym e) ∙ h) in
-        cc
-    | inr ne ↦ absurd (none-some r (sym (ap (λ b. cond b (Some q) None) (ne_eqb g f ne)) ∙ h)) ]
+    elim (cases_eq g f) [
+      | inl e ↦
+          let same : Some q ≡ Some r = sym (record_here f q) ∙ (ap (λ n. record_in (Some (Living f q)) n) (sym e) ∙ h) in
+          cc
+      | inr ne ↦ absurd (none-some r (sym (ap (λ b. cond b (Some q) None) (ne_eqb g f ne)) ∙ h))
+    ]
 
 pub state_at : {A : Type 0} (w : Indexed A) (e : Entity) (r : A) → record_of w e ≡ Some r → slice_get w.indices e.index ≡ Some (Living e.generation r)
 state_at w e r h = some_in (slice_get w.indices e.index) e.generation r h
@@ -107,6 +109,7 @@ next_is w e h = next_or w e (lowest_free 0 w.indices) refl h
 -- where its index isn't known, there is room for it
 pub next_room : {A : Type 0} (w : Indexed A) (e : Entity) → next_entity w ≡ Some e → length w.indices ≤ e.index → length w.indices + 1 ≤ w.limit
 next_room w e h past =
-    elim (next_is w e h)
-    [ inl free ↦ let within : e.index < length w.indices = slice_get_within w.indices e.index (Free e.generation) free in omega arith
-    | inr fresh ↦ let below : length w.indices < w.limit = fresh.0 in omega arith ]
+    elim (next_is w e h) [
+      | inl free ↦ let within : e.index < length w.indices = slice_get_within w.indices e.index (Free e.generation) free in omega arith
+      | inr fresh ↦ let below : length w.indices < w.limit = fresh.0 in omega arith
+    ]

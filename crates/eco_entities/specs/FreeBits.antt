@@ -1,5 +1,5 @@
 -- What a set of free indices keeps: three levels of words.
-use Rattle.std.specs.Prelude.{◌≡◌, ℕ, ◌+◌, ◌*◌, ◌^◌, ◌<◌, ◌≤◌, Bool, false, List, length, map}
+use Rattle.std.specs.Prelude.{◌≡◌, ℕ, ◌*◌, ◌^◌, ◌<◌, ◌≤◌, Bool, false, List, length, map}
 use Rattle.std.specs.List.{range_with_len}
 use Rattle.eco_entities.specs.Words.{has_bit, Summarizes}
 

@@ -1,5 +1,5 @@
 -- Which names are in use, and by whom.
-use Rattle.std.specs.Prelude.{◌≡◌, ◌≢◌, ℕ, ◌<◌, true, nat_lt, List, length, Option, Some, if◌then◌else◌}
+use Rattle.std.specs.Prelude.{◌≡◌, ◌≢◌, ℕ, true, nat_lt, List, length, Option, Some, if◌then◌else◌}
 use Rattle.std.specs.HashMap.{get_by_text}
 use Rattle.eco_ids.specs.declared.entity.Entity.{Entity}
 use Rattle.eco_ids.specs.Indices.{Indexed, admitted}

@@ -1,5 +1,5 @@
 -- The bits of a list of 64-bit words: bit k stands in the word at k / 64.
-use Rattle.std.specs.Prelude.{◌≡◌, ◌≢◌, ℕ, ◌+◌, ◌-◌, ◌*◌, ◌/◌, ◌%◌, ◌^◌, ◌<◌, ◌≤◌, ◌==◌, min, Bool, true, false, nat_lt, List, ◌++◌, length, slice_index, slice_set, replicate, bit_and, bit_or}
+use Rattle.std.specs.Prelude.{◌≡◌, ℕ, ◌-◌, ◌*◌, ◌/◌, ◌%◌, ◌^◌, ◌<◌, ◌==◌, min, Bool, true, false, nat_lt, List, length, slice_index, slice_set, bit_and, bit_or}
 use Rattle.std.specs.Int.{bit_at, bit_not, w64}
 
 -- the bit is set; past the last word none is

@@ -7,6 +7,7 @@ ghost use Rattle.eco_ids.specs.Indices.{is_alive, next_entity, with_new, with_de
 ghost use Rattle.eco_ids.specs.Names.{bearer, is_name};
 ghost use Rattle.eco_ids.specs.Outcome.{Meets};
 ghost use Rattle.eco_entities.specs.Registration.{newcomer, name_of, own_name, own_place, entity_at, with_change, placed, renamed, Renames, may_rename};
+ghost use Rattle.eco_entities.specs.Rules.{IsRuled};
 
 use crate::names::{Names, NewName};
 use crate::place::Place;
@@ -97,6 +98,14 @@ impl EntityIndex {
         ensures { result ≡ entity_at self.now index }
     {
         self.slots.entity_at(index)
+    }
+
+    /// What is true of every index, for proofs: it does nothing.
+    pub fn rules(&self)
+        ensures { IsRuled self.now }
+    {
+        let _ = &self.names;
+        self.slots.rules();
     }
 
     /// Makes an entity at the lowest free index, at the generation that its index has come to, else at the first unknown

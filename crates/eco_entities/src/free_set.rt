@@ -8,7 +8,7 @@ use std::marker::Model;
 
 /// Which indices are free, as one flag for each index. The lowest free index is found in a few words.
 #[derive(Drop)]
-pub struct FreeSet {
+pub(crate) struct FreeSet {
     len: usize,
     // The bit of an index is set where it is free.
     indices: Level,
@@ -31,7 +31,7 @@ impl Model for FreeSet {
 
 impl FreeSet {
     /// Knows no index.
-    pub fn new(alloc: Global) -> FreeSet
+    pub(crate) fn new(alloc: Global) -> FreeSet
         ensures { result ≡ [] }
     {
         FreeSet {
@@ -43,7 +43,7 @@ impl FreeSet {
     }
 
     /// The lowest free index.
-    pub fn lowest(&self) -> Option<usize>
+    pub(crate) fn lowest(&self) -> Option<usize>
         ensures { result ≡ position_from (λ b. b) 0 self.now }
     {
         let group = self.groups.lowest_bit(self.groups.first_word()?);
@@ -52,7 +52,7 @@ impl FreeSet {
     }
 
     /// The index is free from now on.
-    pub fn insert(&mut self, index: usize)
+    pub(crate) fn insert(&mut self, index: usize)
         requires { index < length self.old }
         ensures { self.new ≡ slice_set self.old index true }
     {
@@ -63,7 +63,7 @@ impl FreeSet {
     }
 
     /// The index isn't free any more.
-    pub fn remove(&mut self, index: usize)
+    pub(crate) fn remove(&mut self, index: usize)
         requires { index < length self.old }
         ensures { self.new ≡ slice_set self.old index false }
     {
@@ -74,7 +74,7 @@ impl FreeSet {
     }
 
     /// All indices from `from` on are free from now on.
-    pub fn insert_from(&mut self, from: usize)
+    pub(crate) fn insert_from(&mut self, from: usize)
         requires { from ≤ length self.old }
         ensures { self.new ≡ take from self.old ++ replicate (length self.old - from) true }
     {
@@ -83,12 +83,13 @@ impl FreeSet {
             let words = self.len.div_ceil(WORD_BITS);
             self.indices.set_range(from, self.len);
             self.words.set_range(word, words);
-            self.groups.set_range(word / WORD_BITS, words.div_ceil(WORD_BITS));
+            self.groups
+                .set_range(word / WORD_BITS, words.div_ceil(WORD_BITS));
         }
     }
 
     /// Knows `count` more indices, which aren't free. An `Err` comes where a growth was refused, and leaves the set.
-    pub fn grow(&mut self, count: usize) -> Result<(), AllocError>
+    pub(crate) fn grow(&mut self, count: usize) -> Result<(), AllocError>
         requires { length self.old + count < 2 ^ 32 }
         ensures ok { OnOk result (self.new ≡ self.old ++ replicate count false) }
         ensures err { OnErr result (self.new ≡ self.old) }

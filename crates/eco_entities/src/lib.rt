@@ -3,6 +3,7 @@
 
 mod entity_index;
 mod free_set;
+pub mod laws;
 mod level;
 mod names;
 mod place;
@@ -11,3 +12,6 @@ mod slots;
 
 pub use entity_index::EntityIndex;
 pub use place::Place;
+
+#[cfg(test)]
+mod tests;

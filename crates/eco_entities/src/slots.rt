@@ -1,11 +1,11 @@
 //! The known indices: which of them live, are free or retired, and what is kept of the living.
-ghost use Rattle.std.specs.Prelude.{◌≡◌, ◌+◌, ◌≤◌, ◌<◌, ◌&&◌, nat_lt, [], ◌++◌, replicate, vec_len, vec_capacity, length, slice_get, IsTrue, OnOk, OnErr, Some, None, option_map, string_bytes};
+ghost use Rattle.std.specs.Prelude.{◌≡◌, ℕ, ◌+◌, ◌≤◌, ◌<◌, ◌&&◌, nat_lt, [], ◌++◌, replicate, vec_len, vec_capacity, length, slice_get, IsTrue, OnOk, OnErr, Some, None, option_map, string_bytes};
 ghost use Rattle.eco_ids.specs.Births.{Admits, may_admit, RevivesWith};
 ghost use Rattle.eco_ids.specs.Indices.{record_of, is_alive, is_free_at, next_entity, admitted, with_record, with_death};
 ghost use Rattle.eco_ids.specs.Outcome.{Meets};
 ghost use Rattle.std.specs.Option.{option_copied};
 ghost use Rattle.eco_entities.specs.Registration.{newcomer, own_name, entity_at, with_change, placed, renamed};
-ghost use Rattle.eco_entities.specs.Slots.{registration_of, next_generation};
+ghost use Rattle.eco_entities.specs.Slots.{registration_of, next_generation, Fits};
 ghost use Rattle.eco_entities.specs.Registry.{with_room};
 
 use crate::free_set::FreeSet;
@@ -63,12 +63,23 @@ impl Slots {
         self.slots.len() as u32
     }
 
+    // What every value keeps, for proofs.
+    pub(crate) fn rules(&self)
+        ensures limited { self.now.limit ≤ 1048576 }
+        ensures within { length self.now.indices ≤ self.now.limit }
+        ensures generations { (i : ℕ) → Fits (slice_get self.now.indices i) }
+    {
+        let _ = &self.limit;
+    }
+
     /// What is kept of an entity, if it lives.
     pub(crate) fn get(&self, entity: Entity) -> Option<&Registered>
         ensures { option_map (λ r. registration_of r.now) result ≡ record_of self.now entity }
     {
         match self.slots.get(entity.index as usize)? {
-            Slot::Living(generation, registered) if *generation == entity.generation => Some(registered),
+            Slot::Living(generation, registered) if *generation == entity.generation => Some(
+                registered,
+            ),
             _ => None,
         }
     }
@@ -174,13 +185,7 @@ impl Slots {
     {
         let index = entity.index as usize;
         self.free.remove(index);
-        self.slots[index] = Slot::Living(
-            entity.generation,
-            Registered {
-                name,
-                place: None,
-            },
-        );
+        self.slots[index] = Slot::Living(entity.generation, Registered { name, place: None });
     }
 
     /// A handle that is free lives, without name.

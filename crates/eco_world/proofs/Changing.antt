@@ -14,7 +14,7 @@ use Rattle.eco_ids.specs.Step.{changed, change_record, without_id}
 use Rattle.eco_ids.specs.Order.{id_cmp, id_eq}
 use Rattle.eco_ids.specs.World.{WorldState, Record, has}
 use Rattle.eco_ids.proofs.Facts.{id_eq_is, id_eq_itself}
-use Rattle.eco_world.specs.Growth.{SameRows}
+use Rattle.eco_world.specs.Rows.{SameRows}
 use Rattle.eco_world.specs.Plain.{IsInOrder, is_plain}
 use Rattle.eco_entities.specs.Registration.{Registration}
 use Rattle.eco_world.specs.Rows.{empty_holding, row_at, later_rows, record_for, joined, world_of, is_inhabited}

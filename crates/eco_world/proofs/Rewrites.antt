@@ -10,7 +10,7 @@ use Rattle.eco_ids.specs.Laws.{Keeps}
 use Rattle.eco_ids.specs.Order.{id_cmp, with_item, without_item}
 use Rattle.eco_ids.specs.Step.{Adds, Removes, changed, without_id}
 use Rattle.eco_ids.specs.World.{WorldState, has, names_living}
-use Rattle.eco_world.specs.Growth.{SameRows}
+use Rattle.eco_world.specs.Rows.{SameRows}
 use Rattle.eco_world.specs.Plain.{IsSingle, is_plain, IsInOrder}
 use Rattle.eco_entities.specs.Registration.{Registration}
 use Rattle.eco_world.specs.Rows.{empty_holding, row_at, world_of}

@@ -43,3 +43,7 @@ is_inhabited None = false
 is_inhabited (Some Retired) = false
 is_inhabited (Some (Free g)) = false
 is_inhabited (Some (Living g r)) = true
+
+-- each row has what it had
+abbrev pub SameRows : List Holding → List Holding → Type 0
+SameRows old new = (k : ℕ) → row_at new k ≡ row_at old k

@@ -1,7 +1,7 @@
 //! What entities have, in a list of rows.
 ghost use Rattle.std.specs.Prelude.{◌≡◌, ◌≤◌, [], fold, IfOk, length, None, OnOk};
 ghost use Rattle.eco_ids.specs.Order.{id_cmp, with_item};
-ghost use Rattle.eco_world.specs.Growth.{SameRows};
+ghost use Rattle.eco_world.specs.Rows.{SameRows};
 
 use eco_ids::{Id, TypeList};
 use std::alloc::{AllocError, Global};

@@ -2,12 +2,10 @@ use super::*;
 use eco_ids::entity::{ACYCLIC, CHILD_OF, DELETE, EXCLUSIVE, ON_DELETE_TARGET, WITH};
 use std::test::Fail;
 
-// The entity that was made as the `count`-th one, from 0.
-fn made(count: u32) -> Entity
-    requires { count < 100 }
-{
+// The first entity of an index.
+fn entity(index: u32) -> Entity {
     Entity {
-        index: BUILTIN_COUNT + count,
+        index,
         generation: 0,
     }
 }
@@ -16,12 +14,12 @@ fn made(count: u32) -> Entity
 fn ids_come_and_go(rt: HostRuntime) -> Result<(), Fail> {
     let mut world = World::new(rt.alloc(), 64)?;
     let a = world.create(Some("a"))?;
-    assert_eq!(rt; a, made(0));
-    assert_eq!(rt; world.add(made(41), Id::One(a)), Err(Refusal::NotAlive));
-    assert_eq!(rt; world.add(a, Id::One(made(41))), Err(Refusal::DeadId));
+    assert_eq!(rt; a, entity(9));
+    assert_eq!(rt; world.add(entity(50), Id::One(a)), Err(Refusal::NotAlive));
+    assert_eq!(rt; world.add(a, Id::One(entity(50))), Err(Refusal::DeadId));
     assert_eq!(rt; world.add(WITH, Id::One(a)), Err(Refusal::Reserved));
     assert_eq!(rt; world.add(a, Id::One(a)), Ok(()));
-    assert_eq!(rt; world.remove(a, Id::One(made(41))), Ok(()));
+    assert_eq!(rt; world.remove(a, Id::One(entity(50))), Ok(()));
     assert!(rt; world.has(a, Id::One(a)));
     assert_eq!(rt; world.ids_of(a), [Id::One(a)].as_slice());
     let rows = world.query(&Query::new(Id::One(a)))?;
@@ -56,7 +54,7 @@ fn names_are_unique(rt: HostRuntime) -> Result<(), Fail> {
 fn indices_run_out(rt: HostRuntime) -> Result<(), Fail> {
     let mut world = World::new(rt.alloc(), 10)?;
     let last = world.create(None)?;
-    assert_eq!(rt; last, made(0));
+    assert_eq!(rt; last, entity(9));
     assert_eq!(rt; world.create(None), Err(Refusal::NoMoreIds));
     assert_eq!(rt; world.high(), 10);
     assert_eq!(rt; world.limit(), 10);

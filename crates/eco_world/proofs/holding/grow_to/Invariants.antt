@@ -1,5 +1,5 @@
 use Rattle.std.proofs.Common.{length, ◌-◌}
-use Rattle.eco_world.specs.Growth.{SameRows}
+use Rattle.eco_world.specs.Rows.{SameRows}
 use Rattle.eco_world.proofs.holding.grow_to.Given as goal
 
 abbrev pub invariant-loop-alloc : goal.invariant-loop-alloc

@@ -12,18 +12,19 @@ use Rattle.eco_entities.proofs.entity_index.EntityIndex.give_name.Goals.{in-Some
 pub invariant_of-self-2 : goal.invariant_of-self-2
 invariant_of-self-2 c =
     let kept : IsRegistry (entity_of c.prepare.new.self) (own_name c.self.inside.slots) =
-        registry_same c.self.invariant c.prepare.ensures.keeps (record { all = λ k. refl }) in
+    registry_same c.self.invariant c.prepare.ensures.keeps (record { all = λ k. refl }) in
     let free : entity_of c.prepare.new.self c.args.name.now ≡ None =
-        registry_bearer (entity_of c.prepare.new.self) c.self.inside.slots c.args.name.now kept
-        ∙ (ap (λ (w : Indexed Registration). bearer name_of w c.args.name.now) c.self.view_is ∙ c.requires.free) in
+    registry_bearer (entity_of c.prepare.new.self) c.self.inside.slots c.args.name.now kept
+    ∙ (ap (λ (w : Indexed Registration). bearer name_of w c.args.name.now) c.self.view_is ∙ c.requires.free) in
     let alive : is_alive c.self.inside.slots c.args.entity ≡ true = rw c.self.view_is c.requires.alive in
-    elim c.match-name.branch
-    [ in-Some w ↦ rw (c.set_name.ensures, w.self-inside-is, c.in_ok-listed.ensures.own)
-        (registry_exchange w.in-Some.old.now c.args.name.now c.args.entity kept (sym w.in-Some.ensures) w.remove.ensures.changes
-        (own-renamed c.self.inside.slots c.args.entity None alive) free c.requires.proper
-        (rw (w.self-inside-is, c.in_ok-listed.ensures.listed) at c.insert.ensures)
-        (own-renamed c.self.inside.slots c.args.entity (Some c.args.name.now) alive))
-    | in_default w ↦ rw (c.set_name.ensures, w.self-inside-is, c.in_ok-listed.ensures.own)
-        (registry_gain c.args.name.now c.args.entity kept (sym w.in_default.ensures) free c.requires.proper
-        (rw (w.self-inside-is, c.in_ok-listed.ensures.listed) at c.insert.ensures)
-        (own-renamed c.self.inside.slots c.args.entity (Some c.args.name.now) alive)) ]
+    elim c.match-name.branch [
+      | in-Some w ↦ rw (c.set_name.ensures, w.self-inside-is, c.in_ok-listed.ensures.own)
+          (registry_exchange w.in-Some.old.now c.args.name.now c.args.entity kept (sym w.in-Some.ensures) w.remove.ensures.changes
+          (own-renamed c.self.inside.slots c.args.entity None alive) free c.requires.proper
+          (rw (w.self-inside-is, c.in_ok-listed.ensures.listed) at c.insert.ensures)
+          (own-renamed c.self.inside.slots c.args.entity (Some c.args.name.now) alive))
+      | in_default w ↦ rw (c.set_name.ensures, w.self-inside-is, c.in_ok-listed.ensures.own)
+          (registry_gain c.args.name.now c.args.entity kept (sym w.in_default.ensures) free c.requires.proper
+          (rw (w.self-inside-is, c.in_ok-listed.ensures.listed) at c.insert.ensures)
+          (own-renamed c.self.inside.slots c.args.entity (Some c.args.name.now) alive))
+    ]

@@ -7,9 +7,10 @@ use Rattle.eco_entities.proofs.Bearers.{registry_bearer}
 use Rattle.eco_entities.proofs.entity_index.EntityIndex.lookup.Goals as goal
 
 pub returns-clause-exact : goal.returns-clause-exact
-returns-clause-exact c = λ e.
-    (λ h. rw c.self.view_is at (c.self.invariant.lives c.args.name.now e (sym c.get.ensures ∙ h)),
-     λ h. c.get.ensures ∙ c.self.invariant.listed c.args.name.now e (rw c.self.view_is h))
+returns-clause-exact c = λ e. (
+  λ h. rw c.self.view_is at (c.self.invariant.lives c.args.name.now e (sym c.get.ensures ∙ h)),
+  λ h. c.get.ensures ∙ c.self.invariant.listed c.args.name.now e (rw c.self.view_is h),
+)
 
 pub returns-clause-bearer : goal.returns-clause-bearer
 returns-clause-bearer c =

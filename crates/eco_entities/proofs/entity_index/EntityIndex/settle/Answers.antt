@@ -1,5 +1,5 @@
-use Rattle.std.proofs.Common.{◌≡◌, ◌∙◌, ap, sym, refl, None, Some}
-use Rattle.eco_ids.specs.Indices.{Indexed, next_entity, is_free_at, with_new}
+use Rattle.std.proofs.Common.{◌≡◌, ◌∙◌, ap, refl, None, Some}
+use Rattle.eco_ids.specs.Indices.{Indexed, next_entity, with_new}
 use Rattle.eco_entities.specs.Registration.{Registration, newcomer, name_of, own_name}
 use Rattle.eco_entities.specs.Registry.{IsRegistry, entity_of, with_room}
 use Rattle.eco_ids.specs.Births.{unfit_name}
@@ -36,11 +36,11 @@ pub invariant_of-self-2 : goal.invariant_of-self-2
 invariant_of-self-2 c =
     let room : IsRoom c.self.inside.slots c.args.entity = next_has_room c.self.inside.slots c.args.entity (ap next_entity c.self.view_is ∙ c.requires.next) in
     let kept : IsRegistry (entity_of c.prepare.new.self) (own_name c.self.inside.slots) =
-        registry_same c.self.invariant c.prepare.ensures.keeps (record { all = λ k. refl }) in
+    registry_same c.self.invariant c.prepare.ensures.keeps (record { all = λ k. refl }) in
     let fit : unfit_name name_of c.self.inside.slots (Some c.in-Some.text.now) ≡ None =
-        ap (λ (w : Indexed Registration). unfit_name name_of w (Some c.in-Some.text.now)) c.self.view_is ∙ (rw c.in-Some.is at c.requires.fit) in
+    ap (λ (w : Indexed Registration). unfit_name name_of w (Some c.in-Some.text.now)) c.self.view_is ∙ (rw c.in-Some.is at c.requires.fit) in
     let free : entity_of c.prepare.new.self c.in-Some.text.now ≡ None =
-        registry_bearer (entity_of c.prepare.new.self) c.self.inside.slots c.in-Some.text.now kept ∙ (name_fit c.self.inside.slots c.in-Some.text.now fit).1 in
+    registry_bearer (entity_of c.prepare.new.self) c.self.inside.slots c.in-Some.text.now kept ∙ (name_fit c.self.inside.slots c.in-Some.text.now fit).1 in
     rw (c.settle-2.ensures, c.in_ok-make_room-2.ensures.ok, c.in_ok-listed.ensures.own)
     (registry_gain c.in-Some.text.now c.args.entity (registry_same kept (record { all = λ k. refl }) room.owns)
     (own_of_free (with_room c.self.inside.slots c.args.entity) c.args.entity room.free) free (name_fit c.self.inside.slots c.in-Some.text.now fit).0

@@ -1,4 +1,4 @@
-use Rattle.std.proofs.Common.{◌≡◌, ◌<◌, ◌∙◌, ap, arith, slice_set, true}
+use Rattle.std.proofs.Common.{◌<◌, ◌∙◌, ap, arith, slice_set, true}
 use Rattle.eco_entities.proofs.Levels.{in_flags, flags-with_bit, levelled-set}
 use Rattle.eco_entities.proofs.free_set.FreeSet.insert.Goals as goal
 

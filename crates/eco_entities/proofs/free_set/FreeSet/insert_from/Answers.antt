@@ -1,4 +1,4 @@
-use Rattle.std.proofs.Common.{◌≡◌, ◌≤◌, length, ap, sym, ◌∙◌, arith}
+use Rattle.std.proofs.Common.{◌≡◌, length, ap, sym, ◌∙◌, arith}
 use Rattle.eco_entities.proofs.Levels.{flags_filled_from, nothing_filled, levelled-fill, length-bits_below}
 use Rattle.eco_entities.proofs.free_set.FreeSet.insert_from.Goals as goal
 

@@ -1,4 +1,4 @@
-use Rattle.std.proofs.Common.{◌≡◌, ◌<◌, ◌/◌, List, Some, None, Bool, ap, sym, ◌∙◌, arith}
+use Rattle.std.proofs.Common.{◌<◌, ◌/◌, List, Some, None, Bool, ap, sym, ◌∙◌, arith}
 use Rattle.std.specs.List.{position_from}
 use Rattle.eco_entities.proofs.Bits.{first_word_or_none, none_of_none, has_bit_of_zero, within_of_word}
 use Rattle.eco_entities.specs.Words.{IsFirstWord}
@@ -17,9 +17,9 @@ pub returns-in_err-first_word : goal.returns-in_err-first_word
 returns-in_err-first_word c =
     c.from_residual.ensures
     ∙ sym (flags_none c.self.inside.len c.self.inside.indices
-      (λ k. none_of_none c.self.inside.indices c.self.inside.words k c.self.invariant.words_say
-        (λ w. none_of_none c.self.inside.words c.self.inside.groups w c.self.invariant.groups_say
-          (λ g. has_bit_of_zero c.self.inside.groups g (first_word_or_none c.self.inside.groups None c.in_err-first_word.ensures (g / 64))))))
+    (λ k. none_of_none c.self.inside.indices c.self.inside.words k c.self.invariant.words_say
+    (λ w. none_of_none c.self.inside.words c.self.inside.groups w c.self.invariant.groups_say
+    (λ g. has_bit_of_zero c.self.inside.groups g (first_word_or_none c.self.inside.groups None c.in_err-first_word.ensures (g / 64))))))
     ∙ ap (λ (xs : List Bool). position_from (λ b. b) 0 xs) c.self.view_is
 
 pub returns : goal.returns

@@ -22,9 +22,9 @@ pub invariant_of-self : goal.invariant_of-self
 invariant_of-self c =
     let l : c.args.index < c.self.inside.len = in_flags _ _ _ _ c.self.view_is c.requires in
     let word : get_or (without_bit c.self.inside.indices c.args.index) (c.args.index / 64) 0 ≡ 0 =
-        rw c.clear.ensures.words at (eqb-true _ _ (sym c.clear.ensures.empty ∙ c.if-clear.true)) in
+    rw c.clear.ensures.words at (eqb-true _ _ (sym c.clear.ensures.empty ∙ c.if-clear.true)) in
     let group : get_or (without_bit c.self.inside.words (c.args.index / 64)) (c.args.index / 64 / 64) 0 ≡ 0 =
-        rw c.clear-then-clear.ensures.words at (eqb-true _ _ (sym c.clear-then-clear.ensures.empty ∙ c.if-clear-2.true)) in
+    rw c.clear-then-clear.ensures.words at (eqb-true _ _ (sym c.clear-then-clear.ensures.empty ∙ c.if-clear-2.true)) in
     rw (c.clear.ensures.words, c.clear-then-clear.ensures.words, c.clear-then-clear-2.ensures.words)
     (levelled-clear _ _ _ _ _ _ _ c.self.invariant l (length-without_bit _ _) (length-without_bit _ _)
     (summarizes_emptied _ _ _ c.self.invariant.words_say word (omega arith))
@@ -34,9 +34,9 @@ pub invariant_of-self-else-clear-2 : goal.invariant_of-self-else-clear-2
 invariant_of-self-else-clear-2 c =
     let l : c.args.index < c.self.inside.len = in_flags _ _ _ _ c.self.view_is c.requires in
     let word : get_or (without_bit c.self.inside.indices c.args.index) (c.args.index / 64) 0 ≡ 0 =
-        rw c.clear.ensures.words at (eqb-true _ _ (sym c.clear.ensures.empty ∙ c.if-clear.true)) in
+    rw c.clear.ensures.words at (eqb-true _ _ (sym c.clear.ensures.empty ∙ c.if-clear.true)) in
     let group : get_or (without_bit c.self.inside.words (c.args.index / 64)) (c.args.index / 64 / 64) 0 ≡ 0 → ⊥ =
-        rw c.clear-then-clear.ensures.words at (eqb-false _ _ (sym c.clear-then-clear.ensures.empty ∙ c.if-clear-2.false)) in
+    rw c.clear-then-clear.ensures.words at (eqb-false _ _ (sym c.clear-then-clear.ensures.empty ∙ c.if-clear-2.false)) in
     rw (c.clear.ensures.words, c.clear-then-clear.ensures.words)
     (levelled-clear _ _ _ _ _ _ _ c.self.invariant l (length-without_bit _ _) refl
     (summarizes_emptied _ _ _ c.self.invariant.words_say word (omega arith))
@@ -46,7 +46,7 @@ pub invariant_of-self-else-clear : goal.invariant_of-self-else-clear
 invariant_of-self-else-clear c =
     let l : c.args.index < c.self.inside.len = in_flags _ _ _ _ c.self.view_is c.requires in
     let word : get_or (without_bit c.self.inside.indices c.args.index) (c.args.index / 64) 0 ≡ 0 → ⊥ =
-        rw c.clear.ensures.words at (eqb-false _ _ (sym c.clear.ensures.empty ∙ c.if-clear.false)) in
+    rw c.clear.ensures.words at (eqb-false _ _ (sym c.clear.ensures.empty ∙ c.if-clear.false)) in
     rw c.clear.ensures.words
     (levelled-clear _ _ _ _ _ _ _ c.self.invariant l refl refl
     (summarizes_kept _ _ _ c.self.invariant.words_say word (omega arith))
@@ -60,6 +60,7 @@ returns-then-clear-2 c =
 pub returns-else-clear : goal.returns-else-clear
 returns-else-clear c =
     let l : c.args.index < c.self.inside.len = in_flags _ _ _ _ c.self.view_is c.requires in
-    elim c.else-clear.branch
-    [ else-clear-via-then-clear+else-clear-2 w ↦ w.self-is ∙ rw c.clear.ensures.words (flags-without_bit _ _ c.args.index l (omega arith) ∙ ap (λ xs. slice_set xs c.args.index false) c.self.view_is)
-    | else-clear-via-else-clear w ↦ w.self-is ∙ rw c.clear.ensures.words (flags-without_bit _ _ c.args.index l (omega arith) ∙ ap (λ xs. slice_set xs c.args.index false) c.self.view_is) ]
+    elim c.else-clear.branch [
+      | else-clear-via-then-clear+else-clear-2 w ↦ w.self-is ∙ rw c.clear.ensures.words (flags-without_bit _ _ c.args.index l (omega arith) ∙ ap (λ xs. slice_set xs c.args.index false) c.self.view_is)
+      | else-clear-via-else-clear w ↦ w.self-is ∙ rw c.clear.ensures.words (flags-without_bit _ _ c.args.index l (omega arith) ∙ ap (λ xs. slice_set xs c.args.index false) c.self.view_is)
+    ]

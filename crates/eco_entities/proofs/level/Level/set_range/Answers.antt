@@ -1,4 +1,4 @@
-use Rattle.std.proofs.Common.{refl, rules, ◌≤◌, inl, inr, sym, ◌∙◌, arith, get_or, ap, bit_or}
+use Rattle.std.proofs.Common.{rules, inl, inr, arith}
 use Rattle.std.proofs.lemmas.Bool.{cases_lt}
 use Rattle.std.specs.Int.Bits.{or_zero_r}
 use Rattle.eco_entities.proofs.Bits.{mask_before, mask_after}
@@ -14,7 +14,8 @@ loop-at-init c = record {
 pub returns : goal.returns
 returns c = record {
   count = c.loop-at.invariant.count;
-  words = λ w. elim (cases_lt w c.loop-at.at)
-    [ inl l ↦ c.loop-at.invariant.below w l
-    | inr past ↦ rw (mask_after c.args.from c.args.to w (omega arith) (omega arith), or_zero_r) (c.loop-at.invariant.rest w past) ];
+  words = λ w. elim (cases_lt w c.loop-at.at) [
+    | inl l ↦ c.loop-at.invariant.below w l
+    | inr past ↦ rw (mask_after c.args.from c.args.to w (omega arith) (omega arith), or_zero_r) (c.loop-at.invariant.rest w past)
+  ];
 }

@@ -9,14 +9,16 @@ returns-in-None-2 c = next_over _ _ _ c.args.self.now c.self.invariant c.self.vi
 pub overflow_cast-result : goal.overflow_cast-result
 overflow_cast-result c =
     let below : c.match-lowest.index < 1048576 =
-        elim c.match-lowest.branch
-        [ in-Some w ↦ mark_within _ _ _ c.match-lowest.index c.self.invariant (rw w.index-is w.in-Some.ensures)
-        | in-None w ↦ omega arith ]
+    elim c.match-lowest.branch [
+      | in-Some w ↦ mark_within _ _ _ c.match-lowest.index c.self.invariant (rw w.index-is w.in-Some.ensures)
+      | in-None w ↦ omega arith
+    ]
     in
     omega arith
 
 pub returns : goal.returns
 returns c =
-    elim c.match-lowest.branch
-    [ in-Some w ↦ next_marked _ _ _ c.args.self.now _ _ c.self.invariant c.self.view_is (rw w.index-is w.in-Some.ensures) c.next_generation.ensures
-    | in-None w ↦ next_fresh _ _ _ c.args.self.now _ _ c.self.invariant c.self.view_is w.in-None.ensures (omega arith) (omega arith) c.next_generation.ensures ]
+    elim c.match-lowest.branch [
+      | in-Some w ↦ next_marked _ _ _ c.args.self.now _ _ c.self.invariant c.self.view_is (rw w.index-is w.in-Some.ensures) c.next_generation.ensures
+      | in-None w ↦ next_fresh _ _ _ c.args.self.now _ _ c.self.invariant c.self.view_is w.in-None.ensures (omega arith) (omega arith) c.next_generation.ensures
+    ]

@@ -1,5 +1,4 @@
-use Rattle.std.proofs.Common.{◌≡◌, ◌≤◌, ap, sym, ◌∙◌, arith, slice_get, Some, refl}
-use Rattle.eco_ids.specs.Indices.{Living, Free}
+use Rattle.std.proofs.Common.{arith, refl}
 use Rattle.eco_entities.proofs.Marks.{free_within, slot_put}
 use Rattle.eco_entities.proofs.slots.Slots.settle.Goals as goal
 

@@ -1,0 +1,170 @@
+-- A handle that was killed stays dead.
+use Rattle.std.proofs.Common.{◌≡◌, ◌≢◌, ℕ, zero, suc, ◌+◌, ◌<◌, ◌≤◌, Bool, true, false, cond, List, [], ◌∷◌, ◌++◌, length, set, slice_get, slice_set, replicate, refl, sym, ap, ◌∙◌, Option, Some, None, is_some, inl, inr, arith, nat_lt, nat_le, Result, Ok, Err, IsTrue, if◌then◌else◌, MatchOption}
+use Rattle.std.proofs.lemmas.Bool.{cases_eq, cases_Bool, ne_eqb, MatchBool-at_true, MatchBool-at_false}
+use Rattle.std.proofs.lemmas.Option.{slice_get_within}
+use Rattle.eco_ids.specs.declared.entity.Entity.{Entity}
+use Rattle.eco_ids.specs.declared.refusal.Refusal.{Refusal}
+use Rattle.eco_ids.specs.declared.refusal.Refusal.TheVariants.{Taken, NoMoreIds}
+use Rattle.eco_ids.specs.Births.{may_make, Admits, may_admit, unfit_name}
+use Rattle.eco_ids.specs.Indices.{Indexed, IndexState, Retired, Free, Living, record_in, record_of, is_alive, is_free_at, next_entity, with_record, with_new, with_death, admitted, raised}
+use Rattle.eco_ids.specs.Outcome.{Refuses, Answers, is_out_of_memory}
+use Rattle.eco_entities.specs.Registration.{Registration, newcomer, name_of, change_in, with_change, placed, renamed, unfit_rename, may_rename}
+use Rattle.eco_entities.specs.Runs.{Call, Create, Admit, Revive, Kill, Rename, SetPlace, LeadsTo, RunsTo, NobodyLivesTwice}
+use Rattle.eco_entities.specs.Registry.{with_room}
+use Rattle.eco_entities.proofs.States.{slice_get-set_same, slice_get-set_other, free_known, alive_known, state_at, next_is}
+use Rattle.eco_entities.proofs.Owners.{next_has_room, IsRoom}
+
+-- the state is past the generation: nobody of that generation lives there or will
+abbrev IsPastIn : Option (IndexState Registration) → ℕ → Type 0
+IsPastIn None g = ⊥
+IsPastIn (Some Retired) g = Unit {0}
+IsPastIn (Some (Free f)) g = g < f
+IsPastIn (Some (Living f r)) g = g < f
+
+pub record IsPast (w : Indexed Registration) (e : Entity) : Type 0 where
+  pub state : IsPastIn (slice_get w.indices e.index) e.generation
+
+past_dead : (o : Option (IndexState Registration)) (g : ℕ) → IsPastIn o g → is_some (record_in o g) ≡ false
+past_dead None g h = refl
+past_dead (Some Retired) g h = refl
+past_dead (Some (Free f)) g h = refl
+past_dead (Some (Living f r)) g h = let ne : g ≢ f = omega arith in ap (λ b. is_some (cond b (Some r) None)) (ne_eqb g f ne)
+
+pub past_not_alive : (w : Indexed Registration) (e : Entity) → IsPast w e → is_alive w e ≡ false
+past_not_alive w e p = past_dead (slice_get w.indices e.index) e.generation p.state
+
+past_known : (o : Option (IndexState Registration)) (g : ℕ) → IsPastIn o g → (x : IndexState Registration) × (o ≡ Some x)
+past_known None g h = absurd h
+past_known (Some x) g h = (x, refl)
+
+raised_past : (f g : ℕ) (b : Bool) → g ≤ f → IsPastIn (Some (if b then Free (f + 1) else Retired)) g
+raised_past f g true l = omega arith
+raised_past f g false l = tt
+
+-- another state at some index, which is past too where it is this one
+past_put : (w : Indexed Registration) (e : Entity) (i : ℕ) (x : IndexState Registration) → IsPast w e → (i ≡ e.index → IsPastIn (Some x) e.generation) → IsPast (record w { indices = slice_set w.indices i x }) e
+past_put w e i x p here = record {
+  state = elim (cases_eq e.index i) [
+    | inl same ↦
+        let known : (y : IndexState Registration) × (slice_get w.indices e.index ≡ Some y) = past_known (slice_get w.indices e.index) e.generation p.state in
+        let within : e.index < length w.indices = slice_get_within w.indices e.index known.0 known.1 in
+        let at : slice_get (set w.indices i x) e.index ≡ Some x = rw (← same) (slice_get-set_same w.indices e.index x within) in
+        rw at (here (sym same))
+    | inr apart ↦ rw slice_get-set_other p.state
+  ];
+}
+
+past_appended : (xs ys : List (IndexState Registration)) (i g : ℕ) → IsPastIn (slice_get xs i) g → IsPastIn (slice_get (xs ++ ys) i) g
+past_appended [] ys i g h = absurd h
+past_appended (x ∷ xs) ys zero g h = h
+past_appended (x ∷ xs) ys (suc i) g h = past_appended xs ys i g h
+
+past_admitted : (w : Indexed Registration) (e : Entity) (n : ℕ) → IsPast w e → IsPast (admitted n w) e
+past_admitted w e n p = record { state = past_appended w.indices (replicate n (Free 0)) e.index e.generation p.state }
+
+-- a free handle that comes to live
+past_settled : (w : Indexed Registration) (e x : Entity) (r : Registration) → is_free_at w x ≡ true → IsPast w e → IsPast (with_record w x r) e
+past_settled w e x r free p =
+    past_put w e x.index (Living x.generation r) p
+    (λ same. rw (free_known w x free) at (rw (← same) at p.state))
+
+past_died : (w : Indexed Registration) (e x : Entity) → is_alive w x ≡ true → IsPast w e → IsPast (with_death w x) e
+past_died w e x alive p =
+    let living : (r : Registration) × (slice_get w.indices x.index ≡ Some (Living x.generation r)) = alive_known w x alive in
+    past_put w e x.index (raised x.generation) p
+    (λ same. let above : e.generation < x.generation = rw living.1 at (rw (← same) at p.state) in raised_past x.generation e.generation (nat_lt x.generation 65535) (omega arith))
+
+-- the killed one
+pub past_killed : (w : Indexed Registration) (e : Entity) → is_alive w e ≡ true → IsPast (with_death w e) e
+past_killed w e alive =
+    let living : (r : Registration) × (slice_get w.indices e.index ≡ Some (Living e.generation r)) = alive_known w e alive in
+    let within : e.index < length w.indices = slice_get_within w.indices e.index (Living e.generation living.0) living.1 in
+    record { state = rw slice_get-set_same (raised_past e.generation e.generation (nat_lt e.generation 65535) (omega arith)) }
+
+-- the next entity isn't one that is past
+next_not_past : (w : Indexed Registration) (e x : Entity) → next_entity w ≡ Some x → IsPast w e → x ≢ e
+next_not_past w e x h p same =
+    elim (next_is w x h) [
+      | inl free ↦
+          let at : slice_get w.indices e.index ≡ Some (Free e.generation) = rw same at free in
+          absurd (let above : e.generation < e.generation = rw at at p.state in omega arith)
+      | inr fresh ↦
+          let known : (y : IndexState Registration) × (slice_get w.indices e.index ≡ Some y) = past_known (slice_get w.indices e.index) e.generation p.state in
+          let within : e.index < length w.indices = slice_get_within w.indices e.index known.0 known.1 in
+          let index : length w.indices ≡ e.index = ap (λ (y : Entity). y.index) (fresh.1 ∙ same) in
+          absurd (omega arith)
+    ]
+
+-- each call leaves it past
+
+past_room : (w : Indexed Registration) (e x : Entity) → IsPast w e → IsPast (with_room w x) e
+past_room w e x p =
+    elim (cases_Bool (nat_lt x.index (length w.indices))) [
+      | inl known ↦ rw known p
+      | inr fresh ↦ rw fresh (past_admitted w e 1 p)
+    ]
+
+past_new : (w : Indexed Registration) (e x : Entity) (r : Registration) → next_entity w ≡ Some x → IsPast w e → IsPast (with_new w x r) e
+past_new w e x r h p =
+    let room : IsRoom w x = next_has_room w x h in
+    rw (← room.settled r) (past_settled (with_room w x) e x r room.free (past_room w e x p))
+
+past_made : (w new : Indexed Registration) (e : Entity) (d : Registration) (r : Result Entity Refusal) (u : Option Refusal) (o : Option Entity) → next_entity w ≡ o → MatchOption u (MatchOption o (Refuses NoMoreIds w r new) (λ x. Answers x (with_new w x d) r new)) (λ why. Refuses why w r new) → IsPast w e → IsPast new e
+past_made w new e d r (Some why) o n h p = rw h.1 p
+past_made w new e d r None None n h p = rw h.1 p
+past_made w new e d r None (Some x) n h p = rw h.1 (past_new w e x d n p)
+
+made_next : (w new : Indexed Registration) (x : Entity) (d : Registration) (u : Option Refusal) (o : Option Entity) → next_entity w ≡ o → MatchOption u (MatchOption o (Refuses {A = Entity} NoMoreIds w (Ok x) new) (λ y. Answers y (with_new w y d) (Ok x) new)) (λ why. Refuses {A = Entity} why w (Ok x) new) → next_entity w ≡ Some x
+made_next w new x d (Some why) o n h = let e : Ok x ≡ Err why = h.0 in cc
+made_next w new x d None None n h = let e : Ok x ≡ Err NoMoreIds = h.0 in cc
+made_next w new x d None (Some y) n h = let e : Ok x ≡ Ok y = h.0 in cc
+
+past_changed : (w : Indexed Registration) (e x : Entity) (change : Registration → Registration) (o : Option Registration) → record_of w x ≡ o → IsPast w e → IsPast (change_in w x change o) e
+past_changed w e x change None h p = p
+past_changed w e x change (Some r) h p =
+    past_put w e x.index (Living x.generation (change r)) p
+    (λ same. rw (state_at w x r h) at (rw (← same) at p.state))
+
+past_renamed : (w new : Indexed Registration) (e x : Entity) (name : Option (List ℕ)) (r : Result (Unit {0}) Refusal) (u : Option Refusal) → MatchOption u (Answers tt (with_change w x (renamed name)) r new) (λ why. Refuses why w r new) → IsPast w e → IsPast new e
+past_renamed w new e x name r None h p = rw h.1 (past_changed w e x (renamed name) (record_of w x) refl p)
+past_renamed w new e x name r (Some why) h p = rw h.1 p
+
+past_call : (c : Call) (w new : Indexed Registration) (e : Entity) → LeadsTo c w new → IsPast w e → IsPast new e
+past_call (Create name) w new e h p =
+    elim (cases_Bool (is_out_of_memory h.0)) [
+      | inl out ↦ let same : IsTrue (may_make name_of w name) × (new ≡ w) = MatchBool-at_true _ _ out h.1 in rw same.1 p
+      | inr step ↦ past_made w new e (newcomer name) h.0 (unfit_name name_of w name) (next_entity w) refl (MatchBool-at_false _ _ step h.1) p
+    ]
+past_call (Admit n) w new e h p =
+    elim (cases_Bool (is_out_of_memory h.0)) [
+      | inl out ↦ let same : IsTrue (may_admit w n) × (new ≡ w) = MatchBool-at_true _ _ out h.1 in rw same.1 p
+      | inr step ↦
+          let admits : Admits w n h.0 new = MatchBool-at_false _ _ step h.1 in
+          elim (cases_Bool (nat_le (length w.indices + n) w.limit)) [
+            | inl room ↦ let done : (h.0 ≡ Ok tt) × (new ≡ admitted n w) = MatchBool-at_true _ _ room admits in rw done.1 (past_admitted w e n p)
+            | inr full ↦ let refused : (h.0 ≡ Err NoMoreIds) × (new ≡ w) = MatchBool-at_false _ _ full admits in rw refused.1 p
+          ]
+    ]
+past_call (Revive x) w new e h p =
+    elim (cases_Bool (is_free_at w x)) [
+      | inl free ↦ let done : (h.0 ≡ Ok tt) × (new ≡ with_record w x (newcomer None)) = MatchBool-at_true _ _ free h.1 in rw done.1 (past_settled w e x (newcomer None) free p)
+      | inr other ↦ let refused : (h.0 ≡ Err Taken) × (new ≡ w) = MatchBool-at_false _ _ other h.1 in rw refused.1 p
+    ]
+past_call (Kill x) w new e h p = rw h.1 (past_died w e x h.0 p)
+past_call (Rename x name) w new e h p =
+    elim (cases_Bool (is_out_of_memory h.0)) [
+      | inl out ↦ let same : IsTrue (may_rename w x name) × (new ≡ w) = MatchBool-at_true _ _ out h.1 in rw same.1 p
+      | inr step ↦ past_renamed w new e x name h.0 (unfit_rename w x name) (MatchBool-at_false _ _ step h.1) p
+    ]
+past_call (SetPlace x place) w new e h p = rw h.1 (past_changed w e x (placed place) (record_of w x) refl p)
+
+past_run : (calls : List Call) (w new : Indexed Registration) (e : Entity) → RunsTo calls w new → IsPast w e → IsPast new e
+past_run [] w new e h p = rw h p
+past_run (c ∷ cs) w new e h p = past_run cs h.0 new e h.2 (past_call c w h.0 e h.1 p)
+
+pub lives_once : NobodyLivesTwice
+lives_once old later e calls alive runs =
+    let p : IsPast later e = past_run calls (with_death old e) later e runs (past_killed old e alive) in (
+      past_not_alive later e p,
+      λ name x new h. next_not_past later e x (made_next later new x (newcomer name) (unfit_name name_of later name) (next_entity later) refl h) p,
+    )

@@ -1,0 +1,15 @@
+use Rattle.std.proofs.Common.{sym, ◌∙◌}
+use Rattle.std.proofs.lemmas.Option.{same_Some}
+use Rattle.eco_entities.specs.Rules.{IsRuled}
+use Rattle.eco_entities.proofs.entity_index.EntityIndex.rules.Goals as goal
+
+pub returns : goal.returns
+returns c =
+    let ruled : IsRuled c.self.inside.slots = record {
+      limited = c.rules.ensures.limited;
+      within = c.rules.ensures.within;
+      generations = c.rules.ensures.generations;
+      proper = c.self.invariant.proper;
+      unique = λ a b name ha hb. same_Some a b (sym (c.self.invariant.listed name a ha) ∙ c.self.invariant.listed name b hb);
+    } in
+    rw c.self.view_is at ruled

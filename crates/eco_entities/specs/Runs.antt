@@ -1,0 +1,39 @@
+-- Runs of calls, and what holds of each.
+use Rattle.std.specs.Prelude.{◌≡◌, ◌≢◌, ℕ, false, List, [], ◌∷◌, Option, None, Result, Ok, IsTrue}
+use Rattle.eco_ids.specs.declared.entity.Entity.{Entity}
+use Rattle.eco_ids.specs.declared.refusal.Refusal.{Refusal}
+use Rattle.eco_ids.specs.Births.{Makes, may_make, Admits, may_admit, RevivesWith}
+use Rattle.eco_ids.specs.Indices.{Indexed, is_alive, with_death}
+use Rattle.eco_ids.specs.Outcome.{Meets}
+use Rattle.eco_entities.specs.Registration.{Registration, newcomer, name_of, with_change, placed, Renames, may_rename}
+use Rattle.eco_entities.specs.declared.place.Place.{Place}
+
+-- a call that changes the index
+pub data Call : Type 0 where
+  Create : Option (List ℕ) → Call
+  Admit : ℕ → Call
+  Revive : Entity → Call
+  Kill : Entity → Call
+  Rename : Entity → Option (List ℕ) → Call
+  SetPlace : Entity → Place → Call
+
+-- the call leads from the old index to the new one, whatever it answers
+abbrev pub LeadsTo : Call → Indexed Registration → Indexed Registration → Type 0
+LeadsTo (Create name) old new = (r : Result Entity Refusal) × Meets (Makes name_of old (newcomer name)) (may_make name_of old name) old r new
+LeadsTo (Admit n) old new = (r : Result (Unit {0}) Refusal) × Meets (Admits old n) (may_admit old n) old r new
+LeadsTo (Revive e) old new = (r : Result (Unit {0}) Refusal) × RevivesWith old e (newcomer None) r new
+LeadsTo (Kill e) old new = IsTrue (is_alive old e) × (new ≡ with_death old e)
+LeadsTo (Rename e name) old new = (r : Result (Unit {0}) Refusal) × Meets (Renames old e name) (may_rename old e name) old r new
+LeadsTo (SetPlace e p) old new = IsTrue (is_alive old e) × (new ≡ with_change old e (placed p))
+
+-- the calls, one after another, lead from the old index to the new one
+abbrev pub RunsTo : List Call → Indexed Registration → Indexed Registration → Type 0
+RunsTo [] old new = new ≡ old
+RunsTo (c ∷ cs) old new = (mid : Indexed Registration) × LeadsTo c old mid × RunsTo cs mid new
+
+-- who was killed never lives again, and no create answers that handle, whatever calls come in between
+abbrev pub NobodyLivesTwice : Type 0
+NobodyLivesTwice =
+    (old later : Indexed Registration) (e : Entity) (calls : List Call) → IsTrue (is_alive old e) → RunsTo calls (with_death old e) later
+    → (is_alive later e ≡ false)
+    × ((name : Option (List ℕ)) (x : Entity) (new : Indexed Registration) → Makes name_of later (newcomer name) (Ok x) new → x ≢ e)

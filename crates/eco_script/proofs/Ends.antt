@@ -1,0 +1,126 @@
+-- Each step has some answer on every world: what it can't be done for, what it is done with, or that memory was wanting.
+use Rattle.std.proofs.Common.{◌≡◌, ℕ, Bool, true, false, not, ◌&&◌, List, [], ◌∷◌, map, Option, Some, None, Result, Ok, Err, refl, ap, sym, ◌∙◌, is_some, MatchResult, MatchBool, arith}
+use Rattle.std.specs.List.{list_all}
+use Rattle.eco_ids.specs.declared.entity.Entity.{Entity}
+use Rattle.eco_ids.specs.declared.id.Id.{Id}
+use Rattle.eco_ids.specs.declared.id.Id.TheVariants as id
+use Rattle.eco_ids.specs.declared.refusal.Refusal.{Refusal}
+use Rattle.eco_ids.specs.declared.refusal.Refusal.TheVariants.{NotAlive, DeadId, Reserved, BadName, NameTaken, NoMoreIds, OutOfMemory}
+use Rattle.eco_ids.specs.Answer.{answer}
+use Rattle.eco_world.specs.Queries.{term_of}
+use Rattle.eco_ids.specs.Births.{Creates, may_create, unfit_name, bare}
+use Rattle.eco_ids.specs.Indices.{is_alive, living, next_entity, with_new}
+use Rattle.eco_ids.specs.Outcome.{first_refusal, is_out_of_memory, Refuses, Answers, Meets}
+use Rattle.eco_ids.specs.Step.{Adds, may_add, Removes, may_remove, Renames, may_rename, unfit, unfit_actor, unfit_rename, changed, without_id, with_name, own_name}
+use Rattle.eco_ids.specs.Builtin.{is_builtin}
+use Rattle.eco_ids.specs.World.{WorldState, has, names_living}
+use Rattle.eco_script.specs.References.{ReadsEntity, ReadsId}
+use Rattle.eco_query.specs.Readings.{single_of}
+use Rattle.eco_script.proofs.Readable.{ref_read}
+use Rattle.eco_script.specs.Replies.{Reply, done, made, truth, shown, listed, found, replied, Calls, On, OnEntity, OnId, Replies}
+use Rattle.eco_script.specs.Steps as step
+use Rattle.eco_script.specs.Text.{Does, step_lines}
+use Rattle.eco_ids.specs.Names.{lookup, is_proper, is_taken, is_same_name}
+
+-- some answer, and some world after it
+abbrev Ends : {A : Type 0} → (Result A Refusal → WorldState → Type 0) → Type 0
+Ends {A} Step = (r : Result A Refusal) × (new : WorldState) × Step r new
+
+-- it is not that memory was wanting
+abbrev is_plain : Refusal → Bool
+is_plain why = not (is_out_of_memory {A = Unit {0}} (Err why))
+
+plain_error : (A : Type 0) (why : Refusal) → is_plain why ≡ true → is_out_of_memory {A = A} (Err why) ≡ false
+plain_error A OutOfMemory p = cc
+plain_error A _ p = refl
+
+-- a first refusal is one of those that stand there
+plain_refusal : (cs : List (Bool × Refusal)) → list_all (λ c. is_plain c.1) cs ≡ true → (why : Refusal) → first_refusal cs ≡ Some why → is_plain why ≡ true
+plain_refusal [] p why e = cc
+plain_refusal ((true, x) ∷ cs) p why e = grind arith
+plain_refusal ((false, x) ∷ cs) p why e = grind (arith, plain_refusal cs)
+
+-- the call is refused, or it goes on
+unless : {A : Type 0} (Step : Result A Refusal → WorldState → Type 0) (may : Bool) (w : WorldState) (o : Option Refusal)
+    → ((why : Refusal) → o ≡ Some why → is_plain why ≡ true)
+    → ((why : Refusal) → o ≡ Some why → Step (Err why) w)
+    → (o ≡ None → Ends (Meets Step may w)) → Ends (Meets Step may w)
+unless Step may w None plain refused goes = goes refl
+unless {A} Step may w (Some why) plain refused goes = (Err why, w, rw (plain_error A why (plain why refl)) (refused why refl))
+
+-- it may want memory, and finds none
+wanting : {A : Type 0} (Step : Result A Refusal → WorldState → Type 0) (may : Bool) (w : WorldState) → may ≡ true → Ends (Meets Step may w)
+wanting Step may w e = (Err OutOfMemory, w, (e, refl))
+
+create_ends : (w : WorldState) (name : Option (List ℕ)) → Ends (Meets (Creates w name) (may_create w name) w)
+create_ends w name =
+    unless (Creates w name) (may_create w name) w (unfit_name (λ r. r.name) w name)
+    (plain_refusal ((not (is_proper name), BadName) ∷ (is_taken w name, NameTaken) ∷ []) refl) (λ why e. rw e (refl, refl))
+    (λ fit. next (next_entity w) refl fit) where
+  next : (o : Option Entity) → next_entity w ≡ o → unfit_name (λ r. r.name) w name ≡ None → Ends (Meets (Creates w name) (may_create w name) w)
+  next None e fit = (Err NoMoreIds, w, rw (fit, e) (refl, refl))
+  next (Some x) e fit = wanting (Creates w name) (may_create w name) w (rw (fit, e) refl)
+
+add_ends : (w : WorldState) (e : Entity) (i : Id) → Ends (Meets (Adds w e i) (may_add w e i) w)
+add_ends w e i =
+    unless (Adds w e i) (may_add w e i) w (unfit w e i)
+    (plain_refusal ((not (is_alive w e), NotAlive) ∷ (is_builtin w e, Reserved) ∷ (not (names_living w i), DeadId) ∷ []) refl) (λ why eq. rw eq (refl, refl)) (λ fit. there (has w e i) refl fit) where
+  there : (b : Bool) → has w e i ≡ b → unfit w e i ≡ None → Ends (Meets (Adds w e i) (may_add w e i) w)
+  there true h fit = (Ok tt, w, rw (fit, h) (refl, refl))
+  there false h fit = wanting (Adds w e i) (may_add w e i) w (rw (fit, h) refl)
+
+remove_ends : (w : WorldState) (e : Entity) (i : Id) → Ends (Meets (Removes w e i) (may_remove w e i) w)
+remove_ends w e i =
+    unless (Removes w e i) (may_remove w e i) w (unfit_actor w e)
+    (plain_refusal ((not (is_alive w e), NotAlive) ∷ (is_builtin w e, Reserved) ∷ []) refl) (λ why eq. rw eq (refl, refl))
+    (λ fit. (Ok tt, changed w e (without_id i), rw fit (refl, refl)))
+
+rename_ends : (w : WorldState) (e : Entity) (name : Option (List ℕ)) → Ends (Meets (Renames w e name) (may_rename w e name) w)
+rename_ends w e name =
+    unless (Renames w e name) (may_rename w e name) w (unfit_rename w e name)
+    (plain_refusal ((not (is_alive w e), NotAlive) ∷ (is_builtin w e, Reserved) ∷ (not (is_proper name), BadName)
+    ∷ (not (is_same_name (own_name w e) name) && is_taken w name, NameTaken) ∷ []) refl) (λ why eq. rw eq (refl, refl))
+    (λ fit. (Ok tt, changed w e (with_name name), rw fit (refl, refl)))
+
+show_ends : (w : WorldState) (e : Entity) (b : Bool)
+    → Ends (λ r new. MatchBool b (Answers (shown e) w r new) (Refuses NotAlive w r new))
+show_ends w e true = (Ok (shown e), w, (refl, refl))
+show_ends w e false = (Err NotAlive, w, (refl, refl))
+
+calls_end : {A : Type 0} (Call : Result A Refusal → WorldState → Type 0) (reply : A → Reply) → Ends Call → Ends (Calls Call reply)
+calls_end Call reply (x, new, c) = (replied reply x, new, (x, c, refl))
+
+on_ends : {A : Type 0} (Reads : Result A Refusal → Type 0) (w : WorldState) (Goes : A → Result Reply Refusal → WorldState → Type 0)
+    → ((n : Result A Refusal) × Reads n) → ((x : A) → Ends (Goes x)) → Ends (On Reads w Goes)
+on_ends Reads w Goes (Ok x, is) goes = let (r, new, g) = goes x in (r, new, (Ok x, is, g))
+on_ends Reads w Goes (Err why, is) goes = (Err why, w, (Err why, is, (refl, refl)))
+
+reads_entity : (w : WorldState) (text : List ℕ) → (n : Result Entity Refusal) × ReadsEntity w text n
+unfolding ReadsEntity
+reads_entity w text = ref_read (lookup w) text
+
+reads_id : (w : WorldState) (text : List ℕ) → (n : Result Id Refusal) × ReadsId w text n
+unfolding ReadsId
+reads_id w text = let (single, is) = reads_entity w text in (single_of single, (single, is, refl))
+
+on_entity : (w : WorldState) (text : List ℕ) (Goes : Entity → Result Reply Refusal → WorldState → Type 0)
+    → ((x : Entity) → Ends (Goes x)) → Ends (OnEntity w text Goes)
+on_entity w text Goes goes = on_ends (ReadsEntity w text) w Goes (reads_entity w text) goes
+
+on_id : (w : WorldState) (text : List ℕ) (Goes : Id → Result Reply Refusal → WorldState → Type 0)
+    → ((x : Id) → Ends (Goes x)) → Ends (OnId w text Goes)
+on_id w text Goes goes = on_ends (ReadsId w text) w Goes (reads_id w text) goes
+
+replies_end : (w : WorldState) (s : step.Step) → Ends (Replies w s)
+replies_end w (step.create name) = calls_end _ _ (create_ends w name)
+replies_end w (step.add e i) = on_entity w e _ (λ x. on_id w i _ (λ y. calls_end _ _ (add_ends w x y)))
+replies_end w (step.remove e i) = on_entity w e _ (λ x. on_id w i _ (λ y. calls_end _ _ (remove_ends w x y)))
+replies_end w (step.rename e name) = on_entity w e _ (λ x. calls_end _ _ (rename_ends w x name))
+replies_end w (step.has e i) = on_entity w e _ (λ x. on_id w i _ (λ y. (Ok (truth (has w x y)), w, (refl, refl))))
+replies_end w (step.show e) = on_entity w e _ (λ x. show_ends w x (is_alive w x))
+replies_end w step.list = (Ok (listed (map (λ p. p.0) (living w))), w, (refl, refl))
+replies_end w (step.query q) = on_id w q _ (λ y. (Ok (found (answer w (term_of y))), w, (refl, refl)))
+
+-- some lines, and some world after them
+pub some_step : (s : step.Step) (w : WorldState) → (t : List ℕ) × (e : WorldState) × Does w s t e
+some_step s w = let (r, new, p) = replies_end w s in (step_lines new r, new, (r, p, refl))

@@ -1,0 +1,111 @@
+-- One step after another, and steps that nothing keeps from running.
+use Rattle.std.proofs.Common.{◌≡◌, ℕ, ◌+◌, ◌<◌, List, [], ◌∷◌, ◌++◌, length, map, take, drop, get_or, Option, Some, None, refl, ap, ◌∙◌, sym, append_assoc, inr}
+use Rattle.std.proofs.lemmas.List.{append-nil, take_more, map-append, take-append-drop}
+use Rattle.std.specs.Io.KnownBytes.{Appends, Consumes, IsAtEnd, Keeps}
+use Rattle.eco_script.specs.Run.{IsTextOf, WasNotRead}
+use Rattle.eco_script.proofs.Devices.{Appends-more}
+use Rattle.std.specs.Prelude.{IsUtf8, ◌⊎◌}
+use Rattle.serde_json.specs.Data.{Data}
+use Rattle.serde_json.specs.Read.{read}
+use Rattle.eco_script.specs.Script.{Script, IsScript}
+use Rattle.eco_ids.specs.World.{WorldState, first_world}
+use Rattle.eco_script.specs.Beginning.{IsBeginning}
+use Rattle.eco_script.specs.Steps.{Step}
+use Rattle.eco_script.specs.Text.{Does, Text}
+use Rattle.eco_script.proofs.Ends.{some_step}
+use Rattle.std.specs.Prelude.{codes}
+
+pub Text-append : (xs ys : List Step) (w m e : WorldState) (t u : List ℕ) → Text w xs t m → Text m ys u e → Text w (xs ++ ys) (t ++ u) e
+Text-append [] ys w m e t u (tn, mw) q = rw (tn, ← mw) q
+Text-append (x ∷ xs) ys w m e t u (first, rest, mid, does, more, te) q =
+    (first, rest ++ u, mid, does, Text-append xs ys mid m e rest u more q, ap (λ s. s ++ u) te ∙ append_assoc first rest u)
+
+pub Text-one : (s : Step) (w m : WorldState) (t : List ℕ) → Does w s t m → Text w (s ∷ []) t m
+Text-one s w m t d = (t, [], m, d, (refl, refl), sym (append-nil t))
+
+pub Text-more : (xs : List Step) (s : Step) (w m e : WorldState) (t u : List ℕ) → Text w xs t m → Does m s u e → Text w (xs ++ s ∷ []) (t ++ u) e
+Text-more xs s w m e t u p d = Text-append xs (s ∷ []) w m e t u p (Text-one s m e u d)
+
+pub some_text : (ss : List Step) (w : WorldState) → (t : List ℕ) × (e : WorldState) × Text w ss t e
+some_text [] w = ([], w, (refl, refl))
+some_text (s ∷ ss) w =
+    let one = some_step s w in
+    let more = some_text ss one.1 in
+    (one.0 ++ more.0, more.1, (one.0, more.0, one.1, one.2, more.2, refl))
+
+begins : (t q r u more : List ℕ) → u ≡ q ++ r → (t ++ u) ++ more ≡ (t ++ q) ++ (r ++ more)
+begins t q r u more e = rw e (simp append_assoc)
+
+-- what is said of the front of a list, and of all of it
+module _ {X : Type 0} (f : X → Step) (xs : List X) where
+  text_more : (i : ℕ) (d : X) (w m e : WorldState) (t u : List ℕ) → i < length xs → Text w (map f (take i xs)) t m → Does m (f (get_or xs i d)) u e
+      → Text w (map f (take (i + 1) xs)) (t ++ u) e
+  text_more i d w m e t u lt p does =
+      let front : map f (take (i + 1) xs) ≡ map f (take i xs) ++ f (get_or xs i d) ∷ [] =
+      ap (λ ys. map f ys) (take_more xs i d lt) ∙ map-append f (take i xs) (get_or xs i d ∷ []) in
+      rw front (Text-more (map f (take i xs)) (f (get_or xs i d)) w m e t u p does)
+
+  -- a run goes on to some end
+  text_goes_on : (i : ℕ) (w m : WorldState) (t : List ℕ) → Text w (map f (take i xs)) t m
+      → (more : List ℕ) × (e : WorldState) × Text w (map f xs) (t ++ more) e
+  text_goes_on i w m t p =
+      let rest = some_text (map f (drop i xs)) m in
+      let whole : map f xs ≡ map f (take i xs) ++ map f (drop i xs) =
+      ap (λ ys. map f ys) (sym (take-append-drop i xs)) ∙ map-append f (take i xs) (drop i xs) in
+      (rest.0, rest.1, rw whole (Text-append (map f (take i xs)) (map f (drop i xs)) w m rest.1 t rest.0 p rest.2))
+
+  -- what was written when the run stops between two steps
+  pub stopped_between : (i : ℕ) (w m : WorldState) (a b : Option (List ℕ))
+      → ((t : List ℕ) × Text w (map f (take i xs)) t m × Appends a b t)
+      → (part : List ℕ) × (text : List ℕ) × (end : WorldState) × Text w (map f xs) text end × IsBeginning part text × Appends a b part
+  stopped_between i w m a b (t, p, h) =
+      let on = text_goes_on i w m t p in
+      (t, t ++ on.0, on.1, on.2, (on.0, refl), h)
+
+  -- what was written when the run stops within the text of a step
+  pub stopped_within : (i : ℕ) (d : X) (w m e : WorldState) (a b c : Option (List ℕ)) (u : List ℕ) → i < length xs
+      → ((t : List ℕ) × Text w (map f (take i xs)) t m × Appends a b t)
+      → Does m (f (get_or xs i d)) u e
+      → ((q : List ℕ) × IsBeginning q u × Appends b c q)
+      → (part : List ℕ) × (text : List ℕ) × (end : WorldState) × Text w (map f xs) text end × IsBeginning part text × Appends a c part
+  stopped_within i d w m e a b c u lt (t, p, h) does (q, (r, er), hq) =
+      let on = text_goes_on (i + 1) w e (t ++ u) (text_more i d w m e t u lt p does) in
+      (t ++ q, (t ++ u) ++ on.0, on.1, on.2, (r ++ on.0, begins t q r u on.0 er), Appends-more a b c t q h hq)
+
+  -- one more step was run, and its text written
+  pub ran_more : (i : ℕ) (d : X) (w m e : WorldState) (a b c : Option (List ℕ)) (u : List ℕ) → i < length xs
+      → ((t : List ℕ) × Text w (map f (take i xs)) t m × Appends a b t)
+      → Does m (f (get_or xs i d)) u e → Appends b c u
+      → (t : List ℕ) × Text w (map f (take (i + 1) xs)) t e × Appends a c t
+  ran_more i d w m e a b c u lt (t, p, h) does hu = (t ++ u, text_more i d w m e t u lt p does, Appends-more a b c t u h hu)
+
+Text-at : (w v e : WorldState) (ss rs : List Step) (t : List ℕ) → w ≡ v → ss ≡ rs → Text w ss t e → Text v rs t e
+Text-at w v e ss rs t p q h = rw (← p, ← q) h
+
+-- the text of a run is that of the script that was read
+text_of : (bytes : List ℕ) (script : Script) (w e : WorldState) (ss : List Step) (t : List ℕ)
+    → IsScript bytes script → w ≡ first_world script.limit → ss ≡ script.steps
+    → Text w ss t e → IsTextOf bytes t
+text_of bytes script w e ss t is at_start are h = (script, e, is, Text-at w (first_world script.limit) e ss script.steps t at_start are h)
+
+pub ran_bytes : (bytes : List ℕ) (script : Script) (w e : WorldState) (ss : List Step) (a b : Option (List ℕ))
+    → IsScript bytes script → w ≡ first_world script.limit → ss ≡ script.steps
+    → ((t : List ℕ) × Text w ss t e × Appends a b t)
+    → (t : List ℕ) × IsTextOf bytes t × Appends a b t
+ran_bytes bytes script w e ss a b is at_start are (t, h, k) = (t, text_of bytes script w e ss t is at_start are h, k)
+
+pub stopped_bytes : (bytes : List ℕ) (script : Script) (w : WorldState) (ss : List Step) (a b : Option (List ℕ))
+    → IsScript bytes script → w ≡ first_world script.limit → ss ≡ script.steps
+    → ((part : List ℕ) × (text : List ℕ) × (end : WorldState) × Text w ss text end × IsBeginning part text × Appends a b part)
+    → Keeps a b ⊎ ((part : List ℕ) × (text : List ℕ) × IsTextOf bytes text × IsBeginning part text × Appends a b part)
+stopped_bytes bytes script w ss a b is at_start are (part, text, e, h, begin, k) =
+    inr (part, text, text_of bytes script w e ss text is at_start are h, begin, k)
+
+-- what is said of the bytes that were read to the end is said of those that the reader had
+pub not_read_to_end : (left after : Option (List ℕ)) (bytes : List ℕ) (a b : Option (List ℕ)) → Consumes left after bytes → IsAtEnd after
+    → WasNotRead (Some bytes) a b → WasNotRead left a b
+not_read_to_end None after bytes a b p q h = h.0
+not_read_to_end (Some xs) None bytes a b p q h = absurd p
+not_read_to_end (Some xs) (Some ys) bytes a b p q h =
+    let whole : xs ≡ bytes = p ∙ ap (λ t. bytes ++ t) q ∙ append-nil bytes in
+    rw whole h

@@ -1,0 +1,4 @@
+use Rattle.eco_script.proofs.perform.perform.Goals as goal
+
+pub returns-in-Rename : goal.returns-in-Rename
+returns-in-Rename c = rw c.in-Rename.is c.rename.ensures

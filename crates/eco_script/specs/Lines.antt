@@ -1,0 +1,34 @@
+-- The lines that show entities and results.
+use Rattle.std.specs.Prelude.{ℕ, List, [], ◌∷◌, ◌++◌, flat_map, codes, decimal, Option, Some, None}
+use Rattle.eco_ids.specs.declared.entity.Entity.{Entity}
+use Rattle.eco_ids.specs.declared.id.Id.{Id}
+use Rattle.eco_ids.specs.Text.{entity_text, id_text}
+
+-- texts of items, joined by a comma and a space
+abbrev pub joined : {A : Type 0} → (A → List ℕ) → List A → List ℕ
+joined text [] = []
+joined text (x ∷ xs) = text x ++ flat_map (λ y. codes ", " ++ text y) xs
+
+-- a name, or `-`
+abbrev pub name_text : Option (List ℕ) → List ℕ
+name_text None = codes "-"
+name_text (Some name) = name
+
+-- how many fields a component's values have, or `-`
+abbrev pub arity_text : Option ℕ → List ℕ
+arity_text None = codes "-"
+arity_text (Some fields) = decimal fields
+
+-- an id, or `-` for none
+abbrev pub entry_text : Option Id → List ℕ
+entry_text None = codes "-"
+entry_text (Some i) = id_text i
+
+-- an entity with its name, its arity and its ids: `#9.0 a - [#10.0]`
+abbrev pub entity_line : Entity → Option (List ℕ) → Option ℕ → List Id → List ℕ
+entity_line e name arity ids =
+    entity_text e ++ codes " " ++ name_text name ++ codes " " ++ arity_text arity ++ codes " [" ++ joined id_text ids ++ codes "]\n"
+
+-- a result with its entries: `row #9.0 [#10.0, -]`
+abbrev pub row_line : Entity → List (Option Id) → List ℕ
+row_line e entries = codes "row " ++ entity_text e ++ codes " [" ++ joined entry_text entries ++ codes "]\n"

@@ -1,0 +1,59 @@
+-- What each step of a script answers, and the world that it leaves.
+use Rattle.std.specs.Prelude.{◌≡◌, ℕ, Bool, true, List, [], ◌∷◌, map, Result, Ok, Err, MatchResult, MatchBool}
+use Rattle.eco_ids.specs.declared.entity.Entity.{Entity}
+use Rattle.eco_ids.specs.declared.id.Id.{Id}
+use Rattle.eco_ids.specs.declared.refusal.Refusal.{Refusal}
+use Rattle.eco_ids.specs.declared.refusal.Refusal.TheVariants.{NotAlive}
+use Rattle.eco_ids.specs.Answer.{Row, answer}
+use Rattle.eco_ids.specs.Births.{Creates, may_create}
+use Rattle.eco_ids.specs.Indices.{is_alive, living}
+use Rattle.eco_ids.specs.Outcome.{Refuses, Answers, Meets}
+use Rattle.eco_ids.specs.Step.{Adds, may_add, Removes, may_remove, Renames, may_rename}
+use Rattle.eco_ids.specs.World.{WorldState, has}
+use Rattle.eco_world.specs.Queries.{term_of}
+use Rattle.eco_script.specs.References.{ReadsEntity, ReadsId}
+use Rattle.eco_script.specs.Steps as step
+
+-- what a step answers where it is done: that it is done, who was made, whether it is so, one entity, all living ones,
+-- or the results of a query
+pub data Reply : Type 0 where
+  done : Reply
+  made : Entity → Reply
+  truth : Bool → Reply
+  shown : Entity → Reply
+  listed : List Entity → Reply
+  found : List Row → Reply
+
+-- a call's answer, with a reply in place of what it gives
+abbrev pub replied : {A : Type 0} → (A → Reply) → Result A Refusal → Result Reply Refusal
+replied reply (Ok x) = Ok (reply x)
+replied reply (Err why) = Err why
+
+-- the call is made, and its answer is the step's
+abbrev pub Calls : {A : Type 0} → (Result A Refusal → WorldState → Type 0) → (A → Reply) → Result Reply Refusal → WorldState → Type 0
+Calls {A} Call reply r new = (x : Result A Refusal) × Call x new × (r ≡ replied reply x)
+
+-- the text names something, and the step goes on with it; or the text is refused, and with it the step
+abbrev pub On : {A : Type 0} → (Result A Refusal → Type 0) → WorldState → (A → Result Reply Refusal → WorldState → Type 0) → Result Reply Refusal → WorldState → Type 0
+On {A} Reads w Goes r new = (named : Result A Refusal) × Reads named × MatchResult named (λ x. Goes x r new) (λ why. Refuses why w r new)
+
+-- the text names an entity
+abbrev pub OnEntity : WorldState → List ℕ → (Entity → Result Reply Refusal → WorldState → Type 0) → Result Reply Refusal → WorldState → Type 0
+OnEntity w text = On (ReadsEntity w text) w
+
+-- the text names an id
+abbrev pub OnId : WorldState → List ℕ → (Id → Result Reply Refusal → WorldState → Type 0) → Result Reply Refusal → WorldState → Type 0
+OnId w text = On (ReadsId w text) w
+
+-- what the step answers on a world, and the world after it. Texts are read from left to right, and the first that is refused
+-- is the step's refusal. A listing and a query may find no memory.
+abbrev pub Replies : WorldState → step.Step → Result Reply Refusal → WorldState → Type 0
+Replies w (step.create name) = Calls (Meets (Creates w name) (may_create w name) w) made
+Replies w (step.add e i) = OnEntity w e (λ x. OnId w i (λ y. Calls (Meets (Adds w x y) (may_add w x y) w) (λ _. done)))
+Replies w (step.remove e i) = OnEntity w e (λ x. OnId w i (λ y. Calls (Meets (Removes w x y) (may_remove w x y) w) (λ _. done)))
+Replies w (step.rename e name) = OnEntity w e (λ x. Calls (Meets (Renames w x name) (may_rename w x name) w) (λ _. done))
+Replies w (step.has e i) = OnEntity w e (λ x. OnId w i (λ y. Answers (truth (has w x y)) w))
+Replies w (step.show e) =
+    OnEntity w e (λ x r new. MatchBool (is_alive w x) (Answers (shown x) w r new) (Refuses NotAlive w r new))
+Replies w step.list = Meets (Answers (listed (map (λ p. p.0) (living w))) w) true w
+Replies w (step.query q) = OnId w q (λ y. Meets (Answers (found (answer w (term_of y))) w) true w)

@@ -1,0 +1,30 @@
+-- What a run of the program writes.
+use Rattle.std.specs.Prelude.{◌≡◌, ◌⊎◌, ℕ, List, ◌++◌, Option, Some, None, ⊤}
+use Rattle.std.specs.Io.KnownBytes.{Appends, Keeps}
+use Rattle.eco_ids.specs.World.{WorldState, first_world}
+use Rattle.eco_script.specs.Beginning.{IsBeginning}
+use Rattle.eco_script.specs.Script.{Script, IsScript}
+use Rattle.eco_script.specs.Text.{Text}
+
+-- the bytes are a script, and the text is that of a run of it on a new world
+abbrev pub IsTextOf : List ℕ → List ℕ → Type 0
+IsTextOf bytes text = (script : Script) × (end : WorldState) × IsScript bytes script × Text (first_world script.limit) script.steps text end
+
+-- Each of these is said of the bytes that the reader had, and of those that the writer held before and after. Of a device
+-- that tells no bytes nothing is said.
+
+-- the bytes are a script, and its text was written
+abbrev pub Ran : Option (List ℕ) → Option (List ℕ) → Option (List ℕ) → Type 0
+Ran None old new = ⊤
+Ran (Some bytes) old new = (text : List ℕ) × IsTextOf bytes text × Appends old new text
+
+-- the bytes are no script, and nothing was written
+abbrev pub WasNotRead : Option (List ℕ) → Option (List ℕ) → Option (List ℕ) → Type 0
+WasNotRead None old new = Keeps old new
+WasNotRead (Some bytes) old new = Keeps old new × ((script : Script) → ¬ IsScript bytes script)
+
+-- nothing was written, or the bytes are a script, and a beginning of its text was written
+abbrev pub WasStopped : Option (List ℕ) → Option (List ℕ) → Option (List ℕ) → Type 0
+WasStopped None old new = ⊤
+WasStopped (Some bytes) old new =
+    Keeps old new ⊎ ((part : List ℕ) × (text : List ℕ) × IsTextOf bytes text × IsBeginning part text × Appends old new part)

@@ -1,0 +1,11 @@
+-- The numbers that the program ends with.
+use Rattle.std.specs.Prelude.{ℕ}
+use Rattle.eco_script.specs.declared.status.Status.{Status}
+use Rattle.eco_script.specs.declared.status.Status.TheVariants.{Ran, Stopped, NotRead, BadArguments}
+
+-- the number of a status
+abbrev pub code_of : Status → ℕ
+code_of Ran = 0
+code_of Stopped = 1
+code_of NotRead = 2
+code_of BadArguments = 64

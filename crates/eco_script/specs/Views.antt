@@ -1,0 +1,22 @@
+-- The steps that the program keeps, as those of a script.
+use Rattle.std.specs.Prelude.{map, option_map}
+use Rattle.eco_script.specs.Steps as script
+use Rattle.eco_script.specs.Script as whole
+use Rattle.eco_script.specs.declared.script.Step.{Step}
+use Rattle.eco_script.specs.declared.script.Step.TheVariants.{Create, Add, Remove, Rename, Has, Show, List, Query}
+use Rattle.eco_script.specs.declared.script.Script.{Script}
+
+-- the step, with the texts that it borrows
+abbrev pub step_view : Step → script.Step
+step_view (Create name) = script.create (option_map (λ s. s.now) name)
+step_view (Add entity id) = script.add entity.now id.now
+step_view (Remove entity id) = script.remove entity.now id.now
+step_view (Rename entity name) = script.rename entity.now (option_map (λ s. s.now) name)
+step_view (Has entity id) = script.has entity.now id.now
+step_view (Show entity) = script.show entity.now
+step_view List = script.list
+step_view (Query text) = script.query text.now
+
+-- the script, step by step
+abbrev pub script_view : Script → whole.Script
+script_view s = record { limit = s.limit; steps = map step_view s.steps.items }

@@ -1,0 +1,21 @@
+//! Scripts: read whole, run step by step on a world of their own, with the lines of each step written before the next.
+#![tactic(auto)]
+
+pub mod counted;
+pub mod device;
+mod fault;
+mod lines;
+mod perform;
+mod reply;
+pub mod run;
+mod script;
+pub mod status;
+#[cfg(test)]
+mod tests;
+mod transfer;
+
+pub use counted::Counted;
+pub use device::{DeviceFailed, ScriptReader, ScriptWriter};
+pub use run::run_script;
+pub use status::Status;
+pub use transfer::MOST_READS;

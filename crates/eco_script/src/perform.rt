@@ -1,0 +1,112 @@
+//! Runs one step on a world.
+
+ghost use Rattle.std.specs.Prelude.{◌≡◌, option_map, IfOk};
+ghost use Rattle.eco_world.specs.Plain.{IsSingle};
+ghost use Rattle.eco_script.specs.Answers.{answer_view};
+ghost use Rattle.eco_script.specs.References.{ReadsEntity, ReadsId};
+ghost use Rattle.eco_script.specs.Replies.{Replies};
+ghost use Rattle.eco_script.specs.Steps as steps;
+ghost use Rattle.eco_script.specs.Views.{step_view};
+
+use crate::reply::Reply;
+use crate::script::Step;
+use eco_ids::{Entity, Id, Refusal};
+use eco_query::read_ref;
+use eco_world::{Query, World};
+
+// The entity that a text names.
+#[tactic(auto, unfolding(crate::specs::References::ReadsEntity))]
+fn read_entity(text: &str, world: &World) -> Result<Entity, Refusal>
+    ensures { ReadsEntity world.now text.now result }
+{
+    read_ref(text, world)
+}
+
+// The single id that a text names.
+#[tactic(auto, unfolding(crate::specs::References::ReadsId))]
+fn read_id(text: &str, world: &World) -> Result<Id, Refusal>
+    ensures reads { ReadsId world.now text.now result }
+    ensures single { IfOk result IsSingle }
+{
+    Ok(Id::One(read_entity(text, world)?))
+}
+
+fn create(world: &mut World, name: Option<&str>) -> Result<Reply, Refusal>
+    ensures { Replies world.old (steps.create (option_map (λ s. s.now) name.entry)) (answer_view result) world.new }
+{
+    Ok(Reply::Made(world.create(name)?))
+}
+
+fn add(world: &mut World, entity: &str, id: &str) -> Result<Reply, Refusal>
+    ensures { Replies world.old (steps.add entity.now id.now) (answer_view result) world.new }
+{
+    let entity = read_entity(entity, world)?;
+    let id = read_id(id, world)?;
+    world.add(entity, id)?;
+    Ok(Reply::Done)
+}
+
+fn remove(world: &mut World, entity: &str, id: &str) -> Result<Reply, Refusal>
+    ensures { Replies world.old (steps.remove entity.now id.now) (answer_view result) world.new }
+{
+    let entity = read_entity(entity, world)?;
+    let id = read_id(id, world)?;
+    world.remove(entity, id)?;
+    Ok(Reply::Done)
+}
+
+fn rename(world: &mut World, entity: &str, name: Option<&str>) -> Result<Reply, Refusal>
+    ensures { Replies world.old (steps.rename entity.now (option_map (λ s. s.now) name.entry)) (answer_view result) world.new }
+{
+    let entity = read_entity(entity, world)?;
+    world.rename(entity, name)?;
+    Ok(Reply::Done)
+}
+
+fn has(world: &World, entity: &str, id: &str) -> Result<Reply, Refusal>
+    ensures { Replies world.now (steps.has entity.now id.now) (answer_view result) world.now }
+{
+    let entity = read_entity(entity, world)?;
+    let id = read_id(id, world)?;
+    Ok(Reply::Truth(world.has(entity, id)))
+}
+
+fn show(world: &World, entity: &str) -> Result<Reply, Refusal>
+    ensures { Replies world.now (steps.show entity.now) (answer_view result) world.now }
+{
+    let entity = read_entity(entity, world)?;
+    if world.is_alive(entity) {
+        Ok(Reply::Shown(entity))
+    } else {
+        Err(Refusal::NotAlive)
+    }
+}
+
+fn list(world: &World) -> Result<Reply, Refusal>
+    ensures { Replies world.now steps.list (answer_view result) world.now }
+{
+    Ok(Reply::Listed(world.living()?))
+}
+
+fn query(world: &World, text: &str) -> Result<Reply, Refusal>
+    ensures { Replies world.now (steps.query text.now) (answer_view result) world.now }
+{
+    let query = Query::new(read_id(text, world)?);
+    Ok(Reply::Found(world.query(&query)?))
+}
+
+/// Runs a step on a world.
+pub fn perform(world: &mut World, step: &Step<'_>) -> Result<Reply, Refusal>
+    ensures { Replies world.old (step_view step.now) (answer_view result) world.new }
+{
+    match *step {
+        Step::Create(name) => create(world, name),
+        Step::Add { entity, id } => add(world, entity, id),
+        Step::Remove { entity, id } => remove(world, entity, id),
+        Step::Rename { entity, name } => rename(world, entity, name),
+        Step::Has { entity, id } => has(world, entity, id),
+        Step::Show { entity } => show(world, entity),
+        Step::List => list(world),
+        Step::Query { text } => query(world, text),
+    }
+}

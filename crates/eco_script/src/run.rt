@@ -1,0 +1,109 @@
+//! Runs of scripts.
+
+ghost use Rattle.std.specs.Prelude.{◌≡◌, ◌≢◌, ◌⊎◌, ℕ, ◌+◌, ◌^◌, ◌<◌, ◌≤◌, List, [], Some, IfOk, OnOk, OnErr, IsErrOf, map, length, string_bytes};
+ghost use Rattle.std.specs.Io.KnownBytes.{Appends, Consumes, IsAtEnd, Keeps};
+ghost use Rattle.eco_ids.specs.World.{WorldState};
+ghost use Rattle.eco_script.specs.Beginning.{IsBeginning};
+ghost use Rattle.eco_script.specs.Run.{Ran, WasNotRead, WasStopped};
+ghost use Rattle.eco_script.specs.Text.{Does, Text};
+ghost use Rattle.eco_script.specs.Views.{step_view};
+
+use crate::device::{ScriptReader, ScriptWriter};
+use crate::fault::Fault;
+use crate::perform;
+use crate::reply;
+use crate::script::{Script, Step};
+use crate::status::Status;
+use crate::transfer::{self, MOST_READS};
+use eco_world::World;
+use serde_json::Value;
+use std::alloc::{AllocError, Global};
+
+// Runs a step, and gives its lines. The error is want of memory for the lines.
+fn run_step(alloc: Global, world: &mut World, step: &Step<'_>) -> Result<String, AllocError>
+    ensures { IfOk result (λ s. Does world.old (step_view step.now) (string_bytes s) world.new) }
+{
+    let answer = perform::perform(world, step);
+    reply::step_lines(alloc, world, &answer)
+}
+
+// Runs the steps on a world, and writes the lines of each.
+fn run_steps<W: ScriptWriter>(
+    alloc: Global,
+    world: &mut World,
+    steps: &[Step<'_>],
+    writer: &mut W,
+) -> Result<(), Fault>
+    requires countable { W.failures writer.old + 1 < 2 ^ 64 }
+    ensures ok { OnOk result ((text : List ℕ) × Text world.old (map step_view steps.now) text world.new
+        × Appends (W.held writer.old) (W.held writer.new) text) }
+    ensures err { OnErr result ((part : List ℕ) × (text : List ℕ) × (end : WorldState) × Text world.old (map step_view steps.now) text end
+        × IsBeginning part text × Appends (W.held writer.old) (W.held writer.new) part) }
+    ensures device { IsErrOf result Fault.Device → W.failures writer.new ≡ W.failures writer.old + 1 }
+    ensures read { IsErrOf result Fault.NotRead → ⊥ }
+{
+    for step in steps {
+        let Ok(lines) = run_step(alloc, world, step) else {
+            return Err(Fault::Memory);
+        };
+        let Ok(()) = transfer::write_all(writer, lines.as_str().as_bytes()) else {
+            return Err(Fault::Device);
+        };
+    }
+    Ok(())
+}
+
+// Runs the script that some bytes are, and says why it gave up.
+fn run_bytes<W: ScriptWriter>(alloc: Global, bytes: &[u8], writer: &mut W) -> Result<(), Fault>
+    requires countable { W.failures writer.old + 1 < 2 ^ 64 }
+    ensures ok { OnOk result (Ran (Some bytes.now) (W.held writer.old) (W.held writer.new)) }
+    ensures not_read { IsErrOf result Fault.NotRead → WasNotRead (Some bytes.now) (W.held writer.old) (W.held writer.new) }
+    ensures err { OnErr result (WasStopped (Some bytes.now) (W.held writer.old) (W.held writer.new)) }
+    ensures device { IsErrOf result Fault.Device → W.failures writer.new ≡ W.failures writer.old + 1 }
+{
+    let value = match Value::from_slice(alloc, bytes) {
+        Ok(value) => value,
+        Err(e) if e.is_memory() => return Err(Fault::Memory),
+        Err(_) => return Err(Fault::NotRead),
+    };
+    let script = Script::read(alloc, &value)?;
+    let Ok(mut world) = World::new(alloc, script.limit) else {
+        return Err(Fault::Memory);
+    };
+    run_steps(alloc, &mut world, script.steps.as_slice(), writer)
+}
+
+/// Reads a script to the end of the input, and runs it on a world of its own. Its lines go to the writer, those of a step
+/// before the next step is run.
+///
+/// All work is done on the calling thread, whatever the number of workers, 1 to 64.
+pub fn run_script<R: ScriptReader, W: ScriptWriter>(
+    alloc: Global,
+    reader: &mut R,
+    writer: &mut W,
+    workers: u32,
+) -> Status
+    requires workers { (1 ≤ workers) × (workers ≤ 64) }
+    requires reads { R.calls reader.old + MOST_READS < 2 ^ 64 }
+    requires failed_reads { R.failures reader.old + 1 < 2 ^ 64 }
+    requires failed_writes { W.failures writer.old + 1 < 2 ^ 64 }
+    // The bytes are a script, and the text of a run of it was written.
+    ensures ran { result ≡ Status.Ran → Ran (R.remaining reader.old) (W.held writer.old) (W.held writer.new) }
+    // The bytes are no script, and nothing was written.
+    ensures not_read { result ≡ Status.NotRead → WasNotRead (R.remaining reader.old) (W.held writer.old) (W.held writer.new) }
+    // Nothing was written, or a beginning of such a text.
+    ensures stopped { result ≡ Status.Stopped → WasStopped (R.remaining reader.old) (W.held writer.old) (W.held writer.new) }
+    ensures no_other { result ≢ Status.BadArguments }
+    ensures reads { R.calls reader.new ≤ R.calls reader.old + MOST_READS }
+{
+    let _ = workers;
+    let bytes = match transfer::read_all(alloc, reader) {
+        Ok(bytes) => bytes,
+        Err(_) => return Status::Stopped,
+    };
+    match run_bytes(alloc, bytes.as_slice(), writer) {
+        Ok(()) => Status::Ran,
+        Err(Fault::NotRead) => Status::NotRead,
+        Err(_) => Status::Stopped,
+    }
+}

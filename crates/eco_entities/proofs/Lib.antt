@@ -1,5 +1,6 @@
 pub mod Bearers
 pub mod Bits
+pub mod Kept
 pub mod Levels
 pub mod Lives
 pub mod Marks

@@ -11,135 +11,49 @@ use Rattle.eco_entities.specs.declared.place.Place.{Place}
 use Rattle.eco_entities.proofs.Registers.{cases_entity, registry_same, registry_nameless}
 use Rattle.std.proofs.lemmas.Option.{slice_get_within}
 use Rattle.eco_ids.specs.declared.entity.Entity.{Entity}
-use Rattle.eco_ids.specs.Indices.{Indexed, IndexState, Retired, Free, Living, record_in, is_alive, is_free_in, is_free_at, with_record, with_death, with_new, admitted, raised, next_entity}
+use Rattle.eco_ids.specs.Indices.{Indexed, IndexState, Retired, Free, Living, record_in, record_of, is_alive, is_free_in, is_free_at, with_record, with_death, with_new, admitted, raised, next_entity}
 use Rattle.eco_entities.specs.Registration.{Registration, newcomer, name_of, own_name, with_change, change_in, placed, renamed}
-use Rattle.eco_entities.specs.Registry.{IsRegistry, ChangesAt, Keeps, with_room}
-use Rattle.eco_entities.proofs.States.{slice_get-set_same, slice_get-set_other, free_known, alive_known, record_here, record_at, next_is}
+use Rattle.eco_entities.specs.Changes.{ChangesAt, Keeps}
+use Rattle.eco_entities.specs.Registry.{IsRegistry}
+use Rattle.eco_entities.proofs.States.{slice_get-set_same, alive_known, record_here, record_at}
+use Rattle.eco_entities.proofs.Kept.{record-settled, record_of_free, record-died, record-replaced, record-admitted}
 
--- the name that a state shows at a generation
-abbrev name_in : Option (IndexState Registration) → ℕ → Option (List ℕ)
-name_in o g = option_and_then name_of (record_in o g)
+-- where what is kept changes at one entity, so do the names
+pub names_follow : (w new : Indexed Registration) (e : Entity) (o : Option Registration) → ChangesAt (record_of w) (record_of new) e o → ChangesAt (own_name w) (own_name new) e (option_and_then name_of o)
+names_follow w new e o c = record { here = ap (option_and_then name_of) c.here; others = λ j ne. ap (option_and_then name_of) (c.others j ne) }
 
-living_else : (f g : ℕ) (r : Registration) → g ≢ f → name_in (Some (Living f r)) g ≡ None
-living_else f g r ne = ap (λ b. option_and_then name_of (cond b (Some r) None)) (ne_eqb g f ne)
-
-raised_cases : (f g : ℕ) (b : Bool) → name_in (Some (if b then Free (f + 1) else Retired)) g ≡ None
-raised_cases f g true = refl
-raised_cases f g false = refl
-
-raised_none : (f g : ℕ) → name_in (Some (raised f)) g ≡ None
-raised_none f g = raised_cases f g (nat_lt f 65535)
-
--- at the index only this handle's name changes
-pub own-set : (w : Indexed Registration) (e : Entity) (x y : IndexState Registration) → slice_get w.indices e.index ≡ Some y → ((g : ℕ) → g ≢ e.generation → name_in (Some x) g ≡ name_in (Some y) g) → ChangesAt (own_name w) (own_name (record w { indices = slice_set w.indices e.index x })) e (name_in (Some x) e.generation)
-own-set w e x y here apart_from = record {
-  here = ap (λ o. name_in o e.generation) (slice_get-set_same w.indices e.index x (slice_get_within w.indices e.index y here));
-  others = λ j ne. elim (cases_eq j.index e.index) [
-    | inl i ↦
-        let apart : j.generation ≢ e.generation = λ g. ne (ap (λ n. record { index = n; generation = j.generation }) i ∙ ap (λ n. record { index = e.index; generation = n }) g) in
-        rw i
-        (ap (λ o. name_in o j.generation) (slice_get-set_same w.indices e.index x (slice_get_within w.indices e.index y here))
-        ∙ (apart_from j.generation apart ∙ sym (ap (λ o. name_in o j.generation) here)))
-    | inr i ↦ ap (λ o. name_in o j.generation) (slice_get-set_other w.indices e.index j.index x i)
-  ];
-}
+-- where what is kept stays, so do the names
+pub names_stay : (w new : Indexed Registration) → Keeps (record_of w) (record_of new) → Keeps (own_name w) (own_name new)
+names_stay w new k = record { all = λ e. ap (option_and_then name_of) (k.all e) }
 
 -- a newcomer has its name, and the others keep theirs
 pub own-settled : (w : Indexed Registration) (e : Entity) (name : Option (List ℕ)) → is_free_at w e ≡ true → ChangesAt (own_name w) (own_name (with_record w e (newcomer name))) e name
-own-settled w e name free =
-    let c : ChangesAt (own_name w) (own_name (with_record w e (newcomer name))) e (name_in (Some (Living e.generation (newcomer name))) e.generation) =
-    own-set w e (Living e.generation (newcomer name)) (Free e.generation) (free_known w e free) (λ g ne. living_else e.generation g (newcomer name) ne) in
-    record { here = c.here ∙ ap (option_and_then name_of) (record_here e.generation (newcomer name)); others = c.others }
+own-settled w e name free = names_follow w (with_record w e (newcomer name)) e (Some (newcomer name)) (record-settled w e (newcomer name) free)
 
 pub own_of_free : (w : Indexed Registration) (e : Entity) → is_free_at w e ≡ true → own_name w e ≡ None
-own_of_free w e free = ap (λ o. name_in o e.generation) (free_known w e free)
+own_of_free w e free = ap (option_and_then name_of) (record_of_free w e free)
 
 -- the dead have no name, and the others keep theirs
 pub own-died : (w : Indexed Registration) (e : Entity) → is_alive w e ≡ true → ChangesAt (own_name w) (own_name (with_death w e)) e None
-own-died w e alive =
-    let living : (r : Registration) × (slice_get w.indices e.index ≡ Some (Living e.generation r)) = alive_known w e alive in
-    let c : ChangesAt (own_name w) (own_name (with_death w e)) e (name_in (Some (raised e.generation)) e.generation) =
-    own-set w e (raised e.generation) (Living e.generation living.0) living.1 (λ g ne. raised_none e.generation g ∙ sym (living_else e.generation g living.0 ne)) in
-    record { here = c.here ∙ raised_none e.generation e.generation; others = c.others }
+own-died w e alive = names_follow w (with_death w e) e None (record-died w e alive)
 
 -- a change of what is kept of one entity
-pub own-changed : (w : Indexed Registration) (e : Entity) (change : Registration → Registration) (r : Registration) → slice_get w.indices e.index ≡ Some (Living e.generation r) → ChangesAt (own_name w) (own_name (with_change w e change)) e (name_of (change r))
-own-changed w e change r here =
-    let is : with_change w e change ≡ with_record w e (change r) = ap (change_in w e change) (record_at w e r here) in
-    let c : ChangesAt (own_name w) (own_name (with_record w e (change r))) e (name_in (Some (Living e.generation (change r))) e.generation) =
-    own-set w e (Living e.generation (change r)) (Living e.generation r) here (λ g ne. living_else e.generation g (change r) ne ∙ sym (living_else e.generation g r ne)) in
+pub record-changed : (w : Indexed Registration) (e : Entity) (change : Registration → Registration) (r : Registration) → record_of w e ≡ Some r → ChangesAt (record_of w) (record_of (with_change w e change)) e (Some (change r))
+record-changed w e change r h =
+    let is : with_change w e change ≡ with_record w e (change r) = ap (change_in w e change) h in
+    let c : ChangesAt (record_of w) (record_of (with_record w e (change r))) e (Some (change r)) = record-replaced w e (change r) (ap is_some h) in
     record {
-      here = ap (λ (v : Indexed Registration). own_name v e) is ∙ (c.here ∙ ap (option_and_then name_of) (record_here e.generation (change r)));
-      others = λ j ne. ap (λ (v : Indexed Registration). own_name v j) is ∙ c.others j ne;
+      here = ap (λ (v : Indexed Registration). record_of v e) is ∙ c.here;
+      others = λ j ne. ap (λ (v : Indexed Registration). record_of v j) is ∙ c.others j ne;
     }
+
+pub own-changed : (w : Indexed Registration) (e : Entity) (change : Registration → Registration) (r : Registration) → slice_get w.indices e.index ≡ Some (Living e.generation r) → ChangesAt (own_name w) (own_name (with_change w e change)) e (name_of (change r))
+own-changed w e change r here = names_follow w (with_change w e change) e (Some (change r)) (record-changed w e change r (record_at w e r here))
 
 pub own-renamed : (w : Indexed Registration) (e : Entity) (name : Option (List ℕ)) → is_alive w e ≡ true → ChangesAt (own_name w) (own_name (with_change w e (renamed name))) e name
 own-renamed w e name alive =
     let living : (r : Registration) × (slice_get w.indices e.index ≡ Some (Living e.generation r)) = alive_known w e alive in
     own-changed w e (renamed name) living.0 living.1
-
--- more indices change no name
-own_appended : (xs : List (IndexState Registration)) (n i g : ℕ) → name_in (slice_get (xs ++ replicate n (Free 0)) i) g ≡ name_in (slice_get xs i) g
-own_appended [] zero i g = refl
-own_appended [] (suc n) zero g = refl
-own_appended [] (suc n) (suc i) g = own_appended [] n i g
-own_appended (x ∷ xs) n zero g = refl
-own_appended (x ∷ xs) n (suc i) g = own_appended xs n i g
-
-pub own-admitted : (w : Indexed Registration) (n : ℕ) → Keeps (own_name w) (own_name (admitted n w))
-own-admitted w n = record { all = λ e. own_appended w.indices n e.index e.generation }
-
--- the next entity, once its index is known
-
-fresh_at : {A : Type 0} (xs : List (IndexState A)) → slice_get (xs ++ Free 0 ∷ []) (length xs) ≡ Some (Free 0)
-fresh_at [] = refl
-fresh_at (x ∷ xs) = fresh_at xs
-
-set_fresh : {A : Type 0} (xs : List (IndexState A)) (y : IndexState A) → set (xs ++ Free 0 ∷ []) (length xs) y ≡ xs ++ y ∷ []
-set_fresh [] y = refl
-set_fresh (x ∷ xs) y = ap (λ ys. x ∷ ys) (set_fresh xs y)
-
-room_known : (w : Indexed Registration) (e : Entity) → e.index < length w.indices → with_room w e ≡ w
-room_known w e l = cond-true (nat_lt e.index (length w.indices)) w (admitted 1 w) (lt-ltb _ _ l)
-
-room_fresh : (w : Indexed Registration) (e : Entity) → length w.indices ≤ e.index → with_room w e ≡ admitted 1 w
-room_fresh w e l = cond-false (nat_lt e.index (length w.indices)) w (admitted 1 w) (le-ltb _ _ l)
-
-free_is : {A : Type 0} (w : Indexed A) (e : Entity) → slice_get w.indices e.index ≡ Some (Free e.generation) → is_free_at w e ≡ true
-free_is w e h = ap (λ o. is_free_in o e.generation) h ∙ eq-eqb e.generation e.generation refl
-
--- what the room for the next entity leaves, and what its settling makes
-pub record IsRoom (w : Indexed Registration) (e : Entity) : Type 0 where
-  pub free : is_free_at (with_room w e) e ≡ true
-  pub owns : Keeps (own_name w) (own_name (with_room w e))
-  pub settled : (r : Registration) → with_record (with_room w e) e r ≡ with_new w e r
-
-pub next_has_room : (w : Indexed Registration) (e : Entity) → next_entity w ≡ Some e → IsRoom w e
-next_has_room w e h =
-    elim (next_is w e h) [
-      | inl free ↦
-          let within : e.index < length w.indices = slice_get_within w.indices e.index (Free e.generation) free in
-          record {
-            free = ap (λ (v : Indexed Registration). is_free_at v e) (room_known w e within) ∙ free_is w e free;
-            owns = record { all = λ j. ap (λ (v : Indexed Registration). own_name v j) (room_known w e within) };
-            settled = λ r. ap (λ (v : Indexed Registration). with_record v e r) (room_known w e within)
-                ∙ sym (cond-true (nat_lt e.index (length w.indices)) (with_record w e r) _ (lt-ltb _ _ within));
-          }
-      | inr fresh ↦
-          let index : length w.indices ≡ e.index = ap (λ (x : Entity). x.index) fresh.1 in
-          let generation : 0 ≡ e.generation = ap (λ (x : Entity). x.generation) fresh.1 in
-          let past : length w.indices ≤ e.index = omega arith in
-          let here : slice_get (admitted 1 w).indices e.index ≡ Some (Free e.generation) =
-          ap (λ i. slice_get (w.indices ++ Free 0 ∷ []) i) (sym index) ∙ (fresh_at w.indices ∙ ap (λ g. Some (Free g)) generation) in
-          record {
-            free = ap (λ (v : Indexed Registration). is_free_at v e) (room_fresh w e past) ∙ free_is (admitted 1 w) e here;
-            owns = record { all = λ j. ap (λ (v : Indexed Registration). own_name v j) (room_fresh w e past) ∙ (own-admitted w 1).all j };
-            settled = λ r. ap (λ (v : Indexed Registration). with_record v e r) (room_fresh w e past)
-                ∙ (ap (λ i. record w { indices = set (w.indices ++ Free 0 ∷ []) i (Living e.generation r) }) (sym index)
-                ∙ (ap (λ ys. record w { indices = ys }) (set_fresh w.indices (Living e.generation r))
-                ∙ sym (cond-false (nat_lt e.index (length w.indices)) (with_record w e r) _ (le-ltb _ _ past))));
-          }
-    ]
 
 -- a place is no name
 pub own-placed : (w : Indexed Registration) (e : Entity) (p : Place) → is_alive w e ≡ true → Keeps (own_name w) (own_name (with_change w e (placed p)))
@@ -183,7 +97,7 @@ module _ {found : List ℕ → Option Entity} where
             elim (cases_Bool (nat_le (length w.indices + n) w.limit)) [
               | inl room ↦
                   let done : (r ≡ Ok tt) × (new ≡ admitted n w) = MatchBool-at_true _ _ room admits in
-                  rw done.1 (registry_same g (record { all = λ k. refl }) (own-admitted w n))
+                  rw done.1 (registry_same g (record { all = λ k. refl }) (names_stay w (admitted n w) (record-admitted w n)))
               | inr full ↦
                   let refused : (r ≡ Err NoMoreIds) × (new ≡ w) = MatchBool-at_false _ _ full admits in
                   rw refused.1 g

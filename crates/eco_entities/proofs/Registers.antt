@@ -6,7 +6,8 @@ use Rattle.std.proofs.lemmas.Slice.Eq.{bytes_eq-Decides}
 use Rattle.std.specs.Str.{bytes_eq}
 use Rattle.eco_ids.specs.declared.entity.Entity.{Entity}
 use Rattle.eco_ids.specs.Names.{is_proper, is_name}
-use Rattle.eco_entities.specs.Registry.{IsRegistry, ChangesAt, Keeps}
+use Rattle.eco_entities.specs.Changes.{ChangesAt, Keeps}
+use Rattle.eco_entities.specs.Registry.{IsRegistry}
 
 -- two texts are equal or not
 pub cases_text : (xs ys : List ℕ) → (xs ≡ ys) ⊎ (xs ≢ ys)

@@ -8,7 +8,7 @@ use Rattle.std.specs.String.{string_eq}
 use Rattle.std.proofs.lemmas.Bool.{cases_Bool, false≢true, cond-true, cond-false, false_from_ne_true}
 use Rattle.std.proofs.lemmas.Map.Text.{is_text, hash_map_text_same}
 use Rattle.std.proofs.lemmas.Slice.Eq.{bytes_eq-Decides}
-use Rattle.eco_entities.specs.Registry.{ChangesAt}
+use Rattle.eco_entities.specs.Changes.{ChangesAt}
 
 -- the bytes are those of some key, or nothing is found under them
 key_or_none : {Y X : Type 0} (bs : List ℕ) (es : List (String Y × X)) → (lookup (is_text bs) es ≡ None) ⊎ ((k : String Y) × (bs ≡ string_bytes k))

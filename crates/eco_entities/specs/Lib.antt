@@ -1,3 +1,4 @@
+pub mod Changes
 pub mod FreeBits
 pub mod Registration
 pub mod Registry

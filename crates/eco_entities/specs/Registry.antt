@@ -1,10 +1,9 @@
 -- Which names are in use, and by whom.
-use Rattle.std.specs.Prelude.{◌≡◌, ◌≢◌, ℕ, true, nat_lt, List, length, Option, Some, if◌then◌else◌}
+use Rattle.std.specs.Prelude.{◌≡◌, ℕ, true, nat_lt, List, length, Option, Some, if◌then◌else◌}
 use Rattle.std.specs.HashMap.{get_by_text}
 use Rattle.eco_ids.specs.declared.entity.Entity.{Entity}
 use Rattle.eco_ids.specs.Indices.{Indexed, admitted}
 use Rattle.eco_ids.specs.Names.{is_proper}
-use Rattle.eco_entities.specs.Registration.{Registration}
 use Rattle.eco_entities.specs.declared.names.Names.{Names}
 
 -- the entity that is found under a name
@@ -17,15 +16,6 @@ pub record IsRegistry (found : List ℕ → Option Entity) (own : Entity → Opt
   pub listed : (name : List ℕ) (e : Entity) → own e ≡ Some name → found name ≡ Some e
   pub proper : (e : Entity) → is_proper (own e) ≡ true
 
--- another answer at one place, the old ones at the others
-pub record ChangesAt {K V : Type 0} (old new : K → V) (k : K) (v : V) : Type 0 where
-  pub here : new k ≡ v
-  pub others : (j : K) → j ≢ k → new j ≡ old j
-
--- the same answers
-pub record Keeps {K V : Type 0} (old new : K → V) : Type 0 where
-  pub all : (k : K) → new k ≡ old k
-
 -- the entity's index is known
-abbrev pub with_room : Indexed Registration → Entity → Indexed Registration
+abbrev pub with_room : {A : Type 0} → Indexed A → Entity → Indexed A
 with_room w e = if nat_lt e.index (length w.indices) then w else admitted 1 w

@@ -20,7 +20,8 @@ pub(crate) struct NewName {
 }
 
 impl Names {
-    ghost use Rattle.eco_entities.specs.Registry.{ChangesAt, Keeps, entity_of};
+    ghost use Rattle.eco_entities.specs.Changes.{ChangesAt, Keeps};
+    ghost use Rattle.eco_entities.specs.Registry.{entity_of};
 
     /// No name is in use.
     pub(crate) fn new(alloc: Global) -> Names

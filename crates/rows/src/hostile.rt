@@ -1,6 +1,7 @@
 //! Bytes that are no script.
 
 use crate::worked::is_not_read;
+use std::alloc::{AllocError, Global};
 use std::test::Fail;
 
 #[test]
@@ -32,18 +33,25 @@ fn other_shapes(rt: HostRuntime) {
     is_not_read(&rt, rt.alloc(), b"[1, 64, [[\"create\", \"\xff\"]]");
 }
 
-// Lists in lists, deeper than a text may nest.
+// A text, lists in one another to a depth, and another text.
+fn nested(alloc: Global, before: &str, depth: u32, after: &str) -> Result<String, AllocError> {
+    let mut text = String::from_str(alloc, before)?;
+    for _ in 0..depth {
+        text.push('[')?;
+    }
+    for _ in 0..depth {
+        text.push(']')?;
+    }
+    text.push_str(after)?;
+    Ok(text)
+}
+
+// Lists in lists, deeper than a JSON text may nest.
 #[test]
 fn nested_lists(rt: HostRuntime) -> Result<(), Fail> {
-    let mut bytes = Vec::new(rt.alloc());
-    bytes.extend_from_slice(b"[1, 64, ")?;
-    for _ in 0..130 {
-        bytes.push(b'[')?;
-    }
-    for _ in 0..131 {
-        bytes.push(b']')?;
-    }
-    is_not_read(&rt, rt.alloc(), bytes.as_slice());
-    is_not_read(&rt, rt.alloc(), &bytes.as_slice()[8..268]);
+    let lists = nested(rt.alloc(), "", 130, "")?;
+    is_not_read(&rt, rt.alloc(), lists.as_str().as_bytes());
+    let steps = nested(rt.alloc(), "[1, 64, ", 130, "]")?;
+    is_not_read(&rt, rt.alloc(), steps.as_str().as_bytes());
     Ok(())
 }

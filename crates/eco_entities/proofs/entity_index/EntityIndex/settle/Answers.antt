@@ -5,7 +5,8 @@ use Rattle.eco_entities.specs.Registry.{IsRegistry, entity_of, with_room}
 use Rattle.eco_ids.specs.Births.{unfit_name}
 use Rattle.eco_entities.proofs.Bearers.{registry_bearer}
 use Rattle.eco_entities.proofs.Renaming.{name_fit}
-use Rattle.eco_entities.proofs.Owners.{IsRoom, next_has_room, own-settled, own_of_free}
+use Rattle.eco_entities.proofs.Kept.{IsRoom, next_has_room}
+use Rattle.eco_entities.proofs.Owners.{names_stay, own-settled, own_of_free}
 use Rattle.eco_entities.proofs.Registers.{registry_same, registry_gain, registry_nameless}
 use Rattle.eco_entities.proofs.entity_index.EntityIndex.settle.Goals as goal
 
@@ -18,7 +19,7 @@ pub invariant_of-self-in_default : goal.invariant_of-self-in_default
 invariant_of-self-in_default c =
     let room : IsRoom c.self.inside.slots c.args.entity = next_has_room c.self.inside.slots c.args.entity (ap next_entity c.self.view_is ∙ c.requires.next) in
     rw (c.settle.ensures, c.in_ok-make_room.ensures.ok)
-    (registry_nameless c.args.entity (registry_same c.self.invariant (record { all = λ k. refl }) room.owns) (own_of_free (with_room c.self.inside.slots c.args.entity) c.args.entity room.free)
+    (registry_nameless c.args.entity (registry_same c.self.invariant (record { all = λ k. refl }) (names_stay c.self.inside.slots (with_room c.self.inside.slots c.args.entity) room.keeps)) (own_of_free (with_room c.self.inside.slots c.args.entity) c.args.entity room.free)
     (record { all = λ k. refl }) (own-settled (with_room c.self.inside.slots c.args.entity) c.args.entity None room.free))
 
 pub returns-in_default-clause-ok : goal.returns-in_default-clause-ok
@@ -42,7 +43,7 @@ invariant_of-self-2 c =
     let free : entity_of c.prepare.new.self c.in-Some.text.now ≡ None =
     registry_bearer (entity_of c.prepare.new.self) c.self.inside.slots c.in-Some.text.now kept ∙ (name_fit c.self.inside.slots c.in-Some.text.now fit).1 in
     rw (c.settle-2.ensures, c.in_ok-make_room-2.ensures.ok, c.in_ok-listed.ensures.own)
-    (registry_gain c.in-Some.text.now c.args.entity (registry_same kept (record { all = λ k. refl }) room.owns)
+    (registry_gain c.in-Some.text.now c.args.entity (registry_same kept (record { all = λ k. refl }) (names_stay c.self.inside.slots (with_room c.self.inside.slots c.args.entity) room.keeps))
     (own_of_free (with_room c.self.inside.slots c.args.entity) c.args.entity room.free) free (name_fit c.self.inside.slots c.in-Some.text.now fit).0
     (rw c.in_ok-listed.ensures.listed at c.insert.ensures)
     (own-settled (with_room c.self.inside.slots c.args.entity) c.args.entity (Some c.in-Some.text.now) room.free))

@@ -1,0 +1,282 @@
+-- The store after an entity came to live in a row of its own.
+use Rattle.std.proofs.Common.{◌≡◌, ◌≢◌, ℕ, ◌≤◌, List, [], ◌∷◌, ◌++◌, map, length, slice_get, set, Option, Some, None, option_map, unwrap_or, is_some, IsTrue, replicate, Bool, true, false, ◌&&◌, nat_le, MatchBool, Result, Ok, Err, MatchOption, zero, suc, ◌+◌, ◌<◌, refl, sym, ap, subst, ◌∙◌, arith, inl, inr}
+use Rattle.std.proofs.lemmas.Bool.{cases_eq}
+use Rattle.std.proofs.lemmas.List.{length-map}
+use Rattle.eco_ids.specs.declared.entity.Entity.{Entity}
+use Rattle.eco_ids.specs.declared.id.Id.{Id}
+use Rattle.eco_ids.specs.declared.refusal.Refusal.{Refusal}
+use Rattle.eco_ids.specs.declared.refusal.Refusal.TheVariants.{NoMoreIds}
+use Rattle.eco_ids.specs.Births.{Admits, may_admit, unfit_name}
+use Rattle.eco_ids.specs.Outcome.{Meets, is_out_of_memory, Answers, Refuses}
+use Rattle.eco_ids.specs.declared.value.Value.{Value}
+use Rattle.eco_ids.specs.Indices.{Indexed, IndexState, Retired, Free, Living, record_of, with_record, with_new, next_entity, is_alive, is_free_at, is_free_in, map_state, admitted}
+use Rattle.eco_tables.specs.Column.{retyped}
+use Rattle.eco_tables.specs.Table.{TableState, Row}
+use Rattle.eco_tables.specs.Tables.{slot_of, table_in, Sets, with_row, no_table}
+use Rattle.eco_entities.specs.declared.place.Place.{Place}
+use Rattle.eco_entities.specs.Registration.{Registration, name_of, newcomer, with_change, change_in, placed}
+use Rattle.eco_store.specs.Placing.{Opposes}
+use Rattle.eco_store.specs.Seats.{Seat, IsSeated, seat_of, row_at, seen, held_of, SameRows}
+use Rattle.eco_store.specs.Store.{Kept, kept_name, kept, read, seat_in, seat_at, HasPlace, IsStore, all_zeros, newborn}
+use Rattle.eco_store.proofs.Moves.{slice_get-map, push_seated, push_others_seen, push_held}
+use Rattle.eco_store.proofs.Views.{ext_slice_get, slice_get-set_same, slice_get-set_other, living_at, record_at, bare_at, seen_alike}
+use Rattle.eco_store.proofs.Newborn.{unfit_name-map, next_entity-map, Vacant, born_here, born_other, born_limit, next_is}
+use Rattle.eco_store.proofs.StoreChanges.{same_store}
+
+no_seat : (o : Option (IndexState Registration)) → Vacant o → seat_in o ≡ None
+no_seat None v = refl
+no_seat (Some Retired) v = refl
+no_seat (Some (Free g)) v = refl
+no_seat (Some (Living g r)) v = absurd v
+
+module _ (w w1 : Indexed Registration) (s s0 s1 : List (Option TableState)) (e : Entity) (slot end : ℕ) (ids : List Id) (name : Option (List ℕ))
+    (store : IsStore w s) (alike : SameRows s s0) (typed : (table_in s0 slot).ids ≡ ids)
+    (vacant : Vacant (slice_get w.indices e.index))
+    (here1 : slice_get w1.indices e.index ≡ Some (Living e.generation (newcomer name)))
+    (others1 : (j : ℕ) → j ≢ e.index → slice_get w1.indices j ≡ slice_get w.indices j)
+    (limit1 : w1.limit ≡ w.limit)
+    (sets : Sets s0 s1 slot (Some (with_row (table_in s0 slot) (record { entity = e; held = [] })))) (end_is : end ≡ length (table_in s0 slot).rows) where
+  abbrev place : Place
+  place = record { table = slot; row = end }
+
+  abbrev settled : Registration
+  settled = placed place (newcomer name)
+
+  abbrev w2 : Indexed Registration
+  w2 = with_change w1 e (placed place)
+
+  abbrev w2' : Indexed Registration
+  w2' = with_record w1 e settled
+
+  w2_is : w2 ≡ w2'
+  w2_is = ap (change_in w1 e (placed place)) (record_at w1 e (newcomer name) here1)
+
+  w2_here : slice_get w2'.indices e.index ≡ Some (Living e.generation settled)
+  w2_here = slice_get-set_same w1.indices e.index (Living e.generation settled) (Living e.generation (newcomer name)) here1
+
+  w2_others : (j : ℕ) → j ≢ e.index → slice_get w2'.indices j ≡ slice_get w.indices j
+  w2_others j other = slice_get-set_other w1.indices e.index j (Living e.generation settled) other ∙ others1 j other
+
+  ready : IsStore w s0
+  ready = same_store w s s0 alike store
+
+  seat_now : seat_at w2' e.index ≡ Some (seat_of e slot end)
+  seat_now = ap seat_in w2_here
+
+  seats_kept : (j : ℕ) → j ≢ e.index → seat_at w2' j ≡ seat_at w j
+  seats_kept j other = ap seat_in (w2_others j other)
+
+  rows_s : row_at s0 ≡ row_at s
+  rows_s = λ t n k. alike n k t
+
+  pub born_store : IsStore w2 s1
+  born_store = subst (λ v. IsStore v s1) (sym w2_is) (record {
+    seated = push_seated (seat_at w) (seat_at w2') s0 s1 e slot end ready.seated (no_seat _ vacant) sets end_is seat_now seats_kept;
+    placed = λ j. elim (cases_eq j e.index) [
+      | inl h ↦ subst HasPlace (sym (ap (slice_get w2'.indices) h ∙ w2_here)) refl
+      | inr other ↦ subst HasPlace (sym (w2_others j other)) (store.placed j)
+    ];
+  })
+
+  abbrev child : Kept
+  child = newborn name ids
+
+  held_now : held_of (row_at s1 slot end) ≡ all_zeros ids
+  held_now =
+      let seen_now = push_held (seat_at w) (seat_at w2') s0 s1 e slot end ready.seated (no_seat _ vacant) sets end_is seat_now seats_kept in
+      let at = sym (ap (option_map (seen (row_at s1))) seat_now) ∙ seen_now in
+      (let same : held_of (row_at s1 slot end) ≡ retyped (table_in s0 slot).ids [] = cc in same) ∙ ap (λ is. retyped is []) typed
+
+  seen_here : slice_get (read w2' s1).indices e.index ≡ Some (Living e.generation child)
+  seen_here =
+      slice_get-map (map_state (kept (row_at s1))) w2'.indices e.index ∙ ap (option_map (map_state (kept (row_at s1)))) w2_here
+      ∙ (λ t. Some (Living e.generation (record { name = name; held = held_now t })))
+
+  seen_others : (j : ℕ) → j ≢ e.index → slice_get (read w2' s1).indices j ≡ slice_get (read w s).indices j
+  seen_others j other =
+      seen_alike w w2' s s1 j (ap (option_map (map_state (λ (r : Registration). r.name))) (w2_others j other))
+      (push_others_seen (seat_at w) (seat_at w2') s0 s1 e slot end ready.seated (no_seat _ vacant) sets end_is seat_now seats_kept j other
+      ∙ ap (λ E. option_map (seen E) (seat_at w j)) rows_s)
+
+  -- where it is a new one
+  pub born_read : e.index ≤ length w.indices → read w2 s1 ≡ with_new (read w s) e child
+  born_read near =
+      let near' : e.index ≤ length (read w s).indices = rw length-map near in
+      let indices : (read w2' s1).indices ≡ (with_new (read w s) e child).indices =
+      ext_slice_get (read w2' s1).indices (with_new (read w s) e child).indices
+      (λ j. elim (cases_eq j e.index) [
+        | inl h ↦ ap (slice_get (read w2' s1).indices) h ∙ seen_here ∙ sym (ap (slice_get (with_new (read w s) e child).indices) h ∙ born_here (read w s) e child near')
+        | inr other ↦ seen_others j other ∙ sym (born_other (read w s) e child near' j other)
+      ]) in
+      let limits : w1.limit ≡ (with_new (read w s) e child).limit = limit1 ∙ sym (born_limit (read w s) e child near') in
+      ap (λ v. read v s1) w2_is ∙ (λ t. record { limit = limits t; indices = indices t })
+
+  -- where its index was known
+  pub revived_read : (x : IndexState Registration) → slice_get w.indices e.index ≡ Some x → read w2 s1 ≡ with_record (read w s) e child
+  revived_read x was =
+      let old : slice_get (read w s).indices e.index ≡ Some (map_state (kept (row_at s)) x) =
+      slice_get-map (map_state (kept (row_at s))) w.indices e.index ∙ ap (option_map (map_state (kept (row_at s)))) was in
+      let indices : (read w2' s1).indices ≡ (with_record (read w s) e child).indices =
+      ext_slice_get (read w2' s1).indices (with_record (read w s) e child).indices
+      (λ j. elim (cases_eq j e.index) [
+        | inl h ↦
+            ap (slice_get (read w2' s1).indices) h ∙ seen_here
+            ∙ sym (ap (slice_get (with_record (read w s) e child).indices) h ∙ slice_get-set_same (read w s).indices e.index (Living e.generation child) _ old)
+        | inr other ↦ seen_others j other ∙ sym (slice_get-set_other (read w s).indices e.index j (Living e.generation child) other)
+      ]) in
+      ap (λ v. read v s1) w2_is ∙ (λ t. record { limit = limit1 t; indices = indices t })
+
+-- a free handle
+pub free_is : {A : Type 0} (w : Indexed A) (e : Entity) → IsTrue (is_free_at w e) → (g : ℕ) × (slice_get w.indices e.index ≡ Some (Free g))
+free_is {A} w e = by (slice_get w.indices e.index)
+  where
+    by : (o : Option (IndexState A)) → IsTrue (is_free_in o e.generation) → (g : ℕ) × (o ≡ Some (Free g))
+    by None h = absurd (cc)
+    by (Some Retired) h = absurd (cc)
+    by (Some (Free g)) h = (g, refl)
+    by (Some (Living g r)) h = absurd (cc)
+
+pub is_free_at-read : (w : Indexed Registration) (s : List (Option TableState)) (e : Entity) → is_free_at (read w s) e ≡ is_free_at w e
+is_free_at-read w s e = ap (λ o. is_free_in o e.generation) (slice_get-map (map_state (kept (row_at s))) w.indices e.index) ∙ by (slice_get w.indices e.index)
+  where
+    by : (o : Option (IndexState Registration)) → is_free_in (option_map (map_state (kept (row_at s))) o) e.generation ≡ is_free_in o e.generation
+    by None = refl
+    by (Some Retired) = refl
+    by (Some (Free g)) = refl
+    by (Some (Living g r)) = refl
+
+-- ---- more indices become known
+
+map-append : {X Y : Type 0} (f : X → Y) (xs ys : List X) → map f (xs ++ ys) ≡ map f xs ++ map f ys
+map-append f [] ys = refl
+map-append f (x ∷ xs) ys = ap (λ zs. f x ∷ zs) (map-append f xs ys)
+
+map-replicate : {X Y : Type 0} (f : X → Y) (n : ℕ) (x : X) → map f (replicate n x) ≡ replicate n (f x)
+map-replicate f zero x = refl
+map-replicate f (suc n) x = ap (λ zs. f x ∷ zs) (map-replicate f n x)
+
+fresh_seat : (xs : List (IndexState Registration)) (n j : ℕ) → seat_in (slice_get (xs ++ replicate n (Free 0)) j) ≡ seat_in (slice_get xs j)
+fresh_seat [] zero j = refl
+fresh_seat [] (suc n) zero = refl
+fresh_seat [] (suc n) (suc j) = fresh_seat [] n j
+fresh_seat (x ∷ xs) n zero = refl
+fresh_seat (x ∷ xs) n (suc j) = fresh_seat xs n j
+
+fresh_placed : (xs : List (IndexState Registration)) (n j : ℕ) → HasPlace (slice_get xs j) → HasPlace (slice_get (xs ++ replicate n (Free 0)) j)
+fresh_placed [] zero j had = had
+fresh_placed [] (suc n) zero had = tt
+fresh_placed [] (suc n) (suc j) had = fresh_placed [] n j tt
+fresh_placed (x ∷ xs) n zero had = had
+fresh_placed (x ∷ xs) n (suc j) had = fresh_placed xs n j had
+
+pub admitted_store : (w : Indexed Registration) (s : List (Option TableState)) (n : ℕ) → IsStore w s → IsStore (admitted n w) s
+admitted_store w s n store = record {
+  seated = subst (λ P. IsSeated P (row_at s)) (sym (λ t j. fresh_seat w.indices n j t)) store.seated;
+  placed = λ j. fresh_placed w.indices n j (store.placed j);
+}
+
+pub admitted_read : (w : Indexed Registration) (s : List (Option TableState)) (n : ℕ) → read (admitted n w) s ≡ admitted n (read w s)
+admitted_read w s n =
+    λ t. record { limit = w.limit; indices = (map-append (map_state (kept (row_at s))) w.indices (replicate n (Free 0)) ∙ ap (λ ys. map (map_state (kept (row_at s))) w.indices ++ ys) (map-replicate (map_state (kept (row_at s))) n (Free 0))) t }
+
+-- ---- a created entity
+module _ (w w1 : Indexed Registration) (s s0 s1 : List (Option TableState)) (e : Entity) (slot : ℕ) (ids : List Id) (name : Option (List ℕ))
+    (store : IsStore w s) (alike : SameRows s s0) (typed : (table_in s0 slot).ids ≡ ids)
+    (next : next_entity w ≡ Some e) (is : w1 ≡ with_new w e (newcomer name))
+    (sets : Sets s0 s1 slot (Some (with_row (table_in s0 slot) (record { entity = e; held = [] })))) where
+  near_end : e.index ≤ length w.indices
+  near_end = (next_is w e next).0
+
+  created_here : slice_get w1.indices e.index ≡ Some (Living e.generation (newcomer name))
+  created_here = ap (λ (v : Indexed Registration). slice_get v.indices e.index) is ∙ born_here w e (newcomer name) near_end
+
+  created_others : (j : ℕ) → j ≢ e.index → slice_get w1.indices j ≡ slice_get w.indices j
+  created_others j other = ap (λ (v : Indexed Registration). slice_get v.indices j) is ∙ born_other w e (newcomer name) near_end j other
+
+  created_limit : w1.limit ≡ w.limit
+  created_limit = ap (λ (v : Indexed Registration). v.limit) is ∙ born_limit w e (newcomer name) near_end
+
+  abbrev created_place : Place
+  created_place = record { table = slot; row = length (table_in s0 slot).rows }
+
+  pub created_store : IsStore (with_change w1 e (placed created_place)) s1
+  created_store =
+      born_store w w1 s s0 s1 e slot (length (table_in s0 slot).rows) ids name store alike typed (next_is w e next).1 created_here created_others created_limit sets refl
+
+  pub created_read : read (with_change w1 e (placed created_place)) s1 ≡ with_new (read w s) e (newborn name ids)
+  created_read =
+      born_read w w1 s s0 s1 e slot (length (table_in s0 slot).rows) ids name store alike typed (next_is w e next).1 created_here created_others created_limit sets refl near_end
+
+pub created_alive : (w w1 : Indexed Registration) (e : Entity) (name : Option (List ℕ)) → next_entity w ≡ Some e → w1 ≡ with_new w e (newcomer name) → IsTrue (is_alive w1 e)
+created_alive w w1 e name next is =
+    ap is_some (record_at w1 e (newcomer name) (ap (λ (v : Indexed Registration). slice_get v.indices e.index) is ∙ born_here w e (newcomer name) (next_is w e next).0))
+
+-- ---- a revived entity
+module _ (w w1 : Indexed Registration) (s s0 s1 : List (Option TableState)) (e : Entity) (slot : ℕ) (ids : List Id) (name : Option (List ℕ))
+    (store : IsStore w s) (alike : SameRows s s0) (typed : (table_in s0 slot).ids ≡ ids)
+    (free : IsTrue (is_free_at w e)) (is : w1 ≡ with_record w e (newcomer name))
+    (sets : Sets s0 s1 slot (Some (with_row (table_in s0 slot) (record { entity = e; held = [] })))) where
+  found : (g : ℕ) × (slice_get w.indices e.index ≡ Some (Free g))
+  found = free_is w e free
+
+  revived_vacant : Vacant (slice_get w.indices e.index)
+  revived_vacant = subst Vacant (sym found.1) tt
+
+  revived_here : slice_get w1.indices e.index ≡ Some (Living e.generation (newcomer name))
+  revived_here = ap (λ (v : Indexed Registration). slice_get v.indices e.index) is ∙ slice_get-set_same w.indices e.index (Living e.generation (newcomer name)) (Free found.0) found.1
+
+  revived_others : (j : ℕ) → j ≢ e.index → slice_get w1.indices j ≡ slice_get w.indices j
+  revived_others j other = ap (λ (v : Indexed Registration). slice_get v.indices j) is ∙ slice_get-set_other w.indices e.index j (Living e.generation (newcomer name)) other
+
+  revived_limit : w1.limit ≡ w.limit
+  revived_limit = ap (λ (v : Indexed Registration). v.limit) is
+
+  abbrev revived_place : Place
+  revived_place = record { table = slot; row = length (table_in s0 slot).rows }
+
+  pub revived_store : IsStore (with_change w1 e (placed revived_place)) s1
+  revived_store =
+      born_store w w1 s s0 s1 e slot (length (table_in s0 slot).rows) ids name store alike typed revived_vacant revived_here revived_others revived_limit sets refl
+
+  pub revived_seen : read (with_change w1 e (placed revived_place)) s1 ≡ with_record (read w s) e (newborn name ids)
+  revived_seen =
+      revived_read w w1 s s0 s1 e slot (length (table_in s0 slot).rows) ids name store alike typed revived_vacant revived_here revived_others revived_limit sets refl
+      (Free found.0) found.1
+
+pub revived_alive : (w w1 : Indexed Registration) (e : Entity) (name : Option (List ℕ)) → IsTrue (is_free_at w e) → w1 ≡ with_record w e (newcomer name) → IsTrue (is_alive w1 e)
+revived_alive w w1 e name free is =
+    let was = free_is w e free in
+    ap is_some (record_at w1 e (newcomer name) (ap (λ (v : Indexed Registration). slice_get v.indices e.index) is ∙ slice_get-set_same w.indices e.index (Living e.generation (newcomer name)) (Free was.0) was.1))
+
+-- where the name is unfit, that stands against the entity
+pub name_opposes : (unfit : Option Refusal) (next : Option Entity) (why : Refusal)
+    → MatchOption unfit (◌≡◌ {A = Result (Unit {0}) Refusal} (Err why) (Ok tt)) (λ x. ◌≡◌ {A = Result (Unit {0}) Refusal} (Err why) (Err x)) → Opposes unfit next (Err why)
+name_opposes None next why h = absurd (cc)
+name_opposes (Some x) next why h = h
+
+pub admit_lifts : (w w1 : Indexed Registration) (s : List (Option TableState)) (n : ℕ) (some : Bool) (r : Result (Unit {0}) Refusal)
+    → Meets (Admits w n) (may_admit w n && some) w r w1
+    → (IsStore w s → IsStore w1 s) × Meets (Admits (read w s) n) (may_admit (read w s) n && some) (read w s) r (read w1 s)
+admit_lifts w w1 s n some r h = by (is_out_of_memory r) h
+  where
+    fits : nat_le (length (read w s).indices + n) w.limit ≡ nat_le (length w.indices + n) w.limit
+    fits = ap (λ l. nat_le (l + n) w.limit) (length-map w.indices (map_state (kept (row_at s))))
+
+    ends : (b : Bool) → MatchBool b (Answers tt (admitted n w) r w1) (Refuses NoMoreIds w r w1)
+        → (IsStore w s → IsStore w1 s) × MatchBool b (Answers tt (admitted n (read w s)) r (read w1 s)) (Refuses NoMoreIds (read w s) r (read w1 s))
+    ends true q = (λ store. subst (λ v. IsStore v s) (sym q.1) (admitted_store w s n store), (q.0, ap (λ v. read v s) q.1 ∙ admitted_read w s n))
+    ends false q = (λ store. subst (λ v. IsStore v s) (sym q.1) store, (q.0, ap (λ v. read v s) q.1))
+
+    by : (b : Bool) → MatchBool b (IsTrue (may_admit w n && some) × (w1 ≡ w)) (Admits w n r w1)
+        → (IsStore w s → IsStore w1 s) × MatchBool b (IsTrue (may_admit (read w s) n && some) × (read w1 s ≡ read w s)) (Admits (read w s) n r (read w1 s))
+    by true q = (λ store. subst (λ v. IsStore v s) (sym q.1) store, (ap (λ b. b && some) fits ∙ q.0, ap (λ v. read v s) q.1))
+    by false q =
+        let e = ends (nat_le (length w.indices + n) w.limit) q in
+        (e.0, subst (λ b. MatchBool b (Answers tt (admitted n (read w s)) r (read w1 s)) (Refuses NoMoreIds (read w s) r (read w1 s))) (sym fits) e.1)
+
+-- what stands against a new entity is seen of the store
+pub opposes_seen : (w : Indexed Registration) (s : List (Option TableState)) (name : Option (List ℕ)) (r : Result (Unit {0}) Refusal)
+    → Opposes (unfit_name name_of w name) (next_entity w) r → Opposes (unfit_name kept_name (read w s) name) (next_entity (read w s)) r
+opposes_seen w s name r h =
+    subst (λ u. Opposes u (next_entity (read w s)) r) (sym (unfit_name-map (kept (row_at s)) name_of kept_name (λ a. refl) w name))
+    (subst (λ n. Opposes (unfit_name name_of w name) n r) (sym (next_entity-map (kept (row_at s)) name_of kept_name (λ a. refl) w)) h)

@@ -1,0 +1,13 @@
+pub mod ArchetypeLemmas
+pub mod Ids
+pub mod Listed
+pub mod Moves
+pub mod RowChanges
+pub mod SeatChanges
+pub mod TypeMaps
+pub mod Views
+pub mod StoreChanges
+pub mod Newborn
+pub mod BirthChanges
+pub mod Values
+pub mod Listings

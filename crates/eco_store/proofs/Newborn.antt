@@ -1,0 +1,271 @@
+-- A new entity: what is known of the indices, and what a store shows of them.
+use Rattle.std.proofs.Common.{◌≡◌, ◌≢◌, ℕ, zero, suc, ◌<◌, ◌≤◌, ◌+◌, ◌==◌, Bool, true, false, true≢false, not, ◌&&◌, nat_lt, List, [], ◌∷◌, ◌++◌, map, length, slice_get, set, Option, Some, None, option_map, unwrap_or, is_some, IsSome, IsTrue, if◌then◌else◌, find, Result, Ok, Err, MatchBool, MatchOption, refl, sym, ap, subst, ◌∙◌, arith, inl, inr}
+use Rattle.std.specs.Option.{option_or}
+use Rattle.std.proofs.lemmas.Bool.{cases_eq}
+use Rattle.std.proofs.lemmas.List.{length-map}
+use Rattle.std.proofs.lemmas.Bool.Decides.{nat_tests}
+use Rattle.eco_ids.specs.declared.entity.Entity.{Entity}
+use Rattle.eco_ids.specs.declared.refusal.Refusal.{Refusal}
+use Rattle.eco_ids.specs.Births.{unfit_name, Makes, may_make}
+use Rattle.eco_ids.specs.Indices.{Indexed, IndexState, Retired, Free, Living, record_of, is_free_at, is_free_in, with_record, with_new, next_entity, lowest_free, living, living_from, map_state}
+use Rattle.eco_ids.specs.declared.refusal.Refusal.TheVariants.{BadName, NameTaken, NoMoreIds}
+use Rattle.eco_ids.specs.Names.{is_called, bearer, is_borne, is_proper}
+use Rattle.eco_ids.specs.Outcome.{first_refusal, Meets, is_out_of_memory, Refuses, Answers}
+use Rattle.eco_store.specs.Placing.{Opposes}
+use Rattle.eco_store.proofs.Moves.{slice_get-map}
+use Rattle.eco_store.proofs.Views.{slice_get-set_same, slice_get-set_other}
+
+-- nobody lives there
+abbrev pub Vacant : {A : Type 0} → Option (IndexState A) → Type 0
+Vacant None = Unit {0}
+Vacant (Some Retired) = ⊥
+Vacant (Some (Free g)) = Unit {0}
+Vacant (Some (Living g r)) = ⊥
+
+push_here : {X : Type 0} (xs : List X) (x : X) → slice_get (xs ++ x ∷ []) (length xs) ≡ Some x
+push_here [] x = refl
+push_here (y ∷ ys) x = push_here ys x
+
+push_other : {X : Type 0} (xs : List X) (x : X) (j : ℕ) → j ≢ length xs → slice_get (xs ++ x ∷ []) j ≡ slice_get xs j
+push_other [] x zero other = absurd (other refl)
+push_other [] x (suc j) other = refl
+push_other (y ∷ ys) x zero other = refl
+push_other (y ∷ ys) x (suc j) other = push_other ys x j (λ e. other (ap suc e))
+
+get_below : {X : Type 0} (xs : List X) (j : ℕ) → j < length xs → (x : X) × (slice_get xs j ≡ Some x)
+get_below [] j h = absurd (omega arith)
+get_below (x ∷ xs) zero h = (x, refl)
+get_below (x ∷ xs) (suc j) h = get_below xs j (omega arith)
+
+module _ {A : Type 0} (w : Indexed A) (e : Entity) (d : A) (near : e.index ≤ length w.indices) where
+  pub born_here : slice_get (with_new w e d).indices e.index ≡ Some (Living e.generation d)
+  born_here = by (nat_lt e.index (length w.indices)) refl
+    where
+      by : (b : Bool) → nat_lt e.index (length w.indices) ≡ b
+          → slice_get (if b then with_record w e d else record w { indices = w.indices ++ Living e.generation d ∷ [] }).indices e.index ≡ Some (Living e.generation d)
+      by true h =
+          let below : e.index < length w.indices = grind (arith, nat_tests) in
+          let had = get_below w.indices e.index below in
+          slice_get-set_same w.indices e.index (Living e.generation d) had.0 had.1
+      by false h =
+          let at_end : e.index ≡ length w.indices = grind (arith, nat_tests) in
+          ap (slice_get (w.indices ++ Living e.generation d ∷ [])) at_end ∙ push_here w.indices (Living e.generation d)
+
+  pub born_other : (j : ℕ) → j ≢ e.index → slice_get (with_new w e d).indices j ≡ slice_get w.indices j
+  born_other j other = by (nat_lt e.index (length w.indices)) refl
+    where
+      by : (b : Bool) → nat_lt e.index (length w.indices) ≡ b
+          → slice_get (if b then with_record w e d else record w { indices = w.indices ++ Living e.generation d ∷ [] }).indices j ≡ slice_get w.indices j
+      by true h = slice_get-set_other w.indices e.index j (Living e.generation d) other
+      by false h =
+          let at_end : e.index ≡ length w.indices = grind (arith, nat_tests) in
+          push_other w.indices (Living e.generation d) j (λ q. other (q ∙ sym at_end))
+
+  pub born_limit : (with_new w e d).limit ≡ w.limit
+  born_limit = by (nat_lt e.index (length w.indices))
+    where
+      by : (b : Bool) → (if b then with_record w e d else record w { indices = w.indices ++ Living e.generation d ∷ [] }).limit ≡ w.limit
+      by true = refl
+      by false = refl
+
+-- the lowest free index
+lowest_is : {A : Type 0} (n : ℕ) (xs : List (IndexState A)) (e : Entity) → lowest_free n xs ≡ Some e
+    → (k : ℕ) × (e.index ≡ n + k) × (k < length xs) × (slice_get xs k ≡ Some (Free e.generation))
+lowest_is n [] e h = absurd (cc)
+lowest_is n (Retired ∷ rest) e h =
+    let r = lowest_is (n + 1) rest e h in (suc r.0, omega (arith, r.1), omega (arith, r.2), r.3)
+lowest_is n (Free g ∷ rest) e h =
+    let same : record { index = n; generation = g } ≡ e = cc in
+    (0, sym (ap (λ (x : Entity). x.index) same) ∙ (let z : n ≡ n + 0 = omega arith in z), omega arith, λ t. Some (Free (same t).generation))
+lowest_is n (Living g r ∷ rest) e h =
+    let r = lowest_is (n + 1) rest e h in (suc r.0, omega (arith, r.1), omega (arith, r.2), r.3)
+
+-- who is made next stands at a free index or the first unknown one
+pub next_is : {A : Type 0} (w : Indexed A) (e : Entity) → next_entity w ≡ Some e → (e.index ≤ length w.indices) × Vacant (slice_get w.indices e.index)
+next_is {A} w e h = by (lowest_free 0 w.indices) refl h
+  where
+    past : (b : Bool) → (if b then Some (record { index = length w.indices; generation = 0 }) else None) ≡ Some e → e.index ≡ length w.indices
+    past true q = let same : record { index = length w.indices; generation = 0 } ≡ e = cc in sym (ap (λ (x : Entity). x.index) same)
+    past false q = absurd (cc)
+
+    nothing_past : (xs : List (IndexState A)) → slice_get xs (length xs) ≡ None
+    nothing_past [] = refl
+    nothing_past (x ∷ xs) = nothing_past xs
+
+    by : (o : Option Entity) → lowest_free 0 w.indices ≡ o
+        → option_or o (if nat_lt (length w.indices) w.limit then Some (record { index = length w.indices; generation = 0 }) else None) ≡ Some e
+        → (e.index ≤ length w.indices) × Vacant (slice_get w.indices e.index)
+    by None low q =
+        let at : e.index ≡ length w.indices = past (nat_lt (length w.indices) w.limit) q in
+        (omega arith, subst Vacant (sym (ap (slice_get w.indices) at ∙ nothing_past w.indices)) tt)
+    by (Some f) low q =
+        let same : f ≡ e = cc in
+        let r = lowest_is 0 w.indices e (low ∙ ap Some same) in
+        let at : e.index ≡ r.0 = omega (arith, r.1) in
+        (omega (arith, r.2), subst Vacant (sym (ap (slice_get w.indices) at ∙ r.3)) tt)
+
+-- ---- what is kept is mapped
+module _ {A B : Type 0} (f : A → B) (name_a : A → Option (List ℕ)) (name_b : B → Option (List ℕ)) (names : (a : A) → name_b (f a) ≡ name_a a) where
+  abbrev mapped : Indexed A → Indexed B
+  mapped w = record { limit = w.limit; indices = map (map_state f) w.indices }
+
+  lowest_free-map : (n : ℕ) (xs : List (IndexState A)) → lowest_free n (map (map_state f) xs) ≡ lowest_free n xs
+  lowest_free-map n [] = refl
+  lowest_free-map n (Retired ∷ rest) = lowest_free-map (n + 1) rest
+  lowest_free-map n (Free g ∷ rest) = refl
+  lowest_free-map n (Living g r ∷ rest) = lowest_free-map (n + 1) rest
+
+  pub next_entity-map : (w : Indexed A) → next_entity (mapped w) ≡ next_entity w
+  next_entity-map w =
+      λ t. option_or (lowest_free-map 0 w.indices t)
+      (if nat_lt (length-map w.indices (map_state f) t) w.limit then Some (record { index = length-map w.indices (map_state f) t; generation = 0 }) else None)
+
+  abbrev second : Entity × A → Entity × B
+  second p = (p.0, f p.1)
+
+  living-map : (n : ℕ) (xs : List (IndexState A)) → living_from n (map (map_state f) xs) ≡ map second (living_from n xs)
+  living-map n [] = refl
+  living-map n (Retired ∷ rest) = living-map (n + 1) rest
+  living-map n (Free g ∷ rest) = living-map (n + 1) rest
+  living-map n (Living g r ∷ rest) = ap (λ ys. (record { index = n; generation = g }, f r) ∷ ys) (living-map (n + 1) rest)
+
+  find-map : (name : List ℕ) (xs : List (Entity × A))
+      → option_map (λ p. p.0) (find (λ p. is_called name (name_b p.1)) (map second xs)) ≡ option_map (λ p. p.0) (find (λ p. is_called name (name_a p.1)) xs)
+  find-map name [] = refl
+  find-map name (x ∷ xs) = ap (λ b. option_map (λ p. p.0) (if b then Some (second x) else find (λ p. is_called name (name_b p.1)) (map second xs))) (ap (is_called name) (names x.1)) ∙ by (is_called name (name_a x.1)) (find-map name xs)
+    where
+      by : (b : Bool)
+          → option_map (λ p. p.0) (find (λ p. is_called name (name_b p.1)) (map second xs)) ≡ option_map (λ p. p.0) (find (λ p. is_called name (name_a p.1)) xs)
+          → option_map (λ p. p.0) (if b then Some (second x) else find (λ p. is_called name (name_b p.1)) (map second xs))
+          ≡ option_map (λ p. p.0) (if b then Some x else find (λ p. is_called name (name_a p.1)) xs)
+      by true rest = refl
+      by false rest = rest
+
+  pub bearer-map : (w : Indexed A) (name : List ℕ) → bearer name_b (mapped w) name ≡ bearer name_a w name
+  bearer-map w name = ap (λ ys. option_map (λ p. p.0) (find (λ p. is_called name (name_b p.1)) ys)) (living-map 0 w.indices) ∙ find-map name (living_from 0 w.indices)
+
+  pub is_borne-map : (w : Indexed A) (name : Option (List ℕ)) → is_borne name_b (mapped w) name ≡ is_borne name_a w name
+  is_borne-map w None = refl
+  is_borne-map w (Some name) = ap is_some (bearer-map w name)
+
+  pub unfit_name-map : (w : Indexed A) (name : Option (List ℕ)) → unfit_name name_b (mapped w) name ≡ unfit_name name_a w name
+  unfit_name-map w name = ap (λ b. first_refusal ((not (is_proper name), BadName) ∷ (b, NameTaken) ∷ [])) (is_borne-map w name)
+
+-- ---- how a creation ends
+
+abbrev pub refused : Refusal → Result Entity Refusal
+refused why = Err why
+
+abbrev Ends : {S : Type 0} → Option Refusal → Option Entity → (Entity → S) → S → Result Entity Refusal → S → Type 0
+Ends unfit next after old r new =
+    MatchOption unfit (MatchOption next (Refuses NoMoreIds old r new) (λ e. Answers e (after e) r new)) (λ why. Refuses why old r new)
+
+-- a refusal is a refusal of the other state, and neither changes
+refused_ends : {S T : Type 0} (unfit : Option Refusal) (next : Option Entity) (after : Entity → S) (after' : Entity → T) (old new : S) (old' : T) (why : Refusal)
+    → Ends unfit next after old (Err why) new → (new ≡ old) × Ends unfit next after' old' (Err why) old'
+refused_ends (Some u) next after after' old new old' why h = (h.1, (h.0, refl))
+refused_ends None None after after' old new old' why h = (h.1, (h.0, refl))
+refused_ends None (Some e) after after' old new old' why h = absurd (let bad : ◌≡◌ {A = Result Entity Refusal} (Err why) (Ok e) = h.0 in cc)
+
+made_ends : {S : Type 0} (unfit : Option Refusal) (next : Option Entity) (after : Entity → S) (old new : S) (e : Entity)
+    → Ends unfit next after old (Ok e) new → (unfit ≡ None) × (next ≡ Some e) × (new ≡ after e)
+made_ends (Some u) next after old new e h = absurd (let bad : ◌≡◌ {A = Result Entity Refusal} (Ok e) (Err u) = h.0 in cc)
+made_ends None None after old new e h = absurd (let bad : ◌≡◌ {A = Result Entity Refusal} (Ok e) (Err NoMoreIds) = h.0 in cc)
+made_ends None (Some f) after old new e h =
+    let same : ◌≡◌ {A = Result Entity Refusal} (Ok e) (Ok f) = h.0 in
+    let is : e ≡ f = cc in
+    (refl, ap Some (sym is), h.1 ∙ ap after (sym is))
+
+module _ {A B : Type 0} (f : A → B) (name_a : A → Option (List ℕ)) (name_b : B → Option (List ℕ)) (names : (a : A) → name_b (f a) ≡ name_a a)
+    (w : Indexed A) (d : A) (d' : B) (same_name : name_b d' ≡ name_a d) where
+  abbrev shown : Indexed B
+  shown = record { limit = w.limit; indices = map (map_state f) w.indices }
+
+  unfit_same : unfit_name name_b shown (name_b d') ≡ unfit_name name_a w (name_a d)
+  unfit_same = unfit_name-map f name_a name_b names w (name_b d') ∙ ap (unfit_name name_a w) same_name
+
+  next_same : next_entity shown ≡ next_entity w
+  next_same = next_entity-map f name_a name_b names w
+
+  may_same : may_make name_b shown (name_b d') ≡ may_make name_a w (name_a d)
+  may_same = λ t. not (is_some (unfit_same t)) && is_some (next_same t)
+
+  -- a creation that is refused below is refused so here
+  pub create_refused : (new : Indexed A) (why : Refusal) → Meets (Makes name_a w d) (may_make name_a w (name_a d)) w (refused why) new
+      → (new ≡ w) × Meets (Makes name_b shown d') (may_make name_b shown (name_b d')) shown (refused why) shown
+  create_refused new why h = by (is_out_of_memory (refused why)) h
+    where
+      by : (b : Bool) → MatchBool b (IsTrue (may_make name_a w (name_a d)) × (new ≡ w)) (Makes name_a w d (refused why) new)
+          → (new ≡ w) × MatchBool b (IsTrue (may_make name_b shown (name_b d')) × (shown ≡ shown)) (Makes name_b shown d' (refused why) shown)
+      by true q = (q.1, (may_same ∙ q.0, refl))
+      by false q =
+          let r = refused_ends (unfit_name name_a w (name_a d)) (next_entity w) (λ e. with_new w e d) (λ e. with_new shown e d') w new shown why q in
+          (r.0, subst (λ u. MatchOption u (MatchOption (next_entity shown) (Refuses NoMoreIds shown (refused why) shown) (λ e. Answers e (with_new shown e d') (refused why) shown)) (λ x. Refuses x shown (refused why) shown))
+          (sym unfit_same)
+          (subst (λ n. MatchOption (unfit_name name_a w (name_a d)) (MatchOption n (Refuses NoMoreIds shown (refused why) shown) (λ e. Answers e (with_new shown e d') (refused why) shown)) (λ x. Refuses x shown (refused why) shown))
+          (sym next_same) r.1))
+
+  -- one that succeeds makes the next entity
+  pub create_made : (new : Indexed A) (e : Entity) → Meets (Makes name_a w d) (may_make name_a w (name_a d)) w (Ok e) new
+      → (next_entity w ≡ Some e) × (new ≡ with_new w e d)
+  create_made new e h = let r = made_ends (unfit_name name_a w (name_a d)) (next_entity w) (λ x. with_new w x d) w new e h in (r.1, r.2)
+
+  pub create_done : (new : Indexed A) (new' : Indexed B) (e : Entity) → Meets (Makes name_a w d) (may_make name_a w (name_a d)) w (Ok e) new
+      → new' ≡ with_new shown e d' → Meets (Makes name_b shown d') (may_make name_b shown (name_b d')) shown (Ok e) new'
+  create_done new new' e h is =
+      let r = made_ends (unfit_name name_a w (name_a d)) (next_entity w) (λ x. with_new w x d) w new e h in
+      subst (λ u. MatchOption u (MatchOption (next_entity shown) (Refuses NoMoreIds shown (Ok e) new') (λ x. Answers x (with_new shown x d') (Ok e) new')) (λ x. Refuses x shown (Ok e) new'))
+      (sym (unfit_same ∙ r.0))
+      (subst (λ n. MatchOption n (Refuses NoMoreIds shown (Ok e) new') (λ x. Answers x (with_new shown x d') (Ok e) new'))
+      (sym (next_same ∙ r.1)) (refl, is))
+
+-- no name is unfit for want of memory
+unfit_known : {A : Type 0} (name_of : A → Option (List ℕ)) (w : Indexed A) (name : Option (List ℕ)) (why : Refusal) → unfit_name name_of w name ≡ Some why
+    → is_out_of_memory (refused why) ≡ false
+unfit_known name_of w name why = by (not (is_proper name)) (is_borne name_of w name)
+  where
+    by : (a b : Bool) → first_refusal ((a, BadName) ∷ (b, NameTaken) ∷ []) ≡ Some why → is_out_of_memory (refused why) ≡ false
+    by true b h = let same : BadName ≡ why = cc in ap (λ x. is_out_of_memory (refused x)) (sym same)
+    by false true h = let same : NameTaken ≡ why = cc in ap (λ x. is_out_of_memory (refused x)) (sym same)
+    by false false h = absurd (cc)
+
+module _ {A B : Type 0} (f : A → B) (name_a : A → Option (List ℕ)) (name_b : B → Option (List ℕ)) (names : (a : A) → name_b (f a) ≡ name_a a)
+    (w : Indexed A) (d' : B) (name : Option (List ℕ)) (same_name : name_b d' ≡ name) where
+  abbrev view_of : Indexed B
+  view_of = record { limit = w.limit; indices = map (map_state f) w.indices }
+
+  unfit_seen : unfit_name name_b view_of (name_b d') ≡ unfit_name name_a w name
+  unfit_seen = unfit_name-map f name_a name_b names w (name_b d') ∙ ap (unfit_name name_a w) same_name
+
+  next_seen : next_entity view_of ≡ next_entity w
+  next_seen = next_entity-map f name_a name_b names w
+
+  -- what was found to stand against the entity is the refusal
+  pub opposed : (why : Refusal) → Opposes (unfit_name name_a w name) (next_entity w) (Err why)
+      → Meets (Makes name_b view_of d') (may_make name_b view_of (name_b d')) view_of (refused why) view_of
+  opposed why h = by (unfit_name name_a w name) (next_entity w) refl refl h
+    where
+      by : (u : Option Refusal) (n : Option Entity) → unfit_name name_a w name ≡ u → next_entity w ≡ n → Opposes u n (Err why)
+          → Meets (Makes name_b view_of d') (may_make name_b view_of (name_b d')) view_of (refused why) view_of
+      by (Some x) n is_u is_n q =
+          let same : why ≡ x = let e : ◌≡◌ {A = Result (Unit {0}) Refusal} (Err why) (Err x) = q in cc in
+          subst (λ b. MatchBool b (IsTrue (may_make name_b view_of (name_b d')) × (view_of ≡ view_of)) (Makes name_b view_of d' (refused why) view_of))
+          (sym (unfit_known name_a w name why (is_u ∙ ap Some (sym same))))
+          (subst (λ u. MatchOption u (MatchOption (next_entity view_of) (Refuses NoMoreIds view_of (refused why) view_of) (λ e. Answers e (with_new view_of e d') (refused why) view_of)) (λ z. Refuses z view_of (refused why) view_of))
+          (sym (unfit_seen ∙ is_u)) (ap refused same, refl))
+      by None None is_u is_n q =
+          let same : why ≡ NoMoreIds = let e : ◌≡◌ {A = Result (Unit {0}) Refusal} (Err why) (Err NoMoreIds) = q in cc in
+          subst (λ x. Meets (Makes name_b view_of d') (may_make name_b view_of (name_b d')) view_of (refused x) view_of) (sym same)
+          (subst (λ u. MatchOption u (MatchOption (next_entity view_of) (Refuses NoMoreIds view_of (refused NoMoreIds) view_of) (λ e. Answers e (with_new view_of e d') (refused NoMoreIds) view_of)) (λ z. Refuses z view_of (refused NoMoreIds) view_of))
+          (sym (unfit_seen ∙ is_u))
+          (subst (λ n. MatchOption n (Refuses NoMoreIds view_of (refused NoMoreIds) view_of) (λ e. Answers e (with_new view_of e d') (refused NoMoreIds) view_of)) (sym (next_seen ∙ is_n)) (refl, refl)))
+      by None (Some e) is_u is_n q = absurd (let bad : ◌≡◌ {A = Result (Unit {0}) Refusal} (Err why) (Ok tt) = q in cc)
+
+  -- where nothing does, memory may be wanted
+  pub unopposed : Opposes (unfit_name name_a w name) (next_entity w) (Ok tt) → IsTrue (may_make name_b view_of (name_b d'))
+  unopposed h = (λ t. not (is_some (unfit_seen t)) && is_some (next_seen t)) ∙ by (unfit_name name_a w name) (next_entity w) h
+    where
+      by : (u : Option Refusal) (n : Option Entity) → Opposes u n (Ok tt) → (not (is_some u) && is_some n) ≡ true
+      by (Some x) n q = absurd (let bad : ◌≡◌ {A = Result (Unit {0}) Refusal} (Ok tt) (Err x) = q in cc)
+      by None None q = absurd (let bad : ◌≡◌ {A = Result (Unit {0}) Refusal} (Ok tt) (Err NoMoreIds) = q in cc)
+      by None (Some e) q = refl

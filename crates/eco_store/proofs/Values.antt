@@ -1,0 +1,356 @@
+-- What a store answers of one entity, and the store after a value or a name was written.
+use Rattle.std.proofs.Common.{◌≡◌, ◌≢◌, ℕ, zero, suc, ◌<◌, Bool, true, false, true≢false, cond, not, ◌&&◌, ◌||◌, Ordering, Less, Equal, Greater, is_eq, List, [], ◌∷◌, map, length, slice_get, set, get_or, Option, Some, None, option_map, option_and_then, unwrap_or, is_some, IsSome, IsTrue, if◌then◌else◌, ◌==◌, Result, Ok, Err, MatchBool, MatchOption, refl, sym, ap, subst, ◌∙◌, arith, inl, inr}
+use Rattle.std.specs.List.{All, list_any}
+use Rattle.std.specs.Ordering.{ordering_reverse}
+use Rattle.std.specs.FinMap.Entries.{find}
+use Rattle.std.proofs.lemmas.Bool.{cases_eq}
+use Rattle.std.proofs.lemmas.Option.{slice_get_within, slice_get-get_or}
+use Rattle.eco_ids.specs.declared.entity.Entity.{Entity}
+use Rattle.eco_ids.specs.declared.id.Id.{Id}
+use Rattle.eco_ids.specs.declared.refusal.Refusal.{Refusal}
+use Rattle.eco_ids.specs.declared.refusal.Refusal.TheVariants.{NotAlive, BadName, NameTaken}
+use Rattle.eco_ids.specs.declared.value.Value.{Value}
+use Rattle.eco_ids.specs.Indices.{Indexed, IndexState, Retired, Free, Living, record_in, record_of, with_record, is_alive, map_state}
+use Rattle.eco_ids.specs.Names.{is_proper, is_borne, is_same_name}
+use Rattle.eco_ids.specs.Order.{id_cmp, id_eq, has_item}
+use Rattle.eco_ids.specs.Outcome.{Meets, is_out_of_memory, first_refusal, Answers, Refuses}
+use Rattle.eco_ids.specs.World.{zeros}
+use Rattle.eco_ids.proofs.IdOrder.{id_cmp_total}
+use Rattle.eco_tables.specs.Column.{value_in, with_held}
+use Rattle.eco_tables.specs.Table.{TableState, Row, HasIds}
+use Rattle.eco_tables.specs.Tables.{slot_of, table_in, row_in, no_row, no_table, Sets}
+use Rattle.eco_entities.specs.declared.place.Place.{Place}
+use Rattle.eco_entities.specs.Registration as registry
+use Rattle.eco_entities.specs.Registration.{Registration, name_of, own_place, with_change, change_in, renamed}
+use Rattle.eco_store.specs.Seats.{Seat, IsSeated, seat_of, row_at, seen, held_of}
+use Rattle.eco_store.specs.Store.{Kept, kept, kept_name, held_at, held_by, read, seat_in, seat_at, HasPlace, IsStore, with_holding, holding_in, with_naming, naming_in, own_name, unfit_rename, Renames, may_rename, Stands, IsShown, seat_of_place}
+use Rattle.eco_store.proofs.SeatChanges.{no_some, one_some}
+use Rattle.eco_store.proofs.Moves.{slice_get-map}
+use Rattle.eco_store.proofs.Newborn.{is_borne-map}
+use Rattle.eco_store.proofs.StoreChanges.{placed_record, seat_there, read_record, row_within}
+use Rattle.eco_store.proofs.Views.{ext_slice_get, slice_get-set_same, slice_get-set_other, living_at, record_at, seen_alike}
+
+-- ---- readers
+
+-- the row of an entity that has a place
+pub stands_there : (w : Indexed Registration) (s : List (Option TableState)) (e : Entity) (p : Place) (t : TableState)
+    → IsStore w s → own_place w e ≡ Some p → slot_of s p.table ≡ Some t → Stands (record_of (read w s) e) t p.row
+stands_there w s e p t store own at =
+    let r = placed_record w e p own in
+    let seat = store.seated.there e.index (seat_of e p.table p.row) (seat_there w e p own) in
+    let in_table : slice_get t.rows p.row ≡ Some seat.0 = sym (ap (λ o. slice_get (unwrap_or o no_table).rows p.row) at) ∙ seat.1 in
+    let within : p.row < length t.rows = slice_get_within t.rows p.row seat.0 in_table in
+    subst (λ o. Stands o t p.row) (sym (read_record w s e r.0 r.1)) (record {
+      within = within;
+      held = λ d.
+          ap (held_at (row_at s)) r.2 ∙ ap held_of seat.1
+          ∙ ap (λ (x : Row). x.held) (one_some (slice_get t.rows p.row) seat.0 (get_or t.rows p.row d) in_table (slice_get-get_or t.rows p.row d within));
+    })
+
+pub stands_type : (o : Option Kept) (t : TableState) (row : ℕ) → Stands o t row → All (HasIds t.ids) t.rows
+    → ◌≡◌ {A = Option (List Id)} (Some t.ids) (option_map (λ k. map (λ p. p.0) k.held) o)
+stands_type None t row h typed = absurd h
+stands_type (Some k) t row h typed =
+    sym (ap Some (ap (λ xs. map (λ p. p.0) xs) (h.held no_row) ∙ typed row no_row h.within))
+
+eq_either_way : (a b : Id) → id_eq a b ≡ id_eq b a
+eq_either_way a b = ap is_eq (id_cmp_total.antisymm a b) ∙ by (id_cmp b a)
+  where
+    by : (r : Ordering) → is_eq (ordering_reverse r) ≡ is_eq r
+    by Less = refl
+    by Equal = refl
+    by Greater = refl
+
+pub found_where_there : (held : List (Id × Value)) (i : Id) → has_item id_cmp (map (λ p. p.0) held) i ≡ true → find id_cmp i held ≡ Some (value_in held i)
+found_where_there [] i h = absurd (cc)
+found_where_there (p ∷ rest) i h = by (id_eq i p.0) (found_where_there rest i) (sym (ap (λ b. b || has_item id_cmp (map (λ q. q.0) rest) i) (eq_either_way p.0 i)) ∙ h)
+  where
+    by : (b : Bool) → (has_item id_cmp (map (λ q. q.0) rest) i ≡ true → find id_cmp i rest ≡ Some (value_in rest i))
+        → (b || has_item id_cmp (map (λ q. q.0) rest) i) ≡ true
+        → cond b (Some p.1) (find id_cmp i rest) ≡ Some (unwrap_or (cond b (Some p.1) (find id_cmp i rest)) zeros)
+    by true later q = refl
+    by false later q = later q
+
+pub none_where_absent : (held : List (Id × Value)) (i : Id) → has_item id_cmp (map (λ p. p.0) held) i ≡ false → find id_cmp i held ≡ None
+none_where_absent [] i h = refl
+none_where_absent (p ∷ rest) i h = by (id_eq i p.0) (none_where_absent rest i) (sym (ap (λ b. b || has_item id_cmp (map (λ q. q.0) rest) i) (eq_either_way p.0 i)) ∙ h)
+  where
+    by : (b : Bool) → (has_item id_cmp (map (λ q. q.0) rest) i ≡ false → find id_cmp i rest ≡ None)
+        → (b || has_item id_cmp (map (λ q. q.0) rest) i) ≡ false → cond b (Some p.1) (find id_cmp i rest) ≡ None
+    by true later q = absurd (cc)
+    by false later q = later q
+
+-- the value of an id that the row's type has
+pub value_there : (o : Option Kept) (t : TableState) (row : ℕ) (i : Id) (v : Value) → Stands o t row → All (HasIds t.ids) t.rows
+    → has_item id_cmp t.ids i ≡ true → ((r : Row) → v ≡ value_in (get_or t.rows row r).held i)
+    → Some v ≡ find id_cmp i (unwrap_or (option_map (λ (k : Kept). k.held) o) [])
+value_there None t row i v h typed has is = absurd h
+value_there (Some k) t row i v h typed has is =
+    let ids : map (λ p. p.0) k.held ≡ t.ids = ap (λ xs. map (λ p. p.0) xs) (h.held no_row) ∙ typed row no_row h.within in
+    ap Some (is no_row ∙ ap (λ xs. value_in xs i) (sym (h.held no_row))) ∙ sym (found_where_there k.held i (ap (λ xs. has_item id_cmp xs i) ids ∙ has))
+
+pub value_absent : (o : Option Kept) (t : TableState) (row : ℕ) (i : Id) → Stands o t row → All (HasIds t.ids) t.rows
+    → has_item id_cmp t.ids i ≡ false → None ≡ find id_cmp i (unwrap_or (option_map (λ (k : Kept). k.held) o) [])
+value_absent None t row i h typed has = absurd h
+value_absent (Some k) t row i h typed has =
+    let ids : map (λ p. p.0) k.held ≡ t.ids = ap (λ xs. map (λ p. p.0) xs) (h.held no_row) ∙ typed row no_row h.within in
+    sym (none_where_absent k.held i (ap (λ xs. has_item id_cmp xs i) ids ∙ has))
+
+-- ---- a value written
+module _ (w : Indexed Registration) (s s1 : List (Option TableState)) (e : Entity) (p : Place) (i : Id) (v : Value)
+    (store : IsStore w s) (own : own_place w e ≡ Some p)
+    (sets : Sets s s1 p.table (Some (record (table_in s p.table) { rows = set (table_in s p.table).rows p.row (record { entity = (row_in s p.table p.row).entity; held = with_held (row_in s p.table p.row).held i v }) }))) where
+  abbrev rows : List Row
+  rows = (table_in s p.table).rows
+
+  abbrev old_row : Row
+  old_row = row_in s p.table p.row
+
+  abbrev new_row : Row
+  new_row = record { entity = old_row.entity; held = with_held old_row.held i v }
+
+  old_there : row_at s p.table p.row ≡ Some old_row
+  old_there = slice_get-get_or rows p.row no_row (row_within w s e p store own)
+
+  new_there : row_at s1 p.table p.row ≡ Some new_row
+  new_there = ap (λ o. slice_get (unwrap_or o no_table).rows p.row) sets.changed ∙ slice_get-set_same rows p.row new_row old_row old_there
+
+  elsewhere : (n k : ℕ) → (n ≡ p.table → k ≡ p.row → ⊥) → row_at s1 n k ≡ row_at s n k
+  elsewhere n k apart =
+      elim (cases_eq n p.table) [
+        | inl here ↦
+            ap (λ m. row_at s1 m k) here ∙ ap (λ o. slice_get (unwrap_or o no_table).rows k) sets.changed
+            ∙ slice_get-set_other rows p.row k new_row (apart here) ∙ sym (ap (λ m. row_at s m k) here)
+        | inr other ↦ ap (λ o. slice_get (unwrap_or o no_table).rows k) (sets.others n other)
+      ]
+
+  seat : seat_at w e.index ≡ Some (seat_of e p.table p.row)
+  seat = seat_there w e p own
+
+  -- a row is still there, and its entity with it
+  still : (n k : ℕ) (r : Row) → row_at s n k ≡ Some r → (x : Row) × (row_at s1 n k ≡ Some x) × (x.entity ≡ r.entity)
+  still n k r h =
+      elim (cases_eq n p.table) [
+        | inr other ↦ (r, elsewhere n k (λ a b. other a) ∙ h, refl)
+        | inl in_table ↦ elim (cases_eq k p.row) [
+          | inr other ↦ (r, elsewhere n k (λ a b. other b) ∙ h, refl)
+          | inl at_row ↦
+              (new_row, (λ t. row_at s1 (in_table t) (at_row t)) ∙ new_there,
+              ap (λ (x : Row). x.entity) (one_some (row_at s p.table p.row) old_row r old_there (sym (λ t. row_at s (in_table t) (at_row t)) ∙ h)))
+        ]
+      ]
+
+  was : (n k : ℕ) (x : Row) → row_at s1 n k ≡ Some x → (r : Row) × (row_at s n k ≡ Some r) × (r.entity ≡ x.entity)
+  was n k x h =
+      elim (cases_eq n p.table) [
+        | inr other ↦ (x, sym (elsewhere n k (λ a b. other a)) ∙ h, refl)
+        | inl in_table ↦ elim (cases_eq k p.row) [
+          | inr other ↦ (x, sym (elsewhere n k (λ a b. other b)) ∙ h, refl)
+          | inl at_row ↦
+              (old_row, (λ t. row_at s (in_table t) (at_row t)) ∙ old_there,
+              ap (λ (y : Row). y.entity) (one_some (row_at s1 p.table p.row) new_row x new_there (sym (λ t. row_at s1 (in_table t) (at_row t)) ∙ h)))
+        ]
+      ]
+
+  pub written_store : IsStore w s1
+  written_store = record {
+    seated = record {
+      there = λ j q h.
+          let old = store.seated.there j q h in
+          let now = still q.slot q.row old.0 old.1 in
+          (now.0, now.1, now.2 ∙ old.2);
+      back = λ n k x h.
+          let old = was n k x h in
+          sym (ap (λ (f : Entity). seat_at w f.index) old.2) ∙ store.seated.back n k old.0 old.1 ∙ ap (λ (f : Entity). Some (seat_of f n k)) old.2;
+    };
+    placed = store.placed;
+  }
+
+  others_seen : (j : ℕ) → j ≢ e.index → (o : Option Seat) → seat_at w j ≡ o → option_map (seen (row_at s1)) o ≡ option_map (seen (row_at s)) o
+  others_seen j other None h = refl
+  others_seen j other (Some q) h =
+      let mine = store.seated.there j q h in
+      let his = store.seated.there e.index (seat_of e p.table p.row) seat in
+      ap (λ o. Some (held_of o)) (elsewhere q.slot q.row (λ a b.
+      let both = one_some (row_at s p.table p.row) mine.0 his.0 (sym (λ t. row_at s (a t) (b t)) ∙ mine.1) his.1 in
+      other (sym (ap (λ (x : Entity). x.index) mine.2) ∙ ap (λ (x : Row). x.entity.index) both ∙ ap (λ (x : Entity). x.index) his.2)))
+
+  pub written_read : read w s1 ≡ with_holding (read w s) e (with_held (held_by (read w s) e) i v)
+  written_read =
+      let r = placed_record w e p own in
+      let living = living_at w e r.0 r.1 in
+      let before : record_of (read w s) e ≡ Some (kept (row_at s) r.0) = read_record w s e r.0 r.1 in
+      let held : held_by (read w s) e ≡ old_row.held =
+      ap (λ o. unwrap_or (option_map (λ (k : Kept). k.held) o) []) before ∙ ap (held_at (row_at s)) r.2 ∙ ap held_of old_there in
+      let after : Kept = record { name = r.0.name; held = with_held (held_by (read w s) e) i v } in
+      let here : slice_get (read w s1).indices e.index ≡ Some (Living e.generation after) =
+      slice_get-map (map_state (kept (row_at s1))) w.indices e.index ∙ ap (option_map (map_state (kept (row_at s1)))) living
+      ∙ (λ t. Some (Living e.generation (record { name = r.0.name; held = (ap (held_at (row_at s1)) r.2 ∙ ap held_of new_there ∙ ap (λ xs. with_held xs i v) (sym held)) t }))) in
+      let indices : (read w s1).indices ≡ set (read w s).indices e.index (Living e.generation after) =
+      ext_slice_get (read w s1).indices (set (read w s).indices e.index (Living e.generation after))
+      (λ j. elim (cases_eq j e.index) [
+        | inl h ↦
+            ap (slice_get (read w s1).indices) h ∙ here
+            ∙ sym (ap (slice_get (set (read w s).indices e.index (Living e.generation after))) h
+            ∙ slice_get-set_same (read w s).indices e.index (Living e.generation after) _ (living_at (read w s) e (kept (row_at s) r.0) before))
+        | inr other ↦
+            seen_alike w w s s1 j refl (others_seen j other (seat_at w j) refl)
+            ∙ sym (slice_get-set_other (read w s).indices e.index j (Living e.generation after) other)
+      ]) in
+      (λ t. record { limit = w.limit; indices = indices t }) ∙ sym (ap (holding_in (read w s) e (with_held (held_by (read w s) e) i v)) before)
+
+-- ---- a name given
+record_of-read : (w : Indexed Registration) (s : List (Option TableState)) (e : Entity) → record_of (read w s) e ≡ option_map (kept (row_at s)) (record_of w e)
+record_of-read w s e =
+    ap (λ o. record_in o e.generation) (slice_get-map (map_state (kept (row_at s))) w.indices e.index) ∙ by (slice_get w.indices e.index)
+  where
+    with_test : (b : Bool) (r : Registration) → ◌≡◌ {A = Option Kept} (if b then Some (kept (row_at s) r) else None) (option_map (kept (row_at s)) (if b then Some r else None))
+    with_test true r = refl
+    with_test false r = refl
+
+    by : (o : Option (IndexState Registration)) → record_in (option_map (map_state (kept (row_at s))) o) e.generation ≡ option_map (kept (row_at s)) (record_in o e.generation)
+    by None = refl
+    by (Some Retired) = refl
+    by (Some (Free g)) = refl
+    by (Some (Living g r)) = with_test (e.generation == g) r
+
+map-set : {X Y : Type 0} (f : X → Y) (xs : List X) (i : ℕ) (x : X) → map f (set xs i x) ≡ set (map f xs) i (f x)
+map-set f [] i x = refl
+map-set f (y ∷ ys) zero x = refl
+map-set f (y ∷ ys) (suc i) x = ap (λ zs. f y ∷ zs) (map-set f ys i x)
+
+module _ (w : Indexed Registration) (s : List (Option TableState)) (e : Entity) (name : Option (List ℕ)) where
+  seats_same : (r : Registration) → record_of w e ≡ Some r → (j : ℕ) → seat_at (with_record w e (renamed name r)) j ≡ seat_at w j
+  seats_same r h j =
+      elim (cases_eq j e.index) [
+        | inl here ↦
+            ap (λ k. seat_in (slice_get (set w.indices e.index (Living e.generation (renamed name r))) k)) here
+            ∙ ap seat_in (slice_get-set_same w.indices e.index (Living e.generation (renamed name r)) (Living e.generation r) (living_at w e r h))
+            ∙ sym (ap (seat_at w) here ∙ ap seat_in (living_at w e r h))
+        | inr other ↦ ap seat_in (slice_get-set_other w.indices e.index j (Living e.generation (renamed name r)) other)
+      ]
+
+  places_same : (r : Registration) → record_of w e ≡ Some r → ((j : ℕ) → HasPlace (slice_get w.indices j)) → (j : ℕ) → HasPlace (slice_get (with_record w e (renamed name r)).indices j)
+  places_same r h had j =
+      elim (cases_eq j e.index) [
+        | inl here ↦
+            subst HasPlace (sym (ap (slice_get (set w.indices e.index (Living e.generation (renamed name r)))) here
+            ∙ slice_get-set_same w.indices e.index (Living e.generation (renamed name r)) (Living e.generation r) (living_at w e r h)))
+            (subst HasPlace (living_at w e r h) (had e.index))
+        | inr other ↦ subst HasPlace (sym (slice_get-set_other w.indices e.index j (Living e.generation (renamed name r)) other)) (had j)
+      ]
+
+  renamed_store : IsStore w s → IsStore (with_change w e (renamed name)) s
+  renamed_store store = by (record_of w e) refl
+    where
+      by : (o : Option Registration) → record_of w e ≡ o → IsStore (change_in w e (renamed name) o) s
+      by None h = store
+      by (Some r) h = record {
+        seated = subst (λ P. IsSeated P (row_at s)) (sym (λ t j. seats_same r h j t)) store.seated;
+        placed = places_same r h store.placed;
+      }
+
+  renamed_read : read (with_change w e (renamed name)) s ≡ with_naming (read w s) e name
+  renamed_read = by (record_of w e) ∙ ap (naming_in (read w s) e name) (sym (record_of-read w s e))
+    where
+      by : (o : Option Registration) → read (change_in w e (renamed name) o) s ≡ naming_in (read w s) e name (option_map (kept (row_at s)) o)
+      by None = refl
+      by (Some r) = λ t. record { limit = w.limit; indices = map-set (map_state (kept (row_at s))) w.indices e.index (Living e.generation (renamed name r)) t }
+
+  alive_same : is_alive (read w s) e ≡ is_alive w e
+  alive_same = ap is_some (record_of-read w s e) ∙ by (record_of w e)
+    where
+      by : (o : Option Registration) → is_some (option_map (kept (row_at s)) o) ≡ is_some o
+      by None = refl
+      by (Some r) = refl
+
+  name_same : own_name (read w s) e ≡ registry.own_name w e
+  name_same = ap (option_and_then kept_name) (record_of-read w s e) ∙ by (record_of w e)
+    where
+      by : (o : Option Registration) → option_and_then kept_name (option_map (kept (row_at s)) o) ≡ option_and_then name_of o
+      by None = refl
+      by (Some r) = refl
+
+  unfit_same : unfit_rename (read w s) e name ≡ registry.unfit_rename w e name
+  unfit_same = λ t.
+      first_refusal
+      ((not (alive_same t), NotAlive) ∷ (not (is_proper name), BadName)
+      ∷ (not (is_same_name (name_same t) name) && is_borne-map (kept (row_at s)) name_of kept_name (λ a. refl) w name t, NameTaken) ∷ [])
+
+  may_same : may_rename (read w s) e name ≡ registry.may_rename w e name
+  may_same = λ t. not (is_some (unfit_same t)) && (is_some name && not (is_same_name (name_same t) name))
+
+  pub rename_lifts : (w1 : Indexed Registration) (r : Result (Unit {0}) Refusal) → Meets (registry.Renames w e name) (registry.may_rename w e name) w r w1
+      → (IsStore w s → IsStore w1 s) × Meets (Renames (read w s) e name) (may_rename (read w s) e name) (read w s) r (read w1 s)
+  rename_lifts w1 r h = by (is_out_of_memory r) h
+    where
+      ends : (u : Option Refusal) → MatchOption u (Answers tt (with_change w e (renamed name)) r w1) (λ why. Refuses why w r w1)
+          → (IsStore w s → IsStore w1 s) × MatchOption u (Answers tt (with_naming (read w s) e name) r (read w1 s)) (λ why. Refuses why (read w s) r (read w1 s))
+      ends None q = (λ store. subst (λ x. IsStore x s) (sym q.1) (renamed_store store), (q.0, ap (λ x. read x s) q.1 ∙ renamed_read))
+      ends (Some why) q = (λ store. subst (λ x. IsStore x s) (sym q.1) store, (q.0, ap (λ x. read x s) q.1))
+
+      by : (b : Bool) → MatchBool b (IsTrue (registry.may_rename w e name) × (w1 ≡ w)) (registry.Renames w e name r w1)
+          → (IsStore w s → IsStore w1 s) × MatchBool b (IsTrue (may_rename (read w s) e name) × (read w1 s ≡ read w s)) (Renames (read w s) e name r (read w1 s))
+      by true q = (λ store. subst (λ x. IsStore x s) (sym q.1) store, (may_same ∙ q.0, ap (λ x. read x s) q.1))
+      by false q =
+          let k = ends (registry.unfit_rename w e name) q in
+          (k.0, subst (λ u. MatchOption u (Answers tt (with_naming (read w s) e name) r (read w1 s)) (λ why. Refuses why (read w s) r (read w1 s))) (sym unfit_same) k.1)
+
+-- ---- the tables show the store
+
+place_from_seat : (o : Option (IndexState Registration)) (e : Entity) (n k : ℕ) → seat_in o ≡ Some (seat_of e n k)
+    → (r : Registration) × (o ≡ Some (Living e.generation r)) × (r.place ≡ Some (record { table = n; row = k }))
+place_from_seat None e n k h = absurd (cc)
+place_from_seat (Some Retired) e n k h = absurd (cc)
+place_from_seat (Some (Free g)) e n k h = absurd (cc)
+place_from_seat (Some (Living g r)) e n k h = by r.place refl h
+  where
+    by : (p : Option Place) → r.place ≡ p → option_map (seat_of_place g) p ≡ Some (seat_of e n k)
+        → (x : Registration) × (◌≡◌ {A = Option (IndexState Registration)} (Some (Living g r)) (Some (Living e.generation x))) × (x.place ≡ Some (record { table = n; row = k }))
+    by None is h = absurd (cc)
+    by (Some p) is h =
+        let same : seat_of_place g p ≡ seat_of e n k = cc in
+        (r, (λ t. Some (Living (same t).generation r)), is ∙ (λ t. Some (record { table = (same t).slot; row = (same t).row })))
+
+slot_there : (s : List (Option TableState)) (n k : ℕ) (r : Row) → row_at s n k ≡ Some r → slot_of s n ≡ Some (table_in s n)
+slot_there s n k r = by (slot_of s n)
+  where
+    nothing : (k : ℕ) → slice_get no_table.rows k ≡ None
+    nothing zero = refl
+    nothing (suc k) = refl
+
+    by : (o : Option TableState) → slice_get (unwrap_or o no_table).rows k ≡ Some r → o ≡ Some (unwrap_or o no_table)
+    by None h = absurd (no_some (slice_get no_table.rows k) r (nothing k) h)
+    by (Some t) h = refl
+
+from_read : (w : Indexed Registration) (s : List (Option TableState)) (e : Entity) (k : Kept) → record_of (read w s) e ≡ Some k → (r : Registration) × (record_of w e ≡ Some r)
+from_read w s e k h = by (record_of w e) (sym (record_of-read w s e) ∙ h)
+  where
+    by : (o : Option Registration) → option_map (kept (row_at s)) o ≡ Some k → (r : Registration) × (o ≡ Some r)
+    by None q = absurd (cc)
+    by (Some r) q = (r, refl)
+
+has_place : (o : Option Place) → IsSome o → (p : Place) × (o ≡ Some p)
+has_place None h = absurd (cc)
+has_place (Some p) h = (p, refl)
+
+pub shows : (w : Indexed Registration) (s : List (Option TableState)) → IsStore w s → IsShown (read w s) s
+shows w s store = record {
+  rows = λ n k r h.
+      let found = place_from_seat (slice_get w.indices r.entity.index) r.entity n k (store.seated.back n k r h) in
+      let own : own_place w r.entity ≡ Some (record { table = n; row = k }) =
+      ap (option_and_then (λ (x : Registration). x.place)) (record_at w r.entity found.0 found.1) ∙ found.2 in
+      stands_there w s r.entity (record { table = n; row = k }) (table_in s n) store own (slot_there s n k r h);
+  living = λ e x h.
+      let reg = from_read w s e x h in
+      let at = living_at w e reg.0 reg.1 in
+      let place = has_place reg.0.place (subst HasPlace at (store.placed e.index)) in
+      let seat : seat_at w e.index ≡ Some (seat_of e place.0.table place.0.row) = ap seat_in at ∙ ap (option_map (seat_of_place e.generation)) place.1 in
+      let there = store.seated.there e.index (seat_of e place.0.table place.0.row) seat in
+      (place.0.table, place.0.row, there.0, there.1, there.2);
+  once = λ n k m j r x a b same.
+      let one : seat_at w r.entity.index ≡ Some (seat_of r.entity n k) = store.seated.back n k r a in
+      let two : seat_at w r.entity.index ≡ Some (seat_of x.entity m j) = ap (λ (e : Entity). seat_at w e.index) same ∙ store.seated.back m j x b in
+      let both = one_some (seat_at w r.entity.index) _ _ one two in
+      (ap (λ (q : Seat). q.slot) both, ap (λ (q : Seat). q.row) both);
+}

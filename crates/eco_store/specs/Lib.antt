@@ -1,0 +1,6 @@
+pub mod IdIndex
+pub mod TypeMap
+pub mod Archetypes
+pub mod Seats
+pub mod Placing
+pub mod Store

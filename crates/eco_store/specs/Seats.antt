@@ -1,0 +1,43 @@
+-- Each living entity stands in one row, and its seat says which.
+use Rattle.std.specs.Prelude.{◌≡◌, ◌≢◌, ℕ, List, [], Option, None, Some, slice_get}
+use Rattle.eco_ids.specs.declared.entity.Entity.{Entity}
+use Rattle.eco_ids.specs.declared.id.Id.{Id}
+use Rattle.eco_ids.specs.declared.value.Value.{Value}
+use Rattle.eco_tables.specs.Table.{TableState, Row}
+use Rattle.eco_tables.specs.Tables.{table_in}
+
+-- the generation of an index's living entity, and its row of the table in a slot
+pub record Seat : Type 0 where
+  pub generation : ℕ
+  pub slot : ℕ
+  pub row : ℕ
+
+-- the entity of a seat that an index has
+abbrev pub entity_of : ℕ → Seat → Entity
+entity_of i s = record { index = i; generation = s.generation }
+
+-- the seat of an entity in a row
+abbrev pub seat_of : Entity → ℕ → ℕ → Seat
+seat_of e n row = record { generation = e.generation; slot = n; row = row }
+
+-- the row of the table in a slot, if it is there
+abbrev pub row_at : List (Option TableState) → ℕ → ℕ → Option Row
+row_at slots n row = slice_get (table_in slots n).rows row
+
+-- each row is what and where it was
+abbrev pub SameRows : List (Option TableState) → List (Option TableState) → Type 0
+SameRows old new = (n row : ℕ) → row_at new n row ≡ row_at old n row
+
+-- what a row holds
+abbrev pub held_of : Option Row → List (Id × Value)
+held_of None = []
+held_of (Some r) = r.held
+
+-- what the entity of a seat holds
+abbrev pub seen : (ℕ → ℕ → Option Row) → Seat → List (Id × Value)
+seen E s = held_of (E s.slot s.row)
+
+-- seats and rows name each other
+pub record IsSeated (P : ℕ → Option Seat) (E : ℕ → ℕ → Option Row) : Type 0 where
+  pub there : (i : ℕ) (s : Seat) → P i ≡ Some s → (r : Row) × (E s.slot s.row ≡ Some r) × (r.entity ≡ entity_of i s)
+  pub back : (n row : ℕ) (r : Row) → E n row ≡ Some r → P r.entity.index ≡ Some (seat_of r.entity n row)

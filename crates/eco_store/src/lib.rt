@@ -1,0 +1,21 @@
+//! The store of a world: entities with names, ids and values, kept in tables (Flecs manual, Quickstart: entities with the
+//! same components stand together in an archetype table).
+//!
+//! A [`Store`] is seen as a map from entities to their names, ids and values. Inside, each living entity stands in one row
+//! of the table of its type; a type finds its table through a map, and an entity the tables whose types name it through an
+//! index. A table that has lost its last row is dropped, and its slot may be used again.
+//!
+//! Which ids are data, and how many fields their values have, is not known here: each id has a value, zeros when new.
+#![tactic(auto)]
+
+pub mod archetypes;
+pub mod found;
+pub mod id_index;
+pub mod store;
+pub mod type_map;
+
+pub use found::Found;
+pub use store::Store;
+
+#[cfg(test)]
+mod tests;

@@ -1,0 +1,4 @@
+pub mod Columns
+pub mod Lists
+pub mod Rows
+pub mod Slots

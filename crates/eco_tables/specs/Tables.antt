@@ -1,0 +1,57 @@
+-- Tables in slots.
+use Rattle.std.specs.Prelude.{◌≡◌, ◌≢◌, ℕ, ◌-◌, ◌+◌, List, [], ◌∷◌, ◌++◌, Option, None, Some, slice_index_or, slice_set, unwrap_or, option_map}
+use Rattle.std.specs.List.{swap_remove}
+use Rattle.eco_ids.specs.declared.entity.Entity.{Entity}
+use Rattle.eco_ids.specs.declared.id.Id.{Id}
+use Rattle.eco_ids.specs.declared.value.Value.{Value}
+use Rattle.eco_tables.specs.Column.{with_held, retyped}
+use Rattle.eco_tables.specs.Table.{TableState, Row, retyped_row}
+
+-- the table in a slot, if there is one
+abbrev pub slot_of : List (Option TableState) → ℕ → Option TableState
+slot_of slots n = slice_index_or slots n None
+
+-- what stands for a table where there is none
+abbrev pub no_table : TableState
+no_table = record { ids = []; rows = []; room = 0 }
+
+-- what stands for a row where there is none
+abbrev pub no_row : Row
+no_row = record { entity = record { index = 0; generation = 0 }; held = [] }
+
+-- the table in a slot, one without ids, rows and room where there is none
+abbrev pub table_in : List (Option TableState) → ℕ → TableState
+table_in slots n = unwrap_or (slot_of slots n) no_table
+
+-- a row of the table in a slot
+abbrev pub row_in : List (Option TableState) → ℕ → ℕ → Row
+row_in slots n row = slice_index_or (table_in slots n).rows row no_row
+
+-- the new slots have this at n, and every other slot keeps what it had
+pub record Sets (old new : List (Option TableState)) (n : ℕ) (slot : Option TableState) : Type 0 where
+  pub changed : slot_of new n ≡ slot
+  pub others : (m : ℕ) → m ≢ n → slot_of new m ≡ slot_of old m
+
+-- the table with the row at its end, under its own type
+abbrev pub with_row : TableState → Row → TableState
+with_row t r = record { ids = t.ids; rows = t.rows ++ retyped_row t.ids r ∷ []; room = t.room - 1 }
+
+-- the table without the row, whose place the last one takes; the room of one row is won
+abbrev pub without_row : TableState → ℕ → TableState
+without_row t row = record t { rows = swap_remove t.rows row no_row; room = t.room + 1 }
+
+-- the type, where these rows are none
+abbrev pub rowless : TableState → List Row → Option (List Id)
+rowless t [] = Some t.ids
+rowless t (r ∷ rest) = None
+
+-- the type of the table in a slot, if there is one and it has no rows
+abbrev pub rowless_type : Option TableState → Option (List Id)
+rowless_type None = None
+rowless_type (Some t) = rowless t t.rows
+
+-- one row went from one table to the end of another, and the last row of the first took its place
+pub record Moves (old new : List (Option TableState)) (from row to : ℕ) : Type 0 where
+  pub source : slot_of new from ≡ Some (without_row (table_in old from) row)
+  pub target : slot_of new to ≡ Some (with_row (table_in old to) (row_in old from row))
+  pub others : (n : ℕ) → n ≢ from → n ≢ to → slot_of new n ≡ slot_of old n

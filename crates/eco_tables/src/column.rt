@@ -1,0 +1,169 @@
+//! The values of one id, a place for each row; and what is done to all columns of a table.
+ghost use Rattle.std.specs.Prelude.{◌≡◌, ℕ, ◌<◌, ◌≤◌, ◌+◌, ◌-◌, [], length, map, slice_index_or, slice_set, unwrap_or, OnOk, OnErr, IfOk, IsTrue};
+ghost use Rattle.std.specs.List.{swap_remove, All};
+ghost use Rattle.std.specs.FinMap.Entries.{find};
+ghost use Rattle.eco_ids.specs.World.{zeros};
+ghost use Rattle.eco_ids.specs.Order.{id_cmp};
+ghost use Rattle.eco_tables.specs.Column.{ColumnState, pushed, with_removed, with_value, held_in, value_in, written, contents};
+
+use eco_ids::{Id, Value};
+use std::alloc::{AllocError, Global};
+use std::marker::Model;
+
+/// A contract sees the id, the values, and how many more values fit with no allocation (`room`).
+#[derive(Drop)]
+pub struct Column {
+    id: Id,
+    values: Vec<Value>,
+}
+
+impl Model for Column {
+    ghost use Rattle.std.specs.Prelude.{◌-◌, vec_capacity, vec_len};
+    ghost use Rattle.eco_tables.specs.Column.{ColumnState};
+
+    ghost Value = { ColumnState };
+
+    ghost view = { λ c. record { id = c.id; values = c.values.items; room = vec_capacity c.values - vec_len c.values } };
+}
+
+impl Column {
+    /// A column without values.
+    pub fn new(alloc: Global, id: Id) -> Column
+        ensures id { result.id ≡ id }
+        ensures empty { result.values ≡ [] }
+    {
+        Column {
+            id,
+            values: Vec::new(alloc),
+        }
+    }
+
+    /// Whose values these are.
+    pub fn id(&self) -> Id
+        ensures { result ≡ self.now.id }
+    {
+        self.id
+    }
+
+    /// Room for more values. An `Err` keeps what is there.
+    pub fn reserve(&mut self, more: usize) -> Result<(), AllocError>
+        ensures same { self.new ≡ record self.old { room = self.new.room } }
+        ensures kept { self.old.room ≤ self.new.room }
+        ensures room { OnOk result (more ≤ self.new.room) }
+    {
+        self.values.reserve(more)
+    }
+
+    /// A value for one more row, in reserved room.
+    pub fn push(&mut self, value: Value)
+        requires { 0 < self.old.room }
+        ensures { self.new ≡ pushed self.old value }
+    {
+        self.values.push_reserved(value);
+    }
+
+    /// The value in a row.
+    pub fn value(&self, row: usize) -> Value
+        requires { row < length self.now.values }
+        ensures { result ≡ slice_index_or self.now.values row zeros }
+    {
+        self.values[row]
+    }
+
+    /// Writes the value in a row if the column has this id; else nothing.
+    pub fn write(&mut self, row: usize, id: Id, value: Value)
+        requires { row < length self.old.values }
+        ensures { self.new ≡ written self.old row id value }
+    {
+        if self.id.is(id) {
+            self.values[row] = value;
+        }
+    }
+
+    /// The row's value goes, and the last one takes its place.
+    pub fn swap_out(&mut self, row: usize)
+        requires { row < length self.old.values }
+        ensures { self.new ≡ with_removed self.old row }
+    {
+        self.values.swap_remove(row);
+    }
+}
+
+/// A place for one more row in each, with zeros.
+pub fn push_zeros(columns: &mut [Column])
+    requires { All (λ c. 0 < c.room) columns.old }
+    ensures { columns.new ≡ map (λ c. pushed c zeros) columns.old }
+{
+    for column in columns.iter_mut() {
+        column.push(Value::ZERO);
+    }
+}
+
+/// The row's values go, and the last row's take their place.
+pub fn swap_out_row(columns: &mut [Column], row: usize)
+    requires { All (λ c. row < length c.values) columns.old }
+    ensures { columns.new ≡ map (λ c. with_removed c row) columns.old }
+{
+    for column in columns.iter_mut() {
+        column.swap_out(row);
+    }
+}
+
+/// The value of an id in a row, zeros where no column has the id.
+pub fn value_at(columns: &[Column], row: usize, id: Id) -> Value
+    requires { All (λ c. row < length c.values) columns.now }
+    ensures { result ≡ value_in (held_in columns.now row) id }
+{
+    for column in columns {
+        if id.is(column.id()) {
+            return column.value(row);
+        }
+    }
+    Value::ZERO
+}
+
+/// Writes the value of an id in a row; nothing where no column has the id.
+pub fn set_value(columns: &mut [Column], row: usize, id: Id, value: Value)
+    requires { All (λ c. row < length c.values) columns.old }
+    ensures { columns.new ≡ map (λ c. written c row id value) columns.old }
+{
+    for column in columns.iter_mut() {
+        column.write(row, id, value);
+    }
+}
+
+/// One column for each id, without a row.
+pub fn columns_of(alloc: Global, ids: &[Id]) -> Result<Vec<Column>, AllocError>
+    ensures ids { IfOk result (λ v. map (λ c. c.id) v.items ≡ ids.now) }
+    ensures empty { IfOk result (λ v. All (λ c. c.values ≡ []) v.items) }
+{
+    let mut columns = Vec::new(alloc);
+    for id in ids {
+        columns.push(Column::new(alloc, *id))?;
+    }
+    Ok(columns)
+}
+
+/// Room for more rows in each. An `Err` keeps what is there.
+pub fn reserve(columns: &mut [Column], more: usize) -> Result<(), AllocError>
+    ensures same { map contents columns.new ≡ map contents columns.old }
+    ensures kept { (b : ℕ) → All (λ c. b ≤ c.room) columns.old → All (λ c. b ≤ c.room) columns.new }
+    ensures room { OnOk result (All (λ c. more ≤ c.room) columns.new) }
+{
+    for column in columns.iter_mut() {
+        column.reserve(more)?;
+    }
+    Ok(())
+}
+
+/// A place for one more row in each, with the values of a row elsewhere: zeros for an id that has no column there.
+pub fn push_from(columns: &mut [Column], source: &[Column], row: usize)
+    requires room { All (λ c. 0 < c.room) columns.old }
+    requires row { All (λ c. row < length c.values) source.now }
+    ensures { columns.new ≡ map (λ c. pushed c (value_in (held_in source.now row) c.id)) columns.old }
+{
+    for column in columns.iter_mut() {
+        let value = value_at(source, row, column.id());
+        column.push(value);
+    }
+}

@@ -1,0 +1,168 @@
+//! Tables, each in a slot of its own.
+ghost use Rattle.std.specs.Prelude.{◌≡◌, ◌≢◌, ℕ, ◌<◌, ◌≤◌, [], ◌∷◌, length, slice_get, slice_index_or, slice_set, None, Some, IsSome, is_some, OnSome, IfNone, count_by, OnOk, OnErr, IfOk, option_copied};
+ghost use Rattle.eco_tables.specs.Column.{value_in, with_held};
+ghost use Rattle.eco_tables.specs.Table.{TableState, Row, entities_of};
+ghost use Rattle.eco_tables.specs.Tables.{slot_of, table_in, row_in, no_row, Sets, Moves, with_row, without_row, rowless_type};
+ghost use Rattle.slab.specs.Slab.{entries_from};
+
+use crate::table::Table;
+use eco_ids::{Entity, Id, TypeList, Value};
+use slab::Slab;
+use std::alloc::{AllocError, Global};
+use std::marker::Model;
+
+/// A contract sees a list of slots, each with a table or nothing. A slot keeps its number as long as its table lives; a
+/// slot whose table was dropped may be used again.
+#[derive(Drop)]
+pub struct Tables {
+    alloc: Global,
+    slots: Slab<Table>,
+}
+
+impl Model for Tables {
+    ghost use Rattle.std.specs.Prelude.{List, Option};
+    ghost use Rattle.eco_tables.specs.Table.{TableState};
+
+    ghost Value = { List (Option TableState) };
+
+    ghost view = { λ t. t.slots.slots };
+}
+
+impl Tables {
+    /// No table. What grows later takes its memory from `alloc`.
+    pub fn new(alloc: Global) -> Tables
+        ensures { (n : ℕ) → slot_of result n ≡ None }
+    {
+        Tables {
+            alloc,
+            slots: Slab::new(alloc),
+        }
+    }
+
+    /// A new table without rows, in a slot that was empty; the answer is the slot. An `Err` comes where memory is refused
+    /// and changes nothing.
+    pub fn insert(&mut self, type_list: TypeList) -> Result<usize, AllocError>
+        ensures vacant { IfOk result (λ n. slot_of self.old n ≡ None) }
+        ensures sets { IfOk result (λ n. Sets self.old self.new n (Some (record { ids = type_list; rows = []; room = 0 }))) }
+        ensures err { OnErr result (self.new ≡ self.old) }
+    {
+        let table = Table::new(self.alloc, type_list)?;
+        self.slots.reserve(1)?;
+        Ok(self.slots.insert_reserved(table))
+    }
+
+    /// The table in a slot, if there is one.
+    pub fn get(&self, slot: usize) -> Option<&Table>
+        ensures { option_copied result ≡ slot_of self.now slot }
+    {
+        self.slots.get(slot)
+    }
+
+    /// The slot has a table.
+    pub fn contains(&self, slot: usize) -> bool
+        ensures { result ≡ is_some (slot_of self.now slot) }
+    {
+        self.slots.contains(slot)
+    }
+
+    /// How many rows a table has, 0 where the slot is empty.
+    pub fn row_count(&self, slot: usize) -> usize
+        ensures { result ≡ length (table_in self.now slot).rows }
+    {
+        match self.slots.get(slot) {
+            Some(table) => table.row_count(),
+            None => 0,
+        }
+    }
+
+    /// Drops the table in a slot if it has no rows, and answers its type. Any other slot stays as it is.
+    pub fn drop_empty(&mut self, slot: usize) -> Option<TypeList>
+        ensures answer { result ≡ rowless_type (slot_of self.old slot) }
+        ensures dropped { OnSome result (Sets self.old self.new slot None) }
+        ensures kept { IfNone result (self.new ≡ self.old) }
+    {
+        if self.slots.get(slot)?.row_count() > 0 {
+            return None;
+        }
+        Some(self.slots.remove(slot).into_type_list())
+    }
+
+    /// How many tables there are.
+    pub fn len(&self) -> usize
+        ensures { result ≡ count_by is_some self.now }
+    {
+        self.slots.len()
+    }
+
+    /// Every table's slot lies below.
+    pub fn slot_bound(&self) -> usize
+        ensures { (n : ℕ) → IsSome (slot_of self.now n) → n < result }
+    {
+        self.slots.capacity()
+    }
+
+    /// The tables with their slots, slots ascending.
+    pub fn iter(&self) -> slab::Iter<'_, Table>
+        ensures { result ≡ entries_from 0 self.now }
+    {
+        self.slots.iter()
+    }
+
+    /// Room for more rows in a table. An `Err` keeps all rows and the room that was there.
+    pub fn reserve_rows(&mut self, slot: usize, more: usize) -> Result<(), AllocError>
+        requires { IsSome (slot_of self.old slot) }
+        ensures sets { Sets self.old self.new slot (Some (record (table_in self.old slot) { room = (table_in self.new slot).room })) }
+        ensures kept { (table_in self.old slot).room ≤ (table_in self.new slot).room }
+        ensures room { OnOk result (more ≤ (table_in self.new slot).room) }
+    {
+        let table = &mut self.slots[slot];
+        table.reserve(more)
+    }
+
+    /// Writes the value of an id in a row, and takes no memory. Where the table's type lacks the id nothing is written.
+    pub fn set_value(&mut self, slot: usize, row: usize, id: Id, value: Value)
+        requires { row < length (table_in self.old slot).rows }
+        ensures { Sets self.old self.new slot (Some (record (table_in self.old slot) { rows = slice_set (table_in self.old slot).rows row (record { entity = (row_in self.old slot row).entity; held = with_held (row_in self.old slot row).held id value }) })) }
+    {
+        let table = &mut self.slots[slot];
+        table.set_value(row, id, value);
+    }
+
+    /// A row for a new entity, with zeros, in room that was reserved.
+    pub fn push_row(&mut self, slot: usize, entity: Entity)
+        requires { 0 < (table_in self.old slot).room }
+        ensures { Sets self.old self.new slot (Some (with_row (table_in self.old slot) (record { entity = entity; held = [] }))) }
+    {
+        let table = &mut self.slots[slot];
+        table.push_row(entity);
+    }
+
+    /// Takes a row out, and takes no memory. The answer is the entity that stands in its place now: none where the row was
+    /// the last.
+    pub fn swap_out(&mut self, slot: usize, row: usize) -> Option<Entity>
+        requires { row < length (table_in self.old slot).rows }
+        ensures rows { Sets self.old self.new slot (Some (without_row (table_in self.old slot) row)) }
+        ensures moved { result ≡ slice_get (entities_of (table_in self.new slot).rows) row }
+    {
+        let table = &mut self.slots[slot];
+        table.swap_out(row)
+    }
+
+    /// Moves a row into room that was reserved in another table, where it is the last row. Values of ids that both types
+    /// have stay, and new ids hold zeros. It takes no memory and cannot fail. The answer is the entity that stands in the
+    /// hole now: none where the row was the last.
+    pub fn move_row(&mut self, from: usize, row: usize, to: usize) -> Option<Entity>
+        requires apart { from ≢ to }
+        requires row { row < length (table_in self.old from).rows }
+        requires room { 0 < (table_in self.old to).room }
+        ensures moves { Moves self.old self.new from row to }
+        ensures moved { result ≡ slice_get (entities_of (table_in self.new from).rows) row }
+    {
+        let mut target = self.slots.remove(to);
+        let source = &mut self.slots[from];
+        target.push_row_from(source, row);
+        let moved = source.swap_out(row);
+        self.slots.insert_reserved(target);
+        moved
+    }
+}

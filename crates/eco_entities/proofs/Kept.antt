@@ -22,20 +22,21 @@ raised_none A f g = raised_cases A f g (nat_lt f 65535)
 pub record-set : {A : Type 0} (w : Indexed A) (e : Entity) (x y : IndexState A) → slice_get w.indices e.index ≡ Some y → ((g : ℕ) → g ≢ e.generation → record_in (Some x) g ≡ record_in (Some y) g) → ChangesAt (record_of w) (record_of (record w { indices = slice_set w.indices e.index x })) e (record_in (Some x) e.generation)
 record-set w e x y here apart_from = record {
   here = ap (λ o. record_in o e.generation) (slice_get-set_same w.indices e.index x (slice_get_within w.indices e.index y here));
-  others = λ j ne. elim (cases_eq j.index e.index)
-    [ inl i ↦
+  others = λ j ne. elim (cases_eq j.index e.index) [
+    | inl i ↦
         let apart : j.generation ≢ e.generation = λ g. ne (ap (λ n. record { index = n; generation = j.generation }) i ∙ ap (λ n. record { index = e.index; generation = n }) g) in
         rw i
         (ap (λ o. record_in o j.generation) (slice_get-set_same w.indices e.index x (slice_get_within w.indices e.index y here))
         ∙ (apart_from j.generation apart ∙ sym (ap (λ o. record_in o j.generation) here)))
-    | inr i ↦ ap (λ o. record_in o j.generation) (slice_get-set_other w.indices e.index j.index x i) ];
+    | inr i ↦ ap (λ o. record_in o j.generation) (slice_get-set_other w.indices e.index j.index x i)
+  ];
 }
 
 -- a free handle comes to live
 pub record-settled : {A : Type 0} (w : Indexed A) (e : Entity) (r : A) → is_free_at w e ≡ true → ChangesAt (record_of w) (record_of (with_record w e r)) e (Some r)
 record-settled w e r free =
     let c : ChangesAt (record_of w) (record_of (with_record w e r)) e (record_in (Some (Living e.generation r)) e.generation) =
-        record-set w e (Living e.generation r) (Free e.generation) (free_known w e free) (λ g ne. living_else e.generation g r ne) in
+    record-set w e (Living e.generation r) (Free e.generation) (free_known w e free) (λ g ne. living_else e.generation g r ne) in
     record { here = c.here ∙ record_here e.generation r; others = c.others }
 
 pub record_of_free : {A : Type 0} (w : Indexed A) (e : Entity) → is_free_at w e ≡ true → record_of w e ≡ None
@@ -46,7 +47,7 @@ pub record-died : {A : Type 0} (w : Indexed A) (e : Entity) → is_alive w e ≡
 record-died {A} w e alive =
     let living : (r : A) × (slice_get w.indices e.index ≡ Some (Living e.generation r)) = alive_known w e alive in
     let c : ChangesAt (record_of w) (record_of (with_death w e)) e (record_in (Some (raised e.generation)) e.generation) =
-        record-set w e (raised e.generation) (Living e.generation living.0) living.1 (λ g ne. raised_none A e.generation g ∙ sym (living_else e.generation g living.0 ne)) in
+    record-set w e (raised e.generation) (Living e.generation living.0) living.1 (λ g ne. raised_none A e.generation g ∙ sym (living_else e.generation g living.0 ne)) in
     record { here = c.here ∙ raised_none A e.generation e.generation; others = c.others }
 
 -- something else is kept of a living one
@@ -54,7 +55,7 @@ pub record-replaced : {A : Type 0} (w : Indexed A) (e : Entity) (r : A) → is_a
 record-replaced {A} w e r alive =
     let living : (q : A) × (slice_get w.indices e.index ≡ Some (Living e.generation q)) = alive_known w e alive in
     let c : ChangesAt (record_of w) (record_of (with_record w e r)) e (record_in (Some (Living e.generation r)) e.generation) =
-        record-set w e (Living e.generation r) (Living e.generation living.0) living.1 (λ g ne. living_else e.generation g r ne ∙ sym (living_else e.generation g living.0 ne)) in
+    record-set w e (Living e.generation r) (Living e.generation living.0) living.1 (λ g ne. living_else e.generation g r ne ∙ sym (living_else e.generation g living.0 ne)) in
     record { here = c.here ∙ record_here e.generation r; others = c.others }
 
 -- more free indices
@@ -95,29 +96,30 @@ pub record IsRoom {A : Type 0} (w : Indexed A) (e : Entity) : Type 0 where
 
 pub next_has_room : {A : Type 0} (w : Indexed A) (e : Entity) → next_entity w ≡ Some e → IsRoom w e
 next_has_room {A} w e h =
-    elim (next_is w e h)
-    [ inl free ↦
-        let within : e.index < length w.indices = slice_get_within w.indices e.index (Free e.generation) free in
-        record {
-          free = ap (λ (v : Indexed A). is_free_at v e) (room_known w e within) ∙ free_is w e free;
-          keeps = record { all = λ j. ap (λ (v : Indexed A). record_of v j) (room_known w e within) };
-          settled = λ r. ap (λ (v : Indexed A). with_record v e r) (room_known w e within)
-            ∙ sym (cond-true (nat_lt e.index (length w.indices)) (with_record w e r) _ (lt-ltb _ _ within));
-        }
-    | inr fresh ↦
-        let index : length w.indices ≡ e.index = ap (λ (x : Entity). x.index) fresh.1 in
-        let generation : 0 ≡ e.generation = ap (λ (x : Entity). x.generation) fresh.1 in
-        let past : length w.indices ≤ e.index = omega arith in
-        let here : slice_get (admitted 1 w).indices e.index ≡ Some (Free e.generation) =
-            ap (λ i. slice_get (w.indices ++ Free 0 ∷ []) i) (sym index) ∙ (fresh_at w.indices ∙ ap (λ g. Some (Free g)) generation) in
-        record {
-          free = ap (λ (v : Indexed A). is_free_at v e) (room_fresh w e past) ∙ free_is (admitted 1 w) e here;
-          keeps = record { all = λ j. ap (λ (v : Indexed A). record_of v j) (room_fresh w e past) ∙ (record-admitted w 1).all j };
-          settled = λ r. ap (λ (v : Indexed A). with_record v e r) (room_fresh w e past)
-            ∙ (ap (λ i. record w { indices = set (w.indices ++ Free 0 ∷ []) i (Living e.generation r) }) (sym index)
-            ∙ (ap (λ ys. record w { indices = ys }) (set_fresh w.indices (Living e.generation r))
-            ∙ sym (cond-false (nat_lt e.index (length w.indices)) (with_record w e r) _ (le-ltb _ _ past))));
-        } ]
+    elim (next_is w e h) [
+      | inl free ↦
+          let within : e.index < length w.indices = slice_get_within w.indices e.index (Free e.generation) free in
+          record {
+            free = ap (λ (v : Indexed A). is_free_at v e) (room_known w e within) ∙ free_is w e free;
+            keeps = record { all = λ j. ap (λ (v : Indexed A). record_of v j) (room_known w e within) };
+            settled = λ r. ap (λ (v : Indexed A). with_record v e r) (room_known w e within)
+                ∙ sym (cond-true (nat_lt e.index (length w.indices)) (with_record w e r) _ (lt-ltb _ _ within));
+          }
+      | inr fresh ↦
+          let index : length w.indices ≡ e.index = ap (λ (x : Entity). x.index) fresh.1 in
+          let generation : 0 ≡ e.generation = ap (λ (x : Entity). x.generation) fresh.1 in
+          let past : length w.indices ≤ e.index = omega arith in
+          let here : slice_get (admitted 1 w).indices e.index ≡ Some (Free e.generation) =
+          ap (λ i. slice_get (w.indices ++ Free 0 ∷ []) i) (sym index) ∙ (fresh_at w.indices ∙ ap (λ g. Some (Free g)) generation) in
+          record {
+            free = ap (λ (v : Indexed A). is_free_at v e) (room_fresh w e past) ∙ free_is (admitted 1 w) e here;
+            keeps = record { all = λ j. ap (λ (v : Indexed A). record_of v j) (room_fresh w e past) ∙ (record-admitted w 1).all j };
+            settled = λ r. ap (λ (v : Indexed A). with_record v e r) (room_fresh w e past)
+                ∙ (ap (λ i. record w { indices = set (w.indices ++ Free 0 ∷ []) i (Living e.generation r) }) (sym index)
+                ∙ (ap (λ ys. record w { indices = ys }) (set_fresh w.indices (Living e.generation r))
+                ∙ sym (cond-false (nat_lt e.index (length w.indices)) (with_record w e r) _ (le-ltb _ _ past))));
+          }
+    ]
 
 -- the next entity comes to live, who didn't before
 pub record-new : {A : Type 0} (w : Indexed A) (e : Entity) (r : A) → next_entity w ≡ Some e → ChangesAt (record_of w) (record_of (with_new w e r)) e (Some r)

@@ -175,16 +175,16 @@ parts_are (a ∷ b ∷ c ∷ []) s e =
     (number_in 1 1 a) s e
     (λ v is h. option_and_then_some (λ l. option_map (λ ss. record { limit = l; steps = ss }) (option_and_then steps_of (list_in c))) (number_in 9 1048576 b) s h
     (λ l at k. whole v (number_is 1 1 a v is) l (number_is 9 1048576 b l at) (option_and_then steps_of (list_in c)) refl k)) where
-  whole : (v : ℕ) → (a ≡ number (unsigned v)) × (1 ≤ v) × (v ≤ 1) → (l : ℕ) → (b ≡ number (unsigned l)) × (9 ≤ l) × (l ≤ 1048576)
-      → (o : Option (List Step)) → option_and_then steps_of (list_in c) ≡ o → option_map (λ ss. record { limit = l; steps = ss }) o ≡ Some s
-      → IsScriptData (list_data (a ∷ b ∷ c ∷ [])) s
-  whole v (is, low, high) l (at, least, most) None n h = cc
-  whole v (is, low, high) l (at, least, most) (Some ss) n h =
-      let one : v ≡ 1 = omega arith in
-      let q : s ≡ record { limit = l; steps = ss } = cc in
-      let steps : c ≡ list_data (map step_data ss) =
-      option_and_then_some steps_of (list_in c) ss n (λ ds at_list of. list_is c ds at_list ∙ ap list_data (steps_are ds ss of)) in
-      rw (q, is, one, at, steps) (refl, least, most)
+      whole : (v : ℕ) → (a ≡ number (unsigned v)) × (1 ≤ v) × (v ≤ 1) → (l : ℕ) → (b ≡ number (unsigned l)) × (9 ≤ l) × (l ≤ 1048576)
+          → (o : Option (List Step)) → option_and_then steps_of (list_in c) ≡ o → option_map (λ ss. record { limit = l; steps = ss }) o ≡ Some s
+          → IsScriptData (list_data (a ∷ b ∷ c ∷ [])) s
+      whole v (is, low, high) l (at, least, most) None n h = cc
+      whole v (is, low, high) l (at, least, most) (Some ss) n h =
+          let one : v ≡ 1 = omega arith in
+          let q : s ≡ record { limit = l; steps = ss } = cc in
+          let steps : c ≡ list_data (map step_data ss) =
+          option_and_then_some steps_of (list_in c) ss n (λ ds at_list of. list_is c ds at_list ∙ ap list_data (steps_are ds ss of)) in
+          rw (q, is, one, at, steps) (refl, least, most)
 
 pub script_is : (d : Data) (s : Script) → script_in d ≡ Some s → IsScriptData d s
 script_is d s e =

@@ -57,17 +57,17 @@ create_ends w name =
     unless (Creates w name) (may_create w name) w (unfit_name (λ r. r.name) w name)
     (plain_refusal ((not (is_proper name), BadName) ∷ (is_taken w name, NameTaken) ∷ []) refl) (λ why e. rw e (refl, refl))
     (λ fit. next (next_entity w) refl fit) where
-  next : (o : Option Entity) → next_entity w ≡ o → unfit_name (λ r. r.name) w name ≡ None → Ends (Meets (Creates w name) (may_create w name) w)
-  next None e fit = (Err NoMoreIds, w, rw (fit, e) (refl, refl))
-  next (Some x) e fit = wanting (Creates w name) (may_create w name) w (rw (fit, e) refl)
+      next : (o : Option Entity) → next_entity w ≡ o → unfit_name (λ r. r.name) w name ≡ None → Ends (Meets (Creates w name) (may_create w name) w)
+      next None e fit = (Err NoMoreIds, w, rw (fit, e) (refl, refl))
+      next (Some x) e fit = wanting (Creates w name) (may_create w name) w (rw (fit, e) refl)
 
 add_ends : (w : WorldState) (e : Entity) (i : Id) → Ends (Meets (Adds w e i) (may_add w e i) w)
 add_ends w e i =
     unless (Adds w e i) (may_add w e i) w (unfit w e i)
     (plain_refusal ((not (is_alive w e), NotAlive) ∷ (is_builtin w e, Reserved) ∷ (not (names_living w i), DeadId) ∷ []) refl) (λ why eq. rw eq (refl, refl)) (λ fit. there (has w e i) refl fit) where
-  there : (b : Bool) → has w e i ≡ b → unfit w e i ≡ None → Ends (Meets (Adds w e i) (may_add w e i) w)
-  there true h fit = (Ok tt, w, rw (fit, h) (refl, refl))
-  there false h fit = wanting (Adds w e i) (may_add w e i) w (rw (fit, h) refl)
+      there : (b : Bool) → has w e i ≡ b → unfit w e i ≡ None → Ends (Meets (Adds w e i) (may_add w e i) w)
+      there true h fit = (Ok tt, w, rw (fit, h) (refl, refl))
+      there false h fit = wanting (Adds w e i) (may_add w e i) w (rw (fit, h) refl)
 
 remove_ends : (w : WorldState) (e : Entity) (i : Id) → Ends (Meets (Removes w e i) (may_remove w e i) w)
 remove_ends w e i =

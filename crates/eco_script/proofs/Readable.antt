@@ -38,14 +38,14 @@ through m p (b ∷ bs) =
 ended_or_stops : (p : Point) (text : List ℕ) → ((r : List WrittenSlot) × Rest (length text) r p text) ⊎ ((n : ℕ) × Stops p text n)
 ended_or_stops p text = elim (through 0 p text) [
   | inl (c, q, count, run) ↦
-    (let at_end : c ≡ length text = omega arith in
-    elim (end q) as (λ o. end q ≡ o → ((r : List WrittenSlot) × Rest (length text) r p text) ⊎ ((n : ℕ) × Stops p text n)) [
-      | None ↦ λ e. inr (length text, (q, rw take-length (run ∙ ap (λ k. Some (k, q)) at_end), inr (refl, e)))
-      | Some r ↦ λ e. inl (r, read_out p text r c q run e)
-    ] refl)
+      (let at_end : c ≡ length text = omega arith in
+      elim (end q) as (λ o. end q ≡ o → ((r : List WrittenSlot) × Rest (length text) r p text) ⊎ ((n : ℕ) × Stops p text n)) [
+        | None ↦ λ e. inr (length text, (q, rw take-length (run ∙ ap (λ k. Some (k, q)) at_end), inr (refl, e)))
+        | Some r ↦ λ e. inl (r, read_out p text r c q run e)
+      ] refl)
   | inr (n, c, q, count, lt, run, stuck) ↦
-    (let at_n : c ≡ n = omega arith in
-    inr (n, (q, run ∙ ap (λ k. Some (k, q)) at_n, inl (lt, subst (λ k. move k q (get_or text n 0) ≡ None) at_n stuck))))
+      (let at_n : c ≡ n = omega arith in
+      inr (n, (q, run ∙ ap (λ k. Some (k, q)) at_n, inl (lt, subst (λ k. move k q (get_or text n 0) ≡ None) at_n stuck))))
 ]
 
 -- what is left at the start of a reference is one

@@ -10,11 +10,10 @@ ghost use Rattle.eco_script.specs.Views.{step_view};
 
 use crate::device::{ScriptReader, ScriptWriter};
 use crate::fault::Fault;
-use crate::perform;
-use crate::reply;
 use crate::script::{Script, Step};
 use crate::status::Status;
 use crate::transfer::{self, MOST_READS};
+use crate::{perform, reply};
 use eco_world::World;
 use serde_json::Value;
 use std::alloc::{AllocError, Global};

@@ -13,13 +13,29 @@ use std::alloc::Global;
 #[derive(Clone, Copy, Debug)]
 pub enum Step<'a> {
     Create(Option<&'a str>),
-    Add { entity: &'a str, id: &'a str },
-    Remove { entity: &'a str, id: &'a str },
-    Rename { entity: &'a str, name: Option<&'a str> },
-    Has { entity: &'a str, id: &'a str },
-    Show { entity: &'a str },
+    Add {
+        entity: &'a str,
+        id: &'a str,
+    },
+    Remove {
+        entity: &'a str,
+        id: &'a str,
+    },
+    Rename {
+        entity: &'a str,
+        name: Option<&'a str>,
+    },
+    Has {
+        entity: &'a str,
+        id: &'a str,
+    },
+    Show {
+        entity: &'a str,
+    },
     List,
-    Query { text: &'a str },
+    Query {
+        text: &'a str,
+    },
 }
 
 /// The limit of a world, 9 to 1,048,576, and the steps that are run on it.

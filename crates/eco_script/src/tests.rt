@@ -6,6 +6,7 @@ use std::process::Abort;
 
 const SCRIPT: &str =
     r#"[1, 16, [["create", "a"], ["add", "a", "a"], ["query", "a"], ["show", "a"], ["has", "a", "b"]]]"#;
+
 const TEXT: &str =
     "ok #9.0\nok\nok 1\nrow #9.0 [#9.0]\nok #9.0 a - [#9.0]\nrefused 21 UnknownName 0\n";
 

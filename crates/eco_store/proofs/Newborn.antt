@@ -199,11 +199,13 @@ module _ {A B : Type 0} (f : A → B) (name_a : A → Option (List ℕ)) (name_b
           → (new ≡ w) × MatchBool b (IsTrue (may_make name_b shown (name_b d')) × (shown ≡ shown)) (Makes name_b shown d' (refused why) shown)
       by true q = (q.1, (may_same ∙ q.0, refl))
       by false q =
-          let r = refused_ends (unfit_name name_a w (name_a d)) (next_entity w) (λ e. with_new w e d) (λ e. with_new shown e d') w new shown why q in
-          (r.0, subst (λ u. MatchOption u (MatchOption (next_entity shown) (Refuses NoMoreIds shown (refused why) shown) (λ e. Answers e (with_new shown e d') (refused why) shown)) (λ x. Refuses x shown (refused why) shown))
-          (sym unfit_same)
-          (subst (λ n. MatchOption (unfit_name name_a w (name_a d)) (MatchOption n (Refuses NoMoreIds shown (refused why) shown) (λ e. Answers e (with_new shown e d') (refused why) shown)) (λ x. Refuses x shown (refused why) shown))
-          (sym next_same) r.1))
+          let r = refused_ends (unfit_name name_a w (name_a d)) (next_entity w) (λ e. with_new w e d) (λ e. with_new shown e d') w new shown why q in (
+            r.0,
+            subst (λ u. MatchOption u (MatchOption (next_entity shown) (Refuses NoMoreIds shown (refused why) shown) (λ e. Answers e (with_new shown e d') (refused why) shown)) (λ x. Refuses x shown (refused why) shown))
+                (sym unfit_same)
+                (subst (λ n. MatchOption (unfit_name name_a w (name_a d)) (MatchOption n (Refuses NoMoreIds shown (refused why) shown) (λ e. Answers e (with_new shown e d') (refused why) shown)) (λ x. Refuses x shown (refused why) shown))
+                (sym next_same) r.1),
+          )
 
   -- one that succeeds makes the next entity
   pub create_made : (new : Indexed A) (e : Entity) → Meets (Makes name_a w d) (may_make name_a w (name_a d)) w (Ok e) new

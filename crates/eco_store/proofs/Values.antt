@@ -134,9 +134,11 @@ module _ (w : Indexed Registration) (s s1 : List (Option TableState)) (e : Entit
         | inr other ↦ (r, elsewhere n k (λ a b. other a) ∙ h, refl)
         | inl in_table ↦ elim (cases_eq k p.row) [
           | inr other ↦ (r, elsewhere n k (λ a b. other b) ∙ h, refl)
-          | inl at_row ↦
-              (new_row, (λ t. row_at s1 (in_table t) (at_row t)) ∙ new_there,
-              ap (λ (x : Row). x.entity) (one_some (row_at s p.table p.row) old_row r old_there (sym (λ t. row_at s (in_table t) (at_row t)) ∙ h)))
+          | inl at_row ↦ (
+            new_row,
+            (λ t. row_at s1 (in_table t) (at_row t)) ∙ new_there,
+            ap (λ (x : Row). x.entity) (one_some (row_at s p.table p.row) old_row r old_there (sym (λ t. row_at s (in_table t) (at_row t)) ∙ h)),
+          )
         ]
       ]
 
@@ -146,9 +148,11 @@ module _ (w : Indexed Registration) (s s1 : List (Option TableState)) (e : Entit
         | inr other ↦ (x, sym (elsewhere n k (λ a b. other a)) ∙ h, refl)
         | inl in_table ↦ elim (cases_eq k p.row) [
           | inr other ↦ (x, sym (elsewhere n k (λ a b. other b)) ∙ h, refl)
-          | inl at_row ↦
-              (old_row, (λ t. row_at s (in_table t) (at_row t)) ∙ old_there,
-              ap (λ (y : Row). y.entity) (one_some (row_at s1 p.table p.row) new_row x new_there (sym (λ t. row_at s1 (in_table t) (at_row t)) ∙ h)))
+          | inl at_row ↦ (
+            old_row,
+            (λ t. row_at s (in_table t) (at_row t)) ∙ old_there,
+            ap (λ (y : Row). y.entity) (one_some (row_at s1 p.table p.row) new_row x new_there (sym (λ t. row_at s1 (in_table t) (at_row t)) ∙ h)),
+          )
         ]
       ]
 

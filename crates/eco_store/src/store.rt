@@ -268,10 +268,13 @@ impl Store {
         let end = self.archetypes.tables().row_count(to);
         let moved = self.archetypes.move_row(place.table, place.row, to);
         fix_place(&mut self.entities, moved, place);
-        self.entities.set_place(e, Place {
-            table: to,
-            row: end,
-        });
+        self.entities.set_place(
+            e,
+            Place {
+                table: to,
+                row: end,
+            },
+        );
         self.archetypes.drop_empty(place.table);
         Ok(())
     }

@@ -14,7 +14,10 @@ fn entities_keep_ids_and_values(rt: HostRuntime) -> Result<(), Fail> {
     store.retype(e, &nothing.with(Id::One(position))?)?;
     assert!(rt; store.is_alive(e));
     store.set_value(e, Id::One(position), Value([1, 2, 0, 0]));
-    assert_eq!(rt; store.value(e, Id::One(position)), Some(Value([1, 2, 0, 0])));
+    assert_eq!(rt;
+        store.value(e, Id::One(position)),
+        Some(Value([1, 2, 0, 0]))
+    );
     assert_eq!(rt; store.value(position, Id::One(position)), None);
     assert_eq!(rt; store.ids_of(e), [Id::One(position)].as_slice());
     assert_eq!(rt; store.tables_with(Pattern::One(position))?.slots.len(), 1);

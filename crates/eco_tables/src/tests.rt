@@ -7,14 +7,17 @@ const FIRST: Entity = Entity {
     index: 20,
     generation: 0,
 };
+
 const SECOND: Entity = Entity {
     index: 21,
     generation: 3,
 };
+
 const POSITION: Id = Id::One(Entity {
     index: 9,
     generation: 0,
 });
+
 const VELOCITY: Id = Id::One(Entity {
     index: 10,
     generation: 0,
@@ -55,14 +58,19 @@ fn a_row_moves_with_its_values(rt: HostRuntime) -> Result<(), Fail> {
     assert_eq!(rt; tables.row_count(one), 1);
     assert_eq!(rt; tables.drop_empty(one), None);
     let moved = tables.get(two).ok_or("the second table is there")?;
-    assert_eq!(rt; moved.type_list().as_slice(), [POSITION, VELOCITY].as_slice());
+    assert_eq!(rt;
+        moved.type_list().as_slice(),
+        [POSITION, VELOCITY].as_slice()
+    );
     assert_eq!(rt; moved.rows(), [FIRST].as_slice());
     assert_eq!(rt; moved.row_count(), 1);
     assert_eq!(rt; moved.value(0, POSITION), Value([1, 2, 0, 0]));
     assert_eq!(rt; moved.value(0, VELOCITY), Value::ZERO);
     assert_eq!(rt; tables.len(), 2);
     assert_eq!(rt; tables.swap_out(one, 0), None);
-    let dropped = tables.drop_empty(one).ok_or("a table without rows is dropped")?;
+    let dropped = tables
+        .drop_empty(one)
+        .ok_or("a table without rows is dropped")?;
     assert_eq!(rt; dropped.as_slice(), [POSITION].as_slice());
     assert!(rt; !tables.contains(one));
     assert_eq!(rt; tables.iter().next().map(|(slot, _)| slot), Some(two));

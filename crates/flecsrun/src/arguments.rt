@@ -3,9 +3,9 @@
 ghost use Rattle.std.specs.Prelude.{IfOk};
 ghost use Rattle.flecsrun.specs.Arguments.{AreGoodArguments};
 
-use eco_script::Status;
 use clap::error::ErrorKind;
 use clap::{Arg, ArgAction, Command};
+use eco_script::Status;
 use std::alloc::{AllocError, Global};
 
 /// What the command line asks for.

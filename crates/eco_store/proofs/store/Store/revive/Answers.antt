@@ -16,7 +16,9 @@ pub returns : goal.returns
 returns c =
     let free : is_free_at c.self.inside.entities c.args.e ≡ true = (sym c.is_free_at.ensures ∙ c.if-not-is_free_at.false) in
     rw (← c.self.view_is)
-    (rw (births.is_free_at-read c.self.inside.entities c.self.inside.archetypes c.args.e ∙ free)
-    (refl, ap (λ v. read v c.settle.new.archetypes) c.settle.ensures.places
-    ∙ births.revived_seen c.self.inside.entities c.revive.new.self c.self.inside.archetypes c.room_for-2.new.self c.settle.new.archetypes c.args.e c.in_ok-slot.slot [] None c.self.invariant c.room_for-2.ensures.rows
-    (typed_table c.room_for-2.new.self c.in_ok-slot.slot [] (rw c.empty.ensures at c.in_ok-slot.ensures.typed)) free (rw free at c.revive.ensures).1 c.settle.ensures.rows))
+    (rw (births.is_free_at-read c.self.inside.entities c.self.inside.archetypes c.args.e ∙ free) (
+      refl,
+      ap (λ v. read v c.settle.new.archetypes) c.settle.ensures.places
+          ∙ births.revived_seen c.self.inside.entities c.revive.new.self c.self.inside.archetypes c.room_for-2.new.self c.settle.new.archetypes c.args.e c.in_ok-slot.slot [] None c.self.invariant c.room_for-2.ensures.rows
+          (typed_table c.room_for-2.new.self c.in_ok-slot.slot [] (rw c.empty.ensures at c.in_ok-slot.ensures.typed)) free (rw free at c.revive.ensures).1 c.settle.ensures.rows,
+    ))

@@ -2,7 +2,7 @@
 # Runs the program on a script, and shows its lines:
 #
 #   ./run.sh examples/first.json            builds it without any proof, in about half a minute each time
-#   ./run.sh --proved examples/first.json   proves and builds it the first time, in some minutes; then it starts in seconds
+#   ./run.sh --proved examples/first.json   proves and builds it the first time, in some minutes; then it starts in a second
 set -eu
 
 top=$(cd "$(dirname "$0")" && pwd)

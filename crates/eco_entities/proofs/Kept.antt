@@ -1,5 +1,5 @@
 -- What is kept of each entity after a change of one state.
-use Rattle.std.proofs.Common.{◌≡◌, ◌≢◌, ℕ, zero, suc, ◌+◌, ◌<◌, ◌≤◌, Bool, true, false, cond, List, [], ◌∷◌, ◌++◌, length, set, slice_get, slice_set, replicate, refl, sym, ap, ◌∙◌, Option, Some, None, is_some, inl, inr, arith, eq-eqb, nat_lt, if◌then◌else◌}
+use Rattle.std.proofs.Common.{◌≡◌, ◌≢◌, ℕ, zero, suc, ◌+◌, ◌<◌, ◌≤◌, Bool, true, false, cond, List, [], ◌∷◌, ◌++◌, length, set, slice_get, slice_set, replicate, refl, sym, ap, ◌∙◌, Some, None, inl, inr, arith, eq-eqb, nat_lt, if◌then◌else◌}
 use Rattle.std.proofs.lemmas.Bool.{cases_eq, ne_eqb, lt-ltb, le-ltb, cond-true, cond-false}
 use Rattle.std.proofs.lemmas.Option.{slice_get_within}
 use Rattle.eco_ids.specs.declared.entity.Entity.{Entity}

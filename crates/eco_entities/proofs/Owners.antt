@@ -1,6 +1,6 @@
 -- The names of the living after each change of a state.
-use Rattle.std.proofs.Common.{◌≡◌, ◌≢◌, ℕ, zero, suc, ◌+◌, ◌<◌, ◌≤◌, Bool, true, false, cond, List, [], ◌∷◌, ◌++◌, length, set, slice_get, slice_set, replicate, refl, sym, ap, ◌∙◌, Option, Some, None, is_some, option_and_then, inl, inr, arith, eq-eqb, nat_lt, nat_le, Result, Ok, Err, IsTrue, if◌then◌else◌}
-use Rattle.std.proofs.lemmas.Bool.{cases_eq, cases_Bool, ne_eqb, lt-ltb, le-ltb, cond-true, cond-false}
+use Rattle.std.proofs.Common.{◌≡◌, ℕ, ◌+◌, Bool, true, List, length, slice_get, refl, sym, ap, ◌∙◌, Option, Some, None, is_some, option_and_then, inl, inr, nat_le, Result, Ok, Err, IsTrue}
+use Rattle.std.proofs.lemmas.Bool.{cases_Bool}
 use Rattle.std.proofs.lemmas.Bool.{MatchBool-at_true, MatchBool-at_false}
 use Rattle.std.proofs.lemmas.List.{set-set}
 use Rattle.eco_ids.specs.declared.refusal.Refusal.{Refusal}
@@ -11,7 +11,7 @@ use Rattle.eco_entities.specs.declared.place.Place.{Place}
 use Rattle.eco_entities.proofs.Registers.{cases_entity, registry_same, registry_nameless}
 use Rattle.std.proofs.lemmas.Option.{slice_get_within}
 use Rattle.eco_ids.specs.declared.entity.Entity.{Entity}
-use Rattle.eco_ids.specs.Indices.{Indexed, IndexState, Retired, Free, Living, record_in, record_of, is_alive, is_free_in, is_free_at, with_record, with_death, with_new, admitted, raised, next_entity}
+use Rattle.eco_ids.specs.Indices.{Indexed, Living, record_in, record_of, is_alive, is_free_at, with_record, with_death, admitted, raised}
 use Rattle.eco_entities.specs.Registration.{Registration, newcomer, name_of, own_name, with_change, change_in, placed, renamed}
 use Rattle.eco_entities.specs.Changes.{ChangesAt, Keeps}
 use Rattle.eco_entities.specs.Registry.{IsRegistry}

@@ -1,4 +1,7 @@
 //! The index of all entities.
+//!
+//! An entity is named by a handle: an index, and how often that index was used before. A handle that outlives its entity
+//! is never taken for the one who lives at its index now (Flecs manual, Entities and Components).
 ghost use Rattle.std.specs.Prelude.{◌≡◌, ◌↔◌, ℕ, ◌≤◌, ◌&&◌, nat_lt, true, [], length, List, Option, Some, None, IsTrue, OnOk, OnErr, MatchOption};
 ghost use Rattle.std.specs.Option.{option_copied};
 ghost use Rattle.eco_ids.specs.Births.{Admits, may_admit, Makes, may_make, RevivesWith, unfit_name};
@@ -17,6 +20,13 @@ use std::alloc::{AllocError, Global};
 use std::marker::Model;
 
 /// Which indices are known, who lives there, under which name and at which place.
+///
+/// A known index is in use by a living entity, free, or retired. A call costs a few words of a bitmap and one look-up of a
+/// name at most, however many indices are known; only [`admit`](EntityIndex::admit) costs as much as it admits. What
+/// grows is taken from the allocator that [`new`](EntityIndex::new) is given.
+///
+/// A contract sees the index as its limit and the list of the states of its indices, each living one with its name and
+/// its place.
 #[derive(Drop)]
 pub struct EntityIndex {
     slots: Slots,
@@ -55,7 +65,7 @@ impl EntityIndex {
         self.slots.limit()
     }
 
-    /// How many indices are known: living, free or retired.
+    /// How many indices are known: living, free or retired. They are the first ones.
     pub fn high(&self) -> u32
         ensures known { result ≡ length self.now.indices }
         ensures within { length self.now.indices ≤ self.now.limit }
@@ -64,7 +74,7 @@ impl EntityIndex {
         self.slots.high()
     }
 
-    /// Whether the entity lives: its index is in use at just this generation.
+    /// Whether the entity lives: its index is in use at just this generation. Takes no memory.
     pub fn is_alive(&self, entity: Entity) -> bool
         ensures { result ≡ is_alive self.now entity }
     {
@@ -85,7 +95,7 @@ impl EntityIndex {
         self.slots.name(entity)
     }
 
-    /// The living entity of this name. No two have the same.
+    /// The living entity of this name. No two have the same. Takes no memory.
     pub fn lookup(&self, name: &str) -> Option<Entity>
         ensures bearer { result ≡ bearer name_of self.now name.now }
         ensures exact { (e : Entity) → (result ≡ Some e) ↔ (own_name self.now e ≡ Some name.now) }
@@ -109,10 +119,13 @@ impl EntityIndex {
     }
 
     /// Makes an entity at the lowest free index, at the generation that its index has come to, else at the first unknown
-    /// index. It has this name, or none, and no place yet.
+    /// index, at generation 0. It has this name, or none, and no place yet.
     ///
-    /// Refused with `BadName` where the name is none, with `NameTaken` where a living entity has it, and with
-    /// `NoMoreIds` where every index below the limit is in use or retired, in this order.
+    /// Refused with `BadName` where the name is none, with `NameTaken` where a living entity has it, with `NoMoreIds`
+    /// where every index below the limit is in use or retired, and with `OutOfMemory` where a growth was refused, in this
+    /// order. A refused call changes nothing.
+    ///
+    /// Flecs uses ids again in the order of its own list; the lowest comes first here, so that a run can be repeated.
     pub fn create(&mut self, name: Option<&str>) -> Result<Entity, Refusal>
         ensures { Meets (Makes name_of self.old (newcomer (option_copied name.entry))) (may_make name_of self.old (option_copied name.entry)) self.old result self.new }
     {
@@ -159,18 +172,20 @@ impl EntityIndex {
         Ok(())
     }
 
-    /// Makes `count` more indices known. They are free at generation 0, and nobody lives there.
+    /// Makes `count` more indices known, after the others. They are free at generation 0, and nobody lives there.
     ///
-    /// Refused with `NoMoreIds` where they would pass the limit.
+    /// Refused with `NoMoreIds` where they would pass the limit, and with `OutOfMemory` where a growth was refused. A
+    /// refused call changes nothing, and a `count` of 0 is never refused.
     pub fn admit(&mut self, count: u32) -> Result<(), Refusal>
         ensures { Meets (Admits self.old count) (may_admit self.old count && nat_lt 0 count) self.old result self.new }
     {
         self.slots.admit(count)
     }
 
-    /// This very handle lives from now on, without name and place. Takes no memory.
+    /// This very handle lives from now on, without name and place (Flecs manual, Entities and Components).
+    /// Takes no memory.
     ///
-    /// Refused with `Taken` unless its index is known, free and at its generation.
+    /// Refused with `Taken` unless its index is known, free and at its generation. A refused call changes nothing.
     pub fn revive(&mut self, entity: Entity) -> Result<(), Refusal>
         ensures { RevivesWith self.old entity (newcomer None) result self.new }
     {
@@ -185,8 +200,8 @@ impl EntityIndex {
         self.slots.set_place(entity, place);
     }
 
-    /// The living entity dies, and its name is free. Its index is free at the next generation, or retired after the last
-    /// one. Takes no memory.
+    /// The living entity dies, and its name is free. Its index is free at the next generation; after generation 65,535 it
+    /// is retired, and nobody lives there again. Takes no memory.
     pub fn kill(&mut self, entity: Entity)
         requires { IsTrue (is_alive self.old entity) }
         ensures { self.new ≡ with_death self.old entity }
@@ -197,8 +212,9 @@ impl EntityIndex {
 
     /// The living entity has this name, or none, from now on. Its own name again is done, and changes nothing.
     ///
-    /// Refused with `NotAlive` where nobody lives there, with `BadName` where the name is none, and with `NameTaken` where
-    /// another living entity has it, in this order; the old name stays then.
+    /// Refused with `NotAlive` where this entity doesn't live, with `BadName` where the name is none, with `NameTaken`
+    /// where another living entity has it, and with `OutOfMemory` where a growth was refused, in this order. A refused
+    /// call changes nothing, so the old name stays.
     pub fn rename(&mut self, entity: Entity, name: Option<&str>) -> Result<(), Refusal>
         ensures { Meets (Renames self.old entity (option_copied name.entry)) (may_rename self.old entity (option_copied name.entry)) self.old result self.new }
     {

@@ -1,4 +1,4 @@
-//! The entity index: which indices live, are free or retired, and each living entity's name and place.
+//! The entity index: handles that are never confused, and the names and places of the living.
 #![tactic(auto)]
 
 mod entity_index;

@@ -15,10 +15,13 @@ use eco_ids::{Entity, Refusal};
 use std::alloc::{AllocError, Global};
 use std::marker::Model;
 
+/// A contract sees the limit and the list of the states of the indices.
 #[derive(Drop)]
 pub(crate) struct Slots {
     limit: u32,
+    // What is kept of each known index.
     slots: Vec<Slot>,
+    // The indices whose slots are free.
     free: FreeSet,
 }
 

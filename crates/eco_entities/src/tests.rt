@@ -77,8 +77,8 @@ fn names_come_and_go(rt: HostRuntime) -> Result<(), Fail> {
     assert_eq!(rt; index.rename(b, Some("a")), Ok(()));
     assert_eq!(rt; index.lookup("a"), Some(b));
     assert_eq!(rt; index.lookup("b"), None);
-    assert_eq!(rt; index.name(b).is_some_and(|name| name == "a"), true);
-    assert_eq!(rt; index.name(a).is_none(), true);
+    assert_eq!(rt; index.name(b), Some("a"));
+    assert_eq!(rt; index.name(a), None);
     kill(&rt, &mut index, b);
     assert_eq!(rt; index.rename(b, Some("c")), Err(Refusal::NotAlive));
     Ok(())
@@ -98,5 +98,6 @@ fn a_place_stays_until_death(rt: HostRuntime) -> Result<(), Fail> {
     assert_eq!(rt; index.place_of(entity), None);
     assert_eq!(rt; index.entity_at(0), None);
     assert_eq!(rt; index.limit(), 64);
+    index.rules();
     Ok(())
 }

@@ -1,26 +1,14 @@
 -- Where the machine stops, the longest beginning of a sentence ends.
-use Rattle.std.proofs.Common.{◌≡◌, ◌≢◌, ◌⊎◌, inl, inr, ℕ, ◌+◌, ◌-◌, ◌^◌, ◌<◌, ◌≤◌, ◌&&◌, ◌||◌, ◌==◌, Bool, true, false, not, nat_lt, nat_le, if◌then◌else◌, List, [], ◌∷◌, ◌++◌, length, take, get_or, codes, decimal, Option, Some, None, option_and_then, option_map, refl, ap, ◌∙◌, sym, subst, arith, append_assoc}
-use Rattle.std.specs.Prelude.{IfSome}
-use Rattle.std.proofs.lemmas.List.{append-nil, length-append, take_more, take-take, get_or-take, length-take-le}
+use Rattle.std.proofs.Common.{◌≡◌, inl, inr, ℕ, ◌+◌, ◌<◌, List, [], ◌++◌, length, take, get_or, Option, Some, None, option_map, ap, ◌∙◌, sym, subst, arith}
+use Rattle.std.proofs.lemmas.List.{append-nil, length-append, take-take, get_or-take, length-take-le}
 use Rattle.std.proofs.Math.Seq.{take-length}
-use Rattle.std.proofs.lemmas.Bool.Decides.{Decides-eqb}
-use Rattle.std.proofs.lemmas.Slice.Eq.{bytes_eq-Decides}
-use Rattle.eco_ids.specs.Names.{may_begin, may_follow, is_name}
-use Rattle.eco_query.specs.Tokens.{Reference, name, handle, is_white, is_digit, IsWhite, IsToken}
-use Rattle.eco_query.specs.Faults.{IsSpelled, IsFault}
-use Rattle.eco_query.specs.Machine.{grown, is_lone}
-use Rattle.eco_query.specs.Grammar.{WrittenPart, named, each, any, WrittenAtom, single, pair, WrittenBody, absent, optional, alternatives, WrittenSlot, IsTok, IsPart, IsAtom, AreMore, IsBody, access_word, IsAccess, IsSlot, AreSlots, SpellsSlots, SpellsQuery, SpellsId, PlacedReference, SpellsRef}
-use Rattle.eco_query.specs.declared.access.Access.{Access}
-use Rattle.eco_query.specs.declared.access.Access.TheVariants.{In, Out, InOut, InOutNone}
-use Rattle.eco_query.specs.declared.point.Head.{Head}
-use Rattle.eco_query.specs.declared.point.Head.TheVariants.{Plain, Without, Optional, Alone}
-use Rattle.eco_query.specs.Machine.{Before, Role, whole, first, second, sole, takes_wildcard, Spot, slot, word, shut, body, atom, part, behind, after, Point, at, letters, bar, name_of, hash, index, dot, generation, body_of, slots_with, others_with, begun, part_of, is_prefix, is_front, access_of, part_or, atom_or, body_or, comma, behind_atom, enter, move_at, move, end_at, end, advance, runs, query_start, id_start, ref_start, Stops}
-use Rattle.eco_query.proofs.Stuck.{runs-on, runs-more, stuck_at}
-use Rattle.eco_query.proofs.ByteTests.{and_left, and_right, if_some_cond}
-use Rattle.eco_query.proofs.Tokens.{Sat, tok_nil, number_front}
-use Rattle.eco_query.proofs.Rest.{IsNamed, After, Follow, PartThen, AtomThen, BodyThen, SlotThen, Then, Rest, move_in, move_out, slot_split, slot_join, atom_split, atom_join}
-use Rattle.eco_query.proofs.Runs.{run_in, run_out, end_in, end_out}
-use Rattle.eco_query.proofs.Live.{Fits, fits_run, live, Live}
+use Rattle.eco_query.specs.Faults.{IsFault}
+use Rattle.eco_query.specs.Grammar.{WrittenSlot}
+use Rattle.eco_query.specs.Machine.{Point, end, advance, runs, Stops}
+use Rattle.eco_query.proofs.Stuck.{stuck_at}
+use Rattle.eco_query.proofs.Rest.{Rest}
+use Rattle.eco_query.proofs.Runs.{run_in, run_out, end_in}
+use Rattle.eco_query.proofs.Live.{Fits, fits_run, live}
 
 module _ (Is : List ℕ → Type 0) (first' : Point) (fits : Fits first')
     (is_in : (text : List ℕ) → Is text → (r : List WrittenSlot) × Rest (length text) r first' text)

@@ -1,11 +1,15 @@
+pub mod Built
 pub mod ByteTests
 pub mod Fault
 pub mod Fronts
 pub mod Live
 pub mod Loops
+pub mod Matched
+pub mod Queried
 pub mod Rest
 pub mod Rows
 pub mod Runs
 pub mod Spelled
+pub mod Stored
 pub mod Stuck
 pub mod Tokens

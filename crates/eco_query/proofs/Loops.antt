@@ -1,5 +1,5 @@
 -- The loop of the reader: what the machine has read so far.
-use Rattle.std.proofs.Common.{◌≡◌, ℕ, ◌+◌, ◌<◌, inl, inr, List, length, take, get_or, Option, Some, None, option_and_then, option_map, refl, ap, ◌∙◌, sym, arith}
+use Rattle.std.proofs.Common.{◌≡◌, ℕ, ◌+◌, ◌<◌, inl, inr, List, length, take, get_or, Some, None, option_and_then, option_map, refl, ap, ◌∙◌, sym}
 use Rattle.std.proofs.lemmas.List.{take_more}
 use Rattle.std.proofs.Math.Seq.{take-length}
 use Rattle.eco_query.specs.Grammar.{WrittenAtom}
@@ -25,7 +25,10 @@ pub reached_end : (start : Point) (text : List ℕ) (n : ℕ) (v : ℕ → Point
 reached_end start text n v e run last =
     (v (length text), ap (λ k. runs advance (0, start) (take k text)) (sym e) ∙ run ∙ ap (λ k. Some (k, v k)) e, inr (refl, last))
 
+pub reached_all : (start : Point) (text : List ℕ) (n : ℕ) (v : ℕ → Point) → n ≡ length text → Reached start text n (v n)
+    → runs advance (0, start) text ≡ Some (length text, v (length text))
+reached_all start text n v e run = ap (λ xs. runs advance (0, start) xs) (sym (ap (λ k. take k text) e ∙ take-length text)) ∙ run ∙ ap (λ k. Some (k, v k)) e
+
 pub reached_atom : (start : Point) (text : List ℕ) (n : ℕ) (v : ℕ → Point) (c : Before) (x : WrittenAtom) → n ≡ length text → Reached start text n (v n)
     → end (v (length text)) ≡ Some (slots_with c.head c x) → EndsWith start text x
-reached_atom start text n v c x e run last =
-    (v (length text), c, ap (λ xs. runs advance (0, start) xs) (sym (ap (λ k. take k text) e ∙ take-length text)) ∙ run ∙ ap (λ k. Some (k, v k)) e, last)
+reached_atom start text n v c x e run last = (v (length text), c, reached_all start text n v e run, last)

@@ -1,15 +1,12 @@
 -- Queries, ids and references: what the reader ends with is spelled, and where it stops the fault lies.
-use Rattle.std.proofs.Common.{◌≡◌, ◌⊎◌, inl, inr, ℕ, ◌<◌, ◌≤◌, arith, List, [], ◌∷◌, ◌++◌, length, take, Option, Some, None, option_map, Result, Ok, Err, refl, ap, ◌∙◌, sym, subst}
-use Rattle.std.specs.Prelude.{slice_index}
-use Rattle.std.proofs.Math.Seq.{take-length}
+use Rattle.std.proofs.Common.{◌≡◌, inl, inr, ℕ, ◌≤◌, arith, List, [], ◌∷◌, ◌++◌, length, Option, Some, Result, Err, refl, ap, ◌∙◌, sym, subst}
 use Rattle.eco_ids.specs.declared.entity.Entity.{Entity}
 use Rattle.eco_ids.specs.declared.refusal.Refusal.{Refusal}
 use Rattle.eco_ids.specs.declared.refusal.Refusal.TheVariants.{Syntax}
 use Rattle.eco_query.specs.Tokens.{Reference}
-use Rattle.eco_query.specs.Grammar.{WrittenPart, named, each, any, WrittenAtom, single, pair, WrittenBody, absent, optional, alternatives, WrittenSlot, IsPart, SpellsId, PlacedReference, SpellsRef, IsProperPart, IsProperAtom}
+use Rattle.eco_query.specs.Grammar.{WrittenPart, named, each, any, WrittenAtom, single, pair, alternatives, WrittenSlot, IsPart, SpellsId, PlacedReference, SpellsRef, IsProperPart, IsProperAtom}
 use Rattle.eco_query.specs.Faults.{IsSpelled, IsFault}
-use Rattle.eco_query.specs.Machine.{Point, Before, move, end, advance, runs, slots_with, body_of, id_start, ref_start, begun, EndsWith, Stops}
-use Rattle.eco_query.specs.declared.access.Access.{Access}
+use Rattle.eco_query.specs.Machine.{Point, Before, end, advance, runs, slots_with, body_of, id_start, ref_start, begun, EndsWith, Stops}
 use Rattle.eco_query.specs.declared.access.Access.TheVariants.{InOut}
 use Rattle.eco_query.specs.declared.point.Head.{Head}
 use Rattle.eco_query.specs.declared.point.Head.TheVariants.{Plain, Without, Optional, Alone}
@@ -18,7 +15,7 @@ use Rattle.eco_query.proofs.Rest.{Rest}
 use Rattle.eco_query.specs.Grammar.{SpellsSlots, SpellsQuery, IsAtom}
 use Rattle.eco_query.specs.Machine.{query_start}
 use Rattle.eco_query.proofs.Rest.{slot_split, slot_join, atom_split, atom_join}
-use Rattle.eco_query.proofs.Runs.{read_in, read_out, rest_once}
+use Rattle.eco_query.proofs.Runs.{read_out, rest_once}
 use Rattle.eco_query.proofs.Fault.{fault_at}
 
 -- ---- queries
@@ -111,7 +108,7 @@ ref_ended text x (q, c, e, last) =
 
 -- ---- what is spelled is proper
 
-part_proper : (size : ℕ) (u v : List ℕ) (p : WrittenPart) → IsPart size u v p → IsProperPart p
+pub part_proper : (size : ℕ) (u v : List ℕ) (p : WrittenPart) → IsPart size u v p → IsProperPart p
 part_proper size u v (named from r) (token, is, tok, place) = (token, is)
 part_proper size u v each s = tt
 part_proper size u v any s = tt

@@ -1,25 +1,23 @@
 -- Tokens at the beginning of what is left of a text: bytes, access words and digits.
-use Rattle.std.proofs.Common.{◌≡◌, ◌≢◌, ◌⊎◌, inl, inr, ℕ, ◌+◌, ◌-◌, ◌*◌, ◌^◌, ◌<◌, ◌≤◌, ◌&&◌, ◌||◌, ◌==◌, Bool, true, false, not, nat_lt, nat_le, if◌then◌else◌, List, [], ◌∷◌, ◌++◌, length, codes, decimal, Option, Some, None, option_and_then, option_map, refl, ap, ◌∙◌, sym, subst, arith, append_assoc}
-use Rattle.std.specs.List.{list_all}
+use Rattle.std.proofs.Common.{◌≡◌, ℕ, ◌+◌, ◌-◌, ◌*◌, ◌^◌, ◌<◌, ◌≤◌, ◌&&◌, ◌||◌, ◌==◌, Bool, true, false, nat_lt, nat_le, if◌then◌else◌, List, [], ◌∷◌, ◌++◌, codes, decimal, Option, Some, None, option_and_then, refl, ap, ◌∙◌, sym, subst, arith, append_assoc}
 use Rattle.std.specs.Str.{bytes_eq}
-use Rattle.std.proofs.lemmas.List.{append-nil, length-append}
+use Rattle.std.proofs.lemmas.List.{append-nil}
 use Rattle.std.proofs.lemmas.Bool.{cond-true, cond-false, lt-ltb, le-leb, ltb-true, leb-true}
 use Rattle.std.proofs.lemmas.Bool.Decides.{nat_tests, Decides-eqb}
 use Rattle.std.proofs.lemmas.Slice.Eq.{bytes_eq-Decides}
-use Rattle.eco_query.proofs.ByteTests.{and_left, and_right, and_both, letter_not_white, white_not_word, white_not_digit, digit_is, is_digit_of, one_digit, more_digits, name_parts, name_of_parts}
-use Rattle.std.proofs.lemmas.Fmt.{decimal_digit, decimal_by_steps}
-use Rattle.std.proofs.lemmas.List.Folds.{list_all-append}
+use Rattle.eco_query.proofs.ByteTests.{and_left, and_right, and_both, white_not_word, digit_is, is_digit_of, one_digit, more_digits}
+use Rattle.std.proofs.lemmas.Fmt.{decimal_by_steps}
 use Rattle.std.proofs.Common.{◌/◌, ◌%◌}
 use Rattle.eco_query.specs.Machine.{is_prefix}
-use Rattle.eco_ids.specs.Names.{may_begin, may_follow, is_name}
-use Rattle.eco_query.specs.Tokens.{Reference, name, handle, is_white, is_digit, IsWhite, IsToken}
-use Rattle.eco_query.specs.Machine.{grown, is_lone}
-use Rattle.eco_query.specs.Grammar.{WrittenPart, named, each, any, WrittenAtom, single, pair, WrittenBody, absent, optional, alternatives, WrittenSlot, IsTok, IsPart, IsAtom, AreMore, IsBody, access_word, IsAccess, IsSlot, AreSlots}
+use Rattle.eco_ids.specs.Names.{may_follow}
+use Rattle.eco_query.specs.Tokens.{is_white, is_digit}
+use Rattle.eco_query.specs.Machine.{grown}
+use Rattle.eco_query.specs.Grammar.{WrittenPart, WrittenAtom, single, IsTok, access_word}
 use Rattle.eco_query.specs.declared.access.Access.{Access}
 use Rattle.eco_query.specs.declared.access.Access.TheVariants.{In, Out, InOut, InOutNone}
 use Rattle.eco_query.specs.declared.point.Head.{Head}
 use Rattle.eco_query.specs.declared.point.Head.TheVariants.{Plain, Without, Optional, Alone}
-use Rattle.eco_query.specs.Machine.{Before, Role, whole, first, second, sole, takes_wildcard, Spot, slot, word, shut, body, atom, part, behind, after, Point, at, letters, bar, name_of, hash, index, dot, generation, body_of, slots_with, others_with, begun, part_of, is_front, access_of, part_or, atom_or, body_or, comma, behind_atom, enter, move_at, move}
+use Rattle.eco_query.specs.Machine.{Before, Role, whole, first, second, sole, Spot, slot, word, shut, body, atom, part, behind, after, is_front, access_of, behind_atom, enter, move_at}
 
 abbrev pub Sat : {X : Type 0} → Option X → (X → Type 0) → Type 0
 Sat None P = ⊥

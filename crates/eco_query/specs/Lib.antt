@@ -1,6 +1,9 @@
 pub mod Tokens
 pub mod Grammar
 pub mod Faults
+pub mod LastTerms
 pub mod Machine
 pub mod Points
+pub mod Queries
 pub mod Readings
+pub mod Terms

@@ -1,5 +1,5 @@
 -- The reader's points as those of the machine, for the slots and the alternatives that were read before.
-use Rattle.std.specs.Prelude.{◌≡◌, ℕ, ◌+◌, ◌<◌, List, [], ◌∷◌, Option, Some, None, slice_range, option_map, take}
+use Rattle.std.specs.Prelude.{◌≡◌, Bool, true, false, not, if◌then◌else◌, ℕ, ◌<◌, List, [], Option, Some, None, slice_range, take}
 use Rattle.eco_query.specs.Tokens as token
 use Rattle.eco_query.specs.Grammar as grammar
 use Rattle.eco_query.specs.Machine as machine
@@ -12,7 +12,7 @@ use Rattle.eco_query.specs.declared.written.WrittenPart.TheVariants.{Named, Each
 use Rattle.eco_query.specs.declared.written.WrittenAtom.{WrittenAtom}
 use Rattle.eco_query.specs.declared.written.WrittenAtom.TheVariants.{Single, Pair}
 use Rattle.eco_query.specs.declared.point.Head.{Head}
-use Rattle.eco_query.specs.declared.point.Head.TheVariants.{Plain, Alone}
+use Rattle.eco_query.specs.declared.point.Head.TheVariants.{Plain, Without, Optional, Alone}
 use Rattle.eco_query.specs.declared.point.Role.{Role}
 use Rattle.eco_query.specs.declared.point.Role.TheVariants.{Whole, First, Second, Sole}
 use Rattle.eco_query.specs.declared.point.Spot.{Spot}
@@ -110,3 +110,51 @@ IsInHandle (points.Generation o from i g) = Unit {0}
 -- the machine, which began at `start`, stands there once it has read n bytes
 abbrev pub Reached : machine.Point → List ℕ → ℕ → Draft → Point → Type 0
 Reached start text n d p = machine.runs machine.advance (0, start) (take n text) ≡ Some (n, point_view text n d p)
+
+-- before what stands behind no `||`
+abbrev pub is_bare_head : Head → Bool
+is_bare_head Plain = false
+is_bare_head Without = true
+is_bare_head Optional = true
+is_bare_head Alone = true
+
+abbrev pub is_bare_role : Role → Bool
+is_bare_role (Whole a h) = is_bare_head h
+is_bare_role (First a h) = is_bare_head h
+is_bare_role (Second a h p) = is_bare_head h
+is_bare_role Sole = true
+
+abbrev pub is_bare_spot : Spot → Bool
+is_bare_spot spots.Slot = true
+is_bare_spot spots.Word = true
+is_bare_spot (spots.Shut a) = true
+is_bare_spot (spots.Body a) = true
+is_bare_spot (spots.Atom a h) = is_bare_head h
+is_bare_spot (spots.Part o) = is_bare_role o
+is_bare_spot (spots.Behind o p) = is_bare_role o
+is_bare_spot (spots.After a h x) = is_bare_head h
+
+-- no alternatives were put down in the slot that is read there
+abbrev pub is_bare : Point → Bool
+is_bare (points.At s) = is_bare_spot s
+is_bare (points.Letters from) = true
+is_bare (points.Bar a x) = false
+is_bare (points.Name o from) = is_bare_role o
+is_bare (points.Hash o from) = is_bare_role o
+is_bare (points.Index o from i) = is_bare_role o
+is_bare (points.Dot o from i) = is_bare_role o
+is_bare (points.Generation o from i g) = is_bare_role o
+
+-- alternatives are put down in a slot of alternatives alone, and go with its last atom
+abbrev pub keeps_slots : Bool → Mark → Bool → Bool
+keeps_slots bare marks.Same next = if next then bare else true
+keeps_slots bare marks.Begin next = bare
+keeps_slots bare (marks.Other a x) next = not next
+keeps_slots bare (marks.Slot a h x) next = if is_bare_head h then bare else true
+
+abbrev pub KeepsSlots : Bool → Step → Type 0
+KeepsSlots bare s = keeps_slots bare s.mark (is_bare s.point) ≡ true
+
+-- the same of the last atom of all
+abbrev pub KeepsLast : Bool → Head → Type 0
+KeepsLast bare h = (if is_bare_head h then bare else true) ≡ true

@@ -2,7 +2,7 @@
 ghost use Rattle.std.specs.Prelude.{◌≡◌, ◌+◌, ◌<◌, length, Option, IfSome, option_map, slice_index};
 ghost use Rattle.eco_query.specs.Machine as machine;
 ghost use Rattle.eco_query.specs.Machine.{part_or};
-ghost use Rattle.eco_query.specs.Points.{Draft, IsBegunAt, atom_view, before_view, marked, or_point, role_view, spot_view, step_view};
+ghost use Rattle.eco_query.specs.Points.{Draft, IsBegunAt, KeepsSlots, is_bare, is_bare_head, is_bare_role, is_bare_spot, atom_view, before_view, marked, or_point, role_view, spot_view, step_view};
 
 use crate::access::Access;
 use crate::classes::{is_name_start, is_white_space};
@@ -13,6 +13,7 @@ use crate::written::{WrittenAtom, WrittenPart};
 pub fn begin_part<'a>(text: &'a [u8], at: usize, role: Role<'a>) -> Option<Point<'a>>
     requires within { at < length text.now }
     ensures begun { IfSome result (λ p. IsBegunAt (at + 1) p) }
+    ensures slots { IfSome result (λ p. is_bare p ≡ is_bare_role role.entry) }
     ensures step { (d : Draft) (y : Option machine.Point) → or_point text.now (at + 1) d result y ≡ part_or at (role_view d role.entry) (slice_index text.now at) y }
 {
     let byte = text[at];
@@ -37,6 +38,7 @@ pub fn behind_atom<'a>(
 ) -> Option<Step<'a>>
     requires within { at < length text.now }
     ensures begun { IfSome result (λ s. IsBegunAt (at + 1) s.point) }
+    ensures slots { IfSome result (KeepsSlots (is_bare_head head)) }
     ensures step { (d : Draft) → option_map (step_view text.now (at + 1) d) result
         ≡ machine.behind_atom head (before_view d access head) (atom_view atom.entry) (slice_index text.now at) }
 {
@@ -59,6 +61,7 @@ pub fn behind_atom<'a>(
 pub fn begin_atom<'a>(text: &'a [u8], at: usize, access: Access, head: Head) -> Option<Point<'a>>
     requires within { at < length text.now }
     ensures begun { IfSome result (λ p. IsBegunAt (at + 1) p) }
+    ensures slots { IfSome result (λ p. is_bare p ≡ is_bare_head head) }
     ensures step { (d : Draft) (y : Option machine.Point) → or_point text.now (at + 1) d result y
         ≡ machine.atom_or at (before_view d access head) (slice_index text.now at) y }
 {
@@ -92,6 +95,7 @@ pub fn behind_part<'a>(
 ) -> Option<Step<'a>>
     requires within { at < length text.now }
     ensures begun { IfSome result (λ s. IsBegunAt (at + 1) s.point) }
+    ensures slots { IfSome result (KeepsSlots (is_bare_role role.entry)) }
     ensures step { (d : Draft) → option_map (step_view text.now (at + 1) d) result
         ≡ machine.enter at (spot_view d (Spot.Behind role.entry part.entry)) (slice_index text.now at) }
 {
@@ -114,6 +118,7 @@ pub fn behind_part<'a>(
 pub fn enter<'a>(text: &'a [u8], at: usize, spot: Spot<'a>) -> Option<Step<'a>>
     requires within { at < length text.now }
     ensures begun { IfSome result (λ s. IsBegunAt (at + 1) s.point) }
+    ensures slots { IfSome result (KeepsSlots (is_bare_spot spot.entry)) }
     ensures step { (d : Draft) → option_map (step_view text.now (at + 1) d) result ≡ machine.enter at (spot_view d spot.entry) (slice_index text.now at) }
 {
     let byte = text[at];
@@ -168,6 +173,7 @@ pub fn enter<'a>(text: &'a [u8], at: usize, spot: Spot<'a>) -> Option<Step<'a>>
 pub fn move_at<'a>(text: &'a [u8], at: usize, spot: Spot<'a>) -> Option<Step<'a>>
     requires within { at < length text.now }
     ensures begun { IfSome result (λ s. IsBegunAt (at + 1) s.point) }
+    ensures slots { IfSome result (KeepsSlots (is_bare_spot spot.entry)) }
     ensures step { (d : Draft) → option_map (step_view text.now (at + 1) d) result ≡ machine.move_at at (spot_view d spot.entry) (slice_index text.now at) }
 {
     if is_white_space(text[at]) {

@@ -1,7 +1,7 @@
 //! What a byte does inside of a token.
-ghost use Rattle.std.specs.Prelude.{◌≡◌, ◌+◌, ◌<◌, length, IfSome, option_map, slice_index};
+ghost use Rattle.std.specs.Prelude.{◌≡◌, true, ◌+◌, ◌<◌, length, IfSome, option_map, slice_index};
 ghost use Rattle.eco_query.specs.Machine as machine;
-ghost use Rattle.eco_query.specs.Points.{Draft, IsBegunAt, IsInHandle, atom_view, before_view, part_view, point_view, role_view, step_view};
+ghost use Rattle.eco_query.specs.Points.{Draft, IsBegunAt, KeepsSlots, is_bare, is_bare_role, IsInHandle, atom_view, before_view, part_view, point_view, role_view, step_view};
 
 use crate::access::Access;
 use crate::between::move_at;
@@ -14,6 +14,7 @@ pub fn advance_name<'a>(text: &'a [u8], at: usize, role: Role<'a>, from: usize) 
     requires within { at < length text.now }
     requires begun { from < at }
     ensures begun { IfSome result (λ s. IsBegunAt (at + 1) s.point) }
+    ensures slots { IfSome result (KeepsSlots (is_bare_role role.entry)) }
     ensures step { (d : Draft) → option_map (step_view text.now (at + 1) d) result
         ≡ machine.move at (point_view text.now at d (Point.Name role.entry from)) (slice_index text.now at) }
 {
@@ -48,6 +49,7 @@ pub fn advance_handle<'a>(text: &'a [u8], at: usize, point: Point<'a>) -> Option
     requires within { at < length text.now }
     requires handle { IsInHandle point }
     ensures begun { IfSome result (λ s. IsBegunAt (at + 1) s.point) }
+    ensures slots { IfSome result (KeepsSlots (is_bare point.entry)) }
     ensures step { (d : Draft) → option_map (step_view text.now (at + 1) d) result
         ≡ machine.move at (point_view text.now at d point.entry) (slice_index text.now at) }
 {
@@ -133,6 +135,7 @@ pub fn advance_letters<'a>(text: &'a [u8], at: usize, from: usize) -> Option<Ste
     requires within { at < length text.now }
     requires begun { from < at }
     ensures begun { IfSome result (λ s. IsBegunAt (at + 1) s.point) }
+    ensures slots { IfSome result (KeepsSlots true) }
     ensures step { (d : Draft) → option_map (step_view text.now (at + 1) d) result
         ≡ machine.move at (point_view text.now at d (Point.Letters from)) (slice_index text.now at) }
 {
@@ -151,6 +154,7 @@ pub fn advance<'a>(text: &'a [u8], at: usize, point: Point<'a>) -> Option<Step<'
     requires within { at < length text.now }
     requires begun { IsBegunAt at point }
     ensures begun { IfSome result (λ s. IsBegunAt (at + 1) s.point) }
+    ensures slots { IfSome result (KeepsSlots (is_bare point.entry)) }
     ensures step { (d : Draft) → option_map (step_view text.now (at + 1) d) result
         ≡ machine.move at (point_view text.now at d point.entry) (slice_index text.now at) }
 {

@@ -3,16 +3,21 @@
 
 pub mod access;
 mod between;
+mod build;
 mod classes;
 mod inside;
+mod last_term;
 pub mod laws;
 pub mod names;
 mod point;
+pub mod query;
 pub mod read;
 mod resolve;
 mod scan;
+mod terms;
 mod written;
 
 pub use access::Access;
 pub use names::Names;
-pub use read::{read_id, read_ref};
+pub use query::{Query, Slot, Term};
+pub use read::{read_id, read_query, read_ref};

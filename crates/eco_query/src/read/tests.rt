@@ -2,6 +2,8 @@ ghost use Rattle.std.specs.Prelude.{◌≡◌, Some, None, codes, if◌then◌el
 ghost use Rattle.std.specs.Str.{bytes_eq};
 
 use super::*;
+use crate::query::{Slot, Term};
+use eco_ids::{Part, Pattern, TypeList};
 
 /// `R` is `#9.0` and `a` is `#10.0`.
 struct Known;
@@ -89,4 +91,92 @@ fn reads_ids(rt: HostRuntime) {
     ] {
         assert!(rt; read_id(text, &Known) == answer, "{text}");
     }
+}
+
+#[test]
+fn refuses_queries(rt: HostRuntime) {
+    for (text, refusal) in [
+        ("", Refusal::Syntax { at: 0 }),
+        ("R,", Refusal::Syntax { at: 2 }),
+        ("R, ", Refusal::Syntax { at: 3 }),
+        ("!!", Refusal::Syntax { at: 1 }),
+        ("[inn] R", Refusal::Syntax { at: 3 }),
+        ("[in out]", Refusal::Syntax { at: 4 }),
+        ("R |a", Refusal::Syntax { at: 3 }),
+        ("R || !a", Refusal::Syntax { at: 5 }),
+        ("?a || b", Refusal::Syntax { at: 3 }),
+        ("R a", Refusal::Syntax { at: 2 }),
+        ("*", Refusal::WildcardHere),
+        ("!*, R", Refusal::WildcardHere),
+        ("?(R, *), a", Refusal::WildcardHere),
+        ("(R, *) || a", Refusal::WildcardHere),
+        ("Nope || (*, x)", Refusal::WildcardHere),
+        ("!a", Refusal::NoPositive),
+        ("!(Nope, *)", Refusal::NoPositive),
+        ("R, Nope", Refusal::UnknownName { at: 3 }),
+        ("R || a || None, Nope", Refusal::UnknownName { at: 10 }),
+    ] {
+        assert!(rt;
+            matches!(read_query(rt.alloc(), text, &Known), Err(answer) if answer == refusal),
+            "{text}"
+        );
+    }
+}
+
+/// 33 terms; what is wrong else comes behind.
+const TOO_MANY: &str = "Nope,Nope,Nope,Nope,Nope,Nope,Nope,Nope,Nope,Nope,Nope,\
+    Nope,Nope,Nope,Nope,Nope,Nope,Nope,Nope,Nope,Nope,Nope,\
+    Nope,Nope,Nope,Nope,Nope,Nope,Nope,Nope,Nope,Nope,*";
+
+#[test]
+fn refuses_many_terms(rt: HostRuntime) {
+    assert!(rt;
+        matches!(
+            read_query(rt.alloc(), TOO_MANY, &Known),
+            Err(Refusal::TooManyTerms)
+        )
+    );
+}
+
+#[test]
+fn reads_a_query(rt: HostRuntime) {
+    let Ok(query) = read_query(rt.alloc(), "[in]R,! a , (R,*), #1.2||(a,R)", &Known) else {
+        panic!(rt; "not read");
+    };
+    assert!(rt;
+        matches!(
+            query.slots(),
+            [
+                Slot { access: Access::In, term: Term::Plain(Pattern::One(r)) },
+                Slot { access: Access::InOut, term: Term::Without(Pattern::One(a)) },
+                Slot { access: Access::InOut, term: Term::Plain(Pattern::Two(Part::Is(_), Part::Each)) },
+                Slot { access: Access::InOut, term: Term::OneOf(_) },
+            ] if *r == entity(9, 0) && *a == entity(10, 0)
+        )
+    );
+}
+
+#[test]
+fn matches_types(rt: HostRuntime) -> Result<(), Refusal> {
+    let query = read_query(rt.alloc(), "R, !a, ?#1.0, (a, *) || #2.0 || #3.0", &Known);
+    assert!(rt; matches!(query, Err(Refusal::WildcardHere)));
+    let query = read_query(rt.alloc(), "R, !a, ?#1.0, (a, R) || #2.0", &Known)?;
+    let own = TypeList::empty(rt.alloc()).with(Id::One(entity(9, 0)))?;
+    assert!(rt; !query.matches_type(&own));
+    let paired = own.with(Id::Two(entity(10, 0), entity(9, 0)))?;
+    assert!(rt; query.matches_type(&paired));
+    assert!(rt; query.matches_type(&own.with(Id::One(entity(2, 0)))?));
+    assert!(rt; !query.matches_type(&paired.with(Id::One(entity(10, 0)))?));
+    assert!(rt;
+        query.reads(rt.alloc())?.as_slice()
+            == [
+                Pattern::One(entity(9, 0)),
+                Pattern::One(entity(10, 0)),
+                Pattern::One(entity(1, 0)),
+                Pattern::Two(Part::Is(entity(10, 0)), Part::Is(entity(9, 0))),
+                Pattern::One(entity(2, 0)),
+            ]
+            .as_slice()
+    );
+    Ok(())
 }

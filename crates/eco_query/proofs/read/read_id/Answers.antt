@@ -1,4 +1,3 @@
-use Rattle.std.proofs.Common.{◌∙◌}
 use Rattle.eco_query.specs.Machine.{EndsWith, Stops, id_start}
 use Rattle.eco_query.specs.Points.{atom_view}
 use Rattle.eco_query.proofs.Spelled.{id_ended, id_proper, id_answered, id_refused}

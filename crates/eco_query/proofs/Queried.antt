@@ -1,0 +1,121 @@
+-- The refusals of a query, in their order.
+use Rattle.std.proofs.Common.{◌≡◌, ℕ, true, false, not, ◌&&◌, nat_lt, List, [], ◌∷◌, ◌++◌, length, Option, Some, None, Err, ap, ◌∙◌, sym, subst, arith}
+use Rattle.std.specs.List.{list_any}
+use Rattle.std.proofs.lemmas.Bool.{cond-true, cond-false, lt-ltb}
+use Rattle.std.proofs.lemmas.Bool.Decides.{nat_tests}
+use Rattle.eco_ids.specs.declared.entity.Entity.{Entity}
+use Rattle.eco_ids.specs.declared.refusal.Refusal.TheVariants.{WildcardHere, TooManyTerms, NoPositive}
+use Rattle.eco_query.specs.Grammar.{WrittenAtom, single, pair, WrittenBody, absent, optional, alternatives, WrittenSlot, IsAtom, AreMore, IsBody, AreSlots, SpellsSlots, SpellsQuery, IsProperAtom}
+use Rattle.eco_query.specs.Machine.{body_of}
+use Rattle.eco_query.specs.Points.{atom_view, is_bare_head}
+use Rattle.eco_query.specs.Readings.{misplaces_wildcard, is_positive, slots_of, query_of}
+use Rattle.eco_query.specs.Terms.{atoms_of, count_atoms, slots_from, grouping, HoldsSlots, AreProperMarks}
+use Rattle.eco_query.specs.declared.point.Mark.{Mark}
+use Rattle.eco_query.specs.declared.point.Mark.TheVariants as marks
+use Rattle.eco_query.specs.declared.point.Head.{Head}
+use Rattle.eco_query.specs.declared.point.Head.TheVariants.{Plain, Without, Optional, Alone}
+use Rattle.eco_query.proofs.Built.{slot_grouped}
+use Rattle.eco_query.proofs.Spelled.{part_proper}
+use Rattle.eco_query.proofs.Stored.{some_of, some_of-more}
+
+-- ---- what is spelled is proper
+
+abbrev AreProperAtoms : List WrittenAtom → Type 0
+AreProperAtoms [] = Unit {0}
+AreProperAtoms (x ∷ xs) = IsProperAtom x × AreProperAtoms xs
+
+abbrev AreProperSlots : List WrittenSlot → Type 0
+AreProperSlots [] = Unit {0}
+AreProperSlots (s ∷ ss) = AreProperAtoms (atoms_of s.body) × AreProperSlots ss
+
+atom_proper : (size : ℕ) (u v : List ℕ) (x : WrittenAtom) → IsAtom size u v x → IsProperAtom x
+atom_proper size u v (single p) s = part_proper size u v p s
+atom_proper size u v (pair p q) (a, b, c, d, left, isp, comma, isq, right) = (part_proper size a b p isp, part_proper size c d q isq)
+
+more_proper : (size : ℕ) (u v : List ℕ) (xs : List WrittenAtom) → AreMore size u v xs → AreProperAtoms xs
+more_proper size u v [] s = tt
+more_proper size u v (x ∷ xs) (a, b, tok, is, more) = (atom_proper size a b x is, more_proper size b v xs more)
+
+body_proper : (size : ℕ) (u v : List ℕ) (k : WrittenBody) → IsBody size u v k → AreProperAtoms (atoms_of k)
+body_proper size u v (absent x) (a, tok, is) = (atom_proper size a v x is, tt)
+body_proper size u v (optional x) (a, tok, is) = (atom_proper size a v x is, tt)
+body_proper size u v (alternatives []) s = absurd s
+body_proper size u v (alternatives (x ∷ xs)) (a, is, more) = (atom_proper size u a x is, more_proper size a v xs more)
+
+slots_proper : (size : ℕ) (u : List ℕ) (ss : List WrittenSlot) → AreSlots size u ss → AreProperSlots ss
+slots_proper size u [] s = tt
+slots_proper size u (s ∷ ss) (a, b, tok, (c, access, body), more) = (body_proper size c b s.body body, slots_proper size b ss more)
+
+query_proper : (size : ℕ) (text : List ℕ) (ss : List WrittenSlot) → SpellsSlots size text ss → AreProperSlots ss
+query_proper size text [] s = absurd s
+query_proper size text (s ∷ ss) (a, b, tok, (c, access, body), more) = (body_proper size c b s.body body, slots_proper size b ss more)
+
+-- ---- and so are the atoms that were put down
+
+atoms_apart : (xs : List WrittenAtom) (x : WrittenAtom) → AreProperAtoms (xs ++ x ∷ []) → AreProperAtoms xs × IsProperAtom x
+atoms_apart [] x s = (tt, s.0)
+atoms_apart (y ∷ xs) x s = let (rest, last) = atoms_apart xs x s.1 in ((s.0, rest), last)
+
+last_proper : (h : Head) (xs : List WrittenAtom) (x : WrittenAtom) → AreProperAtoms (atoms_of (body_of h xs x)) → (some_of xs && is_bare_head h) ≡ false
+    → AreProperAtoms xs × IsProperAtom x
+last_proper Plain xs x s e = atoms_apart xs x s
+last_proper Without [] x s e = (tt, s.0)
+last_proper Without (y ∷ xs) x s e = cc
+last_proper Optional [] x s e = (tt, s.0)
+last_proper Optional (y ∷ xs) x s e = cc
+last_proper Alone xs x s e = atoms_apart xs x s
+
+none_proper : (xs : List WrittenAtom) → Some (some_of xs) ≡ Some false → AreProperAtoms xs
+none_proper [] e = tt
+none_proper (x ∷ xs) e = cc
+
+marks_proper : (xs : List WrittenAtom) (ms : List Mark) → grouping (some_of xs) ms ≡ Some false → AreProperSlots (slots_from xs ms) → AreProperMarks ms × AreProperAtoms xs
+marks_proper xs [] g s = (tt, none_proper xs g)
+marks_proper xs (marks.Same ∷ ms) g s = cc
+marks_proper xs (marks.Begin ∷ ms) g s = cc
+marks_proper xs (marks.Other a x ∷ ms) g s =
+    let (rest, all) = marks_proper (xs ++ atom_view x ∷ []) ms (ap (λ c. grouping c ms) (some_of-more xs (atom_view x)) ∙ g) s in
+    let (before, last) = atoms_apart xs (atom_view x) all in
+    ((last, rest), before)
+marks_proper xs (marks.Slot a h x ∷ ms) g s =
+    let (bare, more) = slot_grouped xs a h ms g in
+    let (before, last) = last_proper h xs (atom_view x) s.0 bare in
+    let (rest, none) = marks_proper [] ms more s.1 in
+    ((last, rest), before)
+
+pub held_proper : (text : List ℕ) (slots : List WrittenSlot) (ms : List Mark) → SpellsQuery text slots → HoldsSlots (Some ms) slots → AreProperMarks ms
+held_proper text slots ms s (same, whole, count) =
+    let (all, none) = marks_proper [] ms whole (subst AreProperSlots same (query_proper (length text) text slots s)) in all
+
+-- ---- the refusals
+
+module _ (entity_named : List ℕ → Option Entity) (slots : List WrittenSlot) where
+  pub too_many : HoldsSlots None slots → query_of entity_named slots ≡ Err TooManyTerms
+  too_many many = cond-true (nat_lt 32 (count_atoms slots)) _ _ (lt-ltb 32 (count_atoms slots) many)
+
+  module _ (ms : List Mark) (holds : HoldsSlots (Some ms) slots) where
+    few : nat_lt 32 (count_atoms slots) ≡ false
+    few = let (same, whole, count) = holds in grind (arith, nat_tests)
+
+    pub wildcard_here : true ≡ list_any misplaces_wildcard (slots_from [] ms) → query_of entity_named slots ≡ Err WildcardHere
+    wildcard_here wrong =
+        let (same, whole, count) = holds in
+        cond-false (nat_lt 32 (count_atoms slots)) _ _ few
+        ∙ cond-true (list_any misplaces_wildcard slots) _ _ (ap (list_any misplaces_wildcard) same ∙ sym wrong)
+
+    pub no_positive : false ≡ list_any misplaces_wildcard (slots_from [] ms) → false ≡ list_any (λ s. is_positive s.body) (slots_from [] ms)
+        → query_of entity_named slots ≡ Err NoPositive
+    no_positive right asked =
+        let (same, whole, count) = holds in
+        cond-false (nat_lt 32 (count_atoms slots)) _ _ few
+        ∙ cond-false (list_any misplaces_wildcard slots) _ _ (ap (list_any misplaces_wildcard) same ∙ sym right)
+        ∙ cond-true (not (list_any (λ s. is_positive s.body) slots)) _ _ (ap (λ ss. not (list_any (λ s. is_positive s.body) ss)) same ∙ ap not (sym asked))
+
+    pub looked_up : false ≡ list_any misplaces_wildcard (slots_from [] ms) → true ≡ list_any (λ s. is_positive s.body) (slots_from [] ms)
+        → query_of entity_named slots ≡ slots_of entity_named (slots_from [] ms)
+    looked_up right asked =
+        let (same, whole, count) = holds in
+        cond-false (nat_lt 32 (count_atoms slots)) _ _ few
+        ∙ cond-false (list_any misplaces_wildcard slots) _ _ (ap (list_any misplaces_wildcard) same ∙ sym right)
+        ∙ cond-false (not (list_any (λ s. is_positive s.body) slots)) _ _ (ap (λ ss. not (list_any (λ s. is_positive s.body) ss)) same ∙ ap not (sym asked))
+        ∙ ap (slots_of entity_named) same

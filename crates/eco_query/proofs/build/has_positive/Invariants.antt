@@ -1,0 +1,8 @@
+use Rattle.std.proofs.Common.{◌≡◌, drop}
+use Rattle.std.specs.List.{list_any}
+use Rattle.eco_query.specs.Terms.{asks}
+use Rattle.eco_query.proofs.build.has_positive.Given as goal
+
+-- no atom so far asks for something that is there
+abbrev pub invariant-loop-mark : goal.invariant-loop-mark
+invariant-loop-mark l = list_any asks l.marks ≡ list_any asks (drop l.mark-index l.marks)

@@ -1,0 +1,13 @@
+use Rattle.std.proofs.Common.{◌≡◌, true, []}
+use Rattle.eco_query.specs.Machine.{query_start}
+use Rattle.eco_query.specs.Points.{Draft, IsBegunAt, point_view, is_bare}
+use Rattle.eco_query.proofs.Loops.{Reached}
+use Rattle.eco_query.proofs.Stored.{HoldsDraft}
+use Rattle.eco_query.proofs.scan.scan_query.Given as goal
+
+-- the machine has read the bytes so far, and the atoms are held
+abbrev pub invariant-loop-at : goal.invariant-loop-at
+invariant-loop-at l = record {
+  run : (d : Draft) × Reached query_start l.text l.at (point_view l.text l.at d l.point) × HoldsDraft l.terms d × (is_bare l.point ≡ true → d.others ≡ []);
+  begun : IsBegunAt l.at l.point;
+}

@@ -1,0 +1,57 @@
+-- Queries as contracts see them.
+use Rattle.std.specs.Prelude.{Bool, true, not, List, [], ◌∷◌, map, flat_map}
+use Rattle.std.specs.List.{list_any, list_all}
+use Rattle.eco_ids.specs.Answer.{Asked}
+use Rattle.eco_ids.specs.Answer as ask
+use Rattle.eco_ids.specs.declared.id.Id.{Id}
+use Rattle.eco_ids.specs.declared.id.Id.TheVariants as id
+use Rattle.eco_ids.specs.declared.pattern.Part.TheVariants.{Is}
+use Rattle.eco_ids.specs.declared.pattern.Pattern.{Pattern}
+use Rattle.eco_ids.specs.declared.pattern.Pattern.TheVariants as pattern
+use Rattle.eco_ids.specs.Matching.{pattern_matches}
+use Rattle.eco_ids.specs.Order.{has_item, id_cmp}
+use Rattle.eco_query.specs.declared.access.Access.{Access}
+use Rattle.eco_query.specs.declared.query.Term.{Term}
+use Rattle.eco_query.specs.declared.query.Term.TheVariants.{Plain, Without, Optional, OneOf}
+use Rattle.eco_query.specs.declared.query.Slot.{Slot}
+
+-- a slot: its access, and what it asks
+pub record QuerySlot : Type 0 where
+  pub access : Access
+  pub asked : Asked
+
+abbrev pub asked_view : Term → Asked
+asked_view (Plain p) = ask.Plain p
+asked_view (Without p) = ask.Without p
+asked_view (Optional i) = ask.Optional i
+asked_view (OneOf v) = ask.OneOf v.items
+
+abbrev pub slot_view : Slot → QuerySlot
+slot_view s = record { access = s.access; asked = asked_view s.term }
+
+-- the slot holds on an entity that has these ids
+abbrev pub holds : List Id → Asked → Bool
+holds ids (ask.Plain p) = list_any (pattern_matches p) ids
+holds ids (ask.Without p) = not (list_any (pattern_matches p) ids)
+holds ids (ask.Optional i) = true
+holds ids (ask.OneOf is) = list_any (has_item id_cmp ids) is
+
+-- each slot holds on an entity of this type
+abbrev pub matches_type : List Id → List QuerySlot → Bool
+matches_type ids slots = list_all (λ s. holds ids s.asked) slots
+
+-- the pattern that an id alone matches
+abbrev pub exactly : Id → Pattern
+exactly (id.One e) = pattern.One e
+exactly (id.Two r t) = pattern.Two (Is r) (Is t)
+
+-- the patterns that a slot reads
+abbrev pub patterns_of : Asked → List Pattern
+patterns_of (ask.Plain p) = p ∷ []
+patterns_of (ask.Without p) = p ∷ []
+patterns_of (ask.Optional i) = exactly i ∷ []
+patterns_of (ask.OneOf is) = map exactly is
+
+-- those of all slots, in written order, whatever their access
+abbrev pub reads : List QuerySlot → List Pattern
+reads slots = flat_map (λ s. patterns_of s.asked) slots

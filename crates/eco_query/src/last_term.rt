@@ -1,0 +1,73 @@
+//! What the last atom of a slot makes of it.
+ghost use Rattle.std.specs.Prelude.{◌≡◌, IfOk, IfErr};
+ghost use Rattle.eco_ids.specs.declared.refusal.Refusal.TheVariants.{OutOfMemory};
+ghost use Rattle.eco_query.specs.Grammar.{IsProperAtom};
+ghost use Rattle.eco_query.specs.LastTerms as last;
+ghost use Rattle.eco_query.specs.LastTerms.{asked_by, last_of, left_over};
+ghost use Rattle.eco_query.specs.Points.{atom_view};
+ghost use Rattle.eco_query.specs.Queries.{asked_view};
+
+use crate::names::Names;
+use crate::point::Head;
+use crate::query::Term;
+use crate::written::WrittenAtom;
+use eco_ids::{Id, Pattern, Refusal};
+use std::alloc::Global;
+use std::mem;
+
+/// The whole of what a slot asks, or its last alternative.
+#[derive(Clone, Copy, Debug)]
+pub enum LastTerm {
+    Plain(Pattern),
+    Without(Pattern),
+    Optional(Id),
+    Alternative(Id),
+}
+
+/// Looks up the last atom of a slot, behind alternatives or not.
+pub fn last_term<N: Names>(
+    head: Head,
+    grouped: bool,
+    atom: WrittenAtom<'_>,
+    names: &N,
+) -> Result<LastTerm, Refusal>
+    requires { IsProperAtom (atom_view atom) }
+    ensures { result ≡ last_of (N.entity_named names.now) head grouped (atom_view atom.entry) }
+{
+    match head {
+        Head::Without => Ok(LastTerm::Without(atom.pattern(names)?)),
+        Head::Optional => Ok(LastTerm::Optional(atom.id(names)?)),
+        Head::Plain | Head::Alone if grouped => Ok(LastTerm::Alternative(atom.id(names)?)),
+        Head::Plain | Head::Alone => Ok(LastTerm::Plain(atom.pattern(names)?)),
+    }
+}
+
+/// Whether a wildcard stands in the last atom of a slot where none may stand.
+pub fn misplaces_last(head: Head, grouped: bool, atom: WrittenAtom<'_>) -> bool
+    ensures { result ≡ last.misplaces_last head grouped (atom_view atom.entry) }
+{
+    match head {
+        Head::Optional => atom.has_wildcard(),
+        Head::Plain | Head::Alone if grouped => atom.has_wildcard(),
+        Head::Plain | Head::Alone | Head::Without => atom.is_lone_wildcard(),
+    }
+}
+
+impl LastTerm {
+    /// The term of the slot. It takes the alternatives before, if it is one more.
+    pub fn into_term(self, alloc: Global, group: &mut Vec<Id>) -> Result<Term, Refusal>
+        ensures term { IfOk result (λ t. asked_view t ≡ asked_by group.old.items self) }
+        ensures left { IfOk result (λ t. group.new.items ≡ left_over group.old.items self) }
+        ensures memory { IfErr result (λ e. e ≡ OutOfMemory) }
+    {
+        Ok(match self {
+            LastTerm::Plain(pattern) => Term::Plain(pattern),
+            LastTerm::Without(pattern) => Term::Without(pattern),
+            LastTerm::Optional(id) => Term::Optional(id),
+            LastTerm::Alternative(id) => {
+                group.push(id)?;
+                Term::OneOf(mem::replace(group, Vec::new(alloc)))
+            }
+        })
+    }
+}

@@ -1,0 +1,20 @@
+//! What an added id brings with it, and the type that an add leads to (Flecs manual, "Component Traits": Acyclic,
+//! Exclusive and With).
+#![tactic(auto)]
+
+mod holdings;
+mod implied;
+pub mod laws;
+mod least;
+mod target;
+mod verdict;
+mod walk;
+
+pub use holdings::Holdings;
+pub use implied::closure;
+pub use least::{Graph, least_set};
+pub use target::target_type;
+pub use walk::{has, reached, reaches};
+
+#[cfg(test)]
+mod tests;

@@ -1,0 +1,116 @@
+//! The type that an add leads to.
+ghost use Rattle.std.specs.Prelude.{◌≡◌, IfOk, IsTrue, filter, fold, not};
+ghost use Rattle.eco_ids.specs.Indices.{is_alive as lives};
+ghost use Rattle.eco_ids.specs.Order.{id_cmp, is_ascending, with_item};
+ghost use Rattle.eco_ids.specs.Step as step;
+ghost use Rattle.eco_ids.specs.World as world;
+ghost use Rattle.eco_traits.specs.Target.{FindsType};
+
+use crate::holdings::Holdings;
+use crate::implied::closure;
+use crate::verdict::verdict;
+use crate::walk::has;
+use eco_ids::entity::EXCLUSIVE;
+use eco_ids::{Entity, Id, Refusal, TypeList};
+use std::alloc::{AllocError, Global};
+
+/// The type that a living entity has once an id was added to it with its closure: what it had and the closure, without the
+/// other pairs of each exclusive relationship of which the closure has a pair (Flecs manual, Relationships, "Exclusive
+/// relationships").
+///
+/// It is refused, in this order, where
+/// - [`Refusal::DeadId`]: an entity in the id isn't living;
+/// - [`Refusal::NotAPolicy`]: a pair of OnDelete or OnDeleteTarget in the closure has another target than Remove, Delete
+///   and Panic;
+/// - [`Refusal::InUse`]: Exclusive or Acyclic is in the closure, the entity lacks it, and some living entity has a pair
+///   with the entity as relationship;
+/// - [`Refusal::Cycle`]: for a pair (R, T) in the closure, R is acyclic, and T is the entity or a walk of pairs of R leads
+///   from T to it. It names the least such R;
+/// - [`Refusal::OutOfMemory`]: no memory is to be had for the closure, for a walk or for the new list.
+pub fn target_type<H: Holdings>(
+    alloc: Global,
+    holdings: &H,
+    entity: Entity,
+    id: Id,
+) -> Result<TypeList, Refusal>
+    requires { IsTrue (lives (H.world holdings.now) entity) }
+    ensures { FindsType (H.world holdings.now) entity id result }
+{
+    let own = holdings.type_of(entity).unwrap();
+    if !names_living(holdings, id) {
+        return Err(Refusal::DeadId);
+    }
+    let coming = closure(alloc, holdings, id)?;
+    if let Some(refusal) = verdict(alloc, holdings, entity, &coming)? {
+        return Err(refusal);
+    }
+    let kept = kept(holdings, own, id, &coming)?;
+    Ok(joined(&kept, &coming)?)
+}
+
+fn is_alive<H: Holdings>(holdings: &H, entity: Entity) -> bool
+    ensures { result ≡ lives (H.world holdings.now) entity }
+{
+    holdings.type_of(entity).is_some()
+}
+
+// Whether each entity in the id lives.
+fn names_living<H: Holdings>(holdings: &H, id: Id) -> bool
+    ensures { result ≡ world.names_living (H.world holdings.now) id }
+{
+    match id {
+        Id::One(entity) => is_alive(holdings, entity),
+        Id::Two(relationship, target) => {
+            is_alive(holdings, relationship) && is_alive(holdings, target)
+        }
+    }
+}
+
+// What the closure of the added id does not displace.
+fn kept<H: Holdings>(
+    holdings: &H,
+    own: &TypeList,
+    added: Id,
+    coming: &TypeList,
+) -> Result<TypeList, AllocError>
+    requires { step.IsClosure (H.world holdings.now) added coming.now }
+    ensures kept { IfOk result (λ ids. ids ≡ filter (λ i. not (step.is_displaced (H.world holdings.now) coming.now i)) own.now) }
+    ensures ascending { IsTrue (is_ascending id_cmp own.now) }
+{
+    let all = own.as_slice();
+    let mut ids = own.try_copy()?;
+    for id in all {
+        if is_displaced(holdings, added, coming, *id) {
+            ids = ids.without(*id)?;
+        }
+    }
+    Ok(ids)
+}
+
+// All pairs of a closure have the target of the added pair. So a pair goes where it has another target, its exclusive
+// relationship being there with that one.
+fn is_displaced<H: Holdings>(holdings: &H, added: Id, coming: &TypeList, id: Id) -> bool
+    requires { step.IsClosure (H.world holdings.now) added coming.now }
+    ensures { result ≡ step.is_displaced (H.world holdings.now) coming.now id }
+{
+    let Id::Two(_, target) = added else {
+        return false;
+    };
+    let Id::Two(relationship, old) = id else {
+        return false;
+    };
+    !old.is(target)
+        && coming.has(Id::Two(relationship, target))
+        && has(holdings, relationship, Id::One(EXCLUSIVE))
+}
+
+// The ids, and those that come.
+fn joined(ids: &TypeList, coming: &TypeList) -> Result<TypeList, AllocError>
+    ensures { IfOk result (λ all. all ≡ fold (with_item id_cmp) ids.now coming.now) }
+{
+    let mut all = ids.try_copy()?;
+    for id in coming.as_slice() {
+        all = all.with(*id)?;
+    }
+    Ok(all)
+}

@@ -1,0 +1,114 @@
+//! Walks along the pairs of one relationship.
+ghost use Rattle.std.specs.Prelude.{◌≡◌, ◌||◌, ◌↔◌, IfOk, OnOk, IsTrue};
+ghost use Rattle.eco_ids.specs.declared.entity.Entity.{Entity as EntityData};
+ghost use Rattle.eco_ids.specs.declared.id.Id.TheVariants.{Two};
+ghost use Rattle.eco_ids.specs.Order.{entity_cmp, has_item, id_cmp};
+ghost use Rattle.eco_ids.specs.Traits.{Reaches};
+ghost use Rattle.eco_ids.specs.World.{has as world_has};
+ghost use Rattle.eco_traits.specs.Known.{all_targets, target_is_known};
+ghost use Rattle.eco_traits.specs.Target.{target_by_pair};
+
+use crate::holdings::Holdings;
+use crate::least::{Graph, least_set};
+use eco_ids::{Entity, Id};
+use indexmap::IndexSet;
+use std::alloc::{AllocError, Global};
+
+// Each entity leads to the targets of its pairs of the relationship.
+#[derive(Drop)]
+struct Pairs<'a, H> {
+    holdings: &'a H,
+    relationship: Entity,
+}
+
+impl<H: Holdings> Graph for Pairs<'_, H> {
+    ghost nodes = { λ p. all_targets (H.world p.holdings.now) };
+
+    ghost leads = { λ p a b. IsTrue (world_has (H.world p.holdings.now) a (Two p.relationship b)) };
+
+    fn append_next(&self, entity: Entity, found: &mut Vec<Entity>) -> Result<(), AllocError> {
+        if let Some(ids) = self.holdings.type_of(entity) {
+            append_targets(ids.as_slice(), self.relationship, found)?;
+        }
+        Ok(())
+    }
+
+    ghost within = { λ p a b h. target_is_known (H.world p.holdings.now) p.relationship a b h };
+}
+
+fn append_targets(
+    ids: &[Id],
+    relationship: Entity,
+    found: &mut Vec<Entity>,
+) -> Result<(), AllocError>
+    ensures { OnOk result ((b : EntityData) → has_item entity_cmp found.new.items b ≡ (has_item entity_cmp found.old.items b || has_item id_cmp ids.now (Two relationship b))) }
+{
+    for id in ids {
+        if let Some(target) = target_by(*id, relationship) {
+            found.push(target)?;
+        }
+    }
+    Ok(())
+}
+
+// The target of a pair of the relationship.
+fn target_by(id: Id, relationship: Entity) -> Option<Entity>
+    ensures { result ≡ target_by_pair relationship id }
+{
+    match id {
+        Id::Two(own, target) if own.is(relationship) => Some(target),
+        _ => None,
+    }
+}
+
+/// All that a walk of pairs of the relationship leads to from an entity, itself among them.
+pub fn reached<H: Holdings>(
+    alloc: Global,
+    holdings: &H,
+    relationship: Entity,
+    from: Entity,
+) -> Result<IndexSet<Entity>, AllocError>
+    ensures { IfOk result (λ set. (b : EntityData) → IsTrue (has_item entity_cmp set.keys b) ↔ Reaches (H.world holdings.now) relationship from b) }
+{
+    least_set(
+        alloc,
+        &Pairs {
+            holdings,
+            relationship,
+        },
+        &[from],
+    )
+}
+
+/// Whether a walk of pairs of the relationship leads from one entity to another. It leads from each to itself.
+///
+/// A longer walk ends with a pair that names the goal. So nothing is walked where nobody has such a pair, and that takes
+/// no memory.
+pub fn reaches<H: Holdings>(
+    alloc: Global,
+    holdings: &H,
+    relationship: Entity,
+    from: Entity,
+    goal: Entity,
+) -> Result<bool, AllocError>
+    ensures { IfOk result (λ b. IsTrue b ↔ Reaches (H.world holdings.now) relationship from goal) }
+{
+    if from.is(goal) {
+        return Ok(true);
+    }
+    if !holdings.is_target(relationship, goal) {
+        return Ok(false);
+    }
+    let members = reached(alloc, holdings, relationship, from)?;
+    Ok(members.contains(&goal))
+}
+
+/// Whether the entity lives and has the id.
+pub fn has<H: Holdings>(holdings: &H, entity: Entity, id: Id) -> bool
+    ensures { result ≡ world_has (H.world holdings.now) entity id }
+{
+    match holdings.type_of(entity) {
+        Some(ids) => ids.has(id),
+        None => false,
+    }
+}

@@ -71,9 +71,14 @@ abbrev pub has_wildcard : WrittenAtom → Bool
 has_wildcard (single p) = is_wildcard p
 has_wildcard (pair p q) = is_wildcard p || is_wildcard q
 
+-- the single id of an entity
+abbrev pub single_of : Result Entity Refusal → Result Id Refusal
+single_of (Err f) = Err f
+single_of (Ok e) = Ok (One e)
+
 -- the id of an atom: wildcards are refused before unknown names
 abbrev pub id_of : (List ℕ → Option Entity) → WrittenAtom → Result Id Refusal
-id_of entity_named (single p) = ok_map One (entity_of_part entity_named p)
+id_of entity_named (single p) = single_of (entity_of_part entity_named p)
 id_of entity_named (pair p q) =
     if has_wildcard (pair p q) then Err WildcardHere
     else ok_both (λ r t. Two r t) (entity_of_part entity_named p) (entity_of_part entity_named q)

@@ -6,7 +6,7 @@ ghost use Rattle.std.specs.Prelude.{◌≡◌, ◌↔◌, ℕ, ◌≤◌, ◌&&�
 ghost use Rattle.std.specs.Option.{option_copied};
 ghost use Rattle.eco_ids.specs.Births.{Admits, may_admit, Makes, may_make, RevivesWith, unfit_name};
 ghost use Rattle.eco_ids.specs.declared.entity.Entity.{Entity};
-ghost use Rattle.eco_ids.specs.Indices.{is_alive, next_entity, with_new, with_death};
+ghost use Rattle.eco_ids.specs.Indices.{is_alive, is_free_at, next_entity, with_new, with_death};
 ghost use Rattle.eco_ids.specs.Names.{bearer, is_name};
 ghost use Rattle.eco_ids.specs.Outcome.{Meets};
 ghost use Rattle.eco_entities.specs.Registration.{newcomer, name_of, own_name, own_place, entity_at, with_change, placed, renamed, Renames, may_rename};
@@ -110,6 +110,20 @@ impl EntityIndex {
         self.slots.entity_at(index)
     }
 
+    /// Who is made next: the lowest free index at its generation, else the first unknown one below the limit.
+    pub fn next(&self) -> Option<Entity>
+        ensures { result ≡ next_entity self.now }
+    {
+        self.slots.next()
+    }
+
+    /// Whether the handle's index is known, free and at its generation.
+    pub fn is_free_at(&self, entity: Entity) -> bool
+        ensures { result ≡ is_free_at self.now entity }
+    {
+        self.slots.is_free_at(entity)
+    }
+
     /// What is true of every index, for proofs: it does nothing.
     pub fn rules(&self)
         ensures { IsRuled self.now }
@@ -137,8 +151,9 @@ impl EntityIndex {
         Ok(entity)
     }
 
-    // What stands against the name of a new entity.
-    fn check_name(&self, name: Option<&str>) -> Result<(), Refusal>
+    /// What stands against the name of a new entity: `BadName` where it is none, then `NameTaken` where a living entity has
+    /// it.
+    pub fn check_name(&self, name: Option<&str>) -> Result<(), Refusal>
         ensures { MatchOption (unfit_name name_of self.now (option_copied name.entry)) (result ≡ Ok tt) (λ why. result ≡ Err why) }
     {
         let Some(text) = name else {

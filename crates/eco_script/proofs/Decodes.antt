@@ -1,13 +1,13 @@
 -- What is found in a value is exactly the script that it is.
-use Rattle.std.proofs.Common.{◌≡◌, ◌≤◌, ℕ, Bool, true, false, ◌&&◌, List, [], ◌∷◌, map, Option, Some, None, option_map, option_and_then, if◌then◌else◌, refl, ap, sym, ◌∙◌, nat_le, codes, arith}
+use Rattle.std.proofs.Common.{◌≡◌, ◌≤◌, ℕ, Bool, true, false, List, [], ◌∷◌, map, Option, Some, None, option_map, option_and_then, if◌then◌else◌, refl, ap, sym, ◌∙◌, codes, arith}
 use Rattle.std.specs.Str.{bytes_eq}
 use Rattle.std.proofs.lemmas.Slice.Eq.{bytes_eq-Decides}
 use Rattle.std.proofs.lemmas.Option.{option_and_then_some}
-use Rattle.serde_json.specs.Data.{Data, null, boolean, number, string, array, object, Items, no_items, item, Num, unsigned, negative, float}
-use Rattle.serde_json.specs.Find.{as_array, as_str, as_number, as_u64}
+use Rattle.serde_json.specs.Data.{Data, null, boolean, number, string, array, object, Items, no_items, item, unsigned, negative, float}
+use Rattle.serde_json.specs.Find.{as_str}
 use Rattle.serde_json.specs.View.{items_of}
 use Rattle.eco_script.specs.Decode.{items_list, list_in, name_in, number_in, step_of_none, step_of_one, step_of_two, step_of_words, step_in, steps_of, script_of_parts, script_in}
-use Rattle.eco_script.specs.Script.{Script, script_data, IsScriptData, IsScript}
+use Rattle.eco_script.specs.Script.{Script, IsScriptData, IsScript}
 use Rattle.serde_json.specs.Read.{read}
 use Rattle.eco_script.specs.Steps.{Step, create, add, remove, rename, has, show, list, query, step_data, written, list_data, name_data}
 use Rattle.eco_script.proofs.Values.{items_list-items_of}

@@ -1,23 +1,23 @@
 -- Each step has some answer on every world: what it can't be done for, what it is done with, or that memory was wanting.
-use Rattle.std.proofs.Common.{◌≡◌, ℕ, Bool, true, false, not, ◌&&◌, List, [], ◌∷◌, map, Option, Some, None, Result, Ok, Err, refl, ap, sym, ◌∙◌, is_some, MatchResult, MatchBool, arith}
+use Rattle.std.proofs.Common.{◌≡◌, ℕ, Bool, true, false, not, ◌&&◌, List, [], ◌∷◌, map, Option, Some, None, Result, Ok, Err, refl, MatchBool, arith}
 use Rattle.std.specs.List.{list_all}
 use Rattle.eco_ids.specs.declared.entity.Entity.{Entity}
 use Rattle.eco_ids.specs.declared.id.Id.{Id}
-use Rattle.eco_ids.specs.declared.id.Id.TheVariants as id
+use Rattle.eco_ids.specs.declared.id.Id.TheVariants.{One}
 use Rattle.eco_ids.specs.declared.refusal.Refusal.{Refusal}
 use Rattle.eco_ids.specs.declared.refusal.Refusal.TheVariants.{NotAlive, DeadId, Reserved, BadName, NameTaken, NoMoreIds, OutOfMemory}
 use Rattle.eco_ids.specs.Answer.{answer}
 use Rattle.eco_world.specs.Queries.{term_of}
-use Rattle.eco_ids.specs.Births.{Creates, may_create, unfit_name, bare}
-use Rattle.eco_ids.specs.Indices.{is_alive, living, next_entity, with_new}
+use Rattle.eco_ids.specs.Births.{Creates, may_create, unfit_name}
+use Rattle.eco_ids.specs.Indices.{is_alive, living, next_entity}
 use Rattle.eco_ids.specs.Outcome.{first_refusal, is_out_of_memory, Refuses, Answers, Meets}
 use Rattle.eco_ids.specs.Step.{Adds, may_add, Removes, may_remove, Renames, may_rename, unfit, unfit_actor, unfit_rename, changed, without_id, with_name, own_name}
 use Rattle.eco_ids.specs.Builtin.{is_builtin}
 use Rattle.eco_ids.specs.World.{WorldState, has, names_living}
 use Rattle.eco_script.specs.References.{ReadsEntity, ReadsId}
-use Rattle.eco_query.specs.Readings.{single_of}
+use Rattle.eco_query.specs.Readings.{ok_map}
 use Rattle.eco_script.proofs.Readable.{ref_read}
-use Rattle.eco_script.specs.Replies.{Reply, done, made, truth, shown, listed, found, replied, Calls, On, OnEntity, OnId, Replies}
+use Rattle.eco_script.specs.Replies.{Reply, truth, shown, listed, found, replied, Calls, On, OnEntity, OnId, Replies}
 use Rattle.eco_script.specs.Steps as step
 use Rattle.eco_script.specs.Text.{Does, step_lines}
 use Rattle.eco_ids.specs.Names.{lookup, is_proper, is_taken, is_same_name}
@@ -101,7 +101,7 @@ reads_entity w text = ref_read (lookup w) text
 
 reads_id : (w : WorldState) (text : List ℕ) → (n : Result Id Refusal) × ReadsId w text n
 unfolding ReadsId
-reads_id w text = let (single, is) = reads_entity w text in (single_of single, (single, is, refl))
+reads_id w text = let (single, is) = reads_entity w text in (ok_map (λ e. One e) single, (single, is, refl))
 
 on_entity : (w : WorldState) (text : List ℕ) (Goes : Entity → Result Reply Refusal → WorldState → Type 0)
     → ((x : Entity) → Ends (Goes x)) → Ends (OnEntity w text Goes)

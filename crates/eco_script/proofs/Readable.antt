@@ -1,10 +1,10 @@
 -- Each text is read in some way: a machine runs through it, or stops at its first fault.
-use Rattle.std.proofs.Common.{◌≡◌, ◌⊎◌, inl, inr, ℕ, suc, ◌+◌, ◌<◌, List, [], ◌∷◌, length, take, get_or, Option, Some, None, option_map, option_and_then, Result, Err, refl, ap, ◌∙◌, sym, subst, arith}
+use Rattle.std.proofs.Common.{◌≡◌, ◌⊎◌, inl, inr, ℕ, suc, ◌+◌, ◌<◌, List, [], ◌∷◌, length, take, get_or, Option, Some, None, option_map, option_and_then, Result, Err, refl, ap, ◌∙◌, subst, arith}
 use Rattle.std.proofs.Math.Seq.{take-length}
 use Rattle.eco_ids.specs.declared.entity.Entity.{Entity}
 use Rattle.eco_ids.specs.declared.refusal.Refusal.{Refusal}
 use Rattle.eco_ids.specs.declared.refusal.Refusal.TheVariants.{Syntax}
-use Rattle.eco_query.specs.Grammar.{named, each, any, single, WrittenSlot, PlacedReference, SpellsRef, IsPart}
+use Rattle.eco_query.specs.Grammar.{named, each, any, WrittenSlot, PlacedReference, SpellsRef, IsPart}
 use Rattle.eco_query.specs.Machine.{Point, advance, runs, move, end, Stops, ref_start}
 use Rattle.eco_query.specs.Readings.{Reads, entity_at}
 use Rattle.eco_query.proofs.Rest.{Rest}

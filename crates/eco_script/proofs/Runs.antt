@@ -4,16 +4,13 @@ use Rattle.std.proofs.lemmas.List.{append-nil, take_more, map-append, take-appen
 use Rattle.std.specs.Io.KnownBytes.{Appends, Consumes, IsAtEnd, Keeps}
 use Rattle.eco_script.specs.Run.{IsTextOf, WasNotRead}
 use Rattle.eco_script.proofs.Devices.{Appends-more}
-use Rattle.std.specs.Prelude.{IsUtf8, ◌⊎◌}
-use Rattle.serde_json.specs.Data.{Data}
-use Rattle.serde_json.specs.Read.{read}
+use Rattle.std.specs.Prelude.{◌⊎◌}
 use Rattle.eco_script.specs.Script.{Script, IsScript}
 use Rattle.eco_ids.specs.World.{WorldState, first_world}
 use Rattle.eco_script.specs.Beginning.{IsBeginning}
 use Rattle.eco_script.specs.Steps.{Step}
 use Rattle.eco_script.specs.Text.{Does, Text}
 use Rattle.eco_script.proofs.Ends.{some_step}
-use Rattle.std.specs.Prelude.{codes}
 
 pub Text-append : (xs ys : List Step) (w m e : WorldState) (t u : List ℕ) → Text w xs t m → Text m ys u e → Text w (xs ++ ys) (t ++ u) e
 Text-append [] ys w m e t u (tn, mw) q = rw (tn, ← mw) q

@@ -1,6 +1,6 @@
 //! Devices over the readers and writers of std.
 
-ghost use Rattle.std.specs.Prelude.{◌≡◌, ◌+◌, ◌^◌, ◌<◌};
+ghost use Rattle.std.specs.Prelude.{◌≡◌, ◌+◌, ◌<◌};
 
 use crate::device::{DeviceFailed, ScriptReader, ScriptWriter};
 use std::io::{Read, Write};

@@ -1,7 +1,6 @@
 //! Runs one step on a world.
 
-ghost use Rattle.std.specs.Prelude.{◌≡◌, option_map, IfOk};
-ghost use Rattle.eco_world.specs.Plain.{IsSingle};
+ghost use Rattle.std.specs.Prelude.{option_map};
 ghost use Rattle.eco_script.specs.Answers.{answer_view};
 ghost use Rattle.eco_script.specs.References.{ReadsEntity, ReadsId};
 ghost use Rattle.eco_script.specs.Replies.{Replies};
@@ -25,8 +24,7 @@ fn read_entity(text: &str, world: &World) -> Result<Entity, Refusal>
 // The single id that a text names.
 #[tactic(auto, unfolding(crate::specs::References::ReadsId))]
 fn read_id(text: &str, world: &World) -> Result<Id, Refusal>
-    ensures reads { ReadsId world.now text.now result }
-    ensures single { IfOk result IsSingle }
+    ensures { ReadsId world.now text.now result }
 {
     Ok(Id::One(read_entity(text, world)?))
 }

@@ -1,6 +1,6 @@
 //! What the steps of a script answer.
 
-ghost use Rattle.std.specs.Prelude.{◌≡◌, ◌++◌, codes, IfOk, OnOk, string_bytes, flat_map, map};
+ghost use Rattle.std.specs.Prelude.{◌≡◌, ◌++◌, IfOk, OnOk, string_bytes, flat_map, map};
 ghost use Rattle.eco_script.specs.Answers.{answer_view, reply_view};
 ghost use Rattle.eco_world.specs.Queries.{result_of};
 ghost use Rattle.eco_script.specs.LineViews.{line_text};

@@ -1,7 +1,7 @@
 //! Runs of scripts.
 
-ghost use Rattle.std.specs.Prelude.{◌≡◌, ◌≢◌, ◌⊎◌, ℕ, ◌+◌, ◌^◌, ◌<◌, ◌≤◌, List, [], Some, IfOk, OnOk, OnErr, IsErrOf, map, length, string_bytes};
-ghost use Rattle.std.specs.Io.KnownBytes.{Appends, Consumes, IsAtEnd, Keeps};
+ghost use Rattle.std.specs.Prelude.{◌≡◌, ◌≢◌, ℕ, ◌+◌, ◌^◌, ◌<◌, ◌≤◌, List, Some, IfOk, OnOk, OnErr, IsErrOf, map, string_bytes};
+ghost use Rattle.std.specs.Io.KnownBytes.{Appends};
 ghost use Rattle.eco_ids.specs.World.{WorldState};
 ghost use Rattle.eco_script.specs.Beginning.{IsBeginning};
 ghost use Rattle.eco_script.specs.Run.{Ran, WasNotRead, WasStopped};

@@ -1,6 +1,6 @@
 //! Scripts: which steps a JSON value is.
 
-ghost use Rattle.std.specs.Prelude.{◌≡◌, ◌≢◌, Err, ◌∷◌, [], List, Some, None, IfOk, OnErr, IsErrOf, map, option_map, nat_le, length};
+ghost use Rattle.std.specs.Prelude.{◌≡◌, ◌≢◌, Err, List, Some, None, IfOk, IsErrOf, map, option_map};
 ghost use Rattle.serde_json.specs.View.{view};
 ghost use Rattle.eco_script.specs.Decode.{script_in, step_in, step_of_none, step_of_one, step_of_two, steps_of, number_in, name_in, list_in};
 ghost use Rattle.eco_script.specs.Views.{step_view, script_view};

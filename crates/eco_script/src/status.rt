@@ -1,7 +1,8 @@
 //! How a run ended.
 
 ghost use Rattle.std.specs.Prelude.{◌≡◌};
-ghost use Rattle.eco_script.specs.Statuses.{code_of};
+ghost use Rattle.std.specs.Option.{option_copied};
+ghost use Rattle.eco_script.specs.Statuses.{code_of, message_of};
 
 /// How the program ended, and with it the number that it ends with.
 #[derive(Clone, Copy, Debug, PartialEq, Eq)]
@@ -30,7 +31,9 @@ impl Status {
     }
 
     /// What the program says on standard error, if anything.
-    pub fn message(self) -> Option<&'static str> {
+    pub fn message(self) -> Option<&'static str>
+        ensures { option_copied result ≡ message_of self }
+    {
         match self {
             Status::Ran => None,
             Status::Stopped => Some("flecsrun: stopped"),

@@ -16,8 +16,7 @@ use Rattle.eco_ids.specs.Matching.{pattern_matches}
 use Rattle.eco_ids.specs.Order.{id_cmp, id_eq, entity_cmp}
 use Rattle.eco_ids.specs.Indices.{record_of}
 use Rattle.eco_ids.specs.World.{WorldState, Record, has}
-use Rattle.eco_ids.proofs.Facts.{id_eq_is}
-use Rattle.eco_ids.proofs.IdOrder.{id_cmp_total, same_id}
+use Rattle.eco_traits.specs.Same.{id_eq_is, id_cmp_total, same_id}
 use Rattle.eco_world.specs.Queries.{exactly, term_of, holder_at}
 use Rattle.eco_entities.specs.Registration.{entity_at}
 use Rattle.eco_world.proofs.Walk.{walk, walk_some, walk_none}

@@ -1,43 +1,144 @@
--- Ids with zeros for values.
-use Rattle.std.proofs.Common.{◌≡◌, Bool, true, false, cond, not, ◌||◌, List, [], ◌∷◌, map, filter, Some, refl, sym, ap, ◌∙◌, is_some, is_eq, Ordering, Less, Equal, Greater, true≢false}
-use Rattle.std.specs.FinMap.Entries.{find, put, by_order, where_key}
-use Rattle.std.specs.Ordering.{ordering_reverse}
+-- Ids with values, in the order of the ids.
+use Rattle.std.proofs.Common.{◌≡◌, ◌≢◌, Bool, true, false, cond, not, ◌||◌, ◌&&◌, T, List, [], ◌∷◌, map, filter, Option, Some, None, option_map, unwrap_or, refl, sym, ap, ◌∙◌, subst, is_some, is_eq, is_lt, Ordering, Less, Equal, Greater, true≢false, IsTrue}
+use Rattle.std.proofs.lemmas.Option.{same_Some, none-some}
+use Rattle.std.specs.FinMap.Entries.{find, put, by_order, where_key, is_sorted, below_all, is_sorted-where_key, find-where_key}
 use Rattle.eco_ids.specs.declared.id.Id.{Id}
 use Rattle.eco_ids.specs.declared.value.Value.{Value}
-use Rattle.eco_ids.specs.Order.{id_cmp, id_eq, has_item, with_item, without_item}
-use Rattle.eco_ids.specs.World.{zeros}
-use Rattle.eco_ids.proofs.IdOrder.{id_cmp_total}
-use Rattle.eco_world.specs.Rows.{valued}
+use Rattle.eco_ids.specs.Order.{id_cmp, id_eq, has_item, without_item}
+use Rattle.eco_ids.specs.declared.entity.Entity.{Entity}
+use Rattle.eco_ids.specs.Indices.{record_of}
+use Rattle.eco_ids.specs.World.{Record, WorldState, has, zeros}
+use Rattle.eco_traits.specs.Target.{type_of_record}
+use Rattle.eco_world.specs.Retyped.{type_of}
+use Rattle.eco_traits.specs.Same.{id_cmp_total, id_eq_is, id_eq_itself, id_eq_sym, same_id}
+use Rattle.eco_tables.specs.Column.{value_in, retyped, with_held}
 
-pub keys_valued : (ids : List Id) → map (λ (h : Id × Value). h.0) (valued ids) ≡ ids
-keys_valued [] = refl
-keys_valued (i ∷ ids) = ap (λ js. i ∷ js) (keys_valued ids)
+abbrev pub Held : Type 0
+Held = List (Id × Value)
+
+abbrev pub keys : Held → List Id
+keys = map (λ p. p.0)
 
 -- a list of ids is found as it is searched
-pub find_valued : (ids : List Id) (i : Id) → is_some (find id_cmp i (valued ids)) ≡ has_item id_cmp ids i
-find_valued [] i = refl
-find_valued (j ∷ ids) i =
-    elim (id_cmp j i) as (λ r. id_cmp i j ≡ ordering_reverse r → is_some (cond (is_eq (id_cmp i j)) (Some zeros) (find id_cmp i (valued ids))) ≡ (is_eq r || has_item id_cmp ids i)) [
-      | Less ↦ λ e. ap (λ r. is_some (cond (is_eq r) (Some zeros) (find id_cmp i (valued ids)))) e ∙ find_valued ids i
-      | Equal ↦ λ e. ap (λ r. is_some (cond (is_eq r) (Some zeros) (find id_cmp i (valued ids)))) e
-      | Greater ↦ λ e. ap (λ r. is_some (cond (is_eq r) (Some zeros) (find id_cmp i (valued ids)))) e ∙ find_valued ids i
-    ] (id_cmp_total.antisymm i j)
+pub find_keys : (held : Held) (i : Id) → is_some (find id_cmp i held) ≡ has_item id_cmp (keys held) i
+find_keys [] i = refl
+find_keys (p ∷ held) i =
+    ap (λ b. is_some (cond b (Some p.1) (find id_cmp i held))) (id_eq_sym i p.0)
+    ∙ elim (id_eq p.0 i) as (λ b. is_some (cond b (Some p.1) (find id_cmp i held)) ≡ (b || has_item id_cmp (keys held) i)) [ true ↦ refl | false ↦ find_keys held i ]
 
--- an id goes to its place among the values as among the ids
-pub put_valued : (ids : List Id) (i : Id) → has_item id_cmp ids i ≡ false → put id_cmp i zeros (valued ids) ≡ valued (with_item id_cmp ids i)
-put_valued [] i h = refl
-put_valued (j ∷ ids) i h =
-    elim (id_cmp j i) as (λ r. id_cmp i j ≡ ordering_reverse r → (is_eq r || has_item id_cmp ids i) ≡ false → by_order (id_cmp i j) ((i, zeros) ∷ (j, zeros) ∷ valued ids) ((j, zeros) ∷ valued ids) ((j, zeros) ∷ put id_cmp i zeros (valued ids)) ≡ valued (by_order r (j ∷ with_item id_cmp ids i) (j ∷ ids) (i ∷ j ∷ ids))) [
-      | Less ↦ λ e isnt. ap (λ r. by_order r ((i, zeros) ∷ (j, zeros) ∷ valued ids) ((j, zeros) ∷ valued ids) ((j, zeros) ∷ put id_cmp i zeros (valued ids))) e ∙ ap (λ h. (j, zeros) ∷ h) (put_valued ids i isnt)
-      | Equal ↦ λ e isnt. absurd (true≢false isnt)
-      | Greater ↦ λ e isnt. ap (λ r. by_order r ((i, zeros) ∷ (j, zeros) ∷ valued ids) ((j, zeros) ∷ valued ids) ((j, zeros) ∷ put id_cmp i zeros (valued ids))) e
-    ] (id_cmp_total.antisymm i j) h
+less : (o : Ordering) → T (is_lt o) → o ≡ Less
+less Less p = refl
+less Equal p = absurd p
+less Greater p = absurd p
+
+pub first : (a b : Bool) → T (a && b) → T a
+first true b p = tt
+first false b p = p
+
+pub second : (a b : Bool) → T (a && b) → T b
+second true b p = p
+second false b p = absurd p
+
+both : (a b : Bool) → T a → T b → T (a && b)
+both true b p q = q
+both false b p q = p
+
+none_below : (i : Id) (held : Held) → T (below_all id_cmp i held) → find id_cmp i held ≡ None
+none_below i [] below = refl
+none_below i (p ∷ held) below =
+    elim (id_cmp i p.0) as (λ o. T (is_lt o && below_all id_cmp i held) → cond (is_eq o) (Some p.1) (find id_cmp i held) ≡ None) [
+      | Less ↦ λ rest. none_below i held rest
+      | Equal ↦ λ no_case. absurd no_case
+      | Greater ↦ λ no_case. absurd no_case
+    ] below
+
+below_less : (i j : Id) (held : Held) → id_cmp i j ≡ Less → T (below_all id_cmp j held) → T (below_all id_cmp i held)
+below_less i j [] l below = tt
+below_less i j (p ∷ held) l below =
+    both _ _ (subst (λ r. T (is_lt r)) (sym (id_cmp_total.trans i j p.0 l (less _ (first _ _ below)))) tt) (below_less i j held l (second _ _ below))
+
+-- ---- other ids
+
+apart : (i : Id) (p : Id × Value) (held : Held) (v : Value) → T (below_all id_cmp p.0 held) → find id_cmp i held ≡ Some v → id_eq i p.0 ≡ false
+apart i p held v below at = go (id_eq i p.0) refl
+  where
+    go : (b : Bool) → id_eq i p.0 ≡ b → b ≡ false
+    go true e = absurd (none-some v (sym (none_below i held (subst (λ j. T (below_all id_cmp j held)) (sym (id_eq_is i p.0 e)) below)) ∙ at))
+    go false e = refl
+
+-- what has the old values, and zeros where there was none, is the old under its own ids
+pub retyped_is : (new old : Held) → T (is_sorted id_cmp new) → ((i : Id) (v : Value) → find id_cmp i new ≡ Some v → value_in old i ≡ v) → retyped (keys new) old ≡ new
+retyped_is [] old up values = refl
+retyped_is (p ∷ new) old up values =
+    ap (λ v. (p.0, v) ∷ retyped (keys new) old) (values p.0 p.1 (ap (λ b. cond b (Some p.1) (find id_cmp p.0 new)) (id_eq_itself p.0)))
+    ∙ ap (λ held. p ∷ held)
+    (retyped_is new old (second _ _ up) (λ i v at. values i v (ap (λ b. cond b (Some p.1) (find id_cmp i new)) (apart i p new v (first _ _ up) at) ∙ at)))
+
+alike : (test : Id → Bool) (i j : Id) → id_cmp i j ≡ Equal → test j ≡ test i
+alike test i j e = ap test (sym (same_id i j e))
+
+kept_find : (test : Id → Bool) (held : Held) (i : Id) (v : Value) → find id_cmp i (where_key id_cmp test held) ≡ Some v → find id_cmp i held ≡ Some v
+kept_find test held i v at = go (test i) (sym (find-where_key id_cmp test i (alike test i) held) ∙ at)
+  where
+    go : (b : Bool) → cond b (find id_cmp i held) None ≡ Some v → find id_cmp i held ≡ Some v
+    go true e = e
+    go false e = absurd (none-some v e)
+
+keys_kept : (test : Id → Bool) (held : Held) → keys (where_key id_cmp test held) ≡ filter test (keys held)
+keys_kept test [] = refl
+keys_kept test (p ∷ held) = elim (test p.0) as (λ b. keys (cond b (p ∷ where_key id_cmp test held) (where_key id_cmp test held)) ≡ cond b (p.0 ∷ filter test (keys held)) (filter test (keys held))) [
+  | true ↦ ap (λ ids. p.0 ∷ ids) (keys_kept test held)
+  | false ↦ keys_kept test held
+]
 
 -- an id goes from among the values as from among the ids
-pub without_valued : (ids : List Id) (i : Id) → where_key id_cmp (λ j. not (id_eq j i)) (valued ids) ≡ valued (without_item id_cmp ids i)
-without_valued [] i = refl
-without_valued (j ∷ ids) i =
-    elim (id_eq j i) as (λ b. cond (not b) ((j, zeros) ∷ where_key id_cmp (λ k. not (id_eq k i)) (valued ids)) (where_key id_cmp (λ k. not (id_eq k i)) (valued ids)) ≡ valued (cond (not b) (j ∷ without_item id_cmp ids i) (without_item id_cmp ids i))) [
-      | true ↦ without_valued ids i
-      | false ↦ ap (λ h. (j, zeros) ∷ h) (without_valued ids i)
-    ]
+pub retyped_without : (held : Held) (i : Id) → T (is_sorted id_cmp held) → retyped (without_item id_cmp (keys held) i) held ≡ where_key id_cmp (λ j. not (id_eq j i)) held
+retyped_without held i up =
+    ap (λ ids. retyped ids held) (sym (keys_kept (λ j. not (id_eq j i)) held))
+    ∙ retyped_is (where_key id_cmp (λ j. not (id_eq j i)) held) held (is_sorted-where_key id_cmp (λ j. not (id_eq j i)) held up)
+    (λ j v at. ap (λ o. unwrap_or o zeros) (kept_find (λ k. not (id_eq k i)) held j v at))
+
+-- ---- another value
+
+none_written : (held : Held) (i : Id) (v : Value) → find id_cmp i held ≡ None → with_held held i v ≡ held
+none_written [] i v none = refl
+none_written (p ∷ held) i v none =
+    elim (id_eq i p.0) as (λ b. id_eq i p.0 ≡ b → cond b (Some p.1) (find id_cmp i held) ≡ None → with_held (p ∷ held) i v ≡ p ∷ held) [
+      | true ↦ λ e h. absurd (none-some p.1 (sym h))
+      | false ↦ λ e h. ap (λ b. cond b (p.0, v) p ∷ with_held held i v) (id_eq_sym p.0 i ∙ e) ∙ ap (λ rest. p ∷ rest) (none_written held i v h)
+    ] refl none
+
+-- where the id is there, its value is written in its place
+pub written_is : (held : Held) (i : Id) (v : Value) → T (is_sorted id_cmp held) → is_some (find id_cmp i held) ≡ true → with_held held i v ≡ put id_cmp i v held
+written_is [] i v up there = absurd (true≢false (sym there))
+written_is (p ∷ held) i v up there =
+    elim (id_cmp i p.0) as (λ o. id_cmp i p.0 ≡ o → is_some (cond (is_eq o) (Some p.1) (find id_cmp i held)) ≡ true → with_held (p ∷ held) i v ≡ by_order o ((i, v) ∷ p ∷ held) ((p.0, v) ∷ held) (p ∷ put id_cmp i v held)) [
+      | Less ↦ λ e some. absurd (true≢false (sym some ∙ ap is_some (none_below i held (below_less i p.0 held e (first _ _ up)))))
+      | Equal ↦ λ e some.
+          ap (λ b. cond b (p.0, v) p ∷ with_held held i v) (id_eq_sym p.0 i ∙ ap is_eq e)
+          ∙ ap (λ rest. (p.0, v) ∷ rest) (none_written held i v (none_below i held (subst (λ j. T (below_all id_cmp j held)) (sym (same_id i p.0 e)) (first _ _ up))))
+      | Greater ↦ λ e some.
+          ap (λ b. cond b (p.0, v) p ∷ with_held held i v) (id_eq_sym p.0 i ∙ ap is_eq e)
+          ∙ ap (λ rest. p ∷ rest) (written_is held i v (second _ _ up) some)
+    ] refl there
+
+-- ---- of an entity
+
+abbrev has_of : Option Record → Id → Bool
+has_of o i = is_some (find id_cmp i (unwrap_or (option_map (λ r. r.held) o) []))
+
+has_of_some : (o : Option Record) (i : Id) (ids : List Id) → Some ids ≡ option_map type_of_record o → has_item id_cmp ids i ≡ has_of o i
+has_of_some None i ids e = absurd (none-some ids (sym e))
+has_of_some (Some d) i ids e = ap (λ xs. has_item id_cmp xs i) (same_Some ids (keys d.held) e) ∙ sym (find_keys d.held i)
+
+-- a living entity has an id where its list of ids does
+pub has_listed : (w : WorldState) (e : Entity) (i : Id) (ids : List Id) → Some ids ≡ option_map type_of_record (record_of w e) → has_item id_cmp ids i ≡ has w e i
+has_listed w e i ids h = has_of_some (record_of w e) i ids h
+
+listed_of : (o : Option Record) (ids : List Id) → Some ids ≡ option_map type_of_record o → ids ≡ keys (unwrap_or (option_map (λ r. r.held) o) [])
+listed_of None ids e = absurd (none-some ids (sym e))
+listed_of (Some d) ids e = same_Some ids (keys d.held) e
+
+-- its list of ids is that of what it holds
+pub listed : (w : WorldState) (e : Entity) (ids : List Id) → Some ids ≡ option_map type_of_record (record_of w e) → ids ≡ type_of w e
+listed w e ids h = listed_of (record_of w e) ids h

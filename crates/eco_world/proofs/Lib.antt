@@ -1,10 +1,10 @@
-pub mod Adding
 pub mod Answering
-pub mod Changing
+pub mod Asking
 pub mod Held
 pub mod Joined
-pub mod Rewrites
+pub mod Making
+pub mod Nothing
 pub mod Starting
 pub mod Steps
-pub mod Vacant
+pub mod Types
 pub mod Walk

@@ -1,5 +1,6 @@
 pub mod Actor
+pub mod Arities
 pub mod Builtins
-pub mod Plain
+pub mod Joined
 pub mod Queries
-pub mod Rows
+pub mod Retyped

@@ -1,12 +1,11 @@
 //! The entities that live from the start.
-ghost use Rattle.std.specs.Prelude.{◌≡◌, ◌≤◌, ◌<◌, Some, IfOk, IfErr};
+ghost use Rattle.std.specs.Prelude.{◌≡◌, ◌≤◌, ◌<◌, ◌∷◌, [], Some, IfOk, IfErr};
 ghost use Rattle.eco_ids.specs.declared.refusal.Refusal.TheVariants.{OutOfMemory};
-ghost use Rattle.eco_world.specs.Builtins.{builtin_holdings, builtin_name, index_of_builtins};
+ghost use Rattle.eco_world.specs.Builtins.{store_of_builtins, builtin_name, builtin_type};
 
-use crate::holding::Holding;
-use eco_entities::EntityIndex;
 use eco_ids::entity::{ACYCLIC, BUILTIN_COUNT, DELETE, EXCLUSIVE, ON_DELETE_TARGET};
-use eco_ids::{Id, Refusal};
+use eco_ids::{Id, Refusal, TypeList};
+use eco_store::Store;
 use std::alloc::{AllocError, Global};
 
 // The name of the built-in at this index.
@@ -27,40 +26,33 @@ fn builtin_name(number: u32) -> &'static str
     }
 }
 
-/// The built-ins by their names.
-pub(crate) fn builtin_index(alloc: Global, limit: u32) -> Result<EntityIndex, Refusal>
-    requires at_least { 9 ≤ limit }
-    requires at_most { limit ≤ 1048576 }
-    ensures ok { IfOk result (λ index. index ≡ index_of_builtins limit 9) }
-    ensures err { IfErr result (λ why. why ≡ OutOfMemory) }
+// The ids of the built-in at this index.
+fn builtin_type(alloc: Global, number: u32) -> Result<TypeList, AllocError>
+    requires { number < 9 }
+    ensures { IfOk result (λ type_list. type_list ≡ builtin_type number) }
 {
-    let mut index = EntityIndex::new(alloc, limit);
-    for number in 0..BUILTIN_COUNT {
-        index.create(Some(builtin_name(number)))?;
+    let none = TypeList::empty(alloc);
+    match number {
+        0 => none
+            .with(Id::One(EXCLUSIVE))?
+            .with(Id::One(ACYCLIC))?
+            .with(Id::Two(ON_DELETE_TARGET, DELETE)),
+        4 | 5 => none.with(Id::One(EXCLUSIVE)),
+        _ => Ok(none),
     }
-    Ok(index)
 }
 
-/// What the built-ins have.
-pub(crate) fn builtin_rows(alloc: Global) -> Result<Vec<Holding>, AllocError>
-    ensures { IfOk result (λ rows. rows.items ≡ builtin_holdings) }
+/// A store in which the built-ins live with their names and ids, and nobody else.
+pub(crate) fn builtin_store(alloc: Global, limit: u32) -> Result<Store, Refusal>
+    requires at_least { 9 ≤ limit }
+    requires at_most { limit ≤ 1048576 }
+    ensures ok { IfOk result (λ store. store ≡ store_of_builtins limit 9) }
+    ensures err { IfErr result (λ why. why ≡ OutOfMemory) }
 {
-    let exclusive = Id::One(EXCLUSIVE);
-    let child_of = [
-        exclusive,
-        Id::One(ACYCLIC),
-        Id::Two(ON_DELETE_TARGET, DELETE),
-    ];
-    let rows = vec![in alloc;
-        Holding::with_ids(alloc, &child_of)?,
-        Holding::empty(alloc),
-        Holding::empty(alloc),
-        Holding::empty(alloc),
-        Holding::with_ids(alloc, &[exclusive])?,
-        Holding::with_ids(alloc, &[exclusive])?,
-        Holding::empty(alloc),
-        Holding::empty(alloc),
-        Holding::empty(alloc),
-    ]?;
-    Ok(rows)
+    let mut store = Store::new(alloc, limit);
+    for number in 0..BUILTIN_COUNT {
+        let type_list = builtin_type(alloc, number)?;
+        store.create(Some(builtin_name(number)), &type_list)?;
+    }
+    Ok(store)
 }

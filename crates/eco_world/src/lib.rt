@@ -1,8 +1,8 @@
-//! A world of entities with names and ids.
+//! A world of entities with names, ids and values.
 #![tactic(auto)]
 
+mod arities;
 mod builtins;
-mod holding;
 mod query;
 mod world;
 

@@ -7,7 +7,7 @@ use std::alloc::{AllocError, Global};
 use std::marker::Model;
 
 /// A question of one term: which entities have this id (Flecs manual, Queries). A contract sees it as its list of slots.
-#[derive(Debug, Drop)]
+#[derive(Clone, Drop)]
 pub struct Query {
     id: Id,
 }

@@ -1,44 +1,48 @@
-//! The world and its calls.
-ghost use Rattle.std.specs.Prelude.{◌≡◌, ◌≤◌, false, IfErr, IfOk, IsTrue, length, map, Ok, OnErr, OnOk, true, unwrap_or};
+//! The world and what it answers.
+ghost use Rattle.std.specs.Prelude.{◌≡◌, ◌≤◌, false, IfErr, IfOk, IsTrue, length, map, OnOk, option_map, true};
 ghost use Rattle.std.specs.Option.{option_copied};
+ghost use Rattle.std.specs.List.{list_any};
+ghost use Rattle.std.specs.FinMap.Entries.{find};
 ghost use Rattle.eco_ids.specs.declared.refusal.Refusal.TheVariants.{OutOfMemory};
 ghost use Rattle.eco_ids.specs.Answer.{answer};
-ghost use Rattle.eco_ids.specs.Births.{Creates, may_create};
-ghost use Rattle.eco_ids.specs.Builtin.{is_builtin};
-ghost use Rattle.eco_ids.specs.Data.{arity_of};
-ghost use Rattle.eco_ids.specs.Indices.{is_alive, living};
+ghost use Rattle.eco_ids.specs.Data.{arity, arity_of, value_of};
+ghost use Rattle.eco_ids.specs.Indices.{is_alive, living, record_of};
 ghost use Rattle.eco_ids.specs.Lawful.{IsLawful};
+ghost use Rattle.eco_ids.specs.Matching.{pattern_matches};
 ghost use Rattle.eco_ids.specs.Names.{lookup};
 ghost use Rattle.eco_ids.specs.Order.{id_cmp, is_ascending};
-ghost use Rattle.eco_ids.specs.Outcome.{Meets};
-ghost use Rattle.eco_ids.specs.Step.{Adds, may_add, Removes, may_remove, Renames, may_rename, own_name, changed, without_id};
-ghost use Rattle.eco_ids.specs.World.{first_world, has, names_living, held_by};
-ghost use Rattle.eco_world.specs.Actor.{IsUnfit};
-ghost use Rattle.eco_world.specs.Plain.{IsSingle};
-ghost use Rattle.eco_world.specs.Queries.{result_of, holder_at};
+ghost use Rattle.eco_ids.specs.Step.{own_name};
+ghost use Rattle.eco_ids.specs.World.{first_world, has, held_by};
 ghost use Rattle.eco_entities.specs.Registration.{entity_at};
-ghost use Rattle.eco_world.specs.Rows.{valued, empty_holding};
+ghost use Rattle.eco_traits.specs.Target.{type_of_record};
+ghost use Rattle.eco_world.specs.Queries.{matches_of, result_of, holder_at};
+ghost use Rattle.eco_world.specs.Retyped.{type_of};
 
-use crate::builtins::{builtin_index, builtin_rows};
-use crate::holding::{Holding, grow_to};
+use crate::arities;
+use crate::builtins::builtin_store;
 use crate::query::{Query, Row};
-use eco_entities::EntityIndex;
 use eco_ids::entity::BUILTIN_COUNT;
-use eco_ids::{Entity, Id, Refusal};
+use eco_ids::{Entity, Id, Pattern, Refusal, TypeList, Value};
 use eco_query::Names;
+use eco_store::Store;
 use std::alloc::{AllocError, Global};
 use std::marker::Model;
 
-/// Entities, each with a name or none and with the ids that were added to it (Flecs manual, Quickstart).
+mod changes;
+mod holdings;
+
+/// Entities, each with a name or none and with the ids that were added to it, where an id that is data has a value
+/// (Flecs manual, Quickstart).
 ///
 /// A contract sees what is known of each index, and what each living entity has. No reader tells more than that, and a
 /// call that is refused leaves all of it as it was.
 #[derive(Drop)]
 pub struct World {
-    // Which handles live, and their names.
-    index: EntityIndex,
-    // What the entity at each index has besides. A row that isn't there is empty.
-    rows: Vec<Holding>,
+    alloc: Global,
+    // Which handles live, their names, and their ids with values.
+    store: Store,
+    // The arity of the entity that lives at each index. One that isn't there is none: only components make the list grow.
+    arities: Vec<Option<u8>>,
 }
 
 impl Model for World {
@@ -46,12 +50,12 @@ impl Model for World {
 
     ghost Value = { WorldState };
 
-    ghost use Rattle.eco_world.specs.Plain.{IsInOrder};
-    ghost use Rattle.eco_world.specs.Rows.{world_of};
+    ghost use Rattle.eco_ids.specs.Lawful.{IsLawful};
+    ghost use Rattle.eco_world.specs.Joined.{world_of};
 
-    ghost view = { λ w. world_of w.index w.rows.items };
+    ghost view = { λ w. world_of w.store w.arities.items };
 
-    ghost invariant = { λ w. IsInOrder w.index w.rows.items };
+    ghost invariant = { λ w. IsLawful (world_of w.store w.arities.items) };
 }
 
 impl World {
@@ -66,9 +70,12 @@ impl World {
         ensures err { IfErr result (λ why. why ≡ OutOfMemory) }
     {
         eco_ids::laws::first_world_is_lawful();
-        let index = builtin_index(alloc, limit)?;
-        let rows = builtin_rows(alloc)?;
-        Ok(World { index, rows })
+        let store = builtin_store(alloc, limit)?;
+        Ok(World {
+            alloc,
+            store,
+            arities: Vec::new(alloc),
+        })
     }
 
     /// Does nothing, and its contract says that every world is in order: no id names a dead entity, names are unique, the
@@ -76,21 +83,21 @@ impl World {
     pub fn is_lawful(&self)
         ensures { IsLawful self.now }
     {
-        let _rows = &self.rows;
+        let _arities = &self.arities;
     }
 
     /// How many indices are known: those that were ever in use.
     pub fn high(&self) -> u32
         ensures { result ≡ length self.now.indices }
     {
-        self.index.high()
+        self.store.high()
     }
 
     /// All indices lie below it.
     pub fn limit(&self) -> u32
         ensures { result ≡ self.now.limit }
     {
-        self.index.limit()
+        self.store.limit()
     }
 
     /// Whether the entity lives: its index is in use at just this generation (Flecs manual, Entities and
@@ -98,28 +105,32 @@ impl World {
     pub fn is_alive(&self, entity: Entity) -> bool
         ensures { result ≡ is_alive self.now entity }
     {
-        self.index.is_alive(entity)
+        self.store.is_alive(entity)
     }
 
     /// The living entity of this name (Flecs manual, Entities and Components).
     pub fn lookup(&self, name: &str) -> Option<Entity>
         ensures { result ≡ lookup self.now name.now }
     {
-        self.index.lookup(name)
+        self.store.lookup(name)
     }
 
     /// The name of a living entity, if it has one.
     pub fn name_of(&self, entity: Entity) -> Option<&str>
         ensures { option_copied result ≡ own_name self.now entity }
     {
-        self.index.name(entity)
+        self.store.name(entity)
     }
 
     /// How many fields the values of this entity have, if it lives and is a component.
     pub fn arity_of(&self, entity: Entity) -> Option<u8>
         ensures { result ≡ arity_of self.now entity }
     {
-        self.holding(entity)?.arity
+        if self.store.is_alive(entity) {
+            arities::at(&self.arities, entity.index as usize)
+        } else {
+            None
+        }
     }
 
     /// The ids of the entity, ascending; none, where it isn't living.
@@ -127,8 +138,8 @@ impl World {
         ensures ids { result.now ≡ map (λ h. h.0) (held_by self.now entity) }
         ensures ascending { IsTrue (is_ascending id_cmp result.now) }
     {
-        match self.holding(entity) {
-            Some(holding) => holding.ids.as_slice(),
+        match self.own_type(entity) {
+            Some(ids) => ids.as_slice(),
             None => &[],
         }
     }
@@ -137,9 +148,21 @@ impl World {
     pub fn has(&self, entity: Entity, id: Id) -> bool
         ensures { result ≡ has self.now entity id }
     {
-        match self.holding(entity) {
-            Some(holding) => holding.ids.has(id),
+        match self.own_type(entity) {
+            Some(ids) => ids.has(id),
             None => false,
+        }
+    }
+
+    /// The value of the id, where the entity lives, has the id, and the id is data (Flecs manual, Entities and
+    /// Components). It takes no memory.
+    pub fn get(&self, entity: Entity, id: Id) -> Option<Value>
+        ensures { result ≡ value_of self.now entity id }
+    {
+        if self.arity(id).is_some() {
+            self.held_value(entity, id)
+        } else {
+            None
         }
     }
 
@@ -147,7 +170,7 @@ impl World {
     pub fn living(&self) -> Result<Vec<Entity>, AllocError>
         ensures { IfOk result (λ entities. entities.items ≡ map (λ p. p.0) (living self.now)) }
     {
-        let mut entities = Vec::new(*self.rows.allocator());
+        let mut entities = Vec::new(self.alloc);
         for index in 0..self.high() {
             if let Some(entity) = self.entity_at(index) {
                 entities.push(entity)?;
@@ -164,7 +187,7 @@ impl World {
         ensures err { IfErr result (λ why. why ≡ OutOfMemory) }
     {
         self.is_lawful();
-        let alloc = *self.rows.allocator();
+        let alloc = self.alloc;
         let id = query.id();
         let mut rows = Vec::new(alloc);
         for index in 0..self.high() {
@@ -175,83 +198,71 @@ impl World {
         Ok(rows)
     }
 
-    /// Makes an entity without ids, with this name or none (Flecs manual, Entities and Components). It gets the lowest free
-    /// index at its generation, else the first unknown index at generation 0.
-    ///
-    /// Refused with `BadName` where the name is none, with `NameTaken` where a living entity has it, with `NoMoreIds`
-    /// where no index below the limit is left, and last with `OutOfMemory`.
-    pub fn create(&mut self, name: Option<&str>) -> Result<Entity, Refusal>
-        ensures { Meets (Creates self.old (option_copied name.entry)) (may_create self.old (option_copied name.entry)) self.old result self.new }
+    // The ids of a living entity.
+    fn own_type(&self, entity: Entity) -> Option<&TypeList>
+        ensures { option_copied result ≡ option_map type_of_record (record_of self.now entity) }
     {
-        eco_ids::laws::steps_keep_lawful();
-        self.index.create(name)
+        self.store.type_of(entity)
     }
 
-    /// The entity has this name, or none, from now on. Its own name again is done, and changes nothing.
-    ///
-    /// Refused with `NotAlive` where the entity isn't living, with `Reserved` where it is a built-in, with `BadName` where
-    /// the name is none, with `NameTaken` where another living entity has it, and last with `OutOfMemory`; the old name
-    /// stays then. Taking a name off wants no memory.
-    pub fn rename(&mut self, entity: Entity, name: Option<&str>) -> Result<(), Refusal>
-        ensures { Meets (Renames self.old entity (option_copied name.entry)) (may_rename self.old entity (option_copied name.entry)) self.old result self.new }
+    // The value at an id that a living entity has: zeros where the id is no data.
+    fn held_value(&self, entity: Entity, id: Id) -> Option<Value>
+        ensures { result ≡ find id_cmp id (held_by self.now entity) }
     {
-        eco_ids::laws::steps_keep_lawful();
-        self.check_actor(entity)?;
-        self.index.rename(entity, name)
+        self.store.value(entity, id)
     }
 
-    /// The entity has the id from now on (Flecs manual, Entities and Components). An id that is there already is
-    /// done, and wants no memory.
-    ///
-    /// The id is a single one. Refused with `NotAlive` where the entity isn't living, with `Reserved` where it is a
-    /// built-in, with `DeadId` where the id names an entity that isn't living, and last with `OutOfMemory`.
-    pub fn add(&mut self, entity: Entity, id: Id) -> Result<(), Refusal>
-        requires { IsSingle id }
-        ensures { Meets (Adds self.old entity id) (may_add self.old entity id) self.old result self.new }
+    // The arity of the id, where it is data: a pair has its relationship's, else its target's, and a pair of a built-in
+    // has none.
+    fn arity(&self, id: Id) -> Option<u8>
+        ensures { result ≡ arity self.now id }
     {
-        self.check_actor(entity)?;
-        if !self.names_living(id) {
-            return Err(Refusal::DeadId);
+        match id {
+            Id::One(entity) => self.arity_of(entity),
+            Id::Two(relationship, target) => {
+                if relationship.is_among_first(BUILTIN_COUNT) {
+                    None
+                } else {
+                    self.arity_of(relationship).or(self.arity_of(target))
+                }
+            }
         }
-        if self.has(entity, id) {
-            return Ok(());
-        }
-        self.give(entity, id)?;
-        Ok(())
     }
 
-    /// The entity doesn't have the id any more (Flecs manual, Entities and Components). An absent id, a dead one
-    /// too, is done, and wants no memory.
-    ///
-    /// Refused with `NotAlive` where the entity isn't living, with `Reserved` where it is a built-in, and last with
-    /// `OutOfMemory`.
-    pub fn remove(&mut self, entity: Entity, id: Id) -> Result<(), Refusal>
-        ensures { Meets (Removes self.old entity id) (may_remove self.old entity id) self.old result self.new }
+    // Whether some living entity has an id that matches.
+    fn is_held(&self, pattern: Pattern) -> bool
+        ensures { result ≡ list_any (λ p. list_any (pattern_matches pattern) (type_of_record p.1)) (living self.now) }
     {
-        self.check_actor(entity)?;
-        if self.has(entity, id) {
-            self.take_away(entity, id)?;
+        for index in 0..self.high() {
+            if self.matches_at(index, pattern) {
+                return true;
+            }
         }
-        Ok(())
+        false
     }
 
-    // What the entity has besides its name; nothing, where it isn't living.
-    fn holding(&self, entity: Entity) -> Option<&Holding>
-        ensures ids { held_by self.now entity ≡ valued (unwrap_or (option_copied result) empty_holding).ids }
-        ensures arity { arity_of self.now entity ≡ (unwrap_or (option_copied result) empty_holding).arity }
+    // Whether who lives at the index has an id that matches.
+    fn matches_at(&self, index: u32, pattern: Pattern) -> bool
+        ensures { result ≡ matches_of self.now pattern (entity_at self.now index) }
     {
-        if self.index.is_alive(entity) {
-            self.rows.get(entity.index as usize)
-        } else {
-            None
+        match self.entity_at(index) {
+            Some(entity) => self.matches(entity, pattern),
+            None => false,
         }
+    }
+
+    // Whether the entity has an id that matches.
+    fn matches(&self, entity: Entity, pattern: Pattern) -> bool
+        ensures { result ≡ list_any (pattern_matches pattern) (type_of self.now entity) }
+    {
+        self.ids_of(entity).iter().any(|id| pattern.matches(*id))
     }
 
     // Who lives at the index.
     fn entity_at(&self, index: u32) -> Option<Entity>
         ensures { result ≡ entity_at self.now index }
     {
-        self.index.entity_at(index)
+        self.store.entity_at(index)
     }
 
     // Who lives at the index and has the id.
@@ -264,63 +275,6 @@ impl World {
         } else {
             None
         }
-    }
-
-    // Whether each entity in the id lives.
-    fn names_living(&self, id: Id) -> bool
-        ensures { result ≡ names_living self.now id }
-    {
-        match id {
-            Id::One(entity) => self.is_alive(entity),
-            Id::Two(relationship, target) => self.is_alive(relationship) && self.is_alive(target),
-        }
-    }
-
-    // Whether the entity may be changed: it lives, and it is no built-in.
-    fn check_actor(&self, entity: Entity) -> Result<(), Refusal>
-        ensures ok { OnOk result ((is_alive self.now entity ≡ true) × (is_builtin self.now entity ≡ false)) }
-        ensures err { IfErr result (IsUnfit self.now entity) }
-    {
-        if !self.is_alive(entity) {
-            return Err(Refusal::NotAlive);
-        }
-        if entity.is_among_first(BUILTIN_COUNT) {
-            return Err(Refusal::Reserved);
-        }
-        Ok(())
-    }
-
-    // The entity gets a single id that it lacks. An `Err` leaves everything.
-    fn give(&mut self, entity: Entity, id: Id) -> Result<(), AllocError>
-        requires alive { is_alive self.old entity ≡ true }
-        requires ordinary { is_builtin self.old entity ≡ false }
-        requires living { names_living self.old id ≡ true }
-        requires absent { has self.old entity id ≡ false }
-        requires single { IsSingle id }
-        ensures ok { OnOk result (Adds self.old entity id (Ok tt) self.new) }
-        ensures err { OnErr result (self.new ≡ self.old) }
-    {
-        eco_ids::laws::steps_keep_lawful();
-        let row = entity.index as usize;
-        grow_to(&mut self.rows, row + 1)?;
-        let ids = self.rows[row].ids.with(id)?;
-        self.rows[row].ids = ids;
-        Ok(())
-    }
-
-    // The entity loses an id that it has. An `Err` leaves everything.
-    fn take_away(&mut self, entity: Entity, id: Id) -> Result<(), AllocError>
-        requires alive { is_alive self.old entity ≡ true }
-        requires ordinary { is_builtin self.old entity ≡ false }
-        requires there { has self.old entity id ≡ true }
-        ensures ok { OnOk result (self.new ≡ changed self.old entity (without_id id)) }
-        ensures err { OnErr result (self.new ≡ self.old) }
-    {
-        eco_ids::laws::steps_keep_lawful();
-        let row = entity.index as usize;
-        let ids = self.rows[row].ids.without(id)?;
-        self.rows[row].ids = ids;
-        Ok(())
     }
 }
 

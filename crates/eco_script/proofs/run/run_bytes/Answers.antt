@@ -1,4 +1,4 @@
-use Rattle.std.proofs.Common.{◌≡◌, Err, ap, map}
+use Rattle.std.proofs.Common.{ap, map}
 use Rattle.std.proofs.lemmas.Result.{err_from_is_err_and, on_ok_weaker, on_err_weaker}
 use Rattle.serde_json.specs.View.{view}
 use Rattle.eco_script.specs.Views.{step_view, script_view}

@@ -1,6 +1,4 @@
-use Rattle.std.proofs.Common.{append_assoc, ◌++◌, List, ◌∷◌}
-use Rattle.eco_script.specs.Lines.{arity_text, entity_line, entry_text, joined, name_text, row_line}
-use Rattle.eco_ids.specs.Text.{id_text}
+use Rattle.std.proofs.Common.{append_assoc}
 use Rattle.eco_script.proofs.lines.EntityLineDisplay.fmt.Goals as goal
 
 pub returns-clause-writes : goal.returns-clause-writes

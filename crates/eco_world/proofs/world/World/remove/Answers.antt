@@ -2,7 +2,7 @@ use Rattle.std.proofs.Common.{[], refl, sym, ◌∙◌}
 use Rattle.std.proofs.lemmas.Result.{err_from_is_err_and}
 use Rattle.eco_ids.specs.Outcome.{Answers}
 use Rattle.eco_ids.specs.Step.{changed, without_id}
-use Rattle.eco_world.proofs.Changing.{nothing_taken}
+use Rattle.eco_world.proofs.Nothing.{nothing_taken}
 use Rattle.eco_world.proofs.Steps.{refused}
 use Rattle.eco_world.proofs.world.World.remove.Goals as goal
 

@@ -5,7 +5,7 @@ use Rattle.eco_ids.specs.declared.refusal.Refusal.TheVariants.{BadName, NameTake
 use Rattle.eco_ids.specs.Names.{is_proper, is_same_name, is_taken}
 use Rattle.eco_ids.specs.Outcome.{Answers}
 use Rattle.eco_ids.specs.Step.{own_name, changed, with_name}
-use Rattle.eco_world.proofs.Steps.{meets_renames, order_renamed, refused}
+use Rattle.eco_world.proofs.Steps.{meets_renames, lawful_renamed, refused}
 use Rattle.eco_world.proofs.world.World.rename.Goals as goal
 
 pub returns-in_err-check_actor : goal.returns-in_err-check_actor
@@ -19,9 +19,9 @@ returns-in_err-check_actor c =
 
 pub invariant_of-self : goal.invariant_of-self
 invariant_of-self c =
-    order_renamed c.self.inside.index c.self.inside.rows.items c.args.entity c.in_ok-check_actor.ensures.ok.1 (option_copied c.args.name) c.rename.result c.rename.new.self c.self.invariant (c.steps_keep_lawful.ensures.rename c.args.entity (option_copied c.args.name)) c.rename.ensures
+    lawful_renamed c.self.inside.store c.self.inside.arities.items c.args.entity c.in_ok-check_actor.ensures.ok.1 (option_copied c.args.name) c.rename.result c.rename.new.self c.self.invariant (c.steps_keep_lawful.ensures.rename c.args.entity (option_copied c.args.name)) c.rename.ensures
 
 pub returns : goal.returns
 returns c =
     rw (← c.self.view_is)
-    (meets_renames c.self.inside.index c.self.inside.rows.items c.args.entity c.in_ok-check_actor.ensures.ok.1 (option_copied c.args.name) c.rename.result c.rename.new.self c.rename.ensures)
+    (meets_renames c.self.inside.store c.self.inside.arities.items c.args.entity c.in_ok-check_actor.ensures.ok.1 (option_copied c.args.name) c.rename.result c.rename.new.self c.rename.ensures)

@@ -1,0 +1,15 @@
+use Rattle.std.proofs.Common.{Ok, refl, sym, ◌∙◌, subst}
+use Rattle.eco_ids.specs.Step.{Extends, unchanged}
+use Rattle.eco_world.proofs.Types.{typed}
+use Rattle.eco_world.proofs.world.World.extend.Goals as goal
+
+pub retype-requires-clause-lawful : goal.retype-requires-clause-lawful
+retype-requires-clause-lawful c =
+    (typed c.args.self.now c.args.entity c.args.id c.in_ok-ids.ids c.requires.alive c.requires.ordinary c.requires.living c.requires.absent c.is_lawful.ensures
+    (c.steps_keep_lawful.ensures.add c.args.entity c.args.id) c.add_leaves_exactly.ensures c.in_ok-ids.ensures).lawful
+
+pub returns : goal.returns
+returns c =
+    subst (λ w. Extends c.args.self.now c.args.entity c.args.id unchanged (Ok tt) w) (sym c.in_ok-retype.ensures.ok)
+    (typed c.args.self.now c.args.entity c.args.id c.in_ok-ids.ids c.requires.alive c.requires.ordinary c.requires.living c.requires.absent c.is_lawful.ensures
+    (c.steps_keep_lawful.ensures.add c.args.entity c.args.id) c.add_leaves_exactly.ensures c.in_ok-ids.ensures).extends

@@ -1,0 +1,250 @@
+//! The calls that change a world.
+ghost use Rattle.std.specs.Prelude.{◌≡◌, ◌≤◌, ◌∷◌, [], false, IfErr, IfOk, IsOk, IsTrue, map, Ok, OnErr, OnOk, true};
+ghost use Rattle.std.specs.Option.{option_copied};
+ghost use Rattle.eco_ids.specs.declared.id.Id.TheVariants.{Two};
+ghost use Rattle.eco_ids.specs.declared.value.TheConstants.{LARGEST_ARITY};
+ghost use Rattle.eco_ids.specs.Births.{Creates, may_create, MakesComponent, may_make_component};
+ghost use Rattle.eco_ids.specs.Builtin.{is_builtin};
+ghost use Rattle.eco_ids.specs.Data.{is_zero_past};
+ghost use Rattle.eco_ids.specs.Indices.{is_alive};
+ghost use Rattle.eco_ids.specs.Lawful.{IsLawful};
+ghost use Rattle.eco_ids.specs.Outcome.{Meets};
+ghost use Rattle.eco_ids.specs.Step.{Adds, may_add, Clears, may_clear, Extends, Removes, may_remove, Renames, may_rename, Sets, may_set, changed, unchanged, with_value, without_id};
+ghost use Rattle.eco_ids.specs.World.{has, names_living};
+ghost use Rattle.eco_world.specs.Actor.{IsUnfit, MaySet, MayNotSet};
+ghost use Rattle.eco_world.specs.Retyped.{with_type};
+
+use crate::arities::{grow_to, put};
+use crate::world::World;
+use eco_ids::entity::{BUILTIN_COUNT, ON_DELETE, PANIC};
+use eco_ids::{Entity, Id, Refusal, TypeList, Value};
+use eco_traits::target_type;
+use std::alloc::{AllocError, Global};
+
+// Whether the fields past the first `arity` are 0.
+fn is_zero_past(value: Value, arity: u8) -> bool
+    ensures { result ≡ is_zero_past arity value }
+{
+    value.0.iter().skip(arity as usize).all(|field| *field == 0)
+}
+
+// What each component has from the start: it can't be deleted while it is in use.
+fn component_type(alloc: Global) -> Result<TypeList, AllocError>
+    ensures ok { IfOk result (λ ids. ids ≡ Two ON_DELETE PANIC ∷ []) }
+    ensures short { IsOk result }
+{
+    TypeList::empty(alloc).with(Id::Two(ON_DELETE, PANIC))
+}
+
+impl World {
+    /// Makes an entity without ids, with this name or none (Flecs manual, Entities and Components). It gets the lowest free
+    /// index at its generation, else the first unknown index at generation 0.
+    ///
+    /// Refused with `BadName` where the name is none, with `NameTaken` where a living entity has it, with `NoMoreIds`
+    /// where no index below the limit is left, and last with `OutOfMemory`.
+    pub fn create(&mut self, name: Option<&str>) -> Result<Entity, Refusal>
+        ensures { Meets (Creates self.old (option_copied name.entry)) (may_create self.old (option_copied name.entry)) self.old result self.new }
+    {
+        eco_ids::laws::steps_keep_lawful();
+        let none = TypeList::empty(self.alloc);
+        let entity = self.store.create(name, &none)?;
+        put(&mut self.arities, entity.index as usize, None);
+        Ok(entity)
+    }
+
+    /// Makes a component whose values have this many fields, 1 to [`LARGEST_ARITY`](eco_ids::value::LARGEST_ARITY), with
+    /// this name or none (Flecs manual, Entities and Components). It has the pair (OnDelete, Panic), so that it can't be
+    /// deleted while it is in use.
+    ///
+    /// Refused as [`create`](World::create) is.
+    pub fn component(&mut self, name: Option<&str>, arity: u8) -> Result<Entity, Refusal>
+        requires at_least { 1 ≤ arity }
+        requires at_most { arity ≤ LARGEST_ARITY }
+        ensures { Meets (MakesComponent self.old (option_copied name.entry) arity) (may_make_component self.old (option_copied name.entry)) self.old result self.new }
+    {
+        eco_ids::laws::steps_keep_lawful();
+        self.store.check_new(name)?;
+        let ids = component_type(self.alloc)?;
+        let known = self.store.high() as usize;
+        grow_to(&mut self.arities, known + 1)?;
+        let entity = self.store.create(name, &ids)?;
+        put(&mut self.arities, entity.index as usize, Some(arity));
+        Ok(entity)
+    }
+
+    /// The entity has this name, or none, from now on. Its own name again is done, and changes nothing.
+    ///
+    /// Refused with `NotAlive` where the entity isn't living, with `Reserved` where it is a built-in, with `BadName` where
+    /// the name is none, with `NameTaken` where another living entity has it, and last with `OutOfMemory`; the old name
+    /// stays then. Taking a name off wants no memory.
+    pub fn rename(&mut self, entity: Entity, name: Option<&str>) -> Result<(), Refusal>
+        ensures { Meets (Renames self.old entity (option_copied name.entry)) (may_rename self.old entity (option_copied name.entry)) self.old result self.new }
+    {
+        eco_ids::laws::steps_keep_lawful();
+        self.check_actor(entity)?;
+        self.store.rename(entity, name)
+    }
+
+    /// The entity has the id from now on, with its closure: whatever With brings along. Other pairs of an exclusive
+    /// relationship of which a pair comes go. Ids that stay keep their values, and new ones hold zeros (Flecs manual,
+    /// Component Traits). An id that is there already is done, and wants no memory.
+    ///
+    /// Refused with `NotAlive` where the entity isn't living, with `Reserved` where it is a built-in, with `DeadId` where
+    /// the id names an entity that isn't living; then, each over the whole closure, with `NotAPolicy` where a cleanup pair's
+    /// target is no action, with `InUse` where a trait comes to a relationship that has pairs, with `Cycle` where a pair of
+    /// an acyclic relationship would close one; and last with `OutOfMemory`.
+    pub fn add(&mut self, entity: Entity, id: Id) -> Result<(), Refusal>
+        ensures { Meets (Adds self.old entity id) (may_add self.old entity id) self.old result self.new }
+    {
+        self.check_actor(entity)?;
+        if !self.names_living(id) {
+            return Err(Refusal::DeadId);
+        }
+        if self.has(entity, id) {
+            return Ok(());
+        }
+        self.extend(entity, id)
+    }
+
+    /// The entity has this value at the id from now on. An id that isn't there is added first, as by
+    /// [`add`](World::add) (Flecs manual, Entities and Components). Where the id is there it wants no memory.
+    ///
+    /// Refused as an add is, but after `DeadId` with `NotData` where the id has no fields, and with `TooWide` where a field
+    /// past those of the id isn't 0.
+    pub fn set(&mut self, entity: Entity, id: Id, value: Value) -> Result<(), Refusal>
+        ensures { Meets (Sets self.old entity id value) (may_set self.old entity id value) self.old result self.new }
+    {
+        eco_ids::laws::steps_keep_lawful();
+        eco_ids::laws::add_adds_once();
+        self.is_lawful();
+        self.check_set(entity, id, value)?;
+        if self.has(entity, id) {
+            self.write(entity, id, value);
+            return Ok(());
+        }
+        self.extend(entity, id)?;
+        self.write(entity, id, value);
+        Ok(())
+    }
+
+    /// The entity doesn't have the id any more (Flecs manual, Entities and Components). An absent id, a dead one
+    /// too, is done, and wants no memory.
+    ///
+    /// Refused with `NotAlive` where the entity isn't living, with `Reserved` where it is a built-in, and last with
+    /// `OutOfMemory`.
+    pub fn remove(&mut self, entity: Entity, id: Id) -> Result<(), Refusal>
+        ensures { Meets (Removes self.old entity id) (may_remove self.old entity id) self.old result self.new }
+    {
+        self.check_actor(entity)?;
+        if self.has(entity, id) {
+            self.take_away(entity, id)?;
+        }
+        Ok(())
+    }
+
+    /// The entity has no ids any more (Flecs manual, Entities and Components).
+    ///
+    /// Refused with `NotAlive` where the entity isn't living, with `Reserved` where it is a built-in, and last with
+    /// `OutOfMemory`.
+    pub fn clear(&mut self, entity: Entity) -> Result<(), Refusal>
+        ensures { Meets (Clears self.old entity) (may_clear self.old entity) self.old result self.new }
+    {
+        eco_ids::laws::steps_keep_lawful();
+        self.is_lawful();
+        self.check_actor(entity)?;
+        let none = TypeList::empty(self.alloc);
+        self.retype(entity, &none)?;
+        Ok(())
+    }
+
+    // Whether each entity in the id lives.
+    fn names_living(&self, id: Id) -> bool
+        ensures { result ≡ names_living self.now id }
+    {
+        match id {
+            Id::One(entity) => self.is_alive(entity),
+            Id::Two(relationship, target) => self.is_alive(relationship) && self.is_alive(target),
+        }
+    }
+
+    // Whether the entity may be changed: it lives, and it is no built-in.
+    fn check_actor(&self, entity: Entity) -> Result<(), Refusal>
+        ensures ok { OnOk result ((is_alive self.now entity ≡ true) × (is_builtin self.now entity ≡ false)) }
+        ensures err { IfErr result (IsUnfit self.now entity) }
+    {
+        if !self.is_alive(entity) {
+            return Err(Refusal::NotAlive);
+        }
+        if entity.is_among_first(BUILTIN_COUNT) {
+            return Err(Refusal::Reserved);
+        }
+        Ok(())
+    }
+
+    // Whether the entity may have this value at the id.
+    fn check_set(&self, entity: Entity, id: Id, value: Value) -> Result<(), Refusal>
+        ensures ok { OnOk result (MaySet self.now entity id value) }
+        ensures err { IfErr result (MayNotSet self.now entity id value) }
+    {
+        self.check_actor(entity)?;
+        if !self.names_living(id) {
+            return Err(Refusal::DeadId);
+        }
+        match self.arity(id) {
+            None => Err(Refusal::NotData),
+            Some(arity) if is_zero_past(value, arity) => Ok(()),
+            Some(_) => Err(Refusal::TooWide),
+        }
+    }
+
+    // The entity gets an id that it lacks, with its closure, unless something stands against that. An `Err` leaves
+    // everything.
+    fn extend(&mut self, entity: Entity, id: Id) -> Result<(), Refusal>
+        requires alive { is_alive self.old entity ≡ true }
+        requires ordinary { is_builtin self.old entity ≡ false }
+        requires living { names_living self.old id ≡ true }
+        requires absent { has self.old entity id ≡ false }
+        ensures { Meets (Extends self.old entity id unchanged) true self.old result self.new }
+    {
+        eco_ids::laws::steps_keep_lawful();
+        eco_ids::laws::add_leaves_exactly();
+        self.is_lawful();
+        let ids = target_type(self.alloc, self, entity, id)?;
+        self.retype(entity, &ids)?;
+        Ok(())
+    }
+
+    // The entity loses an id that it has. An `Err` leaves everything.
+    fn take_away(&mut self, entity: Entity, id: Id) -> Result<(), AllocError>
+        requires alive { is_alive self.old entity ≡ true }
+        requires ordinary { is_builtin self.old entity ≡ false }
+        ensures ok { OnOk result (self.new ≡ changed self.old entity (without_id id)) }
+        ensures err { OnErr result (self.new ≡ self.old) }
+    {
+        eco_ids::laws::steps_keep_lawful();
+        self.is_lawful();
+        let ids = self.own_type(entity).unwrap().without(id)?;
+        self.retype(entity, &ids)
+    }
+
+    // The entity has these ids: those that were there keep their values, and new ones hold zeros. An `Err` leaves
+    // everything.
+    fn retype(&mut self, entity: Entity, ids: &TypeList) -> Result<(), AllocError>
+        requires alive { is_alive self.old entity ≡ true }
+        requires lawful { IsLawful (changed self.old entity (with_type ids.now)) }
+        ensures ok { OnOk result (self.new ≡ changed self.old entity (with_type ids.now)) }
+        ensures err { OnErr result (self.new ≡ self.old) }
+    {
+        self.store.retype(entity, ids)
+    }
+
+    // The entity has this value at an id that it has.
+    fn write(&mut self, entity: Entity, id: Id, value: Value)
+        requires alive { is_alive self.old entity ≡ true }
+        requires there { has self.old entity id ≡ true }
+        requires lawful { IsLawful (changed self.old entity (with_value id value)) }
+        ensures { self.new ≡ changed self.old entity (with_value id value) }
+    {
+        self.store.set_value(entity, id, value);
+    }
+}

@@ -1,5 +1,5 @@
 -- Tables are found exactly after a table was made, dropped or its rows changed.
-use Rattle.std.proofs.Common.{◌≡◌, ◌≢◌, ℕ, ◌<◌, Bool, true, false, cond, ◌&&◌, List, [], ◌∷◌, length, slice_get, Option, Some, None, option_map, unwrap_or, is_some, IsSome, nat_eq, refl, sym, ap, ◌∙◌, arith, inl, inr}
+use Rattle.std.proofs.Common.{◌≡◌, ◌≢◌, ℕ, ◌<◌, Bool, true, false, cond, ◌&&◌, List, [], ◌∷◌, length, slice_get, Option, Some, None, option_map, unwrap_or, IsSome, nat_eq, refl, sym, ap, ◌∙◌, arith, inl, inr}
 use Rattle.std.specs.HashMap.{HashMap, get}
 use Rattle.std.specs.HashSet.{HashSet}
 use Rattle.std.proofs.lemmas.Bool.{cases_eq}
@@ -10,7 +10,7 @@ use Rattle.eco_tables.specs.Table.{TableState, Row}
 use Rattle.eco_tables.specs.Tables.{slot_of, table_in, no_table, Sets, Moves, rowless, rowless_type}
 use Rattle.eco_store.specs.TypeMap.{IsTypeMap, same_ids}
 use Rattle.eco_store.specs.IdIndex.{is_listed, names_any, Turns}
-use Rattle.eco_store.specs.Archetypes.{type_at, type_names, IsArchetypes, IsIdIndex, SameSlots}
+use Rattle.eco_store.specs.Archetypes.{type_at, type_names, IsArchetypes, SameSlots}
 use Rattle.eco_store.specs.Seats.{SameRows}
 use Rattle.eco_store.proofs.TypeMaps.{type_map-insert, type_map-remove}
 

@@ -1,5 +1,5 @@
 -- The store after an entity came to live in a row of its own.
-use Rattle.std.proofs.Common.{◌≡◌, ◌≢◌, ℕ, ◌≤◌, List, [], ◌∷◌, ◌++◌, map, length, slice_get, set, Option, Some, None, option_map, unwrap_or, is_some, IsTrue, replicate, Bool, true, false, ◌&&◌, nat_le, MatchBool, Result, Ok, Err, MatchOption, zero, suc, ◌+◌, ◌<◌, refl, sym, ap, subst, ◌∙◌, arith, inl, inr}
+use Rattle.std.proofs.Common.{◌≡◌, ◌≢◌, ℕ, ◌≤◌, List, [], ◌∷◌, ◌++◌, map, length, slice_get, Option, Some, None, option_map, is_some, IsTrue, replicate, Bool, true, false, ◌&&◌, nat_le, MatchBool, Result, Ok, Err, MatchOption, zero, suc, ◌+◌, refl, sym, ap, subst, ◌∙◌, inl, inr}
 use Rattle.std.proofs.lemmas.Bool.{cases_eq}
 use Rattle.std.proofs.lemmas.List.{length-map}
 use Rattle.eco_ids.specs.declared.entity.Entity.{Entity}
@@ -8,18 +8,17 @@ use Rattle.eco_ids.specs.declared.refusal.Refusal.{Refusal}
 use Rattle.eco_ids.specs.declared.refusal.Refusal.TheVariants.{NoMoreIds}
 use Rattle.eco_ids.specs.Births.{Admits, may_admit, unfit_name}
 use Rattle.eco_ids.specs.Outcome.{Meets, is_out_of_memory, Answers, Refuses}
-use Rattle.eco_ids.specs.declared.value.Value.{Value}
-use Rattle.eco_ids.specs.Indices.{Indexed, IndexState, Retired, Free, Living, record_of, with_record, with_new, next_entity, is_alive, is_free_at, is_free_in, map_state, admitted}
+use Rattle.eco_ids.specs.Indices.{Indexed, IndexState, Retired, Free, Living, with_record, with_new, next_entity, is_alive, is_free_at, is_free_in, map_state, admitted}
 use Rattle.eco_tables.specs.Column.{retyped}
-use Rattle.eco_tables.specs.Table.{TableState, Row}
-use Rattle.eco_tables.specs.Tables.{slot_of, table_in, Sets, with_row, no_table}
+use Rattle.eco_tables.specs.Table.{TableState}
+use Rattle.eco_tables.specs.Tables.{table_in, Sets, with_row}
 use Rattle.eco_entities.specs.declared.place.Place.{Place}
 use Rattle.eco_entities.specs.Registration.{Registration, name_of, newcomer, with_change, change_in, placed}
 use Rattle.eco_store.specs.Placing.{Opposes}
-use Rattle.eco_store.specs.Seats.{Seat, IsSeated, seat_of, row_at, seen, held_of, SameRows}
+use Rattle.eco_store.specs.Seats.{IsSeated, seat_of, row_at, seen, held_of, SameRows}
 use Rattle.eco_store.specs.Store.{Kept, kept_name, kept, read, seat_in, seat_at, HasPlace, IsStore, all_zeros, newborn}
 use Rattle.eco_store.proofs.Moves.{slice_get-map, push_seated, push_others_seen, push_held}
-use Rattle.eco_store.proofs.Views.{ext_slice_get, slice_get-set_same, slice_get-set_other, living_at, record_at, bare_at, seen_alike}
+use Rattle.eco_store.proofs.Views.{ext_slice_get, slice_get-set_same, slice_get-set_other, record_at, seen_alike}
 use Rattle.eco_store.proofs.Newborn.{unfit_name-map, next_entity-map, Vacant, born_here, born_other, born_limit, next_is}
 use Rattle.eco_store.proofs.StoreChanges.{same_store}
 

@@ -1,5 +1,5 @@
 -- Which tables a pattern finds, and lists of slots.
-use Rattle.std.proofs.Common.{◌≡◌, ◌≢◌, ℕ, zero, suc, ◌<◌, ◌+◌, Bool, true, false, true≢false, cond, ◌&&◌, ◌||◌, nat_eq, nat_lt, is_eq, is_some, IsSome, Ordering, Less, Equal, Greater, List, [], ◌∷◌, ◌++◌, length, filter, find, take, get_or, Option, Some, None, option_map, refl, sym, ap, ◌∙◌, arith, add-one}
+use Rattle.std.proofs.Common.{◌≡◌, ℕ, ◌<◌, ◌+◌, Bool, true, false, true≢false, cond, ◌&&◌, ◌||◌, nat_eq, nat_lt, is_eq, is_some, IsSome, Ordering, Less, Equal, Greater, List, [], ◌∷◌, ◌++◌, length, filter, find, Option, Some, None, option_map, refl, sym, ap, ◌∙◌, arith}
 use Rattle.std.specs.List.{list_any, IsDistinct, AllByRecursion}
 use Rattle.std.proofs.lemmas.Bool.Decides.{Decides-eqb, nat_tests}
 use Rattle.std.proofs.lemmas.Map.Views.{any-filter_same}
@@ -17,7 +17,7 @@ use Rattle.eco_ids.proofs.IdOrder as order
 use Rattle.eco_tables.specs.Table.{TableState}
 use Rattle.eco_tables.specs.Tables.{slot_of}
 use Rattle.eco_store.specs.Archetypes.{type_names, is_found, Covers, named_by}
-use Rattle.eco_store.specs.IdIndex.{same_entity, names, names_any}
+use Rattle.eco_store.specs.IdIndex.{same_entity, names}
 use Rattle.eco_store.proofs.Ids.{entity_eq-Decides}
 
 both_left : (a b : Bool) → (a && b) ≡ true → a ≡ true

@@ -1,14 +1,12 @@
 -- The seats after a row was moved to another table.
-use Rattle.std.proofs.Common.{◌≡◌, ◌≢◌, ℕ, ◌-◌, ◌<◌, ◌==◌, Bool, true, false, cond, List, ◌∷◌, [], zero, suc, map, length, get_or, slice_get, Option, Some, None, option_map, unwrap_or, refl, sym, ap, ◌∙◌, arith, inl, inr}
+use Rattle.std.proofs.Common.{◌≡◌, ◌≢◌, ℕ, ◌-◌, ◌<◌, ◌==◌, cond, List, ◌∷◌, [], zero, suc, map, length, get_or, slice_get, Option, Some, None, option_map, unwrap_or, refl, sym, ap, ◌∙◌, arith, inl, inr}
 use Rattle.std.specs.List.{swap_remove}
 use Rattle.std.proofs.lemmas.Bool.{cases_eq}
 use Rattle.std.proofs.lemmas.Option.{slice_get-get_or, slice_get_within, slice_get_past}
 use Rattle.eco_ids.specs.declared.entity.Entity.{Entity}
-use Rattle.eco_ids.specs.declared.id.Id.{Id}
-use Rattle.eco_ids.specs.declared.value.Value.{Value}
 use Rattle.eco_tables.specs.Column.{retyped}
 use Rattle.eco_tables.specs.Table.{TableState, Row, retyped_row, entities_of}
-use Rattle.eco_tables.specs.Tables.{slot_of, table_in, row_in, no_row, no_table, Moves, Sets, with_row, without_row}
+use Rattle.eco_tables.specs.Tables.{table_in, row_in, no_row, no_table, Moves, Sets, with_row, without_row}
 use Rattle.eco_tables.proofs.Lists.{not_equal}
 use Rattle.eco_store.specs.Seats.{Seat, IsSeated, entity_of, seat_of, row_at, held_of, seen}
 use Rattle.eco_store.proofs.SeatChanges.{Removed, Pushed, no_some, one_some, seated_removed, seated_pushed, removed_seen, pushed_seen}

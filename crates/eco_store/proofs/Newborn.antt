@@ -1,18 +1,16 @@
 -- A new entity: what is known of the indices, and what a store shows of them.
-use Rattle.std.proofs.Common.{◌≡◌, ◌≢◌, ℕ, zero, suc, ◌<◌, ◌≤◌, ◌+◌, ◌==◌, Bool, true, false, true≢false, not, ◌&&◌, nat_lt, List, [], ◌∷◌, ◌++◌, map, length, slice_get, set, Option, Some, None, option_map, unwrap_or, is_some, IsSome, IsTrue, if◌then◌else◌, find, Result, Ok, Err, MatchBool, MatchOption, refl, sym, ap, subst, ◌∙◌, arith, inl, inr}
+use Rattle.std.proofs.Common.{◌≡◌, ◌≢◌, ℕ, zero, suc, ◌<◌, ◌≤◌, ◌+◌, Bool, true, false, not, ◌&&◌, nat_lt, List, [], ◌∷◌, ◌++◌, map, length, slice_get, Option, Some, None, option_map, is_some, IsTrue, if◌then◌else◌, find, Result, Ok, Err, MatchBool, MatchOption, refl, sym, ap, subst, ◌∙◌, arith}
 use Rattle.std.specs.Option.{option_or}
-use Rattle.std.proofs.lemmas.Bool.{cases_eq}
 use Rattle.std.proofs.lemmas.List.{length-map}
 use Rattle.std.proofs.lemmas.Bool.Decides.{nat_tests}
 use Rattle.eco_ids.specs.declared.entity.Entity.{Entity}
 use Rattle.eco_ids.specs.declared.refusal.Refusal.{Refusal}
 use Rattle.eco_ids.specs.Births.{unfit_name, Makes, may_make}
-use Rattle.eco_ids.specs.Indices.{Indexed, IndexState, Retired, Free, Living, record_of, is_free_at, is_free_in, with_record, with_new, next_entity, lowest_free, living, living_from, map_state}
+use Rattle.eco_ids.specs.Indices.{Indexed, IndexState, Retired, Free, Living, with_record, with_new, next_entity, lowest_free, living_from, map_state}
 use Rattle.eco_ids.specs.declared.refusal.Refusal.TheVariants.{BadName, NameTaken, NoMoreIds}
 use Rattle.eco_ids.specs.Names.{is_called, bearer, is_borne, is_proper}
 use Rattle.eco_ids.specs.Outcome.{first_refusal, Meets, is_out_of_memory, Refuses, Answers}
 use Rattle.eco_store.specs.Placing.{Opposes}
-use Rattle.eco_store.proofs.Moves.{slice_get-map}
 use Rattle.eco_store.proofs.Views.{slice_get-set_same, slice_get-set_other}
 
 -- nobody lives there

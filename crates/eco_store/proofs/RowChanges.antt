@@ -1,12 +1,12 @@
 -- A moved row is a row taken out of one table and put at the end of another.
-use Rattle.std.proofs.Common.{◌≡◌, ◌≢◌, ℕ, suc, ◌+◌, ◌-◌, ◌<◌, ◌≤◌, ◌==◌, Bool, true, false, cond, List, ◌∷◌, [], ◌++◌, length, get_or, slice_get, Option, Some, None, unwrap_or, refl, sym, ap, ◌∙◌, arith, inl, inr}
+use Rattle.std.proofs.Common.{◌≡◌, ◌≢◌, ℕ, ◌-◌, ◌<◌, ◌==◌, Bool, true, false, cond, List, ◌∷◌, [], ◌++◌, length, slice_get, Option, Some, None, unwrap_or, refl, sym, ap, ◌∙◌, arith, inl, inr}
 use Rattle.std.specs.List.{swap_remove}
 use Rattle.std.proofs.lemmas.Bool.{cases_eq, cases_lt}
 use Rattle.std.proofs.lemmas.Bool.Decides.{Decides-eqb}
 use Rattle.std.proofs.lemmas.Option.{slice_get_past, slice_get-get_or}
 use Rattle.std.proofs.lemmas.List.{get_or_append_left, get_or_push, length-append}
 use Rattle.eco_tables.specs.Table.{TableState, Row, retyped_row}
-use Rattle.eco_tables.specs.Tables.{slot_of, table_in, row_in, no_row, no_table, Moves, with_row, without_row}
+use Rattle.eco_tables.specs.Tables.{table_in, row_in, no_row, no_table, Moves, with_row, without_row}
 use Rattle.eco_tables.proofs.Lists.{get_or-swap_remove, length-swap_remove, before, not_equal}
 use Rattle.eco_store.specs.Seats.{row_at}
 use Rattle.eco_store.proofs.SeatChanges.{Removed, Pushed}

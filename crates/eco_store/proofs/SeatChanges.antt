@@ -1,5 +1,5 @@
 -- What a row taken out and a row put in leave of the seats.
-use Rattle.std.proofs.Common.{◌≡◌, ◌≢◌, ℕ, List, Option, Some, None, option_map, refl, sym, ap, ◌∙◌, inl, inr}
+use Rattle.std.proofs.Common.{◌≡◌, ◌≢◌, ℕ, Option, Some, None, option_map, refl, sym, ap, ◌∙◌, inl, inr}
 use Rattle.std.proofs.lemmas.Bool.{cases_eq}
 use Rattle.eco_ids.specs.declared.entity.Entity.{Entity}
 use Rattle.eco_tables.specs.Table.{Row}

@@ -1,10 +1,10 @@
 -- The store after an entity's row went, and the entity that took its place was placed anew.
-use Rattle.std.proofs.Common.{◌≡◌, ◌≢◌, ℕ, ◌<◌, ◌-◌, ◌==◌, Bool, true, false, true≢false, cond, Bor, Ordering, Less, Equal, Greater, is_eq, is_lt, List, [], ◌∷◌, map, length, slice_get, set, get_or, zero, suc, ◌+◌, nat_lt, if◌then◌else◌, Option, Some, None, option_map, option_and_then, unwrap_or, is_some, IsSome, IfSome, IsTrue, refl, sym, ap, subst, ◌∙◌, arith, inl, inr}
+use Rattle.std.proofs.Common.{◌≡◌, ◌≢◌, ℕ, ◌<◌, ◌-◌, Bool, true, false, true≢false, cond, Bor, Ordering, Less, Equal, Greater, is_eq, is_lt, List, [], ◌∷◌, map, length, slice_get, set, get_or, zero, suc, ◌+◌, nat_lt, if◌then◌else◌, Option, Some, None, option_map, option_and_then, unwrap_or, is_some, IsSome, IfSome, IsTrue, refl, sym, ap, subst, ◌∙◌, inl, inr}
 use Rattle.std.proofs.lemmas.Bool.{cases_eq}
 use Rattle.eco_ids.specs.declared.entity.Entity.{Entity}
 use Rattle.eco_ids.specs.declared.id.Id.{Id}
 use Rattle.eco_ids.specs.declared.value.Value.{Value}
-use Rattle.eco_ids.specs.Indices.{Indexed, IndexState, Retired, Free, Living, record_of, record_in, with_record, with_death, raised, is_alive, map_state}
+use Rattle.eco_ids.specs.Indices.{Indexed, IndexState, Retired, Free, Living, record_of, with_death, raised, is_alive, map_state}
 use Rattle.eco_tables.specs.Column.{retyped}
 use Rattle.eco_tables.specs.Table.{TableState, Row, entities_of}
 use Rattle.eco_tables.specs.Tables.{slot_of, table_in, Sets, Moves, without_row, no_table}
@@ -25,11 +25,11 @@ use Rattle.eco_store.proofs.Ids.{same_ids-Decides}
 use Rattle.eco_entities.specs.declared.place.Place.{Place}
 use Rattle.eco_entities.specs.Registration.{Registration, with_change, change_in, placed, own_place}
 use Rattle.eco_store.specs.Placing.{fixed}
-use Rattle.eco_store.specs.Seats.{Seat, IsSeated, seat_of, row_at, seen, held_of, SameRows}
+use Rattle.eco_store.specs.Seats.{IsSeated, seat_of, row_at, seen, held_of, SameRows}
 use Rattle.eco_store.specs.Store.{Kept, kept, held_at, read, seat_in, seat_at, seat_of_place, HasPlace, IsStore, with_holding, holding_in, held_by}
-use Rattle.eco_store.proofs.SeatChanges.{no_some, one_some}
+use Rattle.eco_store.proofs.SeatChanges.{one_some}
 use Rattle.eco_store.proofs.Moves.{slice_get-map, row_there, mover, take_seated, take_others, move_seated, move_others, move_new_held}
-use Rattle.eco_store.proofs.Views.{ext_slice_get, slice_get-set_same, slice_get-set_other, living_at, alive_record, record_at, bare_at, seen_alike}
+use Rattle.eco_store.proofs.Views.{ext_slice_get, slice_get-set_same, slice_get-set_other, living_at, record_at, bare_at, seen_alike}
 
 -- what a seat says of its index
 pub living_from_seat : (o : Option (IndexState Registration)) (e : Entity) (n k : ℕ) → seat_in o ≡ Some (seat_of e n k)

@@ -1,6 +1,6 @@
 -- What a store answers of one entity, and the store after a value or a name was written.
-use Rattle.std.proofs.Common.{◌≡◌, ◌≢◌, ℕ, zero, suc, ◌<◌, Bool, true, false, true≢false, cond, not, ◌&&◌, ◌||◌, Ordering, Less, Equal, Greater, is_eq, List, [], ◌∷◌, map, length, slice_get, set, get_or, Option, Some, None, option_map, option_and_then, unwrap_or, is_some, IsSome, IsTrue, if◌then◌else◌, ◌==◌, Result, Ok, Err, MatchBool, MatchOption, refl, sym, ap, subst, ◌∙◌, arith, inl, inr}
-use Rattle.std.specs.List.{All, list_any}
+use Rattle.std.proofs.Common.{◌≡◌, ◌≢◌, ℕ, zero, suc, ◌<◌, Bool, true, false, cond, not, ◌&&◌, ◌||◌, Ordering, Less, Equal, Greater, is_eq, List, [], ◌∷◌, map, length, slice_get, set, get_or, Option, Some, None, option_map, option_and_then, unwrap_or, is_some, IsSome, IsTrue, if◌then◌else◌, ◌==◌, Result, MatchBool, MatchOption, refl, sym, ap, subst, ◌∙◌, inl, inr}
+use Rattle.std.specs.List.{All}
 use Rattle.std.specs.Ordering.{ordering_reverse}
 use Rattle.std.specs.FinMap.Entries.{find}
 use Rattle.std.proofs.lemmas.Bool.{cases_eq}
@@ -11,7 +11,7 @@ use Rattle.eco_ids.specs.declared.refusal.Refusal.{Refusal}
 use Rattle.eco_ids.specs.declared.refusal.Refusal.TheVariants.{NotAlive, BadName, NameTaken}
 use Rattle.eco_ids.specs.declared.value.Value.{Value}
 use Rattle.eco_ids.specs.Indices.{Indexed, IndexState, Retired, Free, Living, record_in, record_of, with_record, is_alive, map_state}
-use Rattle.eco_ids.specs.Names.{is_proper, is_borne, is_same_name}
+use Rattle.eco_ids.specs.Names.{is_proper, is_same_name}
 use Rattle.eco_ids.specs.Order.{id_cmp, id_eq, has_item}
 use Rattle.eco_ids.specs.Outcome.{Meets, is_out_of_memory, first_refusal, Answers, Refuses}
 use Rattle.eco_ids.specs.World.{zeros}

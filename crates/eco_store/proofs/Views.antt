@@ -1,16 +1,15 @@
 -- What is seen of a store after places and rows changed.
-use Rattle.std.proofs.Common.{◌≡◌, ◌≢◌, ℕ, zero, suc, ◌<◌, ◌==◌, Bool, true, false, cond, List, [], ◌∷◌, map, length, slice_get, set, Option, Some, None, option_map, unwrap_or, is_some, IsSome, IsTrue, if◌then◌else◌, refl, sym, ap, ◌∙◌, arith, inl, inr}
-use Rattle.std.proofs.lemmas.Bool.{cases_eq}
+use Rattle.std.proofs.Common.{◌≡◌, ◌≢◌, ℕ, zero, suc, ◌==◌, Bool, true, false, List, [], ◌∷◌, slice_get, set, Option, Some, None, option_map, unwrap_or, is_some, IsTrue, if◌then◌else◌, refl, sym, ap, ◌∙◌}
 use Rattle.std.proofs.lemmas.Bool.Decides.{Decides-eqb}
 use Rattle.eco_ids.specs.declared.entity.Entity.{Entity}
 use Rattle.eco_ids.specs.declared.id.Id.{Id}
 use Rattle.eco_ids.specs.declared.value.Value.{Value}
-use Rattle.eco_ids.specs.Indices.{Indexed, IndexState, Retired, Free, Living, record_of, record_in, with_record, with_death, raised, is_alive, map_state}
+use Rattle.eco_ids.specs.Indices.{Indexed, IndexState, Retired, Free, Living, record_of, record_in, is_alive, map_state}
 use Rattle.eco_tables.specs.Table.{TableState, Row}
 use Rattle.eco_entities.specs.declared.place.Place.{Place}
-use Rattle.eco_entities.specs.Registration.{Registration, with_change, change_in, placed}
-use Rattle.eco_store.specs.Seats.{Seat, IsSeated, seat_of, row_at, seen, held_of}
-use Rattle.eco_store.specs.Store.{Kept, kept, held_at, read, seat_in, seat_at, seat_of_place, HasPlace, IsStore, with_holding, holding_in, held_by}
+use Rattle.eco_entities.specs.Registration.{Registration}
+use Rattle.eco_store.specs.Seats.{row_at, seen}
+use Rattle.eco_store.specs.Store.{Kept, kept, held_at, read, seat_in, seat_at, seat_of_place}
 use Rattle.eco_store.proofs.Moves.{slice_get-map}
 
 -- lists that read alike are the same

@@ -1,18 +1,17 @@
 -- Rows, as columns keep them.
-use Rattle.std.proofs.Common.{◌≡◌, ◌≢◌, ℕ, zero, suc, ◌+◌, ◌-◌, ◌<◌, ◌≤◌, ◌==◌, Bool, true, false, cond, if◌then◌else◌, List, [], ◌∷◌, ◌++◌, map, length, get_or, set, take, drop, refl, sym, ap, ◌∙◌, arith, inl, inr, add-zero}
+use Rattle.std.proofs.Common.{◌≡◌, ◌≢◌, ℕ, zero, suc, ◌+◌, ◌-◌, ◌<◌, ◌≤◌, Bool, true, false, if◌then◌else◌, List, [], ◌∷◌, ◌++◌, map, length, get_or, set, take, drop, refl, sym, ap, ◌∙◌, arith, inl, inr}
 use Rattle.std.specs.List.{All, swap_remove}
-use Rattle.std.proofs.lemmas.List.{ext_get_or, get_or-take, get_or-set_same, get_or-set_other, get_or_default, get_or_append_left, get_or_push, length-map, length-set, get_or-map, length-append, length-take-le, take_all, drop_all, append-nil}
-use Rattle.std.proofs.lemmas.List.Elements.{All-head, All-tail, All-map, All-weaker}
+use Rattle.std.proofs.lemmas.List.{ext_get_or, get_or-set_same, get_or-set_other, get_or_append_left, get_or_push, length-map, length-set, get_or-map, length-append, take_all, drop_all, append-nil}
+use Rattle.std.proofs.lemmas.List.Elements.{All-head, All-tail, All-map}
 use Rattle.std.proofs.lemmas.Bool.{cases_eq}
-use Rattle.std.proofs.lemmas.Bool.Decides.{Decides-eqb}
 use Rattle.eco_ids.specs.declared.entity.Entity.{Entity}
 use Rattle.eco_ids.specs.declared.id.Id.{Id}
 use Rattle.eco_ids.specs.declared.value.Value.{Value}
 use Rattle.eco_ids.specs.World.{zeros}
 use Rattle.eco_ids.specs.Order.{id_eq}
 use Rattle.eco_tables.proofs.Lists.{before, before_within, get_or-swap_remove, length-swap_remove}
-use Rattle.eco_tables.specs.Column.{ColumnState, held_in, contents, pushed, with_removed, with_value, written, value_in, with_held, retyped}
-use Rattle.eco_tables.specs.Table.{Row, rows_from, HasShape, entities_of, retyped_row, HasIds}
+use Rattle.eco_tables.specs.Column.{ColumnState, held_in, contents, pushed, with_removed, with_value, written, with_held}
+use Rattle.eco_tables.specs.Table.{Row, rows_from, HasShape, entities_of, HasIds}
 
 -- a Vec's elements, after all of them were written through a slice
 pub refilled : {X : Type 0} (n : ℕ) (ws xs : List X) → length ws ≡ length xs → length xs ≡ n → take n (ws ++ drop (length ws) xs) ≡ ws

@@ -1,5 +1,5 @@
 -- The values of one id, a place for each row.
-use Rattle.std.specs.Prelude.{◌≡◌, ℕ, ◌+◌, ◌-◌, ◌<◌, ◌≤◌, List, [], ◌∷◌, ◌++◌, map, length, slice_index_or, slice_set, unwrap_or, if◌then◌else◌}
+use Rattle.std.specs.Prelude.{ℕ, ◌+◌, ◌-◌, List, [], ◌∷◌, ◌++◌, map, slice_index_or, slice_set, unwrap_or, if◌then◌else◌}
 use Rattle.std.specs.List.{swap_remove}
 use Rattle.std.specs.FinMap.Entries.{find}
 use Rattle.eco_ids.specs.declared.id.Id.{Id}

@@ -1,10 +1,10 @@
 -- A table: a type, and a list of rows, each an entity and what it holds.
-use Rattle.std.specs.Prelude.{◌≡◌, ℕ, zero, suc, ◌+◌, ◌≤◌, List, [], ◌∷◌, map, length, slice_index_or, slice_set}
+use Rattle.std.specs.Prelude.{◌≡◌, ℕ, suc, ◌+◌, ◌≤◌, List, [], ◌∷◌, map, length}
 use Rattle.std.specs.List.{All}
 use Rattle.eco_ids.specs.declared.entity.Entity.{Entity}
 use Rattle.eco_ids.specs.declared.id.Id.{Id}
 use Rattle.eco_ids.specs.declared.value.Value.{Value}
-use Rattle.eco_tables.specs.Column.{ColumnState, held_in, with_held, retyped}
+use Rattle.eco_tables.specs.Column.{ColumnState, held_in, retyped}
 
 -- an entity, and each id of the table's type with its value
 pub record Row : Type 0 where

@@ -1,10 +1,7 @@
 -- Tables in slots.
-use Rattle.std.specs.Prelude.{◌≡◌, ◌≢◌, ℕ, ◌-◌, ◌+◌, List, [], ◌∷◌, ◌++◌, Option, None, Some, slice_index_or, slice_set, unwrap_or, option_map}
+use Rattle.std.specs.Prelude.{◌≡◌, ◌≢◌, ℕ, ◌-◌, ◌+◌, List, [], ◌∷◌, ◌++◌, Option, None, Some, slice_index_or, unwrap_or}
 use Rattle.std.specs.List.{swap_remove}
-use Rattle.eco_ids.specs.declared.entity.Entity.{Entity}
 use Rattle.eco_ids.specs.declared.id.Id.{Id}
-use Rattle.eco_ids.specs.declared.value.Value.{Value}
-use Rattle.eco_tables.specs.Column.{with_held, retyped}
 use Rattle.eco_tables.specs.Table.{TableState, Row, retyped_row}
 
 -- the table in a slot, if there is one

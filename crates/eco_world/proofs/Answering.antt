@@ -1,5 +1,5 @@
 -- What a query of one term answers of one entity.
-use Rattle.std.proofs.Common.{◌≡◌, ℕ, ◌+◌, ◌<◌, length, drop, unwrap_or, option_map, Bool, true, false, cond, not, ◌&&◌, ◌||◌, List, [], ◌∷◌, ◌++◌, map, filter, flat_map, Option, Some, None, refl, sym, ap, ◌∙◌, subst, Ordering, Less, Equal, Greater, is_eq, is_lt, is_some, IsTrue, T, true≢false}
+use Rattle.std.proofs.Common.{◌≡◌, ℕ, ◌+◌, ◌<◌, length, drop, unwrap_or, option_map, Bool, true, false, cond, not, ◌&&◌, ◌||◌, List, [], ◌∷◌, ◌++◌, map, filter, flat_map, Option, Some, None, refl, sym, ap, ◌∙◌, subst, Less, Equal, Greater, is_eq, is_lt, is_some, IsTrue, T}
 use Rattle.std.specs.List.{list_any}
 use Rattle.std.specs.Option.{option_and_then}
 use Rattle.std.proofs.lemmas.Option.{option_and_then_some, cond_some, none-some}
@@ -16,7 +16,7 @@ use Rattle.eco_ids.specs.Matching.{pattern_matches}
 use Rattle.eco_ids.specs.Order.{id_cmp, id_eq, entity_cmp}
 use Rattle.eco_ids.specs.Indices.{record_of}
 use Rattle.eco_ids.specs.World.{WorldState, Record, has}
-use Rattle.eco_traits.specs.Same.{id_eq_is, id_cmp_total, same_id}
+use Rattle.eco_traits.specs.Same.{id_eq_is, id_cmp_total}
 use Rattle.eco_world.specs.Queries.{exactly, term_of, holder_at}
 use Rattle.eco_entities.specs.Registration.{entity_at}
 use Rattle.eco_world.proofs.Walk.{walk, walk_some, walk_none}

@@ -1,5 +1,5 @@
 -- Whether some living entity has an id.
-use Rattle.std.proofs.Common.{◌≡◌, ℕ, zero, suc, ◌+◌, ◌<◌, length, drop, flat_map, arith, Bool, true, false, cond, ◌||◌, ◌&&◌, ◌==◌, List, [], ◌∷◌, map, Option, Some, None, option_map, unwrap_or, is_some, slice_get, refl, sym, ap, ◌∙◌, subst, true≢false, IsTrue, ◌↔◌, eq-eqb}
+use Rattle.std.proofs.Common.{◌≡◌, ℕ, zero, suc, ◌+◌, ◌<◌, length, drop, flat_map, arith, Bool, true, false, cond, ◌||◌, ◌&&◌, ◌==◌, List, [], ◌∷◌, Option, Some, None, option_map, unwrap_or, is_some, slice_get, refl, sym, ap, ◌∙◌, subst, true≢false, IsTrue, ◌↔◌, eq-eqb}
 use Rattle.std.specs.List.{list_any}
 use Rattle.std.specs.FinMap.Entries.{find}
 use Rattle.eco_ids.specs.declared.entity.Entity.{Entity}
@@ -9,7 +9,7 @@ use Rattle.eco_ids.specs.declared.pattern.Part.TheVariants.{Is, Any}
 use Rattle.eco_ids.specs.declared.pattern.Pattern.{Pattern}
 use Rattle.eco_ids.specs.declared.pattern.Pattern.TheVariants as pattern
 use Rattle.eco_ids.specs.declared.value.Value.{Value}
-use Rattle.eco_ids.specs.Indices.{IndexState, Indexed, Retired, Free, Living, living, living_from, record_in, record_of}
+use Rattle.eco_ids.specs.Indices.{IndexState, Retired, Free, Living, living, living_from, record_in}
 use Rattle.eco_ids.specs.Matching.{pattern_matches}
 use Rattle.eco_ids.specs.Order.{entity_eq, has_item, id_cmp, id_eq}
 use Rattle.eco_ids.specs.Step.{is_pair_of, is_used}

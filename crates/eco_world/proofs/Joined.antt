@@ -1,8 +1,7 @@
 -- What a store says of a handle or a name, the world says that the store and its arities make.
-use Rattle.std.proofs.Common.{◌≡◌, ◌≢◌, ℕ, zero, suc, ◌+◌, ◌<◌, ◌≤◌, Bool, true, false, cond, not, ◌&&◌, ◌||◌, ◌==◌, List, [], ◌∷◌, ◌++◌, map, length, get_or, set, Option, Some, None, option_map, unwrap_or, is_some, find, slice_get, nat_lt, refl, sym, ap, ◌∙◌, subst, arith, true≢false, IsTrue, le_of_suc-le-suc, Result, Ok, Err, OnOk, OnErr}
+use Rattle.std.proofs.Common.{◌≡◌, ◌≢◌, ℕ, zero, suc, ◌+◌, Bool, true, false, cond, ◌||◌, ◌==◌, List, [], ◌∷◌, ◌++◌, map, length, set, Option, Some, None, option_map, unwrap_or, is_some, find, slice_get, nat_lt, refl, sym, ap, ◌∙◌, subst, arith, Result, Ok, Err, OnOk, OnErr}
 use Rattle.std.specs.List.{list_any}
 use Rattle.std.specs.Option.{option_or, option_and_then}
-use Rattle.std.proofs.lemmas.Option.{same_Some, none-some}
 use Rattle.eco_ids.specs.declared.entity.Entity.{Entity}
 use Rattle.eco_ids.specs.declared.id.Id.{Id}
 use Rattle.eco_ids.specs.declared.value.Value.{Value}
@@ -13,7 +12,7 @@ use Rattle.eco_world.specs.Retyped.{with_type}
 use Rattle.eco_ids.specs.Indices.{IndexState, Indexed, Retired, Free, Living, map_state, record_in, record_of, is_alive, living, living_from, lowest_free, next_entity, with_new, with_record}
 use Rattle.eco_ids.specs.Names.{is_called, bearer, is_borne, lookup, is_taken}
 use Rattle.eco_ids.specs.Step.{own_name, changed, change_record, with_name}
-use Rattle.eco_ids.specs.World.{Record, WorldState, held_by}
+use Rattle.eco_ids.specs.World.{Record, held_by}
 use Rattle.eco_entities.specs.Registration.{entity_at, entity_in}
 use Rattle.eco_traits.specs.Target.{type_of_record}
 use Rattle.eco_world.specs.Arities.{Puts, SameArities}

@@ -1,11 +1,11 @@
 -- Entities that come to live, with a name, ids and an arity.
-use Rattle.std.proofs.Common.{◌≡◌, ℕ, zero, suc, ◌+◌, ◌<◌, ◌≤◌, Bool, true, false, cond, not, ◌&&◌, List, [], ◌∷◌, length, Option, Some, None, is_some, Result, Ok, Err, MatchOption, MatchBool, MatchResult, IsTrue, nat_lt, refl, sym, ap, ◌∙◌, subst, arith, true≢false, lt-ltb, nat_le, le-leb}
+use Rattle.std.proofs.Common.{◌≡◌, ℕ, ◌+◌, ◌<◌, ◌≤◌, Bool, true, false, cond, not, ◌&&◌, List, [], ◌∷◌, length, Option, Some, None, is_some, Result, Ok, Err, MatchOption, MatchBool, MatchResult, IsTrue, nat_lt, refl, sym, ap, ◌∙◌, subst, arith, true≢false, lt-ltb, nat_le, le-leb}
 use Rattle.std.specs.Option.{option_or}
 use Rattle.std.proofs.lemmas.Option.{same_Some, none-some}
 use Rattle.eco_ids.specs.declared.entity.Entity.{Entity}
 use Rattle.eco_ids.specs.declared.id.Id.{Id}
 use Rattle.eco_ids.specs.declared.refusal.Refusal.{Refusal}
-use Rattle.eco_ids.specs.declared.refusal.Refusal.TheVariants.{BadName, NameTaken, NoMoreIds, OutOfMemory}
+use Rattle.eco_ids.specs.declared.refusal.Refusal.TheVariants.{BadName, NameTaken, NoMoreIds}
 use Rattle.eco_ids.specs.Births.{Makes, may_make, unfit_name}
 use Rattle.eco_ids.specs.Indices.{Indexed, IndexState, Retired, Free, Living, lowest_free, next_entity, with_new}
 use Rattle.eco_ids.specs.Laws.{Keeps}

@@ -5,7 +5,7 @@ use Rattle.std.proofs.lemmas.Option.{same_Some, none-some}
 use Rattle.eco_ids.specs.declared.entity.Entity.{Entity}
 use Rattle.eco_ids.specs.declared.id.Id.{Id}
 use Rattle.eco_ids.specs.declared.value.Value.{Value}
-use Rattle.eco_ids.specs.Indices.{IndexState, Indexed, Retired, Free, Living, record_in, record_of}
+use Rattle.eco_ids.specs.Indices.{IndexState, Retired, Free, Living, record_in, record_of}
 use Rattle.eco_ids.specs.Step.{changed, change_record, without_id}
 use Rattle.eco_ids.specs.Order.{id_cmp, id_eq}
 use Rattle.eco_ids.specs.World.{WorldState, Record, has}

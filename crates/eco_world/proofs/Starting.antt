@@ -1,5 +1,5 @@
 -- The built-ins are made one by one, and nothing but memory stands against that.
-use Rattle.std.proofs.Common.{◌≡◌, ℕ, zero, suc, ◌+◌, ◌<◌, ◌≤◌, Bool, true, false, cond, not, ◌&&◌, List, [], ◌∷◌, ◌++◌, length, Option, Some, None, Ok, Err, Result, MatchOption, MatchBool, IsTrue, nat_lt, refl, sym, ap, ◌∙◌, subst, arith, true≢false, lt-ltb, le-ltb, add-one, slice_get}
+use Rattle.std.proofs.Common.{◌≡◌, ℕ, zero, suc, ◌+◌, ◌<◌, ◌≤◌, Bool, cond, List, [], ◌∷◌, ◌++◌, length, Option, Some, None, Ok, Err, Result, MatchOption, nat_lt, refl, sym, ap, ◌∙◌, subst, arith, lt-ltb, le-ltb, add-one}
 use Rattle.std.specs.Option.{option_or}
 use Rattle.eco_ids.specs.declared.entity.Entity.{Entity}
 use Rattle.eco_ids.specs.declared.id.Id.{Id}
@@ -7,7 +7,7 @@ use Rattle.eco_ids.specs.declared.refusal.Refusal.{Refusal}
 use Rattle.eco_ids.specs.declared.refusal.Refusal.TheVariants.{OutOfMemory, NoMoreIds}
 use Rattle.eco_ids.specs.Births.{Makes, unfit_name}
 use Rattle.eco_ids.specs.Indices.{Indexed, Living, lowest_free, next_entity, with_new, with_record}
-use Rattle.eco_ids.specs.Outcome.{Meets, Answers, Refuses, is_out_of_memory}
+use Rattle.eco_ids.specs.Outcome.{Meets, Answers, Refuses}
 use Rattle.eco_ids.specs.World.{first_world}
 use Rattle.eco_world.specs.Builtins.{builtins_below, store_of_builtins, builtin_name, builtin_type}
 use Rattle.eco_world.specs.Joined.{world_of}

@@ -1,10 +1,10 @@
 -- A call of the store, seen as a step of the world.
-use Rattle.std.proofs.Common.{◌≡◌, ℕ, Bool, true, false, not, ◌&&◌, List, [], ◌∷◌, length, Option, Some, None, is_some, slice_get, Result, Ok, Err, MatchOption, MatchBool, IsTrue, refl, sym, ap, ◌∙◌, subst}
+use Rattle.std.proofs.Common.{◌≡◌, ℕ, Bool, true, false, not, ◌&&◌, List, [], ◌∷◌, Option, Some, None, is_some, Result, Err, MatchOption, MatchBool, IsTrue, refl, sym, ap, ◌∙◌, subst}
 use Rattle.eco_ids.specs.declared.entity.Entity.{Entity}
 use Rattle.eco_ids.specs.declared.refusal.Refusal.{Refusal}
-use Rattle.eco_ids.specs.declared.refusal.Refusal.TheVariants.{NotAlive, Reserved, BadName, NameTaken, NoMoreIds}
+use Rattle.eco_ids.specs.declared.refusal.Refusal.TheVariants.{NotAlive, Reserved, BadName, NameTaken}
 use Rattle.eco_ids.specs.Builtin.{is_builtin}
-use Rattle.eco_ids.specs.Indices.{Indexed, is_alive, record_of}
+use Rattle.eco_ids.specs.Indices.{Indexed, is_alive}
 use Rattle.eco_ids.specs.Laws.{Keeps}
 use Rattle.eco_ids.specs.Lawful.{IsLawful}
 use Rattle.eco_ids.specs.Names.{is_proper, is_same_name, is_taken}

@@ -1,9 +1,9 @@
 -- What a step makes of a record, the store makes of the entity's ids and values.
-use Rattle.std.proofs.Common.{◌≡◌, ◌≢◌, ℕ, zero, suc, ◌<◌, Bool, true, false, cond, not, ◌||◌, ◌&&◌, ◌==◌, T, List, [], ◌∷◌, map, set, length, slice_get, Option, Some, None, option_map, unwrap_or, refl, sym, ap, ◌∙◌, subst, is_some, true≢false, IsTrue, IsFalse, MatchOption, MatchBool, Result, Ok, Err, OnOk, eq-eqb, eqb-true}
+use Rattle.std.proofs.Common.{◌≡◌, ℕ, zero, suc, Bool, true, false, cond, not, ◌&&◌, T, List, [], ◌∷◌, set, slice_get, Option, Some, None, option_map, unwrap_or, refl, sym, ap, ◌∙◌, subst, is_some, true≢false, IsTrue, MatchOption, MatchBool, Result, Ok, Err, OnOk, eq-eqb}
 use Rattle.std.specs.List.{list_any}
 use Rattle.std.specs.Option.{option_or}
 use Rattle.std.proofs.lemmas.Option.{same_Some, none-some}
-use Rattle.std.specs.FinMap.Entries.{find, put, where_key, is_sorted}
+use Rattle.std.specs.FinMap.Entries.{find, is_sorted}
 use Rattle.eco_ids.specs.declared.entity.Entity.{Entity}
 use Rattle.eco_ids.specs.declared.id.Id.{Id}
 use Rattle.eco_ids.specs.declared.id.Id.TheVariants.{One, Two}
@@ -11,18 +11,18 @@ use Rattle.eco_ids.specs.declared.refusal.Refusal.{Refusal}
 use Rattle.eco_ids.specs.declared.refusal.Refusal.TheVariants.{DeadId}
 use Rattle.eco_ids.specs.declared.value.Value.{Value}
 use Rattle.eco_ids.specs.Builtin.{is_builtin}
-use Rattle.eco_ids.specs.Indices.{Indexed, IndexState, Retired, Free, Living, record_in, record_of, with_record, is_alive}
-use Rattle.eco_ids.specs.Laws.{Keeps, AddsExactly, AddLeaves, AddsOnce}
+use Rattle.eco_ids.specs.Indices.{IndexState, Living, record_in, record_of, with_record, is_alive}
+use Rattle.eco_ids.specs.Laws.{Keeps, AddsExactly, AddsOnce}
 use Rattle.eco_ids.specs.Lawful.{IsLawful}
-use Rattle.eco_ids.specs.Order.{id_cmp, id_eq, has_item, without_item}
+use Rattle.eco_ids.specs.Order.{id_cmp, has_item, without_item}
 use Rattle.eco_ids.specs.Outcome.{Meets, Answers, Refuses, is_out_of_memory}
-use Rattle.eco_ids.specs.Step.{changed, change_record, without_id, with_value, with_closure, is_displaced, is_pair_of, IsClosure, Judges, Extends, Adds, may_add, unfit, unchanged, Sets, may_set, unfit_set, Removes, Clears, Changes, without_ids, unfit_actor}
+use Rattle.eco_ids.specs.Step.{changed, change_record, without_id, with_value, with_closure, is_displaced, is_pair_of, IsClosure, Judges, Extends, Adds, may_add, unfit, unchanged, Sets, unfit_set, Removes, Clears, Changes, without_ids, unfit_actor}
 use Rattle.eco_ids.specs.World.{WorldState, Record, zeros, has, held_by, names_living, is_exclusive}
-use Rattle.eco_traits.specs.Target.{FindsType, LeadsTo, IsTypeWith, type_of_record}
-use Rattle.eco_tables.specs.Column.{value_in, retyped, with_held}
+use Rattle.eco_traits.specs.Target.{FindsType, IsTypeWith, type_of_record}
+use Rattle.eco_tables.specs.Column.{value_in, retyped}
 use Rattle.eco_world.specs.Actor.{MaySet}
 use Rattle.eco_world.specs.Retyped.{type_of, with_type, with_written}
-use Rattle.eco_world.proofs.Held.{Held, keys, retyped_is, retyped_without, written_is}
+use Rattle.eco_world.proofs.Held.{keys, retyped_is, retyped_without, written_is}
 
 -- ---- records and their changes
 

@@ -1,5 +1,5 @@
 -- Changes of a list of arities.
-use Rattle.std.specs.Prelude.{◌≡◌, ◌≢◌, ℕ, ◌<◌, List, Option, None, Some, length, MatchOption}
+use Rattle.std.specs.Prelude.{◌≡◌, ◌≢◌, ℕ, ◌<◌, List, Option, length, MatchOption}
 use Rattle.eco_world.specs.Joined.{arity_at}
 
 -- each index has the arity that it had

@@ -1,5 +1,5 @@
 -- The store in which the built-ins alone live.
-use Rattle.std.specs.Prelude.{ℕ, List, [], map, take, Option, None, option_and_then, option_map, unwrap_or, slice_get}
+use Rattle.std.specs.Prelude.{ℕ, List, [], map, take, Option, option_and_then, option_map, unwrap_or, slice_get}
 use Rattle.eco_ids.specs.declared.id.Id.{Id}
 use Rattle.eco_ids.specs.Indices.{IndexState, Indexed, map_state, record_in}
 use Rattle.eco_ids.specs.World.{Record, builtin_states}

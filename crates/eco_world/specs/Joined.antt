@@ -1,5 +1,5 @@
 -- What a store and a list of arities stand for together.
-use Rattle.std.specs.Prelude.{◌≡◌, ℕ, List, [], ◌∷◌, Option, None, slice_index_or}
+use Rattle.std.specs.Prelude.{ℕ, List, [], ◌∷◌, Option, None, slice_index_or}
 use Rattle.eco_ids.specs.Indices.{Indexed, IndexState, map_state}
 use Rattle.eco_ids.specs.World.{WorldState, Record}
 use Rattle.eco_store.specs.Store.{Kept}

@@ -1,5 +1,4 @@
-use Rattle.std.proofs.Common.{sym, ap, ◌∙◌, nat_eq}
-use Rattle.std.specs.List.{list_any}
+use Rattle.std.proofs.Common.{sym, ◌∙◌}
 use Rattle.eco_tables.specs.Tables.{slot_of}
 use Rattle.eco_store.specs.Archetypes.{is_found}
 use Rattle.eco_store.proofs.Listings.{below_none, below_pushed, below_passed, distinct_none, distinct_pushed, not_yet}

@@ -1,4 +1,3 @@
-use Rattle.std.proofs.Common.{sym, ap, ◌∙◌}
 use Rattle.eco_store.proofs.ArchetypeLemmas.{one_slot}
 use Rattle.eco_store.proofs.archetypes.Archetypes.tables.Goals as goal
 

@@ -1,4 +1,4 @@
-use Rattle.std.proofs.Common.{◌≡◌, ◌<◌, ◌++◌, ◌+◌, arith, ap, sym, ◌∙◌, length, take, drop, map}
+use Rattle.std.proofs.Common.{◌≡◌, ◌++◌, ◌+◌, ap, ◌∙◌, length, take, drop}
 use Rattle.std.specs.List.{swap_remove, slice_get}
 use Rattle.eco_tables.specs.Column.{with_removed}
 use Rattle.eco_tables.specs.Table.{rows_from}

@@ -1,4 +1,4 @@
-use Rattle.std.proofs.Common.{[], sym, ap, subst}
+use Rattle.std.proofs.Common.{[], sym, subst}
 use Rattle.std.proofs.lemmas.Result.{err_from_is_err_and}
 use Rattle.eco_ids.specs.Lawful.{IsLawful}
 use Rattle.eco_ids.specs.Outcome.{Answers}

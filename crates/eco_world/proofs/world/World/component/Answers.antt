@@ -1,4 +1,4 @@
-use Rattle.std.proofs.Common.{◌∷◌, [], Some, Ok, Err, refl, sym, subst, arith}
+use Rattle.std.proofs.Common.{◌∷◌, [], Some, Ok, Err, sym, subst, arith}
 use Rattle.std.proofs.lemmas.Result.{err_from_is_err_and}
 use Rattle.std.specs.Option.{option_copied}
 use Rattle.eco_ids.specs.declared.entity.TheConstants.{ON_DELETE, PANIC}

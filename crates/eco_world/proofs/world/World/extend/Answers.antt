@@ -1,4 +1,4 @@
-use Rattle.std.proofs.Common.{Ok, refl, sym, ◌∙◌, subst}
+use Rattle.std.proofs.Common.{Ok, sym, subst}
 use Rattle.eco_ids.specs.Step.{Extends, unchanged}
 use Rattle.eco_world.proofs.Types.{typed}
 use Rattle.eco_world.proofs.world.World.extend.Goals as goal

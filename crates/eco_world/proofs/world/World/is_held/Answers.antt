@@ -1,4 +1,4 @@
-use Rattle.std.proofs.Common.{◌≡◌, ◌<◌, ◌||◌, ◌+◌, length, true, false, sym, ap, ◌∙◌, subst, arith}
+use Rattle.std.proofs.Common.{◌≡◌, ◌<◌, ◌||◌, ◌+◌, length, sym, ap, ◌∙◌, subst, arith}
 use Rattle.eco_world.proofs.Asking.{asked, asked_all, asked_none, asked_next}
 use Rattle.eco_world.proofs.world.World.is_held.Goals as goal
 

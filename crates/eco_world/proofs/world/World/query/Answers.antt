@@ -5,8 +5,8 @@ use Rattle.std.specs.FinMap.Entries.{is_sorted}
 use Rattle.eco_ids.specs.Indices.{record_of}
 use Rattle.eco_ids.specs.Order.{id_cmp}
 use Rattle.eco_ids.specs.World.{Record}
-use Rattle.eco_world.specs.Queries.{result_of, term_of}
-use Rattle.eco_world.proofs.Answering.{results, walk_holder, walk_no_holder}
+use Rattle.eco_world.specs.Queries.{result_of}
+use Rattle.eco_world.proofs.Answering.{walk_holder, walk_no_holder}
 use Rattle.eco_world.proofs.world.World.query.Goals as goal
 use Rattle.eco_world.proofs.world.World.query.Goals.{in-Some+in_ok-of_one+in_ok-push, in_default}
 

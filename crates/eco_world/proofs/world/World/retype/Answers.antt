@@ -2,7 +2,6 @@ use Rattle.std.proofs.Common.{sym, ap, ◌∙◌, subst}
 use Rattle.eco_ids.specs.Indices.{is_alive}
 use Rattle.eco_ids.specs.Lawful.{IsLawful}
 use Rattle.eco_ids.specs.Step.{changed}
-use Rattle.eco_world.specs.Joined.{world_of}
 use Rattle.eco_world.specs.Retyped.{with_type}
 use Rattle.eco_world.proofs.Joined.{alive_joined, retyped_ok, retyped_lawful}
 use Rattle.eco_world.proofs.world.World.retype.Goals as goal

@@ -1,4 +1,4 @@
-use Rattle.std.proofs.Common.{◌≡◌, sym, ap, ◌∙◌, Some, Ok, Err, OnOk, Result, option_map}
+use Rattle.std.proofs.Common.{◌≡◌, sym, ap, ◌∙◌, Some, option_map}
 use Rattle.std.specs.Option.{option_copied}
 use Rattle.eco_ids.specs.Indices.{record_of}
 use Rattle.eco_ids.specs.Order.{id_cmp, without_item}

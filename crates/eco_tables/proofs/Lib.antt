@@ -1,4 +1,5 @@
 pub mod Columns
 pub mod Lists
+pub mod RowIds
 pub mod Rows
 pub mod Slots

@@ -40,3 +40,7 @@ retyped_row ids r = record { entity = r.entity; held = retyped ids r.held }
 -- each row has a value for each id of the type
 abbrev pub HasIds : List Id → Row → Type 0
 HasIds ids r = map (λ p. p.0) r.held ≡ ids
+
+-- each row of the table has a value for each id of its type
+abbrev pub RowsHaveIds : TableState → Type 0
+RowsHaveIds t = All (HasIds t.ids) t.rows

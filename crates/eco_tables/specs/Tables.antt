@@ -2,7 +2,7 @@
 use Rattle.std.specs.Prelude.{◌≡◌, ◌≢◌, ℕ, ◌-◌, ◌+◌, List, [], ◌∷◌, ◌++◌, Option, None, Some, slice_index_or, unwrap_or}
 use Rattle.std.specs.List.{swap_remove}
 use Rattle.eco_ids.specs.declared.id.Id.{Id}
-use Rattle.eco_tables.specs.Table.{TableState, Row, retyped_row}
+use Rattle.eco_tables.specs.Table.{TableState, Row, retyped_row, RowsHaveIds}
 
 -- the table in a slot, if there is one
 abbrev pub slot_of : List (Option TableState) → ℕ → Option TableState
@@ -52,3 +52,7 @@ pub record Moves (old new : List (Option TableState)) (from row to : ℕ) : Type
   pub source : slot_of new from ≡ Some (without_row (table_in old from) row)
   pub target : slot_of new to ≡ Some (with_row (table_in old to) (row_in old from row))
   pub others : (n : ℕ) → n ≢ from → n ≢ to → slot_of new n ≡ slot_of old n
+
+-- each row of each table has a value for each id of the table's type
+abbrev pub AllHaveIds : List (Option TableState) → Type 0
+AllHaveIds slots = (n : ℕ) → RowsHaveIds (table_in slots n)

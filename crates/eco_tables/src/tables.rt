@@ -2,7 +2,7 @@
 ghost use Rattle.std.specs.Prelude.{◌≡◌, ◌≢◌, ℕ, ◌<◌, ◌≤◌, [], ◌∷◌, length, slice_get, slice_index_or, slice_set, None, Some, IsSome, is_some, OnSome, IfNone, count_by, OnOk, OnErr, IfOk, option_copied};
 ghost use Rattle.eco_tables.specs.Column.{value_in, with_held};
 ghost use Rattle.eco_tables.specs.Table.{TableState, Row, entities_of};
-ghost use Rattle.eco_tables.specs.Tables.{slot_of, table_in, row_in, no_row, Sets, Moves, with_row, without_row, rowless_type};
+ghost use Rattle.eco_tables.specs.Tables.{slot_of, table_in, row_in, no_row, Sets, Moves, with_row, without_row, rowless_type, AllHaveIds};
 ghost use Rattle.slab.specs.Slab.{entries_from};
 
 use crate::table::Table;
@@ -22,10 +22,13 @@ pub struct Tables {
 impl Model for Tables {
     ghost use Rattle.std.specs.Prelude.{List, Option};
     ghost use Rattle.eco_tables.specs.Table.{TableState};
+    ghost use Rattle.eco_tables.specs.Tables.{AllHaveIds};
 
     ghost Value = { List (Option TableState) };
 
     ghost view = { λ t. t.slots.slots };
+
+    ghost invariant = { λ t. AllHaveIds t.slots.slots };
 }
 
 impl Tables {
@@ -37,6 +40,13 @@ impl Tables {
             alloc,
             slots: Slab::new(alloc),
         }
+    }
+
+    /// Does nothing, and its contract says that each row of each table has a value for each id of the table's type.
+    pub fn rows_have_ids(&self)
+        ensures { AllHaveIds self.now }
+    {
+        let _slots = &self.slots;
     }
 
     /// A new table without rows, in a slot that was empty; the answer is the slot. An `Err` comes where memory is refused

@@ -1,4 +1,5 @@
 pub mod ArchetypeLemmas
+pub mod Holders
 pub mod Ids
 pub mod Listed
 pub mod Moves
@@ -11,3 +12,5 @@ pub mod Newborn
 pub mod BirthChanges
 pub mod Values
 pub mod Listings
+pub mod Living
+pub mod Sorting

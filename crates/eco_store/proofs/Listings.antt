@@ -57,7 +57,8 @@ pub second_names : (p : Part) (e : Entity) (i : Id) → pattern_matches (Two p (
 second_names p e (id.One x) h = absurd (cc)
 second_names p e (id.Two r t) h = either_right (same_entity r e) (same_entity t e) (equal e t (both_right (part_matches p r) (entity_eq e t) h))
 
-any_weaker : {X : Type 0} (p q : X → Bool) → ((x : X) → p x ≡ true → q x ≡ true) → (xs : List X) → list_any p xs ≡ true → list_any q xs ≡ true
+-- what passes a test passes a weaker one
+pub any_weaker : {X : Type 0} (p q : X → Bool) → ((x : X) → p x ≡ true → q x ≡ true) → (xs : List X) → list_any p xs ≡ true → list_any q xs ≡ true
 any_weaker p q weaker [] h = h
 any_weaker p q weaker (x ∷ xs) h = by (p x) refl (any_weaker p q weaker xs) h
   where

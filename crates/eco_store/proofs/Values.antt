@@ -18,7 +18,7 @@ use Rattle.eco_ids.specs.World.{zeros}
 use Rattle.eco_ids.proofs.IdOrder.{id_cmp_total}
 use Rattle.eco_tables.specs.Column.{value_in, with_held}
 use Rattle.eco_tables.specs.Table.{TableState, Row, HasIds}
-use Rattle.eco_tables.specs.Tables.{slot_of, table_in, row_in, no_row, no_table, Sets}
+use Rattle.eco_tables.specs.Tables.{AllHaveIds, slot_of, table_in, row_in, no_row, no_table, Sets}
 use Rattle.eco_entities.specs.declared.place.Place.{Place}
 use Rattle.eco_entities.specs.Registration as registry
 use Rattle.eco_entities.specs.Registration.{Registration, name_of, own_place, with_change, change_in, renamed}
@@ -338,8 +338,8 @@ has_place : (o : Option Place) → IsSome o → (p : Place) × (o ≡ Some p)
 has_place None h = absurd (cc)
 has_place (Some p) h = (p, refl)
 
-pub shows : (w : Indexed Registration) (s : List (Option TableState)) → IsStore w s → IsShown (read w s) s
-shows w s store = record {
+pub shows : (w : Indexed Registration) (s : List (Option TableState)) → IsStore w s → AllHaveIds s → IsShown (read w s) s
+shows w s store own = record {
   rows = λ n k r h.
       let found = place_from_seat (slice_get w.indices r.entity.index) r.entity n k (store.seated.back n k r h) in
       let own : own_place w r.entity ≡ Some (record { table = n; row = k }) =
@@ -357,4 +357,5 @@ shows w s store = record {
       let two : seat_at w r.entity.index ≡ Some (seat_of x.entity m j) = ap (λ (e : Entity). seat_at w e.index) same ∙ store.seated.back m j x b in
       let both = one_some (seat_at w r.entity.index) _ _ one two in
       (ap (λ (q : Seat). q.slot) both, ap (λ (q : Seat). q.row) both);
+  own = own;
 }

@@ -1,5 +1,5 @@
 -- Tables in slots, each found by its type and by the entities that its type names.
-use Rattle.std.specs.Prelude.{◌≡◌, ℕ, Bool, true, false, ◌&&◌, nat_lt, nat_eq, length, List, [], Option, None, Some, option_map}
+use Rattle.std.specs.Prelude.{◌≡◌, ℕ, ◌<◌, Bool, true, false, IsTrue, ◌&&◌, nat_lt, nat_eq, length, List, [], Option, None, Some, option_map}
 use Rattle.std.specs.HashMap.{HashMap}
 use Rattle.std.specs.List.{list_any}
 use Rattle.std.specs.HashSet.{HashSet}
@@ -50,6 +50,14 @@ KeepsTypes old new = (n : ℕ) (ids : List Id) → type_at old n ≡ Some ids �
 abbrev pub is_found : Pattern → Option TableState → Bool
 is_found p None = false
 is_found p (Some t) = nat_lt 0 (length t.rows) && list_any (pattern_matches p) t.ids
+
+-- some table is found
+abbrev pub FindsSome : Pattern → List (Option TableState) → Type 0
+FindsSome p slots = (n : ℕ) × IsTrue (is_found p (slot_of slots n))
+
+-- some table in a slot below the bound is found
+abbrev pub FindsBelow : Pattern → List (Option TableState) → ℕ → Type 0
+FindsBelow p slots bound = (n : ℕ) × (n < bound) × IsTrue (is_found p (slot_of slots n))
 
 -- each slot that is found is among these
 abbrev pub Covers : Pattern → List (Option TableState) → List ℕ → Type 0

@@ -4,3 +4,4 @@ pub mod Archetypes
 pub mod Seats
 pub mod Placing
 pub mod Store
+pub mod Holders

@@ -9,7 +9,7 @@ use Rattle.eco_ids.specs.Outcome.{first_refusal, Refuses, Answers}
 use Rattle.eco_ids.specs.declared.refusal.Refusal.{Refusal}
 use Rattle.eco_ids.specs.declared.refusal.Refusal.TheVariants.{NotAlive, BadName, NameTaken}
 use Rattle.eco_ids.specs.World.{zeros}
-use Rattle.eco_tables.specs.Table.{TableState, Row}
+use Rattle.eco_tables.specs.Table.{TableState, Row, RowsHaveIds}
 use Rattle.eco_entities.specs.declared.place.Place.{Place}
 use Rattle.eco_entities.specs.Registration.{Registration}
 use Rattle.eco_tables.specs.Tables.{table_in}
@@ -131,9 +131,10 @@ abbrev pub Stands : Option Kept → TableState → ℕ → Type 0
 Stands None t row = ⊥
 Stands (Some k) t row = StandsAt k t row
 
--- the tables in these slots show the store: each row is a living entity's, with what that holds, and each living entity
--- has exactly one row
+-- the tables in these slots show the store: each row is a living entity's, with what that holds, each living entity has
+-- exactly one row, and a row has a value for each id of its table's type
 pub record IsShown (w : Indexed Kept) (slots : List (Option TableState)) : Type 0 where
   pub rows : (n row : ℕ) (r : Row) → row_at slots n row ≡ Some r → Stands (record_of w r.entity) (table_in slots n) row
   pub living : (e : Entity) (k : Kept) → record_of w e ≡ Some k → (n : ℕ) × (row : ℕ) × (r : Row) × (row_at slots n row ≡ Some r) × (r.entity ≡ e)
   pub once : (n row m other : ℕ) (r x : Row) → row_at slots n row ≡ Some r → row_at slots m other ≡ Some x → r.entity ≡ x.entity → (n ≡ m) × (row ≡ other)
+  pub own : (n : ℕ) → RowsHaveIds (table_in slots n)

@@ -1,11 +1,11 @@
 //! The tables of a store, one for each type, found by type and by the entities that types name.
-ghost use Rattle.std.specs.Prelude.{◌≡◌, ◌≢◌, ◌&&◌, nat_lt, nat_eq, filter, List, ℕ, ◌<◌, ◌≤◌, ◌∷◌, [], length, slice_get, slice_set, Some, None, IsSome, IfOk, IfSome, IfNone, OnOk, OnErr, OnSome, is_some};
+ghost use Rattle.std.specs.Prelude.{◌≡◌, ◌≢◌, ◌↔◌, ◌&&◌, nat_lt, nat_eq, filter, List, ℕ, ◌<◌, ◌≤◌, ◌∷◌, [], length, slice_get, slice_set, Some, None, IsSome, IsTrue, IfOk, IfSome, IfNone, OnOk, OnErr, OnSome, is_some};
 ghost use Rattle.std.specs.List.{list_any, IsDistinct};
 ghost use Rattle.eco_ids.specs.declared.id.Id.{Id as Ids};
 ghost use Rattle.eco_tables.specs.Column.{value_in, with_held};
 ghost use Rattle.eco_tables.specs.Table.{TableState, Row, entities_of};
 ghost use Rattle.eco_tables.specs.Tables.{slot_of, table_in, row_in, Sets, Moves, with_row, without_row, rowless_type};
-ghost use Rattle.eco_store.specs.Archetypes.{type_at, new_table, SameSlots, KeepsTypes, is_found, named_by, named_part};
+ghost use Rattle.eco_store.specs.Archetypes.{type_at, new_table, SameSlots, KeepsTypes, is_found, FindsSome, FindsBelow, named_by, named_part};
 ghost use Rattle.eco_store.specs.Seats.{SameRows};
 
 use crate::id_index::IdIndex;
@@ -179,6 +179,36 @@ impl Archetypes {
             Some(entity) => self.found_among(self.by_id.slots(entity), pattern),
             None => self.found_below(self.tables.slot_bound(), pattern),
         }
+    }
+
+    /// Whether some table has rows and a type with an id that the pattern matches. Where the pattern names an entity, it
+    /// looks alone at tables whose types name that entity.
+    pub fn is_held(&self, pattern: Pattern) -> bool
+        ensures { IsTrue result ↔ FindsSome pattern self.now }
+    {
+        match named_by(pattern) {
+            Some(entity) => self.finds_among(self.by_id.slots(entity), pattern),
+            None => self.finds_below(self.tables.slot_bound(), pattern),
+        }
+    }
+
+    // Whether one of the slots is found.
+    fn finds_among(&self, slots: &[usize], pattern: Pattern) -> bool
+        ensures { result ≡ list_any (λ n. is_found pattern (slot_of self.now n)) slots.now }
+    {
+        slots.iter().any(|slot| self.is_found(*slot, pattern))
+    }
+
+    // Whether a slot below the bound is found.
+    fn finds_below(&self, bound: usize, pattern: Pattern) -> bool
+        ensures { IsTrue result ↔ FindsBelow pattern self.now bound }
+    {
+        for candidate in 0..bound {
+            if self.is_found(candidate, pattern) {
+                return true;
+            }
+        }
+        false
     }
 
     // The table in the slot is one of those.

@@ -1,9 +1,51 @@
-//! The tables that a pattern finds.
+//! The tables that a pattern finds, and who stands in them.
+ghost use Rattle.std.specs.Prelude.{◌≡◌, IfOk};
+ghost use Rattle.std.specs.List.Sorted.{IsPermutation, IsSorted};
+ghost use Rattle.eco_ids.specs.Order.{entity_cmp};
+ghost use Rattle.eco_tables.specs.Table.{entities_of};
+ghost use Rattle.eco_tables.specs.Tables.{table_in};
+ghost use Rattle.eco_store.specs.Holders.{standing_in};
+
+use eco_ids::Entity;
 use eco_tables::Tables;
+use std::alloc::{AllocError, Global};
 
 /// All tables of a store, and the slots of those that were found, each once, in any order.
 #[derive(Drop)]
 pub struct Found<'a> {
     pub tables: &'a Tables,
     pub slots: Vec<usize>,
+}
+
+impl Found<'_> {
+    /// The entities that stand in the found tables, in their order. An `Err` comes where memory is refused.
+    pub fn entities(&self, alloc: Global) -> Result<Vec<Entity>, AllocError>
+        ensures all { IfOk result (λ v. IsPermutation (standing_in self.now.tables.now self.now.slots.items) v.items) }
+        ensures sorted { IfOk result (λ v. IsSorted entity_cmp v.items) }
+    {
+        let mut entities = self.gather(alloc)?;
+        entities.sort_unstable();
+        Ok(entities)
+    }
+
+    // The entities that stand in the found tables, table by table.
+    fn gather(&self, alloc: Global) -> Result<Vec<Entity>, AllocError>
+        ensures { IfOk result (λ v. v.items ≡ standing_in self.now.tables.now self.now.slots.items) }
+    {
+        let mut entities = Vec::new(alloc);
+        for slot in &self.slots {
+            entities.extend_from_slice(entities_at(self.tables, *slot))?;
+        }
+        Ok(entities)
+    }
+}
+
+// The entities that stand in the table in a slot; none, where the slot is empty.
+fn entities_at(tables: &Tables, slot: usize) -> &[Entity]
+    ensures { result.now ≡ entities_of (table_in tables.now slot).rows }
+{
+    match tables.get(slot) {
+        Some(table) => table.rows(),
+        None => &[],
+    }
 }

@@ -3,7 +3,7 @@ ghost use Rattle.std.specs.Prelude.{◌≡◌, ◌≤◌, ◌<◌, ◌&&◌, nat
 ghost use Rattle.std.specs.Option.{option_copied};
 ghost use Rattle.std.specs.FinMap.Entries.{find};
 ghost use Rattle.eco_ids.specs.Births.{unfit_name, Makes, may_make, Admits, may_admit, RevivesWith};
-ghost use Rattle.eco_ids.specs.Indices.{is_alive, is_free_at, next_entity, with_death, record_of};
+ghost use Rattle.eco_ids.specs.Indices.{is_alive, is_free_at, living, next_entity, with_death, record_of};
 ghost use Rattle.eco_ids.specs.Names.{bearer};
 ghost use Rattle.eco_ids.specs.Order.{id_cmp, is_ascending};
 ghost use Rattle.eco_ids.specs.Outcome.{Meets};
@@ -13,6 +13,7 @@ ghost use Rattle.eco_store.specs.Archetypes.{type_at, is_found};
 ghost use Rattle.std.specs.List.{list_any, IsDistinct};
 ghost use Rattle.eco_ids.specs.declared.id.Id.{Id as Ids};
 ghost use Rattle.eco_entities.specs.Registration.{entity_at, name_of, with_change, placed};
+ghost use Rattle.eco_store.specs.Holders.{has_match, holders};
 ghost use Rattle.eco_store.specs.Placing.{fixed, Opposes};
 ghost use Rattle.eco_store.specs.Store.{with_holding, held_by, kept_name, newborn, own_name, type_of, Renames, may_rename, Stands, IsShown};
 
@@ -180,7 +181,9 @@ impl Store {
         ensures shown { IsShown self.now result.now }
         ensures kinds { (n m : ℕ) (ids : List Ids) → type_at result.now n ≡ Some ids → type_at result.now m ≡ Some ids → n ≡ m }
     {
-        self.archetypes.tables()
+        let tables = self.archetypes.tables();
+        tables.rows_have_ids();
+        tables
     }
 
     /// The tables that have rows and a type with an id that the pattern matches. An `Err` comes where memory is refused.
@@ -190,10 +193,29 @@ impl Store {
         ensures distinct { IfOk result (λ f. IsDistinct nat_eq f.slots.items) }
     {
         let slots = self.archetypes.tables_with(pattern)?;
-        Ok(Found {
-            tables: self.archetypes.tables(),
-            slots,
-        })
+        let tables = self.archetypes.tables();
+        tables.rows_have_ids();
+        Ok(Found { tables, slots })
+    }
+
+    /// Whether some living entity has an id that the pattern matches. Where the pattern names an entity, it looks alone at
+    /// tables whose types name that entity, and it stops at the first that is found. It takes no memory.
+    pub fn is_held(&self, pattern: Pattern) -> bool
+        ensures { result ≡ list_any (λ p. has_match pattern p.1) (living self.now) }
+    {
+        self.archetypes.tables().rows_have_ids();
+        self.archetypes.is_held(pattern)
+    }
+
+    /// The living entities that have an id which the pattern matches, ascending. Its time grows with how many they are,
+    /// and with the tables whose types name the pattern's entity. An `Err` comes where memory is refused.
+    pub fn holders(&self, pattern: Pattern) -> Result<Vec<Entity>, AllocError>
+        ensures { IfOk result (λ v. v.items ≡ holders self.now pattern) }
+    {
+        eco_ids::order::handles_are_ordered();
+        eco_ids::order::ascending_lists_are_sets();
+        let found = self.tables_with(pattern)?;
+        found.entities(self.alloc)
     }
 
     /// What stands against a new entity of this name, or none: `BadName` where it is no name, `NameTaken` where a living

@@ -29,6 +29,18 @@ fn tables_are_found(rt: HostRuntime) -> Result<(), Fail> {
 }
 
 #[test]
+fn holders_are_found(rt: HostRuntime) -> Result<(), Fail> {
+    let mut store = Store::new(rt.alloc(), 16);
+    let nothing = TypeList::empty(rt.alloc());
+    let tag = store.create(None, &nothing)?;
+    let e = store.create(None, &nothing.with(Id::One(tag))?)?;
+    assert!(rt; store.is_held(Pattern::One(tag)));
+    assert!(rt; !store.is_held(Pattern::One(e)));
+    assert_eq!(rt; store.holders(Pattern::One(tag))?.as_slice(), [e].as_slice());
+    Ok(())
+}
+
+#[test]
 fn a_name_is_found(rt: HostRuntime) -> Result<(), Fail> {
     let mut store = Store::new(rt.alloc(), 16);
     let e = store.create(None, &TypeList::empty(rt.alloc()))?;

@@ -1,0 +1,9 @@
+use Rattle.eco_store.proofs.Holders.{held_is}
+use Rattle.eco_store.proofs.Values.{shows}
+use Rattle.eco_store.proofs.store.Store.is_held.Goals as goal
+
+pub returns : goal.returns
+returns c =
+    rw (← c.self.view_is)
+    (held_is _ c.self.inside.archetypes c.args.pattern
+    (shows c.self.inside.entities c.self.inside.archetypes c.self.invariant (rw c.tables.ensures.same at c.rows_have_ids.ensures)) c.is_held.result c.is_held.ensures)

@@ -19,5 +19,5 @@ mod written;
 
 pub use access::Access;
 pub use names::Names;
-pub use query::{Query, Slot, Term};
+pub use query::{Query, Slot, Term, exactly};
 pub use read::{read_id, read_query, read_ref};

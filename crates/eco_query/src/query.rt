@@ -38,7 +38,7 @@ pub struct Query {
 }
 
 /// The pattern that an id alone matches.
-fn exactly(id: Id) -> Pattern
+pub fn exactly(id: Id) -> Pattern
     ensures { result ≡ queries.exactly id }
 {
     match id {

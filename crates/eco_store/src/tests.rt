@@ -36,7 +36,10 @@ fn holders_are_found(rt: HostRuntime) -> Result<(), Fail> {
     let e = store.create(None, &nothing.with(Id::One(tag))?)?;
     assert!(rt; store.is_held(Pattern::One(tag)));
     assert!(rt; !store.is_held(Pattern::One(e)));
-    assert_eq!(rt; store.holders(Pattern::One(tag))?.as_slice(), [e].as_slice());
+    assert_eq!(rt;
+        store.holders(Pattern::One(tag))?.as_slice(),
+        [e].as_slice()
+    );
     Ok(())
 }
 

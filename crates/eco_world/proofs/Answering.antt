@@ -1,8 +1,6 @@
--- What a query of one term answers of one entity.
-use Rattle.std.proofs.Common.{◌≡◌, ℕ, ◌+◌, ◌<◌, length, drop, unwrap_or, option_map, Bool, true, false, cond, not, ◌&&◌, ◌||◌, List, [], ◌∷◌, ◌++◌, map, filter, flat_map, Option, Some, None, refl, sym, ap, ◌∙◌, subst, Less, Equal, Greater, is_eq, is_lt, is_some, IsTrue, T}
+-- What a query of one term answers.
+use Rattle.std.proofs.Common.{◌≡◌, ℕ, suc, ◌+◌, Bool, true, false, cond, not, ◌&&◌, ◌||◌, List, [], ◌∷◌, ◌++◌, map, filter, flat_map, slice_get, Option, Some, refl, sym, ap, ◌∙◌, subst, Less, Equal, Greater, is_eq, is_lt, is_some, IsTrue, T}
 use Rattle.std.specs.List.{list_any}
-use Rattle.std.specs.Option.{option_and_then}
-use Rattle.std.proofs.lemmas.Option.{option_and_then_some, cond_some, none-some}
 use Rattle.std.specs.FinMap.Entries.{find, is_sorted, below_all}
 use Rattle.std.specs.Cmp.{tied_itself}
 use Rattle.std.specs.Ordering.{ordering_then}
@@ -11,15 +9,20 @@ use Rattle.eco_ids.specs.declared.id.Id.{Id}
 use Rattle.eco_ids.specs.declared.id.Id.TheVariants as id
 use Rattle.eco_ids.specs.declared.pattern.Pattern.{Pattern}
 use Rattle.eco_ids.specs.declared.value.Value.{Value}
-use Rattle.eco_ids.specs.Answer.{is_least_match, same_filling, Plain, Asked, entries_of, choices, Row as Result}
+use Rattle.eco_ids.specs.Answer.{answer, is_least_match, same_filling, Plain, Asked, entries_of, choices, Row as Result}
 use Rattle.eco_ids.specs.Matching.{pattern_matches}
 use Rattle.eco_ids.specs.Order.{id_cmp, id_eq, entity_cmp}
-use Rattle.eco_ids.specs.Indices.{record_of}
-use Rattle.eco_ids.specs.World.{WorldState, Record, has}
+use Rattle.eco_ids.specs.Indices.{Indexed, IndexState, Retired, Free, Living, living_from, record_of}
+use Rattle.eco_ids.specs.World.{WorldState, Record}
+use Rattle.eco_query.specs.Queries.{exactly}
+use Rattle.eco_store.specs.Holders as store
+use Rattle.eco_store.specs.Holders.{has_match}
+use Rattle.eco_store.specs.Store.{Kept}
+use Rattle.eco_store.proofs.Views.{record_at}
 use Rattle.eco_traits.specs.Same.{id_eq_is, id_cmp_total}
-use Rattle.eco_world.specs.Queries.{exactly, term_of, holder_at}
-use Rattle.eco_entities.specs.Registration.{entity_at}
-use Rattle.eco_world.proofs.Walk.{walk, walk_some, walk_none}
+use Rattle.eco_world.specs.Joined.{arity_at, later, record_for, joined, world_of}
+use Rattle.eco_world.specs.Queries.{term_of, holders}
+use Rattle.eco_world.proofs.Held.{keys}
 
 -- the pattern matches the id alone
 matches_exactly : (i j : Id) → pattern_matches (exactly i) j ≡ id_eq i j
@@ -104,33 +107,64 @@ one_result i e r up =
     ap (λ (es : List (Option Id)). map (result e) (flat_map (λ (x : Option Id). map (λ (rest : List (Option Id)). x ∷ rest) ([] ∷ [])) es)) (one_entry i r.held up)
     ∙ elim (is_some (find id_cmp i r.held)) as (λ b. map (result e) (flat_map (λ (x : Option Id). map (λ (rest : List (Option Id)). x ∷ rest) ([] ∷ [])) (cond b (Some i ∷ []) [])) ≡ cond b (result e (Some i ∷ []) ∷ []) []) [ true ↦ refl | false ↦ refl ]
 
-module _ (w : WorldState) (i : Id) (k : ℕ) (within : k < length w.indices) (sorted : (e : Entity) (r : Record) → record_of w e ≡ Some r → T (is_sorted id_cmp r.held)) where
-  has_is : (e : Entity) (r : Record) → record_of w e ≡ Some r → has w e i ≡ is_some (find id_cmp i r.held)
-  has_is e r at = ap (λ o. is_some (find id_cmp i (unwrap_or (option_map (λ (d : Record). d.held) o) []))) at
+-- ---- all of them
 
-  one : (e : Entity) (b : Bool) → entity_at w k ≡ Some e → has w e i ≡ b →
-      walk (results (term_of i)) k (drop k w.indices) ≡ cond b (result e (Some i ∷ []) ∷ []) [] ++ walk (results (term_of i)) (k + 1) (drop (k + 1) w.indices)
-  one e b some had =
-      let more = walk_some (results (term_of i)) w k within e some in
-      more.2 ∙ ap (λ xs. xs ++ walk (results (term_of i)) (k + 1) (drop (k + 1) w.indices)) (one_result i e more.0 (sorted e more.0 more.1) ∙ ap (λ b. cond b (result e (Some i ∷ []) ∷ []) []) (sym (has_is e more.0 more.1) ∙ had))
+-- the result of one who has the id
+abbrev pub holding : Id → Entity → Result
+holding i e = result e (Some i ∷ [])
 
-  -- at an index whose entity has the id there is one result
-  pub walk_holder : (e : Entity) → holder_at w k i ≡ Some e →
-      walk (results (term_of i)) k (drop k w.indices) ≡ (result e (Some i ∷ []) ∷ []) ++ walk (results (term_of i)) (k + 1) (drop (k + 1) w.indices)
-  walk_holder e some = option_and_then_some (λ x. cond (has w x i) (Some x) None) (entity_at w k) e some
-      (λ x at kept. let both = cond_some (has w x i) x e kept in subst (λ y. walk (results (term_of i)) k (drop k w.indices) ≡ (result y (Some i ∷ []) ∷ []) ++ walk (results (term_of i)) (k + 1) (drop (k + 1) w.indices)) both.1 (one x true at both.0))
+-- what each of the living has is in order
+abbrev Sorted : List (IndexState Record) → Type 0
+Sorted xs = (k g : ℕ) (r : Record) → slice_get xs k ≡ Some (Living g r) → T (is_sorted id_cmp r.held)
 
-  -- at another index there is none
-  pub walk_no_holder : holder_at w k i ≡ None → walk (results (term_of i)) k (drop k w.indices) ≡ walk (results (term_of i)) (k + 1) (drop (k + 1) w.indices)
-  walk_no_holder none = go (entity_at w k) refl
-    where
-      lacks : (e : Entity) → entity_at w k ≡ Some e → has w e i ≡ false
-      lacks e at = go (has w e i) refl
-        where
-          go : (b : Bool) → has w e i ≡ b → b ≡ false
-          go true h = absurd (none-some e (sym none ∙ ap (option_and_then (λ x. cond (has w x i) (Some x) None)) at ∙ ap (λ b. cond b (Some e) None) h))
-          go false h = refl
+answered : (i : Id) (n : ℕ) (xs : List (IndexState Record)) → Sorted xs →
+    flat_map (results (term_of i)) (living_from n xs) ≡ map (holding i) (map (λ (p : Entity × Record). p.0) (filter (λ (p : Entity × Record). is_some (find id_cmp i p.1.held)) (living_from n xs)))
+answered i n [] sorted = refl
+answered i n (Retired ∷ xs) sorted = answered i (n + 1) xs (λ k. sorted (suc k))
+answered i n (Free g ∷ xs) sorted = answered i (n + 1) xs (λ k. sorted (suc k))
+answered i n (Living g r ∷ xs) sorted =
+    let e : Entity = record { index = n; generation = g } in
+    ap (λ zs. zs ++ flat_map (results (term_of i)) (living_from (n + 1) xs)) (one_result i e r (sorted 0 g r refl))
+    ∙ by e (is_some (find id_cmp i r.held)) (answered i (n + 1) xs (λ k. sorted (suc k)))
+  where
+    by : (e : Entity) (b : Bool)
+        → flat_map (results (term_of i)) (living_from (n + 1) xs) ≡ map (holding i) (map (λ (p : Entity × Record). p.0) (filter (λ (p : Entity × Record). is_some (find id_cmp i p.1.held)) (living_from (n + 1) xs)))
+        → cond b (holding i e ∷ []) [] ++ flat_map (results (term_of i)) (living_from (n + 1) xs)
+        ≡ map (holding i) (map (λ (p : Entity × Record). p.0) (cond b ((e, r) ∷ filter (λ (p : Entity × Record). is_some (find id_cmp i p.1.held)) (living_from (n + 1) xs)) (filter (λ (p : Entity × Record). is_some (find id_cmp i p.1.held)) (living_from (n + 1) xs))))
+    by e true rest = ap (λ zs. holding i e ∷ zs) rest
+    by e false rest = rest
 
-      go : (o : Option Entity) → entity_at w k ≡ o → walk (results (term_of i)) k (drop k w.indices) ≡ walk (results (term_of i)) (k + 1) (drop (k + 1) w.indices)
-      go None at = walk_none (results (term_of i)) w k within at
-      go (Some e) at = one e false at (lacks e at)
+-- the answer has one result for each who has the id
+pub answer_is : (w : WorldState) (i : Id) → ((e : Entity) (r : Record) → record_of w e ≡ Some r → T (is_sorted id_cmp r.held)) → answer w (term_of i) ≡ map (holding i) (holders w i)
+answer_is w i sorted = answered i 0 w.indices (λ k g r at. sorted (record { index = k; generation = g }) r (record_at w (record { index = k; generation = g }) r at))
+
+-- ---- as a store finds them
+
+-- the pattern of the id matches where the id is held
+pub exactly_held : (i : Id) (held : List (Id × Value)) → list_any (pattern_matches (exactly i)) (keys held) ≡ is_some (find id_cmp i held)
+exactly_held i [] = refl
+exactly_held i (h ∷ held) =
+    ap (λ b. b || list_any (pattern_matches (exactly i)) (keys held)) (matches_exactly i h.0)
+    ∙ elim (id_eq i h.0) as (λ b. (b || list_any (pattern_matches (exactly i)) (keys held)) ≡ is_some (cond b (Some h.1) (find id_cmp i held))) [ true ↦ refl | false ↦ exactly_held i held ]
+
+found : (i : Id) (n : ℕ) (xs : List (IndexState Kept)) (arities : List (Option ℕ)) →
+    map (λ (p : Entity × Kept). p.0) (filter (λ (p : Entity × Kept). has_match (exactly i) p.1) (living_from n xs))
+    ≡ map (λ (p : Entity × Record). p.0) (filter (λ (p : Entity × Record). is_some (find id_cmp i p.1.held)) (living_from n (joined xs arities)))
+found i n [] arities = refl
+found i n (Retired ∷ xs) arities = found i (n + 1) xs (later arities)
+found i n (Free g ∷ xs) arities = found i (n + 1) xs (later arities)
+found i n (Living g k ∷ xs) arities =
+    ap (λ b. map (λ (p : Entity × Kept). p.0) (cond b ((record { index = n; generation = g }, k) ∷ filter (λ (p : Entity × Kept). has_match (exactly i) p.1) (living_from (n + 1) xs)) (filter (λ (p : Entity × Kept). has_match (exactly i) p.1) (living_from (n + 1) xs)))) (exactly_held i k.held)
+    ∙ by (record { index = n; generation = g }) (is_some (find id_cmp i k.held)) (found i (n + 1) xs (later arities))
+  where
+    by : (e : Entity) (b : Bool)
+        → map (λ (p : Entity × Kept). p.0) (filter (λ (p : Entity × Kept). has_match (exactly i) p.1) (living_from (n + 1) xs))
+        ≡ map (λ (p : Entity × Record). p.0) (filter (λ (p : Entity × Record). is_some (find id_cmp i p.1.held)) (living_from (n + 1) (joined xs (later arities))))
+        → map (λ (p : Entity × Kept). p.0) (cond b ((e, k) ∷ filter (λ (p : Entity × Kept). has_match (exactly i) p.1) (living_from (n + 1) xs)) (filter (λ (p : Entity × Kept). has_match (exactly i) p.1) (living_from (n + 1) xs)))
+        ≡ map (λ (p : Entity × Record). p.0) (cond b ((e, record_for (arity_at arities 0) k) ∷ filter (λ (p : Entity × Record). is_some (find id_cmp i p.1.held)) (living_from (n + 1) (joined xs (later arities)))) (filter (λ (p : Entity × Record). is_some (find id_cmp i p.1.held)) (living_from (n + 1) (joined xs (later arities)))))
+    by e true rest = ap (λ es. e ∷ es) rest
+    by e false rest = rest
+
+-- whom the store finds by the id's pattern has the id in the world
+pub holders_joined : (i : Id) (w : Indexed Kept) (arities : List (Option ℕ)) → store.holders w (exactly i) ≡ holders (world_of w arities) i
+holders_joined i w arities = found i 0 w.indices arities

@@ -1,23 +1,14 @@
 -- What a query asks and answers.
-use Rattle.std.specs.Prelude.{ℕ, Bool, false, List, [], ◌∷◌, Option, Some, None, option_and_then, if◌then◌else◌}
+use Rattle.std.specs.Prelude.{List, [], ◌∷◌, map, filter, is_some}
+use Rattle.std.specs.FinMap.Entries.{find}
 use Rattle.eco_ids.specs.declared.entity.Entity.{Entity}
 use Rattle.eco_ids.specs.declared.id.Id.{Id}
-use Rattle.eco_ids.specs.declared.id.Id.TheVariants as id
-use Rattle.eco_ids.specs.declared.pattern.Part.TheVariants.{Is}
-use Rattle.eco_ids.specs.declared.pattern.Pattern.{Pattern}
-use Rattle.eco_ids.specs.declared.pattern.Pattern.TheVariants.{One, Two}
-use Rattle.std.specs.List.{list_any}
-use Rattle.eco_ids.specs.Matching.{pattern_matches}
-use Rattle.eco_world.specs.Retyped.{type_of}
 use Rattle.eco_ids.specs.Answer.{Asked, Plain, Row as Result}
-use Rattle.eco_ids.specs.World.{WorldState, has}
-use Rattle.eco_entities.specs.Registration.{entity_at}
+use Rattle.eco_ids.specs.Indices.{living}
+use Rattle.eco_ids.specs.Order.{id_cmp}
+use Rattle.eco_ids.specs.World.{WorldState}
+use Rattle.eco_query.specs.Queries.{exactly}
 use Rattle.eco_world.specs.declared.query.Row.{Row}
-
--- the pattern that this id alone matches
-abbrev pub exactly : Id → Pattern
-exactly (id.One e) = One e
-exactly (id.Two r t) = Two (Is r) (Is t)
 
 -- one plain term: the entities that have the id
 abbrev pub term_of : Id → List Asked
@@ -27,11 +18,6 @@ term_of i = Plain (exactly i) ∷ []
 abbrev pub result_of : Row → Result
 result_of row = record { entity = row.entity; entries = row.entries.items }
 
--- who lives at the index, if they have the id
-abbrev pub holder_at : WorldState → ℕ → Id → Option Entity
-holder_at w k i = option_and_then (λ e. if has w e i then Some e else None) (entity_at w k)
-
--- whether an entity, if there is one, has an id that matches
-abbrev pub matches_of : WorldState → Pattern → Option Entity → Bool
-matches_of w p None = false
-matches_of w p (Some e) = list_any (pattern_matches p) (type_of w e)
+-- the living entities that have the id, ascending
+abbrev pub holders : WorldState → Id → List Entity
+holders w i = map (λ p. p.0) (filter (λ p. is_some (find id_cmp i p.1.held)) (living w))

@@ -15,15 +15,14 @@ ghost use Rattle.eco_ids.specs.Step.{own_name};
 ghost use Rattle.eco_ids.specs.World.{first_world, has, held_by};
 ghost use Rattle.eco_entities.specs.Registration.{entity_at};
 ghost use Rattle.eco_traits.specs.Target.{type_of_record};
-ghost use Rattle.eco_world.specs.Queries.{matches_of, result_of, holder_at};
-ghost use Rattle.eco_world.specs.Retyped.{type_of};
+ghost use Rattle.eco_world.specs.Queries.{result_of, holders};
 
 use crate::arities;
 use crate::builtins::builtin_store;
 use crate::query::{Query, Row};
 use eco_ids::entity::BUILTIN_COUNT;
 use eco_ids::{Entity, Id, Pattern, Refusal, TypeList, Value};
-use eco_query::Names;
+use eco_query::{Names, exactly};
 use eco_store::Store;
 use std::alloc::{AllocError, Global};
 use std::marker::Model;
@@ -179,7 +178,8 @@ impl World {
         Ok(entities)
     }
 
-    /// The results of the query, ascending by entity: who has the id that it asks for (Flecs manual, Queries).
+    /// The results of the query, ascending by entity: who has the id that it asks for (Flecs manual, Queries). Its time
+    /// grows with how many they are, and with the tables whose types name the id's entity.
     ///
     /// Refused with `OutOfMemory` alone.
     pub fn query(&self, query: &Query) -> Result<Vec<Row>, Refusal>
@@ -189,11 +189,10 @@ impl World {
         self.is_lawful();
         let alloc = self.alloc;
         let id = query.id();
+        let holders = self.holders(id)?;
         let mut rows = Vec::new(alloc);
-        for index in 0..self.high() {
-            if let Some(entity) = self.holder_at(index, id) {
-                rows.push(Row::of_one(alloc, entity, id)?)?;
-            }
+        for entity in &holders {
+            rows.push(Row::of_one(alloc, *entity, id)?)?;
         }
         Ok(rows)
     }
@@ -233,29 +232,14 @@ impl World {
     fn is_held(&self, pattern: Pattern) -> bool
         ensures { result ≡ list_any (λ p. list_any (pattern_matches pattern) (type_of_record p.1)) (living self.now) }
     {
-        for index in 0..self.high() {
-            if self.matches_at(index, pattern) {
-                return true;
-            }
-        }
-        false
+        self.store.is_held(pattern)
     }
 
-    // Whether who lives at the index has an id that matches.
-    fn matches_at(&self, index: u32, pattern: Pattern) -> bool
-        ensures { result ≡ matches_of self.now pattern (entity_at self.now index) }
+    // The living entities that have the id, ascending.
+    fn holders(&self, id: Id) -> Result<Vec<Entity>, AllocError>
+        ensures { IfOk result (λ entities. entities.items ≡ holders self.now id) }
     {
-        match self.entity_at(index) {
-            Some(entity) => self.matches(entity, pattern),
-            None => false,
-        }
-    }
-
-    // Whether the entity has an id that matches.
-    fn matches(&self, entity: Entity, pattern: Pattern) -> bool
-        ensures { result ≡ list_any (pattern_matches pattern) (type_of self.now entity) }
-    {
-        self.ids_of(entity).iter().any(|id| pattern.matches(*id))
+        self.store.holders(exactly(id))
     }
 
     // Who lives at the index.
@@ -263,18 +247,6 @@ impl World {
         ensures { result ≡ entity_at self.now index }
     {
         self.store.entity_at(index)
-    }
-
-    // Who lives at the index and has the id.
-    fn holder_at(&self, index: u32, id: Id) -> Option<Entity>
-        ensures { result ≡ holder_at self.now index id }
-    {
-        let entity = self.entity_at(index)?;
-        if self.has(entity, id) {
-            Some(entity)
-        } else {
-            None
-        }
     }
 }
 

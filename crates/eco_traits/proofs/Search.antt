@@ -5,7 +5,7 @@ use Rattle.std.proofs.lemmas.List.{take_more, take-append-le}
 use Rattle.eco_ids.specs.declared.entity.Entity.{Entity}
 use Rattle.eco_ids.specs.Least.{Least, root, next}
 use Rattle.eco_ids.specs.Order.{entity_cmp, entity_eq, has_item}
-use Rattle.eco_traits.specs.Search.{noted, noted_all}
+use Rattle.eco_traits.specs.Search.{IsTurn, noted, noted_all}
 use Rattle.eco_traits.specs.Same.{same_truth, or_parts, or_left, or_right, entity_eq_is, entity_eq_itself, has_append, has_front, has_back, has_cases}
 
 abbrev pub Has : List Entity → Entity → Type 0
@@ -181,12 +181,6 @@ module _ (Leads : Entity → Entity → Type 0) (roots : List Entity) where
       all (next {a = c} {b = b} member edge) = s.closed c b (subst (λ xs. Has xs c) (sym whole) (all member)) edge
 
 -- ---- one turn: a member is asked, and what it leads to is noted
-
-pub record IsTurn (Leads : Entity → Entity → Type 0) (members : List Entity) (asked : ℕ) (members' : List Entity) : Type 0 where
-  pub found : List Entity
-  pub default : Entity
-  pub exact : (b : Entity) → Has found b ↔ Leads (get_or members asked default) b
-  pub noted : members' ≡ noted_all members found
 
 pub turn : (Leads : Entity → Entity → Type 0) (members slice cleared found shown members' : List Entity) (asked : ℕ) (d : Entity) → slice ≡ members → cleared ≡ [] → shown ≡ found
     → ((b : Entity) → Has found b ↔ (Has cleared b ⊎ Leads (get_or slice asked d) b)) → members' ≡ noted_all members shown → IsTurn Leads members asked members'

@@ -1,9 +1,9 @@
 //! The least set that holds the roots and whatever its members lead to.
-ghost use Rattle.std.specs.Prelude.{◌≡◌, ◌↔◌, ◌||◌, ◌⊎◌, List, IfOk, OnOk, IsTrue};
+ghost use Rattle.std.specs.Prelude.{◌≡◌, ◌<◌, ◌↔◌, ◌||◌, ◌⊎◌, length, List, IfOk, OnOk, IsTrue};
 ghost use Rattle.eco_ids.specs.declared.entity.Entity.{Entity as EntityData};
 ghost use Rattle.eco_ids.specs.Least.{Least};
 ghost use Rattle.eco_ids.specs.Order.{entity_cmp, has_item};
-ghost use Rattle.eco_traits.specs.Search.{noted, noted_all};
+ghost use Rattle.eco_traits.specs.Search.{IsTurn, noted, noted_all};
 
 use eco_ids::Entity;
 use indexmap::IndexSet;
@@ -39,13 +39,51 @@ pub fn least_set<G: Graph>(
     note_all(&mut members, roots)?;
     let mut asked = 0;
     while asked < members.len() {
-        let member = members.as_slice()[asked];
-        found.clear();
-        graph.append_next(member, &mut found)?;
-        note_all(&mut members, &found)?;
+        ask(graph, &mut members, asked, &mut found)?;
         asked += 1;
     }
     Ok(members)
+}
+
+/// Whether an entity is in the least set that holds the roots and, with each member, whatever it leads to.
+///
+/// It stops as soon as the entity is found. `AllocError` comes where the growth of the members is refused.
+pub fn is_in_least_set<G: Graph>(
+    alloc: Global,
+    graph: &G,
+    roots: &[Entity],
+    goal: Entity,
+) -> Result<bool, AllocError>
+    ensures { IfOk result (λ b. IsTrue b ↔ Least (λ root. IsTrue (has_item entity_cmp roots.now root)) (G.leads graph.now) goal) }
+{
+    let mut members = IndexSet::new(alloc);
+    let mut found = Vec::new(alloc);
+    note_all(&mut members, roots)?;
+    let mut asked = 0;
+    while !members.contains(&goal) {
+        if asked == members.len() {
+            return Ok(false);
+        }
+        ask(graph, &mut members, asked, &mut found)?;
+        asked += 1;
+    }
+    Ok(true)
+}
+
+// The member at a place is asked what it leads to, which is listed in `found` and then noted.
+fn ask<G: Graph>(
+    graph: &G,
+    members: &mut IndexSet<Entity>,
+    asked: usize,
+    found: &mut Vec<Entity>,
+) -> Result<(), AllocError>
+    requires { asked < length members.old.keys }
+    ensures { OnOk result (IsTurn (G.leads graph.now) members.old.keys asked members.new.keys) }
+{
+    let member = members.as_slice()[asked];
+    found.clear();
+    graph.append_next(member, found)?;
+    note_all(members, found)
 }
 
 fn note_all(members: &mut IndexSet<Entity>, entities: &[Entity]) -> Result<(), AllocError>

@@ -9,7 +9,7 @@ ghost use Rattle.eco_traits.specs.Known.{all_targets, target_is_known};
 ghost use Rattle.eco_traits.specs.Target.{target_by_pair};
 
 use crate::holdings::Holdings;
-use crate::least::{Graph, least_set};
+use crate::least::{Graph, is_in_least_set, least_set};
 use eco_ids::{Entity, Id};
 use indexmap::IndexSet;
 use std::alloc::{AllocError, Global};
@@ -83,7 +83,7 @@ pub fn reached<H: Holdings>(
 /// Whether a walk of pairs of the relationship leads from one entity to another. It leads from each to itself.
 ///
 /// A longer walk ends with a pair that names the goal. So nothing is walked where nobody has such a pair, and that takes
-/// no memory.
+/// no memory. A walk stops as soon as it meets the goal.
 pub fn reaches<H: Holdings>(
     alloc: Global,
     holdings: &H,
@@ -99,8 +99,11 @@ pub fn reaches<H: Holdings>(
     if !holdings.is_target(relationship, goal) {
         return Ok(false);
     }
-    let members = reached(alloc, holdings, relationship, from)?;
-    Ok(members.contains(&goal))
+    let pairs = Pairs {
+        holdings,
+        relationship,
+    };
+    is_in_least_set(alloc, &pairs, &[from], goal)
 }
 
 /// Whether the entity lives and has the id.

@@ -1,6 +1,6 @@
 use Rattle.std.proofs.Common.{◌<◌, sym, ap, subst, ◌∙◌, length, arith}
 use Rattle.eco_traits.specs.Search.{noted_all}
-use Rattle.eco_traits.proofs.Search.{IsSearch, search_starts, search_ends, turn, turn_goes_on, turn_pays}
+use Rattle.eco_traits.proofs.Search.{IsSearch, search_starts, search_ends, turn_goes_on, turn_pays}
 use Rattle.eco_traits.proofs.least.least_set.Goals as goal
 
 pub loop-asked-init : goal.loop-asked-init
@@ -13,15 +13,13 @@ loop-asked-init g c =
 pub loop-asked-smaller : goal.loop-asked-smaller
 loop-asked-smaller g c =
     let within : c.loop-asked.asked < length c.loop-asked.members.keys = omega (arith, c.len.ensures.len, c.loop-asked-test.true) in
-    turn_pays (g.G.Graph.leads c.args.graph.now) (g.G.Graph.nodes c.args.graph.now) c.loop-asked.members.keys c.loop-asked.asked c.note_all-in-loop-asked.new.members.keys
-    (turn _ _ _ _ _ _ _ _ _ c.as_slice.ensures.keys c.clear.ensures.items c.deref.ensures.value c.in_ok-append_next.ensures c.in_ok-note_all-2.ensures)
+    turn_pays (g.G.Graph.leads c.args.graph.now) (g.G.Graph.nodes c.args.graph.now) c.loop-asked.members.keys c.loop-asked.asked c.ask.new.members.keys c.in_ok-ask.ensures
     (g.met.G.Graph.within c.args.graph.now) within
 
 pub loop-asked-preserved : goal.loop-asked-preserved
 loop-asked-preserved g c =
     let within : c.loop-asked.asked < length c.loop-asked.members.keys = omega (arith, c.len.ensures.len, c.loop-asked-test.true) in
-    turn_goes_on (g.G.Graph.leads c.args.graph.now) c.args.roots.now c.loop-asked.members.keys c.loop-asked.asked c.note_all-in-loop-asked.new.members.keys
-    (turn _ _ _ _ _ _ _ _ _ c.as_slice.ensures.keys c.clear.ensures.items c.deref.ensures.value c.in_ok-append_next.ensures c.in_ok-note_all-2.ensures)
+    turn_goes_on (g.G.Graph.leads c.args.graph.now) c.args.roots.now c.loop-asked.members.keys c.loop-asked.asked c.ask.new.members.keys c.in_ok-ask.ensures
     within c.loop-asked.invariant
 
 pub returns : goal.returns

@@ -1,6 +1,6 @@
-use Rattle.std.proofs.Common.{refl, sym, ◌∙◌}
+use Rattle.std.proofs.Common.{refl, sym}
 use Rattle.eco_ids.specs.Least.{root}
-use Rattle.eco_traits.specs.Same.{list_any-derived}
+use Rattle.eco_traits.proofs.Walks.{if_ok, from_one}
 use Rattle.eco_traits.proofs.walk.reaches.Goals as goal
 
 pub returns-then-is : goal.returns-then-is
@@ -8,6 +8,5 @@ returns-then-is g c = (λ h. root (sym (c.if-is.ensures.exact.0 refl)), λ h. re
 
 pub returns : goal.returns
 returns g c =
-    let is = c.contains.ensures ∙ list_any-derived c.in_ok-members.members.keys c.args.goal in
-    let exact = c.in_ok-members.ensures c.args.goal in
-    (λ h. exact.0 (sym is ∙ h), λ h. is ∙ exact.1 h)
+    let one = from_one (g.H.Holdings.world c.args.holdings.now) c.args.relationship c.args.from c.args.goal in
+    if_ok c.is_in_least_set.result (λ b is. (λ h. one.0 (is.0 h), λ h. is.1 (one.1 h))) c.is_in_least_set.ensures

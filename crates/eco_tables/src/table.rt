@@ -103,6 +103,25 @@ impl Table {
         Ok(())
     }
 
+    /// Room for so many rows more than there was room for. An `Err` keeps all rows and the room that was there.
+    pub fn reserve_more(&mut self, more: usize) -> Result<(), AllocError>
+        ensures same { self.new ≡ record self.old { room = self.new.room } }
+        ensures kept { self.old.room ≤ self.new.room }
+        ensures room { OnOk result (self.old.room + more ≤ self.new.room) }
+    {
+        match self.room.checked_add(more) {
+            Some(rows) => self.reserve(rows),
+            None => Err(AllocError),
+        }
+    }
+
+    /// Takes the promise of room back. The memory stays the table's, and the next rows go there.
+    pub fn waive(&mut self)
+        ensures { self.new ≡ record self.old { room = 0 } }
+    {
+        self.room = 0;
+    }
+
     /// A row for the entity, with the values of a row elsewhere: of ids that both types have; new ids hold zeros.
     pub fn push_row_from(&mut self, source: &Table, row: usize)
         requires room { 0 < self.old.room }

@@ -1,5 +1,5 @@
 //! Tables, each in a slot of its own.
-ghost use Rattle.std.specs.Prelude.{◌≡◌, ◌≢◌, ℕ, ◌<◌, ◌≤◌, [], ◌∷◌, length, slice_get, slice_index_or, slice_set, None, Some, IsSome, is_some, OnSome, IfNone, count_by, OnOk, OnErr, IfOk, option_copied};
+ghost use Rattle.std.specs.Prelude.{◌≡◌, ◌≢◌, ℕ, ◌<◌, ◌≤◌, ◌+◌, [], ◌∷◌, length, slice_get, slice_index_or, slice_set, None, Some, IsSome, is_some, OnSome, IfNone, count_by, OnOk, OnErr, IfOk, option_copied};
 ghost use Rattle.eco_tables.specs.Column.{value_in, with_held};
 ghost use Rattle.eco_tables.specs.Table.{TableState, Row, entities_of};
 ghost use Rattle.eco_tables.specs.Tables.{slot_of, table_in, row_in, no_row, Sets, Moves, with_row, without_row, rowless_type, AllHaveIds};
@@ -127,6 +127,26 @@ impl Tables {
     {
         let table = &mut self.slots[slot];
         table.reserve(more)
+    }
+
+    /// Room for so many rows more than a table had room for. An `Err` keeps all rows and the room that was there.
+    pub fn reserve_more(&mut self, slot: usize, more: usize) -> Result<(), AllocError>
+        requires { IsSome (slot_of self.old slot) }
+        ensures sets { Sets self.old self.new slot (Some (record (table_in self.old slot) { room = (table_in self.new slot).room })) }
+        ensures kept { (table_in self.old slot).room ≤ (table_in self.new slot).room }
+        ensures room { OnOk result ((table_in self.old slot).room + more ≤ (table_in self.new slot).room) }
+    {
+        let table = &mut self.slots[slot];
+        table.reserve_more(more)
+    }
+
+    /// Takes the promise of room in a table back. Its memory stays.
+    pub fn waive(&mut self, slot: usize)
+        requires { IsSome (slot_of self.old slot) }
+        ensures { Sets self.old self.new slot (Some (record (table_in self.old slot) { room = 0 })) }
+    {
+        let table = &mut self.slots[slot];
+        table.waive();
     }
 
     /// Writes the value of an id in a row, and takes no memory. Where the table's type lacks the id nothing is written.

@@ -76,3 +76,16 @@ fn a_row_moves_with_its_values(rt: HostRuntime) -> Result<(), Fail> {
     assert_eq!(rt; tables.iter().next().map(|(slot, _)| slot), Some(two));
     Ok(())
 }
+
+#[test]
+fn room_adds_up(rt: HostRuntime) -> Result<(), Fail> {
+    let mut tables = Tables::new(rt.alloc());
+    let slot = tables.insert(TypeList::empty(rt.alloc()).with(POSITION)?)?;
+    tables.waive(slot);
+    tables.reserve_more(slot, 1)?;
+    tables.reserve_more(slot, 1)?;
+    tables.push_row(slot, FIRST);
+    tables.push_row(slot, SECOND);
+    assert_eq!(rt; tables.row_count(slot), 2);
+    Ok(())
+}

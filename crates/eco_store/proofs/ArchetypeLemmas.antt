@@ -30,7 +30,7 @@ there_by_room s n = by (slot_of s n)
     by (Some t) h = refl
 
 -- the type of a table that is there
-type_there : (s : List (Option TableState)) (n : ℕ) → IsSome (slot_of s n) → type_at s n ≡ Some (table_in s n).ids
+pub type_there : (s : List (Option TableState)) (n : ℕ) → IsSome (slot_of s n) → type_at s n ≡ Some (table_in s n).ids
 type_there s n = by (slot_of s n)
   where
     by : (o : Option TableState) → IsSome o → option_map (λ (t : TableState). t.ids) o ≡ Some (unwrap_or o no_table).ids

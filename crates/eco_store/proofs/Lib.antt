@@ -14,3 +14,6 @@ pub mod Values
 pub mod Listings
 pub mod Living
 pub mod Sorting
+pub mod Retyping
+pub mod LastMoves
+pub mod Pouring

@@ -360,7 +360,7 @@ pub some_from_copied : {X : Type 0} (o : Option (Bor X)) (s : Option X) → opti
 some_from_copied None s h there = absurd (let none : is_some s ≡ false = sym (ap is_some h) in true≢false (sym there ∙ none))
 some_from_copied (Some b) s h there = refl
 
-set_own : {X : Type 0} (xs : List X) (i : ℕ) (x : X) → slice_get xs i ≡ Some x → set xs i x ≡ xs
+pub set_own : {X : Type 0} (xs : List X) (i : ℕ) (x : X) → slice_get xs i ≡ Some x → set xs i x ≡ xs
 set_own [] i x h = refl
 set_own (y ∷ ys) zero x h = let same : y ≡ x = cc in ap (λ z. z ∷ ys) (sym same)
 set_own (y ∷ ys) (suc i) x h = ap (λ zs. y ∷ zs) (set_own ys i x h)

@@ -218,7 +218,7 @@ record_of-read w s e =
     by (Some (Free g)) = refl
     by (Some (Living g r)) = with_test (e.generation == g) r
 
-map-set : {X Y : Type 0} (f : X → Y) (xs : List X) (i : ℕ) (x : X) → map f (set xs i x) ≡ set (map f xs) i (f x)
+pub map-set : {X Y : Type 0} (f : X → Y) (xs : List X) (i : ℕ) (x : X) → map f (set xs i x) ≡ set (map f xs) i (f x)
 map-set f [] i x = refl
 map-set f (y ∷ ys) zero x = refl
 map-set f (y ∷ ys) (suc i) x = ap (λ zs. f y ∷ zs) (map-set f ys i x)
@@ -302,7 +302,7 @@ module _ (w : Indexed Registration) (s : List (Option TableState)) (e : Entity) 
 
 -- ---- the tables show the store
 
-place_from_seat : (o : Option (IndexState Registration)) (e : Entity) (n k : ℕ) → seat_in o ≡ Some (seat_of e n k)
+pub place_from_seat : (o : Option (IndexState Registration)) (e : Entity) (n k : ℕ) → seat_in o ≡ Some (seat_of e n k)
     → (r : Registration) × (o ≡ Some (Living e.generation r)) × (r.place ≡ Some (record { table = n; row = k }))
 place_from_seat None e n k h = absurd (cc)
 place_from_seat (Some Retired) e n k h = absurd (cc)
@@ -316,7 +316,7 @@ place_from_seat (Some (Living g r)) e n k h = by r.place refl h
         let same : seat_of_place g p ≡ seat_of e n k = cc in
         (r, (λ t. Some (Living (same t).generation r)), is ∙ (λ t. Some (record { table = (same t).slot; row = (same t).row })))
 
-slot_there : (s : List (Option TableState)) (n k : ℕ) (r : Row) → row_at s n k ≡ Some r → slot_of s n ≡ Some (table_in s n)
+pub slot_there : (s : List (Option TableState)) (n k : ℕ) (r : Row) → row_at s n k ≡ Some r → slot_of s n ≡ Some (table_in s n)
 slot_there s n k r = by (slot_of s n)
   where
     nothing : (k : ℕ) → slice_get no_table.rows k ≡ None
@@ -327,14 +327,14 @@ slot_there s n k r = by (slot_of s n)
     by None h = absurd (no_some (slice_get no_table.rows k) r (nothing k) h)
     by (Some t) h = refl
 
-from_read : (w : Indexed Registration) (s : List (Option TableState)) (e : Entity) (k : Kept) → record_of (read w s) e ≡ Some k → (r : Registration) × (record_of w e ≡ Some r)
+pub from_read : (w : Indexed Registration) (s : List (Option TableState)) (e : Entity) (k : Kept) → record_of (read w s) e ≡ Some k → (r : Registration) × (record_of w e ≡ Some r)
 from_read w s e k h = by (record_of w e) (sym (record_of-read w s e) ∙ h)
   where
     by : (o : Option Registration) → option_map (kept (row_at s)) o ≡ Some k → (r : Registration) × (o ≡ Some r)
     by None q = absurd (cc)
     by (Some r) q = (r, refl)
 
-has_place : (o : Option Place) → IsSome o → (p : Place) × (o ≡ Some p)
+pub has_place : (o : Option Place) → IsSome o → (p : Place) × (o ≡ Some p)
 has_place None h = absurd (cc)
 has_place (Some p) h = (p, refl)
 

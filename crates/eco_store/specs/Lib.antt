@@ -5,3 +5,5 @@ pub mod Seats
 pub mod Placing
 pub mod Store
 pub mod Holders
+pub mod Retyping
+pub mod Transfers

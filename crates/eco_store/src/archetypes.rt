@@ -15,6 +15,8 @@ use eco_tables::{Table, Tables};
 use std::alloc::{AllocError, Global};
 use std::marker::Model;
 
+mod preparing;
+
 /// A contract sees the tables in their slots. No two tables have the same type.
 #[derive(Drop)]
 pub struct Archetypes {

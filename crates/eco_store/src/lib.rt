@@ -12,10 +12,13 @@ pub mod archetypes;
 pub mod found;
 pub mod id_index;
 pub mod store;
+pub mod transfer;
+pub mod type_change;
 pub mod type_map;
 
 pub use found::Found;
 pub use store::Store;
+pub use type_change::TypeChange;
 
 #[cfg(test)]
 mod tests;

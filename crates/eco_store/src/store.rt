@@ -25,6 +25,8 @@ use eco_tables::{Table, Tables};
 use std::alloc::{AllocError, Global};
 use std::marker::Model;
 
+mod retyping;
+
 /// A contract sees what is known of each index, and of each living entity its name and its ids with their values. No table
 /// is seen.
 #[derive(Drop)]

@@ -1,0 +1,203 @@
+-- Tables, their types and their room while all rows of some go to others.
+use Rattle.std.proofs.Common.{◌≡◌, ◌≢◌, ℕ, suc, ◌+◌, ◌≤◌, ◌<◌, ◌==◌, Bool, true, false, if◌then◌else◌, List, [], ◌∷◌, ◌++◌, map, fold, take, drop, length, get_or, Option, Some, None, option_map, unwrap_or, is_some, IsSome, refl, sym, ap, subst, ◌∙◌, arith, inl, inr}
+use Rattle.std.specs.List.{All}
+use Rattle.std.proofs.Math.ListN.{get_or-map}
+use Rattle.std.proofs.lemmas.Bool.{cases_eq}
+use Rattle.std.proofs.lemmas.List.{length-map, map-append}
+use Rattle.std.proofs.lemmas.List.Elements.{All-head, All-tail, All-push}
+use Rattle.eco_ids.specs.declared.id.Id.{Id}
+use Rattle.eco_tables.specs.Table.{TableState, Row}
+use Rattle.eco_tables.specs.Tables.{slot_of, table_in, no_table, Sets}
+use Rattle.eco_tables.proofs.Lists.{not_equal}
+use Rattle.eco_store.specs.declared.transfer.Transfer.{Transfer}
+use Rattle.eco_store.specs.declared.type_change.TypeChange.{TypeChange}
+use Rattle.eco_store.specs.Archetypes.{type_at, KeepsTypes}
+use Rattle.eco_store.specs.Retyping.{IsOneWay}
+use Rattle.eco_store.specs.Seats.{SameRows}
+use Rattle.eco_store.specs.Transfers.{change_of, IsPlan, due, HasRoom, SameTypes, Pours}
+use Rattle.eco_store.proofs.RowChanges.{is_equal}
+use Rattle.eco_store.proofs.Views.{ext_slice_get}
+
+-- ---- types
+
+-- the ids of a table, by its type
+ids_by_type : (s : List (Option TableState)) (n : ℕ) → (table_in s n).ids ≡ unwrap_or (type_at s n) []
+ids_by_type s n = by (slot_of s n)
+  where
+    by : (o : Option TableState) → (unwrap_or o no_table).ids ≡ unwrap_or (option_map (λ (t : TableState). t.ids) o) []
+    by None = refl
+    by (Some t) = refl
+
+pub same_ids_in : (s s' : List (Option TableState)) (n : ℕ) → type_at s' n ≡ type_at s n → (table_in s' n).ids ≡ (table_in s n).ids
+same_ids_in s s' n same = ids_by_type s' n ∙ ap (λ o. unwrap_or o []) same ∙ sym (ids_by_type s n)
+
+-- a slot that has a type has a table
+there_by_type : (s : List (Option TableState)) (n : ℕ) → is_some (type_at s n) ≡ is_some (slot_of s n)
+there_by_type s n = by (slot_of s n)
+  where
+    by : (o : Option TableState) → is_some (option_map (λ (t : TableState). t.ids) o) ≡ is_some o
+    by None = refl
+    by (Some t) = refl
+
+pub still_there : (s s' : List (Option TableState)) (n : ℕ) → type_at s' n ≡ type_at s n → IsSome (slot_of s n) → IsSome (slot_of s' n)
+still_there s s' n same there = sym (there_by_type s' n) ∙ ap is_some same ∙ there_by_type s n ∙ there
+
+pub there_as_typed : (s : List (Option TableState)) (n : ℕ) (ids : List Id) → type_at s n ≡ Some ids → IsSome (slot_of s n)
+there_as_typed s n ids typed = sym (there_by_type s n) ∙ ap is_some typed
+
+-- the type of a table that is there
+type_of_there : (s : List (Option TableState)) (n : ℕ) → IsSome (slot_of s n) → type_at s n ≡ Some (table_in s n).ids
+type_of_there s n = by (slot_of s n)
+  where
+    by : (o : Option TableState) → IsSome o → option_map (λ (t : TableState). t.ids) o ≡ Some (unwrap_or o no_table).ids
+    by None h = absurd (cc)
+    by (Some t) h = refl
+
+pub kept_type : (s s' : List (Option TableState)) (n : ℕ) → KeepsTypes s s' → IsSome (slot_of s n) → type_at s' n ≡ type_at s n
+kept_type s s' n keeps there = keeps n (table_in s n).ids (type_of_there s n there) ∙ sym (type_of_there s n there)
+
+pub change_kept : (s s' : List (Option TableState)) (t : Transfer) → type_at s' t.from ≡ type_at s t.from → type_at s' t.to ≡ type_at s t.to → change_of s' t ≡ change_of s t
+change_kept s s' t from to = λ i. record { from = same_ids_in s s' t.from from i; to = same_ids_in s s' t.to to i }
+
+-- ---- plans
+
+changes_kept : (s s' : List (Option TableState)) (ts : List Transfer) → KeepsTypes s s' → All (λ t. IsSome (slot_of s t.from)) ts → All (λ t. IsSome (slot_of s t.to)) ts
+    → map (change_of s') ts ≡ map (change_of s) ts
+changes_kept s s' [] keeps sources targets = refl
+changes_kept s s' (t ∷ ts) keeps sources targets =
+    let source = All-head (λ (x : Transfer). IsSome (slot_of s x.from)) t ts sources in
+    let target = All-head (λ (x : Transfer). IsSome (slot_of s x.to)) t ts targets in
+    let here = change_kept s s' t (kept_type s s' t.from keeps source) (kept_type s s' t.to keeps target) in
+    let rest =
+    changes_kept s s' ts keeps (All-tail (λ (x : Transfer). IsSome (slot_of s x.from)) t ts sources) (All-tail (λ (x : Transfer). IsSome (slot_of s x.to)) t ts targets) in
+    λ i. here i ∷ rest i
+
+-- a plan stays one while no table goes
+pub plan_kept : (s s' : List (Option TableState)) (ts : List Transfer) (cs : List TypeChange) → KeepsTypes s s' → IsPlan s ts cs → IsPlan s' ts cs
+plan_kept s s' ts cs keeps plan = record {
+  sources = λ k d within. still_there s s' (get_or ts k d).from (kept_type s s' (get_or ts k d).from keeps (plan.sources k d within)) (plan.sources k d within);
+  targets = λ k d within. still_there s s' (get_or ts k d).to (kept_type s s' (get_or ts k d).to keeps (plan.targets k d within)) (plan.targets k d within);
+  types = changes_kept s s' ts keeps plan.sources plan.targets ∙ plan.types;
+}
+
+pub plan_more : (s : List (Option TableState)) (ts : List Transfer) (cs : List TypeChange) (t : Transfer) (c : TypeChange) → IsPlan s ts cs
+    → type_at s t.from ≡ Some c.from → type_at s t.to ≡ Some c.to → IsPlan s (ts ++ t ∷ []) (cs ++ c ∷ [])
+plan_more s ts cs t c plan from to =
+    let is : change_of s t ≡ c = λ i. record {
+      from = (ids_by_type s t.from ∙ ap (λ o. unwrap_or o []) from) i;
+      to = (ids_by_type s t.to ∙ ap (λ o. unwrap_or o []) to) i;
+    } in
+    record {
+      sources = All-push (λ (x : Transfer). IsSome (slot_of s x.from)) ts t plan.sources (there_as_typed s t.from c.from from);
+      targets = All-push (λ (x : Transfer). IsSome (slot_of s x.to)) ts t plan.targets (there_as_typed s t.to c.to to);
+      types = map-append (change_of s) ts (t ∷ []) ∙ (λ i. plan.types i ++ is i ∷ []);
+    }
+
+-- no slot that rows go to is one from which rows go
+pub apart_slots : (s : List (Option TableState)) (ts : List Transfer) → IsOneWay (map (change_of s) ts)
+    → (j k : ℕ) (d x : Transfer) → j < length ts → k < length ts → (get_or ts j d).to ≢ (get_or ts k x).from
+apart_slots s ts one_way j k d x j_in k_in same =
+    let in_j : j < length (map (change_of s) ts) = rw (length-map ts (change_of s)) j_in in
+    let in_k : k < length (map (change_of s) ts) = rw (length-map ts (change_of s)) k_in in
+    one_way j (change_of s d) in_j k (change_of s x) in_k
+    (ap (λ (c : TypeChange). c.to) (get_or-map (change_of s) ts j d) ∙ ap (λ n. (table_in s n).ids) same
+    ∙ sym (ap (λ (c : TypeChange). c.from) (get_or-map (change_of s) ts k x)))
+
+-- ---- room
+
+-- how many rows a transfer brings to a slot
+abbrev brought : List (Option TableState) → Transfer → ℕ → ℕ
+brought s t n = if t.to == n then length (table_in s t.from).rows else 0
+
+brought_here : (s : List (Option TableState)) (t : Transfer) (n : ℕ) → n ≡ t.to → brought s t n ≡ length (table_in s t.from).rows
+brought_here s t n here = ap (λ b. if b then length (table_in s t.from).rows else 0) (is_equal t.to n (sym here))
+
+brought_elsewhere : (s : List (Option TableState)) (t : Transfer) (n : ℕ) → n ≢ t.to → brought s t n ≡ 0
+brought_elsewhere s t n other = ap (λ b. if b then length (table_in s t.from).rows else 0) (not_equal t.to n (λ e. other (sym e)))
+
+due_fewer : (s s' : List (Option TableState)) (ts : List Transfer) (n : ℕ) → All (λ t. length (table_in s' t.from).rows ≤ length (table_in s t.from).rows) ts
+    → due s' ts n ≤ due s ts n
+due_fewer s s' [] n fewer = omega arith
+due_fewer s s' (t ∷ ts) n fewer =
+    let here = All-head (λ (x : Transfer). length (table_in s' x.from).rows ≤ length (table_in s x.from).rows) t ts fewer in
+    let rest = due_fewer s s' ts n (All-tail (λ (x : Transfer). length (table_in s' x.from).rows ≤ length (table_in s x.from).rows) t ts fewer) in
+    by (t.to == n) here rest
+  where
+    by : (b : Bool) → length (table_in s' t.from).rows ≤ length (table_in s t.from).rows → due s' ts n ≤ due s ts n
+        → (if b then length (table_in s' t.from).rows else 0) + due s' ts n ≤ (if b then length (table_in s t.from).rows else 0) + due s ts n
+    by true here rest = omega arith
+    by false here rest = omega arith
+
+due_none : (s : List (Option TableState)) (ts : List Transfer) (n : ℕ) → All (λ t. t.to ≢ n) ts → due s ts n ≡ 0
+due_none s [] n none = refl
+due_none s (t ∷ ts) n none =
+    let rest = due_none s ts n (All-tail (λ (x : Transfer). x.to ≢ n) t ts none) in
+    let here = brought_elsewhere s t n (λ e. All-head (λ (x : Transfer). x.to ≢ n) t ts none (sym e)) in
+    omega (arith, here, rest)
+
+-- there is room for what the first transfer brings
+pub room_first : (s : List (Option TableState)) (t : Transfer) (ts : List Transfer) → HasRoom s (t ∷ ts) → length (table_in s t.from).rows ≤ (table_in s t.to).room
+room_first s t ts room = let here = brought_here s t t.to refl in omega (arith, room t.to, here)
+
+-- when the first is carried out, there is still room for the others
+pub room_rest : (s s' : List (Option TableState)) (t : Transfer) (ts : List Transfer) → HasRoom s (t ∷ ts) → Pours s s' t.from t.to
+    → All (λ u. t.to ≢ u.from) ts → All (λ u. u.to ≢ t.from) ts → HasRoom s' ts
+room_rest s s' t ts room pours apart none n =
+    let fewer : due s' ts n ≤ due s ts n = due_fewer s s' ts n (λ k d within. shrinks (get_or ts k d).from (apart k d within)) in
+    elim (cases_eq n t.to) [
+      | inl here ↦
+          let brings = brought_here s t n here in
+          let had : due s (t ∷ ts) n ≤ (table_in s t.to).room = subst (λ m. due s (t ∷ ts) n ≤ (table_in s m).room) here (room n) in
+          let now : due s' ts n ≤ (table_in s' t.to).room = omega (arith, pours.room) in
+          subst (λ m. due s' ts n ≤ (table_in s' m).room) (sym here) now
+      | inr not_to ↦ elim (cases_eq n t.from) [
+        | inl here ↦
+            let nothing : due s' ts n ≡ 0 = due_none s' ts n (λ k d within e. none k d within (e ∙ here)) in
+            omega (arith, nothing)
+        | inr not_from ↦
+            let same = ap (λ o. (unwrap_or o no_table).room) (pours.others n not_from not_to) in
+            omega (arith, room n, same)
+      ]
+    ]
+  where
+    shrinks : (m : ℕ) → t.to ≢ m → length (table_in s' m).rows ≤ length (table_in s m).rows
+    shrinks m not_to =
+        elim (cases_eq m t.from) [
+          | inl here ↦
+              let none : length (table_in s' m).rows ≡ 0 = ap (λ k. length (table_in s' k).rows) here ∙ pours.emptied in
+              omega (arith, none)
+          | inr other ↦
+              let same = ap (λ o. length (unwrap_or o no_table).rows) (pours.others m other (λ e. not_to (sym e))) in
+              omega (arith, same)
+        ]
+
+-- ---- taking room
+
+rows_same : (s s' : List (Option TableState)) → SameRows s s' → (n : ℕ) → (table_in s' n).rows ≡ (table_in s n).rows
+rows_same s s' same n = ext_slice_get (table_in s' n).rows (table_in s n).rows (same n)
+
+due_more : (s : List (Option TableState)) (ts : List Transfer) (t : Transfer) (n : ℕ) → due s (ts ++ t ∷ []) n ≡ due s ts n + brought s t n
+due_more s [] t n = omega arith
+due_more s (u ∷ ts) t n = let rest = due_more s ts t n in omega (arith, rest)
+
+-- room for one transfer more
+pub room_more : (s s' : List (Option TableState)) (ts : List Transfer) (t : Transfer) (slot : Option TableState) → HasRoom s ts → SameRows s s' → Sets s s' t.to slot
+    → (table_in s t.to).room + length (table_in s t.from).rows ≤ (table_in s' t.to).room → HasRoom s' (ts ++ t ∷ [])
+room_more s s' ts t slot room same sets more n =
+    let fewer : due s' (ts ++ t ∷ []) n ≤ due s (ts ++ t ∷ []) n =
+    due_fewer s s' (ts ++ t ∷ []) n (λ k d within.
+    let rows : length (table_in s' (get_or (ts ++ t ∷ []) k d).from).rows ≡ length (table_in s (get_or (ts ++ t ∷ []) k d).from).rows =
+    ap length (rows_same s s' same (get_or (ts ++ t ∷ []) k d).from) in
+    omega (arith, rows)) in
+    let parts = due_more s ts t n in
+    elim (cases_eq n t.to) [
+      | inl here ↦
+          let brings = brought_here s t n here in
+          let had : due s ts n ≤ (table_in s t.to).room = subst (λ m. due s ts n ≤ (table_in s m).room) here (room n) in
+          let now : due s' (ts ++ t ∷ []) n ≤ (table_in s' t.to).room = omega arith in
+          subst (λ m. due s' (ts ++ t ∷ []) n ≤ (table_in s' m).room) (sym here) now
+      | inr other ↦
+          let brings = brought_elsewhere s t n other in
+          let stays = ap (λ o. (unwrap_or o no_table).room) (sets.others n other) in
+          omega (arith, room n, stays)
+    ]

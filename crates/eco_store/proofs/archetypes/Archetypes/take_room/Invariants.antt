@@ -1,0 +1,11 @@
+use Rattle.std.proofs.Common.{take}
+use Rattle.eco_store.specs.Seats.{SameRows}
+use Rattle.eco_store.specs.Transfers.{HasRoom, SameTypes}
+use Rattle.eco_store.proofs.archetypes.Archetypes.take_room.Given as goal
+
+abbrev pub invariant-loop-transfer : goal.invariant-loop-transfer
+invariant-loop-transfer l = record {
+  room : HasRoom l.self (take l.transfer-index l.transfers);
+  types : SameTypes l.initial.self l.self;
+  rows : SameRows l.initial.self l.self;
+}

@@ -1,0 +1,13 @@
+use Rattle.std.proofs.Common.{◌≡◌, take, drop, map}
+use Rattle.eco_store.specs.Retyping.{after_changes}
+use Rattle.eco_store.specs.Store.{IsStore, read}
+use Rattle.eco_store.specs.Transfers.{change_of, HasRoom, SameTypes}
+use Rattle.eco_store.proofs.transfer.move_all.Given as goal
+
+abbrev pub invariant-loop-transfer : goal.invariant-loop-transfer
+invariant-loop-transfer l = record {
+  store : IsStore l.entities l.archetypes;
+  types : SameTypes l.initial.archetypes l.archetypes;
+  room : HasRoom l.archetypes (drop l.transfer-index l.transfers);
+  read : read l.entities l.archetypes ≡ after_changes (read l.initial.entities l.initial.archetypes) (map (change_of l.initial.archetypes) (take l.transfer-index l.transfers));
+}

@@ -1,0 +1,29 @@
+-- All entities of a type get another.
+use Rattle.std.specs.Prelude.{◌≡◌, ◌≢◌, List, map, fold, if◌then◌else◌}
+use Rattle.std.specs.List.{All}
+use Rattle.eco_ids.specs.declared.id.Id.{Id}
+use Rattle.eco_ids.specs.Indices.{Indexed, map_state}
+use Rattle.eco_tables.specs.Column.{retyped}
+use Rattle.eco_store.specs.declared.type_change.TypeChange.{TypeChange}
+use Rattle.eco_store.specs.Store.{Kept}
+use Rattle.eco_store.specs.TypeMap.{same_ids}
+
+-- the ids of what is kept of an entity
+abbrev pub kept_ids : Kept → List Id
+kept_ids k = map (λ p. p.0) k.held
+
+-- an entity of the type that goes has the type that comes: values of ids that both have stay, and new ids hold zeros
+abbrev pub changed_kept : TypeChange → Kept → Kept
+changed_kept c k = if same_ids (kept_ids k) c.from then record k { held = retyped c.to k.held } else k
+
+-- the store after a change of every living entity
+abbrev pub after_change : Indexed Kept → TypeChange → Indexed Kept
+after_change w c = record w { indices = map (map_state (changed_kept c)) w.indices }
+
+-- the store after these changes, one after another
+abbrev pub after_changes : Indexed Kept → List TypeChange → Indexed Kept
+after_changes w cs = fold after_change w cs
+
+-- no type that comes is one that goes
+abbrev pub IsOneWay : List TypeChange → Type 0
+IsOneWay cs = All (λ c. All (λ d. c.to ≢ d.from) cs) cs

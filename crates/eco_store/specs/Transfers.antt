@@ -1,0 +1,38 @@
+-- All rows of a table go to another.
+use Rattle.std.specs.Prelude.{◌≡◌, ◌≢◌, ℕ, ◌+◌, ◌≤◌, ◌==◌, List, [], ◌∷◌, map, length, Option, IsSome, if◌then◌else◌}
+use Rattle.std.specs.List.{All}
+use Rattle.eco_tables.specs.Table.{TableState}
+use Rattle.eco_tables.specs.Tables.{slot_of, table_in}
+use Rattle.eco_store.specs.declared.transfer.Transfer.{Transfer}
+use Rattle.eco_store.specs.declared.type_change.TypeChange.{TypeChange}
+use Rattle.eco_store.specs.Archetypes.{type_at}
+
+-- the change of type that comes with it
+abbrev pub change_of : List (Option TableState) → Transfer → TypeChange
+change_of slots t = record { from = (table_in slots t.from).ids; to = (table_in slots t.to).ids }
+
+-- the tables of each transfer are there, and the changes of type are these
+pub record IsPlan (slots : List (Option TableState)) (transfers : List Transfer) (changes : List TypeChange) : Type 0 where
+  pub sources : All (λ t. IsSome (slot_of slots t.from)) transfers
+  pub targets : All (λ t. IsSome (slot_of slots t.to)) transfers
+  pub types : map (change_of slots) transfers ≡ changes
+
+-- how many rows the transfers bring to a slot
+abbrev pub due : List (Option TableState) → List Transfer → ℕ → ℕ
+due slots [] n = 0
+due slots (t ∷ ts) n = (if t.to == n then length (table_in slots t.from).rows else 0) + due slots ts n
+
+-- each slot has room for what the transfers bring
+abbrev pub HasRoom : List (Option TableState) → List Transfer → Type 0
+HasRoom slots transfers = (n : ℕ) → due slots transfers n ≤ (table_in slots n).room
+
+-- each slot has the type that it had, or none as before
+abbrev pub SameTypes : List (Option TableState) → List (Option TableState) → Type 0
+SameTypes old new = (n : ℕ) → type_at new n ≡ type_at old n
+
+-- a table's rows went to another, which took no more room than they need
+pub record Pours (old new : List (Option TableState)) (from to : ℕ) : Type 0 where
+  pub types : SameTypes old new
+  pub emptied : length (table_in new from).rows ≡ 0
+  pub room : (table_in old to).room ≤ (table_in new to).room + length (table_in old from).rows
+  pub others : (n : ℕ) → n ≢ from → n ≢ to → slot_of new n ≡ slot_of old n

@@ -1,0 +1,26 @@
+//! Many entities get another type at once.
+ghost use Rattle.std.specs.Prelude.{◌≡◌, OnOk, OnErr};
+ghost use Rattle.eco_store.specs.Retyping.{after_changes, IsOneWay};
+
+use crate::store::Store;
+use crate::transfer::move_all;
+use crate::type_change::TypeChange;
+use std::alloc::AllocError;
+
+impl Store {
+    /// Gives all entities of a type another, for each of these changes, one after another: values of ids that both types
+    /// have stay, new ids hold zeros. All memory is taken before the first entity changes. An `Err` comes where memory is
+    /// refused, and changes nothing.
+    ///
+    /// The time that it takes grows with the entities that change, and not with the store.
+    pub fn retype_all(&mut self, changes: &[TypeChange]) -> Result<(), AllocError>
+        requires { IsOneWay changes.now }
+        ensures ok { OnOk result (self.new ≡ after_changes self.old changes.now) }
+        ensures err { OnErr result (self.new ≡ self.old) }
+    {
+        let transfers = self.archetypes.prepare(changes)?;
+        move_all(&mut self.entities, &mut self.archetypes, &transfers);
+        self.archetypes.drop_emptied(&transfers);
+        Ok(())
+    }
+}

@@ -45,21 +45,21 @@ is_found_there : (p : Pattern) (o : Option TableState) → 0 < length (unwrap_or
 is_found_there p None rows matches = absurd (omega arith)
 is_found_there p (Some t) rows matches = let some : nat_lt 0 (length t.rows) ≡ true = grind (arith, nat_tests) in ap (λ b. b && list_any (pattern_matches p) t.ids) some ∙ matches
 
-found_matches : (p : Pattern) (o : Option TableState) → is_found p o ≡ true → list_any (pattern_matches p) (unwrap_or o no_table).ids ≡ true
+pub found_matches : (p : Pattern) (o : Option TableState) → is_found p o ≡ true → list_any (pattern_matches p) (unwrap_or o no_table).ids ≡ true
 found_matches p None h = absurd (true≢false (sym h))
 found_matches p (Some t) h = both_right (nat_lt 0 (length t.rows)) (list_any (pattern_matches p) t.ids) h
 
-found_rows : (p : Pattern) (o : Option TableState) → is_found p o ≡ true → 0 < length (unwrap_or o no_table).rows
+pub found_rows : (p : Pattern) (o : Option TableState) → is_found p o ≡ true → 0 < length (unwrap_or o no_table).rows
 found_rows p None h = absurd (true≢false (sym h))
 found_rows p (Some t) h = let some = both_left (nat_lt 0 (length t.rows)) (list_any (pattern_matches p) t.ids) h in grind (arith, nat_tests)
 
-some_kept : (o : Option Kept) (ids : List Id) → Some ids ≡ option_map (λ k. map (λ (h : Id × _). h.0) k.held) o → (k : Kept) × (o ≡ Some k) × (map (λ h. h.0) k.held ≡ ids)
+pub some_kept : (o : Option Kept) (ids : List Id) → Some ids ≡ option_map (λ k. map (λ (h : Id × _). h.0) k.held) o → (k : Kept) × (o ≡ Some k) × (map (λ h. h.0) k.held ≡ ids)
 some_kept None ids e = absurd (none-some ids (sym e))
 some_kept (Some k) ids e = (k, refl, sym (same_Some _ _ e))
 
 module _ (w : Indexed Kept) (s : List (Option TableState)) (p : Pattern) (shown : IsShown w s) where
   -- the entity of a row has the ids of the row's table
-  row_kept : (n row : ℕ) (r : Row) → row_at s n row ≡ Some r → (k : Kept) × (record_of w r.entity ≡ Some k) × (map (λ h. h.0) k.held ≡ (table_in s n).ids)
+  pub row_kept : (n row : ℕ) (r : Row) → row_at s n row ≡ Some r → (k : Kept) × (record_of w r.entity ≡ Some k) × (map (λ h. h.0) k.held ≡ (table_in s n).ids)
   row_kept n row r at = some_kept (record_of w r.entity) (table_in s n).ids (stands_type (record_of w r.entity) (table_in s n) row (shown.rows n row r at) (shown.own n))
 
   -- who stands in a table that is found has a match

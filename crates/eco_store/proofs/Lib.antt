@@ -17,3 +17,4 @@ pub mod Sorting
 pub mod Retyping
 pub mod LastMoves
 pub mod Pouring
+pub mod FoundTypes

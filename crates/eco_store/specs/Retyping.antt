@@ -1,11 +1,14 @@
 -- All entities of a type get another.
-use Rattle.std.specs.Prelude.{◌≡◌, ◌≢◌, List, map, fold, if◌then◌else◌}
-use Rattle.std.specs.List.{All}
+use Rattle.std.specs.Prelude.{◌≡◌, ◌≢◌, List, map, fold, Some, IsTrue, if◌then◌else◌}
+use Rattle.std.specs.List.{All, list_any}
+use Rattle.eco_ids.specs.declared.entity.Entity.{Entity}
 use Rattle.eco_ids.specs.declared.id.Id.{Id}
+use Rattle.eco_ids.specs.declared.pattern.Pattern.{Pattern}
 use Rattle.eco_ids.specs.Indices.{Indexed, map_state}
+use Rattle.eco_ids.specs.Matching.{pattern_matches}
 use Rattle.eco_tables.specs.Column.{retyped}
 use Rattle.eco_store.specs.declared.type_change.TypeChange.{TypeChange}
-use Rattle.eco_store.specs.Store.{Kept}
+use Rattle.eco_store.specs.Store.{Kept, type_of}
 use Rattle.eco_store.specs.TypeMap.{same_ids}
 
 -- the ids of what is kept of an entity
@@ -27,3 +30,7 @@ after_changes w cs = fold after_change w cs
 -- no type that comes is one that goes
 abbrev pub IsOneWay : List TypeChange → Type 0
 IsOneWay cs = All (λ c. All (λ d. c.to ≢ d.from) cs) cs
+
+-- some living entity has this type, and the pattern matches one of its ids
+abbrev pub IsTypeWith : Indexed Kept → Pattern → List Id → Type 0
+IsTypeWith w p ids = IsTrue (list_any (pattern_matches p) ids) × (e : Entity) × (type_of w e ≡ Some ids)

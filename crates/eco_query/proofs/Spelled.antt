@@ -48,7 +48,7 @@ id_slots x = (record { access = InOut; body = alternatives (x ∷ []) }) ∷ []
 id_in : (text : List ℕ) (x : WrittenAtom) → SpellsId text x → Rest (length text) (id_slots x) id_start text
 id_in text x (a, tok, s) = (a, tok, atom_split (length text) (id_slots x) (begun [] InOut Alone) x a [] s (refl, refl))
 
-id_out : (text : List ℕ) (r : List WrittenSlot) → Rest (length text) r id_start text → (x : WrittenAtom) × SpellsId text x × (r ≡ id_slots x)
+pub id_out : (text : List ℕ) (r : List WrittenSlot) → Rest (length text) r id_start text → (x : WrittenAtom) × SpellsId text x × (r ≡ id_slots x)
 id_out text r (a, tok, t) =
     let (x, v, s, (none, e)) = atom_join (length text) r (begun [] InOut Alone) a t in
     (x, (a, tok, subst (λ v. IsAtom (length text) a v x) none s), e)

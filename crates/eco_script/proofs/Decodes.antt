@@ -1,43 +1,68 @@
 -- What is found in a value is exactly the script that it is.
-use Rattle.std.proofs.Common.{◌≡◌, ◌≤◌, ℕ, Bool, true, false, List, [], ◌∷◌, map, Option, Some, None, option_map, option_and_then, if◌then◌else◌, refl, ap, sym, ◌∙◌, codes, arith}
+use Rattle.std.proofs.Common.{◌≡◌, ◌≤◌, ◌^◌, ◌<◌, ◌-◌, ℕ, ℤ, pos, negsuc, Bool, true, false, List, [], ◌∷◌, ◌++◌, length, take, drop, replicate, map, nat_lt, nat_le, ◌&&◌, Option, Some, None, option_map, option_and_then, if◌then◌else◌, refl, ap, sym, ◌∙◌, codes, arith}
+use Rattle.std.specs.List.{AllZip}
 use Rattle.std.specs.Str.{bytes_eq}
+use Rattle.std.proofs.lemmas.List.{append-nil, drop_all, length-map, take-append-drop}
 use Rattle.std.proofs.lemmas.Slice.Eq.{bytes_eq-Decides}
 use Rattle.std.proofs.lemmas.Option.{option_and_then_some}
-use Rattle.serde_json.specs.Data.{Data, null, boolean, number, string, array, object, Items, no_items, item, unsigned, negative, float}
+use Rattle.serde_json.specs.Data.{Data, null, boolean, number, string, array, object, unsigned, negative, float}
 use Rattle.serde_json.specs.Find.{as_str}
-use Rattle.serde_json.specs.View.{items_of}
-use Rattle.eco_script.specs.Decode.{items_list, list_in, name_in, number_in, step_of_none, step_of_one, step_of_two, step_of_words, step_in, steps_of, script_of_parts, script_in}
+use Rattle.eco_ids.specs.declared.value.TheConstants.{FIELD_COUNT, LARGEST_ARITY}
+use Rattle.eco_ids.specs.declared.value.Value.{Value}
+use Rattle.eco_script.specs.Decode.{items_list, list_in, each_in, name_in, number_in, integer_in, value_of_items, value_in, step_of_none, step_of_one, step_of_two, step_of_three, step_of_words, step_in, script_of_parts, script_in}
 use Rattle.eco_script.specs.Script.{Script, IsScriptData, IsScript}
 use Rattle.serde_json.specs.Read.{read}
-use Rattle.eco_script.specs.Steps.{Step, create, add, remove, rename, has, show, list, query, step_data, written, list_data, name_data}
-use Rattle.eco_script.proofs.Values.{items_list-items_of}
+use Rattle.eco_script.specs.Steps.{Step, create, component, add, remove, set, clear, rename, has, get, show, list, query, IsIntegerData, IsValueData, IsStepData, value_with, written, list_data, name_data}
+use Rattle.eco_script.proofs.Values.{items_list-items_of, items_of-items_list, each_found, each_is}
 
 -- ---- what is written is found
-
-step_in_data : (s : Step) → step_in (step_data s) ≡ Some s
-step_in_data (create None) = refl
-step_in_data (create (Some name)) = refl
-step_in_data (add e i) = refl
-step_in_data (remove e i) = refl
-step_in_data (rename e None) = refl
-step_in_data (rename e (Some name)) = refl
-step_in_data (has e i) = refl
-step_in_data (show e) = refl
-step_in_data list = refl
-step_in_data (query q) = refl
-
-steps_of_data : (ss : List Step) → steps_of (map step_data ss) ≡ Some ss
-steps_of_data [] = refl
-steps_of_data (s ∷ ss) = rw (step_in_data s, steps_of_data ss) refl
 
 number_in_range : (low high n : ℕ) → low ≤ n → n ≤ high → number_in low high (number (unsigned n)) ≡ Some n
 number_in_range low high n l h = grind arith
 
-steps_found : (ss : List Step) → option_and_then steps_of (list_in (list_data (map step_data ss))) ≡ Some ss
-steps_found ss = rw (items_list-items_of (map step_data ss)) (steps_of_data ss)
+integer_found : (d : Data) (z : ℤ) → IsIntegerData d z → integer_in d ≡ Some z
+integer_found d (pos n) (is, fits) = let small : n < 2 ^ 63 = fits.sfits in rw is (grind arith)
+integer_found d (negsuc n) (is, fits) = let small : n < 2 ^ 63 = fits.sfits in rw is (grind arith)
+
+-- a list of as many items is that long
+same_length : {A B : Type 0} (R : A → B → Type 0) (xs : List A) (ys : List B) → AllZip R xs ys → length xs ≡ length ys
+same_length R [] [] are = refl
+same_length R [] (y ∷ ys) are = absurd are
+same_length R (x ∷ xs) [] are = absurd are
+same_length R (x ∷ xs) (y ∷ ys) are = grind (arith, same_length R xs ys are.1)
+
+value_of : (ds : List Data) (zs : List ℤ) → 1 ≤ length ds → length ds ≤ FIELD_COUNT → each_in integer_in ds ≡ Some zs
+    → value_of_items ds ≡ Some (value_with zs)
+value_of ds zs l h e = rw e (grind arith)
+
+value_found : (d : Data) (v : Value) → IsValueData d v → value_in d ≡ Some v
+value_found d v is =
+    let long = same_length IsIntegerData is.items is.fields is.are_integers in
+    rw (is.is_list, items_list-items_of is.items, is.filled)
+    (value_of is.items is.fields (omega arith) (omega arith) (each_found integer_in IsIntegerData integer_found is.items is.fields is.are_integers))
+
+step_found : (d : Data) (s : Step) → IsStepData d s → step_in d ≡ Some s
+step_found d (create None) is = rw is refl
+step_found d (create (Some name)) is = rw is refl
+step_found d (component name n) (is, low, high) = rw (is, number_in_range 1 LARGEST_ARITY n low high) refl
+step_found d (add e i) is = rw is refl
+step_found d (remove e i) is = rw is refl
+step_found d (set e i v) (value, is, of) = rw (is, value_found value v of) refl
+step_found d (clear e) is = rw is refl
+step_found d (rename e None) is = rw is refl
+step_found d (rename e (Some name)) is = rw is refl
+step_found d (has e i) is = rw is refl
+step_found d (get e i) is = rw is refl
+step_found d (show e) is = rw is refl
+step_found d list is = rw is refl
+step_found d (query q) is = rw is refl
+
+steps_found : (ds : List Data) (ss : List Step) → AllZip IsStepData ds ss → option_and_then (each_in step_in) (list_in (list_data ds)) ≡ Some ss
+steps_found ds ss are = rw (items_list-items_of ds) (each_found step_in IsStepData step_found ds ss are)
 
 pub script_in_data : (d : Data) (s : Script) → IsScriptData d s → script_in d ≡ Some s
-script_in_data d s (is, low, high) = rw (is, number_in_range 9 1048576 s.limit low high, steps_found s.steps) refl
+script_in_data d s is =
+    rw (is.is_list, number_in_range 9 1048576 s.limit is.at_least is.at_most, steps_found is.items s.steps is.are_steps) refl
 
 -- ---- what is found is what is written
 
@@ -66,95 +91,6 @@ name_is (number m) n e = cc
 name_is (array ds) n e = cc
 name_is (object ms) n e = cc
 
--- an argument that is a text, and the step that is made of it
-with_text : (make : List ℕ → Step) (d : Data) (s : Step) → option_map make (as_str d) ≡ Some s → (t : List ℕ) × (d ≡ string t) × (s ≡ make t)
-with_text make (string t) s e = (t, refl, grind arith)
-with_text make null s e = cc
-with_text make (boolean b) s e = cc
-with_text make (number n) s e = cc
-with_text make (array ds) s e = cc
-with_text make (object ms) s e = cc
-
-none_is : (w : List ℕ) (s : Step) → step_of_none w ≡ Some s → written w [] ≡ step_data s
-none_is w s e =
-    chosen _ (bytes_eq w (codes "create")) _ _ s e (λ t h. let q : s ≡ create None = cc in rw (q, word_is w _ t) refl)
-    (λ f. chosen _ (bytes_eq w (codes "list")) _ _ s f (λ t h. let q : s ≡ list = cc in rw (q, word_is w _ t) refl) (λ h. cc))
-
--- one text behind the word
-text_is : (make : List ℕ → Step) (w c : List ℕ) (d : Data) (s : Step) → ((t : List ℕ) → step_data (make t) ≡ written c (string t ∷ []))
-    → bytes_eq w c ≡ true → option_map make (as_str d) ≡ Some s → written w (d ∷ []) ≡ step_data s
-text_is make w c d s is t e =
-    let (text, at, of) = with_text make d s e in
-    ap (λ v. written v (d ∷ [])) (word_is w c t) ∙ ap (λ v. written c (v ∷ [])) at ∙ sym (is text) ∙ sym (ap step_data of)
-
-one_is : (w : List ℕ) (d : Data) (s : Step) → step_of_one w d ≡ Some s → written w (d ∷ []) ≡ step_data s
-one_is w d s e =
-    chosen _ (bytes_eq w (codes "create")) _ _ s e (text_is (λ name. create (Some name)) w (codes "create") d s (λ t. refl))
-    (λ f. chosen _ (bytes_eq w (codes "show")) _ _ s f (text_is show w (codes "show") d s (λ t. refl))
-    (λ h. chosen _ (bytes_eq w (codes "query")) _ _ s h (text_is query w (codes "query") d s (λ t. refl)) (λ k. cc)))
-
--- an entity and a text behind the word
-texts_are : (make : List ℕ → List ℕ → Step) (w c x : List ℕ) (d : Data) (s : Step)
-    → ((t : List ℕ) → step_data (make x t) ≡ written c (string x ∷ string t ∷ []))
-    → bytes_eq w c ≡ true → option_map (make x) (as_str d) ≡ Some s → written w (string x ∷ d ∷ []) ≡ step_data s
-texts_are make w c x d s is t e =
-    let (text, at, of) = with_text (make x) d s e in
-    ap (λ v. written v (string x ∷ d ∷ [])) (word_is w c t) ∙ ap (λ v. written c (string x ∷ v ∷ [])) at ∙ sym (is text) ∙ sym (ap step_data of)
-
-rename_is : (w x : List ℕ) (d : Data) (s : Step) → bytes_eq w (codes "rename") ≡ true → option_map (rename x) (name_in d) ≡ Some s
-    → written w (string x ∷ d ∷ []) ≡ step_data s
-rename_is w x d s t e = named (name_in d) refl e where
-  named : (o : Option (Option (List ℕ))) → name_in d ≡ o → option_map (rename x) o ≡ Some s → written w (string x ∷ d ∷ []) ≡ step_data s
-  named None n h = cc
-  named (Some name) n h = let q : s ≡ rename x name = cc in rw (name_is d name n, q, word_is w _ t) refl
-
-two_is : (w x : List ℕ) (d : Data) (s : Step) → step_of_two w x d ≡ Some s → written w (string x ∷ d ∷ []) ≡ step_data s
-two_is w x d s e =
-    chosen _ (bytes_eq w (codes "add")) _ _ s e (texts_are add w (codes "add") x d s (λ t. refl))
-    (λ f. chosen _ (bytes_eq w (codes "remove")) _ _ s f (texts_are remove w (codes "remove") x d s (λ t. refl))
-    (λ h. chosen _ (bytes_eq w (codes "has")) _ _ s h (texts_are has w (codes "has") x d s (λ t. refl))
-    (λ k. chosen _ (bytes_eq w (codes "rename")) _ _ s k (rename_is w x d s) (λ l. cc))))
-
--- a list of words is that of the step that they are
-words_are : (ds : List Data) (s : Step) → step_of_words ds ≡ Some s → list_data ds ≡ step_data s
-words_are [] s e = cc
-words_are (a ∷ []) s e =
-    option_and_then_some step_of_none (as_str a) s e (λ w is h. rw (str_is a w is) (none_is w s h))
-words_are (a ∷ b ∷ []) s e =
-    option_and_then_some (λ w. step_of_one w b) (as_str a) s e (λ w is h. rw (str_is a w is) (one_is w b s h))
-words_are (a ∷ b ∷ c ∷ []) s e =
-    option_and_then_some (λ w. option_and_then (λ x. step_of_two w x c) (as_str b)) (as_str a) s e
-    (λ w is h. option_and_then_some (λ x. step_of_two w x c) (as_str b) s h (λ x at k. rw (str_is a w is, str_is b x at) (two_is w x c s k)))
-words_are (a ∷ b ∷ c ∷ d ∷ ds) s e = cc
-
-items_are : (is : Items) → items_of (items_list is) ≡ is
-items_are no_items = refl
-items_are (item d is) = ap (λ js. item d js) (items_are is)
-
-list_is : (d : Data) (ds : List Data) → list_in d ≡ Some ds → d ≡ list_data ds
-list_is (array is) ds e = let q : items_list is ≡ ds = cc in rw (← q, items_are is) refl
-list_is null ds e = cc
-list_is (boolean b) ds e = cc
-list_is (number n) ds e = cc
-list_is (string s) ds e = cc
-list_is (object ms) ds e = cc
-
-step_is : (d : Data) (s : Step) → step_in d ≡ Some s → d ≡ step_data s
-step_is d s e = option_and_then_some step_of_words (list_in d) s e (λ ds is h. list_is d ds is ∙ words_are ds s h)
-
--- a step in front of others
-step_more : (d : Data) (ds : List Data) (s : Step) (o : Option (List Step)) (ss : List Step) → d ≡ step_data s
-    → ((rest : List Step) → o ≡ Some rest → ds ≡ map step_data rest) → option_map (λ rest. s ∷ rest) o ≡ Some ss → d ∷ ds ≡ map step_data ss
-step_more d ds s None ss is are h = cc
-step_more d ds s (Some rest) ss is are h =
-    let q : ss ≡ s ∷ rest = cc in ap (λ x. x ∷ ds) is ∙ ap (λ xs. step_data s ∷ xs) (are rest refl) ∙ sym (ap (λ xs. map step_data xs) q)
-
-steps_are : (ds : List Data) (ss : List Step) → steps_of ds ≡ Some ss → ds ≡ map step_data ss
-steps_are [] ss e = let q : ss ≡ [] = cc in rw q refl
-steps_are (d ∷ ds) ss e =
-    option_and_then_some (λ s. option_map (λ rest. s ∷ rest) (steps_of ds)) (step_in d) ss e
-    (λ s is h. step_more d ds s (steps_of ds) ss (step_is d s is) (λ rest n. steps_are ds rest n) h)
-
 number_is : (low high : ℕ) (d : Data) (n : ℕ) → number_in low high d ≡ Some n → (d ≡ number (unsigned n)) × (low ≤ n) × (n ≤ high)
 number_is low high (number (unsigned m)) n e = grind arith
 number_is low high (number (negative z)) n e = cc
@@ -165,26 +101,181 @@ number_is low high (string s) n e = cc
 number_is low high (array ds) n e = cc
 number_is low high (object ms) n e = cc
 
+list_is : (d : Data) (ds : List Data) → list_in d ≡ Some ds → d ≡ list_data ds
+list_is (array is) ds e = let q : items_list is ≡ ds = cc in rw (← q, items_of-items_list is) refl
+list_is null ds e = cc
+list_is (boolean b) ds e = cc
+list_is (number n) ds e = cc
+list_is (string s) ds e = cc
+list_is (object ms) ds e = cc
+
+-- a number below a limit, and the whole number that it makes
+small_is : (make : ℕ → ℤ) (n : ℕ) (z : ℤ) → (if nat_lt n (2 ^ 63) then Some (make n) else None) ≡ Some z → (make n ≡ z) × (n < 2 ^ 63)
+small_is make n z e = grind arith
+
+integer_is : (d : Data) (z : ℤ) → integer_in d ≡ Some z → IsIntegerData d z
+integer_is (number (unsigned n)) z e =
+    let (is, small) = small_is (λ k. pos k) n z e in rw (← is) (refl, record { sfits = small })
+integer_is (number (negative (pos n))) z e = cc
+integer_is (number (negative (negsuc n))) z e =
+    let (is, small) = small_is (λ k. negsuc k) n z e in rw (← is) (refl, record { sfits = small })
+integer_is (number (float x)) z e = cc
+integer_is null z e = cc
+integer_is (boolean b) z e = cc
+integer_is (string s) z e = cc
+integer_is (array ds) z e = cc
+integer_is (object ms) z e = cc
+
+-- a list of as many items as there may be fields
+few : (ds : List Data) (o : Option Value) (v : Value) → (if nat_le 1 (length ds) && nat_le (length ds) FIELD_COUNT then o else None) ≡ Some v
+    → (1 ≤ length ds) × (length ds ≤ FIELD_COUNT) × (o ≡ Some v)
+few ds o v e = grind arith
+
+-- each of the items is a field
+fields_are : (ds : List Data) (v : Value) → value_of_items ds ≡ Some v → IsValueData (list_data ds) v
+fields_are ds v e = counted (each_in integer_in ds) refl (few ds (option_map value_with (each_in integer_in ds)) v e) where
+  counted : (o : Option (List ℤ)) → each_in integer_in ds ≡ o → (1 ≤ length ds) × (length ds ≤ FIELD_COUNT) × (option_map value_with o ≡ Some v)
+      → IsValueData (list_data ds) v
+  counted None n (low, high, h) = cc
+  counted (Some fields) n (low, high, h) =
+      let are = each_is integer_in IsIntegerData integer_is ds fields n in
+      let long = same_length IsIntegerData ds fields are in
+      record { items = ds; fields = fields; is_list = refl; are_integers = are; at_least = omega arith; at_most = omega arith; filled = cc }
+
+value_is : (d : Data) (v : Value) → value_in d ≡ Some v → IsValueData d v
+value_is d v e = option_and_then_some value_of_items (list_in d) v e (λ ds is h. rw (list_is d ds is) (fields_are ds v h))
+
+-- the fields that were read, with zeros behind them, are the value
+pub value_read : (ds : List Data) (fields : List ℤ) (i : ℕ) → i ≡ length ds → 1 ≤ length ds → length ds ≤ FIELD_COUNT
+    → each_in integer_in ds ≡ Some (take i fields) → drop i fields ≡ replicate (FIELD_COUNT - i) (pos 0)
+    → value_of_items ds ≡ Some (record { 0 = fields })
+value_read ds fields i count low high found zeros =
+    let long : length ds ≡ length (take i fields) = same_length IsIntegerData ds (take i fields) (each_is integer_in IsIntegerData integer_is ds (take i fields) found) in
+    let whole : take i fields ++ replicate (FIELD_COUNT - length (take i fields)) (pos 0) ≡ fields =
+    ap (λ n. take i fields ++ replicate (FIELD_COUNT - n) (pos 0)) (sym long ∙ sym count) ∙ ap (λ t. take i fields ++ t) (sym zeros)
+    ∙ take-append-drop i fields in
+    value_of ds (take i fields) low high found ∙ ap (λ fs. let v : Value = record { 0 = fs } in Some v) whole
+
+-- likewise, where nothing is left of the items
+pub value_read_all : {X : Type 0} (f : X → Data) (items : List X) (d : Data) (fields : List ℤ) (i : ℕ) → i ≡ length items
+    → 1 ≤ length items → length items ≤ FIELD_COUNT
+    → Some (map f items) ≡ list_in d
+    → each_in integer_in (map f items) ≡ option_map (λ zs. take i fields ++ zs) (each_in integer_in (map f (drop i items)))
+    → drop i fields ≡ replicate (FIELD_COUNT - i) (pos 0) → Some (record { 0 = fields }) ≡ value_in d
+value_read_all f items d fields i count low high is found zeros =
+    let long = length-map items f in
+    let none : drop i items ≡ [] = drop_all i items (omega arith) in
+    let all : each_in integer_in (map f items) ≡ Some (take i fields) =
+    found ∙ ap (λ xs. option_map (λ zs. take i fields ++ zs) (each_in integer_in (map f xs))) none ∙ ap Some (append-nil (take i fields)) in
+    sym (value_read (map f items) fields i (omega arith) (omega arith) (omega arith) all zeros) ∙ ap (λ o. option_and_then value_of_items o) is
+
+-- an argument that is a text, and the step that is made of it
+with_text : (make : List ℕ → Step) (d : Data) (s : Step) → option_map make (as_str d) ≡ Some s → (t : List ℕ) × (d ≡ string t) × (s ≡ make t)
+with_text make (string t) s e = (t, refl, grind arith)
+with_text make null s e = cc
+with_text make (boolean b) s e = cc
+with_text make (number n) s e = cc
+with_text make (array ds) s e = cc
+with_text make (object ms) s e = cc
+
+none_is : (w : List ℕ) (s : Step) → step_of_none w ≡ Some s → IsStepData (written w []) s
+none_is w s e =
+    chosen _ (bytes_eq w (codes "create")) _ _ s e (λ t h. let q : s ≡ create None = cc in rw (q, word_is w _ t) refl)
+    (λ f. chosen _ (bytes_eq w (codes "list")) _ _ s f (λ t h. let q : s ≡ list = cc in rw (q, word_is w _ t) refl) (λ h. cc))
+
+-- one text behind the word, and behind what stands in front of it
+module _ (make : List ℕ → Step) (w c : List ℕ) (front : List Data) (d : Data) (s : Step) where
+  written_as : (t : List ℕ) → w ≡ c → d ≡ string t → s ≡ make t → IsStepData (written c (front ++ string t ∷ [])) (make t)
+      → IsStepData (written w (front ++ d ∷ [])) s
+  written_as t word at of is = rw (word, at, of) is
+
+  text_is : ((t : List ℕ) → IsStepData (written c (front ++ string t ∷ [])) (make t))
+      → bytes_eq w c ≡ true → option_map make (as_str d) ≡ Some s → IsStepData (written w (front ++ d ∷ [])) s
+  text_is is t e = let (text, at, of) = with_text make d s e in written_as text (word_is w c t) at of (is text)
+
+one_is : (w : List ℕ) (d : Data) (s : Step) → step_of_one w d ≡ Some s → IsStepData (written w (d ∷ [])) s
+one_is w d s e =
+    chosen _ (bytes_eq w (codes "create")) _ _ s e (text_is (λ name. create (Some name)) w (codes "create") [] d s (λ t. refl))
+    (λ f. chosen _ (bytes_eq w (codes "clear")) _ _ s f (text_is clear w (codes "clear") [] d s (λ t. refl))
+    (λ g. chosen _ (bytes_eq w (codes "show")) _ _ s g (text_is show w (codes "show") [] d s (λ t. refl))
+    (λ h. chosen _ (bytes_eq w (codes "query")) _ _ s h (text_is query w (codes "query") [] d s (λ t. refl)) (λ k. cc))))
+
+component_is : (w x : List ℕ) (d : Data) (s : Step) → bytes_eq w (codes "component") ≡ true → option_map (component x) (number_in 1 LARGEST_ARITY d) ≡ Some s
+    → IsStepData (written w (string x ∷ d ∷ [])) s
+component_is w x d s t e = counted (number_in 1 LARGEST_ARITY d) refl e where
+  counted : (o : Option ℕ) → number_in 1 LARGEST_ARITY d ≡ o → option_map (component x) o ≡ Some s → IsStepData (written w (string x ∷ d ∷ [])) s
+  counted None n h = cc
+  counted (Some arity) n h =
+      let q : s ≡ component x arity = cc in
+      let (is, low, high) = number_is 1 LARGEST_ARITY d arity n in
+      rw (is, q, word_is w _ t) (refl, low, high)
+
+rename_is : (w x : List ℕ) (d : Data) (s : Step) → bytes_eq w (codes "rename") ≡ true → option_map (rename x) (name_in d) ≡ Some s
+    → IsStepData (written w (string x ∷ d ∷ [])) s
+rename_is w x d s t e = named (name_in d) refl e where
+  named : (o : Option (Option (List ℕ))) → name_in d ≡ o → option_map (rename x) o ≡ Some s → IsStepData (written w (string x ∷ d ∷ [])) s
+  named None n h = cc
+  named (Some name) n h = let q : s ≡ rename x name = cc in rw (name_is d name n, q, word_is w _ t) refl
+
+two_is : (w x : List ℕ) (d : Data) (s : Step) → step_of_two w x d ≡ Some s → IsStepData (written w (string x ∷ d ∷ [])) s
+two_is w x d s e =
+    chosen _ (bytes_eq w (codes "component")) _ _ s e (component_is w x d s)
+    (λ f. chosen _ (bytes_eq w (codes "add")) _ _ s f (text_is (add x) w (codes "add") (string x ∷ []) d s (λ t. refl))
+    (λ g. chosen _ (bytes_eq w (codes "remove")) _ _ s g (text_is (remove x) w (codes "remove") (string x ∷ []) d s (λ t. refl))
+    (λ h. chosen _ (bytes_eq w (codes "has")) _ _ s h (text_is (has x) w (codes "has") (string x ∷ []) d s (λ t. refl))
+    (λ k. chosen _ (bytes_eq w (codes "get")) _ _ s k (text_is (get x) w (codes "get") (string x ∷ []) d s (λ t. refl))
+    (λ l. chosen _ (bytes_eq w (codes "rename")) _ _ s l (rename_is w x d s) (λ m. cc))))))
+
+three_is : (w x y : List ℕ) (d : Data) (s : Step) → step_of_three w x y d ≡ Some s → IsStepData (written w (string x ∷ string y ∷ d ∷ [])) s
+three_is w x y d s e = chosen _ (bytes_eq w (codes "set")) _ _ s e (λ t h. valued t (value_in d) refl h) (λ h. cc) where
+  valued : bytes_eq w (codes "set") ≡ true → (o : Option Value) → value_in d ≡ o → option_map (set x y) o ≡ Some s
+      → IsStepData (written w (string x ∷ string y ∷ d ∷ [])) s
+  valued t None n h = cc
+  valued t (Some v) n h = let q : s ≡ set x y v = cc in rw (q, word_is w _ t) (d, refl, value_is d v n)
+
+-- a list of words is that of the step that they are
+words_are : (ds : List Data) (s : Step) → step_of_words ds ≡ Some s → IsStepData (list_data ds) s
+words_are [] s e = cc
+words_are (a ∷ []) s e =
+    option_and_then_some step_of_none (as_str a) s e (λ w is h. rw (str_is a w is) (none_is w s h))
+words_are (a ∷ b ∷ []) s e =
+    option_and_then_some (λ w. step_of_one w b) (as_str a) s e (λ w is h. rw (str_is a w is) (one_is w b s h))
+words_are (a ∷ b ∷ c ∷ []) s e =
+    option_and_then_some (λ w. option_and_then (λ x. step_of_two w x c) (as_str b)) (as_str a) s e
+    (λ w is h. option_and_then_some (λ x. step_of_two w x c) (as_str b) s h (λ x at k. rw (str_is a w is, str_is b x at) (two_is w x c s k)))
+words_are (a ∷ b ∷ c ∷ d ∷ []) s e =
+    option_and_then_some (λ w. option_and_then (λ x. option_and_then (λ y. step_of_three w x y d) (as_str c)) (as_str b)) (as_str a) s e
+    (λ w is h. option_and_then_some (λ x. option_and_then (λ y. step_of_three w x y d) (as_str c)) (as_str b) s h
+    (λ x at k. option_and_then_some (λ y. step_of_three w x y d) (as_str c) s k
+    (λ y of l. rw (str_is a w is, str_is b x at, str_is c y of) (three_is w x y d s l))))
+words_are (a ∷ b ∷ c ∷ d ∷ f ∷ ds) s e = cc
+
+step_is : (d : Data) (s : Step) → step_in d ≡ Some s → IsStepData d s
+step_is d s e = option_and_then_some step_of_words (list_in d) s e (λ ds is h. rw (list_is d ds is) (words_are ds s h))
+
+-- the list of the steps
+steps_are : (d : Data) (ss : List Step) → option_and_then (each_in step_in) (list_in d) ≡ Some ss → (items : List Data) × (d ≡ list_data items) × AllZip IsStepData items ss
+steps_are d ss e = option_and_then_some (each_in step_in) (list_in d) ss e (λ ds is h. (ds, list_is d ds is, each_is step_in IsStepData step_is ds ss h))
+
 parts_are : (ds : List Data) (s : Script) → script_of_parts ds ≡ Some s → IsScriptData (list_data ds) s
 parts_are [] s e = cc
 parts_are (a ∷ []) s e = cc
 parts_are (a ∷ b ∷ []) s e = cc
 parts_are (a ∷ b ∷ c ∷ d ∷ ds) s e = cc
 parts_are (a ∷ b ∷ c ∷ []) s e =
-    option_and_then_some (λ v. option_and_then (λ l. option_map (λ ss. record { limit = l; steps = ss }) (option_and_then steps_of (list_in c))) (number_in 9 1048576 b))
+    option_and_then_some (λ v. option_and_then (λ l. option_map (λ ss. record { limit = l; steps = ss }) (option_and_then (each_in step_in) (list_in c))) (number_in 9 1048576 b))
     (number_in 1 1 a) s e
-    (λ v is h. option_and_then_some (λ l. option_map (λ ss. record { limit = l; steps = ss }) (option_and_then steps_of (list_in c))) (number_in 9 1048576 b) s h
-    (λ l at k. whole v (number_is 1 1 a v is) l (number_is 9 1048576 b l at) (option_and_then steps_of (list_in c)) refl k)) where
+    (λ v is h. option_and_then_some (λ l. option_map (λ ss. record { limit = l; steps = ss }) (option_and_then (each_in step_in) (list_in c))) (number_in 9 1048576 b) s h
+    (λ l at k. whole v (number_is 1 1 a v is) l (number_is 9 1048576 b l at) (option_and_then (each_in step_in) (list_in c)) refl k)) where
       whole : (v : ℕ) → (a ≡ number (unsigned v)) × (1 ≤ v) × (v ≤ 1) → (l : ℕ) → (b ≡ number (unsigned l)) × (9 ≤ l) × (l ≤ 1048576)
-          → (o : Option (List Step)) → option_and_then steps_of (list_in c) ≡ o → option_map (λ ss. record { limit = l; steps = ss }) o ≡ Some s
+          → (o : Option (List Step)) → option_and_then (each_in step_in) (list_in c) ≡ o → option_map (λ ss. record { limit = l; steps = ss }) o ≡ Some s
           → IsScriptData (list_data (a ∷ b ∷ c ∷ [])) s
       whole v (is, low, high) l (at, least, most) None n h = cc
       whole v (is, low, high) l (at, least, most) (Some ss) n h =
           let one : v ≡ 1 = omega arith in
           let q : s ≡ record { limit = l; steps = ss } = cc in
-          let steps : c ≡ list_data (map step_data ss) =
-          option_and_then_some steps_of (list_in c) ss n (λ ds at_list of. list_is c ds at_list ∙ ap list_data (steps_are ds ss of)) in
-          rw (q, is, one, at, steps) (refl, least, most)
+          let (items, listed, are) = steps_are c ss n in
+          rw (q, is, one, at, listed) (record { items = items; is_list = refl; are_steps = are; at_least = least; at_most = most })
 
 pub script_is : (d : Data) (s : Script) → script_in d ≡ Some s → IsScriptData d s
 script_is d s e =

@@ -1,25 +1,26 @@
 -- Each step has some answer on every world: what it can't be done for, what it is done with, or that memory was wanting.
-use Rattle.std.proofs.Common.{◌≡◌, ℕ, Bool, true, false, not, ◌&&◌, List, [], ◌∷◌, map, Option, Some, None, Result, Ok, Err, refl, MatchBool, arith}
+use Rattle.std.proofs.Common.{◌≡◌, ℕ, Bool, true, false, not, ◌&&◌, List, [], ◌∷◌, map, Option, Some, None, Result, Ok, Err, is_some, refl, MatchBool, arith}
 use Rattle.std.specs.List.{list_all}
 use Rattle.eco_ids.specs.declared.entity.Entity.{Entity}
 use Rattle.eco_ids.specs.declared.id.Id.{Id}
-use Rattle.eco_ids.specs.declared.id.Id.TheVariants.{One}
 use Rattle.eco_ids.specs.declared.refusal.Refusal.{Refusal}
-use Rattle.eco_ids.specs.declared.refusal.Refusal.TheVariants.{NotAlive, DeadId, Reserved, BadName, NameTaken, NoMoreIds, OutOfMemory}
+use Rattle.eco_ids.specs.declared.refusal.Refusal.TheVariants.{NotAlive, DeadId, Reserved, NotData, TooWide, BadName, NameTaken, NoMoreIds, OutOfMemory}
 use Rattle.eco_ids.specs.Answer.{answer}
 use Rattle.eco_world.specs.Queries.{term_of}
-use Rattle.eco_ids.specs.Births.{Creates, may_create, unfit_name}
+use Rattle.eco_ids.specs.Births.{Creates, may_create, MakesComponent, may_make_component, unfit_name}
 use Rattle.eco_ids.specs.Indices.{is_alive, living, next_entity}
 use Rattle.eco_ids.specs.Outcome.{first_refusal, is_out_of_memory, Refuses, Answers, Meets}
-use Rattle.eco_ids.specs.Step.{Adds, may_add, Removes, may_remove, Renames, may_rename, unfit, unfit_actor, unfit_rename, changed, without_id, with_name, own_name}
+use Rattle.eco_ids.specs.Step.{Adds, may_add, Sets, may_set, Removes, may_remove, Clears, may_clear, Renames, may_rename, unfit, unfit_set, unfit_actor, unfit_rename, changed, with_value, without_id, without_ids, with_name, own_name}
 use Rattle.eco_ids.specs.Builtin.{is_builtin}
+use Rattle.eco_ids.specs.Data.{arity, fits}
+use Rattle.eco_ids.specs.declared.value.Value.{Value}
 use Rattle.eco_ids.specs.World.{WorldState, has, names_living}
 use Rattle.eco_script.specs.References.{ReadsEntity, ReadsId}
-use Rattle.eco_query.specs.Readings.{ok_map}
-use Rattle.eco_script.proofs.Readable.{ref_read}
-use Rattle.eco_script.specs.Replies.{Reply, truth, shown, listed, found, replied, Calls, On, OnEntity, OnId, Replies}
+use Rattle.eco_script.proofs.Readable.{ref_read, id_read}
+use Rattle.eco_script.specs.Replies.{Reply, truth, got, shown, listed, found, replied, Calls, On, OnEntity, OnId, Replies}
 use Rattle.eco_script.specs.Steps as step
 use Rattle.eco_script.specs.Text.{Does, step_lines}
+use Rattle.eco_script.specs.Values.{shown_value}
 use Rattle.eco_ids.specs.Names.{lookup, is_proper, is_taken, is_same_name}
 
 -- some answer, and some world after it
@@ -61,6 +62,15 @@ create_ends w name =
       next None e fit = (Err NoMoreIds, w, rw (fit, e) (refl, refl))
       next (Some x) e fit = wanting (Creates w name) (may_create w name) w (rw (fit, e) refl)
 
+component_ends : (w : WorldState) (name : Option (List ℕ)) (n : ℕ) → Ends (Meets (MakesComponent w name n) (may_make_component w name) w)
+component_ends w name n =
+    unless (MakesComponent w name n) (may_make_component w name) w (unfit_name (λ r. r.name) w name)
+    (plain_refusal ((not (is_proper name), BadName) ∷ (is_taken w name, NameTaken) ∷ []) refl) (λ why e. rw e (refl, refl))
+    (λ fit. next (next_entity w) refl fit) where
+      next : (o : Option Entity) → next_entity w ≡ o → unfit_name (λ r. r.name) w name ≡ None → Ends (Meets (MakesComponent w name n) (may_make_component w name) w)
+      next None e fit = (Err NoMoreIds, w, rw (fit, e) (refl, refl))
+      next (Some x) e fit = wanting (MakesComponent w name n) (may_make_component w name) w (rw (fit, e) refl)
+
 add_ends : (w : WorldState) (e : Entity) (i : Id) → Ends (Meets (Adds w e i) (may_add w e i) w)
 add_ends w e i =
     unless (Adds w e i) (may_add w e i) w (unfit w e i)
@@ -69,11 +79,26 @@ add_ends w e i =
       there true h fit = (Ok tt, w, rw (fit, h) (refl, refl))
       there false h fit = wanting (Adds w e i) (may_add w e i) w (rw (fit, h) refl)
 
+set_ends : (w : WorldState) (e : Entity) (i : Id) (v : Value) → Ends (Meets (Sets w e i v) (may_set w e i v) w)
+set_ends w e i v =
+    unless (Sets w e i v) (may_set w e i v) w (unfit_set w e i v)
+    (plain_refusal ((not (is_alive w e), NotAlive) ∷ (is_builtin w e, Reserved) ∷ (not (names_living w i), DeadId)
+    ∷ (not (is_some (arity w i)), NotData) ∷ (not (fits w i v), TooWide) ∷ []) refl) (λ why eq. rw eq (refl, refl)) (λ fit. there (has w e i) refl fit) where
+      there : (b : Bool) → has w e i ≡ b → unfit_set w e i v ≡ None → Ends (Meets (Sets w e i v) (may_set w e i v) w)
+      there true h fit = (Ok tt, changed w e (with_value i v), rw (fit, h) (refl, refl))
+      there false h fit = wanting (Sets w e i v) (may_set w e i v) w (rw (fit, h) refl)
+
 remove_ends : (w : WorldState) (e : Entity) (i : Id) → Ends (Meets (Removes w e i) (may_remove w e i) w)
 remove_ends w e i =
     unless (Removes w e i) (may_remove w e i) w (unfit_actor w e)
     (plain_refusal ((not (is_alive w e), NotAlive) ∷ (is_builtin w e, Reserved) ∷ []) refl) (λ why eq. rw eq (refl, refl))
     (λ fit. (Ok tt, changed w e (without_id i), rw fit (refl, refl)))
+
+clear_ends : (w : WorldState) (e : Entity) → Ends (Meets (Clears w e) (may_clear w e) w)
+clear_ends w e =
+    unless (Clears w e) (may_clear w e) w (unfit_actor w e)
+    (plain_refusal ((not (is_alive w e), NotAlive) ∷ (is_builtin w e, Reserved) ∷ []) refl) (λ why eq. rw eq (refl, refl))
+    (λ fit. (Ok tt, changed w e without_ids, rw fit (refl, refl)))
 
 rename_ends : (w : WorldState) (e : Entity) (name : Option (List ℕ)) → Ends (Meets (Renames w e name) (may_rename w e name) w)
 rename_ends w e name =
@@ -101,7 +126,7 @@ reads_entity w text = ref_read (lookup w) text
 
 reads_id : (w : WorldState) (text : List ℕ) → (n : Result Id Refusal) × ReadsId w text n
 unfolding ReadsId
-reads_id w text = let (single, is) = reads_entity w text in (ok_map (λ e. One e) single, (single, is, refl))
+reads_id w text = id_read (lookup w) text
 
 on_entity : (w : WorldState) (text : List ℕ) (Goes : Entity → Result Reply Refusal → WorldState → Type 0)
     → ((x : Entity) → Ends (Goes x)) → Ends (OnEntity w text Goes)
@@ -113,10 +138,14 @@ on_id w text Goes goes = on_ends (ReadsId w text) w Goes (reads_id w text) goes
 
 replies_end : (w : WorldState) (s : step.Step) → Ends (Replies w s)
 replies_end w (step.create name) = calls_end _ _ (create_ends w name)
+replies_end w (step.component name n) = calls_end _ _ (component_ends w (Some name) n)
 replies_end w (step.add e i) = on_entity w e _ (λ x. on_id w i _ (λ y. calls_end _ _ (add_ends w x y)))
 replies_end w (step.remove e i) = on_entity w e _ (λ x. on_id w i _ (λ y. calls_end _ _ (remove_ends w x y)))
+replies_end w (step.set e i v) = on_entity w e _ (λ x. on_id w i _ (λ y. calls_end _ _ (set_ends w x y v)))
+replies_end w (step.clear e) = on_entity w e _ (λ x. calls_end _ _ (clear_ends w x))
 replies_end w (step.rename e name) = on_entity w e _ (λ x. calls_end _ _ (rename_ends w x name))
 replies_end w (step.has e i) = on_entity w e _ (λ x. on_id w i _ (λ y. (Ok (truth (has w x y)), w, (refl, refl))))
+replies_end w (step.get e i) = on_entity w e _ (λ x. on_id w i _ (λ y. (Ok (got (shown_value w x y)), w, (refl, refl))))
 replies_end w (step.show e) = on_entity w e _ (λ x. show_ends w x (is_alive w x))
 replies_end w step.list = (Ok (listed (map (λ p. p.0) (living w))), w, (refl, refl))
 replies_end w (step.query q) = on_id w q _ (λ y. (Ok (found (answer w (term_of y))), w, (refl, refl)))

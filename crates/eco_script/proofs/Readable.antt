@@ -2,14 +2,15 @@
 use Rattle.std.proofs.Common.{◌≡◌, ◌⊎◌, inl, inr, ℕ, suc, ◌+◌, ◌<◌, List, [], ◌∷◌, length, take, get_or, Option, Some, None, option_map, option_and_then, Result, Err, refl, ap, ◌∙◌, subst, arith}
 use Rattle.std.proofs.Math.Seq.{take-length}
 use Rattle.eco_ids.specs.declared.entity.Entity.{Entity}
+use Rattle.eco_ids.specs.declared.id.Id.{Id}
 use Rattle.eco_ids.specs.declared.refusal.Refusal.{Refusal}
 use Rattle.eco_ids.specs.declared.refusal.Refusal.TheVariants.{Syntax}
-use Rattle.eco_query.specs.Grammar.{named, each, any, WrittenSlot, PlacedReference, SpellsRef, IsPart}
-use Rattle.eco_query.specs.Machine.{Point, advance, runs, move, end, Stops, ref_start}
-use Rattle.eco_query.specs.Readings.{Reads, entity_at}
+use Rattle.eco_query.specs.Grammar.{named, each, any, WrittenSlot, PlacedReference, SpellsId, SpellsRef, IsPart}
+use Rattle.eco_query.specs.Machine.{Point, advance, runs, move, end, Stops, id_start, ref_start}
+use Rattle.eco_query.specs.Readings.{Reads, entity_at, id_of}
 use Rattle.eco_query.proofs.Rest.{Rest}
 use Rattle.eco_query.proofs.Runs.{read_out}
-use Rattle.eco_query.proofs.Spelled.{ref_refused}
+use Rattle.eco_query.proofs.Spelled.{id_out, id_refused, ref_refused}
 
 -- the machine, at this count and point, runs through the whole text
 abbrev RunsThrough : ℕ → Point → List ℕ → Type 0
@@ -60,4 +61,11 @@ pub ref_read : (entity_named : List ℕ → Option Entity) (text : List ℕ) →
 ref_read entity_named text = elim (ended_or_stops ref_start text) [
   | inl (slots, rest) ↦ (let (r, s) = ref_of text slots rest in (entity_at entity_named r, inl (r, s, refl)))
   | inr (n, stops) ↦ (Err (Syntax n), ref_refused (entity_at entity_named) text n stops)
+]
+
+-- each text names an id or is refused
+pub id_read : (entity_named : List ℕ → Option Entity) (text : List ℕ) → (r : Result Id Refusal) × Reads SpellsId (id_of entity_named) text r
+id_read entity_named text = elim (ended_or_stops id_start text) [
+  | inl (slots, rest) ↦ (let (x, s, e) = id_out text slots rest in (id_of entity_named x, inl (x, s, refl)))
+  | inr (n, stops) ↦ (Err (Syntax n), id_refused (id_of entity_named) text n stops)
 ]

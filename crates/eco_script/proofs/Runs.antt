@@ -35,12 +35,12 @@ begins t q r u more e = rw e (simp append_assoc)
 
 -- what is said of the front of a list, and of all of it
 module _ {X : Type 0} (f : X → Step) (xs : List X) where
-  text_more : (i : ℕ) (d : X) (w m e : WorldState) (t u : List ℕ) → i < length xs → Text w (map f (take i xs)) t m → Does m (f (get_or xs i d)) u e
-      → Text w (map f (take (i + 1) xs)) (t ++ u) e
-  text_more i d w m e t u lt p does =
-      let front : map f (take (i + 1) xs) ≡ map f (take i xs) ++ f (get_or xs i d) ∷ [] =
-      ap (λ ys. map f ys) (take_more xs i d lt) ∙ map-append f (take i xs) (get_or xs i d ∷ []) in
-      rw front (Text-more (map f (take i xs)) (f (get_or xs i d)) w m e t u p does)
+  text_more : (i : ℕ) (x : X) (w m e : WorldState) (t u : List ℕ) → i < length xs → x ≡ get_or xs i x → Text w (map f (take i xs)) t m
+      → Does m (f x) u e → Text w (map f (take (i + 1) xs)) (t ++ u) e
+  text_more i x w m e t u lt is p does =
+      let front : map f (take (i + 1) xs) ≡ map f (take i xs) ++ f x ∷ [] =
+      ap (λ ys. map f ys) (take_more xs i x lt) ∙ map-append f (take i xs) (get_or xs i x ∷ []) ∙ ap (λ y. map f (take i xs) ++ f y ∷ []) (sym is) in
+      rw front (Text-more (map f (take i xs)) (f x) w m e t u p does)
 
   -- a run goes on to some end
   text_goes_on : (i : ℕ) (w m : WorldState) (t : List ℕ) → Text w (map f (take i xs)) t m
@@ -60,21 +60,21 @@ module _ {X : Type 0} (f : X → Step) (xs : List X) where
       (t, t ++ on.0, on.1, on.2, (on.0, refl), h)
 
   -- what was written when the run stops within the text of a step
-  pub stopped_within : (i : ℕ) (d : X) (w m e : WorldState) (a b c : Option (List ℕ)) (u : List ℕ) → i < length xs
+  pub stopped_within : (i : ℕ) (x : X) (w m e : WorldState) (a b c : Option (List ℕ)) (u : List ℕ) → i < length xs → x ≡ get_or xs i x
       → ((t : List ℕ) × Text w (map f (take i xs)) t m × Appends a b t)
-      → Does m (f (get_or xs i d)) u e
+      → Does m (f x) u e
       → ((q : List ℕ) × IsBeginning q u × Appends b c q)
       → (part : List ℕ) × (text : List ℕ) × (end : WorldState) × Text w (map f xs) text end × IsBeginning part text × Appends a c part
-  stopped_within i d w m e a b c u lt (t, p, h) does (q, (r, er), hq) =
-      let on = text_goes_on (i + 1) w e (t ++ u) (text_more i d w m e t u lt p does) in
+  stopped_within i x w m e a b c u lt is (t, p, h) does (q, (r, er), hq) =
+      let on = text_goes_on (i + 1) w e (t ++ u) (text_more i x w m e t u lt is p does) in
       (t ++ q, (t ++ u) ++ on.0, on.1, on.2, (r ++ on.0, begins t q r u on.0 er), Appends-more a b c t q h hq)
 
   -- one more step was run, and its text written
-  pub ran_more : (i : ℕ) (d : X) (w m e : WorldState) (a b c : Option (List ℕ)) (u : List ℕ) → i < length xs
+  pub ran_more : (i : ℕ) (x : X) (w m e : WorldState) (a b c : Option (List ℕ)) (u : List ℕ) → i < length xs → x ≡ get_or xs i x
       → ((t : List ℕ) × Text w (map f (take i xs)) t m × Appends a b t)
-      → Does m (f (get_or xs i d)) u e → Appends b c u
+      → Does m (f x) u e → Appends b c u
       → (t : List ℕ) × Text w (map f (take (i + 1) xs)) t e × Appends a c t
-  ran_more i d w m e a b c u lt (t, p, h) does hu = (t ++ u, text_more i d w m e t u lt p does, Appends-more a b c t u h hu)
+  ran_more i x w m e a b c u lt is (t, p, h) does hu = (t ++ u, text_more i x w m e t u lt is p does, Appends-more a b c t u h hu)
 
 Text-at : (w v e : WorldState) (ss rs : List Step) (t : List ℕ) → w ≡ v → ss ≡ rs → Text w ss t e → Text v rs t e
 Text-at w v e ss rs t p q h = rw (← p, ← q) h

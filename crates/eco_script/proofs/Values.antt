@@ -1,23 +1,36 @@
--- Reading steps from values, one after another.
-use Rattle.std.proofs.Common.{◌≡◌, List, [], ◌∷◌, ◌++◌, Option, Some, None, option_map, option_and_then, refl, ap, sym, append_assoc}
-use Rattle.serde_json.specs.Data.{Data}
+-- Reading items from values, one after another.
+use Rattle.std.proofs.Common.{◌≡◌, List, [], ◌∷◌, Option, Some, None, option_map, refl, ap}
+use Rattle.std.specs.List.{AllZip}
+use Rattle.std.proofs.lemmas.Option.{option_and_then_some}
+use Rattle.serde_json.specs.Data.{Data, Items, no_items, item}
 use Rattle.serde_json.specs.View.{items_of}
-use Rattle.eco_script.specs.Steps.{Step}
-use Rattle.eco_script.specs.Decode.{items_list, step_in, steps_of}
+use Rattle.eco_script.specs.Decode.{items_list, each_in}
 
 pub items_list-items_of : (ds : List Data) → items_list (items_of ds) ≡ ds
 items_list-items_of [] = refl
 items_list-items_of (d ∷ ds) = ap (λ es. d ∷ es) (items_list-items_of ds)
 
--- a step in front
-pub steps_of-some : (d : Data) (ds : List Data) (s : Step) → step_in d ≡ Some s → steps_of (d ∷ ds) ≡ option_map (λ ss. s ∷ ss) (steps_of ds)
-steps_of-some d ds s e = ap (λ o. option_and_then (λ t. option_map (λ ss. t ∷ ss) (steps_of ds)) o) e
+pub items_of-items_list : (is : Items) → items_of (items_list is) ≡ is
+items_of-items_list no_items = refl
+items_of-items_list (item d is) = ap (λ js. item d js) (items_of-items_list is)
 
-pub steps_of-none : (d : Data) (ds : List Data) → step_in d ≡ None → steps_of (d ∷ ds) ≡ None
-steps_of-none d ds e = ap (λ o. option_and_then (λ t. option_map (λ ss. t ∷ ss) (steps_of ds)) o) e
+module _ {A : Type 0} (find : Data → Option A) (Is : Data → A → Type 0) where
+  -- what is written in each is found
+  pub each_found : ((d : Data) (x : A) → Is d x → find d ≡ Some x) → (ds : List Data) (xs : List A) → AllZip Is ds xs → each_in find ds ≡ Some xs
+  each_found one [] [] are = refl
+  each_found one [] (x ∷ xs) are = absurd are
+  each_found one (d ∷ ds) [] are = absurd are
+  each_found one (d ∷ ds) (x ∷ xs) (is, are) = rw (one d x is, each_found one ds xs are) refl
 
--- one more step behind those that were read
-pub option_map-more : (done : List Step) (s : Step) (o : Option (List Step))
-    → option_map (λ ss. done ++ ss) (option_map (λ ss. s ∷ ss) o) ≡ option_map (λ ss. (done ++ s ∷ []) ++ ss) o
-option_map-more done s None = refl
-option_map-more done s (Some ss) = ap Some (sym (append_assoc done (s ∷ []) ss))
+  -- one in front of others
+  each_more : (d : Data) (ds : List Data) (x : A) (o : Option (List A)) (ys : List A) → Is d x
+      → ((xs : List A) → o ≡ Some xs → AllZip Is ds xs) → option_map (λ xs. x ∷ xs) o ≡ Some ys → AllZip Is (d ∷ ds) ys
+  each_more d ds x None ys is are h = cc
+  each_more d ds x (Some xs) ys is are h = let q : ys ≡ x ∷ xs = cc in rw q (is, are xs refl)
+
+  -- what is found in each is written there
+  pub each_is : ((d : Data) (x : A) → find d ≡ Some x → Is d x) → (ds : List Data) (xs : List A) → each_in find ds ≡ Some xs → AllZip Is ds xs
+  each_is one [] xs e = let q : xs ≡ [] = cc in rw q tt
+  each_is one (d ∷ ds) xs e =
+      option_and_then_some (λ x. option_map (λ ys. x ∷ ys) (each_in find ds)) (find d) xs e
+      (λ x is h. each_more d ds x (each_in find ds) xs (one d x is) (λ ys n. each_is one ds ys n) h)

@@ -1,16 +1,18 @@
 -- The program's replies, as those of the definitions.
-use Rattle.std.specs.Prelude.{map, Result}
+use Rattle.std.specs.Prelude.{map, option_map, Result}
 use Rattle.eco_ids.specs.declared.refusal.Refusal.{Refusal}
 use Rattle.eco_world.specs.Queries.{result_of}
+use Rattle.eco_script.specs.ShownViews.{shown_view}
 use Rattle.eco_script.specs.Replies as spec
 use Rattle.eco_script.specs.declared.reply.Reply.{Reply}
-use Rattle.eco_script.specs.declared.reply.Reply.TheVariants.{Done, Made, Truth, Shown, Listed, Found}
+use Rattle.eco_script.specs.declared.reply.Reply.TheVariants.{Done, Made, Truth, Got, Shown, Listed, Found}
 
 -- the reply, with what its lists have
 abbrev pub reply_view : Reply → spec.Reply
 reply_view Done = spec.done
 reply_view (Made e) = spec.made e
 reply_view (Truth b) = spec.truth b
+reply_view (Got value) = spec.got (option_map shown_view value)
 reply_view (Shown e) = spec.shown e
 reply_view (Listed es) = spec.listed es.items
 reply_view (Found rows) = spec.found (map result_of rows.items)

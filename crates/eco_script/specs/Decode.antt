@@ -1,10 +1,12 @@
 -- How the program finds the script that a JSON value is, if it is one. The contracts of private functions speak of it;
 -- that it finds exactly the scripts is proved over it.
-use Rattle.std.specs.Prelude.{ℕ, ◌&&◌, List, [], ◌∷◌, codes, Option, Some, None, option_map, option_and_then, nat_le, if◌then◌else◌}
+use Rattle.std.specs.Prelude.{ℕ, ◌^◌, ◌&&◌, ℤ, pos, negsuc, List, [], ◌∷◌, length, codes, Option, Some, None, option_map, option_and_then, nat_le, nat_lt, if◌then◌else◌}
 use Rattle.std.specs.Str.{bytes_eq}
-use Rattle.serde_json.specs.Data.{Data, null, boolean, number, string, array, object, Items, no_items, item}
+use Rattle.serde_json.specs.Data.{Data, null, boolean, number, string, array, object, Items, no_items, item, Num, unsigned, negative, float}
 use Rattle.serde_json.specs.Find.{as_number, as_str, as_array, as_u64}
-use Rattle.eco_script.specs.Steps.{Step, create, add, remove, rename, has, show, list, query}
+use Rattle.eco_ids.specs.declared.value.TheConstants.{FIELD_COUNT, LARGEST_ARITY}
+use Rattle.eco_ids.specs.declared.value.Value.{Value}
+use Rattle.eco_script.specs.Steps.{Step, create, component, add, remove, set, clear, rename, has, get, show, list, query, value_with}
 use Rattle.eco_script.specs.Script.{Script}
 
 -- items as a list
@@ -16,9 +18,33 @@ items_list (item d ds) = d ∷ items_list ds
 abbrev pub list_in : Data → Option (List Data)
 list_in d = option_map items_list (as_array d)
 
+-- what is found in each of some values, if something is in each
+abbrev pub each_in : {A : Type 0} → (Data → Option A) → List Data → Option (List A)
+each_in find [] = Some []
+each_in find (d ∷ ds) = option_and_then (λ x. option_map (λ xs. x ∷ xs) (each_in find ds)) (find d)
+
 -- a whole number in a range
 abbrev pub number_in : ℕ → ℕ → Data → Option ℕ
 number_in low high d = option_and_then (λ n. if nat_le low n && nat_le n high then Some n else None) (option_and_then as_u64 (as_number d))
+
+-- a number that is whole and has 64 bits
+abbrev pub integer_of : Num → Option ℤ
+integer_of (unsigned n) = if nat_lt n (2 ^ 63) then Some (pos n) else None
+integer_of (negative (pos n)) = None
+integer_of (negative (negsuc n)) = if nat_lt n (2 ^ 63) then Some (negsuc n) else None
+integer_of (float x) = None
+
+-- a whole number of 64 bits
+abbrev pub integer_in : Data → Option ℤ
+integer_in d = option_and_then integer_of (as_number d)
+
+-- the value whose first fields are in a list of as many items
+abbrev pub value_of_items : List Data → Option Value
+value_of_items ds = if nat_le 1 (length ds) && nat_le (length ds) FIELD_COUNT then option_map value_with (each_in integer_in ds) else None
+
+-- the value of a component
+abbrev pub value_in : Data → Option Value
+value_in d = option_and_then value_of_items (list_in d)
 
 -- a name, or `null`
 abbrev pub name_in : Data → Option (Option (List ℕ))
@@ -39,38 +65,42 @@ step_of_none word =
 abbrev pub step_of_one : List ℕ → Data → Option Step
 step_of_one word d =
     if bytes_eq word (codes "create") then option_map (λ name. create (Some name)) (as_str d)
+    else (if bytes_eq word (codes "clear") then option_map clear (as_str d)
     else (if bytes_eq word (codes "show") then option_map show (as_str d)
-    else (if bytes_eq word (codes "query") then option_map query (as_str d) else None))
+    else (if bytes_eq word (codes "query") then option_map query (as_str d) else None)))
 
--- the step with this word, an entity and one more argument
+-- the step with this word, a text and one more argument
 abbrev pub step_of_two : List ℕ → List ℕ → Data → Option Step
-step_of_two word entity d =
-    if bytes_eq word (codes "add") then option_map (add entity) (as_str d)
-    else (if bytes_eq word (codes "remove") then option_map (remove entity) (as_str d)
-    else (if bytes_eq word (codes "has") then option_map (has entity) (as_str d)
-    else (if bytes_eq word (codes "rename") then option_map (rename entity) (name_in d) else None)))
+step_of_two word text d =
+    if bytes_eq word (codes "component") then option_map (component text) (number_in 1 LARGEST_ARITY d)
+    else (if bytes_eq word (codes "add") then option_map (add text) (as_str d)
+    else (if bytes_eq word (codes "remove") then option_map (remove text) (as_str d)
+    else (if bytes_eq word (codes "has") then option_map (has text) (as_str d)
+    else (if bytes_eq word (codes "get") then option_map (get text) (as_str d)
+    else (if bytes_eq word (codes "rename") then option_map (rename text) (name_in d) else None)))))
+
+-- the step with this word, two texts and one more argument
+abbrev pub step_of_three : List ℕ → List ℕ → List ℕ → Data → Option Step
+step_of_three word text other d = if bytes_eq word (codes "set") then option_map (set text other) (value_in d) else None
 
 -- the step that a list is, by how many items it has
 abbrev pub step_of_words : List Data → Option Step
 step_of_words [] = None
 step_of_words (word ∷ []) = option_and_then step_of_none (as_str word)
 step_of_words (word ∷ d ∷ []) = option_and_then (λ w. step_of_one w d) (as_str word)
-step_of_words (word ∷ d ∷ e ∷ []) = option_and_then (λ w. option_and_then (λ entity. step_of_two w entity e) (as_str d)) (as_str word)
-step_of_words (word ∷ d ∷ e ∷ f ∷ ds) = None
+step_of_words (word ∷ d ∷ e ∷ []) = option_and_then (λ w. option_and_then (λ text. step_of_two w text e) (as_str d)) (as_str word)
+step_of_words (word ∷ d ∷ e ∷ f ∷ []) =
+    option_and_then (λ w. option_and_then (λ text. option_and_then (λ other. step_of_three w text other f) (as_str e)) (as_str d)) (as_str word)
+step_of_words (word ∷ d ∷ e ∷ f ∷ g ∷ ds) = None
 
 -- the step that a value is
 abbrev pub step_in : Data → Option Step
 step_in d = option_and_then step_of_words (list_in d)
 
--- the steps that values are, if each is one
-abbrev pub steps_of : List Data → Option (List Step)
-steps_of [] = Some []
-steps_of (d ∷ ds) = option_and_then (λ s. option_map (λ ss. s ∷ ss) (steps_of ds)) (step_in d)
-
 -- the script that a version, a limit and a list of steps make
 abbrev pub script_of_parts : List Data → Option Script
 script_of_parts (version ∷ limit ∷ steps ∷ []) =
-    option_and_then (λ v. option_and_then (λ l. option_map (λ ss. record { limit = l; steps = ss }) (option_and_then steps_of (list_in steps)))
+    option_and_then (λ v. option_and_then (λ l. option_map (λ ss. record { limit = l; steps = ss }) (option_and_then (each_in step_in) (list_in steps)))
     (number_in 9 1048576 limit)) (number_in 1 1 version)
 script_of_parts _ = None
 

@@ -1,13 +1,14 @@
 pub mod Answers
 pub mod Beginning
 pub mod Decode
-pub mod LineViews
 pub mod Lines
 pub mod References
 pub mod Replies
 pub mod Run
 pub mod Script
+pub mod ShownViews
 pub mod Statuses
 pub mod Steps
 pub mod Text
+pub mod Values
 pub mod Views

@@ -1,8 +1,9 @@
--- The lines that show entities and results.
+-- The lines that show entities, values and results.
 use Rattle.std.specs.Prelude.{ℕ, List, [], ◌∷◌, ◌++◌, flat_map, codes, decimal, Option, Some, None}
 use Rattle.eco_ids.specs.declared.entity.Entity.{Entity}
 use Rattle.eco_ids.specs.declared.id.Id.{Id}
-use Rattle.eco_ids.specs.Text.{entity_text, id_text}
+use Rattle.eco_ids.specs.Text.{entity_text, id_text, value_text}
+use Rattle.eco_script.specs.Values.{Shown}
 
 -- texts of items, joined by a comma and a space
 abbrev pub joined : {A : Type 0} → (A → List ℕ) → List A → List ℕ
@@ -24,10 +25,19 @@ abbrev pub entry_text : Option Id → List ℕ
 entry_text None = codes "-"
 entry_text (Some i) = id_text i
 
--- an entity with its name, its arity and its ids: `#9.0 a - [#10.0]`
-abbrev pub entity_line : Entity → Option (List ℕ) → Option ℕ → List Id → List ℕ
-entity_line e name arity ids =
-    entity_text e ++ codes " " ++ name_text name ++ codes " " ++ arity_text arity ++ codes " [" ++ joined id_text ids ++ codes "]\n"
+-- a value's fields: `3 -4`
+abbrev pub shown_text : Shown → List ℕ
+shown_text s = value_text s.0 s.1
+
+-- an id, and `=` and its value where it has one: `#9.0` or `#9.0=3 -4`
+abbrev pub held_text : Id → Option Shown → List ℕ
+held_text i None = id_text i
+held_text i (Some shown) = id_text i ++ codes "=" ++ shown_text shown
+
+-- an entity with its name, its arity and its ids, each with what it shows: `#9.0 a - [#10.0, #11.0=3 -4]`
+abbrev pub entity_line : Entity → Option (List ℕ) → Option ℕ → (Id → Option Shown) → List Id → List ℕ
+entity_line e name arity shows ids =
+    entity_text e ++ codes " " ++ name_text name ++ codes " " ++ arity_text arity ++ codes " [" ++ joined (λ i. held_text i (shows i)) ids ++ codes "]\n"
 
 -- a result with its entries: `row #9.0 [#10.0, -]`
 abbrev pub row_line : Entity → List (Option Id) → List ℕ

@@ -1,18 +1,17 @@
 -- What the texts of a script name.
-use Rattle.std.specs.Prelude.{◌≡◌, ℕ, List, Result}
+use Rattle.std.specs.Prelude.{ℕ, List, Result}
 use Rattle.eco_ids.specs.declared.entity.Entity.{Entity}
 use Rattle.eco_ids.specs.declared.id.Id.{Id}
-use Rattle.eco_ids.specs.declared.id.Id.TheVariants.{One}
 use Rattle.eco_ids.specs.declared.refusal.Refusal.{Refusal}
 use Rattle.eco_ids.specs.Names.{lookup}
 use Rattle.eco_ids.specs.World.{WorldState}
-use Rattle.eco_query.specs.Grammar.{SpellsRef}
-use Rattle.eco_query.specs.Readings.{Reads, entity_at, ok_map}
+use Rattle.eco_query.specs.Grammar.{SpellsId, SpellsRef}
+use Rattle.eco_query.specs.Readings.{Reads, entity_at, id_of}
 
 -- the text, a name or a handle with white space round it, names this entity, or is refused
 unfoldable pub ReadsEntity : WorldState → List ℕ → Result Entity Refusal → Type 0
 ReadsEntity w text = Reads SpellsRef (entity_at (lookup w)) text
 
--- the text names this single id, or is refused
+-- the text, an entity or a pair of two with white space round it, names this id, or is refused
 unfoldable pub ReadsId : WorldState → List ℕ → Result Id Refusal → Type 0
-ReadsId w text r = (single : Result Entity Refusal) × ReadsEntity w text single × (r ≡ ok_map (λ e. One e) single)
+ReadsId w text = Reads SpellsId (id_of (lookup w)) text

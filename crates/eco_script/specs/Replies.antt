@@ -1,25 +1,27 @@
 -- What each step of a script answers, and the world that it leaves.
-use Rattle.std.specs.Prelude.{◌≡◌, ℕ, Bool, true, List, map, Result, Ok, Err, MatchResult, MatchBool}
+use Rattle.std.specs.Prelude.{◌≡◌, ℕ, Bool, true, List, map, Option, Some, Result, Ok, Err, MatchResult, MatchBool}
 use Rattle.eco_ids.specs.declared.entity.Entity.{Entity}
 use Rattle.eco_ids.specs.declared.id.Id.{Id}
 use Rattle.eco_ids.specs.declared.refusal.Refusal.{Refusal}
 use Rattle.eco_ids.specs.declared.refusal.Refusal.TheVariants.{NotAlive}
 use Rattle.eco_ids.specs.Answer.{Row, answer}
-use Rattle.eco_ids.specs.Births.{Creates, may_create}
+use Rattle.eco_ids.specs.Births.{Creates, may_create, MakesComponent, may_make_component}
 use Rattle.eco_ids.specs.Indices.{is_alive, living}
 use Rattle.eco_ids.specs.Outcome.{Refuses, Answers, Meets}
-use Rattle.eco_ids.specs.Step.{Adds, may_add, Removes, may_remove, Renames, may_rename}
+use Rattle.eco_ids.specs.Step.{Adds, may_add, Sets, may_set, Removes, may_remove, Clears, may_clear, Renames, may_rename}
 use Rattle.eco_ids.specs.World.{WorldState, has}
 use Rattle.eco_world.specs.Queries.{term_of}
 use Rattle.eco_script.specs.References.{ReadsEntity, ReadsId}
 use Rattle.eco_script.specs.Steps as step
+use Rattle.eco_script.specs.Values.{Shown, shown_value}
 
--- what a step answers where it is done: that it is done, who was made, whether it is so, one entity, all living ones,
--- or the results of a query
+-- what a step answers where it is done: that it is done, who was made, whether it is so, a value or none, one entity, all
+-- living ones, or the results of a query
 pub data Reply : Type 0 where
   done : Reply
   made : Entity → Reply
   truth : Bool → Reply
+  got : Option Shown → Reply
   shown : Entity → Reply
   listed : List Entity → Reply
   found : List Row → Reply
@@ -49,10 +51,15 @@ OnId w text = On (ReadsId w text) w
 -- is the step's refusal. A listing and a query may find no memory.
 abbrev pub Replies : WorldState → step.Step → Result Reply Refusal → WorldState → Type 0
 Replies w (step.create name) = Calls (Meets (Creates w name) (may_create w name) w) made
+Replies w (step.component name arity) =
+    Calls (Meets (MakesComponent w (Some name) arity) (may_make_component w (Some name)) w) made
 Replies w (step.add e i) = OnEntity w e (λ x. OnId w i (λ y. Calls (Meets (Adds w x y) (may_add w x y) w) (λ _. done)))
 Replies w (step.remove e i) = OnEntity w e (λ x. OnId w i (λ y. Calls (Meets (Removes w x y) (may_remove w x y) w) (λ _. done)))
+Replies w (step.set e i v) = OnEntity w e (λ x. OnId w i (λ y. Calls (Meets (Sets w x y v) (may_set w x y v) w) (λ _. done)))
+Replies w (step.clear e) = OnEntity w e (λ x. Calls (Meets (Clears w x) (may_clear w x) w) (λ _. done))
 Replies w (step.rename e name) = OnEntity w e (λ x. Calls (Meets (Renames w x name) (may_rename w x name) w) (λ _. done))
 Replies w (step.has e i) = OnEntity w e (λ x. OnId w i (λ y. Answers (truth (has w x y)) w))
+Replies w (step.get e i) = OnEntity w e (λ x. OnId w i (λ y. Answers (got (shown_value w x y)) w))
 Replies w (step.show e) =
     OnEntity w e (λ x r new. MatchBool (is_alive w x) (Answers (shown x) w r new) (Refuses NotAlive w r new))
 Replies w step.list = Meets (Answers (listed (map (λ p. p.0) (living w))) w) true w

@@ -1,16 +1,25 @@
 -- The steps of a script, and how each is written.
-use Rattle.std.specs.Prelude.{ℕ, List, [], ◌∷◌, codes, Option, Some, None}
-use Rattle.serde_json.specs.Data.{Data, null, string, array}
+use Rattle.std.specs.Prelude.{◌≡◌, ℕ, ◌-◌, ◌≤◌, ℤ, pos, List, [], ◌∷◌, ◌++◌, length, replicate, codes, Option, Some, None, FitsSigned}
+use Rattle.std.specs.Int.{w64}
+use Rattle.std.specs.List.{AllZip}
+use Rattle.serde_json.specs.Data.{Data, null, number, unsigned, string, array}
+use Rattle.serde_json.specs.Find.{of_integer}
 use Rattle.serde_json.specs.View.{items_of}
+use Rattle.eco_ids.specs.declared.value.TheConstants.{FIELD_COUNT, LARGEST_ARITY}
+use Rattle.eco_ids.specs.declared.value.Value.{Value}
 
--- what a script may ask for, with its texts as they are written: an entity by its name or handle, an id likewise,
+-- what a script may ask for, with its texts as they are written: an entity by its name or handle, an id likewise or a pair,
 -- a name, or a query
 pub data Step : Type 0 where
   create : Option (List ℕ) → Step
+  component : List ℕ → ℕ → Step
   add : List ℕ → List ℕ → Step
   remove : List ℕ → List ℕ → Step
+  set : List ℕ → List ℕ → Value → Step
+  clear : List ℕ → Step
   rename : List ℕ → Option (List ℕ) → Step
   has : List ℕ → List ℕ → Step
+  get : List ℕ → List ℕ → Step
   show : List ℕ → Step
   list : Step
   query : List ℕ → Step
@@ -24,18 +33,41 @@ abbrev pub name_data : Option (List ℕ) → Data
 name_data None = null
 name_data (Some name) = string name
 
+-- the JSON value is this whole number, and it is one of 64 bits
+abbrev pub IsIntegerData : Data → ℤ → Type 0
+IsIntegerData d z = (d ≡ number (of_integer z)) × FitsSigned w64 z
+
+-- the value with these first fields; those that are missing are 0
+abbrev pub value_with : List ℤ → Value
+value_with fields = record { 0 = fields ++ replicate (FIELD_COUNT - length fields) (pos 0) }
+
+-- the JSON value is a list of the first fields of this value, one at least
+pub record IsValueData (d : Data) (v : Value) : Type 0 where
+  pub items : List Data
+  pub fields : List ℤ
+  pub is_list : d ≡ list_data items
+  pub are_integers : AllZip IsIntegerData items fields
+  pub at_least : 1 ≤ length fields
+  pub at_most : length fields ≤ FIELD_COUNT
+  pub filled : v ≡ value_with fields
+
 -- a list that begins with the step's word
 abbrev pub written : List ℕ → List Data → Data
 written word arguments = list_data (string word ∷ arguments)
 
--- the step as a JSON value
-abbrev pub step_data : Step → Data
-step_data (create None) = written (codes "create") []
-step_data (create (Some name)) = written (codes "create") (string name ∷ [])
-step_data (add entity id) = written (codes "add") (string entity ∷ string id ∷ [])
-step_data (remove entity id) = written (codes "remove") (string entity ∷ string id ∷ [])
-step_data (rename entity name) = written (codes "rename") (string entity ∷ name_data name ∷ [])
-step_data (has entity id) = written (codes "has") (string entity ∷ string id ∷ [])
-step_data (show entity) = written (codes "show") (string entity ∷ [])
-step_data list = written (codes "list") []
-step_data (query text) = written (codes "query") (string text ∷ [])
+-- the JSON value is this step
+abbrev pub IsStepData : Data → Step → Type 0
+IsStepData d (create None) = d ≡ written (codes "create") []
+IsStepData d (create (Some name)) = d ≡ written (codes "create") (string name ∷ [])
+IsStepData d (component name arity) =
+    (d ≡ written (codes "component") (string name ∷ number (unsigned arity) ∷ [])) × (1 ≤ arity) × (arity ≤ LARGEST_ARITY)
+IsStepData d (add entity id) = d ≡ written (codes "add") (string entity ∷ string id ∷ [])
+IsStepData d (remove entity id) = d ≡ written (codes "remove") (string entity ∷ string id ∷ [])
+IsStepData d (set entity id v) = (value : Data) × (d ≡ written (codes "set") (string entity ∷ string id ∷ value ∷ [])) × IsValueData value v
+IsStepData d (clear entity) = d ≡ written (codes "clear") (string entity ∷ [])
+IsStepData d (rename entity name) = d ≡ written (codes "rename") (string entity ∷ name_data name ∷ [])
+IsStepData d (has entity id) = d ≡ written (codes "has") (string entity ∷ string id ∷ [])
+IsStepData d (get entity id) = d ≡ written (codes "get") (string entity ∷ string id ∷ [])
+IsStepData d (show entity) = d ≡ written (codes "show") (string entity ∷ [])
+IsStepData d list = d ≡ written (codes "list") []
+IsStepData d (query text) = d ≡ written (codes "query") (string text ∷ [])

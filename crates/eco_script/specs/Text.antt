@@ -1,5 +1,5 @@
 -- The text that a run of steps writes.
-use Rattle.std.specs.Prelude.{◌≡◌, ℕ, Bool, true, false, List, [], ◌∷◌, ◌++◌, length, map, flat_map, codes, decimal, Result, Ok, Err}
+use Rattle.std.specs.Prelude.{◌≡◌, ℕ, Bool, true, false, List, [], ◌∷◌, ◌++◌, length, map, flat_map, codes, decimal, Option, Some, None, Result, Ok, Err}
 use Rattle.eco_ids.specs.declared.entity.Entity.{Entity}
 use Rattle.eco_ids.specs.declared.refusal.Refusal.{Refusal}
 use Rattle.eco_ids.specs.Data.{arity_of}
@@ -7,24 +7,31 @@ use Rattle.eco_ids.specs.Refusals.{refusal_text}
 use Rattle.eco_ids.specs.Step.{own_name}
 use Rattle.eco_ids.specs.Text.{entity_text}
 use Rattle.eco_ids.specs.World.{WorldState, held_by}
-use Rattle.eco_script.specs.Lines.{entity_line, row_line}
-use Rattle.eco_script.specs.Replies.{Reply, done, made, truth, shown, listed, found, Replies}
+use Rattle.eco_script.specs.Lines.{entity_line, row_line, shown_text}
+use Rattle.eco_script.specs.Replies.{Reply, done, made, truth, got, shown, listed, found, Replies}
 use Rattle.eco_script.specs.Steps.{Step}
+use Rattle.eco_script.specs.Values.{Shown, shown_value}
 
 -- the line of an entity, with what the world has of it
 abbrev pub line_of : WorldState → Entity → List ℕ
-line_of w e = entity_line e (own_name w e) (arity_of w e) (map (λ h. h.0) (held_by w e))
+line_of w e = entity_line e (own_name w e) (arity_of w e) (shown_value w e) (map (λ h. h.0) (held_by w e))
 
 -- `true` or `false`
 abbrev pub truth_text : Bool → List ℕ
 truth_text true = codes "true"
 truth_text false = codes "false"
 
+-- a value, or `none`
+abbrev pub got_text : Option Shown → List ℕ
+got_text None = codes "none"
+got_text (Some value) = shown_text value
+
 -- the lines of a reply, on the world that the step leaves
 abbrev pub reply_lines : WorldState → Reply → List ℕ
 reply_lines w done = codes "ok\n"
 reply_lines w (made e) = codes "ok " ++ entity_text e ++ codes "\n"
 reply_lines w (truth b) = codes "ok " ++ truth_text b ++ codes "\n"
+reply_lines w (got value) = codes "ok " ++ got_text value ++ codes "\n"
 reply_lines w (shown e) = codes "ok " ++ line_of w e
 reply_lines w (listed es) = codes "ok " ++ decimal (length es) ++ codes "\n" ++ flat_map (line_of w) es
 reply_lines w (found rows) = codes "ok " ++ decimal (length rows) ++ codes "\n" ++ flat_map (λ r. row_line r.entity r.entries) rows

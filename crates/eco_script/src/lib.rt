@@ -1,6 +1,8 @@
 //! Scripts: read whole, run step by step on a world of their own, with the lines of each step written before the next.
 #![tactic(auto)]
 
+mod arguments;
+mod arity;
 pub mod counted;
 pub mod device;
 mod fault;
@@ -9,7 +11,9 @@ mod perform;
 mod reply;
 pub mod run;
 mod script;
+mod shown_value;
 pub mod status;
+mod step;
 #[cfg(test)]
 mod tests;
 mod transfer;

@@ -1,24 +1,67 @@
-//! The lines that show entities and results.
+//! The lines that show entities, values and results.
 
 ghost use Rattle.std.specs.Prelude.{◌≡◌, Some, option_map};
-ghost use Rattle.eco_script.specs.Lines.{arity_text, entity_line, entry_text, joined, name_text, row_line};
-ghost use Rattle.eco_ids.specs.Text.{id_text};
+ghost use Rattle.eco_script.specs.Lines.{arity_text, entry_text, held_text, joined, name_text, row_line};
+ghost use Rattle.eco_script.specs.Text.{line_of};
+ghost use Rattle.eco_script.specs.Values.{shown_value};
 
+use crate::shown_value::ShownValue;
 use eco_ids::{Entity, Id};
+use eco_world::World;
 use std::fmt;
 
-/// Ids as a line shows them, joined by a comma and a space.
+/// An id of an entity, with its value where it is data, as in `#9.0=3 -4`.
 #[derive(Clone, Copy)]
-struct Ids<'a>(&'a [Id]);
+struct Held {
+    id: Id,
+    value: Option<ShownValue>,
+}
 
-impl fmt::Display for Ids<'_> {
-    ghost output = { λ ids. Some (joined id_text ids.0.now) };
+impl fmt::Display for Held {
+    ghost use Rattle.eco_script.specs.ShownViews.{shown_view};
+
+    ghost output = { λ held. Some (held_text held.id (option_map shown_view held.value)) };
 
     fn fmt<W: fmt::Write>(&self, f: &mut fmt::Formatter<W>) -> fmt::Result {
-        if let Some((first, rest)) = self.0.split_first() {
+        let id = self.id;
+        match self.value {
+            Some(value) => write!(f, "{id}={value}"),
+            None => write!(f, "{id}"),
+        }
+    }
+}
+
+/// Ids of an entity as a line shows them, joined by a comma and a space.
+#[derive(Clone, Copy)]
+struct Ids<'a> {
+    world: &'a World,
+    entity: Entity,
+    ids: &'a [Id],
+}
+
+impl Ids<'_> {
+    ghost use Rattle.eco_script.specs.ShownViews.{shown_view};
+
+    // One of the ids.
+    fn held(&self, id: Id) -> Held
+        ensures id { result.id ≡ id }
+        ensures value { option_map shown_view result.value ≡ shown_value self.now.world.now self.now.entity id }
+    {
+        let value = ShownValue::of(self.world, self.entity, id);
+        Held { id, value }
+    }
+}
+
+impl fmt::Display for Ids<'_> {
+    ghost output = { λ ids. Some (joined (λ i. held_text i (shown_value ids.world.now ids.entity i)) ids.ids.now) };
+
+    fn fmt<W: fmt::Write>(&self, f: &mut fmt::Formatter<W>) -> fmt::Result {
+        if let Some((first, rest)) = self.ids.split_first() {
+            let first = self.held(*first);
             write!(f, "{first}")?;
             for id in rest {
-                write!(f, ", {id}")?;
+                let held = self.held(*id);
+                write!(f, ", {held}")?;
             }
         }
         Ok(())
@@ -62,9 +105,9 @@ impl fmt::Display for Entries<'_> {
 
 /// The arity of a component, or `-`.
 #[derive(Clone, Copy)]
-struct Arity(Option<u8>);
+struct ArityOrDash(Option<u8>);
 
-impl fmt::Display for Arity {
+impl fmt::Display for ArityOrDash {
     ghost output = { λ arity. Some (arity_text arity.0) };
 
     fn fmt<W: fmt::Write>(&self, f: &mut fmt::Formatter<W>) -> fmt::Result {
@@ -85,23 +128,25 @@ fn name_or_dash<'a>(name: Option<&'a str>) -> &'a str
     }
 }
 
-/// The line of an entity, as `#9.0 a - [#10.0]`: its handle, its name, its arity and its ids.
+/// The line of an entity, as `#9.0 a - [#10.0, #11.0=3 -4]`: its handle, its name, its arity, and its ids with their values.
 #[derive(Clone, Copy)]
 pub struct EntityLine<'a> {
+    pub world: &'a World,
     pub entity: Entity,
-    pub name: Option<&'a str>,
-    pub arity: Option<u8>,
-    pub ids: &'a [Id],
 }
 
 impl fmt::Display for EntityLine<'_> {
-    ghost output = { λ line. Some (entity_line line.entity (option_map (λ s. s.now) line.name) line.arity line.ids.now) };
+    ghost output = { λ line. Some (line_of line.world.now line.entity) };
 
     fn fmt<W: fmt::Write>(&self, f: &mut fmt::Formatter<W>) -> fmt::Result {
-        let entity = self.entity;
-        let name = name_or_dash(self.name);
-        let arity = Arity(self.arity);
-        let ids = Ids(self.ids);
+        let EntityLine { world, entity } = *self;
+        let name = name_or_dash(world.name_of(entity));
+        let arity = ArityOrDash(world.arity_of(entity));
+        let ids = Ids {
+            world,
+            entity,
+            ids: world.ids_of(entity),
+        };
         write!(f, "{entity} {name} {arity} [{ids}]\n")
     }
 }

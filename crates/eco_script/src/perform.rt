@@ -7,9 +7,11 @@ ghost use Rattle.eco_script.specs.Replies.{Replies};
 ghost use Rattle.eco_script.specs.Steps as steps;
 ghost use Rattle.eco_script.specs.Views.{step_view};
 
+use crate::arity::Arity;
 use crate::reply::Reply;
-use crate::script::Step;
-use eco_ids::{Entity, Id, Refusal};
+use crate::shown_value::ShownValue;
+use crate::step::Step;
+use eco_ids::{Entity, Id, Refusal, Value};
 use eco_query::read_ref;
 use eco_world::{Query, World};
 
@@ -21,18 +23,24 @@ fn read_entity(text: &str, world: &World) -> Result<Entity, Refusal>
     read_ref(text, world)
 }
 
-// The single id that a text names.
+// The id that a text names.
 #[tactic(auto, unfolding(crate::specs::References::ReadsId))]
 fn read_id(text: &str, world: &World) -> Result<Id, Refusal>
     ensures { ReadsId world.now text.now result }
 {
-    Ok(Id::One(read_entity(text, world)?))
+    eco_query::read_id(text, world)
 }
 
 fn create(world: &mut World, name: Option<&str>) -> Result<Reply, Refusal>
     ensures { Replies world.old (steps.create (option_map (λ s. s.now) name.entry)) (answer_view result) world.new }
 {
     Ok(Reply::Made(world.create(name)?))
+}
+
+fn component(world: &mut World, name: &str, arity: Arity) -> Result<Reply, Refusal>
+    ensures { Replies world.old (steps.component name.now arity.fields) (answer_view result) world.new }
+{
+    Ok(Reply::Made(world.component(Some(name), arity.fields)?))
 }
 
 fn add(world: &mut World, entity: &str, id: &str) -> Result<Reply, Refusal>
@@ -53,6 +61,23 @@ fn remove(world: &mut World, entity: &str, id: &str) -> Result<Reply, Refusal>
     Ok(Reply::Done)
 }
 
+fn set(world: &mut World, entity: &str, id: &str, value: Value) -> Result<Reply, Refusal>
+    ensures { Replies world.old (steps.set entity.now id.now value) (answer_view result) world.new }
+{
+    let entity = read_entity(entity, world)?;
+    let id = read_id(id, world)?;
+    world.set(entity, id, value)?;
+    Ok(Reply::Done)
+}
+
+fn clear(world: &mut World, entity: &str) -> Result<Reply, Refusal>
+    ensures { Replies world.old (steps.clear entity.now) (answer_view result) world.new }
+{
+    let entity = read_entity(entity, world)?;
+    world.clear(entity)?;
+    Ok(Reply::Done)
+}
+
 fn rename(world: &mut World, entity: &str, name: Option<&str>) -> Result<Reply, Refusal>
     ensures { Replies world.old (steps.rename entity.now (option_map (λ s. s.now) name.entry)) (answer_view result) world.new }
 {
@@ -67,6 +92,14 @@ fn has(world: &World, entity: &str, id: &str) -> Result<Reply, Refusal>
     let entity = read_entity(entity, world)?;
     let id = read_id(id, world)?;
     Ok(Reply::Truth(world.has(entity, id)))
+}
+
+fn get(world: &World, entity: &str, id: &str) -> Result<Reply, Refusal>
+    ensures { Replies world.now (steps.get entity.now id.now) (answer_view result) world.now }
+{
+    let entity = read_entity(entity, world)?;
+    let id = read_id(id, world)?;
+    Ok(Reply::Got(ShownValue::of(world, entity, id)))
 }
 
 fn show(world: &World, entity: &str) -> Result<Reply, Refusal>
@@ -99,10 +132,14 @@ pub fn perform(world: &mut World, step: &Step<'_>) -> Result<Reply, Refusal>
 {
     match *step {
         Step::Create(name) => create(world, name),
+        Step::Component { name, arity } => component(world, name, arity),
         Step::Add { entity, id } => add(world, entity, id),
         Step::Remove { entity, id } => remove(world, entity, id),
+        Step::Set { entity, id, value } => set(world, entity, id, value),
+        Step::Clear { entity } => clear(world, entity),
         Step::Rename { entity, name } => rename(world, entity, name),
         Step::Has { entity, id } => has(world, entity, id),
+        Step::Get { entity, id } => get(world, entity, id),
         Step::Show { entity } => show(world, entity),
         Step::List => list(world),
         Step::Query { text } => query(world, text),

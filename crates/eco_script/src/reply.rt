@@ -3,11 +3,11 @@
 ghost use Rattle.std.specs.Prelude.{◌≡◌, ◌++◌, IfOk, OnOk, string_bytes, flat_map, map};
 ghost use Rattle.eco_script.specs.Answers.{answer_view, reply_view};
 ghost use Rattle.eco_world.specs.Queries.{result_of};
-ghost use Rattle.eco_script.specs.LineViews.{line_text};
 ghost use Rattle.eco_script.specs.Lines.{row_line};
 ghost use Rattle.eco_script.specs.Text.{line_of, reply_lines, step_lines};
 
 use crate::lines::{EntityLine, RowLine};
+use crate::shown_value::ShownValue;
 use eco_ids::{Entity, Refusal};
 use eco_world::{Row, World};
 use std::alloc::{AllocError, Global};
@@ -21,24 +21,14 @@ pub enum Reply {
     Made(Entity),
     /// Whether it is so.
     Truth(bool),
+    /// The value of an id, or none.
+    Got(Option<ShownValue>),
     /// One living entity.
     Shown(Entity),
     /// All living entities, ascending.
     Listed(Vec<Entity>),
     /// The results of a query, ascending.
     Found(Vec<Row>),
-}
-
-// The line of an entity, with what the world has of it.
-fn entity_line(world: &World, entity: Entity) -> EntityLine<'_>
-    ensures { line_text result ≡ line_of world.now entity }
-{
-    EntityLine {
-        entity,
-        name: world.name_of(entity),
-        arity: world.arity_of(entity),
-        ids: world.ids_of(entity),
-    }
 }
 
 // Adds the lines of entities.
@@ -50,7 +40,10 @@ fn push_entity_lines(
     ensures { OnOk result (string_bytes text.new ≡ string_bytes text.old ++ flat_map (line_of world.now) entities.now) }
 {
     for entity in entities {
-        let line = entity_line(world, *entity);
+        let line = EntityLine {
+            world,
+            entity: *entity,
+        };
         write!(text, "{line}")?;
     }
     Ok(())
@@ -80,8 +73,13 @@ impl Reply {
             Reply::Done => String::from_str(alloc, "ok\n"),
             Reply::Made(entity) => format!(in alloc; "ok {entity}\n"),
             Reply::Truth(truth) => format!(in alloc; "ok {truth}\n"),
+            Reply::Got(None) => String::from_str(alloc, "ok none\n"),
+            Reply::Got(Some(value)) => format!(in alloc; "ok {value}\n"),
             Reply::Shown(entity) => {
-                let line = entity_line(world, *entity);
+                let line = EntityLine {
+                    world,
+                    entity: *entity,
+                };
                 format!(in alloc; "ok {line}")
             }
             Reply::Listed(entities) => {

@@ -10,8 +10,9 @@ ghost use Rattle.eco_script.specs.Views.{step_view};
 
 use crate::device::{ScriptReader, ScriptWriter};
 use crate::fault::Fault;
-use crate::script::{Script, Step};
+use crate::script::Script;
 use crate::status::Status;
+use crate::step::Step;
 use crate::transfer::{self, MOST_READS};
 use crate::{perform, reply};
 use eco_world::World;

@@ -211,9 +211,9 @@ impl World {
         self.store.value(entity, id)
     }
 
-    // The arity of the id, where it is data: a pair has its relationship's, else its target's, and a pair of a built-in
-    // has none.
-    fn arity(&self, id: Id) -> Option<u8>
+    /// How many fields the values of the id have, where it is data: an entity's are its own; a pair has its
+    /// relationship's, else its target's, and a pair of a built-in has none (Flecs manual, Relationships).
+    pub fn arity(&self, id: Id) -> Option<u8>
         ensures { result ≡ arity self.now id }
     {
         match id {

@@ -10,7 +10,7 @@ use Rattle.eco_script.proofs.run.run_bytes.Goals as goal
 pub new-requires : goal.new-requires
 new-requires g c =
     let is = script_is (view c.in-Ok.value) (script_view c.in_ok-script.script) c.in_ok-script.ensures.ok in
-    record { at_least = is.1; at_most = is.2 }
+    record { at_least = is.at_least; at_most = is.at_most }
 
 pub returns-in_err-script-clause-not_read : goal.returns-in_err-script-clause-not_read
 returns-in_err-script-clause-not_read g c = λ e.

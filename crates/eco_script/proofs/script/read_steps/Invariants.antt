@@ -1,10 +1,10 @@
 use Rattle.std.proofs.Common.{◌≡◌, ◌++◌, drop, map, option_map}
 use Rattle.serde_json.specs.View.{view}
-use Rattle.eco_script.specs.Decode.{steps_of}
+use Rattle.eco_script.specs.Decode.{each_in, step_in}
 use Rattle.eco_script.specs.Views.{step_view}
 use Rattle.eco_script.proofs.script.read_steps.Given as goal
 
 -- the steps so far, and those of what is left, are all steps
 abbrev pub invariant-loop-value : goal.invariant-loop-value
 invariant-loop-value l =
-    steps_of (map view l.values) ≡ option_map (λ ss. map step_view l.steps.items ++ ss) (steps_of (map view (drop l.value-index l.values)))
+    each_in step_in (map view l.values) ≡ option_map (λ ss. map step_view l.steps.items ++ ss) (each_in step_in (map view (drop l.value-index l.values)))

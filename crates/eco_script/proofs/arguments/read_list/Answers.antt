@@ -2,7 +2,7 @@ use Rattle.std.proofs.Common.{Some, map, option_map, ap, ◌∙◌, sym}
 use Rattle.serde_json.specs.View.{view}
 use Rattle.eco_script.specs.Decode.{items_list}
 use Rattle.eco_script.proofs.Values.{items_list-items_of}
-use Rattle.eco_script.proofs.script.read_list.Goals as goal
+use Rattle.eco_script.proofs.arguments.read_list.Goals as goal
 
 pub returns-in-Some : goal.returns-in-Some
 returns-in-Some c =

@@ -193,6 +193,7 @@ impl Store {
         ensures shown { IfOk result (λ f. IsShown self.now f.tables.now) }
         ensures listed { IfOk result (λ f. (n : ℕ) → list_any (nat_eq n) f.slots.items ≡ is_found pattern (slot_of f.tables.now n)) }
         ensures distinct { IfOk result (λ f. IsDistinct nat_eq f.slots.items) }
+        ensures kinds { IfOk result (λ f. (n m : ℕ) (ids : List Ids) → type_at f.tables.now n ≡ Some ids → type_at f.tables.now m ≡ Some ids → n ≡ m) }
     {
         let slots = self.archetypes.tables_with(pattern)?;
         let tables = self.archetypes.tables();

@@ -4,7 +4,9 @@
 mod arities;
 mod builtins;
 mod query;
+mod table_rows;
 mod world;
 
 pub use query::{Query, Row};
+pub use table_rows::TableRows;
 pub use world::World;

@@ -29,6 +29,7 @@ use std::marker::Model;
 
 mod changes;
 mod holdings;
+mod layout;
 
 /// Entities, each with a name or none and with the ids that were added to it, where an id that is data has a value
 /// (Flecs manual, Quickstart).

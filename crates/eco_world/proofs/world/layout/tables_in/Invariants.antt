@@ -1,0 +1,6 @@
+use Rattle.std.proofs.Common.{◌≡◌, map, take}
+use Rattle.eco_world.specs.Layouts.{listed, shown_at}
+use Rattle.eco_world.proofs.world.layout.tables_in.Given as goal
+
+abbrev pub invariant-loop-slot : goal.invariant-loop-slot
+invariant-loop-slot l = listed l.found.items ≡ map (shown_at l.tables) (take l.slot-index l.slots)

@@ -8,6 +8,10 @@ mod hostile;
 #[cfg(test)]
 mod names;
 #[cfg(test)]
+mod pairs;
+#[cfg(test)]
 mod plain_world;
+#[cfg(test)]
+mod values;
 #[cfg(test)]
 mod worked;

@@ -59,7 +59,7 @@ fn references(rt: HostRuntime) {
 }
 
 #[test]
-fn single_ids(rt: HostRuntime) {
+fn single_ids_and_a_pair(rt: HostRuntime) {
     writes(
         &rt,
         rt.alloc(),
@@ -69,7 +69,7 @@ fn single_ids(rt: HostRuntime) {
          refused 2 DeadId\n\
          refused 3 Reserved\n\
          ok\n\
-         refused 20 Syntax 0\n\
+         ok\n\
          ok\n\
          ok 1\n\
          row #9.0 [#9.0]\n",

@@ -1,0 +1,107 @@
+//! The words of the command line.
+use crate::fault::Fault;
+use clap::error::ErrorKind;
+use clap::{Arg, ArgAction, ArgMatches, Command};
+use std::alloc::{AllocError, Global};
+
+/// Which cases are meant, and what is to be done with them.
+#[derive(Drop)]
+pub struct Choice<'a> {
+    /// The cases are measured, not only listed.
+    pub is_run: bool,
+    /// How the names of the cases begin.
+    pub prefix: &'a str,
+    /// Larger sizes are left out.
+    pub largest: u32,
+    /// How often each case is measured; the best time counts. It is measured once at least.
+    pub repeat: u32,
+}
+
+/// What the command line asks for.
+#[derive(Drop)]
+pub enum Asked<'a> {
+    /// The cases, listed or measured.
+    Cases(Choice<'a>),
+    /// The text that tells how to call the program.
+    Help(String),
+}
+
+// An option that takes a value.
+fn option<'a>(
+    alloc: Global,
+    name: &'a str,
+    value: &'a str,
+    default: &'a str,
+    help: &'a str,
+) -> Arg<'a> {
+    Arg::new(alloc, name)
+        .long(name)
+        .value_name(value)
+        .help(help)
+        .action(ArgAction::Set)
+        .default_value(default)
+}
+
+// The command line that the program reads.
+fn command<'a>(alloc: Global) -> Result<Command<'a>, AllocError> {
+    let run = Arg::new(alloc, "run")
+        .long("run")
+        .help("Measures the cases; without it they are only listed")
+        .action(ArgAction::SetTrue);
+    let only = option(
+        alloc,
+        "only",
+        "PREFIX",
+        "",
+        "Leaves out the cases whose names begin otherwise",
+    );
+    let max = option(
+        alloc,
+        "max",
+        "N",
+        "1000000",
+        "Leaves out the sizes beyond this one",
+    )
+    .value_parser(clap::value_parser!(u32));
+    let repeat = option(
+        alloc,
+        "repeat",
+        "R",
+        "5",
+        "How often each case is measured; the best time counts",
+    )
+    .value_parser(clap::value_parser!(u32).range(1..=1000));
+    Command::new(alloc, "flecsbench")
+        .about(
+            "Measures the calls of a world: a line for each case, with its name, its size and the nanoseconds of one call",
+        )
+        .arg(run)?
+        .arg(only)?
+        .arg(max)?
+        .arg(repeat)
+}
+
+// What the words that were taken ask for. Each option has a default.
+fn chosen<'a>(matches: &ArgMatches<'a>) -> Option<Choice<'a>> {
+    Some(Choice {
+        is_run: matches.get_flag("run"),
+        prefix: matches.get_str("only")?,
+        largest: matches.get_one::<u32>("max")?,
+        repeat: matches.get_one::<u32>("repeat")?,
+    })
+}
+
+/// Reads the words of the command line, of which the first is the program's name.
+///
+/// The error is `BadArguments` where the words ask for nothing that there is, and `Refused` where memory was wanting.
+pub fn read_arguments<'a>(alloc: Global, words: &'a [&'a str]) -> Result<Asked<'a>, Fault> {
+    match command(alloc)?.try_get_matches_from(words) {
+        Ok(matches) => match chosen(&matches) {
+            Some(choice) => Ok(Asked::Cases(choice)),
+            None => Err(Fault::BadArguments),
+        },
+        Err(e) if e.kind() == ErrorKind::DisplayHelp => Ok(Asked::Help(e.to_string(alloc)?)),
+        Err(e) if e.kind() == ErrorKind::OutOfMemory => Err(Fault::from(AllocError)),
+        Err(_) => Err(Fault::BadArguments),
+    }
+}

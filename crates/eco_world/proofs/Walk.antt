@@ -1,6 +1,6 @@
 -- A walk over all known indices, from the first to the last.
-use Rattle.std.proofs.Common.{◌≡◌, ℕ, ◌+◌, ◌<◌, ◌≤◌, cond, List, [], ◌∷◌, ◌++◌, map, length, drop, flat_map, get_or, Some, None, slice_get, refl, sym, ap, ◌∙◌, subst, eq-eqb}
-use Rattle.std.proofs.lemmas.List.{drop_more, drop_all}
+use Rattle.std.proofs.Common.{◌≡◌, ℕ, ◌+◌, ◌<◌, cond, List, [], ◌∷◌, ◌++◌, length, drop, flat_map, get_or, Some, None, slice_get, refl, sym, ap, ◌∙◌, subst, eq-eqb}
+use Rattle.std.proofs.lemmas.List.{drop_more}
 use Rattle.std.proofs.lemmas.Option.{none-some, same_Some, slice_get-get_or}
 use Rattle.eco_ids.specs.declared.entity.Entity.{Entity}
 use Rattle.eco_ids.specs.Indices.{IndexState, Indexed, Retired, Free, Living, record_in, record_of, living_from}
@@ -21,9 +21,6 @@ module _ {A X : Type 0} (f : Entity × A → List X) where
   walk_first k Retired xs = refl
   walk_first k (Free g) xs = refl
   walk_first k (Living g r) xs = refl
-
-  pub walk_all : (k : ℕ) (xs : List (IndexState A)) → length xs ≤ k → walk k (drop k xs) ≡ []
-  walk_all k xs past = ap (walk k) (drop_all k xs past)
 
   module _ (w : Indexed A) (k : ℕ) (within : k < length w.indices) where
     step : (x : IndexState A) → slice_get w.indices k ≡ Some x → walk k (drop k w.indices) ≡ here k x ++ walk (k + 1) (drop (k + 1) w.indices)
@@ -52,8 +49,3 @@ module _ {A X : Type 0} (f : Entity × A → List X) where
             let is : record { index = k; generation = g } ≡ e = same_Some _ _ (sym (ap (entity_in k) at) ∙ some) in
             subst (λ x. (d : A) × (record_of w x ≡ Some d) × (walk k (drop k w.indices) ≡ f (x, d) ++ walk (k + 1) (drop (k + 1) w.indices))) is
             (r, ap (λ o. record_in o g) at ∙ ap (λ b. cond b (Some r) None) (eq-eqb g g refl), step (Living g r) at)
-
--- the first parts of a list of pairs, each by itself
-pub firsts : {A B : Type 0} (ps : List (A × B)) → flat_map (λ (p : A × B). p.0 ∷ []) ps ≡ map (λ (p : A × B). p.0) ps
-firsts [] = refl
-firsts (p ∷ ps) = ap (λ xs. p.0 ∷ xs) (firsts ps)

@@ -25,7 +25,7 @@ use Rattle.eco_world.specs.Queries.{term_of, holders}
 use Rattle.eco_world.proofs.Held.{keys}
 
 -- the pattern matches the id alone
-matches_exactly : (i j : Id) → pattern_matches (exactly i) j ≡ id_eq i j
+pub matches_exactly : (i j : Id) → pattern_matches (exactly i) j ≡ id_eq i j
 matches_exactly (id.One e) (id.One x) = refl
 matches_exactly (id.One e) (id.Two s u) = refl
 matches_exactly (id.Two r t) (id.One x) = refl

@@ -10,3 +10,4 @@ pub mod Steps
 pub mod Tabled
 pub mod Types
 pub mod Walk
+pub mod Removals

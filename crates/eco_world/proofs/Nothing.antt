@@ -26,7 +26,7 @@ set_same [] k x at = refl
 set_same (y ∷ xs) zero x at = ap (λ z. z ∷ xs) (sym (same_Some y x at))
 set_same (y ∷ xs) (suc k) x at = ap (λ zs. y ∷ zs) (set_same xs k x at)
 
-all_kept : (i : Id) (held : List (Id × Value)) → is_some (find id_cmp i held) ≡ false → where_key id_cmp (λ j. not (id_eq j i)) held ≡ held
+pub all_kept : (i : Id) (held : List (Id × Value)) → is_some (find id_cmp i held) ≡ false → where_key id_cmp (λ j. not (id_eq j i)) held ≡ held
 all_kept i [] absent = refl
 all_kept i (h ∷ held) absent =
     elim (id_eq i h.0) as (λ b. id_eq i h.0 ≡ b → is_some (cond b (Some h.1) (find id_cmp i held)) ≡ false → where_key id_cmp (λ j. not (id_eq j i)) (h ∷ held) ≡ h ∷ held) [

@@ -5,3 +5,4 @@ pub mod Joined
 pub mod Layouts
 pub mod Queries
 pub mod Retyped
+pub mod Removals

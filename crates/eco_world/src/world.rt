@@ -27,6 +27,7 @@ use eco_store::Store;
 use std::alloc::{AllocError, Global};
 use std::marker::Model;
 
+mod bulk;
 mod changes;
 mod holdings;
 mod layout;

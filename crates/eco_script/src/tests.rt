@@ -1,14 +1,24 @@
+use crate::counted::Counted;
 use crate::device::{DeviceFailed, ScriptReader, ScriptWriter};
 use crate::run::run_script;
 use crate::status::Status;
 use std::alloc::Global;
+use std::io;
 use std::process::Abort;
 
 const SCRIPT: &str =
-    r#"[1, 16, [["create", "a"], ["add", "a", "a"], ["query", "a"], ["show", "a"], ["has", "a", "b"]]]"#;
+    r#"[1, 16, [["create", "a"], ["component", "P", 2], ["add", "a", "(a, a)"], ["set", "a", "P", [3, -4]], ["get", "a", "P"], ["query", "(a, a)"], ["show", "a"], ["clear", "a"], ["has", "a", "b"]]]"#;
 
-const TEXT: &str =
-    "ok #9.0\nok\nok 1\nrow #9.0 [#9.0]\nok #9.0 a - [#9.0]\nrefused 21 UnknownName 0\n";
+const TEXT: &str = "ok #9.0\n\
+    ok #10.0\n\
+    ok\n\
+    ok\n\
+    ok 3 -4\n\
+    ok 1\n\
+    row #9.0 [(#9.0, #9.0)]\n\
+    ok #9.0 a - [#10.0=3 -4, (#9.0, #9.0)]\n\
+    ok\n\
+    refused 21 UnknownName 0\n";
 
 // A reader that gives seven bytes at most a call, and fails at its k-th.
 #[derive(Drop)]
@@ -70,6 +80,46 @@ impl ScriptWriter for Narrow {
     }
 }
 
+// A writer of std that takes three bytes at most a call, and none once it is full.
+#[derive(Drop)]
+struct Full {
+    bytes: Vec<u8>,
+    room: usize,
+}
+
+impl io::Write for Full {
+    ghost use Rattle.std.specs.Prelude.{Some};
+
+    ghost contents = { λ s. Some s.bytes.items };
+
+    fn write(&mut self, rest: &[u8]) -> io::Result<usize> {
+        let n = rest.len().min(self.room).min(3);
+        self.bytes.extend_from_slice(&rest[..n])?;
+        self.room -= n;
+        Ok(n)
+    }
+
+    fn flush(&mut self) -> io::Result<()> {
+        Ok(())
+    }
+}
+
+// Runs the script over a writer with room for so many bytes. It gives the status, and whether so many bytes of the front of
+// the text were written.
+fn run_into(alloc: Global, room: usize) -> (Status, bool) {
+    let mut reader = Counted::new(SCRIPT.as_bytes());
+    let mut writer = Counted::new(Full {
+        bytes: Vec::new(alloc),
+        room,
+    });
+    let status = run_script(alloc, &mut reader, &mut writer, 1);
+    let written = writer.inner().bytes.as_slice();
+    (
+        status,
+        written.len() == room && TEXT.as_bytes().starts_with(written),
+    )
+}
+
 // Runs the script over devices that fail at these calls, and gives the status and what was written.
 fn run_over(alloc: Global, read_fails_at: u64, write_fails_at: u32) -> (Status, Vec<u8>) {
     let mut reader = Slow {
@@ -97,7 +147,7 @@ fn writes_in_small_parts(rt: HostRuntime) {
 
 #[test]
 fn stops_where_a_read_fails(rt: HostRuntime) {
-    for call in 0..15u64 {
+    for call in 0..29u64 {
         let (status, bytes) = run_over(rt.alloc(), call, u32::MAX);
         assert_eq!(rt; status, Status::Stopped, "at {call}");
         assert!(rt; bytes.is_empty(), "at {call}");
@@ -106,9 +156,21 @@ fn stops_where_a_read_fails(rt: HostRuntime) {
 
 #[test]
 fn stops_where_a_write_fails(rt: HostRuntime) {
-    for call in 0..27u32 {
+    for call in 0..44u32 {
         let (status, bytes) = run_over(rt.alloc(), u64::MAX, call);
         assert_eq!(rt; status, Status::Stopped, "at {call}");
         assert!(rt; TEXT.as_bytes().starts_with(bytes.as_slice()), "at {call}");
     }
+}
+
+#[test]
+fn stops_where_a_writer_is_full(rt: HostRuntime) {
+    for room in 0..TEXT.len() {
+        let (status, is_front) = run_into(rt.alloc(), room);
+        assert_eq!(rt; status, Status::Stopped, "at {room}");
+        assert!(rt; is_front, "at {room}");
+    }
+    let (status, is_whole) = run_into(rt.alloc(), TEXT.len());
+    assert_eq!(rt; status, Status::Ran);
+    assert!(rt; is_whole);
 }

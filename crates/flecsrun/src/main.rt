@@ -22,12 +22,14 @@ fn words(rt: &HostRuntime) -> io::Result<Vec<String>> {
     Ok(words)
 }
 
-// What the command line asks for.
+// What the command line asks for. A word that is no text asks for nothing that there is.
 fn ask(rt: &HostRuntime) -> Result<Args, Status>
     ensures { IfOk result AreGoodArguments }
 {
-    let Ok(owned) = words(rt) else {
-        return Err(Status::BadArguments);
+    let owned = match words(rt) {
+        Ok(owned) => owned,
+        Err(e) if e.kind() == io::ErrorKind::OutOfMemory => return Err(Status::Stopped),
+        Err(_) => return Err(Status::BadArguments),
     };
     let mut words = Vec::new(rt.alloc());
     for word in &owned {

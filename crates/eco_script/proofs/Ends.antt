@@ -8,10 +8,10 @@ use Rattle.eco_ids.specs.declared.refusal.Refusal.TheVariants.{NotAlive, DeadId,
 use Rattle.eco_ids.specs.Answer.{answer}
 use Rattle.eco_world.specs.Queries.{term_of}
 use Rattle.eco_ids.specs.Births.{Creates, may_create, MakesComponent, may_make_component, unfit_name}
-use Rattle.eco_ids.specs.Indices.{is_alive, living, next_entity}
+use Rattle.eco_ids.specs.Indices.{is_alive, living, next_entity, map_state}
 use Rattle.eco_ids.specs.Outcome.{first_refusal, is_out_of_memory, Refuses, Answers, Meets}
-use Rattle.eco_ids.specs.Step.{Adds, may_add, Sets, may_set, Removes, may_remove, Clears, may_clear, Renames, may_rename, unfit, unfit_set, unfit_actor, unfit_rename, changed, with_value, without_id, without_ids, with_name, own_name}
-use Rattle.eco_ids.specs.Builtin.{is_builtin}
+use Rattle.eco_ids.specs.Step.{Adds, may_add, Sets, may_set, Removes, may_remove, Clears, may_clear, RemovesAll, may_remove_all, Renames, may_rename, unfit, unfit_set, unfit_actor, unfit_rename, changed, with_value, without_id, without_ids, with_name, own_name}
+use Rattle.eco_ids.specs.Builtin.{is_builtin, is_builtins}
 use Rattle.eco_ids.specs.Data.{arity, fits}
 use Rattle.eco_ids.specs.declared.value.Value.{Value}
 use Rattle.eco_ids.specs.World.{WorldState, has, names_living}
@@ -100,6 +100,12 @@ clear_ends w e =
     (plain_refusal ((not (is_alive w e), NotAlive) ∷ (is_builtin w e, Reserved) ∷ []) refl) (λ why eq. rw eq (refl, refl))
     (λ fit. (Ok tt, changed w e without_ids, rw fit (refl, refl)))
 
+remove_all_ends : (w : WorldState) (i : Id) → Ends (Meets (RemovesAll w i) (may_remove_all w i) w)
+remove_all_ends w i = which (is_builtins w i) refl where
+  which : (b : Bool) → is_builtins w i ≡ b → Ends (Meets (RemovesAll w i) (may_remove_all w i) w)
+  which true e = (Err Reserved, w, rw e (refl, refl))
+  which false e = (Ok tt, record w { indices = map (map_state (without_id i)) w.indices }, rw e (refl, refl))
+
 rename_ends : (w : WorldState) (e : Entity) (name : Option (List ℕ)) → Ends (Meets (Renames w e name) (may_rename w e name) w)
 rename_ends w e name =
     unless (Renames w e name) (may_rename w e name) w (unfit_rename w e name)
@@ -143,6 +149,7 @@ replies_end w (step.add e i) = on_entity w e _ (λ x. on_id w i _ (λ y. calls_e
 replies_end w (step.remove e i) = on_entity w e _ (λ x. on_id w i _ (λ y. calls_end _ _ (remove_ends w x y)))
 replies_end w (step.set e i v) = on_entity w e _ (λ x. on_id w i _ (λ y. calls_end _ _ (set_ends w x y v)))
 replies_end w (step.clear e) = on_entity w e _ (λ x. calls_end _ _ (clear_ends w x))
+replies_end w (step.remove_all i) = on_id w i _ (λ y. calls_end _ _ (remove_all_ends w y))
 replies_end w (step.rename e name) = on_entity w e _ (λ x. calls_end _ _ (rename_ends w x name))
 replies_end w (step.has e i) = on_entity w e _ (λ x. on_id w i _ (λ y. (Ok (truth (has w x y)), w, (refl, refl))))
 replies_end w (step.get e i) = on_entity w e _ (λ x. on_id w i _ (λ y. (Ok (got (shown_value w x y)), w, (refl, refl))))

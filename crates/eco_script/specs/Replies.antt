@@ -8,7 +8,7 @@ use Rattle.eco_ids.specs.Answer.{Row, answer}
 use Rattle.eco_ids.specs.Births.{Creates, may_create, MakesComponent, may_make_component}
 use Rattle.eco_ids.specs.Indices.{is_alive, living}
 use Rattle.eco_ids.specs.Outcome.{Refuses, Answers, Meets}
-use Rattle.eco_ids.specs.Step.{Adds, may_add, Sets, may_set, Removes, may_remove, Clears, may_clear, Renames, may_rename}
+use Rattle.eco_ids.specs.Step.{Adds, may_add, Sets, may_set, Removes, may_remove, Clears, may_clear, RemovesAll, may_remove_all, Renames, may_rename}
 use Rattle.eco_ids.specs.World.{WorldState, has}
 use Rattle.eco_world.specs.Queries.{term_of}
 use Rattle.eco_script.specs.References.{ReadsEntity, ReadsId}
@@ -57,6 +57,7 @@ Replies w (step.add e i) = OnEntity w e (λ x. OnId w i (λ y. Calls (Meets (Add
 Replies w (step.remove e i) = OnEntity w e (λ x. OnId w i (λ y. Calls (Meets (Removes w x y) (may_remove w x y) w) (λ _. done)))
 Replies w (step.set e i v) = OnEntity w e (λ x. OnId w i (λ y. Calls (Meets (Sets w x y v) (may_set w x y v) w) (λ _. done)))
 Replies w (step.clear e) = OnEntity w e (λ x. Calls (Meets (Clears w x) (may_clear w x) w) (λ _. done))
+Replies w (step.remove_all i) = OnId w i (λ y. Calls (Meets (RemovesAll w y) (may_remove_all w y) w) (λ _. done))
 Replies w (step.rename e name) = OnEntity w e (λ x. Calls (Meets (Renames w x name) (may_rename w x name) w) (λ _. done))
 Replies w (step.has e i) = OnEntity w e (λ x. OnId w i (λ y. Answers (truth (has w x y)) w))
 Replies w (step.get e i) = OnEntity w e (λ x. OnId w i (λ y. Answers (got (shown_value w x y)) w))

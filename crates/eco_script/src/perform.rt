@@ -78,6 +78,14 @@ fn clear(world: &mut World, entity: &str) -> Result<Reply, Refusal>
     Ok(Reply::Done)
 }
 
+fn remove_all(world: &mut World, id: &str) -> Result<Reply, Refusal>
+    ensures { Replies world.old (steps.remove_all id.now) (answer_view result) world.new }
+{
+    let id = read_id(id, world)?;
+    world.remove_all(id)?;
+    Ok(Reply::Done)
+}
+
 fn rename(world: &mut World, entity: &str, name: Option<&str>) -> Result<Reply, Refusal>
     ensures { Replies world.old (steps.rename entity.now (option_map (λ s. s.now) name.entry)) (answer_view result) world.new }
 {
@@ -137,6 +145,7 @@ pub fn perform(world: &mut World, step: &Step<'_>) -> Result<Reply, Refusal>
         Step::Remove { entity, id } => remove(world, entity, id),
         Step::Set { entity, id, value } => set(world, entity, id, value),
         Step::Clear { entity } => clear(world, entity),
+        Step::RemoveAll { id } => remove_all(world, id),
         Step::Rename { entity, name } => rename(world, entity, name),
         Step::Has { entity, id } => has(world, entity, id),
         Step::Get { entity, id } => get(world, entity, id),

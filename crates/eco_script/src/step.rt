@@ -32,6 +32,9 @@ pub enum Step<'a> {
     Clear {
         entity: &'a str,
     },
+    RemoveAll {
+        id: &'a str,
+    },
     Rename {
         entity: &'a str,
         name: Option<&'a str>,
@@ -75,6 +78,7 @@ impl<'a> Step<'a> {
         match word {
             "create" => Some(Step::Create(Some(text))),
             "clear" => Some(Step::Clear { entity: text }),
+            "remove_all" => Some(Step::RemoveAll { id: text }),
             "show" => Some(Step::Show { entity: text }),
             "query" => Some(Step::Query { text }),
             _ => None,

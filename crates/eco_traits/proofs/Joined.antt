@@ -192,6 +192,13 @@ displaced_by_parts w added i s r t q v closure is is_pair x y z ex ey ez =
 pub none_displaced : (w : WorldState) (added i : Id) (s : List Id) (c : Entity) → IsClosure w added s → added ≡ One c → false ≡ is_displaced w s i
 none_displaced w added i s c closure is = sym (single_displaces_none w c s (subst (λ j. IsClosure w j s) is closure) i)
 
+-- so all ids of a type stay
+pub single_keeps_all : (w : WorldState) (c : Entity) (s own : List Id) → IsClosure w (One c) s → filter (λ i. not (is_displaced w s i)) own ≡ own
+single_keeps_all w c s [] closure = refl
+single_keeps_all w c s (x ∷ xs) closure =
+    ap (λ b. cond (not b) (x ∷ filter (λ i. not (is_displaced w s i)) xs) (filter (λ i. not (is_displaced w s i)) xs)) (single_displaces_none w c s closure x)
+    ∙ ap (λ ys. x ∷ ys) (single_keeps_all w c s xs closure)
+
 -- ---- taking out one after the other
 
 filter_same : (p q : Id → Bool) (xs : List Id) → ((y : Id) → p y ≡ q y) → filter p xs ≡ filter q xs

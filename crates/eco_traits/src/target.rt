@@ -44,8 +44,7 @@ pub fn target_type<H: Holdings>(
     if let Some(refusal) = verdict(alloc, holdings, entity, &coming)? {
         return Err(refusal);
     }
-    let kept = kept(holdings, own, id, &coming)?;
-    Ok(joined(&kept, &coming)?)
+    Ok(extended(holdings, own, id, &coming)?)
 }
 
 fn is_alive<H: Holdings>(holdings: &H, entity: Entity) -> bool
@@ -62,6 +61,28 @@ fn names_living<H: Holdings>(holdings: &H, id: Id) -> bool
         Id::One(entity) => is_alive(holdings, entity),
         Id::Two(relationship, target) => {
             is_alive(holdings, relationship) && is_alive(holdings, target)
+        }
+    }
+}
+
+// What the closure of the added id does not displace, and the closure.
+fn extended<H: Holdings>(
+    holdings: &H,
+    own: &TypeList,
+    added: Id,
+    coming: &TypeList,
+) -> Result<TypeList, AllocError>
+    requires { step.IsClosure (H.world holdings.now) added coming.now }
+    ensures ids { IfOk result (λ ids. ids ≡ fold (with_item id_cmp) (filter (λ i. not (step.is_displaced (H.world holdings.now) coming.now i)) own.now) coming.now) }
+    ensures ascending { IsTrue (is_ascending id_cmp own.now) }
+{
+    let _ids = own.as_slice();
+    match added {
+        // A single id displaces nothing.
+        Id::One(_) => joined(own, coming),
+        Id::Two(..) => {
+            let kept = kept(holdings, own, added, coming)?;
+            joined(&kept, coming)
         }
     }
 }
@@ -108,8 +129,11 @@ fn is_displaced<H: Holdings>(holdings: &H, added: Id, coming: &TypeList, id: Id)
 fn joined(ids: &TypeList, coming: &TypeList) -> Result<TypeList, AllocError>
     ensures { IfOk result (λ all. all ≡ fold (with_item id_cmp) ids.now coming.now) }
 {
-    let mut all = ids.try_copy()?;
-    for id in coming.as_slice() {
+    let Some((first, others)) = coming.as_slice().split_first() else {
+        return ids.try_copy();
+    };
+    let mut all = ids.with(*first)?;
+    for id in others {
         all = all.with(*id)?;
     }
     Ok(all)

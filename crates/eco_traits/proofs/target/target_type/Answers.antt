@@ -1,10 +1,10 @@
-use Rattle.std.proofs.Common.{option_copied, sym, ap, ◌∙◌}
+use Rattle.std.proofs.Common.{option_copied, refl, sym, ap, ◌∙◌}
 use Rattle.eco_traits.proofs.Joined.{leads_to}
 use Rattle.eco_traits.proofs.target.target_type.Goals as goal
 
 pub returns : goal.returns
 returns g c =
     let w = g.H.Holdings.world c.args.holdings.now in
-    leads_to w c.args.entity c.args.id c.in_ok-coming.coming c.unwrap-own.result.now c.in_ok-kept.kept c.in_ok-joined.field-0 c.in_ok-refusal.field-0
+    leads_to w c.args.entity c.args.id c.in_ok-coming.coming c.unwrap-own.result.now _ c.in_ok-extended.field-0 c.in_ok-refusal.field-0
     (sym c.names_living.ensures ∙ c.if-not-names_living.false) c.in_ok-coming.ensures.exact c.in_ok-refusal.ensures c.in_default.is
-    (sym (ap option_copied c.unwrap-own.ensures) ∙ c.type_of.ensures) c.kept.ensures.ascending c.in_ok-kept.ensures.kept c.in_ok-joined.ensures
+    (sym (ap option_copied c.unwrap-own.ensures) ∙ c.type_of.ensures) c.extended.ensures.ascending refl c.in_ok-extended.ensures.ids

@@ -3,7 +3,7 @@ ghost use Rattle.std.specs.Prelude.{◌≡◌, ℕ, ◌<◌, ◌≤◌, ◌+◌,
 ghost use Rattle.std.specs.List.{swap_remove, All};
 ghost use Rattle.std.specs.FinMap.Entries.{find};
 ghost use Rattle.eco_ids.specs.World.{zeros};
-ghost use Rattle.eco_ids.specs.Order.{id_cmp};
+ghost use Rattle.eco_ids.specs.Order.{id_cmp, is_ascending};
 ghost use Rattle.eco_tables.specs.Column.{ColumnState, pushed, with_removed, with_value, held_in, value_in, written, contents};
 
 use eco_ids::{Id, Value};
@@ -157,13 +157,41 @@ pub fn reserve(columns: &mut [Column], more: usize) -> Result<(), AllocError>
 }
 
 /// A place for one more row in each, with the values of a row elsewhere: zeros for an id that has no column there.
+///
+/// Both lists ascend by their ids, so one walk along the source finds all that is there.
 pub fn push_from(columns: &mut [Column], source: &[Column], row: usize)
     requires room { All (λ c. 0 < c.room) columns.old }
     requires row { All (λ c. row < length c.values) source.now }
+    requires ascending { IsTrue (is_ascending id_cmp (map (λ c. c.id) source.now)) }
     ensures { columns.new ≡ map (λ c. pushed c (value_in (held_in source.now row) c.id)) columns.old }
 {
+    let mut near = 0;
     for column in columns.iter_mut() {
-        let value = value_at(source, row, column.id());
+        let id = column.id();
+        near = next_place(source, near, id);
+        let value = value_near(source, near, row, id);
         column.push(value);
     }
+}
+
+// From a place on, the place of the first column whose id isn't below; the same place where there is none.
+fn next_place(columns: &[Column], from: usize, id: Id) -> usize {
+    for place in from..columns.len() {
+        if columns[place].id() >= id {
+            return place;
+        }
+    }
+    from
+}
+
+// The value of an id in a row, zeros where no column has the id. Its column is looked for at this place first.
+fn value_near(columns: &[Column], place: usize, row: usize, id: Id) -> Value
+    requires row { All (λ c. row < length c.values) columns.now }
+    requires ascending { IsTrue (is_ascending id_cmp (map (λ c. c.id) columns.now)) }
+    ensures { result ≡ value_in (held_in columns.now row) id }
+{
+    if place < columns.len() && id.is(columns[place].id()) {
+        return columns[place].value(row);
+    }
+    value_at(columns, row, id)
 }

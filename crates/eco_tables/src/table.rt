@@ -130,6 +130,8 @@ impl Table {
     {
         let entity = source.entities[row];
         self.entities.push_reserved(entity);
+        // Its ids ascend, and so do the ids of its columns.
+        let _ids = source.type_list.as_slice();
         push_from(self.columns.as_mut_slice(), source.columns.as_slice(), row);
         self.room -= 1;
     }

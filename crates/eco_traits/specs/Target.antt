@@ -1,7 +1,8 @@
 -- The type that an add leads to.
-use Rattle.std.specs.Prelude.{◌≡◌, List, map, Option, Some, None, Result, Ok, Err, IsTrue, MatchBool, MatchOption, if◌then◌else◌}
+use Rattle.std.specs.Prelude.{◌≡◌, List, map, Option, Some, None, Result, Ok, Err, IsTrue, IsFalse, false, MatchBool, MatchOption, if◌then◌else◌}
 use Rattle.std.specs.Ordering.{is_le}
 use Rattle.eco_ids.specs.declared.entity.Entity.{Entity}
+use Rattle.eco_ids.specs.declared.entity.TheConstants.{ACYCLIC, EXCLUSIVE, WITH}
 use Rattle.eco_ids.specs.declared.id.Id.{Id}
 use Rattle.eco_ids.specs.declared.id.Id.TheVariants.{One, Two}
 use Rattle.eco_ids.specs.declared.refusal.Refusal.{Refusal}
@@ -11,7 +12,7 @@ use Rattle.eco_ids.specs.Order.{entity_cmp, entity_eq}
 use Rattle.eco_ids.specs.Outcome.{is_out_of_memory}
 use Rattle.eco_ids.specs.Step.{ClosesCycle, IsClosure, Judges, with_closure}
 use Rattle.eco_ids.specs.Traits.{Reaches}
-use Rattle.eco_ids.specs.World.{Record, WorldState, is_acyclic, names_living}
+use Rattle.eco_ids.specs.World.{Record, WorldState, has, is_acyclic, names_living}
 
 -- the ids of a record
 abbrev pub type_of_record : Record → List Id
@@ -35,6 +36,11 @@ IsClosedBy w e i (Some r) = ClosesBy w e i r
 abbrev pub IsFirstCycle : WorldState → Entity → List Id → Option Entity → Type 0
 IsFirstCycle w e s None = (r : Entity) → ClosesCycle w e s r → ⊥
 IsFirstCycle w e s (Some r) = ClosesCycle w e s r × ((q : Entity) → ClosesCycle w e s q → IsTrue (is_le (entity_cmp r q)))
+
+-- a single id that brings nothing along, and is no trait that may come too late: nothing stands against it
+abbrev pub IsPlain : WorldState → Id → Type 0
+IsPlain w (One c) = (entity_eq c EXCLUSIVE ≡ false) × (entity_eq c ACYCLIC ≡ false) × ((x : Entity) → IsFalse (has w c (Two WITH x)))
+IsPlain w (Two r t) = ⊥
 
 -- the type that e has once the closure s came to it
 abbrev pub IsTypeWith : WorldState → Entity → List Id → Result (List Id) Refusal → Type 0

@@ -52,8 +52,8 @@ fn with_head(id: Id, head: Entity) -> Id
     }
 }
 
-// Whether the entity has a pair of With.
-fn has_with<H: Holdings>(holdings: &H, entity: Entity) -> bool
+/// Whether the entity has a pair of With.
+pub(crate) fn has_with<H: Holdings>(holdings: &H, entity: Entity) -> bool
     ensures { IsTrue result ↔ ((x : EntityData) × IsTrue (has (H.world holdings.now) entity (Two WITH_DATA x))) }
 {
     match holdings.type_of(entity) {

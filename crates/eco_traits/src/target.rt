@@ -4,13 +4,13 @@ ghost use Rattle.eco_ids.specs.Indices.{is_alive as lives};
 ghost use Rattle.eco_ids.specs.Order.{id_cmp, is_ascending, with_item};
 ghost use Rattle.eco_ids.specs.Step as step;
 ghost use Rattle.eco_ids.specs.World as world;
-ghost use Rattle.eco_traits.specs.Target.{FindsType};
+ghost use Rattle.eco_traits.specs.Target.{FindsType, IsPlain};
 
 use crate::holdings::Holdings;
-use crate::implied::closure;
+use crate::implied::{closure, has_with};
 use crate::verdict::verdict;
 use crate::walk::has;
-use eco_ids::entity::EXCLUSIVE;
+use eco_ids::entity::{ACYCLIC, EXCLUSIVE};
 use eco_ids::{Entity, Id, Refusal, TypeList};
 use std::alloc::{AllocError, Global};
 
@@ -40,6 +40,10 @@ pub fn target_type<H: Holdings>(
     if !names_living(holdings, id) {
         return Err(Refusal::DeadId);
     }
+    let _ids = own.as_slice();
+    if is_plain(holdings, id) {
+        return Ok(own.with(id)?);
+    }
     let coming = closure(alloc, holdings, id)?;
     if let Some(refusal) = verdict(alloc, holdings, entity, &coming)? {
         return Err(refusal);
@@ -62,6 +66,18 @@ fn names_living<H: Holdings>(holdings: &H, id: Id) -> bool
         Id::Two(relationship, target) => {
             is_alive(holdings, relationship) && is_alive(holdings, target)
         }
+    }
+}
+
+// Whether the id comes alone and nothing stands against it, as with most tags and components.
+fn is_plain<H: Holdings>(holdings: &H, id: Id) -> bool
+    ensures { IsTrue result → IsPlain (H.world holdings.now) id }
+{
+    match id {
+        Id::One(single) => {
+            !single.is(EXCLUSIVE) && !single.is(ACYCLIC) && !has_with(holdings, single)
+        }
+        Id::Two(..) => false,
     }
 }
 

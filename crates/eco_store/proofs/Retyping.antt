@@ -1,13 +1,14 @@
 -- All entities of a type get another: one of them first, and then the others.
-use Rattle.std.proofs.Common.{◌≡◌, ◌≢◌, ℕ, zero, suc, ◌+◌, Bool, true, false, true≢false, cond, if◌then◌else◌, List, [], ◌∷◌, ◌++◌, map, fold, take, length, slice_get, set, get_or, Option, Some, None, option_map, unwrap_or, IsSome, refl, sym, ap, ◌∙◌, subst}
-use Rattle.std.specs.List.{All}
+use Rattle.std.proofs.Common.{◌≡◌, ◌≢◌, ℕ, zero, suc, ◌<◌, Bool, true, false, true≢false, not, if◌then◌else◌, List, [], ◌∷◌, map, length, slice_get, set, get_or, Option, Some, None, option_map, unwrap_or, refl, sym, ap, ◌∙◌, arith}
+use Rattle.std.specs.List.{list_all}
+use Rattle.eco_ids.proofs.Ascending.{first, second}
 use Rattle.eco_ids.specs.declared.entity.Entity.{Entity}
 use Rattle.eco_ids.specs.declared.id.Id.{Id}
-use Rattle.eco_ids.specs.declared.value.Value.{Value}
 use Rattle.eco_ids.specs.Indices.{Indexed, IndexState, Retired, Free, Living, record_of, with_record, map_state}
 use Rattle.eco_tables.specs.Column.{retyped}
+use Rattle.eco_tables.proofs.RowIds.{ids_retyped}
 use Rattle.eco_store.specs.declared.type_change.TypeChange.{TypeChange}
-use Rattle.eco_store.specs.Retyping.{kept_ids, changed_kept, after_change, after_changes}
+use Rattle.eco_store.specs.Retyping.{kept_ids, changed_kept, after_change, IsOneWay}
 use Rattle.eco_store.specs.Store.{Kept, with_holding, holding_in, held_by}
 use Rattle.eco_store.specs.TypeMap.{same_ids}
 use Rattle.eco_store.proofs.Ids.{same_ids-Decides}
@@ -15,10 +16,6 @@ use Rattle.eco_store.proofs.Moves.{slice_get-map}
 use Rattle.eco_store.proofs.StoreChanges.{set_own}
 use Rattle.eco_store.proofs.Values.{map-set}
 use Rattle.eco_store.proofs.Views.{ext_slice_get, living_at, record_at}
-
-pub ids_of-retyped : (ids : List Id) (held : List (Id × Value)) → map (λ (p : Id × Value). p.0) (retyped ids held) ≡ ids
-ids_of-retyped [] held = refl
-ids_of-retyped (i ∷ ids) held = ap (λ xs. i ∷ xs) (ids_of-retyped ids held)
 
 -- who has another type than the one that goes
 pub other_type : (c : TypeChange) (k : Kept) → kept_ids k ≢ c.from → changed_kept c k ≡ k
@@ -35,7 +32,7 @@ own_type c k same = ap (λ b. if b then record k { held = retyped c.to k.held } 
 -- who was changed is changed no more
 pub changed_once : (c : TypeChange) (k : Kept) → c.to ≢ c.from → kept_ids k ≡ c.from → changed_kept c (record k { held = retyped c.to k.held }) ≡ changed_kept c k
 changed_once c k apart same =
-    other_type c (record k { held = retyped c.to k.held }) (λ e. apart (sym (ids_of-retyped c.to k.held) ∙ e))
+    other_type c (record k { held = retyped c.to k.held }) (λ e. apart (sym (ids_retyped c.to k.held) ∙ e))
     ∙ sym (own_type c k same)
 
 -- the change of all comes to the same where one of them was changed before
@@ -66,3 +63,15 @@ none_changes w c others = ap (λ xs. record w { indices = xs }) (ext_slice_get (
 
     each : (j : ℕ) → slice_get (map (map_state (changed_kept c)) w.indices) j ≡ slice_get w.indices j
     each j = slice_get-map (map_state (changed_kept c)) w.indices j ∙ by j (slice_get w.indices j) refl
+
+-- no type that comes goes, by a test of each two
+pub one_way_by_test : (cs : List TypeChange) → list_all (λ (c : TypeChange). list_all (λ (d : TypeChange). not (same_ids c.to d.from)) cs) cs ≡ true → IsOneWay cs
+one_way_by_test cs tested = λ k c within j d inside same.
+    let one = passed (λ (x : TypeChange). list_all (λ (y : TypeChange). not (same_ids x.to y.from)) cs) cs k c within tested in
+    let two = passed (λ (y : TypeChange). not (same_ids (get_or cs k c).to y.from)) cs j d inside one in
+    true≢false (sym two ∙ ap not ((same_ids-Decides (get_or cs k c).to (get_or cs j d).from).1 same))
+  where
+    passed : {X : Type 0} (p : X → Bool) (xs : List X) (k : ℕ) (d : X) → k < length xs → list_all p xs ≡ true → p (get_or xs k d) ≡ true
+    passed p [] k d within all = absurd (omega arith)
+    passed p (x ∷ xs) zero d within all = first (p x) (list_all p xs) all
+    passed p (x ∷ xs) (suc k) d within all = passed p xs k d (omega arith) (second (p x) (list_all p xs) all)

@@ -13,7 +13,7 @@ use Rattle.eco_tables.specs.Table.{TableState, Row, HasIds, RowsHaveIds, retyped
 use Rattle.eco_tables.specs.Tables.{slot_of, no_table, no_row, with_row, without_row, AllHaveIds}
 use Rattle.eco_tables.proofs.Lists.{before, before_within, get_or-swap_remove, length-swap_remove}
 
-ids_retyped : (ids : List Id) (held : List (Id × Value)) → map (λ (p : Id × Value). p.0) (retyped ids held) ≡ ids
+pub ids_retyped : (ids : List Id) (held : List (Id × Value)) → map (λ (p : Id × Value). p.0) (retyped ids held) ≡ ids
 ids_retyped [] held = refl
 ids_retyped (i ∷ ids) held = ap (λ xs. i ∷ xs) (ids_retyped ids held)
 

@@ -23,9 +23,10 @@ use Rattle.eco_store.specs.Retyping.{after_change, after_changes, changed_kept, 
 use Rattle.eco_store.specs.Store.{Kept}
 use Rattle.eco_store.specs.TypeMap.{same_ids}
 use Rattle.eco_store.proofs.Ids.{same_ids-Decides}
-use Rattle.eco_store.proofs.Retyping.{ids_of-retyped, other_type, own_type}
+use Rattle.eco_store.proofs.Retyping.{other_type, own_type}
 use Rattle.eco_store.proofs.Views.{record_at}
 use Rattle.eco_tables.specs.Column.{retyped}
+use Rattle.eco_tables.proofs.RowIds.{ids_retyped}
 use Rattle.eco_traits.specs.Same.{id_eq_sym}
 use Rattle.eco_world.specs.Joined.{arity_at, joined, later, record_for, world_of}
 use Rattle.eco_world.specs.Removals.{TakesOut, TakesOutOfAll}
@@ -98,7 +99,7 @@ having_kept i (c ∷ cs) k each among =
         let here = All-head (TakesOut i) c cs each in
         let same : kept_ids k ≡ c.from = (same_ids-Decides (kept_ids k) c.from).0 is in
         let new : Kept = record k { held = retyped c.to k.held } in
-        let lacks : has_item id_cmp (kept_ids new) i ≡ false = ap (λ ids. has_item id_cmp ids i) (ids_of-retyped c.to k.held) ∙ lacks_to i c here in
+        let lacks : has_item id_cmp (kept_ids new) i ≡ false = ap (λ ids. has_item id_cmp ids i) (ids_retyped c.to k.held) ∙ lacks_to i c here in
         ap (all_changed cs) (own_type c k same) ∙ lacking_kept i cs new (All-tail (TakesOut i) c cs each) lacks
         ∙ ap (λ ids. record k { held = retyped ids k.held }) (here.taken ∙ ap (λ ids. without_item id_cmp ids i) (sym same))
     by false is later =

@@ -60,3 +60,6 @@ impl World {
         Ok(changes)
     }
 }
+
+#[cfg(test)]
+mod tests;

@@ -1,7 +1,5 @@
 //! A table as a world lists it.
 ghost use Rattle.std.specs.Prelude.{◌≡◌};
-ghost use Rattle.std.specs.List.{All};
-ghost use Rattle.eco_tables.specs.Table.{HasIds};
 
 use eco_ids::{Entity, Id};
 use eco_tables::Table;
@@ -20,8 +18,7 @@ impl<'a> TableRows<'a> {
 
     // The table's type and its entities.
     pub(crate) fn of(table: &'a Table) -> TableRows<'a>
-        ensures is { listed_of result ≡ shown_of table.now }
-        ensures typed { All (HasIds table.now.ids) table.now.rows }
+        ensures { listed_of result ≡ shown_of table.now }
     {
         TableRows {
             ids: table.type_list().as_slice(),

@@ -56,8 +56,7 @@ module _ (w : Indexed Kept) (s : List (Option TableState)) (p : Pattern) (ns : L
       let is : ids_in n ≡ ids = sym (get_or-map ids_in ns c.0 0 ids within) ∙ c.2 in
       let found = is_found_at c.0 0 within in
       let first = first_row (table_in s n).rows (found_rows p (slot_of s n) found) in
-      let own = row_kept w s p shown n 0 first.0 first.1 in
-      (
+      let own = row_kept w s p shown n 0 first.0 first.1 in (
         sym (ap (list_any (pattern_matches p)) is) ∙ found_matches p (slot_of s n) found,
         first.0.entity,
         ap (option_map (λ (k : Kept). map (λ h. h.0) k.held)) own.1 ∙ ap Some (own.2 ∙ is),

@@ -8,5 +8,5 @@ abbrev pub invariant-loop-ids : goal.invariant-loop-ids
 invariant-loop-ids l = record {
   rest : l.initial.ids-iterator.rest.items ≡ l.yielded ++ l.ids-iterator.rest.items;
   types : map (λ (c : TypeChange). c.from) l.changes.items ≡ l.yielded;
-  taken : All (λ (c : TypeChange). c.to ≡ without_item id_cmp c.from l.id) l.changes.items;
+  taken : All (λ (c : TypeChange). c.to ≡ without_item id_cmp c.from l.fn.id) l.changes.items;
 }

@@ -39,6 +39,8 @@ pub enum Case {
     SetAbsent,
     /// The value of each entity is read.
     Get,
+    /// A tag is removed from all entities at once. Each of them counts as a call.
+    RemoveAll,
     /// One entity gets a tag and loses it, again and again; both count.
     ToggleOne,
     /// All entities with a component are asked for. They stand in so many tables.
@@ -59,7 +61,7 @@ pub enum Case {
 
 impl Case {
     /// All cases, in the order of their lines.
-    pub const ALL: [Case; 22] = [
+    pub const ALL: [Case; 23] = [
         Case::HashInsert,
         Case::Create,
         Case::AddTag,
@@ -68,6 +70,7 @@ impl Case {
         Case::SetThere,
         Case::SetAbsent,
         Case::Get,
+        Case::RemoveAll,
         Case::ToggleOne,
         Case::AddPair(1),
         Case::AddPair(100),
@@ -124,7 +127,7 @@ impl Case {
             Case::HashInsert | Case::Create => Ok(()),
             Case::AddTag => scene.lack_tag(size),
             Case::ToggleOne => scene.lack_tag(1),
-            Case::RemoveTag => scene.have_tag(size),
+            Case::RemoveTag | Case::RemoveAll => scene.have_tag(size),
             Case::AddTagWithValues => scene.have_values(size),
             Case::SetAbsent => scene.lack_component(size),
             Case::SetThere | Case::Get => scene.have_component(size),
@@ -152,6 +155,7 @@ impl Case {
             Case::RemoveTag => measure::removes(clock, scene),
             Case::SetThere | Case::SetAbsent => measure::sets(clock, scene),
             Case::Get => measure::gets(clock, scene, size),
+            Case::RemoveAll => measure::remove_all(clock, scene),
             Case::ToggleOne => measure::toggles(clock, scene, size / 2),
             Case::QueryOne(_) => measure::query(clock, scene, size),
             _ => measure::adds(clock, scene),
@@ -170,6 +174,7 @@ impl fmt::Display for Case {
             Case::SetThere => write!(f, "set_there"),
             Case::SetAbsent => write!(f, "set_absent"),
             Case::Get => write!(f, "get"),
+            Case::RemoveAll => write!(f, "remove_all"),
             Case::ToggleOne => write!(f, "toggle_one"),
             Case::QueryOne(tables) => write!(f, "query_one/{tables}"),
             Case::AddPair(targets) => write!(f, "rel_add/{targets}"),

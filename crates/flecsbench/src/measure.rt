@@ -62,6 +62,13 @@ pub fn gets<C: Clock>(clock: &C, scene: &Scene, count: u32) -> Result<Duration, 
     Ok(time)
 }
 
+/// How long it takes to remove the id from all entities at once.
+pub fn remove_all<C: Clock>(clock: &C, scene: &mut Scene) -> Result<Duration, Fault> {
+    let start = Instant::now(clock)?;
+    scene.remove_from_all()?;
+    Ok(start.elapsed(clock)?)
+}
+
 /// How long it takes to add the ids and remove them, so many times.
 pub fn toggles<C: Clock>(clock: &C, scene: &mut Scene, times: u32) -> Result<Duration, Fault> {
     let start = Instant::now(clock)?;

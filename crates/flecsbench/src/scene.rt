@@ -142,6 +142,14 @@ impl Scene {
         Ok(())
     }
 
+    /// Removes the first id from all entities by one call.
+    pub fn remove_from_all(&mut self) -> Result<(), Refusal> {
+        match self.work.first() {
+            Some((_, id)) => self.world.remove_all(*id),
+            None => Ok(()),
+        }
+    }
+
     /// Sets each id of its entity to the value.
     pub fn set(&mut self, value: Value) -> Result<(), Refusal> {
         for (entity, id) in &self.work {

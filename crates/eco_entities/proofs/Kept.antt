@@ -5,7 +5,6 @@ use Rattle.std.proofs.lemmas.Option.{slice_get_within}
 use Rattle.eco_ids.specs.declared.entity.Entity.{Entity}
 use Rattle.eco_ids.specs.Indices.{Indexed, IndexState, Retired, Free, Living, record_in, record_of, is_alive, is_free_in, is_free_at, with_record, with_death, with_new, admitted, raised, next_entity}
 use Rattle.eco_entities.specs.Changes.{ChangesAt, Keeps}
-use Rattle.eco_entities.specs.Registry.{with_room}
 use Rattle.eco_entities.proofs.States.{slice_get-set_same, slice_get-set_other, free_known, alive_known, record_here, next_is}
 
 living_else : {A : Type 0} (f g : ℕ) (r : A) → g ≢ f → record_in (Some (Living f r)) g ≡ None
@@ -71,6 +70,10 @@ record-admitted w n = record { all = λ e. record_appended w.indices n e.index e
 
 -- the next entity, once its index is known
 
+-- the entity's index is known
+abbrev pub with_room : {A : Type 0} → Indexed A → Entity → Indexed A
+with_room w e = if nat_lt e.index (length w.indices) then w else admitted 1 w
+
 fresh_at : {A : Type 0} (xs : List (IndexState A)) → slice_get (xs ++ Free 0 ∷ []) (length xs) ≡ Some (Free 0)
 fresh_at [] = refl
 fresh_at (x ∷ xs) = fresh_at xs
@@ -133,3 +136,20 @@ record-new {A} w e r h =
 
 pub record_of_next : {A : Type 0} (w : Indexed A) (e : Entity) → next_entity w ≡ Some e → record_of w e ≡ None
 record_of_next w e h = let room : IsRoom w e = next_has_room w e h in sym (room.keeps.all e) ∙ record_of_free (with_room w e) e room.free
+
+-- the next entity is free where its index is known, and else comes at the end
+
+pub next_is_free : {A : Type 0} (w : Indexed A) (e : Entity) → next_entity w ≡ Some e → e.index < length w.indices → is_free_at w e ≡ true
+next_is_free {A} w e h within =
+    let room : IsRoom w e = next_has_room w e h in
+    ap (λ (v : Indexed A). is_free_at v e) (sym (room_known w e within)) ∙ room.free
+
+pub new_last : {A : Type 0} (w : Indexed A) (e : Entity) (r : A) → next_entity w ≡ Some e → length w.indices ≤ e.index → record w { indices = w.indices ++ Living 0 r ∷ [] } ≡ with_new w e r
+new_last {A} w e r h past =
+    elim (next_is w e h) [
+      | inl free ↦ absurd (let within : e.index < length w.indices = slice_get_within w.indices e.index (Free e.generation) free in omega arith)
+      | inr fresh ↦
+          let generation : 0 ≡ e.generation = ap (λ (x : Entity). x.generation) fresh.1 in
+          ap (λ g. record w { indices = w.indices ++ Living g r ∷ [] }) generation
+          ∙ sym (cond-false (nat_lt e.index (length w.indices)) (with_record w e r) _ (le-ltb _ _ past))
+    ]

@@ -10,9 +10,8 @@ use Rattle.eco_ids.specs.Indices.{Indexed, IndexState, Retired, Free, Living, re
 use Rattle.eco_ids.specs.Outcome.{Refuses, Answers, is_out_of_memory}
 use Rattle.eco_entities.specs.Registration.{Registration, newcomer, name_of, change_in, with_change, placed, renamed, unfit_rename, may_rename}
 use Rattle.eco_entities.specs.Runs.{Call, Create, Admit, Revive, Kill, Rename, SetPlace, LeadsTo, RunsTo, NobodyLivesTwice}
-use Rattle.eco_entities.specs.Registry.{with_room}
 use Rattle.eco_entities.proofs.States.{slice_get-set_same, slice_get-set_other, free_known, alive_known, state_at, next_is}
-use Rattle.eco_entities.proofs.Kept.{next_has_room, IsRoom}
+use Rattle.eco_entities.proofs.Kept.{next_has_room, IsRoom, with_room}
 
 -- the state is past the generation: nobody of that generation lives there or will
 abbrev IsPastIn : Option (IndexState Registration) → ℕ → Type 0

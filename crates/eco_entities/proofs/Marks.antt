@@ -218,3 +218,25 @@ room_inside limit slots w n view room =
     let known : length w.indices ≡ length slots = ap (λ (v : Indexed Registration). length v.indices) (sym view) ∙ length-map slots state_of in
     let bound : limit ≡ w.limit = ap (λ (v : Indexed Registration). v.limit) view in
     omega arith
+
+-- a living one at the end, who isn't marked
+
+fits-one : (g : ℕ) (r : Registration) → g ≤ 65535 → (i : ℕ) → Fits (slice_get (Living g r ∷ []) i)
+fits-one g r l zero = l
+fits-one g r l (suc i) = tt
+
+abbrev with_last : Registration → Indexed Registration → Indexed Registration
+with_last r v = record v { indices = v.indices ++ Living 0 r ∷ [] }
+
+pub slot_appended : (limit : ℕ) (slots slots' : List Slot) (marks marks' : List Bool) (w : Indexed Registration) (new : Slot) (r : Registration) → IsMarked limit (map state_of slots) marks → ◌≡◌ {A = Indexed Registration} (record { limit = limit; indices = map state_of slots }) w → length slots + 1 ≤ limit → state_of new ≡ Living 0 r → slots' ≡ slots ++ new ∷ [] → marks' ≡ marks ++ false ∷ [] → IsMarked limit (map state_of slots') marks' × (◌≡◌ {A = Indexed Registration} (record { limit = limit; indices = map state_of slots' }) (record w { indices = w.indices ++ Living 0 r ∷ [] }))
+slot_appended limit slots slots' marks marks' w new r m view room is more unmarked =
+    let states : map state_of slots' ≡ map state_of slots ++ Living 0 r ∷ [] = ap (map state_of) more ∙ (map-append state_of slots (new ∷ []) ∙ ap (λ x. map state_of slots ++ x ∷ []) is) in
+    let marks_are : marks' ≡ map is_free (map state_of slots ++ Living 0 r ∷ []) = unmarked ∙ (ap (λ ms. ms ++ false ∷ []) m.marked ∙ sym (map-append is_free (map state_of slots) (Living 0 r ∷ []))) in (
+      rw states (record {
+        limited = m.limited;
+        within = rw (length-append, length-map) room;
+        marked = marks_are;
+        fit = fits-append (map state_of slots) (Living 0 r ∷ []) m.fit (fits-one 0 r (omega arith));
+      }),
+      rw states (ap (with_last r) view),
+    )

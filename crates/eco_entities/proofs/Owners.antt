@@ -11,12 +11,12 @@ use Rattle.eco_entities.specs.declared.place.Place.{Place}
 use Rattle.eco_entities.proofs.Registers.{cases_entity, registry_same, registry_nameless}
 use Rattle.std.proofs.lemmas.Option.{slice_get_within}
 use Rattle.eco_ids.specs.declared.entity.Entity.{Entity}
-use Rattle.eco_ids.specs.Indices.{Indexed, Living, record_in, record_of, is_alive, is_free_at, with_record, with_death, admitted, raised}
+use Rattle.eco_ids.specs.Indices.{Indexed, Living, record_in, record_of, is_alive, is_free_at, with_record, with_death, admitted, raised, with_new, next_entity}
 use Rattle.eco_entities.specs.Registration.{Registration, newcomer, name_of, own_name, with_change, change_in, placed, renamed}
 use Rattle.eco_entities.specs.Changes.{ChangesAt, Keeps}
 use Rattle.eco_entities.specs.Registry.{IsRegistry}
 use Rattle.eco_entities.proofs.States.{slice_get-set_same, alive_known, record_here, record_at}
-use Rattle.eco_entities.proofs.Kept.{record-settled, record_of_free, record-died, record-replaced, record-admitted}
+use Rattle.eco_entities.proofs.Kept.{record-new, record_of_next, record-settled, record_of_free, record-died, record-replaced, record-admitted}
 
 -- where what is kept changes at one entity, so do the names
 pub names_follow : (w new : Indexed Registration) (e : Entity) (o : Option Registration) → ChangesAt (record_of w) (record_of new) e o → ChangesAt (own_name w) (own_name new) e (option_and_then name_of o)
@@ -32,6 +32,13 @@ own-settled w e name free = names_follow w (with_record w e (newcomer name)) e (
 
 pub own_of_free : (w : Indexed Registration) (e : Entity) → is_free_at w e ≡ true → own_name w e ≡ None
 own_of_free w e free = ap (option_and_then name_of) (record_of_free w e free)
+
+-- the next entity has its name, and the others keep theirs
+pub own-new : (w : Indexed Registration) (e : Entity) (name : Option (List ℕ)) → next_entity w ≡ Some e → ChangesAt (own_name w) (own_name (with_new w e (newcomer name))) e name
+own-new w e name next = names_follow w (with_new w e (newcomer name)) e (Some (newcomer name)) (record-new w e (newcomer name) next)
+
+pub own_of_next : (w : Indexed Registration) (e : Entity) → next_entity w ≡ Some e → own_name w e ≡ None
+own_of_next w e next = ap (option_and_then name_of) (record_of_next w e next)
 
 -- the dead have no name, and the others keep theirs
 pub own-died : (w : Indexed Registration) (e : Entity) → is_alive w e ≡ true → ChangesAt (own_name w) (own_name (with_death w e)) e None

@@ -1,8 +1,7 @@
 -- Which names are in use, and by whom.
-use Rattle.std.specs.Prelude.{◌≡◌, ℕ, true, nat_lt, List, length, Option, Some, if◌then◌else◌}
+use Rattle.std.specs.Prelude.{◌≡◌, ℕ, true, List, Option, Some}
 use Rattle.std.specs.HashMap.{get_by_text}
 use Rattle.eco_ids.specs.declared.entity.Entity.{Entity}
-use Rattle.eco_ids.specs.Indices.{Indexed, admitted}
 use Rattle.eco_ids.specs.Names.{is_proper}
 use Rattle.eco_entities.specs.declared.names.Names.{Names}
 
@@ -15,7 +14,3 @@ pub record IsRegistry (found : List ℕ → Option Entity) (own : Entity → Opt
   pub lives : (name : List ℕ) (e : Entity) → found name ≡ Some e → own e ≡ Some name
   pub listed : (name : List ℕ) (e : Entity) → own e ≡ Some name → found name ≡ Some e
   pub proper : (e : Entity) → is_proper (own e) ≡ true
-
--- the entity's index is known
-abbrev pub with_room : {A : Type 0} → Indexed A → Entity → Indexed A
-with_room w e = if nat_lt e.index (length w.indices) then w else admitted 1 w

@@ -176,13 +176,11 @@ impl EntityIndex {
         ensures err { OnErr result (self.new ≡ self.old) }
     {
         let Some(text) = name else {
-            self.slots.make_room(entity)?;
-            self.slots.settle(entity, None);
+            self.slots.settle_next(entity, None)?;
             return Ok(());
         };
         let NewName { listed, own } = self.names.prepare(text)?;
-        self.slots.make_room(entity)?;
-        self.slots.settle(entity, Some(own));
+        self.slots.settle_next(entity, Some(own))?;
         self.names.insert(listed, entity);
         Ok(())
     }

@@ -1,12 +1,11 @@
 //! The known indices: which of them live, are free or retired, and what is kept of the living.
-ghost use Rattle.std.specs.Prelude.{◌≡◌, ℕ, ◌+◌, ◌≤◌, ◌<◌, ◌&&◌, nat_lt, [], ◌++◌, replicate, vec_len, vec_capacity, length, slice_get, IsTrue, OnOk, OnErr, Some, None, option_map, string_bytes};
+ghost use Rattle.std.specs.Prelude.{◌≡◌, ℕ, ◌+◌, ◌≤◌, ◌<◌, ◌&&◌, nat_lt, [], ◌∷◌, ◌++◌, replicate, vec_len, vec_capacity, length, slice_get, IsTrue, OnOk, OnErr, Some, None, option_map, string_bytes};
 ghost use Rattle.eco_ids.specs.Births.{Admits, may_admit, RevivesWith};
-ghost use Rattle.eco_ids.specs.Indices.{record_of, is_alive, is_free_at, next_entity, admitted, with_record, with_death};
+ghost use Rattle.eco_ids.specs.Indices.{record_of, is_alive, is_free_at, next_entity, admitted, with_new, with_record, with_death, Living};
 ghost use Rattle.eco_ids.specs.Outcome.{Meets};
 ghost use Rattle.std.specs.Option.{option_copied};
 ghost use Rattle.eco_entities.specs.Registration.{newcomer, own_name, entity_at, with_change, placed, renamed};
 ghost use Rattle.eco_entities.specs.Slots.{registration_of, next_generation, Fits};
-ghost use Rattle.eco_entities.specs.Registry.{with_room};
 
 use crate::free_set::FreeSet;
 use crate::place::Place;
@@ -155,18 +154,6 @@ impl Slots {
         Ok(())
     }
 
-    /// Makes the index of the next entity known, if it isn't. An `Err` leaves everything.
-    pub(crate) fn make_room(&mut self, entity: Entity) -> Result<(), AllocError>
-        requires { next_entity self.old ≡ Some entity }
-        ensures ok { OnOk result (self.new ≡ with_room self.old entity) }
-        ensures err { OnErr result (self.new ≡ self.old) }
-    {
-        if entity.index < self.high() {
-            return Ok(());
-        }
-        self.extend(1)
-    }
-
     // Appends free indices, which lie below the limit.
     fn extend(&mut self, count: usize) -> Result<(), AllocError>
         requires { length self.old.indices + count ≤ self.old.limit }
@@ -189,6 +176,37 @@ impl Slots {
         let index = entity.index as usize;
         self.free.remove(index);
         self.slots[index] = Slot::Living(entity.generation, Registered { name, place: None });
+    }
+
+    /// The next entity lives, with this name. An `Err` leaves everything.
+    pub(crate) fn settle_next(
+        &mut self,
+        entity: Entity,
+        name: Option<String>,
+    ) -> Result<(), AllocError>
+        requires { next_entity self.old ≡ Some entity }
+        ensures ok { OnOk result (self.new ≡ with_new self.old entity (newcomer (option_map string_bytes name))) }
+        ensures err { OnErr result (self.new ≡ self.old) }
+    {
+        if entity.index < self.high() {
+            self.settle(entity, name);
+            return Ok(());
+        }
+        self.settle_last(name)
+    }
+
+    // The first unknown index, which lies below the limit, is known from now on, and an entity lives there, with this name. It
+    // was never free, so no mark is set and cleared. An `Err` leaves everything.
+    fn settle_last(&mut self, name: Option<String>) -> Result<(), AllocError>
+        requires { length self.old.indices + 1 ≤ self.old.limit }
+        ensures ok { OnOk result (self.new ≡ record self.old { indices = self.old.indices ++ Living 0 (newcomer (option_map string_bytes name)) ∷ [] }) }
+        ensures err { OnErr result (self.new ≡ self.old) }
+    {
+        self.slots.reserve(1)?;
+        self.free.grow(1)?;
+        self.slots
+            .push_reserved(Slot::Living(0, Registered { name, place: None }));
+        Ok(())
     }
 
     /// A handle that is free lives, without name.

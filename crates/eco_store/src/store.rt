@@ -238,8 +238,14 @@ impl Store {
     pub fn create(&mut self, name: Option<&str>, type_list: &TypeList) -> Result<Entity, Refusal>
         ensures { Meets (Makes kept_name self.old (newborn (option_copied name.entry) type_list.now)) (may_make kept_name self.old (option_copied name.entry)) self.old result self.new }
     {
-        check_new(&self.entities, name)?;
-        let slot = self.archetypes.room_for(type_list, 1)?;
+        let slot = match self.archetypes.room_for(type_list, 1) {
+            Ok(slot) => slot,
+            Err(refused) => {
+                // What stands against the entity is told before the want of memory.
+                check_new(&self.entities, name)?;
+                return Err(Refusal::from(refused));
+            }
+        };
         match self.entities.create(name) {
             Ok(entity) => {
                 settle(&mut self.entities, &mut self.archetypes, slot, entity);

@@ -9,6 +9,7 @@
 #![tactic(auto)]
 
 mod column;
+mod grid;
 mod table;
 mod tables;
 

@@ -1,13 +1,10 @@
 //! A table: the entities of one type, and a column of values for each id.
-ghost use Rattle.std.specs.Prelude.{◌≡◌, ◌<◌, ◌≤◌, ◌+◌, ◌-◌, ◌++◌, [], ◌∷◌, length, slice_index_or, slice_set, OnOk, OnErr, IfOk, slice_get};
+ghost use Rattle.std.specs.Prelude.{◌≡◌, ◌<◌, ◌≤◌, ◌+◌, ◌-◌, ◌++◌, [], ◌∷◌, length, slice_index_or, slice_set, OnOk, IfOk, slice_get};
 ghost use Rattle.std.specs.List.{swap_remove, All};
-ghost use Rattle.eco_ids.specs.World.{zeros};
 ghost use Rattle.eco_tables.specs.Column.{value_in, with_held, retyped};
 ghost use Rattle.eco_tables.specs.Table.{TableState, Row, entities_of, retyped_row, HasIds};
 
-use crate::column::{
-    Column, columns_of, push_from, push_zeros, reserve, set_value, swap_out_row, value_at,
-};
+use crate::grid::Grid;
 use eco_ids::{Entity, Id, TypeList, Value};
 use std::alloc::{AllocError, Global};
 use std::marker::Model;
@@ -19,35 +16,26 @@ use std::marker::Model;
 /// more rows fit with no allocation.
 #[derive(Drop)]
 pub struct Table {
-    type_list: TypeList,
-    entities: Vec<Entity>,
-    columns: Vec<Column>,
-    room: usize,
+    // In a box, since a table leaves its slot and comes back with each row that it gets from another.
+    grid: Box<Grid>,
 }
 
 impl Model for Table {
-    ghost use Rattle.std.specs.Prelude.{vec_capacity};
-    ghost use Rattle.eco_tables.specs.Table.{TableState, rows_from, HasShape};
+    ghost use Rattle.eco_tables.specs.Table.{TableState};
 
     ghost Value = { TableState };
 
-    ghost view = { λ t. record { ids = t.type_list; rows = rows_from t.columns.items 0 t.entities.items; room = t.room } };
-
-    ghost invariant = { λ t. HasShape t.type_list t.entities.items (vec_capacity t.entities) t.columns.items t.room };
+    ghost view = { λ t. t.grid.value };
 }
 
 impl Table {
-    /// A table without rows, with a column for each id of the type. An `Err` comes where memory for the columns is
-    /// refused.
+    /// A table without rows, with a column for each id of the type. An `Err` comes where memory for it is refused.
     pub fn new(alloc: Global, type_list: TypeList) -> Result<Table, AllocError>
         ensures { IfOk result (λ t. t ≡ record { ids = type_list; rows = []; room = 0 }) }
     {
-        let columns = columns_of(alloc, type_list.as_slice())?;
+        let grid = Grid::new(alloc, type_list)?;
         Ok(Table {
-            type_list,
-            entities: Vec::new(alloc),
-            columns,
-            room: 0,
+            grid: Box::new(alloc, grid)?,
         })
     }
 
@@ -56,21 +44,21 @@ impl Table {
         ensures ids { result.now ≡ self.now.ids }
         ensures rows { All (HasIds self.now.ids) self.now.rows }
     {
-        &self.type_list
+        self.grid.type_list()
     }
 
     /// The entities of the rows, in their order.
     pub fn rows(&self) -> &[Entity]
         ensures { result.now ≡ entities_of self.now.rows }
     {
-        self.entities.as_slice()
+        self.grid.rows()
     }
 
     /// How many rows there are.
     pub fn row_count(&self) -> usize
         ensures { result ≡ length self.now.rows }
     {
-        self.entities.len()
+        self.grid.row_count()
     }
 
     /// The value of an id in a row, zeros where the type lacks the id.
@@ -78,7 +66,7 @@ impl Table {
         requires { row < length self.now.rows }
         ensures { (r : Row) → result ≡ value_in (slice_index_or self.now.rows row r).held id }
     {
-        value_at(self.columns.as_slice(), row, id)
+        self.grid.value(row, id)
     }
 
     /// Writes that one value and takes no memory. Where the type lacks the id nothing is written.
@@ -86,7 +74,7 @@ impl Table {
         requires { row < length self.old.rows }
         ensures { (r : Row) → self.new ≡ record self.old { rows = slice_set self.old.rows row (record { entity = (slice_index_or self.old.rows row r).entity; held = with_held (slice_index_or self.old.rows row r).held id value }) } }
     {
-        set_value(self.columns.as_mut_slice(), row, id, value);
+        self.grid.set_value(row, id, value);
     }
 
     /// Room for more rows. An `Err` keeps all rows and the room that was there.
@@ -95,12 +83,7 @@ impl Table {
         ensures kept { self.old.room ≤ self.new.room }
         ensures room { OnOk result (more ≤ self.new.room) }
     {
-        self.entities.reserve(more)?;
-        reserve(self.columns.as_mut_slice(), more)?;
-        if self.room < more {
-            self.room = more;
-        }
-        Ok(())
+        self.grid.reserve(more)
     }
 
     /// Room for so many rows more than there was room for. An `Err` keeps all rows and the room that was there.
@@ -109,17 +92,14 @@ impl Table {
         ensures kept { self.old.room ≤ self.new.room }
         ensures room { OnOk result (self.old.room + more ≤ self.new.room) }
     {
-        match self.room.checked_add(more) {
-            Some(rows) => self.reserve(rows),
-            None => Err(AllocError),
-        }
+        self.grid.reserve_more(more)
     }
 
     /// Takes the promise of room back. The memory stays the table's, and the next rows go there.
     pub fn waive(&mut self)
         ensures { self.new ≡ record self.old { room = 0 } }
     {
-        self.room = 0;
+        self.grid.waive();
     }
 
     /// A row for the entity, with the values of a row elsewhere: of ids that both types have; new ids hold zeros.
@@ -128,12 +108,7 @@ impl Table {
         requires row { row < length source.now.rows }
         ensures { (r : Row) → self.new ≡ record { ids = self.old.ids; rows = self.old.rows ++ retyped_row self.old.ids (slice_index_or source.now.rows row r) ∷ []; room = self.old.room - 1 } }
     {
-        let entity = source.entities[row];
-        self.entities.push_reserved(entity);
-        // Its ids ascend, and so do the ids of its columns.
-        let _ids = source.type_list.as_slice();
-        push_from(self.columns.as_mut_slice(), source.columns.as_slice(), row);
-        self.room -= 1;
+        self.grid.push_row_from(&source.grid, row);
     }
 
     /// A row for a new entity, with zeros, in reserved room.
@@ -141,9 +116,7 @@ impl Table {
         requires { 0 < self.old.room }
         ensures { self.new ≡ record { ids = self.old.ids; rows = self.old.rows ++ record { entity = entity; held = retyped self.old.ids [] } ∷ []; room = self.old.room - 1 } }
     {
-        self.entities.push_reserved(entity);
-        push_zeros(self.columns.as_mut_slice());
-        self.room -= 1;
+        self.grid.push_row(entity);
     }
 
     /// Takes a row out, into whose place the last row goes; the room of one row is won. The answer is the entity that
@@ -153,29 +126,14 @@ impl Table {
         ensures rows { (r : Row) → self.new ≡ record self.old { rows = swap_remove self.old.rows row r; room = self.old.room + 1 } }
         ensures moved { result ≡ slice_get (entities_of self.new.rows) row }
     {
-        self.entities.swap_remove(row);
-        swap_out_row(self.columns.as_mut_slice(), row);
-        self.room += 1;
-        entity_at(self.entities.as_slice(), row)
+        self.grid.swap_out(row)
     }
 
     /// The table's type, which outlives the table.
     pub fn into_type_list(self) -> TypeList
         ensures { result ≡ self.ids }
     {
-        let Table {
-            type_list,
-            entities: _,
-            columns: _,
-            room: _,
-        } = self;
-        type_list
+        let Table { grid } = self;
+        Box::into_inner(grid).into_type_list()
     }
-}
-
-// The entity that stands in a row.
-fn entity_at(entities: &[Entity], row: usize) -> Option<Entity>
-    ensures { result ≡ slice_get entities.now row }
-{
-    entities.get(row).copied()
 }

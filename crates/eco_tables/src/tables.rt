@@ -85,6 +85,16 @@ impl Tables {
         }
     }
 
+    /// The slot has a table without rows.
+    pub fn is_rowless(&self, slot: usize) -> bool
+        ensures { result ≡ is_some (rowless_type (slot_of self.now slot)) }
+    {
+        match self.slots.get(slot) {
+            Some(table) => is_rowless(table),
+            None => false,
+        }
+    }
+
     /// Drops the table in a slot if it has no rows, and answers its type. Any other slot stays as it is.
     pub fn drop_empty(&mut self, slot: usize) -> Option<TypeList>
         ensures answer { result ≡ rowless_type (slot_of self.old slot) }
@@ -195,4 +205,11 @@ impl Tables {
         self.slots.insert_reserved(target);
         moved
     }
+}
+
+// The table has no rows.
+fn is_rowless(table: &Table) -> bool
+    ensures { result ≡ is_some (rowless_type (Some table.now)) }
+{
+    table.rows().is_empty()
 }

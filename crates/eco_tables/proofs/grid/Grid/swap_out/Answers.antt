@@ -3,7 +3,7 @@ use Rattle.std.specs.List.{swap_remove, slice_get}
 use Rattle.eco_tables.specs.Column.{with_removed}
 use Rattle.eco_tables.specs.Table.{rows_from}
 use Rattle.eco_tables.proofs.Rows.{swapped_rows, rewritten, row_within, row_in_columns, shape_removed, entities_of-rows}
-use Rattle.eco_tables.proofs.table.Table.swap_out.Goals as goal
+use Rattle.eco_tables.proofs.grid.Grid.swap_out.Goals as goal
 
 pub swap_remove-requires : goal.swap_remove-requires
 swap_remove-requires c =

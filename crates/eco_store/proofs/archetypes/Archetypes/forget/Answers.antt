@@ -1,5 +1,5 @@
 use Rattle.eco_store.proofs.ArchetypeLemmas.{found_dropped, rowless-type_at}
-use Rattle.eco_store.proofs.archetypes.Archetypes.drop_empty.Goals as goal
+use Rattle.eco_store.proofs.archetypes.Archetypes.forget.Goals as goal
 
 pub invariant_of-self : goal.invariant_of-self
 invariant_of-self c =

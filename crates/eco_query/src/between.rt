@@ -114,6 +114,16 @@ pub fn behind_part<'a>(
     }
 }
 
+// To a point, if there is one, with a mark.
+fn step_to<'a>(point: Option<Point<'a>>, mark: Mark<'a>) -> Option<Step<'a>>
+    ensures { result ≡ option_map (λ p. record { point = p; mark = mark.entry }) point.entry }
+{
+    Some(Step {
+        point: point?,
+        mark,
+    })
+}
+
 /// What a byte does between tokens that is no white space.
 pub fn enter<'a>(text: &'a [u8], at: usize, spot: Spot<'a>) -> Option<Step<'a>>
     requires within { at < length text.now }
@@ -123,46 +133,17 @@ pub fn enter<'a>(text: &'a [u8], at: usize, spot: Spot<'a>) -> Option<Step<'a>>
 {
     let byte = text[at];
     match spot {
-        Spot::Slot => match begin_body(text, at, Access::InOut) {
-            Some(point) => Some(Step {
-                point,
-                mark: Mark::Begin,
-            }),
-            None if byte == b'[' => Some(Step {
-                point: Point::At(Spot::Word),
-                mark: Mark::Same,
-            }),
-            None => None,
-        },
-        Spot::Word if matches!(byte, b'i' | b'o' | b'n') => Some(Step {
-            point: Point::Letters(at),
-            mark: Mark::Same,
-        }),
-        Spot::Shut(access) if byte == b']' => Some(Step {
-            point: Point::At(Spot::Body(access)),
-            mark: Mark::Same,
-        }),
-        Spot::Body(access) => match begin_body(text, at, access) {
-            Some(point) => Some(Step {
-                point,
-                mark: Mark::Begin,
-            }),
-            None => None,
-        },
-        Spot::Atom(access, head) => match begin_atom(text, at, access, head) {
-            Some(point) => Some(Step {
-                point,
-                mark: Mark::Same,
-            }),
-            None => None,
-        },
-        Spot::Part(role) => match begin_part(text, at, role) {
-            Some(point) => Some(Step {
-                point,
-                mark: Mark::Same,
-            }),
-            None => None,
-        },
+        Spot::Slot if byte == b'[' => step_to(Some(Point::At(Spot::Word)), Mark::Same),
+        Spot::Slot => step_to(begin_body(text, at, Access::InOut), Mark::Begin),
+        Spot::Word if matches!(byte, b'i' | b'o' | b'n') => {
+            step_to(Some(Point::Letters(at)), Mark::Same)
+        }
+        Spot::Shut(access) if byte == b']' => {
+            step_to(Some(Point::At(Spot::Body(access))), Mark::Same)
+        }
+        Spot::Body(access) => step_to(begin_body(text, at, access), Mark::Begin),
+        Spot::Atom(access, head) => step_to(begin_atom(text, at, access, head), Mark::Same),
+        Spot::Part(role) => step_to(begin_part(text, at, role), Mark::Same),
         Spot::Behind(role, part) => behind_part(text, at, role, part),
         Spot::After(access, head, atom) => behind_atom(text, at, access, head, atom),
         _ => None,

@@ -2,7 +2,7 @@
 use Rattle.std.specs.Prelude.{◌≡◌, ℕ, Bool, true, false, cond, ◌&&◌, ◌||◌, List, Option, None, Some, nat_eq}
 use Rattle.std.specs.List.{list_any}
 use Rattle.std.specs.HashMap.{HashMap, get}
-use Rattle.std.specs.HashSet.{HashSet, contains}
+use Rattle.std.specs.HashSet.{HashSet, contains, hash_set_len}
 use Rattle.eco_ids.specs.declared.entity.Entity.{Entity}
 use Rattle.eco_ids.specs.declared.id.Id.{Id}
 use Rattle.eco_ids.specs.declared.id.Id.TheVariants.{One, Two}
@@ -17,7 +17,16 @@ abbrev pub has_slot : {T : Type 0} → Option (HashSet ℕ T) → ℕ → Bool
 has_slot None n = false
 has_slot (Some s) n = contains nat_eq s n
 
+-- the set is there and has no slot
+abbrev pub is_empty_set : {T : Type 0} → Option (HashSet ℕ T) → Bool
+is_empty_set None = false
+is_empty_set (Some s) = nat_eq (hash_set_len s) 0
+
 module _ {S T : Type 0} where
+  -- each set that is kept has a slot
+  abbrev pub HasNoEmptySet : HashMap Entity (HashSet ℕ T) S → Type 0
+  HasNoEmptySet m = (e : Entity) → is_empty_set (get same_entity m e) ≡ false
+
   -- the slot is listed under the entity
   abbrev pub is_listed : HashMap Entity (HashSet ℕ T) S → Entity → ℕ → Bool
   is_listed m e n = has_slot (get same_entity m e) n

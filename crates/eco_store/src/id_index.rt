@@ -1,19 +1,21 @@
 //! For each entity, the slots of the tables whose types name it.
-ghost use Rattle.std.specs.Prelude.{◌≡◌, ℕ, OnOk, OnErr, IfOk, nat_eq, cond, true, false};
+ghost use Rattle.std.specs.Prelude.{◌≡◌, ℕ, OnOk, OnErr, IfOk, Some, nat_eq, cond, true, false};
 ghost use Rattle.std.specs.List.{list_any, IsDistinct};
 ghost use Rattle.std.specs.HashMap.{IsEmpty};
 ghost use Rattle.std.specs.HashSet.{contains};
-ghost use Rattle.eco_store.specs.IdIndex.{is_listed, Lists, Unlists, ListsSame, Turns, KeepsRest, names, names_any};
+ghost use Rattle.eco_store.specs.IdIndex.{is_listed, Lists, Unlists, ListsSame, Turns, KeepsRest, HasNoEmptySet, is_empty_set, names, names_any};
 ghost use Rattle.eco_ids.specs.declared.entity.Entity.{Entity as Ids};
 
 use eco_ids::{Entity, Id};
 use indexmap::{IndexMap, IndexSet};
 use std::alloc::{AllocError, Global};
 
-/// No model: the crate's contracts read the one field.
+/// No model: the crate's contracts read the one field. An entity of which no slot is listed is not kept, so the index does
+/// not grow with the entities that types named once.
 #[derive(Drop)]
 pub struct IdIndex {
     slots: IndexMap<Entity, IndexSet<usize>>,
+    ghost full: { HasNoEmptySet slots },
 }
 
 impl IdIndex {
@@ -50,12 +52,15 @@ impl IdIndex {
         Ok(())
     }
 
-    /// Takes the slot off the entity's list.
+    /// Takes the slot off the entity's list, and with the last one the list. It takes no memory.
     pub fn take(&mut self, entity: Entity, slot: usize)
         ensures { Unlists self.old.slots self.new.slots entity slot }
     {
-        if let Some(slots) = self.slots.get_mut(&entity) {
-            slots.swap_remove(&slot);
+        let Some(slots) = self.slots.get_mut(&entity) else {
+            return;
+        };
+        if take_slot(slots, slot) {
+            self.slots.swap_remove(&entity);
         }
     }
 
@@ -120,7 +125,18 @@ impl IdIndex {
 fn add_slot(slots: &mut IndexSet<usize>, slot: usize) -> Result<(), AllocError>
     ensures ok { OnOk result ((n : ℕ) → contains nat_eq slots.new n ≡ cond (nat_eq slot n) true (contains nat_eq slots.old n)) }
     ensures err { OnErr result ((n : ℕ) → contains nat_eq slots.new n ≡ contains nat_eq slots.old n) }
+    ensures full { OnOk result (is_empty_set (Some slots.new) ≡ false) }
+    ensures kept { OnErr result (is_empty_set (Some slots.new) ≡ is_empty_set (Some slots.old)) }
 {
     slots.insert(slot)?;
     Ok(())
+}
+
+// The answer is whether no slot is left.
+fn take_slot(slots: &mut IndexSet<usize>, slot: usize) -> bool
+    ensures taken { (n : ℕ) → contains nat_eq slots.new n ≡ cond (nat_eq slot n) false (contains nat_eq slots.old n) }
+    ensures empty { result ≡ is_empty_set (Some slots.new) }
+{
+    slots.swap_remove(&slot);
+    slots.is_empty()
 }

@@ -6,7 +6,6 @@ use Rattle.std.specs.FinMap.Entries.{find, put, where_key, by_order}
 use Rattle.std.specs.List.{list_all, list_any}
 use Rattle.std.specs.Ordering.{ordering_reverse}
 use Rattle.eco_ids.specs.declared.entity.Entity.{Entity}
-use Rattle.eco_ids.specs.declared.entity.TheConstants.{ACYCLIC, EXCLUSIVE}
 use Rattle.eco_ids.specs.declared.id.Id.{Id}
 use Rattle.eco_ids.specs.declared.id.Id.TheVariants.{One, Two}
 use Rattle.eco_ids.specs.declared.value.Value.{Value}
@@ -14,12 +13,11 @@ use Rattle.eco_ids.specs.declared.refusal.Refusal.{Refusal}
 use Rattle.eco_ids.specs.declared.refusal.Refusal.TheVariants.{DeadId}
 use Rattle.eco_ids.specs.Indices.{record_of}
 use Rattle.eco_ids.specs.Order.{id_cmp, id_eq, entity_eq, has_item, is_ascending, with_item, without_item}
-use Rattle.eco_ids.specs.Step.{IsClosure, Judges, is_displaced, is_pair_of, is_used, with_closure, with_zeros}
-use Rattle.eco_ids.specs.World.{WorldState, Record, has, is_exclusive, names_living, zeros}
+use Rattle.eco_ids.specs.Step.{IsClosure, Judges, is_displaced, is_pair_of, with_closure, with_zeros}
+use Rattle.eco_ids.specs.World.{WorldState, Record, is_exclusive, names_living, zeros}
 use Rattle.eco_traits.specs.Same.{or_parts, or_left, or_right, both, first, second, same_truth, entity_eq_is, entity_eq_itself, id_eq_is, id_eq_itself, id_cmp_total, has_append, id_eq_sym}
-use Rattle.eco_traits.specs.Target.{IsPlain, IsTypeWith, LeadsTo, type_of_record}
-use Rattle.eco_traits.proofs.Closures.{closure_alone, closure_to_reach}
-use Rattle.eco_traits.proofs.Verdicts.{judged_cycle}
+use Rattle.eco_traits.specs.Target.{IsTypeWith, LeadsTo, type_of_record}
+use Rattle.eco_traits.proofs.Closures.{closure_to_reach}
 use Rattle.eco_traits.proofs.Walks.{ids_in, ids_find}
 
 -- ---- ascending lists
@@ -312,21 +310,3 @@ leads_to w e i s own kept all verdict lives closure judges none owns up is_kept 
     ∙ type_with w s d.0 (subst (λ xs. IsTrue (is_ascending id_cmp xs)) d.2 up) in
     subst (λ b. MatchBool b (Goes w e i all) (Ok all ≡ Err DeadId)) (sym lives)
     (s, closure, None, subst (Judges w e s) none judges, (d.0, d.1, ap Ok type_is))
-
--- an id that comes alone and that nothing stands against goes to its place
-pub plain_leads_to : (w : WorldState) (e : Entity) (i : Id) (own all : List Id) → names_living w i ≡ true → IsPlain w i
-    → Some own ≡ option_map type_of_record (record_of w e) → IsTrue (is_ascending id_cmp own) → all ≡ with_item id_cmp own i
-    → LeadsTo w e i (Ok all)
-plain_leads_to w e (Two r t) own all lives plain owns up is_all = absurd plain
-plain_leads_to w e (One c) own all lives plain owns up is_all =
-    leads_to w e (One c) (One c ∷ []) own own all None lives closure judges refl owns up (sym (single_keeps_all w c (One c ∷ []) own closure)) is_all
-  where
-    closure : IsClosure w (One c) (One c ∷ [])
-    closure = closure_alone w (One c) (λ x h. true≢false (sym h ∙ plain.2 x))
-
-    judges : Judges w e (One c ∷ []) None
-    judges =
-        judged_cycle w e (One c ∷ []) None None refl
-        (ap (λ b. (b || false) && (not (has w e (One EXCLUSIVE)) && is_used w e)) plain.0)
-        (ap (λ b. (b || false) && (not (has w e (One ACYCLIC)) && is_used w e)) plain.1)
-        (λ r closes. true≢false (sym closes.2)) refl

@@ -1,6 +1,7 @@
 pub mod Agree
 pub mod Closures
 pub mod Joined
+pub mod Plain
 pub mod Retype
 pub mod Rows
 pub mod Search

@@ -57,11 +57,17 @@ pub(crate) fn has_with<H: Holdings>(holdings: &H, entity: Entity) -> bool
     ensures { IsTrue result ↔ ((x : EntityData) × IsTrue (has (H.world holdings.now) entity (Two WITH_DATA x))) }
 {
     match holdings.type_of(entity) {
-        Some(ids) => ids
-            .first_match(Pattern::Two(Part::Is(WITH), Part::Any))
-            .is_some(),
+        Some(ids) => brings_any(ids),
         None => false,
     }
+}
+
+/// Whether a pair of With is among the ids.
+pub(crate) fn brings_any(ids: &TypeList) -> bool
+    ensures { IsTrue result ↔ ((x : EntityData) × IsTrue (has_item id_cmp ids.now (Two WITH_DATA x))) }
+{
+    ids.first_match(Pattern::Two(Part::Is(WITH), Part::Any))
+        .is_some()
 }
 
 // The id with each of the heads in the place of its own.

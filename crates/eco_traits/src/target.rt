@@ -1,14 +1,14 @@
 //! The type that an add leads to.
-ghost use Rattle.std.specs.Prelude.{◌≡◌, IfOk, IsTrue, filter, fold, not};
+ghost use Rattle.std.specs.Prelude.{◌≡◌, IfOk, IsFalse, IsTrue, filter, fold, not};
 ghost use Rattle.eco_ids.specs.Indices.{is_alive as lives};
 ghost use Rattle.eco_ids.specs.Order.{id_cmp, is_ascending, with_item};
 ghost use Rattle.eco_ids.specs.Step as step;
 ghost use Rattle.eco_ids.specs.World as world;
-ghost use Rattle.eco_traits.specs.Target.{FindsType, IsPlain};
+ghost use Rattle.eco_traits.specs.Target.{FindsType, IsPlain, IsPlainRelationship, LacksTraits};
 
 use crate::holdings::Holdings;
-use crate::implied::{closure, has_with};
-use crate::verdict::verdict;
+use crate::implied::{brings_any, closure, has_with};
+use crate::verdict::{is_wrong_policy, verdict};
 use crate::walk::has;
 use eco_ids::entity::{ACYCLIC, EXCLUSIVE};
 use eco_ids::{Entity, Id, Refusal, TypeList};
@@ -69,7 +69,7 @@ fn names_living<H: Holdings>(holdings: &H, id: Id) -> bool
     }
 }
 
-// Whether the id comes alone and nothing stands against it, as with most tags and components.
+// Whether the id comes alone, displaces nothing, and nothing stands against it, as with most tags, components and pairs.
 fn is_plain<H: Holdings>(holdings: &H, id: Id) -> bool
     ensures { IsTrue result → IsPlain (H.world holdings.now) id }
 {
@@ -77,8 +77,27 @@ fn is_plain<H: Holdings>(holdings: &H, id: Id) -> bool
         Id::One(single) => {
             !single.is(EXCLUSIVE) && !single.is(ACYCLIC) && !has_with(holdings, single)
         }
-        Id::Two(..) => false,
+        Id::Two(relationship, _) => {
+            !is_wrong_policy(id) && is_plain_relationship(holdings, relationship)
+        }
     }
+}
+
+// Whether the relationship brings nothing along, and is neither exclusive nor acyclic.
+fn is_plain_relationship<H: Holdings>(holdings: &H, relationship: Entity) -> bool
+    ensures { IsTrue result → IsPlainRelationship (H.world holdings.now) relationship }
+{
+    match holdings.type_of(relationship) {
+        Some(ids) => !has_trait(ids),
+        None => false,
+    }
+}
+
+// Whether one of the ids says how pairs behave.
+fn has_trait(ids: &TypeList) -> bool
+    ensures { IsFalse result → LacksTraits ids.now }
+{
+    ids.has(Id::One(EXCLUSIVE)) || ids.has(Id::One(ACYCLIC)) || brings_any(ids)
 }
 
 // What the closure of the added id does not displace, and the closure.

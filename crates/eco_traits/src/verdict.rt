@@ -38,7 +38,7 @@ fn any_wrong_policy(ids: &[Id]) -> bool
 
 // A pair of a cleanup condition names what is done, and that is Remove, Delete or Panic (Flecs manual, Component Traits,
 // "Cleanup properties").
-fn is_wrong_policy(id: Id) -> bool
+pub(crate) fn is_wrong_policy(id: Id) -> bool
     ensures { result ≡ step.is_wrong_policy id }
 {
     match id {

@@ -1,5 +1,6 @@
 use Rattle.std.proofs.Common.{option_copied, refl, sym, ap, ◌∙◌}
-use Rattle.eco_traits.proofs.Joined.{leads_to, plain_leads_to}
+use Rattle.eco_traits.proofs.Joined.{leads_to}
+use Rattle.eco_traits.proofs.Plain.{plain_leads_to}
 use Rattle.eco_traits.proofs.target.target_type.Goals as goal
 
 pub returns : goal.returns

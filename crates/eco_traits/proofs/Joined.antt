@@ -1,7 +1,8 @@
 -- What an entity has once a closure came to it, by its ids alone.
-use Rattle.std.proofs.Common.{◌≡◌, ℕ, ◌+◌, ◌<◌, Bool, true, false, cond, not, ◌&&◌, ◌||◌, inl, inr, List, [], ◌∷◌, ◌++◌, filter, fold, length, take, get_or, refl, sym, ap, ◌∙◌, subst, true≢false, IsTrue, Option, Some, None, MatchBool, MatchOption, Ok, Err, option_map, unwrap_or, is_some, is_lt, is_eq, Ordering, Less, Equal, Greater}
+use Rattle.std.proofs.Common.{◌≡◌, ℕ, ◌+◌, ◌<◌, Bool, true, false, cond, not, ◌&&◌, ◌||◌, inl, inr, List, [], ◌∷◌, ◌++◌, filter, fold, length, take, get_or, refl, sym, ap, ◌∙◌, subst, true≢false, IsTrue, Option, Some, None, MatchBool, MatchOption, Ok, Err, option_copied, option_map, unwrap_or, is_some, is_lt, is_eq, Ordering, Less, Equal, Greater}
 use Rattle.std.proofs.lemmas.List.{take_more}
 use Rattle.std.proofs.lemmas.List.Sums.{fold-append}
+use Rattle.std.specs.Borrow.{Bor}
 use Rattle.std.specs.FinMap.Entries.{find, put, where_key, by_order}
 use Rattle.std.specs.List.{list_all, list_any}
 use Rattle.std.specs.Ordering.{ordering_reverse}
@@ -279,6 +280,11 @@ goes_left keep own k d ids new l goes is out =
     go y false false true e f = refl
     go y false true false e f = refl
     go y false false false e f = refl
+
+-- what stands behind the one reference, where it is there, else behind the other
+pub behind_either : (o : Option (Bor (List Id))) (other : Bor (List Id)) (list : Option (List Id)) → option_copied o ≡ list → (unwrap_or o other).now ≡ unwrap_or list other.now
+behind_either None other list e = ap (λ k. unwrap_or k other.now) e
+behind_either (Some b) other list e = ap (λ k. unwrap_or k other.now) e
 
 -- ---- putting in one after the other
 

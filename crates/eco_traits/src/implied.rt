@@ -33,8 +33,8 @@ pub fn closure<H: Holdings>(alloc: Global, holdings: &H, id: Id) -> Result<TypeL
     with_heads(alloc, id, heads.as_slice())
 }
 
-// The entity whose pairs of With say what the id brings.
-fn head_of(id: Id) -> Entity
+/// The entity whose pairs of With say what the id brings.
+pub(crate) fn head_of(id: Id) -> Entity
     ensures { result ≡ spec.head_of id }
 {
     match id {

@@ -1,14 +1,14 @@
 //! The type that an add leads to.
-ghost use Rattle.std.specs.Prelude.{◌≡◌, IfOk, IsFalse, IsTrue, filter, fold, not};
-ghost use Rattle.eco_ids.specs.Indices.{is_alive as lives};
+ghost use Rattle.std.specs.Prelude.{◌≡◌, IfOk, IsFalse, IsTrue, Some, filter, fold, not, option_map, unwrap_or};
+ghost use Rattle.eco_ids.specs.Indices.{is_alive as lives, record_of};
 ghost use Rattle.eco_ids.specs.Order.{id_cmp, is_ascending, with_item};
 ghost use Rattle.eco_ids.specs.Step as step;
 ghost use Rattle.eco_ids.specs.World as world;
-ghost use Rattle.eco_traits.specs.Target.{FindsType, IsPlain, IsPlainRelationship, LacksTraits};
+ghost use Rattle.eco_traits.specs.Target.{FindsType, IsPlain, IsPlainRelationship, LacksTraits, type_of_record};
 
 use crate::holdings::Holdings;
-use crate::implied::{brings_any, closure, has_with};
-use crate::verdict::{is_wrong_policy, verdict};
+use crate::implied::{brings_any, closure, has_with, head_of};
+use crate::verdict::{is_among, is_wrong_policy, verdict};
 use crate::walk::has;
 use eco_ids::entity::{ACYCLIC, EXCLUSIVE};
 use eco_ids::{Entity, Id, Refusal, TypeList};
@@ -44,11 +44,32 @@ pub fn target_type<H: Holdings>(
     if is_plain(holdings, id) {
         return Ok(own.with(id)?);
     }
-    let coming = closure(alloc, holdings, id)?;
-    if let Some(refusal) = verdict(alloc, holdings, entity, &coming)? {
+    if has_with(holdings, head_of(id)) {
+        let coming = closure(alloc, holdings, id)?;
+        judged_type(alloc, holdings, entity, own, id, coming.as_slice())
+    } else {
+        judged_type(alloc, holdings, entity, own, id, &[id])
+    }
+}
+
+// The type that the entity has once the closure of the id came to it, or what stands against that.
+fn judged_type<H: Holdings>(
+    alloc: Global,
+    holdings: &H,
+    entity: Entity,
+    own: &TypeList,
+    added: Id,
+    coming: &[Id],
+) -> Result<TypeList, Refusal>
+    requires lives { IsTrue (world.names_living (H.world holdings.now) added) }
+    requires own { Some own.now ≡ option_map type_of_record (record_of (H.world holdings.now) entity) }
+    requires closure { step.IsClosure (H.world holdings.now) added coming.now }
+    ensures { FindsType (H.world holdings.now) entity added result }
+{
+    if let Some(refusal) = verdict(alloc, holdings, entity, coming)? {
         return Err(refusal);
     }
-    Ok(extended(holdings, own, id, &coming)?)
+    Ok(extended(holdings, own, added, coming)?)
 }
 
 fn is_alive<H: Holdings>(holdings: &H, entity: Entity) -> bool
@@ -105,7 +126,7 @@ fn extended<H: Holdings>(
     holdings: &H,
     own: &TypeList,
     added: Id,
-    coming: &TypeList,
+    coming: &[Id],
 ) -> Result<TypeList, AllocError>
     requires { step.IsClosure (H.world holdings.now) added coming.now }
     ensures ids { IfOk result (λ ids. ids ≡ fold (with_item id_cmp) (filter (λ i. not (step.is_displaced (H.world holdings.now) coming.now i)) own.now) coming.now) }
@@ -117,35 +138,34 @@ fn extended<H: Holdings>(
         Id::One(_) => joined(own, coming),
         Id::Two(..) => {
             let kept = kept(holdings, own, added, coming)?;
-            joined(&kept, coming)
+            joined(kept.as_ref().unwrap_or(own), coming)
         }
     }
 }
 
-// What the closure of the added id does not displace.
+// What the closure of the added id does not displace; none, where that is all.
 fn kept<H: Holdings>(
     holdings: &H,
     own: &TypeList,
     added: Id,
-    coming: &TypeList,
-) -> Result<TypeList, AllocError>
+    coming: &[Id],
+) -> Result<Option<TypeList>, AllocError>
     requires { step.IsClosure (H.world holdings.now) added coming.now }
-    ensures kept { IfOk result (λ ids. ids ≡ filter (λ i. not (step.is_displaced (H.world holdings.now) coming.now i)) own.now) }
+    ensures kept { IfOk result (λ ids. unwrap_or ids own.now ≡ filter (λ i. not (step.is_displaced (H.world holdings.now) coming.now i)) own.now) }
     ensures ascending { IsTrue (is_ascending id_cmp own.now) }
 {
-    let all = own.as_slice();
-    let mut ids = own.try_copy()?;
-    for id in all {
+    let mut kept: Option<TypeList> = None;
+    for id in own.as_slice() {
         if is_displaced(holdings, added, coming, *id) {
-            ids = ids.without(*id)?;
+            kept = Some(kept.as_ref().unwrap_or(own).without(*id)?);
         }
     }
-    Ok(ids)
+    Ok(kept)
 }
 
 // All pairs of a closure have the target of the added pair. So a pair goes where it has another target, its exclusive
 // relationship being there with that one.
-fn is_displaced<H: Holdings>(holdings: &H, added: Id, coming: &TypeList, id: Id) -> bool
+fn is_displaced<H: Holdings>(holdings: &H, added: Id, coming: &[Id], id: Id) -> bool
     requires { step.IsClosure (H.world holdings.now) added coming.now }
     ensures { result ≡ step.is_displaced (H.world holdings.now) coming.now id }
 {
@@ -156,15 +176,15 @@ fn is_displaced<H: Holdings>(holdings: &H, added: Id, coming: &TypeList, id: Id)
         return false;
     };
     !old.is(target)
-        && coming.has(Id::Two(relationship, target))
+        && is_among(coming, Id::Two(relationship, target))
         && has(holdings, relationship, Id::One(EXCLUSIVE))
 }
 
 // The ids, and those that come.
-fn joined(ids: &TypeList, coming: &TypeList) -> Result<TypeList, AllocError>
+fn joined(ids: &TypeList, coming: &[Id]) -> Result<TypeList, AllocError>
     ensures { IfOk result (λ all. all ≡ fold (with_item id_cmp) ids.now coming.now) }
 {
-    let Some((first, others)) = coming.as_slice().split_first() else {
+    let Some((first, others)) = coming.split_first() else {
         return ids.try_copy();
     };
     let mut all = ids.with(*first)?;

@@ -1,14 +1,14 @@
 //! What stands against adding a whole closure.
 ghost use Rattle.std.specs.Prelude.{◌≡◌, ◌||◌, IfOk, IsTrue};
 ghost use Rattle.std.specs.List.{list_any};
-ghost use Rattle.eco_ids.specs.Order.{entity_eq, id_cmp, is_ascending};
+ghost use Rattle.eco_ids.specs.Order.{entity_eq, has_item, id_cmp, is_ascending};
 ghost use Rattle.eco_ids.specs.Step as step;
 ghost use Rattle.eco_traits.specs.Target.{IsClosedBy, IsFirstCycle};
 
 use crate::holdings::Holdings;
 use crate::walk::{has, reaches};
 use eco_ids::entity::{ACYCLIC, DELETE, EXCLUSIVE, ON_DELETE, ON_DELETE_TARGET, PANIC, REMOVE};
-use eco_ids::{Entity, Id, Refusal, TypeList};
+use eco_ids::{Entity, Id, Refusal};
 use std::alloc::{AllocError, Global};
 
 // The first of what stands against it: a cleanup pair that names no action, a trait that comes too late, a cycle.
@@ -16,17 +16,18 @@ pub(crate) fn verdict<H: Holdings>(
     alloc: Global,
     holdings: &H,
     entity: Entity,
-    coming: &TypeList,
+    coming: &[Id],
 ) -> Result<Option<Refusal>, AllocError>
+    requires { IsTrue (is_ascending id_cmp coming.now) }
     ensures { IfOk result (step.Judges (H.world holdings.now) entity coming.now) }
 {
-    if any_wrong_policy(coming.as_slice()) {
+    if any_wrong_policy(coming) {
         return Ok(Some(Refusal::NotAPolicy));
     }
     if is_late(holdings, entity, coming, EXCLUSIVE) || is_late(holdings, entity, coming, ACYCLIC) {
         return Ok(Some(Refusal::InUse));
     }
-    let cycle = first_cycle(alloc, holdings, entity, coming.as_slice())?;
+    let cycle = first_cycle(alloc, holdings, entity, coming)?;
     Ok(cycle.map(|relationship| Refusal::Cycle { relationship }))
 }
 
@@ -59,11 +60,20 @@ fn is_action(target: Entity) -> bool
     target.is(REMOVE) || target.is(DELETE) || target.is(PANIC)
 }
 
+/// Whether the id is one of these, which are few.
+pub(crate) fn is_among(ids: &[Id], id: Id) -> bool
+    ensures { result ≡ has_item id_cmp ids.now id }
+{
+    ids.iter().any(|own| own.is(id))
+}
+
 // The trait comes to an entity that lacks it while pairs of that entity are about.
-fn is_late<H: Holdings>(holdings: &H, entity: Entity, coming: &TypeList, late: Entity) -> bool
+fn is_late<H: Holdings>(holdings: &H, entity: Entity, coming: &[Id], late: Entity) -> bool
     ensures { result ≡ step.is_late (H.world holdings.now) entity coming.now late }
 {
-    coming.has(Id::One(late)) && !has(holdings, entity, Id::One(late)) && holdings.is_used(entity)
+    is_among(coming, Id::One(late))
+        && !has(holdings, entity, Id::One(late))
+        && holdings.is_used(entity)
 }
 
 // The ids ascend by relationship, so the first cycle that is found is the least relationship's.

@@ -1,32 +1,28 @@
 -- An id that comes alone, displaces nothing, and against which nothing stands.
 use Rattle.std.proofs.Common.{◌≡◌, true, false, cond, not, ◌||◌, ◌&&◌, inl, inr, List, [], ◌∷◌, filter, refl, sym, ap, ◌∙◌, subst, true≢false, IsTrue, Some, None, Ok, option_map}
 use Rattle.eco_ids.specs.declared.entity.Entity.{Entity}
-use Rattle.eco_ids.specs.declared.entity.TheConstants.{ACYCLIC, EXCLUSIVE}
+use Rattle.eco_ids.specs.declared.entity.TheConstants.{ACYCLIC, EXCLUSIVE, WITH}
 use Rattle.eco_ids.specs.declared.id.Id.{Id}
 use Rattle.eco_ids.specs.declared.id.Id.TheVariants.{One, Two}
 use Rattle.eco_ids.specs.Indices.{record_of}
 use Rattle.eco_ids.specs.Order.{id_cmp, id_eq, has_item, is_ascending, with_item}
 use Rattle.eco_ids.specs.Step.{IsClosure, Judges, is_displaced, is_pair_of, is_used}
 use Rattle.eco_ids.specs.World.{WorldState, has, is_acyclic, is_exclusive, names_living}
+use Rattle.eco_traits.specs.Closure.{head_of}
 use Rattle.eco_traits.specs.Same.{or_parts, first, second, same_truth, entity_eq_is, id_eq_is}
-use Rattle.eco_traits.specs.Target.{IsPlain, IsPlainRelationship, LacksTraits, LeadsTo, type_of_record}
+use Rattle.eco_traits.specs.Target.{BringsNone, IsPlain, LeadsTo, type_of_record}
 use Rattle.eco_traits.proofs.Closures.{closure_alone}
 use Rattle.eco_traits.proofs.Joined.{leads_to, single_displaces_none}
 use Rattle.eco_traits.proofs.Verdicts.{judged_cycle}
 use Rattle.eco_traits.proofs.Walks.{has_listed}
 
--- a relationship lacks the traits where none is among its ids
-pub plain_by_ids : (w : WorldState) (r : Entity) (ids : List Id) → Some ids ≡ option_map type_of_record (record_of w r) → LacksTraits ids → IsPlainRelationship w r
-plain_by_ids w r ids own lacks = (
-  has_listed w r (One EXCLUSIVE) ids own ∙ lacks.0,
-  has_listed w r (One ACYCLIC) ids own ∙ lacks.1,
-  λ x. has_listed w r _ ids own ∙ lacks.2 x,
-)
+-- these are the ids of the entity of a single id, or of the relationship of a pair
+abbrev pub AreTraitsOf : WorldState → Id → List Id → Type 0
+AreTraitsOf w i ids = Some ids ≡ option_map type_of_record (record_of w (head_of i))
 
 -- nothing comes along
-alone : (w : WorldState) (i : Id) → IsPlain w i → IsClosure w i (i ∷ [])
-alone w (One c) plain = closure_alone w (One c) (λ x h. true≢false (sym h ∙ plain.2 x))
-alone w (Two r t) plain = closure_alone w (Two r t) (λ x h. true≢false (sym h ∙ plain.1.2 x))
+pub comes_alone : (w : WorldState) (i : Id) (ids : List Id) → AreTraitsOf w i ids → BringsNone ids → IsClosure w i (i ∷ [])
+comes_alone w i ids own none = closure_alone w i (λ x h. true≢false (sym h ∙ has_listed w (head_of i) (Two WITH x) ids own ∙ none x))
 
 -- an id that is the only one is the other
 only : (i j : Id) → IsTrue (has_item id_cmp (i ∷ []) j) → i ≡ j
@@ -36,39 +32,45 @@ same_relationship : (r q t u : Entity) → Two r t ≡ Two q u → r ≡ q
 same_relationship r q t u e = cc
 
 -- nothing is displaced
-displaces_none : (w : WorldState) (i : Id) → IsPlain w i → (j : Id) → is_displaced w (i ∷ []) j ≡ false
-displaces_none w (One c) plain j = single_displaces_none w c (One c ∷ []) (alone w (One c) plain) j
-displaces_none w (Two r t) plain (One e) = refl
-displaces_none w (Two r t) plain (Two q u) =
+displaces_none : (w : WorldState) (i : Id) (ids : List Id) → AreTraitsOf w i ids → IsPlain i ids → (j : Id) → is_displaced w (i ∷ []) j ≡ false
+displaces_none w (One c) ids own plain j = single_displaces_none w c (One c ∷ []) (comes_alone w (One c) ids own plain.2) j
+displaces_none w (Two r t) ids own plain (One e) = refl
+displaces_none w (Two r t) ids own plain (Two q u) =
     same_truth (is_displaced w (Two r t ∷ []) (Two q u)) false
     (λ h.
     let same : q ≡ r = elim (or_parts (is_pair_of q (Two r t)) false (first _ _ (second (is_exclusive w q) _ h))) as (λ _. q ≡ r) [ inl k ↦ entity_eq_is q r k | inr k ↦ absurd (true≢false (sym k)) ] in
-    absurd (true≢false (sym (subst (λ p. IsTrue (is_exclusive w p)) same (first _ _ h)) ∙ plain.1.0)))
+    absurd (true≢false (sym (subst (λ p. IsTrue (is_exclusive w p)) same (first _ _ h)) ∙ has_listed w r (One EXCLUSIVE) ids own ∙ plain.1.0)))
     (λ h. absurd (true≢false (sym h)))
 
-keeps_all : (w : WorldState) (i : Id) → IsPlain w i → (own : List Id) → own ≡ filter (λ j. not (is_displaced w (i ∷ []) j)) own
-keeps_all w i plain [] = refl
-keeps_all w i plain (x ∷ xs) =
-    ap (λ ys. x ∷ ys) (keeps_all w i plain xs)
-    ∙ sym (ap (λ b. cond (not b) (x ∷ filter (λ j. not (is_displaced w (i ∷ []) j)) xs) (filter (λ j. not (is_displaced w (i ∷ []) j)) xs)) (displaces_none w i plain x))
+keeps_all : (w : WorldState) (i : Id) → ((j : Id) → is_displaced w (i ∷ []) j ≡ false) → (own : List Id) → own ≡ filter (λ j. not (is_displaced w (i ∷ []) j)) own
+keeps_all w i none [] = refl
+keeps_all w i none (x ∷ xs) =
+    ap (λ ys. x ∷ ys) (keeps_all w i none xs)
+    ∙ sym (ap (λ b. cond (not b) (x ∷ filter (λ j. not (is_displaced w (i ∷ []) j)) xs) (filter (λ j. not (is_displaced w (i ∷ []) j)) xs)) (none x))
 
 -- nothing stands against it
-unopposed : (w : WorldState) (e : Entity) (i : Id) → IsPlain w i → Judges w e (i ∷ []) None
-unopposed w e (One c) plain =
+unopposed : (w : WorldState) (e : Entity) (i : Id) (ids : List Id) → AreTraitsOf w i ids → IsPlain i ids → Judges w e (i ∷ []) None
+unopposed w e (One c) ids own plain =
     judged_cycle w e (One c ∷ []) None None refl
     (ap (λ b. (b || false) && (not (has w e (One EXCLUSIVE)) && is_used w e)) plain.0)
     (ap (λ b. (b || false) && (not (has w e (One ACYCLIC)) && is_used w e)) plain.1)
     (λ r closes. true≢false (sym closes.2)) refl
-unopposed w e (Two r t) plain =
+unopposed w e (Two r t) ids own plain =
     judged_cycle w e (Two r t ∷ []) None None (ap (λ b. b || false) plain.0) refl refl
     (λ q closes.
     let same : r ≡ q = same_relationship r q t closes.1 (only (Two r t) (Two q closes.1) closes.2) in
-    true≢false (sym closes.0 ∙ subst (λ p. is_acyclic w p ≡ false) same plain.1.1))
+    true≢false (sym closes.0 ∙ subst (λ p. is_acyclic w p ≡ false) same (has_listed w r (One ACYCLIC) ids own ∙ plain.1.1)))
     refl
 
+-- nothing comes along with a plain id
+plain_alone : (w : WorldState) (i : Id) (ids : List Id) → AreTraitsOf w i ids → IsPlain i ids → IsClosure w i (i ∷ [])
+plain_alone w (One c) ids own plain = comes_alone w (One c) ids own plain.2
+plain_alone w (Two r t) ids own plain = comes_alone w (Two r t) ids own plain.1.2
+
 -- it goes to its place
-pub plain_leads_to : (w : WorldState) (e : Entity) (i : Id) (own all : List Id) → names_living w i ≡ true → IsPlain w i
+pub plain_leads_to : (w : WorldState) (e : Entity) (i : Id) (ids own all : List Id) → names_living w i ≡ true → AreTraitsOf w i ids → IsPlain i ids
     → Some own ≡ option_map type_of_record (record_of w e) → IsTrue (is_ascending id_cmp own) → all ≡ with_item id_cmp own i
     → LeadsTo w e i (Ok all)
-plain_leads_to w e i own all lives plain owns up is_all =
-    leads_to w e i (i ∷ []) own own all None lives (alone w i plain) (unopposed w e i plain) refl owns up (keeps_all w i plain own) is_all
+plain_leads_to w e i ids own all lives traits plain owns up is_all =
+    leads_to w e i (i ∷ []) own own all None lives (plain_alone w i ids traits plain) (unopposed w e i ids traits plain) refl owns up
+    (keeps_all w i (displaces_none w i ids traits plain) own) is_all

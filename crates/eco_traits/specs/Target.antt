@@ -12,7 +12,7 @@ use Rattle.eco_ids.specs.Order.{entity_cmp, entity_eq, has_item, id_cmp}
 use Rattle.eco_ids.specs.Outcome.{is_out_of_memory}
 use Rattle.eco_ids.specs.Step.{ClosesCycle, IsClosure, Judges, is_wrong_policy, with_closure}
 use Rattle.eco_ids.specs.Traits.{Reaches}
-use Rattle.eco_ids.specs.World.{Record, WorldState, has, is_acyclic, is_exclusive, names_living}
+use Rattle.eco_ids.specs.World.{Record, WorldState, is_acyclic, names_living}
 
 -- the ids of a record
 abbrev pub type_of_record : Record → List Id
@@ -37,19 +37,20 @@ abbrev pub IsFirstCycle : WorldState → Entity → List Id → Option Entity �
 IsFirstCycle w e s None = (r : Entity) → ClosesCycle w e s r → ⊥
 IsFirstCycle w e s (Some r) = ClosesCycle w e s r × ((q : Entity) → ClosesCycle w e s q → IsTrue (is_le (entity_cmp r q)))
 
--- the ids have no trait that says what pairs of a relationship bring along, displace or close
+-- no id is a pair of With
+abbrev pub BringsNone : List Id → Type 0
+BringsNone ids = (x : Entity) → IsFalse (has_item id_cmp ids (Two WITH x))
+
+-- no id says what pairs of the relationship bring along, displace or close
 abbrev pub LacksTraits : List Id → Type 0
-LacksTraits ids = (has_item id_cmp ids (One EXCLUSIVE) ≡ false) × (has_item id_cmp ids (One ACYCLIC) ≡ false) × ((x : Entity) → IsFalse (has_item id_cmp ids (Two WITH x)))
+LacksTraits ids = (has_item id_cmp ids (One EXCLUSIVE) ≡ false) × (has_item id_cmp ids (One ACYCLIC) ≡ false) × BringsNone ids
 
--- the relationship brings nothing along, and is neither exclusive nor acyclic
-abbrev pub IsPlainRelationship : WorldState → Entity → Type 0
-IsPlainRelationship w r = (is_exclusive w r ≡ false) × (is_acyclic w r ≡ false) × ((x : Entity) → IsFalse (has w r (Two WITH x)))
-
--- an id that brings nothing along and displaces nothing, and nothing stands against it: a single id that is no trait
--- which may come too late, or a pair of a plain relationship that is no wrong cleanup pair
-abbrev pub IsPlain : WorldState → Id → Type 0
-IsPlain w (One c) = (entity_eq c EXCLUSIVE ≡ false) × (entity_eq c ACYCLIC ≡ false) × ((x : Entity) → IsFalse (has w c (Two WITH x)))
-IsPlain w (Two r t) = (is_wrong_policy (Two r t) ≡ false) × IsPlainRelationship w r
+-- an id that brings nothing along and displaces nothing, and nothing stands against it, where its entity or its
+-- relationship has these ids: a single id that is no trait which may come too late, or a pair of a relationship that is
+-- neither exclusive nor acyclic, and no wrong cleanup pair
+abbrev pub IsPlain : Id → List Id → Type 0
+IsPlain (One c) ids = (entity_eq c EXCLUSIVE ≡ false) × (entity_eq c ACYCLIC ≡ false) × BringsNone ids
+IsPlain (Two r t) ids = (is_wrong_policy (Two r t) ≡ false) × LacksTraits ids
 
 -- the type that e has once the closure s came to it
 abbrev pub IsTypeWith : WorldState → Entity → List Id → Result (List Id) Refusal → Type 0

@@ -33,8 +33,8 @@ pub fn closure<H: Holdings>(alloc: Global, holdings: &H, id: Id) -> Result<TypeL
     with_heads(alloc, id, heads.as_slice())
 }
 
-/// The entity whose pairs of With say what the id brings.
-pub(crate) fn head_of(id: Id) -> Entity
+// The entity whose pairs of With say what the id brings.
+fn head_of(id: Id) -> Entity
     ensures { result ≡ spec.head_of id }
 {
     match id {
@@ -52,8 +52,8 @@ fn with_head(id: Id, head: Entity) -> Id
     }
 }
 
-/// Whether the entity has a pair of With.
-pub(crate) fn has_with<H: Holdings>(holdings: &H, entity: Entity) -> bool
+// Whether the entity has a pair of With.
+fn has_with<H: Holdings>(holdings: &H, entity: Entity) -> bool
     ensures { IsTrue result ↔ ((x : EntityData) × IsTrue (has (H.world holdings.now) entity (Two WITH_DATA x))) }
 {
     match holdings.type_of(entity) {

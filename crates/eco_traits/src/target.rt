@@ -1,13 +1,14 @@
 //! The type that an add leads to.
-ghost use Rattle.std.specs.Prelude.{◌≡◌, IfOk, IsFalse, IsTrue, Some, filter, fold, not, option_map, unwrap_or};
+ghost use Rattle.std.specs.Prelude.{◌≡◌, IfOk, IfSome, IsFalse, IsTrue, Some, filter, fold, is_some, not, option_map, unwrap_or};
 ghost use Rattle.eco_ids.specs.Indices.{is_alive as lives, record_of};
 ghost use Rattle.eco_ids.specs.Order.{id_cmp, is_ascending, with_item};
 ghost use Rattle.eco_ids.specs.Step as step;
 ghost use Rattle.eco_ids.specs.World as world;
-ghost use Rattle.eco_traits.specs.Target.{FindsType, IsPlain, IsPlainRelationship, LacksTraits, type_of_record};
+ghost use Rattle.eco_traits.specs.Closure.{head_of};
+ghost use Rattle.eco_traits.specs.Target.{FindsType, IsPlain, LacksTraits, type_of_record};
 
 use crate::holdings::Holdings;
-use crate::implied::{brings_any, closure, has_with, head_of};
+use crate::implied::{brings_any, closure};
 use crate::verdict::{is_among, is_wrong_policy, verdict};
 use crate::walk::has;
 use eco_ids::entity::{ACYCLIC, EXCLUSIVE};
@@ -37,18 +38,36 @@ pub fn target_type<H: Holdings>(
     ensures { FindsType (H.world holdings.now) entity id result }
 {
     let own = holdings.type_of(entity).unwrap();
-    if !names_living(holdings, id) {
+    let Some(traits) = traits_of(holdings, id) else {
         return Err(Refusal::DeadId);
-    }
+    };
     let _ids = own.as_slice();
-    if is_plain(holdings, id) {
+    if is_plain(id, traits) {
         return Ok(own.with(id)?);
     }
-    if has_with(holdings, head_of(id)) {
+    if brings_any(traits) {
         let coming = closure(alloc, holdings, id)?;
         judged_type(alloc, holdings, entity, own, id, coming.as_slice())
     } else {
         judged_type(alloc, holdings, entity, own, id, &[id])
+    }
+}
+
+// The ids that say how the id behaves: those of the entity of a single id, or of the relationship of a pair; none where an
+// entity in the id isn't living.
+fn traits_of<H: Holdings>(holdings: &H, id: Id) -> Option<&TypeList>
+    ensures living { is_some result ≡ world.names_living (H.world holdings.now) id }
+    ensures traits { IfSome result (λ ids. Some ids.now ≡ option_map type_of_record (record_of (H.world holdings.now) (head_of id))) }
+{
+    match id {
+        Id::One(entity) => holdings.type_of(entity),
+        Id::Two(relationship, target) => {
+            if holdings.type_of(target).is_some() {
+                holdings.type_of(relationship)
+            } else {
+                None
+            }
+        }
     }
 }
 
@@ -72,45 +91,13 @@ fn judged_type<H: Holdings>(
     Ok(extended(holdings, own, added, coming)?)
 }
 
-fn is_alive<H: Holdings>(holdings: &H, entity: Entity) -> bool
-    ensures { result ≡ lives (H.world holdings.now) entity }
-{
-    holdings.type_of(entity).is_some()
-}
-
-// Whether each entity in the id lives.
-fn names_living<H: Holdings>(holdings: &H, id: Id) -> bool
-    ensures { result ≡ world.names_living (H.world holdings.now) id }
-{
-    match id {
-        Id::One(entity) => is_alive(holdings, entity),
-        Id::Two(relationship, target) => {
-            is_alive(holdings, relationship) && is_alive(holdings, target)
-        }
-    }
-}
-
 // Whether the id comes alone, displaces nothing, and nothing stands against it, as with most tags, components and pairs.
-fn is_plain<H: Holdings>(holdings: &H, id: Id) -> bool
-    ensures { IsTrue result → IsPlain (H.world holdings.now) id }
+fn is_plain(id: Id, traits: &TypeList) -> bool
+    ensures { IsTrue result → IsPlain id traits.now }
 {
     match id {
-        Id::One(single) => {
-            !single.is(EXCLUSIVE) && !single.is(ACYCLIC) && !has_with(holdings, single)
-        }
-        Id::Two(relationship, _) => {
-            !is_wrong_policy(id) && is_plain_relationship(holdings, relationship)
-        }
-    }
-}
-
-// Whether the relationship brings nothing along, and is neither exclusive nor acyclic.
-fn is_plain_relationship<H: Holdings>(holdings: &H, relationship: Entity) -> bool
-    ensures { IsTrue result → IsPlainRelationship (H.world holdings.now) relationship }
-{
-    match holdings.type_of(relationship) {
-        Some(ids) => !has_trait(ids),
-        None => false,
+        Id::One(single) => !single.is(EXCLUSIVE) && !single.is(ACYCLIC) && !brings_any(traits),
+        Id::Two(..) => !is_wrong_policy(id) && !has_trait(traits),
     }
 }
 

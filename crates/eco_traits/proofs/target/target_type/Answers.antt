@@ -1,20 +1,15 @@
-use Rattle.std.proofs.Common.{option_copied, sym, ap, ◌∙◌, subst, true≢false, IsTrue}
-use Rattle.eco_ids.specs.declared.entity.TheConstants.{WITH}
-use Rattle.eco_ids.specs.declared.id.Id.TheVariants.{Two}
-use Rattle.eco_ids.specs.World.{has}
-use Rattle.eco_traits.proofs.Closures.{closure_alone}
-use Rattle.eco_traits.proofs.Plain.{plain_leads_to}
+use Rattle.std.proofs.Common.{false, option_copied, sym, ap, ◌∙◌, true≢false}
+use Rattle.eco_traits.specs.Same.{same_truth}
+use Rattle.eco_traits.proofs.Plain.{comes_alone, plain_leads_to}
 use Rattle.eco_traits.proofs.target.target_type.Goals as goal
 
 pub returns-then-is_plain : goal.returns-then-is_plain
 returns-then-is_plain g c =
-    let w = g.H.Holdings.world c.args.holdings.now in
-    plain_leads_to w c.args.entity c.args.id c.unwrap-own.result.now _
-    (sym c.names_living.ensures ∙ c.if-not-names_living.false) (c.is_plain.ensures c.if-is_plain.true)
+    plain_leads_to (g.H.Holdings.world c.args.holdings.now) c.args.entity c.args.id c.in-Some.traits.now c.unwrap-own.result.now _
+    (sym c.in-Some.ensures.living) c.in-Some.ensures.traits (c.is_plain.ensures c.if-is_plain.true)
     (sym (ap option_copied c.unwrap-own.ensures) ∙ c.type_of.ensures) c.as_slice-ids.ensures.ascending c.in_ok-with.ensures.is
 
-pub judged_type-requires-else-has_with-clause-closure : goal.judged_type-requires-else-has_with-clause-closure
-judged_type-requires-else-has_with-clause-closure g c =
-    let w = g.H.Holdings.world c.args.holdings.now in
-    closure_alone w c.args.id
-    (λ x h. true≢false (sym (c.has_with.ensures.1 (x, subst (λ e. IsTrue (has w e (Two WITH x))) (sym c.head_of.ensures) h)) ∙ c.if-has_with.false))
+pub judged_type-requires-else-brings_any-clause-closure : goal.judged_type-requires-else-brings_any-clause-closure
+judged_type-requires-else-brings_any-clause-closure g c =
+    comes_alone (g.H.Holdings.world c.args.holdings.now) c.args.id c.in-Some.traits.now c.in-Some.ensures.traits
+    (λ x. same_truth _ false (λ h. absurd (true≢false (sym (c.brings_any.ensures.1 (x, h)) ∙ c.if-brings_any.false))) (λ h. absurd (true≢false (sym h))))

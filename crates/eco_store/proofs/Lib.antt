@@ -17,4 +17,6 @@ pub mod Sorting
 pub mod Retyping
 pub mod LastMoves
 pub mod Pouring
+pub mod Arrivals
+pub mod Readiness
 pub mod FoundTypes

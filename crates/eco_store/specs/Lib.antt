@@ -7,3 +7,4 @@ pub mod Store
 pub mod Holders
 pub mod Retyping
 pub mod Transfers
+pub mod Preparing

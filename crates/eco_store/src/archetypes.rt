@@ -5,7 +5,7 @@ ghost use Rattle.eco_ids.specs.declared.id.Id.{Id as Ids};
 ghost use Rattle.eco_tables.specs.Column.{value_in, with_held};
 ghost use Rattle.eco_tables.specs.Table.{TableState, Row, entities_of};
 ghost use Rattle.eco_tables.specs.Tables.{slot_of, table_in, row_in, Sets, Moves, with_row, without_row, rowless_type};
-ghost use Rattle.eco_store.specs.Archetypes.{type_at, new_table, SameSlots, KeepsTypes, is_found, FindsSome, FindsBelow, named_by, named_part};
+ghost use Rattle.eco_store.specs.Archetypes.{type_at, new_table, SameSlots, KeepsTypes, KeepsRoom, is_found, FindsSome, FindsBelow, named_by, named_part};
 ghost use Rattle.eco_store.specs.Seats.{SameRows};
 
 use crate::id_index::IdIndex;
@@ -72,6 +72,7 @@ impl Archetypes {
     pub fn room_for(&mut self, type_list: &TypeList, more: usize) -> Result<usize, AllocError>
         ensures typed { IfOk result (λ n. type_at self.new n ≡ Some type_list.now) }
         ensures room { IfOk result (λ n. more ≤ (table_in self.new n).room) }
+        ensures kept { OnOk result (KeepsRoom self.old self.new) }
         ensures rows { SameRows self.old self.new }
         ensures types { KeepsTypes self.old self.new }
     {
@@ -136,6 +137,15 @@ impl Archetypes {
         if let Some(type_list) = self.tables.drop_empty(slot) {
             self.by_type.remove(&type_list);
             self.by_id.take_all(type_list.as_slice(), slot);
+        }
+    }
+
+    /// Drops those tables in these slots that have no rows. No row changes. It takes no memory.
+    pub fn drop_each(&mut self, slots: &[usize])
+        ensures { SameRows self.old self.new }
+    {
+        for slot in slots {
+            self.drop_empty(*slot);
         }
     }
 

@@ -11,12 +11,15 @@
 pub mod archetypes;
 pub mod found;
 pub mod id_index;
+pub mod moving;
+pub mod prepared;
 pub mod store;
 pub mod transfer;
 pub mod type_change;
 pub mod type_map;
 
 pub use found::Found;
+pub use moving::Move;
 pub use store::Store;
 pub use type_change::TypeChange;
 

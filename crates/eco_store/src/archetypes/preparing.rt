@@ -108,8 +108,9 @@ impl Archetypes {
         Ok(())
     }
 
-    // Room for so many rows more than a table had room for.
-    fn reserve_more(&mut self, slot: usize, more: usize) -> Result<(), AllocError>
+    /// Room for so many rows more than a table had room for. An `Err` comes where memory is refused, and keeps the room that
+    /// was there.
+    pub fn reserve_more(&mut self, slot: usize, more: usize) -> Result<(), AllocError>
         requires { IsSome (slot_of self.old slot) }
         ensures sets { Sets self.old self.new slot (Some (record (table_in self.old slot) { room = (table_in self.new slot).room })) }
         ensures kept { (table_in self.old slot).room ≤ (table_in self.new slot).room }
@@ -120,9 +121,10 @@ impl Archetypes {
         self.tables.reserve_more(slot, more)
     }
 
-    // Takes the promise of room in a table back, so that what a refused call reserved serves the next one.
-    fn waive(&mut self, slot: usize)
+    /// Takes the promise of room in a table back, so that what a refused call reserved serves the next one.
+    pub fn waive(&mut self, slot: usize)
         requires { IsSome (slot_of self.old slot) }
+        ensures sets { Sets self.old self.new slot (Some (record (table_in self.old slot) { room = 0 })) }
         ensures types { SameTypes self.old self.new }
         ensures rows { SameRows self.old self.new }
     {

@@ -1,0 +1,33 @@
+use Rattle.std.proofs.Common.{◌≡◌, ◌∷◌, ◌+◌, ◌-◌, ◌<◌, drop, length, get_or, not, IsTrue, sym, ap, ◌∙◌, subst, arith}
+use Rattle.std.proofs.lemmas.List.{drop_more}
+use Rattle.eco_store.specs.Preparing.{has_move, moves_of}
+use Rattle.eco_store.proofs.Readiness.{none_later, ready_nothing}
+use Rattle.eco_store.proofs.prepared.Prepared.plan.Goals as goal
+
+pub plan_move-requires-clause-absent : goal.plan_move-requires-clause-absent
+plan_move-requires-clause-absent c =
+    let ms = c.args.moves.now in
+    let r = c.index-moves-moves.result in
+    let k = length ms - 1 - c.loop-done.done in
+    let next : k + 1 ≡ length ms - c.loop-done.done = omega (arith, c.loop-done-test.true) in
+    let left : moves_of c.loop-done.archetypes c.loop-done.self ≡ drop (k + 1) ms = c.loop-done.invariant.moves ∙ ap (λ i. drop i ms) (sym next) in
+    subst (λ xs. IsTrue (not (has_move xs r.entity))) (sym left)
+    (subst (λ m. IsTrue (not (has_move (drop (k + 1) ms) m.entity))) (sym c.index-moves-moves.is)
+    (none_later ms k _ c.requires.different (omega (arith, c.loop-done-test.true))))
+
+pub loop-done-preserved : goal.loop-done-preserved
+loop-done-preserved c =
+    let ms = c.args.moves.now in
+    let r = c.index-moves-moves.result in
+    let k = length ms - 1 - c.loop-done.done in
+    let now : k ≡ length ms - (c.loop-done.done + 1) = omega (arith, c.loop-done-test.true) in
+    let next : k + 1 ≡ length ms - c.loop-done.done = omega (arith, c.loop-done-test.true) in
+    record {
+      ready = c.in_ok-plan_move.ensures.ready;
+      moves =
+          c.in_ok-plan_move.ensures.ok
+          ∙ (λ t. c.index-moves-moves.is t ∷ (c.loop-done.invariant.moves ∙ ap (λ i. drop i ms) (sym next)) t)
+          ∙ sym (drop_more ms k _ (omega (arith, c.loop-done-test.true)))
+          ∙ ap (λ i. drop i ms) now;
+      rows = λ n row. c.plan_move.ensures.rows n row ∙ c.loop-done.invariant.rows n row;
+    }

@@ -1,0 +1,46 @@
+use Rattle.std.proofs.Common.{sym, ◌∙◌, nat_eq}
+use Rattle.std.specs.List.{list_any}
+use Rattle.eco_store.specs.Preparing.{PreparedState, with_target, IsReady, moves_of}
+use Rattle.eco_store.proofs.Readiness.{Spares, ready_spared, moves_spared, spares_both, spares_kept, spares_other, targeted, not_true}
+use Rattle.eco_store.proofs.prepared.Prepared.target.Goals as goal
+
+pub returns-in-Ok-true-clause-ready : goal.returns-in-Ok-true-clause-ready
+returns-in-Ok-true-clause-ready c =
+    let s = c.args.archetypes.now in
+    let s1 = c.room_for.new.self in
+    let p = c.args.self.now in
+    let kept = spares_kept s s1 p c.requires.ready c.in_ok-slot.ensures.types c.in_ok-slot.ensures.kept in
+    let ready = ready_spared s s1 p kept c.requires.ready in
+    let free = not_true (list_any (nat_eq c.in_ok-slot.slot) p.targets) (sym c.in-Ok-true.ensures.added ∙ c.in-Ok-true.field-0-test) in
+    rw c.in-Ok-true.ensures.ok
+    (targeted c.waive.new.self p c.in_ok-slot.slot
+    (ready_spared s1 c.waive.new.self p (spares_other s1 c.waive.new.self p c.in_ok-slot.slot _ ready free c.waive.ensures.sets) ready))
+
+pub returns-in-Ok-true-clause-moves : goal.returns-in-Ok-true-clause-moves
+returns-in-Ok-true-clause-moves c =
+    let s = c.args.archetypes.now in
+    let s1 = c.room_for.new.self in
+    let p = c.args.self.now in
+    let kept = spares_kept s s1 p c.requires.ready c.in_ok-slot.ensures.types c.in_ok-slot.ensures.kept in
+    let ready = ready_spared s s1 p kept c.requires.ready in
+    let free = not_true (list_any (nat_eq c.in_ok-slot.slot) p.targets) (sym c.in-Ok-true.ensures.added ∙ c.in-Ok-true.field-0-test) in
+    rw c.in-Ok-true.ensures.ok
+    (moves_spared s c.waive.new.self p
+    (spares_both s s1 c.waive.new.self p.arrivals kept (spares_other s1 c.waive.new.self p c.in_ok-slot.slot _ ready free c.waive.ensures.sets)))
+
+pub returns-in-Ok-false-clause-ready : goal.returns-in-Ok-false-clause-ready
+returns-in-Ok-false-clause-ready c =
+    let s = c.args.archetypes.now in
+    let s1 = c.room_for.new.self in
+    let p = c.args.self.now in
+    rw c.in-Ok-false.ensures.ok
+    (targeted s1 p c.in_ok-slot.slot
+    (ready_spared s s1 p (spares_kept s s1 p c.requires.ready c.in_ok-slot.ensures.types c.in_ok-slot.ensures.kept) c.requires.ready))
+
+pub returns-in-Ok-false-clause-moves : goal.returns-in-Ok-false-clause-moves
+returns-in-Ok-false-clause-moves c =
+    let s = c.args.archetypes.now in
+    let s1 = c.room_for.new.self in
+    let p = c.args.self.now in
+    rw c.in-Ok-false.ensures.ok
+    (moves_spared s s1 p (spares_kept s s1 p c.requires.ready c.in_ok-slot.ensures.types c.in_ok-slot.ensures.kept))

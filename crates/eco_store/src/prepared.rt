@@ -1,0 +1,126 @@
+//! Moves of entities to other tables that have their room and are not yet made.
+ghost use Rattle.std.specs.Prelude.{◌≡◌, ◌∷◌, ◌↔◌, ◌+◌, [], List, ℕ, nat_eq, not, IfOk, IfSome, IfNone, IsTrue, OnOk, OnErr};
+ghost use Rattle.std.specs.List.{list_any};
+ghost use Rattle.eco_ids.specs.declared.entity.Entity.{Entity as Entities};
+ghost use Rattle.eco_ids.specs.Order.{entity_eq};
+ghost use Rattle.eco_store.specs.Preparing.{nothing_prepared, with_arrival, with_target};
+
+use eco_ids::Entity;
+use indexmap::{IndexMap, IndexSet};
+use std::alloc::{AllocError, Global};
+use std::marker::Model;
+
+mod planning;
+
+/// A contract sees who goes to which slot, the next one first, and the slots whose tables stay though they may be without
+/// rows.
+#[derive(Drop)]
+pub struct Prepared {
+    // The next one is the last.
+    arrivals: IndexMap<Entity, usize>,
+    targets: IndexSet<usize>,
+}
+
+impl Model for Prepared {
+    ghost use Rattle.std.specs.Prelude.{reverse};
+    ghost use Rattle.eco_store.specs.Preparing.{PreparedState};
+
+    ghost Value = { PreparedState };
+
+    ghost view = { λ p. record { arrivals = reverse p.arrivals.entries; targets = p.targets.keys } };
+}
+
+impl Prepared {
+    /// No move.
+    pub fn new(alloc: Global) -> Prepared
+        ensures { result ≡ nothing_prepared }
+    {
+        Prepared {
+            arrivals: IndexMap::new(alloc),
+            targets: IndexSet::new(alloc),
+        }
+    }
+
+    /// Whether there is neither a move nor a target.
+    pub fn is_idle(&self) -> bool
+        ensures { IsTrue result ↔ (self.now ≡ nothing_prepared) }
+    {
+        self.targets.is_empty() && self.arrivals.is_empty()
+    }
+
+    /// Whether no move is left.
+    pub fn is_done(&self) -> bool
+        ensures { IsTrue result ↔ (self.now.arrivals ≡ []) }
+    {
+        self.arrivals.is_empty()
+    }
+
+    /// Whether the entity has a move to come.
+    pub fn awaits(&self, entity: Entity) -> bool
+        ensures { result ≡ list_any (λ a. entity_eq entity a.0) self.now.arrivals }
+    {
+        self.arrivals.contains_key(&entity)
+    }
+
+    /// Whether the slot is one of those whose tables stay.
+    pub fn is_target(&self, slot: usize) -> bool
+        ensures { result ≡ list_any (nat_eq slot) self.now.targets }
+    {
+        self.targets.contains(&slot)
+    }
+
+    /// The slots whose tables stay, each once.
+    pub fn targets(&self) -> &[usize]
+        ensures { result.now ≡ self.now.targets }
+    {
+        self.targets.as_slice()
+    }
+
+    /// Who goes next, and to which slot.
+    pub fn next(&self) -> Option<(Entity, usize)>
+        ensures some { IfSome result (λ a. (rest : List (Entities × ℕ)) × (self.now.arrivals ≡ a ∷ rest)) }
+        ensures none { IfNone result (self.now.arrivals ≡ []) }
+    {
+        let (entity, slot) = self.arrivals.last()?;
+        Some((*entity, *slot))
+    }
+
+    /// The next move is made: it is none of those to come.
+    pub fn take_next(&mut self) -> Option<(Entity, usize)>
+        ensures targets { self.new.targets ≡ self.old.targets }
+        ensures some { IfSome result (λ a. self.old.arrivals ≡ a ∷ self.new.arrivals) }
+        ensures none { IfNone result ((self.old.arrivals ≡ []) × (self.new.arrivals ≡ [])) }
+    {
+        self.arrivals.pop()
+    }
+
+    /// The table in this slot stays. The answer says whether it was none of the targets before. An `Err` comes where memory
+    /// is refused, and changes nothing.
+    pub fn add_target(&mut self, slot: usize) -> Result<bool, AllocError>
+        ensures added { IfOk result (λ new. new ≡ not (list_any (nat_eq slot) self.old.targets)) }
+        ensures ok { OnOk result (self.new ≡ with_target self.old slot) }
+        ensures err { OnErr result (self.new ≡ self.old) }
+    {
+        let added = self.targets.insert(slot)?;
+        Ok(added)
+    }
+
+    /// The entity, which has no move to come, goes to this slot, before all others. An `Err` comes where memory is refused,
+    /// and changes nothing.
+    pub fn add(&mut self, entity: Entity, slot: usize) -> Result<(), AllocError>
+        requires { IsTrue (not (list_any (λ a. entity_eq entity a.0) self.old.arrivals)) }
+        ensures ok { OnOk result (self.new ≡ with_arrival self.old (entity, slot)) }
+        ensures err { OnErr result (self.new ≡ self.old) }
+    {
+        self.arrivals.insert(entity, slot)?;
+        Ok(())
+    }
+
+    /// Neither a move nor a target is left.
+    pub fn clear(&mut self)
+        ensures { self.new ≡ nothing_prepared }
+    {
+        self.arrivals.clear();
+        self.targets.clear();
+    }
+}

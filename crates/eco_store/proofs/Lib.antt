@@ -19,4 +19,6 @@ pub mod LastMoves
 pub mod Pouring
 pub mod Arrivals
 pub mod Readiness
+pub mod Forgetting
+pub mod NextMoves
 pub mod FoundTypes

@@ -1,5 +1,5 @@
 -- Moves to come keep their tables and their room.
-use Rattle.std.proofs.Common.{◌≡◌, ◌≢◌, ◌⊎◌, ℕ, zero, suc, ◌+◌, ◌-◌, ◌≤◌, ◌<◌, ◌==◌, Bool, true, false, true≢false, not, ◌||◌, IsTrue, if◌then◌else◌, List, [], ◌∷◌, ◌++◌, map, length, get_or, drop, Option, Some, None, option_map, unwrap_or, IsSome, nat_eq, refl, sym, ap, subst, ◌∙◌, arith, inl, inr, Contains}
+use Rattle.std.proofs.Common.{◌≡◌, ◌≢◌, ◌⊎◌, ℕ, zero, suc, ◌+◌, ◌-◌, ◌≤◌, ◌<◌, ◌==◌, Bool, true, false, true≢false, not, ◌||◌, IsTrue, if◌then◌else◌, List, [], ◌∷◌, ◌++◌, map, length, get_or, drop, Option, Some, None, option_map, unwrap_or, IsSome, OnSome, IfNone, nat_eq, refl, sym, ap, subst, ◌∙◌, arith, inl, inr, Contains}
 use Rattle.std.specs.List.{All, list_any}
 use Rattle.std.proofs.lemmas.Bool.{cases_eq}
 use Rattle.std.proofs.lemmas.List.Elements.{All-head, All-tail, All-cons, All-nil}
@@ -10,9 +10,10 @@ use Rattle.eco_tables.specs.Table.{TableState}
 use Rattle.eco_tables.specs.Tables.{slot_of, table_in, no_table, Sets, Moves, with_row, without_row}
 use Rattle.eco_tables.proofs.Lists.{not_equal}
 use Rattle.eco_store.specs.declared.moving.Move.{Move}
-use Rattle.eco_store.specs.Archetypes.{type_at, KeepsTypes, KeepsRoom}
+use Rattle.eco_store.specs.Archetypes.{type_at, KeepsTypes, KeepsRoom, SameSlots}
 use Rattle.eco_store.specs.Preparing.{PreparedState, nothing_prepared, with_arrival, with_target, move_to, moves_of, has_move, AreOfDifferent, arriving, IsReady}
 use Rattle.eco_store.specs.Transfers.{SameTypes}
+use Rattle.eco_store.proofs.ArchetypeLemmas.{sets_types}
 use Rattle.eco_store.proofs.Pouring.{same_ids_in, still_there, kept_type, there_as_typed}
 use Rattle.eco_store.proofs.RowChanges.{is_equal}
 use Rattle.eco_store.proofs.StoreChanges.{typed_table}
@@ -66,7 +67,7 @@ ready_spared s s' p spares ready = record {
   ];
 }
 
-moves_alike : (s s' : List (Option TableState)) (xs : List (Entity × ℕ)) → All (λ a. type_at s' a.1 ≡ type_at s a.1) xs → map (move_to s') xs ≡ map (move_to s) xs
+pub moves_alike : (s s' : List (Option TableState)) (xs : List (Entity × ℕ)) → All (λ a. type_at s' a.1 ≡ type_at s a.1) xs → map (move_to s') xs ≡ map (move_to s) xs
 moves_alike s s' [] same = refl
 moves_alike s s' (a ∷ xs) same =
     let here = same_ids_in s s' a.1 (All-head (λ (x : Entity × ℕ). type_at s' x.1 ≡ type_at s x.1) a xs same) in
@@ -180,3 +181,34 @@ none_later ms k d different within = ap not (list_any_none (λ (m : Move). entit
         by : (b : Bool) → entity_eq (get_or ms k d).entity (get_or (drop (k + 1) ms) j x).entity ≡ b → (get_or ms k d).entity ≢ (get_or (drop (k + 1) ms) j x).entity → b ≡ false
         by true e apart = absurd (apart (entity_eq_is (get_or ms k d).entity (get_or (drop (k + 1) ms) j x).entity e))
         by false e apart = refl
+
+-- a table that is no target may have gone
+pub spares_dropped : (s s' : List (Option TableState)) (p : PreparedState) (n : ℕ) (o : Option (List Id)) → IsReady s p → list_any (nat_eq n) p.targets ≡ false
+    → OnSome o (Sets s s' n None) → IfNone o (SameSlots s s') → Spares s s' p.arrivals
+spares_dropped s s' p n (Some ids) ready free dropped kept = spares_other s s' p n None ready free dropped
+spares_dropped s s' p n None ready free dropped kept = record {
+  types = λ k d within. ap (option_map (λ (t : TableState). t.ids)) (kept (get_or p.arrivals k d).1);
+  rooms = λ k d within.
+      let same = ap (λ o. (unwrap_or o no_table).room) (kept (get_or p.arrivals k d).1) in
+      omega (arith, same);
+}
+
+-- a row goes out of a table
+pub spares_without : (s s1 : List (Option TableState)) (p : PreparedState) (n row : ℕ) → IsSome (slot_of s n) → Sets s s1 n (Some (without_row (table_in s n) row))
+    → Spares s s1 p.arrivals
+spares_without s s1 p n row there sets = record {
+  types = λ k d within. sets_types s s1 n (without_row (table_in s n) row) sets there refl (get_or p.arrivals k d).1;
+  rooms = λ k d within. by (get_or p.arrivals k d).1;
+}
+  where
+    by : (m : ℕ) → (table_in s m).room ≤ (table_in s1 m).room
+    by m =
+        elim (cases_eq m n) [
+          | inl here ↦
+              let more : (table_in s1 n).room ≡ (table_in s n).room + 1 = ap (λ o. (unwrap_or o no_table).room) sets.changed in
+              let now : (table_in s n).room ≤ (table_in s1 n).room = omega (arith, more) in
+              subst (λ k. (table_in s k).room ≤ (table_in s1 k).room) (sym here) now
+          | inr other ↦
+              let same = ap (λ o. (unwrap_or o no_table).room) (sets.others m other) in
+              omega (arith, same)
+        ]

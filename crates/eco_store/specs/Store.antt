@@ -13,12 +13,18 @@ use Rattle.eco_tables.specs.Table.{TableState, Row, RowsHaveIds}
 use Rattle.eco_entities.specs.declared.place.Place.{Place}
 use Rattle.eco_entities.specs.Registration.{Registration}
 use Rattle.eco_tables.specs.Tables.{table_in}
+use Rattle.eco_store.specs.declared.moving.Move.{Move}
 use Rattle.eco_store.specs.Seats.{Seat, IsSeated, row_at, held_of}
 
 -- what is kept of a living entity: its name, if it has one, and its ids, ascending, each with its value
 pub record Kept : Type 0 where
   pub name : Option (List ℕ)
   pub held : List (Id × Value)
+
+-- a store: what is kept of each index, and the moves that were prepared and are not yet made, the next one first
+pub record StoreState : Type 0 where
+  pub kept : Indexed Kept
+  pub prepared : List Move
 
 -- the name, if there is one
 abbrev pub kept_name : Kept → Option (List ℕ)

@@ -12,6 +12,7 @@ pub mod archetypes;
 pub mod found;
 pub mod id_index;
 pub mod moving;
+pub mod placing;
 pub mod prepared;
 pub mod store;
 pub mod transfer;

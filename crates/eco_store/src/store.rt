@@ -19,42 +19,39 @@ ghost use Rattle.eco_store.specs.Store.{with_holding, held_by, kept_name, newbor
 
 use crate::archetypes::Archetypes;
 use crate::found::Found;
+use crate::placing::settle;
+use crate::prepared::Prepared;
 use eco_entities::{EntityIndex, Place};
 use eco_ids::{Entity, Id, Pattern, Refusal, TypeList, Value};
 use eco_tables::{Table, Tables};
 use std::alloc::{AllocError, Global};
 use std::marker::Model;
 
+mod moves;
 mod retyping;
 
-/// A contract sees what is known of each index, and of each living entity its name and its ids with their values. No table
-/// is seen.
+/// A contract sees what is known of each index, of each living entity its name and its ids with their values, and the moves
+/// that were prepared and are not yet made. No table is seen.
+///
+/// Moves stay prepared while the first of them is made ([`Store::retype`]) or an entity without a move of its own is taken
+/// out ([`Store::take_out`]). Any other call that may change the store leaves none of them.
 #[derive(Drop)]
 pub struct Store {
     alloc: Global,
     entities: EntityIndex,
     archetypes: Archetypes,
+    prepared: Prepared,
 }
 
 impl Model for Store {
-    ghost use Rattle.eco_ids.specs.Indices.{Indexed};
-    ghost use Rattle.eco_store.specs.Store.{Kept, IsStore, read};
+    ghost use Rattle.eco_store.specs.Preparing.{IsReady, moves_of};
+    ghost use Rattle.eco_store.specs.Store.{StoreState, IsStore, read};
 
-    ghost Value = { Indexed Kept };
+    ghost Value = { StoreState };
 
-    ghost view = { λ s. read s.entities s.archetypes };
+    ghost view = { λ s. record { kept = read s.entities s.archetypes; prepared = moves_of s.archetypes s.prepared } };
 
-    ghost invariant = { λ s. IsStore s.entities s.archetypes };
-}
-
-// The entity that a removal put into this row, if it put one there, is placed there.
-fn fix_place(entities: &mut EntityIndex, moved: Option<Entity>, place: Place)
-    requires { IfSome moved (λ e. IsTrue (is_alive entities.old e)) }
-    ensures { entities.new ≡ fixed entities.old moved place }
-{
-    if let Some(entity) = moved {
-        entities.set_place(entity, place);
-    }
+    ghost invariant = { λ s. IsStore s.entities s.archetypes × IsReady s.archetypes s.prepared };
 }
 
 // What stands against a new entity of this name: its name, or that no index is left.
@@ -68,78 +65,67 @@ fn check_new(entities: &EntityIndex, name: Option<&str>) -> Result<(), Refusal>
     }
 }
 
-// The entity, which lives and has no place, gets a row of its own.
-fn settle(entities: &mut EntityIndex, archetypes: &mut Archetypes, slot: usize, entity: Entity)
-    requires living { IsTrue (is_alive entities.old entity) }
-    requires room { 0 < (table_in archetypes.old slot).room }
-    ensures places { entities.new ≡ with_change entities.old entity (placed (record { table = slot; row = length (table_in archetypes.old slot).rows })) }
-    ensures rows { Sets archetypes.old archetypes.new slot (Some (with_row (table_in archetypes.old slot) (record { entity = entity; held = [] }))) }
-{
-    let row = archetypes.tables().row_count(slot);
-    archetypes.push_row(slot, entity);
-    entities.set_place(entity, Place { table: slot, row });
-}
-
 impl Store {
     /// No index is known. Indices lie below the limit.
     pub fn new(alloc: Global, limit: u32) -> Store
         requires { limit ≤ 1048576 }
-        ensures { result ≡ record { limit = limit; indices = [] } }
+        ensures { result ≡ record { kept = record { limit = limit; indices = [] }; prepared = [] } }
     {
         Store {
             alloc,
             entities: EntityIndex::new(alloc, limit),
             archetypes: Archetypes::new(alloc),
+            prepared: Prepared::new(alloc),
         }
     }
 
     /// All indices lie below it.
     pub fn limit(&self) -> u32
-        ensures { result ≡ self.now.limit }
+        ensures { result ≡ self.now.kept.limit }
     {
         self.entities.limit()
     }
 
     /// How many indices are known: living, free or retired.
     pub fn high(&self) -> u32
-        ensures known { result ≡ length self.now.indices }
-        ensures within { length self.now.indices ≤ self.now.limit }
-        ensures limited { self.now.limit ≤ 1048576 }
+        ensures known { result ≡ length self.now.kept.indices }
+        ensures within { length self.now.kept.indices ≤ self.now.kept.limit }
+        ensures limited { self.now.kept.limit ≤ 1048576 }
     {
         self.entities.high()
     }
 
     /// Whether the entity lives.
     pub fn is_alive(&self, e: Entity) -> bool
-        ensures { result ≡ is_alive self.now e }
+        ensures { result ≡ is_alive self.now.kept e }
     {
         self.entities.is_alive(e)
     }
 
     /// The living entity at an index.
     pub fn entity_at(&self, index: u32) -> Option<Entity>
-        ensures { result ≡ entity_at self.now index }
+        ensures { result ≡ entity_at self.now.kept index }
     {
         self.entities.entity_at(index)
     }
 
     /// The name of a living entity, if it has one.
     pub fn name(&self, e: Entity) -> Option<&str>
-        ensures { option_copied result ≡ own_name self.now e }
+        ensures { option_copied result ≡ own_name self.now.kept e }
     {
         self.entities.name(e)
     }
 
     /// The living entity of this name.
     pub fn lookup(&self, name: &str) -> Option<Entity>
-        ensures { result ≡ bearer kept_name self.now name.now }
+        ensures { result ≡ bearer kept_name self.now.kept name.now }
     {
         self.entities.lookup(name)
     }
 
     // The table in which a living entity stands, and its row.
     fn stand(&self, e: Entity) -> Option<(&Table, usize)>
-        ensures { MatchOption result (record_of self.now e ≡ None) (λ x. Stands (record_of self.now e) x.0.now x.1) }
+        ensures { MatchOption result (record_of self.now.kept e ≡ None) (λ x. Stands (record_of self.now.kept e) x.0.now x.1) }
     {
         let place = self.entities.place_of(e)?;
         let table = self.archetypes.tables().get(place.table).unwrap();
@@ -148,7 +134,7 @@ impl Store {
 
     /// The ids of a living entity.
     pub fn type_of(&self, e: Entity) -> Option<&TypeList>
-        ensures { option_copied result ≡ type_of self.now e }
+        ensures { option_copied result ≡ type_of self.now.kept e }
     {
         let (table, _) = self.stand(e)?;
         Some(table.type_list())
@@ -156,7 +142,7 @@ impl Store {
 
     /// The ids of an entity, ascending; none where it isn't living.
     pub fn ids_of(&self, e: Entity) -> &[Id]
-        ensures ids { result.now ≡ map (λ p. p.0) (held_by self.now e) }
+        ensures ids { result.now ≡ map (λ p. p.0) (held_by self.now.kept e) }
         ensures ascending { IsTrue (is_ascending id_cmp result.now) }
     {
         match self.type_of(e) {
@@ -167,7 +153,7 @@ impl Store {
 
     /// The value of an id that a living entity has.
     pub fn value(&self, e: Entity, id: Id) -> Option<Value>
-        ensures { result ≡ find id_cmp id (held_by self.now e) }
+        ensures { result ≡ find id_cmp id (held_by self.now.kept e) }
     {
         let (table, row) = self.stand(e)?;
         if table.type_list().has(id) {
@@ -180,7 +166,7 @@ impl Store {
     /// The tables, to read. Each living entity stands in one row, in the table of its own ids, and no two tables have the
     /// same type.
     pub fn tables(&self) -> &Tables
-        ensures shown { IsShown self.now result.now }
+        ensures shown { IsShown self.now.kept result.now }
         ensures kinds { (n m : ℕ) (ids : List Ids) → type_at result.now n ≡ Some ids → type_at result.now m ≡ Some ids → n ≡ m }
     {
         let tables = self.archetypes.tables();
@@ -190,7 +176,7 @@ impl Store {
 
     /// The tables that have rows and a type with an id that the pattern matches. An `Err` comes where memory is refused.
     pub fn tables_with(&self, pattern: Pattern) -> Result<Found<'_>, AllocError>
-        ensures shown { IfOk result (λ f. IsShown self.now f.tables.now) }
+        ensures shown { IfOk result (λ f. IsShown self.now.kept f.tables.now) }
         ensures listed { IfOk result (λ f. (n : ℕ) → list_any (nat_eq n) f.slots.items ≡ is_found pattern (slot_of f.tables.now n)) }
         ensures distinct { IfOk result (λ f. IsDistinct nat_eq f.slots.items) }
         ensures kinds { IfOk result (λ f. (n m : ℕ) (ids : List Ids) → type_at f.tables.now n ≡ Some ids → type_at f.tables.now m ≡ Some ids → n ≡ m) }
@@ -204,7 +190,7 @@ impl Store {
     /// Whether some living entity has an id that the pattern matches. Where the pattern names an entity, it looks alone at
     /// tables whose types name that entity, and it stops at the first that is found. It takes no memory.
     pub fn is_held(&self, pattern: Pattern) -> bool
-        ensures { result ≡ list_any (λ p. has_match pattern p.1) (living self.now) }
+        ensures { result ≡ list_any (λ p. has_match pattern p.1) (living self.now.kept) }
     {
         self.archetypes.tables().rows_have_ids();
         self.archetypes.is_held(pattern)
@@ -213,7 +199,7 @@ impl Store {
     /// The living entities that have an id which the pattern matches, ascending. Its time grows with how many they are,
     /// and with the tables whose types name the pattern's entity. An `Err` comes where memory is refused.
     pub fn holders(&self, pattern: Pattern) -> Result<Vec<Entity>, AllocError>
-        ensures { IfOk result (λ v. v.items ≡ holders self.now pattern) }
+        ensures { IfOk result (λ v. v.items ≡ holders self.now.kept pattern) }
     {
         eco_ids::order::handles_are_ordered();
         eco_ids::order::ascending_lists_are_sets();
@@ -224,7 +210,7 @@ impl Store {
     /// What stands against a new entity of this name, or none: `BadName` where it is no name, `NameTaken` where a living
     /// entity has it, and `NoMoreIds` where every index below the limit is in use or retired, in this order.
     pub fn check_new(&self, name: Option<&str>) -> Result<(), Refusal>
-        ensures { Opposes (unfit_name kept_name self.now (option_copied name.entry)) (next_entity self.now) result }
+        ensures { Opposes (unfit_name kept_name self.now.kept (option_copied name.entry)) (next_entity self.now.kept) result }
     {
         check_new(&self.entities, name)
     }
@@ -236,8 +222,10 @@ impl Store {
     /// where every index below the limit is in use or retired, in this order; then with `OutOfMemory` where memory is
     /// refused. A refusal changes nothing.
     pub fn create(&mut self, name: Option<&str>, type_list: &TypeList) -> Result<Entity, Refusal>
-        ensures { Meets (Makes kept_name self.old (newborn (option_copied name.entry) type_list.now)) (may_make kept_name self.old (option_copied name.entry)) self.old result self.new }
+        ensures step { Meets (Makes kept_name self.old.kept (newborn (option_copied name.entry) type_list.now)) (may_make kept_name self.old.kept (option_copied name.entry)) self.old.kept result self.new.kept }
+        ensures unprepared { self.new.prepared ≡ [] }
     {
+        self.prepared.forget(&mut self.archetypes);
         let slot = match self.archetypes.room_for(type_list, 1) {
             Ok(slot) => slot,
             Err(refused) => {
@@ -262,8 +250,10 @@ impl Store {
     ///
     /// Refused with `NoMoreIds` where they would pass the limit, else with `OutOfMemory` where memory is refused.
     pub fn admit(&mut self, count: u32) -> Result<(), Refusal>
-        ensures { Meets (Admits self.old count) (may_admit self.old count && nat_lt 0 count) self.old result self.new }
+        ensures step { Meets (Admits self.old.kept count) (may_admit self.old.kept count && nat_lt 0 count) self.old.kept result self.new.kept }
+        ensures unprepared { self.new.prepared ≡ [] }
     {
+        self.prepared.forget(&mut self.archetypes);
         self.entities.admit(count)
     }
 
@@ -272,8 +262,10 @@ impl Store {
     /// Refused with `Taken` unless its index is known, free and at its generation, else with `OutOfMemory` where memory is
     /// refused. A refusal changes nothing.
     pub fn revive(&mut self, e: Entity) -> Result<(), Refusal>
-        ensures { Meets (RevivesWith self.old e (newborn None [])) (is_free_at self.old e) self.old result self.new }
+        ensures step { Meets (RevivesWith self.old.kept e (newborn None [])) (is_free_at self.old.kept e) self.old.kept result self.new.kept }
+        ensures unprepared { self.new.prepared ≡ [] }
     {
+        self.prepared.forget(&mut self.archetypes);
         if !self.entities.is_free_at(e) {
             return Err(Refusal::Taken);
         }
@@ -283,62 +275,26 @@ impl Store {
         Ok(())
     }
 
-    /// Gives an entity another type: values of ids that both have stay, new ids hold zeros. An `Err` comes where memory is
-    /// refused, and changes nothing.
-    pub fn retype(&mut self, e: Entity, type_list: &TypeList) -> Result<(), AllocError>
-        requires { IsTrue (is_alive self.old e) }
-        ensures ok { OnOk result (self.new ≡ with_holding self.old e (retyped type_list.now (held_by self.old e))) }
-        ensures err { OnErr result (self.new ≡ self.old) }
-    {
-        let place = self.entities.place_of(e).unwrap();
-        let table = self.archetypes.tables().get(place.table).unwrap();
-        if table.type_list().as_slice() == type_list.as_slice() {
-            return Ok(());
-        }
-        let to = self.archetypes.room_for(type_list, 1)?;
-        let end = self.archetypes.tables().row_count(to);
-        let moved = self.archetypes.move_row(place.table, place.row, to);
-        fix_place(&mut self.entities, moved, place);
-        self.entities.set_place(
-            e,
-            Place {
-                table: to,
-                row: end,
-            },
-        );
-        self.archetypes.drop_empty(place.table);
-        Ok(())
-    }
-
     /// A living entity has this name, or none, from now on. Its own name again is done, and changes nothing.
     ///
     /// Refused with `NotAlive` where nobody lives there, with `BadName` where the name is none, and with `NameTaken` where
     /// another living entity has it, in this order; then with `OutOfMemory`. The old name stays then.
     pub fn rename(&mut self, e: Entity, name: Option<&str>) -> Result<(), Refusal>
-        ensures { Meets (Renames self.old e (option_copied name.entry)) (may_rename self.old e (option_copied name.entry)) self.old result self.new }
+        ensures step { Meets (Renames self.old.kept e (option_copied name.entry)) (may_rename self.old.kept e (option_copied name.entry)) self.old.kept result self.new.kept }
+        ensures unprepared { self.new.prepared ≡ [] }
     {
+        self.prepared.forget(&mut self.archetypes);
         self.entities.rename(e, name)
     }
 
     /// Writes the value of an id that a living entity has, and takes no memory. Where it lacks the id nothing is written.
     pub fn set_value(&mut self, e: Entity, id: Id, value: Value)
-        requires { IsTrue (is_alive self.old e) }
-        ensures { self.new ≡ with_holding self.old e (with_held (held_by self.old e) id value) }
+        requires { IsTrue (is_alive self.old.kept e) }
+        ensures written { self.new.kept ≡ with_holding self.old.kept e (with_held (held_by self.old.kept e) id value) }
+        ensures unprepared { self.new.prepared ≡ [] }
     {
+        self.prepared.forget(&mut self.archetypes);
         let place = self.entities.place_of(e).unwrap();
         self.archetypes.set_value(place.table, place.row, id, value);
-    }
-
-    /// The entity dies: its name is free, its row goes, and its index is free at the next generation or retired. It takes
-    /// no memory.
-    pub fn take_out(&mut self, e: Entity)
-        requires { IsTrue (is_alive self.old e) }
-        ensures { self.new ≡ with_death self.old e }
-    {
-        let place = self.entities.place_of(e).unwrap();
-        let moved = self.archetypes.swap_out(place.table, place.row);
-        fix_place(&mut self.entities, moved, place);
-        self.entities.kill(e);
-        self.archetypes.drop_empty(place.table);
     }
 }

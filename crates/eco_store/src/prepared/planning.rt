@@ -2,13 +2,13 @@
 ghost use Rattle.std.specs.Prelude.{◌≡◌, ◌≢◌, ◌∷◌, [], Some, nat_eq, not, IsTrue, IfOk, OnOk, OnErr};
 ghost use Rattle.std.specs.List.{list_any};
 ghost use Rattle.eco_store.specs.Archetypes.{type_at, KeepsTypes};
-ghost use Rattle.eco_store.specs.Preparing.{nothing_prepared, moves_of, has_move, AreOfDifferent, IsReady};
+ghost use Rattle.eco_store.specs.Preparing.{nothing_prepared, moves_of, moves_beside, has_move, AreOfDifferent, IsReady};
 ghost use Rattle.eco_store.specs.Seats.{SameRows};
 
 use crate::archetypes::Archetypes;
 use crate::moving::Move;
 use crate::prepared::Prepared;
-use eco_ids::TypeList;
+use eco_ids::{Entity, TypeList};
 use std::alloc::AllocError;
 
 impl Prepared {
@@ -23,6 +23,42 @@ impl Prepared {
         }
         archetypes.drop_each(self.targets());
         self.clear();
+    }
+
+    /// Nothing is prepared from then on, if the entity has a move to come. It takes no memory.
+    pub fn forget_awaited(&mut self, archetypes: &mut Archetypes, entity: Entity)
+        requires ready { IsReady archetypes.old self.old }
+        ensures ready { IsReady archetypes.new self.new }
+        ensures left { moves_of archetypes.new self.new ≡ moves_beside (moves_of archetypes.old self.old) entity }
+        ensures rows { SameRows archetypes.old archetypes.new }
+    {
+        if self.awaits(entity) {
+            self.forget(archetypes);
+        }
+    }
+
+    /// Where no move is left, the tables that stayed for moves go, if they have no rows. It takes no memory.
+    pub fn finish(&mut self, archetypes: &mut Archetypes)
+        requires ready { IsReady archetypes.old self.old }
+        ensures ready { IsReady archetypes.new self.new }
+        ensures left { moves_of archetypes.new self.new ≡ moves_of archetypes.old self.old }
+        ensures rows { SameRows archetypes.old archetypes.new }
+    {
+        if self.is_done() {
+            self.forget(archetypes);
+        }
+    }
+
+    /// Drops the table in a slot if it has no rows and does not stay for moves to come. It takes no memory.
+    pub fn release(&self, archetypes: &mut Archetypes, slot: usize)
+        requires ready { IsReady archetypes.old self.now }
+        ensures ready { IsReady archetypes.new self.now }
+        ensures left { moves_of archetypes.new self.now ≡ moves_of archetypes.old self.now }
+        ensures rows { SameRows archetypes.old archetypes.new }
+    {
+        if !self.is_target(slot) {
+            archetypes.drop_empty(slot);
+        }
     }
 
     /// The tables of these moves, and room in them for all. An `Err` comes where memory is refused, and prepares nothing.

@@ -1,5 +1,5 @@
 //! Many entities get another type at once.
-ghost use Rattle.std.specs.Prelude.{◌≡◌, ◌≢◌, ◌↔◌, List, map, IfOk, IsSome, OnOk, OnErr};
+ghost use Rattle.std.specs.Prelude.{◌≡◌, ◌≢◌, ◌↔◌, List, [], map, IfOk, IsSome, OnOk, OnErr};
 ghost use Rattle.std.specs.List.{All, AllPairs, Contains};
 ghost use Rattle.eco_ids.specs.declared.id.Id.{Id as Ids};
 ghost use Rattle.eco_tables.specs.Tables.{slot_of, table_in};
@@ -29,7 +29,7 @@ impl Store {
     /// The types of living entities with an id that the pattern matches, each once, in any order. An `Err` comes where
     /// memory is refused.
     pub fn types_with(&self, pattern: Pattern) -> Result<Vec<TypeList>, AllocError>
-        ensures listed { IfOk result (λ types. (ids : List Ids) → Contains types.items ids ↔ IsTypeWith self.now pattern ids) }
+        ensures listed { IfOk result (λ types. (ids : List Ids) → Contains types.items ids ↔ IsTypeWith self.now.kept pattern ids) }
         ensures distinct { IfOk result (λ types. AllPairs (λ one other. one ≢ other) types.items) }
     {
         let slots = self.archetypes.tables_with(pattern)?;
@@ -45,9 +45,11 @@ impl Store {
     /// The time that it takes grows with the entities that change, and not with the store.
     pub fn retype_all(&mut self, changes: &[TypeChange]) -> Result<(), AllocError>
         requires { IsOneWay changes.now }
-        ensures ok { OnOk result (self.new ≡ after_changes self.old changes.now) }
-        ensures err { OnErr result (self.new ≡ self.old) }
+        ensures ok { OnOk result (self.new.kept ≡ after_changes self.old.kept changes.now) }
+        ensures err { OnErr result (self.new.kept ≡ self.old.kept) }
+        ensures unprepared { self.new.prepared ≡ [] }
     {
+        self.prepared.forget(&mut self.archetypes);
         let transfers = self.archetypes.prepare(changes)?;
         move_all(&mut self.entities, &mut self.archetypes, &transfers);
         self.archetypes.drop_emptied(&transfers);

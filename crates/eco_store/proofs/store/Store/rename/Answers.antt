@@ -3,13 +3,19 @@ use Rattle.std.specs.Option.{option_copied}
 use Rattle.eco_ids.specs.Outcome.{Meets}
 use Rattle.eco_store.specs.Store.{read, Renames, may_rename}
 use Rattle.eco_store.proofs.Values.{rename_lifts}
+use Rattle.eco_store.proofs.Forgetting.{still_seen}
+use Rattle.eco_store.proofs.Readiness.{ready_nothing}
+use Rattle.eco_store.proofs.StoreChanges.{same_store}
 use Rattle.eco_store.proofs.store.Store.rename.Goals as goal
 
 pub invariant_of-self : goal.invariant_of-self
 invariant_of-self c =
-    (rename_lifts c.self.inside.entities c.self.inside.archetypes c.args.e (option_copied c.args.name) c.rename.new.self c.rename.result c.rename.ensures).0 c.self.invariant
+    (
+    (rename_lifts c.self.inside.entities c.forget.new.archetypes c.args.e (option_copied c.args.name) c.rename.new.self c.rename.result c.rename.ensures).0 (same_store c.self.inside.entities c.self.inside.archetypes c.forget.new.archetypes c.forget.ensures.rows c.self.invariant.0),
+    ready_nothing _ _ c.forget.ensures.nothing)
 
-pub returns : goal.returns
-returns c =
-    subst (λ v. Meets (Renames v c.args.e (option_copied c.args.name)) (may_rename v c.args.e (option_copied c.args.name)) v c.rename.result (read c.rename.new.self c.self.inside.archetypes)) c.self.view_is
-    (rename_lifts c.self.inside.entities c.self.inside.archetypes c.args.e (option_copied c.args.name) c.rename.new.self c.rename.result c.rename.ensures).1
+
+pub returns-clause-step : goal.returns-clause-step
+returns-clause-step c =
+    subst (λ v. Meets (Renames v c.args.e (option_copied c.args.name)) (may_rename v c.args.e (option_copied c.args.name)) v c.rename.result (read c.rename.new.self c.forget.new.archetypes)) (still_seen c.self.inside.entities c.self.inside.archetypes c.forget.new.archetypes _ c.args.self.now c.forget.ensures.rows c.self.view_is)
+    (rename_lifts c.self.inside.entities c.forget.new.archetypes c.args.e (option_copied c.args.name) c.rename.new.self c.rename.result c.rename.ensures).1

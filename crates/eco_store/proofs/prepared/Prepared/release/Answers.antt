@@ -1,0 +1,22 @@
+use Rattle.std.proofs.Common.{◌≡◌, false, nat_eq, sym, ◌∙◌}
+use Rattle.std.specs.List.{list_any}
+use Rattle.eco_tables.specs.Tables.{slot_of, rowless_type}
+use Rattle.eco_store.proofs.Readiness.{ready_spared, moves_spared, spares_dropped, not_true}
+use Rattle.eco_store.proofs.prepared.Prepared.release.Goals as goal
+
+pub returns-then-not-is_target-clause-ready : goal.returns-then-not-is_target-clause-ready
+returns-then-not-is_target-clause-ready c =
+    let s = c.args.archetypes.now in
+    let p = c.args.self.now in
+    let free : list_any (nat_eq c.args.slot) p.targets ≡ false = sym c.is_target.ensures ∙ c.if-not-is_target.true in
+    ready_spared s c.drop_empty.new.self p
+    (spares_dropped s c.drop_empty.new.self p c.args.slot (rowless_type (slot_of s c.args.slot)) c.requires.ready free c.drop_empty.ensures.dropped c.drop_empty.ensures.kept)
+    c.requires.ready
+
+pub returns-then-not-is_target-clause-left : goal.returns-then-not-is_target-clause-left
+returns-then-not-is_target-clause-left c =
+    let s = c.args.archetypes.now in
+    let p = c.args.self.now in
+    let free : list_any (nat_eq c.args.slot) p.targets ≡ false = sym c.is_target.ensures ∙ c.if-not-is_target.true in
+    moves_spared s c.drop_empty.new.self p
+    (spares_dropped s c.drop_empty.new.self p c.args.slot (rowless_type (slot_of s c.args.slot)) c.requires.ready free c.drop_empty.ensures.dropped c.drop_empty.ensures.kept)

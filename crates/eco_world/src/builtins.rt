@@ -46,7 +46,7 @@ fn builtin_type(alloc: Global, number: u32) -> Result<TypeList, AllocError>
 pub(crate) fn builtin_store(alloc: Global, limit: u32) -> Result<Store, Refusal>
     requires at_least { 9 ≤ limit }
     requires at_most { limit ≤ 1048576 }
-    ensures ok { IfOk result (λ store. store ≡ store_of_builtins limit 9) }
+    ensures ok { IfOk result (λ store. store.kept ≡ store_of_builtins limit 9) }
     ensures err { IfErr result (λ why. why ≡ OutOfMemory) }
 {
     let mut store = Store::new(alloc, limit);

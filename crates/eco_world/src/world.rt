@@ -54,9 +54,9 @@ impl Model for World {
     ghost use Rattle.eco_ids.specs.Lawful.{IsLawful};
     ghost use Rattle.eco_world.specs.Joined.{world_of};
 
-    ghost view = { λ w. world_of w.store w.arities.items };
+    ghost view = { λ w. world_of w.store.kept w.arities.items };
 
-    ghost invariant = { λ w. IsLawful (world_of w.store w.arities.items) };
+    ghost invariant = { λ w. IsLawful (world_of w.store.kept w.arities.items) };
 }
 
 impl World {

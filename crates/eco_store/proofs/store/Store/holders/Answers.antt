@@ -13,7 +13,7 @@ returns c =
     both_ok _ _ _
     (λ v all sorted.
     sorted_is c.handles_are_ordered.ensures.total c.handles_are_ordered.ensures.ties c.ascending_lists_are_sets.ensures.handles _ v.items _ all sorted
-    (standing_apart c.args.self.now found.tables.now c.args.pattern c.in_ok-found.ensures.shown found.slots.items c.in_ok-found.ensures.distinct)
-    (holders_ascend c.args.self.now c.args.pattern)
-    (standing_holders c.args.self.now found.tables.now c.args.pattern c.in_ok-found.ensures.shown found.slots.items c.in_ok-found.ensures.listed))
+    (standing_apart c.args.self.now.kept found.tables.now c.args.pattern c.in_ok-found.ensures.shown found.slots.items c.in_ok-found.ensures.distinct)
+    (holders_ascend c.args.self.now.kept c.args.pattern)
+    (standing_holders c.args.self.now.kept found.tables.now c.args.pattern c.in_ok-found.ensures.shown found.slots.items c.in_ok-found.ensures.listed))
     c.entities.result c.entities.ensures.all c.entities.ensures.sorted

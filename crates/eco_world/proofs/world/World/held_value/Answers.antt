@@ -5,4 +5,4 @@ use Rattle.eco_world.proofs.Joined.{held_joined}
 use Rattle.eco_world.proofs.world.World.held_value.Goals as goal
 
 pub returns : goal.returns
-returns c = rw (← c.self.view_is) (c.value.ensures ∙ sym (ap (find id_cmp c.args.id) (held_joined c.self.inside.store c.self.inside.arities.items c.args.entity)))
+returns c = rw (← c.self.view_is) (c.value.ensures ∙ sym (ap (find id_cmp c.args.id) (held_joined c.self.inside.store.kept c.self.inside.arities.items c.args.entity)))

@@ -8,4 +8,4 @@ pub returns : goal.returns
 returns c =
     rw (← c.self.view_is)
     (IfOk-weaker c.holders.result _ _
-    (λ v is. is ∙ ap (store.holders c.self.inside.store) c.exactly.ensures ∙ holders_joined c.args.id c.self.inside.store c.self.inside.arities.items) c.holders.ensures)
+    (λ v is. is ∙ ap (store.holders c.self.inside.store.kept) c.exactly.ensures ∙ holders_joined c.args.id c.self.inside.store.kept c.self.inside.arities.items) c.holders.ensures)

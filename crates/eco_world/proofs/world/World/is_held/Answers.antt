@@ -8,4 +8,4 @@ use Rattle.eco_world.proofs.world.World.is_held.Goals as goal
 pub returns : goal.returns
 returns c =
     rw (← c.self.view_is)
-    (c.is_held.ensures ∙ sym (any_joined c.self.inside.store c.self.inside.arities.items (λ held. list_any (pattern_matches c.args.pattern) (keys held))))
+    (c.is_held.ensures ∙ sym (any_joined c.self.inside.store.kept c.self.inside.arities.items (λ held. list_any (pattern_matches c.args.pattern) (keys held))))

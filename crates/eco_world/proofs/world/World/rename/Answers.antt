@@ -19,9 +19,9 @@ returns-in_err-check_actor c =
 
 pub invariant_of-self : goal.invariant_of-self
 invariant_of-self c =
-    lawful_renamed c.self.inside.store c.self.inside.arities.items c.args.entity c.in_ok-check_actor.ensures.ok.1 (option_copied c.args.name) c.rename.result c.rename.new.self c.self.invariant (c.steps_keep_lawful.ensures.rename c.args.entity (option_copied c.args.name)) c.rename.ensures
+    lawful_renamed c.self.inside.store.kept c.self.inside.arities.items c.args.entity c.in_ok-check_actor.ensures.ok.1 (option_copied c.args.name) c.rename.result c.rename.new.self.kept c.self.invariant (c.steps_keep_lawful.ensures.rename c.args.entity (option_copied c.args.name)) c.rename.ensures.step
 
 pub returns : goal.returns
 returns c =
     rw (← c.self.view_is)
-    (meets_renames c.self.inside.store c.self.inside.arities.items c.args.entity c.in_ok-check_actor.ensures.ok.1 (option_copied c.args.name) c.rename.result c.rename.new.self c.rename.ensures)
+    (meets_renames c.self.inside.store.kept c.self.inside.arities.items c.args.entity c.in_ok-check_actor.ensures.ok.1 (option_copied c.args.name) c.rename.result c.rename.new.self.kept c.rename.ensures.step)

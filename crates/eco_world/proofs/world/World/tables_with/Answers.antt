@@ -12,11 +12,11 @@ pub tables_in-requires : goal.tables_in-requires
 tables_in-requires c =
     let found = c.in_ok-found.found in
     subst (All (HasTable found.tables.now)) (sym c.deref.ensures.value)
-    (found_there c.self.inside.store c.self.inside.arities.items found.tables.now c.in_ok-found.ensures.shown c.in_ok-found.ensures.kinds c.args.pattern found.slots.items c.in_ok-found.ensures.listed)
+    (found_there c.self.inside.store.kept c.self.inside.arities.items found.tables.now c.in_ok-found.ensures.shown c.in_ok-found.ensures.kinds c.args.pattern found.slots.items c.in_ok-found.ensures.listed)
 
 pub returns : goal.returns
 returns c =
-    let store = c.self.inside.store in
+    let store = c.self.inside.store.kept in
     let arities = c.self.inside.arities.items in
     let slots = c.in_ok-found.found.tables.now in
     let ns = c.in_ok-found.found.slots.items in

@@ -10,15 +10,15 @@ use Rattle.eco_world.proofs.Types.{written_value}
 use Rattle.eco_world.proofs.world.World.write.Goals as goal
 
 pub set_value-requires : goal.set_value-requires
-set_value-requires c = sym (alive_joined c.self.inside.store c.self.inside.arities.items c.args.entity) ∙ ap (λ w. is_alive w c.args.entity) c.self.view_is ∙ c.requires.alive
+set_value-requires c = sym (alive_joined c.self.inside.store.kept c.self.inside.arities.items c.args.entity) ∙ ap (λ w. is_alive w c.args.entity) c.self.view_is ∙ c.requires.alive
 
 pub invariant_of-self : goal.invariant_of-self
 invariant_of-self c =
     let e = c.args.entity in
-    let w = world_of c.self.inside.store c.self.inside.arities.items in
+    let w = world_of c.self.inside.store.kept c.self.inside.arities.items in
     subst IsLawful
-    (sym (ap (λ s. world_of s c.self.inside.arities.items) c.set_value.ensures
-    ∙ holding_joined c.self.inside.store c.self.inside.arities.items e (λ held. with_held held c.args.id c.args.value)
+    (sym (ap (λ s. world_of s c.self.inside.arities.items) c.set_value.ensures.written
+    ∙ holding_joined c.self.inside.store.kept c.self.inside.arities.items e (λ held. with_held held c.args.id c.args.value)
     ∙ written_value w e c.args.id c.args.value c.self.invariant (ap (λ x. has x e c.args.id) c.self.view_is ∙ c.requires.there)
     ∙ ap (λ x. changed x e (with_value c.args.id c.args.value)) c.self.view_is))
     c.requires.lawful
@@ -26,8 +26,8 @@ invariant_of-self c =
 pub returns : goal.returns
 returns c =
     let e = c.args.entity in
-    let w = world_of c.self.inside.store c.self.inside.arities.items in
-    ap (λ s. world_of s c.self.inside.arities.items) c.set_value.ensures
-    ∙ holding_joined c.self.inside.store c.self.inside.arities.items e (λ held. with_held held c.args.id c.args.value)
+    let w = world_of c.self.inside.store.kept c.self.inside.arities.items in
+    ap (λ s. world_of s c.self.inside.arities.items) c.set_value.ensures.written
+    ∙ holding_joined c.self.inside.store.kept c.self.inside.arities.items e (λ held. with_held held c.args.id c.args.value)
     ∙ written_value w e c.args.id c.args.value c.self.invariant (ap (λ x. has x e c.args.id) c.self.view_is ∙ c.requires.there)
     ∙ ap (λ x. changed x e (with_value c.args.id c.args.value)) c.self.view_is

@@ -1,4 +1,4 @@
-use Rattle.std.proofs.Common.{Some}
+use Rattle.std.proofs.Common.{Some, refl}
 use Rattle.std.proofs.lemmas.Result.{err_from_is_err_and}
 use Rattle.eco_ids.specs.Births.{may_make}
 use Rattle.eco_store.specs.Store.{kept_name}
@@ -15,3 +15,8 @@ returns-in_err-create-clause-err c =
 pub loop-number-preserved : goal.loop-number-preserved
 loop-number-preserved c =
     builtin_made c.args.limit c.loop-number.number (Some c.builtin_name.result.now) c.in_ok-type_list.type_list c.requires.at_least c.loop-number-test.true c.builtin_name.ensures c.in_ok-type_list.ensures c.in_ok-create.field-0 c.create.new.self.kept (may_make kept_name (store_of_builtins c.args.limit c.loop-number.number) (Some c.builtin_name.result.now)) (rw c.loop-number.invariant at c.in_ok-create.ensures.step)
+
+pub returns-in_err-type_list-clause-err : goal.returns-in_err-type_list-clause-err
+returns-in_err-type_list-clause-err c =
+    let p = err_from_is_err_and c.from_residual.result c.from_residual.ensures.1 in
+    rw (p.1, p.2) refl

@@ -1,5 +1,5 @@
 -- Tables in slots, each found by its type and by the entities that its type names.
-use Rattle.std.specs.Prelude.{◌≡◌, ℕ, ◌<◌, ◌≤◌, Bool, true, false, IsTrue, ◌&&◌, nat_lt, nat_eq, length, List, [], Option, None, Some, option_map}
+use Rattle.std.specs.Prelude.{◌≡◌, ℕ, ◌<◌, ◌≤◌, Bool, true, false, IsTrue, ◌&&◌, nat_lt, nat_eq, length, List, [], Option, None, Some, option_map, is_some}
 use Rattle.std.specs.HashMap.{HashMap}
 use Rattle.std.specs.List.{list_any}
 use Rattle.std.specs.HashSet.{HashSet}
@@ -12,7 +12,7 @@ use Rattle.eco_ids.specs.declared.pattern.Part.TheVariants.{Is, Each, Any}
 use Rattle.eco_ids.specs.Matching.{pattern_matches}
 use Rattle.std.specs.Option.{option_or}
 use Rattle.eco_tables.specs.Table.{TableState}
-use Rattle.eco_tables.specs.Tables.{slot_of, table_in}
+use Rattle.eco_tables.specs.Tables.{slot_of, table_in, rowless_type}
 use Rattle.eco_store.specs.TypeMap.{IsTypeMap}
 use Rattle.eco_store.specs.IdIndex.{is_listed, names_any}
 
@@ -45,6 +45,14 @@ SameSlots old new = (n : ℕ) → slot_of new n ≡ slot_of old n
 -- no table is gone, and each has the type that it had
 abbrev pub KeepsTypes : List (Option TableState) → List (Option TableState) → Type 0
 KeepsTypes old new = (n : ℕ) (ids : List Id) → type_at old n ≡ Some ids → type_at new n ≡ Some ids
+
+-- there is a table in the slot, and it has no rows
+abbrev pub is_rowless : List (Option TableState) → ℕ → Bool
+is_rowless slots n = is_some (rowless_type (slot_of slots n))
+
+-- each table without rows is in one of these slots
+abbrev pub RowlessIn : List (Option TableState) → List ℕ → Type 0
+RowlessIn slots allowed = (n : ℕ) → IsTrue (is_rowless slots n) → IsTrue (list_any (nat_eq n) allowed)
 
 -- no table has less room than it had
 abbrev pub KeepsRoom : List (Option TableState) → List (Option TableState) → Type 0

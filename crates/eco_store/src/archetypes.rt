@@ -1,11 +1,11 @@
 //! The tables of a store, one for each type, found by type and by the entities that types name.
-ghost use Rattle.std.specs.Prelude.{◌≡◌, ◌≢◌, ◌↔◌, ◌&&◌, nat_lt, nat_eq, filter, List, ℕ, ◌<◌, ◌≤◌, ◌∷◌, [], length, slice_get, slice_set, Some, None, IsSome, IsTrue, IfOk, IfSome, IfNone, OnOk, OnErr, OnSome, is_some};
+ghost use Rattle.std.specs.Prelude.{◌≡◌, ◌≢◌, ◌↔◌, ◌&&◌, nat_lt, nat_eq, filter, List, ℕ, ◌<◌, ◌≤◌, ◌∷◌, [], length, slice_get, slice_set, Some, None, IsSome, IsTrue, IfOk, IfSome, IfNone, MatchResult, ◌++◌, OnOk, OnErr, OnSome, is_some};
 ghost use Rattle.std.specs.List.{list_any, IsDistinct};
 ghost use Rattle.eco_ids.specs.declared.id.Id.{Id as Ids};
 ghost use Rattle.eco_tables.specs.Column.{value_in, with_held};
 ghost use Rattle.eco_tables.specs.Table.{TableState, Row, entities_of};
 ghost use Rattle.eco_tables.specs.Tables.{slot_of, table_in, row_in, Sets, Moves, with_row, without_row, rowless_type};
-ghost use Rattle.eco_store.specs.Archetypes.{type_at, new_table, SameSlots, KeepsTypes, KeepsRoom, is_found, FindsSome, FindsBelow, named_by, named_part};
+ghost use Rattle.eco_store.specs.Archetypes.{type_at, new_table, SameSlots, KeepsTypes, KeepsRoom, RowlessIn, is_found, FindsSome, FindsBelow, named_by, named_part};
 ghost use Rattle.eco_store.specs.Seats.{SameRows};
 
 use crate::id_index::IdIndex;
@@ -73,6 +73,7 @@ impl Archetypes {
         ensures typed { IfOk result (λ n. type_at self.new n ≡ Some type_list.now) }
         ensures room { IfOk result (λ n. more ≤ (table_in self.new n).room) }
         ensures kept { OnOk result (KeepsRoom self.old self.new) }
+        ensures rowless { (slots : List ℕ) → RowlessIn self.old slots → MatchResult result (λ n. RowlessIn self.new (n ∷ slots)) (λ e. RowlessIn self.new slots) }
         ensures rows { SameRows self.old self.new }
         ensures types { KeepsTypes self.old self.new }
     {
@@ -119,6 +120,7 @@ impl Archetypes {
     pub fn drop_empty(&mut self, slot: usize)
         ensures dropped { OnSome (rowless_type (slot_of self.old slot)) (Sets self.old self.new slot None) }
         ensures kept { IfNone (rowless_type (slot_of self.old slot)) (SameSlots self.old self.new) }
+        ensures rowless { (slots : List ℕ) → RowlessIn self.old (slot ∷ slots) → RowlessIn self.new slots }
         ensures rows { SameRows self.old self.new }
     {
         if self.tables.is_rowless(slot) {
@@ -142,7 +144,8 @@ impl Archetypes {
 
     /// Drops those tables in these slots that have no rows. No row changes. It takes no memory.
     pub fn drop_each(&mut self, slots: &[usize])
-        ensures { SameRows self.old self.new }
+        ensures rowless { (others : List ℕ) → RowlessIn self.old (slots.now ++ others) → RowlessIn self.new others }
+        ensures rows { SameRows self.old self.new }
     {
         for slot in slots {
             self.drop_empty(*slot);

@@ -21,4 +21,5 @@ pub mod Arrivals
 pub mod Readiness
 pub mod Forgetting
 pub mod NextMoves
+pub mod Rowless
 pub mod FoundTypes

@@ -46,7 +46,7 @@ pub there_as_typed : (s : List (Option TableState)) (n : ℕ) (ids : List Id) �
 there_as_typed s n ids typed = sym (there_by_type s n) ∙ ap is_some typed
 
 -- the type of a table that is there
-type_of_there : (s : List (Option TableState)) (n : ℕ) → IsSome (slot_of s n) → type_at s n ≡ Some (table_in s n).ids
+pub type_of_there : (s : List (Option TableState)) (n : ℕ) → IsSome (slot_of s n) → type_at s n ≡ Some (table_in s n).ids
 type_of_there s n = by (slot_of s n)
   where
     by : (o : Option TableState) → IsSome o → option_map (λ (t : TableState). t.ids) o ≡ Some (unwrap_or o no_table).ids
@@ -173,7 +173,7 @@ room_rest s s' t ts room pours apart none n =
 
 -- ---- taking room
 
-rows_same : (s s' : List (Option TableState)) → SameRows s s' → (n : ℕ) → (table_in s' n).rows ≡ (table_in s n).rows
+pub rows_same : (s s' : List (Option TableState)) → SameRows s s' → (n : ℕ) → (table_in s' n).rows ≡ (table_in s n).rows
 rows_same s s' same n = ext_slice_get (table_in s' n).rows (table_in s n).rows (same n)
 
 due_more : (s : List (Option TableState)) (ts : List Transfer) (t : Transfer) (n : ℕ) → due s (ts ++ t ∷ []) n ≡ due s ts n + brought s t n

@@ -44,6 +44,7 @@ pub struct Store {
 }
 
 impl Model for Store {
+    ghost use Rattle.eco_store.specs.Archetypes.{RowlessIn};
     ghost use Rattle.eco_store.specs.Preparing.{IsReady, moves_of};
     ghost use Rattle.eco_store.specs.Store.{StoreState, IsStore, read};
 
@@ -51,7 +52,7 @@ impl Model for Store {
 
     ghost view = { λ s. record { kept = read s.entities s.archetypes; prepared = moves_of s.archetypes s.prepared } };
 
-    ghost invariant = { λ s. IsStore s.entities s.archetypes × IsReady s.archetypes s.prepared };
+    ghost invariant = { λ s. IsStore s.entities s.archetypes × IsReady s.archetypes s.prepared × RowlessIn s.archetypes s.prepared.targets };
 }
 
 // What stands against a new entity of this name: its name, or that no index is left.

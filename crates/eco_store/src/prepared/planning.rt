@@ -1,7 +1,7 @@
 //! The tables and the room of moves to come.
 ghost use Rattle.std.specs.Prelude.{◌≡◌, ◌≢◌, ◌∷◌, [], Some, nat_eq, not, IsTrue, IfOk, OnOk, OnErr};
 ghost use Rattle.std.specs.List.{list_any};
-ghost use Rattle.eco_store.specs.Archetypes.{type_at, KeepsTypes};
+ghost use Rattle.eco_store.specs.Archetypes.{type_at, RowlessIn};
 ghost use Rattle.eco_store.specs.Preparing.{nothing_prepared, moves_of, moves_beside, has_move, AreOfDifferent, IsReady};
 ghost use Rattle.eco_store.specs.Seats.{SameRows};
 
@@ -15,6 +15,8 @@ impl Prepared {
     /// Nothing is prepared from then on, and of the tables that stayed for moves to come those without rows go. It takes no
     /// memory.
     pub fn forget(&mut self, archetypes: &mut Archetypes)
+        requires { RowlessIn archetypes.old self.old.targets }
+        ensures tidy { RowlessIn archetypes.new [] }
         ensures nothing { self.new ≡ nothing_prepared }
         ensures rows { SameRows archetypes.old archetypes.new }
     {
@@ -28,7 +30,9 @@ impl Prepared {
     /// Nothing is prepared from then on, if the entity has a move to come. It takes no memory.
     pub fn forget_awaited(&mut self, archetypes: &mut Archetypes, entity: Entity)
         requires ready { IsReady archetypes.old self.old }
+        requires tidy { RowlessIn archetypes.old self.old.targets }
         ensures ready { IsReady archetypes.new self.new }
+        ensures tidy { RowlessIn archetypes.new self.new.targets }
         ensures left { moves_of archetypes.new self.new ≡ moves_beside (moves_of archetypes.old self.old) entity }
         ensures rows { SameRows archetypes.old archetypes.new }
     {
@@ -40,7 +44,9 @@ impl Prepared {
     /// Where no move is left, the tables that stayed for moves go, if they have no rows. It takes no memory.
     pub fn finish(&mut self, archetypes: &mut Archetypes)
         requires ready { IsReady archetypes.old self.old }
+        requires tidy { RowlessIn archetypes.old self.old.targets }
         ensures ready { IsReady archetypes.new self.new }
+        ensures tidy { RowlessIn archetypes.new self.new.targets }
         ensures left { moves_of archetypes.new self.new ≡ moves_of archetypes.old self.old }
         ensures rows { SameRows archetypes.old archetypes.new }
     {
@@ -52,7 +58,9 @@ impl Prepared {
     /// Drops the table in a slot if it has no rows and does not stay for moves to come. It takes no memory.
     pub fn release(&self, archetypes: &mut Archetypes, slot: usize)
         requires ready { IsReady archetypes.old self.now }
+        requires tidy { RowlessIn archetypes.old (slot ∷ self.now.targets) }
         ensures ready { IsReady archetypes.new self.now }
+        ensures tidy { RowlessIn archetypes.new self.now.targets }
         ensures left { moves_of archetypes.new self.now ≡ moves_of archetypes.old self.now }
         ensures rows { SameRows archetypes.old archetypes.new }
     {
@@ -67,8 +75,10 @@ impl Prepared {
         archetypes: &mut Archetypes,
         moves: &[Move],
     ) -> Result<(), AllocError>
-        requires { AreOfDifferent moves.now }
+        requires different { AreOfDifferent moves.now }
+        requires tidy { RowlessIn archetypes.old self.old.targets }
         ensures ready { IsReady archetypes.new self.new }
+        ensures tidy { RowlessIn archetypes.new self.new.targets }
         ensures ok { OnOk result (moves_of archetypes.new self.new ≡ moves.now) }
         ensures err { OnErr result (self.new ≡ nothing_prepared) }
         ensures rows { SameRows archetypes.old archetypes.new }
@@ -86,7 +96,9 @@ impl Prepared {
     fn plan(&mut self, archetypes: &mut Archetypes, moves: &[Move]) -> Result<(), AllocError>
         requires different { AreOfDifferent moves.now }
         requires nothing { self.old ≡ nothing_prepared }
+        requires tidy { RowlessIn archetypes.old self.old.targets }
         ensures ready { OnOk result (IsReady archetypes.new self.new) }
+        ensures tidy { RowlessIn archetypes.new self.new.targets }
         ensures ok { OnOk result (moves_of archetypes.new self.new ≡ moves.now) }
         ensures rows { SameRows archetypes.old archetypes.new }
     {
@@ -101,7 +113,9 @@ impl Prepared {
     fn plan_move(&mut self, archetypes: &mut Archetypes, next: &Move) -> Result<(), AllocError>
         requires ready { IsReady archetypes.old self.old }
         requires absent { IsTrue (not (has_move (moves_of archetypes.old self.old) next.now.entity)) }
+        requires tidy { RowlessIn archetypes.old self.old.targets }
         ensures ready { OnOk result (IsReady archetypes.new self.new) }
+        ensures tidy { RowlessIn archetypes.new self.new.targets }
         ensures ok { OnOk result (moves_of archetypes.new self.new ≡ next.now ∷ moves_of archetypes.old self.old) }
         ensures rows { SameRows archetypes.old archetypes.new }
     {
@@ -119,7 +133,9 @@ impl Prepared {
         type_list: &TypeList,
     ) -> Result<usize, AllocError>
         requires ready { IsReady archetypes.old self.old }
+        requires tidy { RowlessIn archetypes.old self.old.targets }
         ensures ready { OnOk result (IsReady archetypes.new self.new) }
+        ensures tidy { RowlessIn archetypes.new self.new.targets }
         ensures typed { IfOk result (λ n. type_at archetypes.new n ≡ Some type_list.now) }
         ensures stays { IfOk result (λ n. IsTrue (list_any (nat_eq n) self.new.targets)) }
         ensures arrivals { self.new.arrivals ≡ self.old.arrivals }

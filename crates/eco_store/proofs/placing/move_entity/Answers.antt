@@ -1,5 +1,6 @@
 use Rattle.std.proofs.Common.{◌≡◌, refl, ap, ◌∙◌, length}
 use Rattle.eco_tables.specs.Tables.{table_in}
+use Rattle.eco_store.proofs.Rowless.{rowless_moved}
 use Rattle.eco_store.proofs.StoreChanges as changes
 use Rattle.eco_store.proofs.placing.move_entity.Goals as goal
 
@@ -36,3 +37,6 @@ returns-clause-read c =
     (changes.to_read c.args.entities.now s s c.move_row-moved.new.self c.move_row-moved.new.self c.args.entity c.args.place c.args.to c.row_count-end.result _ c.move_row-moved.result
     c.requires.store c.requires.own (λ n row. refl) c.requires.apart refl c.move_row-moved.ensures.moves c.move_row-moved.ensures.moved
     (c.row_count-end.ensures ∙ ap (λ x. length (table_in x c.args.to).rows) c.tables.ensures.same) (λ n row. refl))
+
+pub returns-clause-rowless : goal.returns-clause-rowless
+returns-clause-rowless c = λ slots was. rowless_moved _ _ c.args.place.table c.args.place.row c.args.to slots c.move_row-moved.ensures.moves was

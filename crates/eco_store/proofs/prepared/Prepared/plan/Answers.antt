@@ -24,6 +24,7 @@ loop-done-preserved c =
     let next : k + 1 ≡ length ms - c.loop-done.done = omega (arith, c.loop-done-test.true) in
     record {
       ready = c.in_ok-plan_move.ensures.ready;
+      tidy = c.plan_move.ensures.tidy;
       moves =
           c.in_ok-plan_move.ensures.ok
           ∙ (λ t. c.index-moves-moves.is t ∷ (c.loop-done.invariant.moves ∙ ap (λ i. drop i ms) (sym next)) t)

@@ -1,7 +1,8 @@
-use Rattle.std.proofs.Common.{sym, ◌∙◌, nat_eq}
+use Rattle.std.proofs.Common.{sym, ◌∙◌, ◌∷◌, nat_eq}
 use Rattle.std.specs.List.{list_any}
 use Rattle.eco_store.specs.Preparing.{PreparedState, with_target, IsReady, moves_of}
 use Rattle.eco_store.proofs.Readiness.{Spares, ready_spared, moves_spared, spares_both, spares_kept, spares_other, targeted, not_true}
+use Rattle.eco_store.proofs.Rowless.{rowless_same, rowless_targeted}
 use Rattle.eco_store.proofs.prepared.Prepared.target.Goals as goal
 
 pub returns-in-Ok-true-clause-ready : goal.returns-in-Ok-true-clause-ready
@@ -44,3 +45,11 @@ returns-in-Ok-false-clause-moves c =
     let p = c.args.self.now in
     rw c.in-Ok-false.ensures.ok
     (moves_spared s s1 p (spares_kept s s1 p c.requires.ready c.in_ok-slot.ensures.types c.in_ok-slot.ensures.kept))
+
+pub returns-in-Ok-true-clause-tidy : goal.returns-in-Ok-true-clause-tidy
+returns-in-Ok-true-clause-tidy c =
+    let p = c.args.self.now in
+    let n = c.in_ok-slot.slot in
+    rw c.in-Ok-true.ensures.ok
+    (rowless_targeted c.waive.new.self p n
+    (rowless_same c.room_for.new.self c.waive.new.self (n ∷ p.targets) c.waive.ensures.rows c.waive.ensures.types (c.in_ok-slot.ensures.rowless p.targets c.requires.tidy)))

@@ -1,4 +1,4 @@
-use Rattle.std.proofs.Common.{Ok, ◌≡◌, refl, sym, ap, subst, ◌∙◌}
+use Rattle.std.proofs.Common.{[], Ok, ◌≡◌, refl, sym, ap, subst, ◌∙◌}
 use Rattle.std.specs.Option.{option_copied}
 use Rattle.std.proofs.lemmas.Result.{err_from_is_err_and}
 use Rattle.eco_ids.specs.Births.{Makes, may_make}
@@ -13,13 +13,15 @@ use Rattle.eco_store.proofs.BirthChanges as births
 use Rattle.eco_store.proofs.Forgetting.{still_seen}
 use Rattle.eco_store.proofs.Readiness.{ready_nothing}
 use Rattle.eco_store.proofs.StoreChanges.{same_store}
+use Rattle.eco_store.proofs.Rowless.{tidy_nothing}
 use Rattle.eco_store.proofs.store.Store.create.Goals as goal
 
 pub invariant_of-self : goal.invariant_of-self
 invariant_of-self c =
     (
     same_store c.self.inside.entities c.forget.new.archetypes c.room_for.new.self c.room_for.ensures.rows (same_store c.self.inside.entities c.self.inside.archetypes c.forget.new.archetypes c.forget.ensures.rows c.self.invariant.0),
-    ready_nothing _ _ c.forget.ensures.nothing)
+    ready_nothing _ _ c.forget.ensures.nothing,
+    tidy_nothing _ _ c.forget.ensures.nothing (c.in-Err.ensures.rowless [] c.forget.ensures.tidy))
 
 
 pub returns-in_err-check_new-in-Err-clause-step : goal.returns-in_err-check_new-in-Err-clause-step
@@ -47,7 +49,8 @@ invariant_of-self-in-Ok-create c =
     rw c.settle.ensures.places
     (births.created_store c.self.inside.entities c.create.new.self c.forget.new.archetypes c.room_for.new.self c.settle.new.archetypes c.in-Ok-create.entity c.in-Ok.slot c.args.type_list.now (option_copied c.args.name) (same_store c.self.inside.entities c.self.inside.archetypes c.forget.new.archetypes c.forget.ensures.rows c.self.invariant.0) c.room_for.ensures.rows
     (typed_table c.room_for.new.self c.in-Ok.slot c.args.type_list.now c.in-Ok.ensures.typed) (create_made (kept (row_at c.forget.new.archetypes)) name_of kept_name (λ a. refl) c.self.inside.entities (newcomer (option_copied c.args.name)) (newborn (option_copied c.args.name) c.args.type_list.now) refl c.create.new.self c.in-Ok-create.entity c.in-Ok-create.ensures).0 (create_made (kept (row_at c.forget.new.archetypes)) name_of kept_name (λ a. refl) c.self.inside.entities (newcomer (option_copied c.args.name)) (newborn (option_copied c.args.name) c.args.type_list.now) refl c.create.new.self c.in-Ok-create.entity c.in-Ok-create.ensures).1 c.settle.ensures.rows),
-    ready_nothing _ _ c.forget.ensures.nothing)
+    ready_nothing _ _ c.forget.ensures.nothing,
+    tidy_nothing _ _ c.forget.ensures.nothing (c.settle.ensures.rowless [] (c.in-Ok.ensures.rowless [] c.forget.ensures.tidy)))
 
 
 pub returns-in-Ok-create-clause-step : goal.returns-in-Ok-create-clause-step
@@ -63,7 +66,8 @@ invariant_of-self-in-Err-create c =
     (
     rw (create_refused (kept (row_at c.forget.new.archetypes)) name_of kept_name (λ a. refl) c.self.inside.entities (newcomer (option_copied c.args.name)) (newborn (option_copied c.args.name) c.args.type_list.now) refl c.create.new.self c.in-Err-create.refused c.in-Err-create.ensures).0
     (same_store c.self.inside.entities c.forget.new.archetypes c.drop_empty.new.self (then_rows c.forget.new.archetypes c.room_for.new.self c.drop_empty.new.self c.room_for.ensures.rows c.drop_empty.ensures.rows) (same_store c.self.inside.entities c.self.inside.archetypes c.forget.new.archetypes c.forget.ensures.rows c.self.invariant.0)),
-    ready_nothing _ _ c.forget.ensures.nothing)
+    ready_nothing _ _ c.forget.ensures.nothing,
+    tidy_nothing _ _ c.forget.ensures.nothing (c.drop_empty.ensures.rowless [] (c.in-Ok.ensures.rowless [] c.forget.ensures.tidy)))
 
 
 pub returns-in-Err-create-clause-step : goal.returns-in-Err-create-clause-step

@@ -1,10 +1,12 @@
 use Rattle.std.proofs.Common.{◌≡◌, ◌∷◌, Some, IfSome, IsTrue, refl, sym, ap, subst, ◌∙◌}
 use Rattle.eco_tables.specs.Column.{retyped}
 use Rattle.eco_tables.specs.Tables.{table_in, AllHaveIds}
+use Rattle.eco_store.specs.Archetypes.{RowlessIn}
 use Rattle.eco_store.specs.Preparing.{moves_of, moves_left, is_next, IsReady}
 use Rattle.eco_store.specs.Store.{StoreState, read, with_holding, held_by}
 use Rattle.eco_store.proofs.ArchetypeLemmas.{there_by_row}
 use Rattle.eco_store.proofs.NextMoves.{next_type, next_left, rest_ready, rest_left, rest_ready_after, stays_there}
+use Rattle.eco_store.proofs.Rowless.{rowless_beside}
 use Rattle.eco_store.proofs.StoreChanges.{row_within, same_read}
 use Rattle.eco_store.proofs.store.Store.make_next.Goals.{then-place-to, else-place-to}
 use Rattle.eco_store.proofs.store.Store.make_next.Goals as goal
@@ -22,6 +24,9 @@ release-requires c =
       ready =
           rest_ready_after s p p' a first_is c.take_next.ensures.targets c.self.invariant.1 c.move_entity.new.archetypes place.table place.row c.move_entity.ensures.moves
           (there_by_row s place.table place.row (row_within c.self.inside.entities s c.args.e place c.self.invariant.0 own));
+      tidy =
+          c.move_entity.ensures.rowless p'.targets
+          (rowless_beside s a.1 p'.targets (subst (RowlessIn s) (sym c.take_next.ensures.targets) c.self.invariant.2));
     }
 
 pub finish-requires : goal.finish-requires
@@ -32,8 +37,11 @@ finish-requires c =
     let a = c.unwrap-to.result in
     let first_is : p.arrivals ≡ a ∷ p'.arrivals = subst (λ o. IfSome o (λ x. p.arrivals ≡ x ∷ p'.arrivals)) c.unwrap-to.ensures c.take_next.ensures.some in
     elim c.if-place-to.branch [
-      | then-place-to w ↦ rw w.self-inside-is (record { ready = w.release.ensures.ready })
-      | else-place-to w ↦ rw w.self-inside-is (record { ready = rest_ready s p p' a first_is c.take_next.ensures.targets c.self.invariant.1 })
+      | then-place-to w ↦ rw w.self-inside-is (record { ready = w.release.ensures.ready; tidy = w.release.ensures.tidy })
+      | else-place-to w ↦ rw w.self-inside-is (record {
+        ready = rest_ready s p p' a first_is c.take_next.ensures.targets c.self.invariant.1;
+        tidy = subst (RowlessIn s) (sym c.take_next.ensures.targets) c.self.invariant.2;
+      })
     ]
 
 pub returns-clause-kept : goal.returns-clause-kept

@@ -1,4 +1,4 @@
-use Rattle.std.proofs.Common.{◌≡◌, false, refl, sym, ap, subst, ◌∙◌, option_map}
+use Rattle.std.proofs.Common.{◌≡◌, [], false, refl, sym, ap, subst, ◌∙◌, option_map}
 use Rattle.std.specs.Option.{option_copied}
 use Rattle.eco_tables.specs.Column.{retyped}
 use Rattle.eco_tables.specs.Table.{TableState}
@@ -7,6 +7,8 @@ use Rattle.eco_store.specs.Store.{read, with_holding, held_by}
 use Rattle.eco_store.proofs.ArchetypeLemmas.{there_by_row}
 use Rattle.eco_store.proofs.Forgetting.{still_seen}
 use Rattle.eco_store.proofs.Ids.{same_ids-Decides}
+use Rattle.eco_store.proofs.Readiness.{ready_nothing}
+use Rattle.eco_store.proofs.Rowless.{tidy_nothing}
 use Rattle.eco_store.proofs.StoreChanges as changes
 use Rattle.eco_store.proofs.store.Store.retype_at_once.Goals as goal
 
@@ -50,3 +52,11 @@ returns-clause-ok c =
     ∙ (λ t.
     let before = changes.same_read w s s1 c.room_for.ensures.rows t in
     with_holding before c.args.e (retyped (changes.typed_table s1 c.in_ok-to.to c.args.type_list.now c.in_ok-to.ensures.typed t) (held_by before c.args.e))))
+
+pub invariant_of-self-2 : goal.invariant_of-self-2
+invariant_of-self-2 c =
+    (
+      changes.same_store c.move_entity.new.entities c.move_entity.new.archetypes c.drop_empty.new.self c.drop_empty.ensures.rows c.move_entity.ensures.store,
+      ready_nothing _ _ c.forget.ensures.nothing,
+      tidy_nothing _ _ c.forget.ensures.nothing (c.drop_empty.ensures.rowless [] (c.move_entity.ensures.rowless [] (c.in_ok-to.ensures.rowless [] c.forget.ensures.tidy))),
+    )

@@ -6,6 +6,7 @@ use Rattle.eco_store.proofs.BirthChanges as births
 use Rattle.eco_store.proofs.Forgetting.{still_seen}
 use Rattle.eco_store.proofs.Readiness.{ready_nothing}
 use Rattle.eco_store.proofs.StoreChanges.{same_store}
+use Rattle.eco_store.proofs.Rowless.{tidy_nothing}
 use Rattle.eco_store.proofs.store.Store.revive.Goals as goal
 
 pub invariant_of-self-2 : goal.invariant_of-self-2
@@ -15,7 +16,8 @@ invariant_of-self-2 c =
     rw c.settle.ensures.places
     (births.revived_store c.self.inside.entities c.revive.new.self c.forget.new.archetypes c.room_for-2.new.self c.settle.new.archetypes c.args.e c.in_ok-slot.slot [] None (same_store c.self.inside.entities c.self.inside.archetypes c.forget.new.archetypes c.forget.ensures.rows c.self.invariant.0) c.room_for-2.ensures.rows
     (typed_table c.room_for-2.new.self c.in_ok-slot.slot [] (rw c.empty.ensures at c.in_ok-slot.ensures.typed)) free (rw free at c.revive.ensures).1 c.settle.ensures.rows),
-    ready_nothing _ _ c.forget.ensures.nothing)
+    ready_nothing _ _ c.forget.ensures.nothing,
+    tidy_nothing _ _ c.forget.ensures.nothing (c.settle.ensures.rowless [] (c.in_ok-slot.ensures.rowless [] c.forget.ensures.tidy)))
 
 
 pub returns-clause-step : goal.returns-clause-step

@@ -1,9 +1,13 @@
-use Rattle.std.proofs.Common.{sym, ◌∙◌}
+use Rattle.std.proofs.Common.{[], length, unwrap_or, sym, ap, ◌∙◌}
+use Rattle.std.proofs.lemmas.List.{length-set}
+use Rattle.eco_tables.specs.Tables.{no_table}
+use Rattle.eco_store.proofs.ArchetypeLemmas.{there_by_row}
 use Rattle.eco_store.proofs.StoreChanges.{row_within}
 use Rattle.eco_store.proofs.Values.{written_store, written_read}
 use Rattle.eco_store.proofs.Forgetting.{still_seen}
 use Rattle.eco_store.proofs.Readiness.{ready_nothing}
 use Rattle.eco_store.proofs.StoreChanges.{same_store}
+use Rattle.eco_store.proofs.Rowless.{tidy_nothing, rowless_rewritten}
 use Rattle.eco_store.proofs.store.Store.set_value.Goals as goal
 
 pub set_value-requires : goal.set_value-requires
@@ -15,7 +19,13 @@ invariant_of-self c =
     (
     written_store c.self.inside.entities c.forget.new.archetypes c.set_value.new.self c.args.e c.unwrap-place.result c.args.id c.args.value (same_store c.self.inside.entities c.self.inside.archetypes c.forget.new.archetypes c.forget.ensures.rows c.self.invariant.0)
     (sym c.place_of.ensures ∙ c.unwrap-place.ensures) c.set_value.ensures,
-    ready_nothing _ _ c.forget.ensures.nothing)
+    ready_nothing _ _ c.forget.ensures.nothing,
+    tidy_nothing _ _ c.forget.ensures.nothing 
+    (rowless_rewritten c.forget.new.archetypes c.set_value.new.self c.unwrap-place.result.table [] _ c.set_value.ensures
+    (ap (λ o. length (unwrap_or o no_table).rows) c.set_value.ensures.changed ∙ length-set _ _ _)
+    (there_by_row c.forget.new.archetypes c.unwrap-place.result.table c.unwrap-place.result.row
+    (row_within c.self.inside.entities c.forget.new.archetypes c.args.e c.unwrap-place.result (same_store c.self.inside.entities c.self.inside.archetypes c.forget.new.archetypes c.forget.ensures.rows c.self.invariant.0) (sym c.place_of.ensures ∙ c.unwrap-place.ensures)))
+    c.forget.ensures.tidy))
 
 
 pub returns-clause-written : goal.returns-clause-written

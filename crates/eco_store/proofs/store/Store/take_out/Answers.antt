@@ -1,6 +1,7 @@
 use Rattle.std.proofs.Common.{sym, ◌∙◌, refl}
 use Rattle.eco_store.proofs.ArchetypeLemmas.{there_by_row}
 use Rattle.eco_store.proofs.Readiness.{ready_spared, moves_spared, spares_without}
+use Rattle.eco_store.proofs.Rowless.{rowless_emptied}
 use Rattle.eco_store.proofs.Forgetting.{still_seen}
 use Rattle.eco_store.proofs.StoreChanges as changes
 use Rattle.eco_store.proofs.store.Store.take_out.Goals as goal
@@ -27,7 +28,8 @@ invariant_of-self c =
     rw (c.kill.ensures, c.fix_place.ensures)
     (changes.out_store c.self.inside.entities c.forget_awaited.new.archetypes c.swap_out-moved.new.self c.release.new.archetypes c.args.e c.unwrap-place.result c.swap_out-moved.result (changes.same_store c.self.inside.entities c.self.inside.archetypes c.forget_awaited.new.archetypes c.forget_awaited.ensures.rows c.self.invariant.0)
     (sym c.place_of.ensures ∙ c.unwrap-place.ensures) c.swap_out-moved.ensures.rows c.swap_out-moved.ensures.moved c.release.ensures.rows),
-    c.release.ensures.ready)
+    c.release.ensures.ready,
+    c.release.ensures.tidy)
 
 pub returns-clause-kept : goal.returns-clause-kept
 returns-clause-kept c =
@@ -45,6 +47,7 @@ release-requires c =
       ready =
           ready_spared s c.swap_out-moved.new.self c.forget_awaited.new.self
           (spares_without s c.swap_out-moved.new.self c.forget_awaited.new.self place.table place.row there c.swap_out-moved.ensures.rows) c.forget_awaited.ensures.ready;
+      tidy = rowless_emptied s c.swap_out-moved.new.self place.table c.forget_awaited.new.self.targets _ c.swap_out-moved.ensures.rows c.forget_awaited.ensures.tidy;
     }
 
 pub returns-clause-left : goal.returns-clause-left

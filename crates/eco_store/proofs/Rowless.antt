@@ -1,0 +1,140 @@
+-- Which tables are without rows, after rows came and went.
+use Rattle.std.proofs.Common.{◌≡◌, ◌≢◌, ℕ, ◌<◌, Bool, true, false, true≢false, ◌||◌, IsTrue, if◌then◌else◌, List, [], ◌∷◌, ◌++◌, length, slice_set, Option, Some, None, option_map, unwrap_or, IsSome, is_some, nat_eq, refl, sym, ap, subst, ◌∙◌, arith, inl, inr}
+use Rattle.std.specs.List.{list_any}
+use Rattle.std.proofs.lemmas.Bool.{cases_eq}
+use Rattle.std.proofs.lemmas.Bool.Decides.{Decides-eqb}
+use Rattle.std.proofs.lemmas.List.{length-append, length-set}
+use Rattle.eco_ids.specs.declared.id.Id.{Id}
+use Rattle.eco_tables.specs.Table.{TableState, Row}
+use Rattle.eco_tables.specs.Tables.{slot_of, table_in, no_table, rowless, rowless_type, Sets, Moves, with_row, without_row}
+use Rattle.eco_tables.proofs.Lists.{not_equal}
+use Rattle.eco_store.specs.Archetypes.{type_at, is_rowless, RowlessIn}
+use Rattle.eco_store.specs.Seats.{SameRows}
+use Rattle.eco_store.specs.Transfers.{SameTypes}
+use Rattle.eco_store.specs.Preparing.{PreparedState, nothing_prepared, with_target}
+use Rattle.eco_store.proofs.Readiness.{is_targeted}
+use Rattle.std.proofs.lemmas.List.Folds.{list_any-append}
+use Rattle.eco_store.proofs.Pouring.{rows_same, type_of_there, there_as_typed}
+
+-- a table without rows is there, and has none
+pub rowless_there : (s : List (Option TableState)) (n : ℕ) → IsTrue (is_rowless s n) → IsSome (slot_of s n) × ((table_in s n).rows ≡ [])
+rowless_there s n = by (slot_of s n)
+  where
+    of_rows : (t : TableState) (rows : List Row) → IsTrue (is_some (rowless t rows)) → rows ≡ []
+    of_rows t [] h = refl
+    of_rows t (r ∷ rest) h = absurd (cc)
+
+    by : (o : Option TableState) → IsTrue (is_some (rowless_type o)) → IsSome o × ((unwrap_or o no_table).rows ≡ [])
+    by None h = absurd (cc)
+    by (Some t) h = (refl, of_rows t t.rows h)
+
+pub rowless_from : (s : List (Option TableState)) (n : ℕ) → IsSome (slot_of s n) → (table_in s n).rows ≡ [] → IsTrue (is_rowless s n)
+rowless_from s n = by (slot_of s n)
+  where
+    by : (o : Option TableState) → IsSome o → (unwrap_or o no_table).rows ≡ [] → IsTrue (is_some (rowless_type o))
+    by None h none = absurd (cc)
+    by (Some t) h none = ap (λ rows. is_some (rowless t rows)) none
+
+-- more slots may be without rows
+pub rowless_more : (s : List (Option TableState)) (few many : List ℕ) → ((n : ℕ) → IsTrue (list_any (nat_eq n) few) → IsTrue (list_any (nat_eq n) many)) → RowlessIn s few → RowlessIn s many
+rowless_more s few many more was n empty = more n (was n empty)
+
+-- one of the slots is among the others
+pub rowless_twice : (s : List (Option TableState)) (n : ℕ) (slots : List ℕ) → IsTrue (list_any (nat_eq n) slots) → RowlessIn s (n ∷ slots) → RowlessIn s slots
+rowless_twice s n slots among =
+    rowless_more s (n ∷ slots) slots (λ m there.
+    elim (cases_eq m n) [
+      | inl here ↦ subst (λ k. IsTrue (list_any (nat_eq k) slots)) (sym here) among
+      | inr other ↦ sym (ap (λ b. b || list_any (nat_eq m) slots) (not_equal m n other)) ∙ there
+    ])
+
+-- tables keep their types and their rows
+pub rowless_same : (s s' : List (Option TableState)) (slots : List ℕ) → SameRows s s' → SameTypes s s' → RowlessIn s slots → RowlessIn s' slots
+rowless_same s s' slots rows types was n empty =
+    let now = rowless_there s' n empty in
+    let there : IsSome (slot_of s n) = there_as_typed s n (table_in s' n).ids (sym (types n) ∙ type_of_there s' n now.0) in
+    was n (rowless_from s n there (sym (rows_same s s' rows n) ∙ now.1))
+
+module _ (s s' : List (Option TableState)) (n : ℕ) (slots : List ℕ) where
+  others_rowless : (slot : Option TableState) → Sets s s' n slot → (m : ℕ) → m ≢ n → IsTrue (is_rowless s' m) → IsTrue (is_rowless s m)
+  others_rowless slot sets m other empty = sym (ap (λ o. is_some (rowless_type o)) (sets.others m other)) ∙ empty
+
+  -- a table got a row
+  pub rowless_filled : (t : TableState) (r : Row) → Sets s s' n (Some (with_row t r)) → RowlessIn s (n ∷ slots) → RowlessIn s' slots
+  rowless_filled t r sets was m empty =
+      elim (cases_eq m n) [
+        | inl here ↦
+            let none : length (table_in s' n).rows ≡ 0 = ap length (ap (λ k. (table_in s' k).rows) (sym here) ∙ (rowless_there s' m empty).1) in
+            let some : length (table_in s' n).rows ≡ length (with_row t r).rows = ap (λ o. length (unwrap_or o no_table).rows) sets.changed in
+            let len = length-append t.rows in
+            absurd (omega (arith, none, some, len))
+        | inr other ↦
+            sym (ap (λ b. b || list_any (nat_eq m) slots) (not_equal m n other)) ∙ was m (others_rowless (Some (with_row t r)) sets m other empty)
+      ]
+
+  -- a table may have lost its last row
+  pub rowless_emptied : (slot : Option TableState) → Sets s s' n slot → RowlessIn s slots → RowlessIn s' (n ∷ slots)
+  rowless_emptied slot sets was m empty =
+      elim (cases_eq m n) [
+        | inl here ↦ ap (λ b. b || list_any (nat_eq m) slots) ((Decides-eqb m n).1 here)
+        | inr other ↦
+            ap (λ b. b || list_any (nat_eq m) slots) (not_equal m n other) ∙ was m (others_rowless slot sets m other empty)
+      ]
+
+  -- a table has as many rows as before
+  pub rowless_rewritten : (slot : Option TableState) → Sets s s' n slot → length (table_in s' n).rows ≡ length (table_in s n).rows → IsSome (slot_of s n) → RowlessIn s slots → RowlessIn s' slots
+  rowless_rewritten slot sets as_many there was m empty =
+      elim (cases_eq m n) [
+        | inl here ↦
+            let none : length (table_in s' n).rows ≡ 0 = ap length (ap (λ k. (table_in s' k).rows) (sym here) ∙ (rowless_there s' m empty).1) in
+            subst (λ k. IsTrue (list_any (nat_eq k) slots)) (sym here) (was n (rowless_from s n there (no_rows (table_in s n).rows (omega (arith, none, as_many)))))
+        | inr other ↦ was m (others_rowless slot sets m other empty)
+      ]
+    where
+      no_rows : (rows : List Row) → length rows ≡ 0 → rows ≡ []
+      no_rows [] h = refl
+      no_rows (r ∷ rest) h = absurd (omega (arith, h))
+
+-- a row went from one table to another
+pub rowless_moved : (s s' : List (Option TableState)) (from row to : ℕ) (slots : List ℕ) → Moves s s' from row to → RowlessIn s (to ∷ slots) → RowlessIn s' (from ∷ slots)
+rowless_moved s s' from row to slots moves was m empty =
+    elim (cases_eq m from) [
+      | inl here ↦ ap (λ b. b || list_any (nat_eq m) slots) ((Decides-eqb m from).1 here)
+      | inr not_from ↦ elim (cases_eq m to) [
+        | inl here ↦
+            let none : length (table_in s' to).rows ≡ 0 = ap length (ap (λ k. (table_in s' k).rows) (sym here) ∙ (rowless_there s' m empty).1) in
+            let some = ap (λ o. length (unwrap_or o no_table).rows) moves.target in
+            let len = length-append (table_in s to).rows in
+            absurd (omega (arith, none, some, len))
+        | inr not_to ↦
+            let before = sym (ap (λ o. is_some (rowless_type o)) (moves.others m not_from not_to)) ∙ empty in
+            ap (λ b. b || list_any (nat_eq m) slots) (not_equal m from not_from)
+            ∙ (sym (ap (λ b. b || list_any (nat_eq m) slots) (not_equal m to not_to)) ∙ was m before)
+      ]
+    ]
+
+-- a slot becomes one of the targets
+pub rowless_targeted : (s : List (Option TableState)) (p : PreparedState) (n : ℕ) → RowlessIn s (n ∷ p.targets) → RowlessIn s (with_target p n).targets
+rowless_targeted s p n =
+    rowless_more s (n ∷ p.targets) (with_target p n).targets (λ m there.
+    elim (cases_eq m n) [
+      | inl here ↦ subst (λ k. IsTrue (list_any (nat_eq k) (with_target p n).targets)) (sym here) (is_targeted p n)
+      | inr other ↦
+          stays m (list_any (nat_eq n) p.targets) (sym (ap (λ b. b || list_any (nat_eq m) p.targets) (not_equal m n other)) ∙ there)
+    ])
+  where
+    stays : (m : ℕ) (b : Bool) → IsTrue (list_any (nat_eq m) p.targets) → IsTrue (list_any (nat_eq m) (if b then p.targets else p.targets ++ n ∷ []))
+    stays m true h = h
+    stays m false h = list_any-append (nat_eq m) p.targets (n ∷ []) ∙ ap (λ b. b || list_any (nat_eq m) (n ∷ [])) h
+
+-- where nothing is prepared, no table is without rows
+pub tidy_nothing : (s : List (Option TableState)) (p : PreparedState) → p ≡ nothing_prepared → RowlessIn s [] → RowlessIn s p.targets
+tidy_nothing s p nothing none = subst (λ (q : PreparedState). RowlessIn s q.targets) (sym nothing) none
+
+-- one more slot may be without rows
+pub rowless_beside : (s : List (Option TableState)) (n : ℕ) (slots : List ℕ) → RowlessIn s slots → RowlessIn s (n ∷ slots)
+rowless_beside s n slots = rowless_more s slots (n ∷ slots) (λ m there. either (nat_eq m n) (list_any (nat_eq m) slots) there)
+  where
+    either : (a b : Bool) → IsTrue b → IsTrue (a || b)
+    either true b h = refl
+    either false b h = h

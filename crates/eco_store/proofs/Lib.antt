@@ -17,6 +17,7 @@ pub mod Sorting
 pub mod Retyping
 pub mod LastMoves
 pub mod Pouring
+pub mod Ends
 pub mod Arrivals
 pub mod Readiness
 pub mod Forgetting

@@ -1,12 +1,12 @@
 -- Tables, their types and their room while all rows of some go to others.
-use Rattle.std.proofs.Common.{◌≡◌, ◌≢◌, ℕ, suc, ◌+◌, ◌≤◌, ◌<◌, ◌==◌, Bool, true, false, if◌then◌else◌, List, [], ◌∷◌, ◌++◌, map, fold, take, drop, length, get_or, Option, Some, None, option_map, unwrap_or, is_some, IsSome, refl, sym, ap, subst, ◌∙◌, arith, inl, inr}
+use Rattle.std.proofs.Common.{◌≡◌, ◌≢◌, ℕ, ◌+◌, ◌≤◌, ◌<◌, ◌==◌, Bool, true, false, if◌then◌else◌, List, [], ◌∷◌, ◌++◌, map, length, get_or, Option, Some, None, option_map, unwrap_or, is_some, IsSome, refl, sym, ap, subst, ◌∙◌, arith, inl, inr}
 use Rattle.std.specs.List.{All}
 use Rattle.std.proofs.Math.ListN.{get_or-map}
 use Rattle.std.proofs.lemmas.Bool.{cases_eq}
 use Rattle.std.proofs.lemmas.List.{length-map, map-append}
 use Rattle.std.proofs.lemmas.List.Elements.{All-head, All-tail, All-push}
 use Rattle.eco_ids.specs.declared.id.Id.{Id}
-use Rattle.eco_tables.specs.Table.{TableState, Row}
+use Rattle.eco_tables.specs.Table.{TableState}
 use Rattle.eco_tables.specs.Tables.{slot_of, table_in, no_table, Sets}
 use Rattle.eco_tables.proofs.Lists.{not_equal}
 use Rattle.eco_store.specs.declared.transfer.Transfer.{Transfer}
@@ -14,7 +14,7 @@ use Rattle.eco_store.specs.declared.type_change.TypeChange.{TypeChange}
 use Rattle.eco_store.specs.Archetypes.{type_at, KeepsTypes}
 use Rattle.eco_store.specs.Retyping.{IsOneWay}
 use Rattle.eco_store.specs.Seats.{SameRows}
-use Rattle.eco_store.specs.Transfers.{change_of, IsPlan, due, HasRoom, SameTypes, Pours}
+use Rattle.eco_store.specs.Transfers.{change_of, IsPlan, due, HasRoom, Pours}
 use Rattle.eco_store.proofs.RowChanges.{is_equal}
 use Rattle.eco_store.proofs.Views.{ext_slice_get}
 
@@ -173,6 +173,7 @@ room_rest s s' t ts room pours apart none n =
 
 -- ---- taking room
 
+-- tables with the same rows have the same list of them
 pub rows_same : (s s' : List (Option TableState)) → SameRows s s' → (n : ℕ) → (table_in s' n).rows ≡ (table_in s n).rows
 rows_same s s' same n = ext_slice_get (table_in s' n).rows (table_in s n).rows (same n)
 

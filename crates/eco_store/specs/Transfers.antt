@@ -11,6 +11,11 @@ use Rattle.eco_store.specs.Archetypes.{type_at}
 abbrev pub change_of : List (Option TableState) → Transfer → TypeChange
 change_of slots t = record { from = (table_in slots t.from).ids; to = (table_in slots t.to).ids }
 
+-- the slots that the transfers name, both of each
+abbrev pub ends : List Transfer → List ℕ
+ends [] = []
+ends (t ∷ ts) = t.from ∷ t.to ∷ ends ts
+
 -- the tables of each transfer are there, and the changes of type are these
 pub record IsPlan (slots : List (Option TableState)) (transfers : List Transfer) (changes : List TypeChange) : Type 0 where
   pub sources : All (λ t. IsSome (slot_of slots t.from)) transfers

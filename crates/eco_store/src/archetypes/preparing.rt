@@ -1,10 +1,10 @@
 //! The room that changes of many entities take, all of it before the first row moves.
-ghost use Rattle.std.specs.Prelude.{◌≡◌, ◌≤◌, ◌+◌, [], Some, IsSome, IfOk, OnOk};
+ghost use Rattle.std.specs.Prelude.{◌≡◌, ◌≤◌, ◌+◌, ◌++◌, ◌∷◌, List, ℕ, [], Some, IsSome, IfOk, OnOk, MatchResult};
 ghost use Rattle.std.specs.List.{All};
 ghost use Rattle.eco_tables.specs.Tables.{slot_of, table_in, Sets};
-ghost use Rattle.eco_store.specs.Archetypes.{type_at, KeepsTypes};
+ghost use Rattle.eco_store.specs.Archetypes.{type_at, KeepsTypes, RowlessIn};
 ghost use Rattle.eco_store.specs.Seats.{SameRows};
-ghost use Rattle.eco_store.specs.Transfers.{IsPlan, HasRoom, SameTypes};
+ghost use Rattle.eco_store.specs.Transfers.{IsPlan, HasRoom, SameTypes, ends};
 
 use crate::archetypes::Archetypes;
 use crate::transfer::Transfer;
@@ -18,6 +18,7 @@ impl Archetypes {
     pub fn prepare(&mut self, changes: &[TypeChange]) -> Result<Vec<Transfer>, AllocError>
         ensures plan { IfOk result (λ transfers. IsPlan self.new transfers.items changes.now) }
         ensures room { IfOk result (λ transfers. HasRoom self.new transfers.items) }
+        ensures rowless { (slots : List ℕ) → RowlessIn self.old slots → MatchResult result (λ transfers. RowlessIn self.new (ends transfers.items ++ slots)) (λ e. RowlessIn self.new slots) }
         ensures rows { SameRows self.old self.new }
     {
         let mut transfers = Vec::new(self.alloc);
@@ -32,7 +33,8 @@ impl Archetypes {
 
     /// Drops those tables of the transfers that have no rows. No row changes. It takes no memory.
     pub fn drop_emptied(&mut self, transfers: &[Transfer])
-        ensures { SameRows self.old self.new }
+        ensures rowless { (slots : List ℕ) → RowlessIn self.old (ends transfers.now ++ slots) → RowlessIn self.new slots }
+        ensures rows { SameRows self.old self.new }
     {
         for transfer in transfers {
             self.drop_empty(transfer.from);
@@ -49,6 +51,7 @@ impl Archetypes {
         requires { transfers.old.items ≡ [] }
         ensures plan { OnOk result (IsPlan self.new transfers.new.items changes.now) }
         ensures room { OnOk result (HasRoom self.new transfers.new.items) }
+        ensures rowless { (slots : List ℕ) → RowlessIn self.old slots → RowlessIn self.new (ends transfers.new.items ++ slots) }
         ensures rows { SameRows self.old self.new }
     {
         self.find_tables(changes, transfers)?;
@@ -63,6 +66,7 @@ impl Archetypes {
     ) -> Result<(), AllocError>
         requires { transfers.old.items ≡ [] }
         ensures plan { OnOk result (IsPlan self.new transfers.new.items changes.now) }
+        ensures rowless { (slots : List ℕ) → RowlessIn self.old slots → RowlessIn self.new (ends transfers.new.items ++ slots) }
         ensures rows { SameRows self.old self.new }
     {
         for change in changes {
@@ -79,6 +83,7 @@ impl Archetypes {
         ensures from { IfOk result (λ transfer. type_at self.new transfer.from ≡ Some change.now.from) }
         ensures to { IfOk result (λ transfer. type_at self.new transfer.to ≡ Some change.now.to) }
         ensures types { OnOk result (KeepsTypes self.old self.new) }
+        ensures rowless { (slots : List ℕ) → RowlessIn self.old slots → MatchResult result (λ transfer. RowlessIn self.new (transfer.from ∷ transfer.to ∷ slots)) (λ e. RowlessIn self.new slots) }
         ensures rows { SameRows self.old self.new }
     {
         let from = self.room_for(&change.from, 0)?;
@@ -99,6 +104,7 @@ impl Archetypes {
         requires { All (λ transfer. IsSome (slot_of self.old transfer.to)) transfers.now }
         ensures room { OnOk result (HasRoom self.new transfers.now) }
         ensures types { SameTypes self.old self.new }
+        ensures rowless { (slots : List ℕ) → RowlessIn self.old slots → RowlessIn self.new slots }
         ensures rows { SameRows self.old self.new }
     {
         for transfer in transfers {
@@ -116,6 +122,7 @@ impl Archetypes {
         ensures kept { (table_in self.old slot).room ≤ (table_in self.new slot).room }
         ensures room { OnOk result ((table_in self.old slot).room + more ≤ (table_in self.new slot).room) }
         ensures types { SameTypes self.old self.new }
+        ensures rowless { (slots : List ℕ) → RowlessIn self.old slots → RowlessIn self.new slots }
         ensures rows { SameRows self.old self.new }
     {
         self.tables.reserve_more(slot, more)
@@ -126,6 +133,7 @@ impl Archetypes {
         requires { IsSome (slot_of self.old slot) }
         ensures sets { Sets self.old self.new slot (Some (record (table_in self.old slot) { room = 0 })) }
         ensures types { SameTypes self.old self.new }
+        ensures rowless { (slots : List ℕ) → RowlessIn self.old slots → RowlessIn self.new slots }
         ensures rows { SameRows self.old self.new }
     {
         self.tables.waive(slot);

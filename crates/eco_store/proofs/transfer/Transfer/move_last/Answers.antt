@@ -3,9 +3,6 @@ use Rattle.std.specs.Option.{option_copied}
 use Rattle.eco_ids.specs.declared.entity.Entity.{Entity}
 use Rattle.eco_tables.specs.Table.{TableState, entities_of}
 use Rattle.eco_tables.specs.Tables.{slot_of, table_in, no_table}
-use Rattle.eco_store.specs.Retyping.{after_change}
-use Rattle.eco_store.specs.Store.{read}
-use Rattle.eco_store.specs.Transfers.{change_of}
 use Rattle.eco_store.proofs.LastMoves.{last_alive, last_store, last_ends}
 use Rattle.eco_store.proofs.transfer.Transfer.move_last.Goals as goal
 

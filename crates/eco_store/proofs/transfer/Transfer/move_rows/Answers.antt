@@ -1,4 +1,4 @@
-use Rattle.std.proofs.Common.{◌≡◌, ◌+◌, ◌-◌, ◌≤◌, sym, ap, ◌∙◌, arith, unwrap_or, length, subst, ◌<◌}
+use Rattle.std.proofs.Common.{◌≡◌, ◌-◌, sym, ap, ◌∙◌, arith, unwrap_or, length, subst, ◌<◌}
 use Rattle.eco_tables.specs.Tables.{table_in, no_table, no_row, AllHaveIds}
 use Rattle.eco_tables.proofs.Lists.{length-swap_remove}
 use Rattle.eco_store.specs.Retyping.{after_change}

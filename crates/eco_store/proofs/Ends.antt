@@ -54,22 +54,6 @@ rowless_swapped s xs ys slots was n without = swapped (nat_eq n) ∙ was n witho
     swapped test = parts test ys xs ∙ either (list_any test xs) (list_any test ys) (list_any test slots) ∙ sym (parts test xs ys)
 
 module _ (s s' : List (Option TableState)) where
-  -- where each slot keeps its type and its rows, no other table is without rows
-  pub rowless_kept : SameTypes s s' → SameRows s s' → (slots : List ℕ) → RowlessIn s slots → RowlessIn s' slots
-  rowless_kept types rows slots was n without =
-      was n (sym (same (slot_of s n) (slot_of s' n) (types n) (rows_same s s' rows n)) ∙ without)
-    where
-      any_type : (t t' : TableState) (rs : List Row) → is_some (rowless t' rs) ≡ is_some (rowless t rs)
-      any_type t t' [] = refl
-      any_type t t' (r ∷ rest) = refl
-
-      same : (o o' : Option TableState) → option_map (λ (t : TableState). t.ids) o' ≡ option_map (λ (t : TableState). t.ids) o
-          → (unwrap_or o' no_table).rows ≡ (unwrap_or o no_table).rows → is_some (rowless_type o') ≡ is_some (rowless_type o)
-      same None None types rows = refl
-      same None (Some t') types rows = absurd (cc)
-      same (Some t) None types rows = absurd (cc)
-      same (Some t) (Some t') types rows = ap (λ rs. is_some (rowless t' rs)) rows ∙ any_type t t' t.rows
-
   -- where all rows of a slot went to another, no table but those two is newly without rows
   pub rowless_poured : (from to : ℕ) → Pours s s' from to → (slots : List ℕ) → IsTrue (list_any (nat_eq from) slots) → IsTrue (list_any (nat_eq to) slots)
       → RowlessIn s slots → RowlessIn s' slots

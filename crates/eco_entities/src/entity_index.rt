@@ -143,7 +143,9 @@ impl EntityIndex {
     pub fn create(&mut self, name: Option<&str>) -> Result<Entity, Refusal>
         ensures { Meets (Makes name_of self.old (newcomer (option_copied name.entry))) (may_make name_of self.old (option_copied name.entry)) self.old result self.new }
     {
-        self.check_name(name)?;
+        if name.is_some() {
+            self.check_name(name)?;
+        }
         let Some(entity) = self.slots.next() else {
             return Err(Refusal::NoMoreIds);
         };

@@ -1,7 +1,6 @@
 -- What a store answers of one entity, and the store after a value or a name was written.
-use Rattle.std.proofs.Common.{◌≡◌, ◌≢◌, ℕ, zero, suc, ◌<◌, Bool, true, false, cond, not, ◌&&◌, ◌||◌, Ordering, Less, Equal, Greater, is_eq, List, [], ◌∷◌, map, length, slice_get, set, get_or, Option, Some, None, option_map, option_and_then, unwrap_or, is_some, IsSome, IsTrue, if◌then◌else◌, ◌==◌, Result, MatchBool, MatchOption, refl, sym, ap, subst, ◌∙◌, inl, inr}
+use Rattle.std.proofs.Common.{◌≡◌, ◌≢◌, ℕ, zero, suc, ◌<◌, Bool, true, false, not, ◌&&◌, List, [], ◌∷◌, map, length, slice_get, set, get_or, Option, Some, None, option_map, option_and_then, unwrap_or, is_some, IsSome, IsTrue, if◌then◌else◌, ◌==◌, Result, MatchBool, MatchOption, refl, sym, ap, subst, ◌∙◌, inl, inr}
 use Rattle.std.specs.List.{All}
-use Rattle.std.specs.Ordering.{ordering_reverse}
 use Rattle.std.specs.FinMap.Entries.{find}
 use Rattle.std.proofs.lemmas.Bool.{cases_eq}
 use Rattle.std.proofs.lemmas.Option.{slice_get_within, slice_get-get_or}
@@ -12,11 +11,9 @@ use Rattle.eco_ids.specs.declared.refusal.Refusal.TheVariants.{NotAlive, BadName
 use Rattle.eco_ids.specs.declared.value.Value.{Value}
 use Rattle.eco_ids.specs.Indices.{Indexed, IndexState, Retired, Free, Living, record_in, record_of, with_record, is_alive, map_state}
 use Rattle.eco_ids.specs.Names.{is_proper, is_same_name}
-use Rattle.eco_ids.specs.Order.{id_cmp, id_eq, has_item}
+use Rattle.eco_ids.specs.Order.{id_cmp}
 use Rattle.eco_ids.specs.Outcome.{Meets, is_out_of_memory, first_refusal, Answers, Refuses}
-use Rattle.eco_ids.specs.World.{zeros}
-use Rattle.eco_ids.proofs.IdOrder.{id_cmp_total}
-use Rattle.eco_tables.specs.Column.{value_in, with_held}
+use Rattle.eco_tables.specs.Column.{with_held}
 use Rattle.eco_tables.specs.Table.{TableState, Row, HasIds}
 use Rattle.eco_tables.specs.Tables.{AllHaveIds, slot_of, table_in, row_in, no_row, no_table, Sets}
 use Rattle.eco_entities.specs.declared.place.Place.{Place}
@@ -53,48 +50,12 @@ stands_type None t row h typed = absurd h
 stands_type (Some k) t row h typed =
     sym (ap Some (ap (λ xs. map (λ p. p.0) xs) (h.held no_row) ∙ typed row no_row h.within))
 
-eq_either_way : (a b : Id) → id_eq a b ≡ id_eq b a
-eq_either_way a b = ap is_eq (id_cmp_total.antisymm a b) ∙ by (id_cmp b a)
-  where
-    by : (r : Ordering) → is_eq (ordering_reverse r) ≡ is_eq r
-    by Less = refl
-    by Equal = refl
-    by Greater = refl
-
-pub found_where_there : (held : List (Id × Value)) (i : Id) → has_item id_cmp (map (λ p. p.0) held) i ≡ true → find id_cmp i held ≡ Some (value_in held i)
-found_where_there [] i h = absurd (cc)
-found_where_there (p ∷ rest) i h = by (id_eq i p.0) (found_where_there rest i) (sym (ap (λ b. b || has_item id_cmp (map (λ q. q.0) rest) i) (eq_either_way p.0 i)) ∙ h)
-  where
-    by : (b : Bool) → (has_item id_cmp (map (λ q. q.0) rest) i ≡ true → find id_cmp i rest ≡ Some (value_in rest i))
-        → (b || has_item id_cmp (map (λ q. q.0) rest) i) ≡ true
-        → cond b (Some p.1) (find id_cmp i rest) ≡ Some (unwrap_or (cond b (Some p.1) (find id_cmp i rest)) zeros)
-    by true later q = refl
-    by false later q = later q
-
-pub none_where_absent : (held : List (Id × Value)) (i : Id) → has_item id_cmp (map (λ p. p.0) held) i ≡ false → find id_cmp i held ≡ None
-none_where_absent [] i h = refl
-none_where_absent (p ∷ rest) i h = by (id_eq i p.0) (none_where_absent rest i) (sym (ap (λ b. b || has_item id_cmp (map (λ q. q.0) rest) i) (eq_either_way p.0 i)) ∙ h)
-  where
-    by : (b : Bool) → (has_item id_cmp (map (λ q. q.0) rest) i ≡ false → find id_cmp i rest ≡ None)
-        → (b || has_item id_cmp (map (λ q. q.0) rest) i) ≡ false → cond b (Some p.1) (find id_cmp i rest) ≡ None
-    by true later q = absurd (cc)
-    by false later q = later q
-
--- the value of an id that the row's type has
-pub value_there : (o : Option Kept) (t : TableState) (row : ℕ) (i : Id) (v : Value) → Stands o t row → All (HasIds t.ids) t.rows
-    → has_item id_cmp t.ids i ≡ true → ((r : Row) → v ≡ value_in (get_or t.rows row r).held i)
-    → Some v ≡ find id_cmp i (unwrap_or (option_map (λ (k : Kept). k.held) o) [])
-value_there None t row i v h typed has is = absurd h
-value_there (Some k) t row i v h typed has is =
-    let ids : map (λ p. p.0) k.held ≡ t.ids = ap (λ xs. map (λ p. p.0) xs) (h.held no_row) ∙ typed row no_row h.within in
-    ap Some (is no_row ∙ ap (λ xs. value_in xs i) (sym (h.held no_row))) ∙ sym (found_where_there k.held i (ap (λ xs. has_item id_cmp xs i) ids ∙ has))
-
-pub value_absent : (o : Option Kept) (t : TableState) (row : ℕ) (i : Id) → Stands o t row → All (HasIds t.ids) t.rows
-    → has_item id_cmp t.ids i ≡ false → None ≡ find id_cmp i (unwrap_or (option_map (λ (k : Kept). k.held) o) [])
-value_absent None t row i h typed has = absurd h
-value_absent (Some k) t row i h typed has =
-    let ids : map (λ p. p.0) k.held ≡ t.ids = ap (λ xs. map (λ p. p.0) xs) (h.held no_row) ∙ typed row no_row h.within in
-    sym (none_where_absent k.held i (ap (λ xs. has_item id_cmp xs i) ids ∙ has))
+-- what a search of an entity's row finds, the entity has
+pub value_found : (o : Option Kept) (t : TableState) (row : ℕ) (i : Id) (v : Option Value) → Stands o t row
+    → ((r : Row) → v ≡ find id_cmp i (get_or t.rows row r).held)
+    → v ≡ find id_cmp i (unwrap_or (option_map (λ (k : Kept). k.held) o) [])
+value_found None t row i v h is = absurd h
+value_found (Some k) t row i v h is = is no_row ∙ ap (find id_cmp i) (sym (h.held no_row))
 
 -- ---- a value written
 module _ (w : Indexed Registration) (s s1 : List (Option TableState)) (e : Entity) (p : Place) (i : Id) (v : Value)

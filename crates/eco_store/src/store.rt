@@ -157,11 +157,7 @@ impl Store {
         ensures { result ≡ find id_cmp id (held_by self.now.kept e) }
     {
         let (table, row) = self.stand(e)?;
-        if table.type_list().has(id) {
-            Some(table.value(row, id))
-        } else {
-            None
-        }
+        table.find_value(row, id)
     }
 
     /// The tables, to read. Each living entity stands in one row, in the table of its own ids, and no two tables have the

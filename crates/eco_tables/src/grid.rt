@@ -1,6 +1,8 @@
 //! The parts of a table: the entities of one type, and a column of values for each id.
 ghost use Rattle.std.specs.Prelude.{◌≡◌, ◌<◌, ◌≤◌, ◌+◌, ◌-◌, ◌++◌, [], ◌∷◌, length, slice_index_or, slice_set, OnOk, OnErr, IfOk, slice_get};
 ghost use Rattle.std.specs.List.{swap_remove, All};
+ghost use Rattle.std.specs.FinMap.Entries.{find};
+ghost use Rattle.eco_ids.specs.Order.{id_cmp};
 ghost use Rattle.eco_ids.specs.World.{zeros};
 ghost use Rattle.eco_tables.specs.Column.{value_in, with_held, retyped};
 ghost use Rattle.eco_tables.specs.Table.{TableState, Row, entities_of, retyped_row, HasIds};
@@ -78,6 +80,17 @@ impl Grid {
         ensures { (r : Row) → result ≡ value_in (slice_index_or self.now.rows row r).held id }
     {
         value_at(self.columns.as_slice(), row, id)
+    }
+
+    /// The value of an id in a row, if the type has the id.
+    pub(crate) fn find_value(&self, row: usize, id: Id) -> Option<Value>
+        requires { row < length self.now.rows }
+        ensures { (r : Row) → result ≡ find id_cmp id (slice_index_or self.now.rows row r).held }
+    {
+        // Its ids ascend, and so do the ids of its columns.
+        let _ids = self.type_list.as_slice();
+        let place = self.type_list.find(id)?;
+        Some(self.columns[place].value(row))
     }
 
     /// Writes that one value and takes no memory. Where the type lacks the id nothing is written.

@@ -1,6 +1,8 @@
 //! A table: the entities of one type, and a column of values for each id.
 ghost use Rattle.std.specs.Prelude.{◌≡◌, ◌<◌, ◌≤◌, ◌+◌, ◌-◌, ◌++◌, [], ◌∷◌, length, slice_index_or, slice_set, OnOk, IfOk, slice_get};
 ghost use Rattle.std.specs.List.{swap_remove, All};
+ghost use Rattle.std.specs.FinMap.Entries.{find};
+ghost use Rattle.eco_ids.specs.Order.{id_cmp};
 ghost use Rattle.eco_tables.specs.Column.{value_in, with_held, retyped};
 ghost use Rattle.eco_tables.specs.Table.{TableState, Row, entities_of, retyped_row, HasIds};
 
@@ -67,6 +69,14 @@ impl Table {
         ensures { (r : Row) → result ≡ value_in (slice_index_or self.now.rows row r).held id }
     {
         self.grid.value(row, id)
+    }
+
+    /// The value of an id in a row, if the type has the id.
+    pub fn find_value(&self, row: usize, id: Id) -> Option<Value>
+        requires { row < length self.now.rows }
+        ensures { (r : Row) → result ≡ find id_cmp id (slice_index_or self.now.rows row r).held }
+    {
+        self.grid.find_value(row, id)
     }
 
     /// Writes that one value and takes no memory. Where the type lacks the id nothing is written.

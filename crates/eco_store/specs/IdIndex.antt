@@ -1,5 +1,5 @@
 -- For each entity, the slots of the tables whose types name it.
-use Rattle.std.specs.Prelude.{◌≡◌, ℕ, Bool, true, false, cond, ◌&&◌, ◌||◌, List, Option, None, Some, nat_eq}
+use Rattle.std.specs.Prelude.{◌≡◌, ℕ, Bool, true, false, cond, ◌&&◌, ◌||◌, List, Option, None, Some, nat_eq, nat_lt}
 use Rattle.std.specs.List.{list_any}
 use Rattle.std.specs.HashMap.{HashMap, get}
 use Rattle.std.specs.HashSet.{HashSet, contains, hash_set_len}
@@ -21,6 +21,11 @@ has_slot (Some s) n = contains nat_eq s n
 abbrev pub is_empty_set : {T : Type 0} → Option (HashSet ℕ T) → Bool
 is_empty_set None = false
 is_empty_set (Some s) = nat_eq (hash_set_len s) 0
+
+-- the set is there and has a slot
+abbrev pub has_slots : {T : Type 0} → Option (HashSet ℕ T) → Bool
+has_slots None = false
+has_slots (Some s) = nat_lt 0 (hash_set_len s)
 
 module _ {S T : Type 0} where
   -- each set that is kept has a slot

@@ -1,9 +1,9 @@
 //! For each entity, the slots of the tables whose types name it.
-ghost use Rattle.std.specs.Prelude.{◌≡◌, ℕ, OnOk, OnErr, IfOk, Some, nat_eq, cond, true, false};
+ghost use Rattle.std.specs.Prelude.{◌≡◌, [], ℕ, OnOk, OnErr, IfOk, Some, nat_eq, cond, true, false};
 ghost use Rattle.std.specs.List.{list_any, IsDistinct};
 ghost use Rattle.std.specs.HashMap.{IsEmpty};
 ghost use Rattle.std.specs.HashSet.{contains};
-ghost use Rattle.eco_store.specs.IdIndex.{is_listed, Lists, Unlists, ListsSame, Turns, KeepsRest, HasNoEmptySet, is_empty_set, names, names_any};
+ghost use Rattle.eco_store.specs.IdIndex.{is_listed, Lists, Unlists, ListsSame, Turns, KeepsRest, HasNoEmptySet, has_slots, is_empty_set, names, names_any};
 ghost use Rattle.eco_ids.specs.declared.entity.Entity.{Entity as Ids};
 
 use eco_ids::{Entity, Id};
@@ -15,7 +15,10 @@ use std::alloc::{AllocError, Global};
 #[derive(Drop)]
 pub struct IdIndex {
     slots: IndexMap<Entity, IndexSet<usize>>,
+    // The set that was emptied last, for the next entity, so that a table which comes and goes makes none.
+    spare: Option<IndexSet<usize>>,
     ghost full: { HasNoEmptySet slots },
+    ghost unused: { has_slots spare ≡ false },
 }
 
 impl IdIndex {
@@ -24,6 +27,7 @@ impl IdIndex {
     {
         IdIndex {
             slots: IndexMap::new(alloc),
+            spare: None,
         }
     }
 
@@ -46,7 +50,7 @@ impl IdIndex {
         if let Some(slots) = self.slots.get_mut(&entity) {
             return add_slot(slots, slot);
         }
-        let mut slots = IndexSet::new(alloc);
+        let mut slots = empty_set(alloc, &mut self.spare);
         add_slot(&mut slots, slot)?;
         self.slots.insert(entity, slots)?;
         Ok(())
@@ -60,7 +64,7 @@ impl IdIndex {
             return;
         };
         if take_slot(slots, slot) {
-            self.slots.swap_remove(&entity);
+            self.spare = self.slots.swap_remove(&entity);
         }
     }
 
@@ -119,6 +123,18 @@ impl IdIndex {
         for id in ids {
             self.take_id(*id, slot);
         }
+    }
+}
+
+// The spare set, where there is one.
+fn empty_set(alloc: Global, spare: &mut Option<IndexSet<usize>>) -> IndexSet<usize>
+    requires { has_slots spare.old ≡ false }
+    ensures empty { result.keys ≡ [] }
+    ensures unused { has_slots spare.new ≡ false }
+{
+    match spare.take() {
+        Some(slots) => slots,
+        None => IndexSet::new(alloc),
     }
 }
 

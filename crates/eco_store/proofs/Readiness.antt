@@ -2,6 +2,7 @@
 use Rattle.std.proofs.Common.{◌≡◌, ◌≢◌, ◌⊎◌, ℕ, zero, suc, ◌+◌, ◌-◌, ◌≤◌, ◌<◌, ◌==◌, Bool, true, false, true≢false, not, ◌||◌, IsTrue, if◌then◌else◌, List, [], ◌∷◌, ◌++◌, map, length, get_or, drop, Option, Some, None, option_map, unwrap_or, IsSome, OnSome, IfNone, nat_eq, refl, sym, ap, subst, ◌∙◌, arith, inl, inr, Contains}
 use Rattle.std.specs.List.{All, list_any}
 use Rattle.std.proofs.lemmas.Bool.{cases_eq}
+use Rattle.std.proofs.lemmas.List.Kept.{AllPairs-cons}
 use Rattle.std.proofs.lemmas.List.Elements.{All-head, All-tail, All-cons, All-nil}
 use Rattle.eco_ids.specs.declared.entity.Entity.{Entity}
 use Rattle.eco_ids.specs.declared.id.Id.{Id}
@@ -212,3 +213,9 @@ spares_without s s1 p n row there sets = record {
               let same = ap (λ o. (unwrap_or o no_table).room) (sets.others m other) in
               omega (arith, same)
         ]
+
+-- two moves of different entities
+pub two_apart : (a b : Move) → a.entity ≢ b.entity → AreOfDifferent (a ∷ b ∷ [])
+two_apart a b apart =
+    AllPairs-cons (λ (x y : Move). x.entity ≢ y.entity) a (b ∷ []) (All-cons (λ (y : Move). a.entity ≢ y.entity) b [] apart (All-nil (λ (y : Move). a.entity ≢ y.entity)))
+    (AllPairs-cons (λ (x y : Move). x.entity ≢ y.entity) b [] (All-nil (λ (y : Move). b.entity ≢ y.entity)) (λ i j d before within. absurd (omega arith)))

@@ -107,3 +107,6 @@ impl Store {
         self.prepared.release(&mut self.archetypes, place.table);
     }
 }
+
+#[cfg(test)]
+mod tests;

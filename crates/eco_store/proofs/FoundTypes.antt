@@ -1,12 +1,11 @@
 -- The types of the tables that a pattern finds.
-use Rattle.std.proofs.Common.{◌≡◌, ◌≢◌, ℕ, zero, suc, ◌<◌, Bool, true, false, true≢false, ◌||◌, IsTrue, IsSome, ◌↔◌, nat_eq, List, [], ◌∷◌, map, length, get_or, slice_get, Option, Some, None, option_map, unwrap_or, refl, sym, ap, ◌∙◌, arith}
+use Rattle.std.proofs.Common.{◌≡◌, ◌≢◌, ℕ, zero, suc, ◌<◌, Bool, true, false, true≢false, ◌||◌, IsSome, ◌↔◌, nat_eq, List, [], ◌∷◌, map, length, get_or, slice_get, Option, Some, None, option_map, refl, sym, ap, ◌∙◌, arith}
 use Rattle.std.specs.List.{All, AllPairs, Contains, IsDistinct, list_any}
 use Rattle.std.proofs.lemmas.Bool.Decides.{Decides-eqb}
 use Rattle.std.proofs.lemmas.List.{get_or-map, length-map}
 use Rattle.std.proofs.lemmas.Map.Made.{AllPairs-from_IsDistinct}
 use Rattle.std.proofs.lemmas.Map.Views.{Contains-from_any}
 use Rattle.std.proofs.lemmas.Option.{same_Some}
-use Rattle.eco_ids.specs.declared.entity.Entity.{Entity}
 use Rattle.eco_ids.specs.declared.id.Id.{Id}
 use Rattle.eco_ids.specs.declared.pattern.Pattern.{Pattern}
 use Rattle.eco_ids.specs.Indices.{Indexed, record_of}
@@ -14,9 +13,8 @@ use Rattle.eco_ids.specs.Matching.{pattern_matches}
 use Rattle.eco_tables.specs.Table.{Row, TableState}
 use Rattle.eco_tables.specs.Tables.{slot_of, table_in}
 use Rattle.eco_store.specs.Archetypes.{is_found, type_at}
-use Rattle.eco_store.specs.Holders.{has_match}
 use Rattle.eco_store.specs.Retyping.{IsTypeWith}
-use Rattle.eco_store.specs.Store.{IsShown, Kept, type_of}
+use Rattle.eco_store.specs.Store.{IsShown, Kept}
 use Rattle.eco_store.proofs.ArchetypeLemmas.{type_there}
 use Rattle.eco_store.proofs.Holders.{found_matches, found_rows, has_found, row_kept, some_kept}
 

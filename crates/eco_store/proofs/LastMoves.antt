@@ -1,5 +1,5 @@
 -- The last row of a table moved to the end of another.
-use Rattle.std.proofs.Common.{◌≡◌, ◌≢◌, ℕ, ◌-◌, ◌<◌, List, [], ◌∷◌, map, length, slice_get, get_or, Option, Some, None, option_map, option_and_then, unwrap_or, is_some, IsSome, IsTrue, zero-le, refl, sym, ap, subst, ◌∙◌, arith}
+use Rattle.std.proofs.Common.{◌≡◌, ◌≢◌, ℕ, ◌-◌, ◌<◌, List, [], ◌∷◌, length, slice_get, get_or, Option, Some, None, option_map, option_and_then, unwrap_or, is_some, IsTrue, zero-le, refl, sym, ap, subst, ◌∙◌, arith}
 use Rattle.std.proofs.lemmas.Option.{slice_get-get_or, slice_get_past}
 use Rattle.std.proofs.lemmas.List.{get_or-map, length-map}
 use Rattle.eco_ids.specs.declared.entity.Entity.{Entity}
@@ -8,8 +8,7 @@ use Rattle.eco_ids.specs.Indices.{Indexed, record_of, is_alive}
 use Rattle.eco_entities.specs.declared.place.Place.{Place}
 use Rattle.eco_entities.specs.Registration.{Registration, with_change, placed, own_place}
 use Rattle.eco_tables.specs.Table.{TableState, Row, entities_of}
-use Rattle.eco_tables.specs.Tables.{slot_of, table_in, row_in, no_row, no_table, Moves, AllHaveIds}
-use Rattle.eco_store.specs.declared.transfer.Transfer.{Transfer}
+use Rattle.eco_tables.specs.Tables.{table_in, row_in, no_row, no_table, Moves, AllHaveIds}
 use Rattle.eco_store.specs.declared.type_change.TypeChange.{TypeChange}
 use Rattle.eco_store.specs.Archetypes.{type_at}
 use Rattle.eco_store.specs.Retyping.{kept_ids, after_change}

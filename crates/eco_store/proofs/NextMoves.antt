@@ -1,9 +1,9 @@
 -- The first of the prepared moves is made.
-use Rattle.std.proofs.Common.{◌≡◌, ◌≢◌, ℕ, ◌+◌, ◌-◌, ◌≤◌, ◌<◌, ◌==◌, Bool, true, false, ◌&&◌, IsTrue, if◌then◌else◌, List, [], ◌∷◌, map, length, get_or, Option, Some, None, unwrap_or, IsSome, nat_eq, refl, sym, ap, subst, ◌∙◌, arith, inl, inr}
-use Rattle.std.specs.List.{All, list_any}
+use Rattle.std.proofs.Common.{◌≡◌, ℕ, ◌+◌, ◌-◌, ◌≤◌, ◌<◌, ◌==◌, IsTrue, if◌then◌else◌, List, [], ◌∷◌, map, get_or, Option, Some, None, unwrap_or, IsSome, nat_eq, refl, sym, ap, subst, ◌∙◌, arith, inl, inr}
+use Rattle.std.specs.List.{list_any}
 use Rattle.std.proofs.lemmas.Bool.{cases_eq}
 use Rattle.std.proofs.lemmas.List.Elements.{All-head, All-tail}
-use Rattle.eco_ids.proofs.Ascending.{first, second}
+use Rattle.eco_ids.proofs.Ascending.{second}
 use Rattle.eco_ids.specs.declared.entity.Entity.{Entity}
 use Rattle.eco_ids.specs.declared.id.Id.{Id}
 use Rattle.eco_ids.specs.Order.{entity_eq, id_cmp, is_ascending}
@@ -23,7 +23,6 @@ use Rattle.eco_store.proofs.Pouring.{still_there}
 use Rattle.eco_store.proofs.Readiness.{moves_alike}
 use Rattle.eco_store.proofs.RowChanges.{is_equal}
 use Rattle.eco_store.proofs.StoreChanges.{row_within, same_type}
-use Rattle.eco_store.proofs.Values.{slot_there}
 
 module _ (s : List (Option TableState)) (p p' : PreparedState) (a : Entity × ℕ) (e : Entity) (ids : List Id) (first_is : p.arrivals ≡ a ∷ p'.arrivals)
     (next : IsTrue (is_next (moves_of s p) e ids)) where

@@ -1,5 +1,5 @@
 -- Moves to come keep their tables and their room.
-use Rattle.std.proofs.Common.{◌≡◌, ◌≢◌, ◌⊎◌, ℕ, zero, suc, ◌+◌, ◌-◌, ◌≤◌, ◌<◌, ◌==◌, Bool, true, false, true≢false, not, ◌||◌, IsTrue, if◌then◌else◌, List, [], ◌∷◌, ◌++◌, map, length, get_or, drop, Option, Some, None, option_map, unwrap_or, IsSome, OnSome, IfNone, nat_eq, refl, sym, ap, subst, ◌∙◌, arith, inl, inr, Contains}
+use Rattle.std.proofs.Common.{◌≡◌, ◌≢◌, ◌⊎◌, ℕ, ◌+◌, ◌≤◌, ◌<◌, ◌==◌, Bool, true, false, true≢false, not, ◌||◌, IsTrue, if◌then◌else◌, List, [], ◌∷◌, ◌++◌, map, length, get_or, drop, Option, Some, None, option_map, unwrap_or, IsSome, OnSome, IfNone, nat_eq, refl, sym, ap, subst, ◌∙◌, arith, inl, inr}
 use Rattle.std.specs.List.{All, list_any}
 use Rattle.std.proofs.lemmas.Bool.{cases_eq}
 use Rattle.std.proofs.lemmas.List.Kept.{AllPairs-cons}
@@ -8,14 +8,14 @@ use Rattle.eco_ids.specs.declared.entity.Entity.{Entity}
 use Rattle.eco_ids.specs.declared.id.Id.{Id}
 use Rattle.eco_ids.specs.Order.{entity_eq}
 use Rattle.eco_tables.specs.Table.{TableState}
-use Rattle.eco_tables.specs.Tables.{slot_of, table_in, no_table, Sets, Moves, with_row, without_row}
+use Rattle.eco_tables.specs.Tables.{slot_of, table_in, no_table, Sets, without_row}
 use Rattle.eco_tables.proofs.Lists.{not_equal}
 use Rattle.eco_store.specs.declared.moving.Move.{Move}
 use Rattle.eco_store.specs.Archetypes.{type_at, KeepsTypes, KeepsRoom, SameSlots}
 use Rattle.eco_store.specs.Preparing.{PreparedState, nothing_prepared, with_arrival, with_target, move_to, moves_of, has_move, AreOfDifferent, arriving, IsReady}
 use Rattle.eco_store.specs.Transfers.{SameTypes}
 use Rattle.eco_store.proofs.ArchetypeLemmas.{sets_types}
-use Rattle.eco_store.proofs.Pouring.{same_ids_in, still_there, kept_type, there_as_typed}
+use Rattle.eco_store.proofs.Pouring.{same_ids_in, still_there, kept_type}
 use Rattle.eco_store.proofs.RowChanges.{is_equal}
 use Rattle.eco_store.proofs.StoreChanges.{typed_table}
 use Rattle.std.proofs.lemmas.List.Folds.{list_any-append, list_any_none}

@@ -3,8 +3,7 @@ use Rattle.std.proofs.Common.{◌≡◌, ◌≢◌, ℕ, zero, suc, ◌<◌, Boo
 use Rattle.std.specs.List.{list_all}
 use Rattle.eco_ids.proofs.Ascending.{first, second}
 use Rattle.eco_ids.specs.declared.entity.Entity.{Entity}
-use Rattle.eco_ids.specs.declared.id.Id.{Id}
-use Rattle.eco_ids.specs.Indices.{Indexed, IndexState, Retired, Free, Living, record_of, with_record, map_state}
+use Rattle.eco_ids.specs.Indices.{Indexed, IndexState, Retired, Free, Living, record_of, map_state}
 use Rattle.eco_tables.specs.Column.{retyped}
 use Rattle.eco_tables.proofs.RowIds.{ids_retyped}
 use Rattle.eco_store.specs.declared.type_change.TypeChange.{TypeChange}

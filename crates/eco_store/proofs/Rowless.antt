@@ -1,18 +1,21 @@
 -- Which tables are without rows, after rows came and went.
-use Rattle.std.proofs.Common.{◌≡◌, ◌≢◌, ℕ, ◌<◌, Bool, true, false, true≢false, ◌||◌, IsTrue, if◌then◌else◌, List, [], ◌∷◌, ◌++◌, length, slice_set, Option, Some, None, option_map, unwrap_or, IsSome, is_some, nat_eq, refl, sym, ap, subst, ◌∙◌, arith, inl, inr}
+use Rattle.std.proofs.Common.{◌≡◌, ◌≢◌, ℕ, Bool, true, false, ◌||◌, IsTrue, if◌then◌else◌, List, [], ◌∷◌, ◌++◌, length, Option, Some, None, unwrap_or, IsSome, is_some, nat_eq, refl, sym, ap, subst, ◌∙◌, arith, inl, inr}
 use Rattle.std.specs.List.{list_any}
 use Rattle.std.proofs.lemmas.Bool.{cases_eq}
 use Rattle.std.proofs.lemmas.Bool.Decides.{Decides-eqb}
-use Rattle.std.proofs.lemmas.List.{length-append, length-set}
-use Rattle.eco_ids.specs.declared.id.Id.{Id}
+use Rattle.std.proofs.lemmas.List.{length-append}
 use Rattle.eco_tables.specs.Table.{TableState, Row}
-use Rattle.eco_tables.specs.Tables.{slot_of, table_in, no_table, rowless, rowless_type, Sets, Moves, with_row, without_row}
+use Rattle.eco_tables.specs.Tables.{slot_of, table_in, no_table, rowless, rowless_type, Sets, Moves, with_row}
 use Rattle.eco_tables.proofs.Lists.{not_equal}
-use Rattle.eco_store.specs.Archetypes.{type_at, is_rowless, RowlessIn}
+use Rattle.eco_store.specs.Archetypes.{is_rowless, RowlessIn}
 use Rattle.eco_store.specs.Seats.{SameRows}
 use Rattle.eco_store.specs.Transfers.{SameTypes}
 use Rattle.eco_store.specs.Preparing.{PreparedState, nothing_prepared, with_target}
-use Rattle.eco_store.proofs.Readiness.{is_targeted}
+use Rattle.eco_ids.specs.Indices.{Indexed}
+use Rattle.eco_entities.specs.Registration.{Registration}
+use Rattle.eco_store.specs.Sound.{IsSound}
+use Rattle.eco_store.specs.Store.{IsStore}
+use Rattle.eco_store.proofs.Readiness.{is_targeted, ready_nothing}
 use Rattle.std.proofs.lemmas.List.Folds.{list_any-append}
 use Rattle.eco_store.proofs.Pouring.{rows_same, type_of_there, there_as_typed}
 
@@ -127,9 +130,13 @@ rowless_targeted s p n =
     stays m true h = h
     stays m false h = list_any-append (nat_eq m) p.targets (n ∷ []) ∙ ap (λ b. b || list_any (nat_eq m) (n ∷ [])) h
 
--- where nothing is prepared, no table is without rows
-pub tidy_nothing : (s : List (Option TableState)) (p : PreparedState) → p ≡ nothing_prepared → RowlessIn s [] → RowlessIn s p.targets
-tidy_nothing s p nothing none = subst (λ (q : PreparedState). RowlessIn s q.targets) (sym nothing) none
+-- a store is sound where nothing is prepared and no table is without rows
+pub sound_unprepared : (w : Indexed Registration) (s : List (Option TableState)) (p : PreparedState) → IsStore w s → p ≡ nothing_prepared → RowlessIn s [] → IsSound w s p
+sound_unprepared w s p places nothing none = record {
+  places = places;
+  moves = ready_nothing s p nothing;
+  tidy = subst (λ (q : PreparedState). RowlessIn s q.targets) (sym nothing) none;
+}
 
 -- one more slot may be without rows
 pub rowless_beside : (s : List (Option TableState)) (n : ℕ) (slots : List ℕ) → RowlessIn s slots → RowlessIn s (n ∷ slots)

@@ -8,3 +8,4 @@ pub mod Holders
 pub mod Retyping
 pub mod Transfers
 pub mod Preparing
+pub mod Sound

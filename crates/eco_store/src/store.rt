@@ -44,15 +44,15 @@ pub struct Store {
 }
 
 impl Model for Store {
-    ghost use Rattle.eco_store.specs.Archetypes.{RowlessIn};
-    ghost use Rattle.eco_store.specs.Preparing.{IsReady, moves_of};
-    ghost use Rattle.eco_store.specs.Store.{StoreState, IsStore, read};
+    ghost use Rattle.eco_store.specs.Preparing.{moves_of};
+    ghost use Rattle.eco_store.specs.Sound.{IsSound};
+    ghost use Rattle.eco_store.specs.Store.{StoreState, read};
 
     ghost Value = { StoreState };
 
     ghost view = { λ s. record { kept = read s.entities s.archetypes; prepared = moves_of s.archetypes s.prepared } };
 
-    ghost invariant = { λ s. IsStore s.entities s.archetypes × IsReady s.archetypes s.prepared × RowlessIn s.archetypes s.prepared.targets };
+    ghost invariant = { λ s. IsSound s.entities s.archetypes s.prepared };
 }
 
 // What stands against a new entity of this name: its name, or that no index is left.

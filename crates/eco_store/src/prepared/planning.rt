@@ -70,11 +70,7 @@ impl Prepared {
     }
 
     /// The tables of these moves, and room in them for all. An `Err` comes where memory is refused, and prepares nothing.
-    pub fn prepare(
-        &mut self,
-        archetypes: &mut Archetypes,
-        moves: &[Move],
-    ) -> Result<(), AllocError>
+    pub fn prepare(&mut self, archetypes: &mut Archetypes, moves: &[Move]) -> Result<(), AllocError>
         requires different { AreOfDifferent moves.now }
         requires tidy { RowlessIn archetypes.old self.old.targets }
         ensures ready { IsReady archetypes.new self.new }

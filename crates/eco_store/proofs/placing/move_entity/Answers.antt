@@ -1,4 +1,4 @@
-use Rattle.std.proofs.Common.{◌≡◌, refl, ap, ◌∙◌, length}
+use Rattle.std.proofs.Common.{refl, ap, ◌∙◌, length}
 use Rattle.eco_tables.specs.Tables.{table_in}
 use Rattle.eco_store.proofs.Rowless.{rowless_moved}
 use Rattle.eco_store.proofs.StoreChanges as changes

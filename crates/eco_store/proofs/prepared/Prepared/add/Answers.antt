@@ -1,8 +1,4 @@
-use Rattle.std.proofs.Common.{◌≡◌, ◌∷◌, IsTrue, not, refl, sym, ap, ◌∙◌, reverse, subst}
-use Rattle.std.specs.List.{list_any}
-use Rattle.eco_ids.specs.Order.{entity_eq}
 use Rattle.eco_ids.specs.OrderLaws.{entity_ties}
-use Rattle.eco_store.specs.Preparing.{PreparedState, with_arrival}
 use Rattle.eco_store.proofs.Arrivals.{arrived}
 use Rattle.eco_store.proofs.prepared.Prepared.add.Goals as goal
 

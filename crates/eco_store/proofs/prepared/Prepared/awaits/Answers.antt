@@ -1,8 +1,5 @@
-use Rattle.std.proofs.Common.{refl, sym, ap, ◌∙◌, reverse}
-use Rattle.std.specs.List.{list_any}
-use Rattle.eco_ids.specs.Order.{entity_eq}
+use Rattle.std.proofs.Common.{◌∙◌}
 use Rattle.eco_ids.specs.OrderLaws.{entity_ties}
-use Rattle.eco_store.specs.Preparing.{PreparedState}
 use Rattle.eco_store.proofs.Arrivals.{awaited}
 use Rattle.eco_store.proofs.prepared.Prepared.awaits.Goals as goal
 

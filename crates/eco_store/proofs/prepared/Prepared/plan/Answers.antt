@@ -1,7 +1,7 @@
-use Rattle.std.proofs.Common.{◌≡◌, ◌∷◌, ◌+◌, ◌-◌, ◌<◌, drop, length, get_or, not, IsTrue, sym, ap, ◌∙◌, subst, arith}
+use Rattle.std.proofs.Common.{◌≡◌, ◌∷◌, ◌+◌, ◌-◌, drop, length, not, IsTrue, sym, ap, ◌∙◌, subst, arith}
 use Rattle.std.proofs.lemmas.List.{drop_more}
 use Rattle.eco_store.specs.Preparing.{has_move, moves_of}
-use Rattle.eco_store.proofs.Readiness.{none_later, ready_nothing}
+use Rattle.eco_store.proofs.Readiness.{none_later}
 use Rattle.eco_store.proofs.prepared.Prepared.plan.Goals as goal
 
 pub plan_move-requires-clause-absent : goal.plan_move-requires-clause-absent

@@ -1,4 +1,4 @@
-use Rattle.std.proofs.Common.{◌∷◌, ◌+◌, ◌≤◌, sym, ap, ◌∙◌, not, subst, ◌≡◌}
+use Rattle.std.proofs.Common.{◌∷◌, sym, ap, ◌∙◌, not, subst}
 use Rattle.std.specs.List.{list_any}
 use Rattle.std.proofs.lemmas.Result.{on_ok_weaker}
 use Rattle.eco_ids.specs.Order.{entity_eq}

@@ -1,7 +1,7 @@
 use Rattle.std.proofs.Common.{◌≡◌, false, nat_eq, sym, ◌∙◌}
 use Rattle.std.specs.List.{list_any}
 use Rattle.eco_tables.specs.Tables.{slot_of, rowless_type}
-use Rattle.eco_store.proofs.Readiness.{ready_spared, moves_spared, spares_dropped, not_true}
+use Rattle.eco_store.proofs.Readiness.{ready_spared, moves_spared, spares_dropped}
 use Rattle.eco_store.proofs.prepared.Prepared.release.Goals as goal
 
 pub returns-then-not-is_target-clause-ready : goal.returns-then-not-is_target-clause-ready

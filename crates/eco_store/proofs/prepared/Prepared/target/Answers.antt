@@ -1,7 +1,6 @@
 use Rattle.std.proofs.Common.{sym, ◌∙◌, ◌∷◌, nat_eq}
 use Rattle.std.specs.List.{list_any}
-use Rattle.eco_store.specs.Preparing.{PreparedState, with_target, IsReady, moves_of}
-use Rattle.eco_store.proofs.Readiness.{Spares, ready_spared, moves_spared, spares_both, spares_kept, spares_other, targeted, not_true}
+use Rattle.eco_store.proofs.Readiness.{ready_spared, moves_spared, spares_both, spares_kept, spares_other, targeted, not_true}
 use Rattle.eco_store.proofs.Rowless.{rowless_same, rowless_targeted}
 use Rattle.eco_store.proofs.prepared.Prepared.target.Goals as goal
 

@@ -11,18 +11,16 @@ use Rattle.eco_store.proofs.Newborn.{opposed, unopposed, create_made, create_ref
 use Rattle.eco_store.proofs.StoreChanges.{same_read, same_store, typed_table}
 use Rattle.eco_store.proofs.BirthChanges as births
 use Rattle.eco_store.proofs.Forgetting.{still_seen}
-use Rattle.eco_store.proofs.Readiness.{ready_nothing}
 use Rattle.eco_store.proofs.StoreChanges.{same_store}
-use Rattle.eco_store.proofs.Rowless.{tidy_nothing}
+use Rattle.eco_store.proofs.Rowless.{sound_unprepared}
 use Rattle.eco_store.proofs.store.Store.create.Goals as goal
 
 pub invariant_of-self : goal.invariant_of-self
 invariant_of-self c =
-    (
-    same_store c.self.inside.entities c.forget.new.archetypes c.room_for.new.self c.room_for.ensures.rows (same_store c.self.inside.entities c.self.inside.archetypes c.forget.new.archetypes c.forget.ensures.rows c.self.invariant.0),
-    ready_nothing _ _ c.forget.ensures.nothing,
-    tidy_nothing _ _ c.forget.ensures.nothing (c.in-Err.ensures.rowless [] c.forget.ensures.tidy))
-
+    sound_unprepared _ _ _
+    (same_store c.self.inside.entities c.forget.new.archetypes c.room_for.new.self c.room_for.ensures.rows (same_store c.self.inside.entities c.self.inside.archetypes c.forget.new.archetypes c.forget.ensures.rows c.self.invariant.places))
+    c.forget.ensures.nothing
+    (c.in-Err.ensures.rowless [] c.forget.ensures.tidy)
 
 pub returns-in_err-check_new-in-Err-clause-step : goal.returns-in_err-check_new-in-Err-clause-step
 returns-in_err-check_new-in-Err-clause-step c =
@@ -45,30 +43,28 @@ settle-requires-clause-living c =
 
 pub invariant_of-self-in-Ok-create : goal.invariant_of-self-in-Ok-create
 invariant_of-self-in-Ok-create c =
-    (
-    rw c.settle.ensures.places
-    (births.created_store c.self.inside.entities c.create.new.self c.forget.new.archetypes c.room_for.new.self c.settle.new.archetypes c.in-Ok-create.entity c.in-Ok.slot c.args.type_list.now (option_copied c.args.name) (same_store c.self.inside.entities c.self.inside.archetypes c.forget.new.archetypes c.forget.ensures.rows c.self.invariant.0) c.room_for.ensures.rows
-    (typed_table c.room_for.new.self c.in-Ok.slot c.args.type_list.now c.in-Ok.ensures.typed) (create_made (kept (row_at c.forget.new.archetypes)) name_of kept_name (λ a. refl) c.self.inside.entities (newcomer (option_copied c.args.name)) (newborn (option_copied c.args.name) c.args.type_list.now) refl c.create.new.self c.in-Ok-create.entity c.in-Ok-create.ensures).0 (create_made (kept (row_at c.forget.new.archetypes)) name_of kept_name (λ a. refl) c.self.inside.entities (newcomer (option_copied c.args.name)) (newborn (option_copied c.args.name) c.args.type_list.now) refl c.create.new.self c.in-Ok-create.entity c.in-Ok-create.ensures).1 c.settle.ensures.rows),
-    ready_nothing _ _ c.forget.ensures.nothing,
-    tidy_nothing _ _ c.forget.ensures.nothing (c.settle.ensures.rowless [] (c.in-Ok.ensures.rowless [] c.forget.ensures.tidy)))
-
+    sound_unprepared _ _ _
+    (rw c.settle.ensures.places
+    (births.created_store c.self.inside.entities c.create.new.self c.forget.new.archetypes c.room_for.new.self c.settle.new.archetypes c.in-Ok-create.entity c.in-Ok.slot c.args.type_list.now (option_copied c.args.name) (same_store c.self.inside.entities c.self.inside.archetypes c.forget.new.archetypes c.forget.ensures.rows c.self.invariant.places) c.room_for.ensures.rows
+    (typed_table c.room_for.new.self c.in-Ok.slot c.args.type_list.now c.in-Ok.ensures.typed) (create_made (kept (row_at c.forget.new.archetypes)) name_of kept_name (λ a. refl) c.self.inside.entities (newcomer (option_copied c.args.name)) (newborn (option_copied c.args.name) c.args.type_list.now) refl c.create.new.self c.in-Ok-create.entity c.in-Ok-create.ensures).0 (create_made (kept (row_at c.forget.new.archetypes)) name_of kept_name (λ a. refl) c.self.inside.entities (newcomer (option_copied c.args.name)) (newborn (option_copied c.args.name) c.args.type_list.now) refl c.create.new.self c.in-Ok-create.entity c.in-Ok-create.ensures).1 c.settle.ensures.rows))
+    c.forget.ensures.nothing
+    (c.settle.ensures.rowless [] (c.in-Ok.ensures.rowless [] c.forget.ensures.tidy))
 
 pub returns-in-Ok-create-clause-step : goal.returns-in-Ok-create-clause-step
 returns-in-Ok-create-clause-step c =
     subst (λ v. Makes kept_name v (newborn (option_copied c.args.name) c.args.type_list.now) (Ok c.in-Ok-create.entity) (read c.settle.new.entities c.settle.new.archetypes)) (still_seen c.self.inside.entities c.self.inside.archetypes c.forget.new.archetypes _ c.args.self.now c.forget.ensures.rows c.self.view_is)
     (create_done (kept (row_at c.forget.new.archetypes)) name_of kept_name (λ a. refl) c.self.inside.entities (newcomer (option_copied c.args.name)) (newborn (option_copied c.args.name) c.args.type_list.now) refl c.create.new.self _ c.in-Ok-create.entity c.in-Ok-create.ensures
     (ap (λ v. read v c.settle.new.archetypes) c.settle.ensures.places
-    ∙ births.created_read c.self.inside.entities c.create.new.self c.forget.new.archetypes c.room_for.new.self c.settle.new.archetypes c.in-Ok-create.entity c.in-Ok.slot c.args.type_list.now (option_copied c.args.name) (same_store c.self.inside.entities c.self.inside.archetypes c.forget.new.archetypes c.forget.ensures.rows c.self.invariant.0) c.room_for.ensures.rows
+    ∙ births.created_read c.self.inside.entities c.create.new.self c.forget.new.archetypes c.room_for.new.self c.settle.new.archetypes c.in-Ok-create.entity c.in-Ok.slot c.args.type_list.now (option_copied c.args.name) (same_store c.self.inside.entities c.self.inside.archetypes c.forget.new.archetypes c.forget.ensures.rows c.self.invariant.places) c.room_for.ensures.rows
     (typed_table c.room_for.new.self c.in-Ok.slot c.args.type_list.now c.in-Ok.ensures.typed) (create_made (kept (row_at c.forget.new.archetypes)) name_of kept_name (λ a. refl) c.self.inside.entities (newcomer (option_copied c.args.name)) (newborn (option_copied c.args.name) c.args.type_list.now) refl c.create.new.self c.in-Ok-create.entity c.in-Ok-create.ensures).0 (create_made (kept (row_at c.forget.new.archetypes)) name_of kept_name (λ a. refl) c.self.inside.entities (newcomer (option_copied c.args.name)) (newborn (option_copied c.args.name) c.args.type_list.now) refl c.create.new.self c.in-Ok-create.entity c.in-Ok-create.ensures).1 c.settle.ensures.rows))
 
 pub invariant_of-self-in-Err-create : goal.invariant_of-self-in-Err-create
 invariant_of-self-in-Err-create c =
-    (
-    rw (create_refused (kept (row_at c.forget.new.archetypes)) name_of kept_name (λ a. refl) c.self.inside.entities (newcomer (option_copied c.args.name)) (newborn (option_copied c.args.name) c.args.type_list.now) refl c.create.new.self c.in-Err-create.refused c.in-Err-create.ensures).0
-    (same_store c.self.inside.entities c.forget.new.archetypes c.drop_empty.new.self (then_rows c.forget.new.archetypes c.room_for.new.self c.drop_empty.new.self c.room_for.ensures.rows c.drop_empty.ensures.rows) (same_store c.self.inside.entities c.self.inside.archetypes c.forget.new.archetypes c.forget.ensures.rows c.self.invariant.0)),
-    ready_nothing _ _ c.forget.ensures.nothing,
-    tidy_nothing _ _ c.forget.ensures.nothing (c.drop_empty.ensures.rowless [] (c.in-Ok.ensures.rowless [] c.forget.ensures.tidy)))
-
+    sound_unprepared _ _ _
+    (rw (create_refused (kept (row_at c.forget.new.archetypes)) name_of kept_name (λ a. refl) c.self.inside.entities (newcomer (option_copied c.args.name)) (newborn (option_copied c.args.name) c.args.type_list.now) refl c.create.new.self c.in-Err-create.refused c.in-Err-create.ensures).0
+    (same_store c.self.inside.entities c.forget.new.archetypes c.drop_empty.new.self (then_rows c.forget.new.archetypes c.room_for.new.self c.drop_empty.new.self c.room_for.ensures.rows c.drop_empty.ensures.rows) (same_store c.self.inside.entities c.self.inside.archetypes c.forget.new.archetypes c.forget.ensures.rows c.self.invariant.places)))
+    c.forget.ensures.nothing
+    (c.drop_empty.ensures.rowless [] (c.in-Ok.ensures.rowless [] c.forget.ensures.tidy))
 
 pub returns-in-Err-create-clause-step : goal.returns-in-Err-create-clause-step
 returns-in-Err-create-clause-step c =

@@ -6,4 +6,4 @@ pub returns : goal.returns
 returns c =
     rw (← c.self.view_is)
     (held_is _ c.self.inside.archetypes c.args.pattern
-    (shows c.self.inside.entities c.self.inside.archetypes c.self.invariant.0 (rw c.tables.ensures.same at c.rows_have_ids.ensures)) c.is_held.result c.is_held.ensures)
+    (shows c.self.inside.entities c.self.inside.archetypes c.self.invariant.places (rw c.tables.ensures.same at c.rows_have_ids.ensures)) c.is_held.result c.is_held.ensures)

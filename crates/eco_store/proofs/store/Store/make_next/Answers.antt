@@ -1,8 +1,8 @@
-use Rattle.std.proofs.Common.{◌≡◌, ◌∷◌, Some, IfSome, IsTrue, refl, sym, ap, subst, ◌∙◌}
+use Rattle.std.proofs.Common.{◌≡◌, ◌∷◌, IfSome, IsTrue, refl, sym, ap, subst, ◌∙◌}
 use Rattle.eco_tables.specs.Column.{retyped}
 use Rattle.eco_tables.specs.Tables.{table_in, AllHaveIds}
 use Rattle.eco_store.specs.Archetypes.{RowlessIn}
-use Rattle.eco_store.specs.Preparing.{moves_of, moves_left, is_next, IsReady}
+use Rattle.eco_store.specs.Preparing.{moves_of, is_next}
 use Rattle.eco_store.specs.Store.{StoreState, read, with_holding, held_by}
 use Rattle.eco_store.proofs.ArchetypeLemmas.{there_by_row}
 use Rattle.eco_store.proofs.NextMoves.{next_type, next_left, rest_ready, rest_left, rest_ready_after, stays_there}
@@ -22,11 +22,11 @@ release-requires c =
     let first_is : p.arrivals ≡ a ∷ p'.arrivals = subst (λ o. IfSome o (λ x. p.arrivals ≡ x ∷ p'.arrivals)) c.unwrap-to.ensures c.take_next.ensures.some in
     record {
       ready =
-          rest_ready_after s p p' a first_is c.take_next.ensures.targets c.self.invariant.1 c.move_entity.new.archetypes place.table place.row c.move_entity.ensures.moves
-          (there_by_row s place.table place.row (row_within c.self.inside.entities s c.args.e place c.self.invariant.0 own));
+          rest_ready_after s p p' a first_is c.take_next.ensures.targets c.self.invariant.moves c.move_entity.new.archetypes place.table place.row c.move_entity.ensures.moves
+          (there_by_row s place.table place.row (row_within c.self.inside.entities s c.args.e place c.self.invariant.places own));
       tidy =
           c.move_entity.ensures.rowless p'.targets
-          (rowless_beside s a.1 p'.targets (subst (RowlessIn s) (sym c.take_next.ensures.targets) c.self.invariant.2));
+          (rowless_beside s a.1 p'.targets (subst (RowlessIn s) (sym c.take_next.ensures.targets) c.self.invariant.tidy));
     }
 
 pub finish-requires : goal.finish-requires
@@ -39,8 +39,8 @@ finish-requires c =
     elim c.if-place-to.branch [
       | then-place-to w ↦ rw w.self-inside-is (record { ready = w.release.ensures.ready; tidy = w.release.ensures.tidy })
       | else-place-to w ↦ rw w.self-inside-is (record {
-        ready = rest_ready s p p' a first_is c.take_next.ensures.targets c.self.invariant.1;
-        tidy = subst (RowlessIn s) (sym c.take_next.ensures.targets) c.self.invariant.2;
+        ready = rest_ready s p p' a first_is c.take_next.ensures.targets c.self.invariant.moves;
+        tidy = subst (RowlessIn s) (sym c.take_next.ensures.targets) c.self.invariant.tidy;
       })
     ]
 
@@ -68,7 +68,7 @@ returns-clause-kept c =
           ∙ (λ t. with_holding (read c.self.inside.entities s) e (retyped (typed t) (held_by (read c.self.inside.entities s) e))))
       | else-place-to w ↦
           rw w.self-inside-is
-          (stays_there c.self.inside.entities s e place ids c.self.invariant.0 own (subst AllHaveIds c.tables.ensures.same c.rows_have_ids.ensures)
+          (stays_there c.self.inside.entities s e place ids c.self.invariant.places own (subst AllHaveIds c.tables.ensures.same c.rows_have_ids.ensures)
           c.as_slice-ids.ensures.ascending (ap (λ n. (table_in s n).ids) w.if-place-to.false ∙ typed))
     ])
 
@@ -90,8 +90,8 @@ returns-clause-left c =
       | then-place-to w ↦
           rw w.self-inside-is
           (w.release.ensures.left
-          ∙ rest_left s p p' a first_is c.take_next.ensures.targets c.self.invariant.1 w.move_entity.new.archetypes place.table place.row w.move_entity.ensures.moves
-          (there_by_row s place.table place.row (row_within c.self.inside.entities s e place c.self.invariant.0 own)))
+          ∙ rest_left s p p' a first_is c.take_next.ensures.targets c.self.invariant.moves w.move_entity.new.archetypes place.table place.row w.move_entity.ensures.moves
+          (there_by_row s place.table place.row (row_within c.self.inside.entities s e place c.self.invariant.places own)))
       | else-place-to w ↦ rw w.self-inside-is refl
     ]
     ∙ next_left s p p' a e ids first_is next)

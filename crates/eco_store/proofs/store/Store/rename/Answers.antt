@@ -4,18 +4,16 @@ use Rattle.eco_ids.specs.Outcome.{Meets}
 use Rattle.eco_store.specs.Store.{read, Renames, may_rename}
 use Rattle.eco_store.proofs.Values.{rename_lifts}
 use Rattle.eco_store.proofs.Forgetting.{still_seen}
-use Rattle.eco_store.proofs.Readiness.{ready_nothing}
 use Rattle.eco_store.proofs.StoreChanges.{same_store}
-use Rattle.eco_store.proofs.Rowless.{tidy_nothing}
+use Rattle.eco_store.proofs.Rowless.{sound_unprepared}
 use Rattle.eco_store.proofs.store.Store.rename.Goals as goal
 
 pub invariant_of-self : goal.invariant_of-self
 invariant_of-self c =
-    (
-    (rename_lifts c.self.inside.entities c.forget.new.archetypes c.args.e (option_copied c.args.name) c.rename.new.self c.rename.result c.rename.ensures).0 (same_store c.self.inside.entities c.self.inside.archetypes c.forget.new.archetypes c.forget.ensures.rows c.self.invariant.0),
-    ready_nothing _ _ c.forget.ensures.nothing,
-    tidy_nothing _ _ c.forget.ensures.nothing c.forget.ensures.tidy)
-
+    sound_unprepared _ _ _
+    ((rename_lifts c.self.inside.entities c.forget.new.archetypes c.args.e (option_copied c.args.name) c.rename.new.self c.rename.result c.rename.ensures).0 (same_store c.self.inside.entities c.self.inside.archetypes c.forget.new.archetypes c.forget.ensures.rows c.self.invariant.places))
+    c.forget.ensures.nothing
+    c.forget.ensures.tidy
 
 pub returns-clause-step : goal.returns-clause-step
 returns-clause-step c =

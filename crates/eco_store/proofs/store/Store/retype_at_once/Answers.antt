@@ -1,21 +1,20 @@
-use Rattle.std.proofs.Common.{◌≡◌, [], false, refl, sym, ap, subst, ◌∙◌, option_map}
+use Rattle.std.proofs.Common.{[], sym, ap, ◌∙◌, option_map}
 use Rattle.std.specs.Option.{option_copied}
 use Rattle.eco_tables.specs.Column.{retyped}
 use Rattle.eco_tables.specs.Table.{TableState}
 use Rattle.eco_tables.specs.Tables.{slot_of}
-use Rattle.eco_store.specs.Store.{read, with_holding, held_by}
+use Rattle.eco_store.specs.Store.{with_holding, held_by}
 use Rattle.eco_store.proofs.ArchetypeLemmas.{there_by_row}
 use Rattle.eco_store.proofs.Forgetting.{still_seen}
 use Rattle.eco_store.proofs.Ids.{same_ids-Decides}
-use Rattle.eco_store.proofs.Readiness.{ready_nothing}
-use Rattle.eco_store.proofs.Rowless.{tidy_nothing}
+use Rattle.eco_store.proofs.Rowless.{sound_unprepared}
 use Rattle.eco_store.proofs.StoreChanges as changes
 use Rattle.eco_store.proofs.store.Store.retype_at_once.Goals as goal
 
 pub unwrap-table-requires : goal.unwrap-table-requires
 unwrap-table-requires c =
     let s = c.forget.new.archetypes in
-    let store = changes.same_store c.self.inside.entities c.self.inside.archetypes s c.forget.ensures.rows c.self.invariant.0 in
+    let store = changes.same_store c.self.inside.entities c.self.inside.archetypes s c.forget.ensures.rows c.self.invariant.places in
     changes.some_from_copied c.get.result (slot_of s c.unwrap-place.result.table)
     (c.get.ensures ∙ ap (λ x. slot_of x c.unwrap-place.result.table) c.tables.ensures.same)
     (there_by_row s c.unwrap-place.result.table c.unwrap-place.result.row
@@ -24,7 +23,7 @@ unwrap-table-requires c =
 pub returns-then-eq-clause-ok : goal.returns-then-eq-clause-ok
 returns-then-eq-clause-ok c =
     let s = c.forget.new.archetypes in
-    let store = changes.same_store c.self.inside.entities c.self.inside.archetypes s c.forget.ensures.rows c.self.invariant.0 in
+    let store = changes.same_store c.self.inside.entities c.self.inside.archetypes s c.forget.ensures.rows c.self.invariant.places in
     rw (← still_seen c.self.inside.entities c.self.inside.archetypes s _ c.args.self.now c.forget.ensures.rows c.self.view_is)
     (changes.same_type c.self.inside.entities s c.args.e c.unwrap-place.result c.unwrap-table.result.now c.args.type_list.now store
     (sym c.place_of.ensures ∙ c.unwrap-place.ensures)
@@ -55,8 +54,7 @@ returns-clause-ok c =
 
 pub invariant_of-self-2 : goal.invariant_of-self-2
 invariant_of-self-2 c =
-    (
-      changes.same_store c.move_entity.new.entities c.move_entity.new.archetypes c.drop_empty.new.self c.drop_empty.ensures.rows c.move_entity.ensures.store,
-      ready_nothing _ _ c.forget.ensures.nothing,
-      tidy_nothing _ _ c.forget.ensures.nothing (c.drop_empty.ensures.rowless [] (c.move_entity.ensures.rowless [] (c.in_ok-to.ensures.rowless [] c.forget.ensures.tidy))),
-    )
+    sound_unprepared _ _ _
+    (changes.same_store c.move_entity.new.entities c.move_entity.new.archetypes c.drop_empty.new.self c.drop_empty.ensures.rows c.move_entity.ensures.store)
+    c.forget.ensures.nothing
+    (c.drop_empty.ensures.rowless [] (c.move_entity.ensures.rowless [] (c.in_ok-to.ensures.rowless [] c.forget.ensures.tidy)))

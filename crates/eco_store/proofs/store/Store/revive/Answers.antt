@@ -4,21 +4,19 @@ use Rattle.eco_store.specs.Store.{read}
 use Rattle.eco_store.proofs.StoreChanges.{typed_table}
 use Rattle.eco_store.proofs.BirthChanges as births
 use Rattle.eco_store.proofs.Forgetting.{still_seen}
-use Rattle.eco_store.proofs.Readiness.{ready_nothing}
 use Rattle.eco_store.proofs.StoreChanges.{same_store}
-use Rattle.eco_store.proofs.Rowless.{tidy_nothing}
+use Rattle.eco_store.proofs.Rowless.{sound_unprepared}
 use Rattle.eco_store.proofs.store.Store.revive.Goals as goal
 
 pub invariant_of-self-2 : goal.invariant_of-self-2
 invariant_of-self-2 c =
-    (
-    let free : is_free_at c.self.inside.entities c.args.e ≡ true = (sym c.is_free_at.ensures ∙ c.if-not-is_free_at.false) in
+    sound_unprepared _ _ _
+    (let free : is_free_at c.self.inside.entities c.args.e ≡ true = (sym c.is_free_at.ensures ∙ c.if-not-is_free_at.false) in
     rw c.settle.ensures.places
-    (births.revived_store c.self.inside.entities c.revive.new.self c.forget.new.archetypes c.room_for-2.new.self c.settle.new.archetypes c.args.e c.in_ok-slot.slot [] None (same_store c.self.inside.entities c.self.inside.archetypes c.forget.new.archetypes c.forget.ensures.rows c.self.invariant.0) c.room_for-2.ensures.rows
-    (typed_table c.room_for-2.new.self c.in_ok-slot.slot [] (rw c.empty.ensures at c.in_ok-slot.ensures.typed)) free (rw free at c.revive.ensures).1 c.settle.ensures.rows),
-    ready_nothing _ _ c.forget.ensures.nothing,
-    tidy_nothing _ _ c.forget.ensures.nothing (c.settle.ensures.rowless [] (c.in_ok-slot.ensures.rowless [] c.forget.ensures.tidy)))
-
+    (births.revived_store c.self.inside.entities c.revive.new.self c.forget.new.archetypes c.room_for-2.new.self c.settle.new.archetypes c.args.e c.in_ok-slot.slot [] None (same_store c.self.inside.entities c.self.inside.archetypes c.forget.new.archetypes c.forget.ensures.rows c.self.invariant.places) c.room_for-2.ensures.rows
+    (typed_table c.room_for-2.new.self c.in_ok-slot.slot [] (rw c.empty.ensures at c.in_ok-slot.ensures.typed)) free (rw free at c.revive.ensures).1 c.settle.ensures.rows))
+    c.forget.ensures.nothing
+    (c.settle.ensures.rowless [] (c.in_ok-slot.ensures.rowless [] c.forget.ensures.tidy))
 
 pub returns-clause-step : goal.returns-clause-step
 returns-clause-step c =
@@ -27,6 +25,6 @@ returns-clause-step c =
     (rw (births.is_free_at-read c.self.inside.entities c.forget.new.archetypes c.args.e ∙ free) (
       refl,
       ap (λ v. read v c.settle.new.archetypes) c.settle.ensures.places
-          ∙ births.revived_seen c.self.inside.entities c.revive.new.self c.forget.new.archetypes c.room_for-2.new.self c.settle.new.archetypes c.args.e c.in_ok-slot.slot [] None (same_store c.self.inside.entities c.self.inside.archetypes c.forget.new.archetypes c.forget.ensures.rows c.self.invariant.0) c.room_for-2.ensures.rows
+          ∙ births.revived_seen c.self.inside.entities c.revive.new.self c.forget.new.archetypes c.room_for-2.new.self c.settle.new.archetypes c.args.e c.in_ok-slot.slot [] None (same_store c.self.inside.entities c.self.inside.archetypes c.forget.new.archetypes c.forget.ensures.rows c.self.invariant.places) c.room_for-2.ensures.rows
           (typed_table c.room_for-2.new.self c.in_ok-slot.slot [] (rw c.empty.ensures at c.in_ok-slot.ensures.typed)) free (rw free at c.revive.ensures).1 c.settle.ensures.rows,
     ))

@@ -5,31 +5,28 @@ use Rattle.eco_store.proofs.ArchetypeLemmas.{there_by_row}
 use Rattle.eco_store.proofs.StoreChanges.{row_within}
 use Rattle.eco_store.proofs.Values.{written_store, written_read}
 use Rattle.eco_store.proofs.Forgetting.{still_seen}
-use Rattle.eco_store.proofs.Readiness.{ready_nothing}
 use Rattle.eco_store.proofs.StoreChanges.{same_store}
-use Rattle.eco_store.proofs.Rowless.{tidy_nothing, rowless_rewritten}
+use Rattle.eco_store.proofs.Rowless.{sound_unprepared, rowless_rewritten}
 use Rattle.eco_store.proofs.store.Store.set_value.Goals as goal
 
 pub set_value-requires : goal.set_value-requires
 set_value-requires c =
-    row_within c.self.inside.entities c.forget.new.archetypes c.args.e c.unwrap-place.result (same_store c.self.inside.entities c.self.inside.archetypes c.forget.new.archetypes c.forget.ensures.rows c.self.invariant.0) (sym c.place_of.ensures ∙ c.unwrap-place.ensures)
+    row_within c.self.inside.entities c.forget.new.archetypes c.args.e c.unwrap-place.result (same_store c.self.inside.entities c.self.inside.archetypes c.forget.new.archetypes c.forget.ensures.rows c.self.invariant.places) (sym c.place_of.ensures ∙ c.unwrap-place.ensures)
 
 pub invariant_of-self : goal.invariant_of-self
 invariant_of-self c =
-    (
-    written_store c.self.inside.entities c.forget.new.archetypes c.set_value.new.self c.args.e c.unwrap-place.result c.args.id c.args.value (same_store c.self.inside.entities c.self.inside.archetypes c.forget.new.archetypes c.forget.ensures.rows c.self.invariant.0)
-    (sym c.place_of.ensures ∙ c.unwrap-place.ensures) c.set_value.ensures,
-    ready_nothing _ _ c.forget.ensures.nothing,
-    tidy_nothing _ _ c.forget.ensures.nothing 
+    sound_unprepared _ _ _
+    (written_store c.self.inside.entities c.forget.new.archetypes c.set_value.new.self c.args.e c.unwrap-place.result c.args.id c.args.value (same_store c.self.inside.entities c.self.inside.archetypes c.forget.new.archetypes c.forget.ensures.rows c.self.invariant.places)
+    (sym c.place_of.ensures ∙ c.unwrap-place.ensures) c.set_value.ensures)
+    c.forget.ensures.nothing
     (rowless_rewritten c.forget.new.archetypes c.set_value.new.self c.unwrap-place.result.table [] _ c.set_value.ensures
     (ap (λ o. length (unwrap_or o no_table).rows) c.set_value.ensures.changed ∙ length-set _ _ _)
     (there_by_row c.forget.new.archetypes c.unwrap-place.result.table c.unwrap-place.result.row
-    (row_within c.self.inside.entities c.forget.new.archetypes c.args.e c.unwrap-place.result (same_store c.self.inside.entities c.self.inside.archetypes c.forget.new.archetypes c.forget.ensures.rows c.self.invariant.0) (sym c.place_of.ensures ∙ c.unwrap-place.ensures)))
-    c.forget.ensures.tidy))
-
+    (row_within c.self.inside.entities c.forget.new.archetypes c.args.e c.unwrap-place.result (same_store c.self.inside.entities c.self.inside.archetypes c.forget.new.archetypes c.forget.ensures.rows c.self.invariant.places) (sym c.place_of.ensures ∙ c.unwrap-place.ensures)))
+    c.forget.ensures.tidy)
 
 pub returns-clause-written : goal.returns-clause-written
 returns-clause-written c =
     rw (← (still_seen c.self.inside.entities c.self.inside.archetypes c.forget.new.archetypes _ c.args.self.now c.forget.ensures.rows c.self.view_is))
-    (written_read c.self.inside.entities c.forget.new.archetypes c.set_value.new.self c.args.e c.unwrap-place.result c.args.id c.args.value (same_store c.self.inside.entities c.self.inside.archetypes c.forget.new.archetypes c.forget.ensures.rows c.self.invariant.0)
+    (written_read c.self.inside.entities c.forget.new.archetypes c.set_value.new.self c.args.e c.unwrap-place.result c.args.id c.args.value (same_store c.self.inside.entities c.self.inside.archetypes c.forget.new.archetypes c.forget.ensures.rows c.self.invariant.places)
     (sym c.place_of.ensures ∙ c.unwrap-place.ensures) c.set_value.ensures)

@@ -8,39 +8,41 @@ use Rattle.eco_store.proofs.store.Store.take_out.Goals as goal
 
 pub swap_out-moved-requires : goal.swap_out-moved-requires
 swap_out-moved-requires c =
-    changes.row_within c.self.inside.entities c.forget_awaited.new.archetypes c.args.e c.unwrap-place.result (changes.same_store c.self.inside.entities c.self.inside.archetypes c.forget_awaited.new.archetypes c.forget_awaited.ensures.rows c.self.invariant.0)
+    changes.row_within c.self.inside.entities c.forget_awaited.new.archetypes c.args.e c.unwrap-place.result (changes.same_store c.self.inside.entities c.self.inside.archetypes c.forget_awaited.new.archetypes c.forget_awaited.ensures.rows c.self.invariant.places)
     (sym c.place_of.ensures ∙ c.unwrap-place.ensures)
 
 pub fix_place-requires : goal.fix_place-requires
 fix_place-requires c =
-    changes.out_movers_live c.self.inside.entities c.forget_awaited.new.archetypes c.swap_out-moved.new.self c.swap_out-moved.new.self c.args.e c.unwrap-place.result c.swap_out-moved.result (changes.same_store c.self.inside.entities c.self.inside.archetypes c.forget_awaited.new.archetypes c.forget_awaited.ensures.rows c.self.invariant.0)
+    changes.out_movers_live c.self.inside.entities c.forget_awaited.new.archetypes c.swap_out-moved.new.self c.swap_out-moved.new.self c.args.e c.unwrap-place.result c.swap_out-moved.result (changes.same_store c.self.inside.entities c.self.inside.archetypes c.forget_awaited.new.archetypes c.forget_awaited.ensures.rows c.self.invariant.places)
     (sym c.place_of.ensures ∙ c.unwrap-place.ensures) c.swap_out-moved.ensures.rows c.swap_out-moved.ensures.moved (λ n row. refl)
 
 pub kill-requires : goal.kill-requires
 kill-requires c =
     rw c.fix_place.ensures
-    (changes.out_alive c.self.inside.entities c.forget_awaited.new.archetypes c.swap_out-moved.new.self c.swap_out-moved.new.self c.args.e c.unwrap-place.result c.swap_out-moved.result (changes.same_store c.self.inside.entities c.self.inside.archetypes c.forget_awaited.new.archetypes c.forget_awaited.ensures.rows c.self.invariant.0)
+    (changes.out_alive c.self.inside.entities c.forget_awaited.new.archetypes c.swap_out-moved.new.self c.swap_out-moved.new.self c.args.e c.unwrap-place.result c.swap_out-moved.result (changes.same_store c.self.inside.entities c.self.inside.archetypes c.forget_awaited.new.archetypes c.forget_awaited.ensures.rows c.self.invariant.places)
     (sym c.place_of.ensures ∙ c.unwrap-place.ensures) c.swap_out-moved.ensures.rows c.swap_out-moved.ensures.moved (λ n row. refl))
 
 pub invariant_of-self : goal.invariant_of-self
 invariant_of-self c =
-    (
-    rw (c.kill.ensures, c.fix_place.ensures)
-    (changes.out_store c.self.inside.entities c.forget_awaited.new.archetypes c.swap_out-moved.new.self c.release.new.archetypes c.args.e c.unwrap-place.result c.swap_out-moved.result (changes.same_store c.self.inside.entities c.self.inside.archetypes c.forget_awaited.new.archetypes c.forget_awaited.ensures.rows c.self.invariant.0)
-    (sym c.place_of.ensures ∙ c.unwrap-place.ensures) c.swap_out-moved.ensures.rows c.swap_out-moved.ensures.moved c.release.ensures.rows),
-    c.release.ensures.ready,
-    c.release.ensures.tidy)
+    record {
+      places =
+          rw (c.kill.ensures, c.fix_place.ensures)
+          (changes.out_store c.self.inside.entities c.forget_awaited.new.archetypes c.swap_out-moved.new.self c.release.new.archetypes c.args.e c.unwrap-place.result c.swap_out-moved.result (changes.same_store c.self.inside.entities c.self.inside.archetypes c.forget_awaited.new.archetypes c.forget_awaited.ensures.rows c.self.invariant.places)
+          (sym c.place_of.ensures ∙ c.unwrap-place.ensures) c.swap_out-moved.ensures.rows c.swap_out-moved.ensures.moved c.release.ensures.rows);
+      moves = c.release.ensures.ready;
+      tidy = c.release.ensures.tidy;
+    }
 
 pub returns-clause-kept : goal.returns-clause-kept
 returns-clause-kept c =
     rw (← still_seen c.self.inside.entities c.self.inside.archetypes c.forget_awaited.new.archetypes _ c.args.self.now c.forget_awaited.ensures.rows c.self.view_is, c.kill.ensures, c.fix_place.ensures)
-    (changes.out_read c.self.inside.entities c.forget_awaited.new.archetypes c.swap_out-moved.new.self c.release.new.archetypes c.args.e c.unwrap-place.result c.swap_out-moved.result (changes.same_store c.self.inside.entities c.self.inside.archetypes c.forget_awaited.new.archetypes c.forget_awaited.ensures.rows c.self.invariant.0)
+    (changes.out_read c.self.inside.entities c.forget_awaited.new.archetypes c.swap_out-moved.new.self c.release.new.archetypes c.args.e c.unwrap-place.result c.swap_out-moved.result (changes.same_store c.self.inside.entities c.self.inside.archetypes c.forget_awaited.new.archetypes c.forget_awaited.ensures.rows c.self.invariant.places)
     (sym c.place_of.ensures ∙ c.unwrap-place.ensures) c.swap_out-moved.ensures.rows c.swap_out-moved.ensures.moved c.release.ensures.rows)
 
 pub release-requires : goal.release-requires
 release-requires c =
     let s = c.forget_awaited.new.archetypes in
-    let store = changes.same_store c.self.inside.entities c.self.inside.archetypes s c.forget_awaited.ensures.rows c.self.invariant.0 in
+    let store = changes.same_store c.self.inside.entities c.self.inside.archetypes s c.forget_awaited.ensures.rows c.self.invariant.places in
     let place = c.unwrap-place.result in
     let there = there_by_row s place.table place.row (changes.row_within c.self.inside.entities s c.args.e place store (sym c.place_of.ensures ∙ c.unwrap-place.ensures)) in
     record {
@@ -53,7 +55,7 @@ release-requires c =
 pub returns-clause-left : goal.returns-clause-left
 returns-clause-left c =
     let s = c.forget_awaited.new.archetypes in
-    let store = changes.same_store c.self.inside.entities c.self.inside.archetypes s c.forget_awaited.ensures.rows c.self.invariant.0 in
+    let store = changes.same_store c.self.inside.entities c.self.inside.archetypes s c.forget_awaited.ensures.rows c.self.invariant.places in
     let place = c.unwrap-place.result in
     let there = there_by_row s place.table place.row (changes.row_within c.self.inside.entities s c.args.e place store (sym c.place_of.ensures ∙ c.unwrap-place.ensures)) in
     rw (← c.self.view_is)

@@ -1,4 +1,4 @@
-use Rattle.std.proofs.Common.{◌≡◌, ◌≢◌, ◌↔◌, map, sym, ◌∙◌, subst}
+use Rattle.std.proofs.Common.{◌≢◌, ◌↔◌, map, sym, ◌∙◌, subst}
 use Rattle.std.specs.List.{AllPairs, Contains}
 use Rattle.std.proofs.lemmas.Result.{IfOk-weaker}
 use Rattle.eco_tables.specs.Tables.{table_in}
@@ -13,7 +13,7 @@ returns-clause-listed c =
     let s = c.self.inside.archetypes in
     let w = read c.self.inside.entities s in
     let slots = c.in_ok-slots.slots.items in
-    let shown = shows c.self.inside.entities s c.self.invariant.0 (rw c.tables-tables.ensures.same at c.rows_have_ids.ensures) in
+    let shown = shows c.self.inside.entities s c.self.invariant.places (rw c.tables-tables.ensures.same at c.rows_have_ids.ensures) in
     rw (← c.self.view_is)
     (IfOk-weaker c.types_in.result _ _
     (λ types is ids.
@@ -27,7 +27,7 @@ returns-clause-distinct c =
     let s = c.self.inside.archetypes in
     let w = read c.self.inside.entities s in
     let slots = c.in_ok-slots.slots.items in
-    let shown = shows c.self.inside.entities s c.self.invariant.0 (rw c.tables-tables.ensures.same at c.rows_have_ids.ensures) in
+    let shown = shows c.self.inside.entities s c.self.invariant.places (rw c.tables-tables.ensures.same at c.rows_have_ids.ensures) in
     IfOk-weaker c.types_in.result _ _
     (λ types is.
     subst (AllPairs (λ one other. one ≢ other))

@@ -61,7 +61,7 @@ impl Transfer {
     }
 }
 
-/// Carries the transfers out, one after another. It takes no memory.
+/// Carries the transfers out, one after another. Each table that this leaves without rows is one of theirs. It takes no memory.
 pub fn move_all(entities: &mut EntityIndex, archetypes: &mut Archetypes, transfers: &[Transfer])
     requires store { IsStore entities.old archetypes.old }
     requires plan { IsPlan archetypes.old transfers.now (map (change_of archetypes.old) transfers.now) }

@@ -13,8 +13,8 @@ use std::alloc::AllocError;
 
 impl Archetypes {
     /// For each change the tables of its two types, and in the second room for all rows of the first, besides those that
-    /// other changes bring there. A table of a type that has none is made. An `Err` comes where memory is refused. No row
-    /// changes.
+    /// other changes bring there. A table of a type that has none is made. An `Err` comes where memory is refused, and leaves
+    /// no table without rows that was made. No row changes.
     pub fn prepare(&mut self, changes: &[TypeChange]) -> Result<Vec<Transfer>, AllocError>
         ensures plan { IfOk result (λ transfers. IsPlan self.new transfers.items changes.now) }
         ensures room { IfOk result (λ transfers. HasRoom self.new transfers.items) }

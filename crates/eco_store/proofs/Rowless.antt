@@ -136,6 +136,7 @@ sound_unprepared w s p places nothing none = record {
   places = places;
   moves = ready_nothing s p nothing;
   tidy = subst (λ (q : PreparedState). RowlessIn s q.targets) (sym nothing) none;
+  done = λ none_left. ap (λ (q : PreparedState). q.targets) nothing;
 }
 
 -- one more slot may be without rows

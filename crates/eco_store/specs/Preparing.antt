@@ -1,5 +1,5 @@
 -- Moves that have their room and are not yet made.
-use Rattle.std.specs.Prelude.{◌≢◌, ℕ, ◌+◌, ◌≤◌, ◌==◌, ◌&&◌, Bool, false, IsTrue, List, [], ◌∷◌, ◌++◌, map, nat_eq, Option, IsSome, if◌then◌else◌}
+use Rattle.std.specs.Prelude.{◌≡◌, ◌≢◌, ℕ, ◌+◌, ◌≤◌, ◌==◌, ◌&&◌, Bool, false, IsTrue, List, [], ◌∷◌, ◌++◌, map, nat_eq, Option, IsSome, if◌then◌else◌}
 use Rattle.std.specs.List.{All, AllPairs, list_any}
 use Rattle.eco_ids.specs.declared.entity.Entity.{Entity}
 use Rattle.eco_ids.specs.declared.id.Id.{Id}
@@ -47,6 +47,10 @@ pub record PreparedState : Type 0 where
 -- neither a move nor a target
 abbrev pub nothing_prepared : PreparedState
 nothing_prepared = record { arrivals = []; targets = [] }
+
+-- where no move is left, no table stays for one
+abbrev pub HasNoIdleTarget : PreparedState → Type 0
+HasNoIdleTarget p = p.arrivals ≡ [] → p.targets ≡ []
 
 -- one more, before all others
 abbrev pub with_arrival : PreparedState → Entity × ℕ → PreparedState

@@ -2,7 +2,7 @@
 ghost use Rattle.std.specs.Prelude.{◌≡◌, ◌≢◌, ◌∷◌, [], Some, nat_eq, not, IsTrue, IfOk, OnOk, OnErr};
 ghost use Rattle.std.specs.List.{list_any};
 ghost use Rattle.eco_store.specs.Archetypes.{type_at, RowlessIn};
-ghost use Rattle.eco_store.specs.Preparing.{nothing_prepared, moves_of, moves_beside, has_move, AreOfDifferent, IsReady};
+ghost use Rattle.eco_store.specs.Preparing.{nothing_prepared, moves_of, moves_beside, has_move, AreOfDifferent, HasNoIdleTarget, IsReady};
 ghost use Rattle.eco_store.specs.Seats.{SameRows};
 
 use crate::archetypes::Archetypes;
@@ -31,8 +31,10 @@ impl Prepared {
     pub fn forget_awaited(&mut self, archetypes: &mut Archetypes, entity: Entity)
         requires ready { IsReady archetypes.old self.old }
         requires tidy { RowlessIn archetypes.old self.old.targets }
+        requires done { HasNoIdleTarget self.old }
         ensures ready { IsReady archetypes.new self.new }
         ensures tidy { RowlessIn archetypes.new self.new.targets }
+        ensures done { HasNoIdleTarget self.new }
         ensures left { moves_of archetypes.new self.new ≡ moves_beside (moves_of archetypes.old self.old) entity }
         ensures rows { SameRows archetypes.old archetypes.new }
     {
@@ -47,6 +49,7 @@ impl Prepared {
         requires tidy { RowlessIn archetypes.old self.old.targets }
         ensures ready { IsReady archetypes.new self.new }
         ensures tidy { RowlessIn archetypes.new self.new.targets }
+        ensures done { HasNoIdleTarget self.new }
         ensures left { moves_of archetypes.new self.new ≡ moves_of archetypes.old self.old }
         ensures rows { SameRows archetypes.old archetypes.new }
     {
@@ -75,13 +78,14 @@ impl Prepared {
         requires tidy { RowlessIn archetypes.old self.old.targets }
         ensures ready { IsReady archetypes.new self.new }
         ensures tidy { RowlessIn archetypes.new self.new.targets }
+        ensures done { HasNoIdleTarget self.new }
         ensures ok { OnOk result (moves_of archetypes.new self.new ≡ moves.now) }
         ensures err { OnErr result (self.new ≡ nothing_prepared) }
         ensures rows { SameRows archetypes.old archetypes.new }
     {
         self.forget(archetypes);
         let planned = self.plan(archetypes, moves);
-        if planned.is_err() {
+        if planned.is_err() || moves.is_empty() {
             self.forget(archetypes);
         }
         planned

@@ -31,6 +31,7 @@ invariant_of-self c =
           (sym c.place_of.ensures ∙ c.unwrap-place.ensures) c.swap_out-moved.ensures.rows c.swap_out-moved.ensures.moved c.release.ensures.rows);
       moves = c.release.ensures.ready;
       tidy = c.release.ensures.tidy;
+      done = c.forget_awaited.ensures.done;
     }
 
 pub returns-clause-kept : goal.returns-clause-kept

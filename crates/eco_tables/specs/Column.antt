@@ -1,6 +1,7 @@
 -- The values of one id, a place for each row.
-use Rattle.std.specs.Prelude.{ℕ, ◌+◌, ◌-◌, List, [], ◌∷◌, ◌++◌, map, slice_index_or, slice_set, unwrap_or, if◌then◌else◌}
-use Rattle.std.specs.List.{swap_remove}
+use Rattle.std.specs.Prelude.{ℕ, ◌+◌, ◌-◌, List, [], ◌∷◌, ◌++◌, map, slice_index_or, slice_set, unwrap_or, drop, if◌then◌else◌}
+use Rattle.std.specs.List.{swap_remove, position_from}
+use Rattle.std.specs.Ordering.{is_ge}
 use Rattle.std.specs.FinMap.Entries.{find}
 use Rattle.eco_ids.specs.declared.id.Id.{Id}
 use Rattle.eco_ids.specs.declared.value.Value.{Value}
@@ -48,3 +49,7 @@ retyped ids held = map (λ i. (i, value_in held i)) ids
 -- what is held, with v as the value of the id, where it is held
 abbrev pub with_held : List (Id × Value) → Id → Value → List (Id × Value)
 with_held held i v = map (λ p. if id_eq p.0 i then (p.0, v) else p) held
+
+-- from a place on, the place of the first column whose id isn't below; the same place where there is none
+abbrev pub place_from : List ColumnState → ℕ → Id → ℕ
+place_from columns from i = unwrap_or (position_from (λ c. is_ge (id_cmp c.id i)) from (drop from columns)) from

@@ -4,7 +4,7 @@ ghost use Rattle.std.specs.List.{swap_remove, All};
 ghost use Rattle.std.specs.FinMap.Entries.{find};
 ghost use Rattle.eco_ids.specs.World.{zeros};
 ghost use Rattle.eco_ids.specs.Order.{id_cmp, is_ascending};
-ghost use Rattle.eco_tables.specs.Column.{ColumnState, pushed, with_removed, with_value, held_in, value_in, written, contents};
+ghost use Rattle.eco_tables.specs.Column.{ColumnState, pushed, with_removed, with_value, held_in, value_in, written, contents, place_from};
 
 use eco_ids::{Id, Value};
 use std::alloc::{AllocError, Global};
@@ -175,7 +175,9 @@ pub fn push_from(columns: &mut [Column], source: &[Column], row: usize)
 }
 
 // From a place on, the place of the first column whose id isn't below; the same place where there is none.
-fn next_place(columns: &[Column], from: usize, id: Id) -> usize {
+fn next_place(columns: &[Column], from: usize, id: Id) -> usize
+    ensures { result ≡ place_from columns.now from id }
+{
     for place in from..columns.len() {
         if columns[place].id() >= id {
             return place;

@@ -27,10 +27,19 @@ use std::marker::Model;
 ///
 /// A contract sees the index as its limit and the list of the states of its indices, each living one with its name and
 /// its place.
-#[derive(Drop)]
 pub struct EntityIndex {
     slots: Slots,
     names: Names,
+}
+
+// Written out, so that giving it up is one call, and an early return is short to prove.
+impl Drop for EntityIndex {
+    fn drop(self) {
+        let EntityIndex {
+            slots: _,
+            names: _,
+        } = self;
+    }
 }
 
 impl Model for EntityIndex {

@@ -18,12 +18,23 @@ use std::marker::Model;
 mod preparing;
 
 /// A contract sees the tables in their slots. No two tables have the same type.
-#[derive(Drop)]
 pub struct Archetypes {
     alloc: Global,
     tables: Tables,
     by_type: TypeMap,
     by_id: IdIndex,
+}
+
+// Written out, so that giving it up is one call, and an early return is short to prove.
+impl Drop for Archetypes {
+    fn drop(self) {
+        let Archetypes {
+            alloc: _,
+            tables: _,
+            by_type: _,
+            by_id: _,
+        } = self;
+    }
 }
 
 impl Model for Archetypes {

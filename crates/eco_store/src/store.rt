@@ -35,7 +35,6 @@ mod retyping;
 ///
 /// Moves stay prepared while the first of them is made ([`Store::retype`]) or an entity without a move of its own is taken
 /// out ([`Store::take_out`]). Any other call that may change the store leaves none of them.
-#[derive(Drop)]
 pub struct Store {
     alloc: Global,
     entities: EntityIndex,
@@ -53,6 +52,18 @@ impl Model for Store {
     ghost view = { λ s. record { kept = read s.entities s.archetypes; prepared = moves_of s.archetypes s.prepared } };
 
     ghost invariant = { λ s. IsSound s.entities s.archetypes s.prepared };
+}
+
+// Written out, so that giving it up is one call, and an early return is short to prove.
+impl Drop for Store {
+    fn drop(self) {
+        let Store {
+            alloc: _,
+            entities: _,
+            archetypes: _,
+            prepared: _,
+        } = self;
+    }
 }
 
 // What stands against a new entity of this name: its name, or that no index is left.

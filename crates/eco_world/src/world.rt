@@ -37,13 +37,23 @@ mod layout;
 ///
 /// A contract sees what is known of each index, and what each living entity has. No reader tells more than that, and a
 /// call that is refused leaves all of it as it was.
-#[derive(Drop)]
 pub struct World {
     alloc: Global,
     // Which handles live, their names, and their ids with values.
     store: Store,
     // The arity of the entity that lives at each index. One that isn't there is none: only components make the list grow.
     arities: Vec<Option<u8>>,
+}
+
+// Written out, so that giving it up is one call, and an early return is short to prove.
+impl Drop for World {
+    fn drop(self) {
+        let World {
+            alloc: _,
+            store: _,
+            arities: _,
+        } = self;
+    }
 }
 
 impl Model for World {

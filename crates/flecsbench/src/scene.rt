@@ -8,13 +8,24 @@ use std::alloc::Global;
 const LIMIT: u32 = 1_048_576;
 
 /// A world, and the entities and ids that a case is about, in the order of its calls.
-#[derive(Drop)]
 pub struct Scene {
     world: World,
     // Those that a relationship's pairs name, taking turns.
     targets: Vec<Entity>,
     entities: Vec<Entity>,
     work: Vec<(Entity, Id)>,
+}
+
+// Written out, so that giving it up is one call, and an early return is short to prove.
+impl Drop for Scene {
+    fn drop(self) {
+        let Scene {
+            world: _,
+            targets: _,
+            entities: _,
+            work: _,
+        } = self;
+    }
 }
 
 impl Scene {

@@ -12,10 +12,19 @@ use eco_ids::entity::{ACYCLIC, DELETE, EXCLUSIVE, ON_DELETE_TARGET};
 use eco_ids::{Entity, Id, Refusal, TypeList};
 use std::alloc::Global;
 
-#[derive(Drop)]
 pub struct Rows {
     alloc: Global,
     types: Vec<TypeList>,
+}
+
+// Written out, so that giving it up is one call, and an early return is short to prove.
+impl Drop for Rows {
+    fn drop(self) {
+        let Rows {
+            alloc: _,
+            types: _,
+        } = self;
+    }
 }
 
 impl Holdings for Rows {

@@ -4,28 +4,28 @@ use eco_ids::{Entity, Id, Pattern, Refusal, TypeList, Value};
 use std::alloc::Global;
 use std::test::Fail;
 
-#[test]
-fn an_entity_keeps_ids_and_values(rt: HostRuntime) -> Result<(), Fail> {
-    let mut store = Store::new(rt.alloc(), 16);
-    let nothing = TypeList::empty(rt.alloc());
+// Whether an entity that got itself as its id has just that, and its value once that was written.
+fn kept(alloc: Global, value: Value) -> Result<(bool, Option<Value>), Refusal> {
+    let mut store = Store::new(alloc, 16);
+    let nothing = TypeList::empty(alloc);
     let e = store.create(None, &nothing)?;
-    assert!(rt; store.is_alive(e));
-    store.retype(e, &nothing.with(Id::One(e))?)?;
-    assert!(rt; store.is_alive(e));
-    store.set_value(e, Id::One(e), Value([1, 2, 0, 0]));
-    assert_eq!(rt; store.value(e, Id::One(e)), Some(Value([1, 2, 0, 0])));
-    assert_eq!(rt; store.ids_of(e), [Id::One(e)].as_slice());
-    Ok(())
+    let own = nothing.with(Id::One(e))?;
+    if store.is_alive(e) {
+        store.retype(e, &own)?;
+    }
+    if store.is_alive(e) {
+        store.set_value(e, Id::One(e), value);
+    }
+    Ok((
+        store.ids_of(e) == [Id::One(e)].as_slice(),
+        store.value(e, Id::One(e)),
+    ))
 }
 
 #[test]
-fn tables_are_found(rt: HostRuntime) -> Result<(), Fail> {
-    let mut store = Store::new(rt.alloc(), 16);
-    let nothing = TypeList::empty(rt.alloc());
-    let tag = store.create(None, &nothing)?;
-    let _ = store.create(None, &nothing.with(Id::One(tag))?)?;
-    assert_eq!(rt; store.tables().len(), 2);
-    assert_eq!(rt; store.tables_with(Pattern::One(tag))?.slots.len(), 1);
+fn an_entity_keeps_ids_and_values(rt: HostRuntime) -> Result<(), Fail> {
+    let value = Value([1, 2, 0, 0]);
+    assert_eq!(rt; kept(rt.alloc(), value)?, (true, Some(value)));
     Ok(())
 }
 
@@ -38,29 +38,48 @@ fn tagged(alloc: Global, tag: Entity) -> Result<Store, Refusal> {
     Ok(store)
 }
 
+// How many tables there are, how many of them have the tag, and how many entities have it.
+fn found(alloc: Global, tag: Entity) -> Result<(usize, usize, usize), Refusal> {
+    let store = tagged(alloc, tag)?;
+    let with = store.tables_with(Pattern::One(tag))?.slots.len();
+    let holders = store.holders(Pattern::One(tag))?.len();
+    Ok((store.tables().len(), with, holders))
+}
+
+// Whether an entity has the tag.
+fn is_held(alloc: Global, tag: Entity) -> Result<bool, Refusal> {
+    let store = tagged(alloc, tag)?;
+    Ok(store.is_held(Pattern::One(tag)))
+}
+
 #[test]
-fn holders_are_found(rt: HostRuntime) -> Result<(), Fail> {
+fn tables_and_holders_are_found(rt: HostRuntime) -> Result<(), Fail> {
     let tag = Entity {
         index: 0,
         generation: 0,
     };
-    let store = tagged(rt.alloc(), tag)?;
-    assert!(rt; store.is_held(Pattern::One(tag)));
-    assert_eq!(rt; store.holders(Pattern::One(tag))?.len(), 1);
+    assert_eq!(rt; found(rt.alloc(), tag)?, (2, 1, 1));
+    assert!(rt; is_held(rt.alloc(), tag)?);
     Ok(())
+}
+
+// Who has the name once it is given to the only entity, what that is called, and what stands against another of the name.
+fn renamed(alloc: Global, name: &str) -> Result<(Option<Entity>, bool, Option<Refusal>), Refusal> {
+    let mut store = Store::new(alloc, 16);
+    let e = store.create(None, &TypeList::empty(alloc))?;
+    store.rename(e, Some(name))?;
+    let refused = store.check_new(Some(name)).err();
+    Ok((store.lookup(name), store.name(e) == Some(name), refused))
 }
 
 #[test]
 fn a_name_is_found(rt: HostRuntime) -> Result<(), Fail> {
-    let mut store = Store::new(rt.alloc(), 16);
-    let e = store.create(None, &TypeList::empty(rt.alloc()))?;
-    store.rename(e, Some("e"))?;
-    assert_eq!(rt; store.name(e), Some("e"));
-    assert_eq!(rt; store.lookup("e"), Some(e));
-    assert_eq!(rt;
-        store.check_new(Some("e")),
-        Err(eco_ids::Refusal::NameTaken)
-    );
+    let e = Entity {
+        index: 0,
+        generation: 0,
+    };
+    let wanted = (Some(e), true, Some(Refusal::NameTaken));
+    assert_eq!(rt; renamed(rt.alloc(), "e")?, wanted);
     Ok(())
 }
 

@@ -140,13 +140,18 @@ module _ (w : Indexed Registration) (s s1 : List (Option TableState)) (e : Entit
       let both = one_some (row_at s p.table p.row) mine.0 his.0 (sym (λ t. row_at s (a t) (b t)) ∙ mine.1) his.1 in
       other (sym (ap (λ (x : Entity). x.index) mine.2) ∙ ap (λ (x : Row). x.entity.index) both ∙ ap (λ (x : Entity). x.index) his.2)))
 
+  -- what the entity holds, its row does
+  pub held_read : held_by (read w s) e ≡ old_row.held
+  held_read =
+      let r = placed_record w e p own in
+      ap (λ o. unwrap_or (option_map (λ (k : Kept). k.held) o) []) (read_record w s e r.0 r.1) ∙ ap (held_at (row_at s)) r.2 ∙ ap held_of old_there
+
   pub written_read : read w s1 ≡ with_holding (read w s) e (with_held (held_by (read w s) e) i v)
   written_read =
       let r = placed_record w e p own in
       let living = living_at w e r.0 r.1 in
       let before : record_of (read w s) e ≡ Some (kept (row_at s) r.0) = read_record w s e r.0 r.1 in
-      let held : held_by (read w s) e ≡ old_row.held =
-      ap (λ o. unwrap_or (option_map (λ (k : Kept). k.held) o) []) before ∙ ap (held_at (row_at s)) r.2 ∙ ap held_of old_there in
+      let held = held_read in
       let after : Kept = record { name = r.0.name; held = with_held (held_by (read w s) e) i v } in
       let here : slice_get (read w s1).indices e.index ≡ Some (Living e.generation after) =
       slice_get-map (map_state (kept (row_at s1))) w.indices e.index ∙ ap (option_map (map_state (kept (row_at s1)))) living

@@ -1,7 +1,9 @@
 //! The tables of a store, one for each type, found by type and by the entities that types name.
 ghost use Rattle.std.specs.Prelude.{◌≡◌, ◌≢◌, ◌↔◌, ◌&&◌, nat_lt, nat_eq, filter, List, ℕ, ◌<◌, ◌≤◌, ◌∷◌, [], length, slice_get, slice_set, Some, None, IsSome, IsTrue, IfOk, IfSome, IfNone, MatchResult, ◌++◌, OnOk, OnErr, OnSome, is_some};
 ghost use Rattle.std.specs.List.{list_any, IsDistinct};
+ghost use Rattle.std.specs.FinMap.Entries.{find};
 ghost use Rattle.eco_ids.specs.declared.id.Id.{Id as Ids};
+ghost use Rattle.eco_ids.specs.Order.{id_cmp};
 ghost use Rattle.eco_tables.specs.Column.{value_in, with_held};
 ghost use Rattle.eco_tables.specs.Table.{TableState, Row, entities_of};
 ghost use Rattle.eco_tables.specs.Tables.{slot_of, table_in, row_in, Sets, Moves, with_row, without_row, rowless_type};
@@ -174,12 +176,14 @@ impl Archetypes {
         self.tables.reserve_rows(slot, more)
     }
 
-    /// Writes the value of an id in a row, and takes no memory. Where the table's type lacks the id nothing is written.
-    pub fn set_value(&mut self, slot: usize, row: usize, id: Id, value: Value)
+    /// Writes the value of an id in a row, and takes no memory. The answer is whether the table's type has the id; where it
+    /// lacks it nothing is written.
+    pub fn set_value(&mut self, slot: usize, row: usize, id: Id, value: Value) -> bool
         requires { row < length (table_in self.old slot).rows }
-        ensures { Sets self.old self.new slot (Some (record (table_in self.old slot) { rows = slice_set (table_in self.old slot).rows row (record { entity = (row_in self.old slot row).entity; held = with_held (row_in self.old slot row).held id value }) })) }
+        ensures written { Sets self.old self.new slot (Some (record (table_in self.old slot) { rows = slice_set (table_in self.old slot).rows row (record { entity = (row_in self.old slot row).entity; held = with_held (row_in self.old slot row).held id value }) })) }
+        ensures had { result ≡ is_some (find id_cmp id (row_in self.old slot row).held) }
     {
-        self.tables.set_value(slot, row, id, value);
+        self.tables.set_value(slot, row, id, value)
     }
 
     /// A row for a new entity, with zeros, in room that was reserved.

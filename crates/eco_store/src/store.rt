@@ -1,5 +1,5 @@
 //! The store of a world: each living entity with its name, its ids and their values.
-ghost use Rattle.std.specs.Prelude.{◌≡◌, ◌≤◌, ◌<◌, ◌&&◌, nat_lt, nat_eq, List, ℕ, [], length, None, Some, IsTrue, OnOk, OnErr, IfOk, IfSome, MatchOption, option_map, map};
+ghost use Rattle.std.specs.Prelude.{◌≡◌, ◌≤◌, ◌<◌, ◌&&◌, nat_lt, nat_eq, List, ℕ, [], length, None, Some, is_some, IsTrue, OnOk, OnErr, IfOk, IfSome, MatchOption, option_map, map};
 ghost use Rattle.std.specs.Option.{option_copied};
 ghost use Rattle.std.specs.FinMap.Entries.{find};
 ghost use Rattle.eco_ids.specs.Births.{unfit_name, Makes, may_make, Admits, may_admit, RevivesWith};
@@ -295,14 +295,16 @@ impl Store {
         self.entities.rename(e, name)
     }
 
-    /// Writes the value of an id that a living entity has, and takes no memory. Where it lacks the id nothing is written.
-    pub fn set_value(&mut self, e: Entity, id: Id, value: Value)
+    /// Writes the value of an id that a living entity has, and takes no memory. The answer is whether it has the id; where
+    /// it lacks it nothing is written.
+    pub fn set_value(&mut self, e: Entity, id: Id, value: Value) -> bool
         requires { IsTrue (is_alive self.old.kept e) }
         ensures written { self.new.kept ≡ with_holding self.old.kept e (with_held (held_by self.old.kept e) id value) }
+        ensures had { result ≡ is_some (find id_cmp id (held_by self.old.kept e)) }
         ensures unprepared { self.new.prepared ≡ [] }
     {
         self.prepared.forget(&mut self.archetypes);
         let place = self.entities.place_of(e).unwrap();
-        self.archetypes.set_value(place.table, place.row, id, value);
+        self.archetypes.set_value(place.table, place.row, id, value)
     }
 }

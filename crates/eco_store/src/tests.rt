@@ -13,13 +13,9 @@ fn kept(alloc: Global, value: Value) -> Result<(bool, Option<Value>), Refusal> {
     if store.is_alive(e) {
         store.retype(e, &own)?;
     }
-    if store.is_alive(e) {
-        store.set_value(e, Id::One(e), value);
-    }
-    Ok((
-        store.ids_of(e) == [Id::One(e)].as_slice(),
-        store.value(e, Id::One(e)),
-    ))
+    let is_there = store.is_alive(e) && store.set_value(e, Id::One(e), value);
+    let has_just_it = store.ids_of(e) == [Id::One(e)].as_slice();
+    Ok((is_there && has_just_it, store.value(e, Id::One(e))))
 }
 
 #[test]

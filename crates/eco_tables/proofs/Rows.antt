@@ -9,8 +9,9 @@ use Rattle.eco_ids.specs.declared.id.Id.{Id}
 use Rattle.eco_ids.specs.declared.value.Value.{Value}
 use Rattle.eco_ids.specs.World.{zeros}
 use Rattle.eco_ids.specs.Order.{id_eq}
+use Rattle.eco_tables.proofs.Columns.{written}
 use Rattle.eco_tables.proofs.Lists.{before, before_within, get_or-swap_remove, length-swap_remove}
-use Rattle.eco_tables.specs.Column.{ColumnState, held_in, contents, pushed, with_removed, with_value, written, with_held}
+use Rattle.eco_tables.specs.Column.{ColumnState, held_in, contents, pushed, with_removed, with_value, with_held}
 use Rattle.eco_tables.specs.Table.{Row, rows_from, HasShape, entities_of, HasIds}
 
 -- a Vec's elements, after all of them were written through a slice
@@ -128,7 +129,7 @@ pushed_rows g cs ids es e even kinds =
     ∙ (λ t. old t ++ record { entity = e; held = (ap (λ n. held_in ds n) (let h : 0 + length es ≡ length es = omega arith in h) ∙ new) t } ∷ [])
 
 -- a write
-pub written_rows : (cs : List ColumnState) (es : List Entity) (row : ℕ) (i : Id) (v : Value) (r : Row)
+written_rows : (cs : List ColumnState) (es : List Entity) (row : ℕ) (i : Id) (v : Value) (r : Row)
     → All (λ c. length c.values ≡ length es) cs → row < length es
     → rows_from (map (λ c. written c row i v) cs) 0 es
     ≡ set (rows_from cs 0 es) row (record { entity = (get_or (rows_from cs 0 es) row r).entity; held = with_held (get_or (rows_from cs 0 es) row r).held i v })
@@ -173,6 +174,13 @@ written_rows cs es row i v r even there =
             → ◌≡◌ {A = Id × Value} ((if b then with_value d row v else d).id, get_or (if b then with_value d row v else d).values row zeros) (if b then (d.id, v) else (d.id, get_or d.values row zeros))
         by true h = ap (λ x. (d.id, x)) (get_or-set_same d.values row v zeros h)
         by false h = refl
+
+-- the rows under columns of which each was written
+pub rows_after : (cs ds : List ColumnState) (es : List Entity) (row : ℕ) (i : Id) (v : Value) (r : Row)
+    → ds ≡ map (λ c. written c row i v) cs → All (λ c. length c.values ≡ length es) cs → row < length es
+    → rows_from ds 0 es
+    ≡ set (rows_from cs 0 es) row (record { entity = (get_or (rows_from cs 0 es) row r).entity; held = with_held (get_or (rows_from cs 0 es) row r).held i v })
+rows_after cs ds es row i v r is even there = ap (λ xs. rows_from xs 0 es) is ∙ written_rows cs es row i v r even there
 
 pub ids_kept : (f : ColumnState → ColumnState) → ((c : ColumnState) → (f c).id ≡ c.id) → (cs : List ColumnState) → map (λ c. c.id) (map f cs) ≡ map (λ c. c.id) cs
 ids_kept f same [] = refl

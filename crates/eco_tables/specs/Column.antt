@@ -30,10 +30,6 @@ with_value c row v = record c { values = slice_set c.values row v }
 abbrev pub with_removed : ColumnState → ℕ → ColumnState
 with_removed c row = record { id = c.id; values = swap_remove c.values row zeros; room = c.room + 1 }
 
--- the column with a value in the row, where it is the id's
-abbrev pub written : ColumnState → ℕ → Id → Value → ColumnState
-written c row i v = if id_eq c.id i then with_value c row v else c
-
 -- what a row holds: each id with its value
 abbrev pub held_in : List ColumnState → ℕ → List (Id × Value)
 held_in columns row = map (λ c. (c.id, slice_index_or c.values row zeros)) columns

@@ -4,7 +4,7 @@ ghost use Rattle.std.specs.List.{swap_remove, All};
 ghost use Rattle.std.specs.FinMap.Entries.{find};
 ghost use Rattle.eco_ids.specs.World.{zeros};
 ghost use Rattle.eco_ids.specs.Order.{id_cmp, is_ascending};
-ghost use Rattle.eco_tables.specs.Column.{ColumnState, pushed, with_removed, with_value, held_in, value_in, written, contents, place_from};
+ghost use Rattle.eco_tables.specs.Column.{ColumnState, pushed, with_removed, with_value, held_in, value_in, contents, place_from};
 
 use eco_ids::{Id, Value};
 use std::alloc::{AllocError, Global};
@@ -70,14 +70,12 @@ impl Column {
         self.values[row]
     }
 
-    /// Writes the value in a row if the column has this id; else nothing.
-    pub fn write(&mut self, row: usize, id: Id, value: Value)
+    /// Writes the value in a row.
+    pub fn write(&mut self, row: usize, value: Value)
         requires { row < length self.old.values }
-        ensures { self.new ≡ written self.old row id value }
+        ensures { self.new ≡ with_value self.old row value }
     {
-        if self.id.is(id) {
-            self.values[row] = value;
-        }
+        self.values[row] = value;
     }
 
     /// The row's value goes, and the last one takes its place.
@@ -120,16 +118,6 @@ pub fn value_at(columns: &[Column], row: usize, id: Id) -> Value
         }
     }
     Value::ZERO
-}
-
-/// Writes the value of an id in a row; nothing where no column has the id.
-pub fn set_value(columns: &mut [Column], row: usize, id: Id, value: Value)
-    requires { All (λ c. row < length c.values) columns.old }
-    ensures { columns.new ≡ map (λ c. written c row id value) columns.old }
-{
-    for column in columns.iter_mut() {
-        column.write(row, id, value);
-    }
 }
 
 /// One column for each id, without a row.

@@ -1,5 +1,5 @@
 //! The parts of a table: the entities of one type, and a column of values for each id.
-ghost use Rattle.std.specs.Prelude.{◌≡◌, ◌<◌, ◌≤◌, ◌+◌, ◌-◌, ◌++◌, [], ◌∷◌, length, slice_index_or, slice_set, OnOk, OnErr, IfOk, slice_get};
+ghost use Rattle.std.specs.Prelude.{◌≡◌, ◌<◌, ◌≤◌, ◌+◌, ◌-◌, ◌++◌, [], ◌∷◌, length, slice_index_or, slice_set, is_some, OnOk, OnErr, IfOk, slice_get};
 ghost use Rattle.std.specs.List.{swap_remove, All};
 ghost use Rattle.std.specs.FinMap.Entries.{find};
 ghost use Rattle.eco_ids.specs.Order.{id_cmp};
@@ -7,9 +7,7 @@ ghost use Rattle.eco_ids.specs.World.{zeros};
 ghost use Rattle.eco_tables.specs.Column.{value_in, with_held, retyped};
 ghost use Rattle.eco_tables.specs.Table.{TableState, Row, entities_of, retyped_row, HasIds};
 
-use crate::column::{
-    Column, columns_of, push_from, push_zeros, reserve, set_value, swap_out_row, value_at,
-};
+use crate::column::{Column, columns_of, push_from, push_zeros, reserve, swap_out_row, value_at};
 use eco_ids::{Entity, Id, TypeList, Value};
 use std::alloc::{AllocError, Global};
 use std::marker::Model;
@@ -93,12 +91,20 @@ impl Grid {
         Some(self.columns[place].value(row))
     }
 
-    /// Writes that one value and takes no memory. Where the type lacks the id nothing is written.
-    pub(crate) fn set_value(&mut self, row: usize, id: Id, value: Value)
+    /// Writes that one value and takes no memory. The answer is whether the type has the id; where it lacks it nothing is
+    /// written.
+    pub(crate) fn set_value(&mut self, row: usize, id: Id, value: Value) -> bool
         requires { row < length self.old.rows }
-        ensures { (r : Row) → self.new ≡ record self.old { rows = slice_set self.old.rows row (record { entity = (slice_index_or self.old.rows row r).entity; held = with_held (slice_index_or self.old.rows row r).held id value }) } }
+        ensures written { (r : Row) → self.new ≡ record self.old { rows = slice_set self.old.rows row (record { entity = (slice_index_or self.old.rows row r).entity; held = with_held (slice_index_or self.old.rows row r).held id value }) } }
+        ensures had { (r : Row) → result ≡ is_some (find id_cmp id (slice_index_or self.old.rows row r).held) }
     {
-        set_value(self.columns.as_mut_slice(), row, id, value);
+        // Its ids ascend, and so do the ids of its columns.
+        let _ids = self.type_list.as_slice();
+        let Some(place) = self.type_list.find(id) else {
+            return false;
+        };
+        self.columns[place].write(row, value);
+        true
     }
 
     /// Room for more rows. An `Err` keeps all rows and the room that was there.

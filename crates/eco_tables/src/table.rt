@@ -1,5 +1,5 @@
 //! A table: the entities of one type, and a column of values for each id.
-ghost use Rattle.std.specs.Prelude.{◌≡◌, ◌<◌, ◌≤◌, ◌+◌, ◌-◌, ◌++◌, [], ◌∷◌, length, slice_index_or, slice_set, OnOk, IfOk, slice_get};
+ghost use Rattle.std.specs.Prelude.{◌≡◌, ◌<◌, ◌≤◌, ◌+◌, ◌-◌, ◌++◌, [], ◌∷◌, length, slice_index_or, slice_set, is_some, OnOk, IfOk, slice_get};
 ghost use Rattle.std.specs.List.{swap_remove, All};
 ghost use Rattle.std.specs.FinMap.Entries.{find};
 ghost use Rattle.eco_ids.specs.Order.{id_cmp};
@@ -79,12 +79,14 @@ impl Table {
         self.grid.find_value(row, id)
     }
 
-    /// Writes that one value and takes no memory. Where the type lacks the id nothing is written.
-    pub fn set_value(&mut self, row: usize, id: Id, value: Value)
+    /// Writes that one value and takes no memory. The answer is whether the type has the id; where it lacks it nothing is
+    /// written.
+    pub fn set_value(&mut self, row: usize, id: Id, value: Value) -> bool
         requires { row < length self.old.rows }
-        ensures { (r : Row) → self.new ≡ record self.old { rows = slice_set self.old.rows row (record { entity = (slice_index_or self.old.rows row r).entity; held = with_held (slice_index_or self.old.rows row r).held id value }) } }
+        ensures written { (r : Row) → self.new ≡ record self.old { rows = slice_set self.old.rows row (record { entity = (slice_index_or self.old.rows row r).entity; held = with_held (slice_index_or self.old.rows row r).held id value }) } }
+        ensures had { (r : Row) → result ≡ is_some (find id_cmp id (slice_index_or self.old.rows row r).held) }
     {
-        self.grid.set_value(row, id, value);
+        self.grid.set_value(row, id, value)
     }
 
     /// Room for more rows. An `Err` keeps all rows and the room that was there.

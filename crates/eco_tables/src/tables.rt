@@ -1,5 +1,7 @@
 //! Tables, each in a slot of its own.
 ghost use Rattle.std.specs.Prelude.{◌≡◌, ◌≢◌, ℕ, ◌<◌, ◌≤◌, ◌+◌, [], ◌∷◌, length, slice_get, slice_index_or, slice_set, None, Some, IsSome, is_some, OnSome, IfNone, count_by, OnOk, OnErr, IfOk, option_copied};
+ghost use Rattle.std.specs.FinMap.Entries.{find};
+ghost use Rattle.eco_ids.specs.Order.{id_cmp};
 ghost use Rattle.eco_tables.specs.Column.{value_in, with_held};
 ghost use Rattle.eco_tables.specs.Table.{TableState, Row, entities_of};
 ghost use Rattle.eco_tables.specs.Tables.{slot_of, table_in, row_in, no_row, Sets, Moves, with_row, without_row, rowless_type, AllHaveIds};
@@ -21,10 +23,7 @@ pub struct Tables {
 // Written out, so that giving it up is one call, and an early return is short to prove.
 impl Drop for Tables {
     fn drop(self) {
-        let Tables {
-            alloc: _,
-            slots: _,
-        } = self;
+        let Tables { alloc: _, slots: _ } = self;
     }
 }
 
@@ -168,13 +167,15 @@ impl Tables {
         table.waive();
     }
 
-    /// Writes the value of an id in a row, and takes no memory. Where the table's type lacks the id nothing is written.
-    pub fn set_value(&mut self, slot: usize, row: usize, id: Id, value: Value)
+    /// Writes the value of an id in a row, and takes no memory. The answer is whether the table's type has the id; where it
+    /// lacks it nothing is written.
+    pub fn set_value(&mut self, slot: usize, row: usize, id: Id, value: Value) -> bool
         requires { row < length (table_in self.old slot).rows }
-        ensures { Sets self.old self.new slot (Some (record (table_in self.old slot) { rows = slice_set (table_in self.old slot).rows row (record { entity = (row_in self.old slot row).entity; held = with_held (row_in self.old slot row).held id value }) })) }
+        ensures written { Sets self.old self.new slot (Some (record (table_in self.old slot) { rows = slice_set (table_in self.old slot).rows row (record { entity = (row_in self.old slot row).entity; held = with_held (row_in self.old slot row).held id value }) })) }
+        ensures had { result ≡ is_some (find id_cmp id (row_in self.old slot row).held) }
     {
         let table = &mut self.slots[slot];
-        table.set_value(row, id, value);
+        table.set_value(row, id, value)
     }
 
     /// A row for a new entity, with zeros, in room that was reserved.

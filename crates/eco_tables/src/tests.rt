@@ -32,8 +32,8 @@ fn a_table_keeps_rows(rt: HostRuntime) -> Result<(), Fail> {
     table.push_row(SECOND);
     assert_eq!(rt; table.row_count(), 2);
     assert_eq!(rt; table.value(1, POSITION), Value::ZERO);
-    table.set_value(1, POSITION, Value([1, 2, 0, 0]));
-    table.set_value(0, VELOCITY, Value([7, 7, 0, 0]));
+    assert!(rt; table.set_value(1, POSITION, Value([1, 2, 0, 0])));
+    assert!(rt; !table.set_value(0, VELOCITY, Value([7, 7, 0, 0])));
     assert_eq!(rt; table.row_count(), 2);
     assert_eq!(rt; table.swap_out(0), Some(SECOND));
     assert_eq!(rt; table.rows(), [SECOND].as_slice());

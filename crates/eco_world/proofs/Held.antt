@@ -100,7 +100,7 @@ retyped_without held i up =
 
 -- ---- another value
 
-none_written : (held : Held) (i : Id) (v : Value) → find id_cmp i held ≡ None → with_held held i v ≡ held
+pub none_written : (held : Held) (i : Id) (v : Value) → find id_cmp i held ≡ None → with_held held i v ≡ held
 none_written [] i v none = refl
 none_written (p ∷ held) i v none =
     elim (id_eq i p.0) as (λ b. id_eq i p.0 ≡ b → cond b (Some p.1) (find id_cmp i held) ≡ None → with_held (p ∷ held) i v ≡ p ∷ held) [

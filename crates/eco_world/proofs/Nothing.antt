@@ -1,4 +1,4 @@
--- Taking away an id that isn't there.
+-- An id that isn't there: taking it away and writing its value change nothing.
 use Rattle.std.proofs.Common.{◌≡◌, ℕ, zero, suc, Bool, true, false, cond, not, unwrap_or, ◌==◌, List, [], ◌∷◌, set, Option, Some, None, option_map, is_some, slice_get, refl, sym, ap, ◌∙◌, true≢false, eqb-true}
 use Rattle.std.specs.FinMap.Entries.{find, where_key}
 use Rattle.std.proofs.lemmas.Option.{same_Some, none-some}
@@ -10,6 +10,8 @@ use Rattle.eco_ids.specs.Step.{changed, change_record, without_id}
 use Rattle.eco_ids.specs.Order.{id_cmp, id_eq}
 use Rattle.eco_ids.specs.World.{WorldState, Record, has}
 use Rattle.eco_traits.specs.Same.{id_eq_is, id_eq_itself}
+use Rattle.eco_world.specs.Retyped.{with_written}
+use Rattle.eco_world.proofs.Held.{none_written}
 
 pub living_in_state : {A : Type 0} (o : Option (IndexState A)) (g : ℕ) (r : A) → record_in o g ≡ Some r → o ≡ Some (Living g r)
 living_in_state None g r h = absurd (none-some r h)
@@ -48,4 +50,19 @@ nothing_taken w e i absent = go (record_of w e) refl
     go (Some r) at =
         ap (λ held. record w { indices = set w.indices e.index (Living e.generation (record r { held = held })) })
         (all_kept i r.held (sym (ap (λ o. is_some (find id_cmp i (unwrap_or (option_map (λ (d : Record). d.held) o) []))) at) ∙ absent))
+        ∙ ap (λ xs. record w { indices = xs }) (set_same w.indices e.index (Living e.generation r) (living_in_state (slice_get w.indices e.index) e.generation r at))
+
+pub nothing_written : (w : WorldState) (e : Entity) (i : Id) (v : Value) → has w e i ≡ false → changed w e (with_written i v) ≡ w
+nothing_written w e i v absent = go (record_of w e) refl
+  where
+    none : (o : Option Value) → is_some o ≡ false → o ≡ None
+    none None h = refl
+    none (Some x) h = absurd (true≢false h)
+
+    go : (o : Option Record) → record_of w e ≡ o → change_record w e (with_written i v) o ≡ w
+    go None at = refl
+    go (Some r) at =
+        ap (λ held. record w { indices = set w.indices e.index (Living e.generation (record r { held = held })) })
+        (none_written r.held i v
+        (none (find id_cmp i r.held) (sym (ap (λ o. is_some (find id_cmp i (unwrap_or (option_map (λ (d : Record). d.held) o) []))) at) ∙ absent)))
         ∙ ap (λ xs. record w { indices = xs }) (set_same w.indices e.index (Living e.generation r) (living_in_state (slice_get w.indices e.index) e.generation r at))

@@ -1,14 +1,12 @@
 -- An id goes from every entity that has it.
-use Rattle.std.proofs.Common.{◌≡◌, ◌≢◌, ℕ, zero, suc, ◌+◌, ◌-◌, ◌<◌, Bool, true, false, true≢false, cond, not, ◌||◌, ◌&&◌, T, IsTrue, List, [], ◌∷◌, ◌++◌, map, fold, filter, length, get_or, slice_get, Option, Some, None, option_map, unwrap_or, is_some, Result, Ok, Err, MatchBool, ◌↔◌, refl, sym, ap, ◌∙◌, subst, arith}
+use Rattle.std.proofs.Common.{◌≡◌, ◌≢◌, ℕ, zero, suc, ◌+◌, ◌-◌, ◌<◌, Bool, true, false, true≢false, cond, not, ◌||◌, T, List, [], ◌∷◌, map, fold, length, get_or, slice_get, Option, Some, None, option_map, unwrap_or, is_some, Ok, MatchBool, ◌↔◌, refl, sym, ap, ◌∙◌, subst, arith}
 use Rattle.std.specs.List.{All, Contains, list_any, range_with_len}
 use Rattle.std.specs.FinMap.Entries.{find, is_sorted, where_key}
 use Rattle.std.proofs.lemmas.List.Elements.{All-head, All-tail}
 use Rattle.std.proofs.lemmas.List.{get_or-map, length-map}
 use Rattle.eco_ids.specs.declared.entity.Entity.{Entity}
 use Rattle.eco_ids.specs.declared.id.Id.{Id}
-use Rattle.eco_ids.specs.declared.refusal.Refusal.{Refusal}
 use Rattle.eco_ids.specs.declared.refusal.Refusal.TheVariants.{Reserved}
-use Rattle.eco_ids.specs.declared.value.Value.{Value}
 use Rattle.eco_ids.specs.Builtin.{is_builtins}
 use Rattle.eco_ids.specs.Indices.{Indexed, IndexState, Retired, Free, Living, map_state, record_of}
 use Rattle.eco_ids.specs.Lawful.{IsLawful}
@@ -16,7 +14,7 @@ use Rattle.eco_ids.specs.Matching.{pattern_matches}
 use Rattle.eco_ids.specs.Order.{has_item, id_cmp, id_eq, without_item}
 use Rattle.eco_ids.specs.Outcome.{Answers, Refuses}
 use Rattle.eco_ids.specs.Step.{RemovesAll, without_id}
-use Rattle.eco_ids.specs.World.{Record, WorldState, has}
+use Rattle.eco_ids.specs.World.{Record, has}
 use Rattle.eco_query.specs.Queries.{exactly}
 use Rattle.eco_store.specs.declared.type_change.TypeChange.{TypeChange}
 use Rattle.eco_store.specs.Retyping.{after_change, after_changes, changed_kept, kept_ids, IsOneWay, IsTypeWith}

@@ -16,12 +16,14 @@ use Rattle.eco_ids.specs.Laws.{Keeps, AddsExactly, AddsOnce}
 use Rattle.eco_ids.specs.Lawful.{IsLawful}
 use Rattle.eco_ids.specs.Order.{id_cmp, has_item, without_item}
 use Rattle.eco_ids.specs.Outcome.{Meets, Answers, Refuses, is_out_of_memory}
+use Rattle.eco_ids.specs.Step as step
 use Rattle.eco_ids.specs.Step.{changed, change_record, without_id, with_value, with_closure, is_displaced, is_pair_of, IsClosure, Judges, Extends, Adds, may_add, unfit, unchanged, Sets, unfit_set, Removes, Clears, Changes, without_ids, unfit_actor}
 use Rattle.eco_ids.specs.World.{WorldState, Record, zeros, has, held_by, names_living, is_exclusive}
 use Rattle.eco_traits.specs.Target.{FindsType, IsTypeWith, type_of_record}
 use Rattle.eco_tables.specs.Column.{value_in, retyped}
 use Rattle.eco_world.specs.Actor.{MaySet}
 use Rattle.eco_world.specs.Retyped.{type_of, with_type, with_written}
+use Rattle.eco_world.proofs.Nothing.{nothing_written}
 use Rattle.eco_world.proofs.Held.{keys, retyped_is, retyped_without, written_is}
 
 -- ---- records and their changes
@@ -89,6 +91,21 @@ pub written_value : (w : WorldState) (e : Entity) (i : Id) (v : Value) → IsLaw
 written_value w e i v lawful there = changed_alike w e (with_written i v) (with_value i v) (λ d at.
     ap (λ held. record d { held = held })
     (written_is d.held i v (sorted_at w e d lawful at) (sym (ap (λ held. is_some (find id_cmp i held)) (held_at w e d at)) ∙ there)))
+
+-- what was written is a value where the id is there, else nothing
+pub written_there : (w : WorldState) (e : Entity) (i : Id) (v : Value) (had : Bool) → IsLawful w → had ≡ has w e i
+    → MatchBool had (changed w e (with_written i v) ≡ changed w e (with_value i v)) (changed w e (with_written i v) ≡ w)
+written_there w e i v true lawful is = written_value w e i v lawful (sym is)
+written_there w e i v false lawful is = nothing_written w e i v (sym is)
+
+-- so the world is lawful where it is with the value
+pub written_lawful : (w : WorldState) (e : Entity) (i : Id) (v : Value) → IsLawful w → (has w e i ≡ true → IsLawful (changed w e (with_value i v)))
+    → IsLawful (changed w e (with_written i v))
+written_lawful w e i v lawful then_lawful = by (has w e i) refl
+  where
+    by : (b : Bool) → has w e i ≡ b → IsLawful (changed w e (with_written i v))
+    by true there = subst IsLawful (sym (written_value w e i v lawful there)) (then_lawful there)
+    by false absent = subst IsLawful (sym (nothing_written w e i v absent)) lawful
 
 -- ---- a closure more
 
@@ -227,6 +244,25 @@ module _ (w : WorldState) (e : Entity) (i : Id) (v : Value) (may_set : MaySet w 
 
   pub lawful_there : has w e i ≡ true → IsLawful (changed w e (with_value i v))
   lawful_there there = keeps w (Ok tt) (changed w e (with_value i v)) lawful (sets_there there)
+
+  -- what stands against the closure stands against the set, and where memory is wanting neither changes anything
+  pub refused_after : has w e i ≡ false → (why : Refusal) (new : WorldState) → Meets (Extends w e i unchanged) true w (Err why) new
+      → Meets (Sets w e i v) (step.may_set w e i v) w (Err why) new
+  refused_after absent why new =
+      elim (is_out_of_memory {A = Unit {0}} (Err why)) as (λ b.
+      MatchBool b (IsTrue true × (new ≡ w)) (Extends w e i unchanged (Err why) new)
+      → MatchBool b (IsTrue (step.may_set w e i v) × (new ≡ w)) (Sets w e i v (Err why) new)) [
+        | true ↦ λ m. (ap (λ o. not (is_some o) && not (has w e i)) fit_set ∙ ap not absent, m.1)
+        | false ↦ λ x.
+            subst (λ o. MatchOption o (MatchBool (has w e i) (Answers tt (changed w e (with_value i v)) (Err why) new) (Extends w e i (with_value i v) (Err why) new)) (λ y. Refuses {A = Unit {0}} y w (Err why) new)) (sym fit_set)
+            (subst (λ b. MatchBool b (Answers tt (changed w e (with_value i v)) (Err why) new) (Extends w e i (with_value i v) (Err why) new)) (sym absent)
+            (refused x.0 x.1 x.2 x.3 x.4))
+      ]
+    where
+      refused : (s : List Id) → IsClosure w i s → (verdict : Option Refusal) → Judges w e s verdict →
+          MatchOption verdict (Answers {A = Unit {0}} tt (changed w e (λ d. unchanged (with_closure w s d))) (Err why) new) (λ y. Refuses {A = Unit {0}} y w (Err why) new) → Extends w e i (with_value i v) (Err why) new
+      refused s closure None judges m = absurd (is_done why (sym m.0))
+      refused s closure (Some y) judges m = (s, closure, Some y, judges, m)
 
   -- after the id was added
   module _ (absent : has w e i ≡ false) (once : AddsOnce) (mid : WorldState) (extends : Extends w e i unchanged (Ok tt) mid) where

@@ -1,5 +1,5 @@
 //! The calls that change a world.
-ghost use Rattle.std.specs.Prelude.{◌≡◌, ◌≤◌, ◌∷◌, [], false, IfErr, IfOk, IsOk, IsTrue, map, Ok, OnErr, OnOk, true};
+ghost use Rattle.std.specs.Prelude.{◌≡◌, ◌≤◌, ◌∷◌, [], false, IfErr, IfOk, IsOk, IsTrue, map, MatchBool, Ok, OnErr, OnOk, true};
 ghost use Rattle.std.specs.Option.{option_copied};
 ghost use Rattle.eco_ids.specs.declared.id.Id.TheVariants.{Two};
 ghost use Rattle.eco_ids.specs.declared.value.TheConstants.{LARGEST_ARITY};
@@ -118,8 +118,7 @@ impl World {
         eco_ids::laws::add_adds_once();
         self.is_lawful();
         self.check_set(entity, id, value)?;
-        if self.has(entity, id) {
-            self.write(entity, id, value);
+        if self.write(entity, id, value) {
             return Ok(());
         }
         self.extend(entity, id)?;
@@ -238,13 +237,14 @@ impl World {
         self.store.retype(entity, ids)
     }
 
-    // The entity has this value at an id that it has.
-    fn write(&mut self, entity: Entity, id: Id, value: Value)
+    // Where the entity has the id it has this value there from now on, else nothing changes. The answer is whether it has
+    // the id, so that a set looks for it once.
+    fn write(&mut self, entity: Entity, id: Id, value: Value) -> bool
         requires alive { is_alive self.old entity ≡ true }
-        requires there { has self.old entity id ≡ true }
-        requires lawful { IsLawful (changed self.old entity (with_value id value)) }
-        ensures { self.new ≡ changed self.old entity (with_value id value) }
+        requires lawful { has self.old entity id ≡ true → IsLawful (changed self.old entity (with_value id value)) }
+        ensures had { result ≡ has self.old entity id }
+        ensures written { MatchBool result (self.new ≡ changed self.old entity (with_value id value)) (self.new ≡ self.old) }
     {
-        self.store.set_value(entity, id, value);
+        self.store.set_value(entity, id, value)
     }
 }

@@ -10,6 +10,6 @@ invariant_of-self c =
     let within : c.args.row < length table.rows =
     subst (λ o. c.args.row < length (unwrap_or o no_table).rows) c.index_mut-table.ensures.value (rw (← c.self.view_is) at c.requires) in
     changed_have c.self.inside.slots c.args.slot c.set_value.new.self (ap is_some c.index_mut-table.ensures.value)
-    (subst RowsHaveIds (sym (c.set_value.ensures no_row))
+    (subst RowsHaveIds (sym (c.set_value.ensures.written no_row))
     (written_has table c.args.row c.args.id c.args.value within (there_has c.self.inside.slots.slots c.args.slot table c.index_mut-table.ensures.value c.self.invariant)))
     c.self.invariant

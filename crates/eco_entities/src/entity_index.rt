@@ -35,10 +35,7 @@ pub struct EntityIndex {
 // Written out, so that giving it up is one call, and an early return is short to prove.
 impl Drop for EntityIndex {
     fn drop(self) {
-        let EntityIndex {
-            slots: _,
-            names: _,
-        } = self;
+        let EntityIndex { slots: _, names: _ } = self;
     }
 }
 

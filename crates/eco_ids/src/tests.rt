@@ -201,38 +201,58 @@ fn matches_and_overlaps(rt: HostRuntime) {
     assert!(rt; !Id::Two(likes, pears).names(apples));
 }
 
+// The list of these ids.
+fn listed(alloc: Global, ids: &[Id]) -> Result<TypeList, AllocError> {
+    let mut list = TypeList::empty(alloc);
+    for id in ids {
+        list = list.with(*id)?;
+    }
+    Ok(list)
+}
+
+// Whether just these are left of a list once an id is taken from it.
+fn leaves(alloc: Global, ids: &[Id], id: Id, left: &[Id]) -> Result<bool, AllocError> {
+    let list = listed(alloc, ids)?;
+    Ok(list.without(id)?.as_slice() == left)
+}
+
 #[test]
 fn keeps_its_order(rt: HostRuntime) -> Result<(), Fail> {
-    let likes = at(3);
-    let list = TypeList::empty(rt.alloc())
-        .with(Id::Two(likes, at(2)))?
-        .with(Id::One(at(9)))?
-        .with(Id::One(at(1)))?
-        .with(Id::One(at(9)))?;
-    assert_eq!(rt;
-        list.as_slice(),
-        [Id::One(at(1)), Id::One(at(9)), Id::Two(likes, at(2))].as_slice()
-    );
-    let liked = Pattern::Two(Part::Is(likes), Part::Any);
-    assert_eq!(rt; list.first_match(liked), Some(Id::Two(likes, at(2))));
-    assert!(rt; list.has(Id::One(at(9))));
-    assert!(rt; !list.without(Id::One(at(9)))?.has(Id::One(at(9))));
+    let pair = Id::Two(at(3), at(2));
+    let ids = [pair, Id::One(at(9)), Id::One(at(1)), Id::One(at(9))];
+    let list = listed(rt.alloc(), &ids)?;
+    let ascending = [Id::One(at(1)), Id::One(at(9)), pair];
+    assert_eq!(rt; list.as_slice(), ascending.as_slice());
+    assert!(rt; leaves(rt.alloc(), &ids, Id::One(at(9)), &[Id::One(at(1)), pair])?);
     Ok(())
 }
 
-// Six ids are more than a list keeps inline.
+#[test]
+fn finds_its_ids(rt: HostRuntime) -> Result<(), Fail> {
+    let likes = at(3);
+    let list = listed(rt.alloc(), &[Id::Two(likes, at(2)), Id::One(at(9))])?;
+    let liked = Pattern::Two(Part::Is(likes), Part::Any);
+    assert_eq!(rt; list.first_match(liked), Some(Id::Two(likes, at(2))));
+    assert!(rt; list.has(Id::One(at(9))));
+    assert!(rt; !list.has(Id::One(likes)));
+    Ok(())
+}
+
+// What a map finds for a list where it has 7 for six ids, more than a list keeps inline, and 8 for the first five.
+fn found(alloc: Global, six: &[Id; 6], ids: &[Id]) -> Result<Option<u32>, Refusal> {
+    let mut numbers: HashMap<TypeList, u32> = HashMap::new(alloc);
+    numbers.insert(listed(alloc, six)?, 7)?;
+    numbers.insert(listed(alloc, &six[..5])?, 8)?;
+    let list = listed(alloc, ids)?;
+    Ok(numbers.get(&list.try_copy()?).copied())
+}
+
 #[test]
 fn serves_as_a_key(rt: HostRuntime) -> Result<(), Fail> {
-    let mut list = TypeList::empty(rt.alloc());
-    for index in 0..6 {
-        list = list.with(Id::One(at(index)))?;
-    }
-    let shorter = list.without(Id::One(at(5)))?;
-    let mut tables: HashMap<TypeList, u32> = HashMap::new(rt.alloc());
-    tables.insert(list.try_copy()?, 7)?;
-    tables.insert(shorter.try_copy()?, 8)?;
-    assert_eq!(rt; tables.get(&list).copied(), Some(7));
-    assert_eq!(rt; tables.get(&shorter).copied(), Some(8));
-    assert_eq!(rt; tables.get(&TypeList::empty(rt.alloc())).copied(), None);
+    let [a, b, c] = [Id::One(at(0)), Id::One(at(1)), Id::One(at(2))];
+    let six = [a, b, c, Id::One(at(3)), Id::One(at(4)), Id::One(at(5))];
+    assert_eq!(rt; found(rt.alloc(), &six, &six)?, Some(7));
+    assert_eq!(rt; found(rt.alloc(), &six, &six[..5])?, Some(8));
+    assert_eq!(rt; found(rt.alloc(), &six, &[])?, None);
     Ok(())
 }

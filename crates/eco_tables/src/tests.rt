@@ -1,6 +1,7 @@
 //! Each call once, with ample memory.
 use super::*;
 use eco_ids::{Entity, Id, TypeList, Value};
+use std::alloc::{AllocError, Global};
 use std::test::Fail;
 
 const FIRST: Entity = Entity {
@@ -23,69 +24,131 @@ const VELOCITY: Id = Id::One(Entity {
     generation: 0,
 });
 
-#[test]
-fn a_table_keeps_rows(rt: HostRuntime) -> Result<(), Fail> {
-    let type_list = TypeList::empty(rt.alloc()).with(POSITION)?;
-    let mut table = Table::new(rt.alloc(), type_list)?;
+const WRITTEN: Value = Value([1, 2, 0, 0]);
+
+// Who stands in the only row, and its values; none, where there isn't just one row.
+fn only_row(table: &Table) -> Option<(Entity, [Value; 2])> {
+    if table.row_count() != 1 {
+        return None;
+    }
+    let values = [table.value(0, POSITION), table.value(0, VELOCITY)];
+    Some((table.rows()[0], values))
+}
+
+// Who moved into the hole when the first of two rows went, and the row that is left.
+fn swapped(alloc: Global) -> Result<(Option<Entity>, Option<(Entity, [Value; 2])>), AllocError> {
+    let type_list = TypeList::empty(alloc).with(POSITION)?;
+    let mut table = Table::new(alloc, type_list)?;
     table.reserve(2)?;
     table.push_row(FIRST);
     table.push_row(SECOND);
-    assert_eq!(rt; table.row_count(), 2);
-    assert_eq!(rt; table.value(1, POSITION), Value::ZERO);
-    assert!(rt; table.set_value(1, POSITION, Value([1, 2, 0, 0])));
-    assert!(rt; !table.set_value(0, VELOCITY, Value([7, 7, 0, 0])));
-    assert_eq!(rt; table.row_count(), 2);
-    assert_eq!(rt; table.swap_out(0), Some(SECOND));
-    assert_eq!(rt; table.rows(), [SECOND].as_slice());
-    assert_eq!(rt; table.value(0, POSITION), Value([1, 2, 0, 0]));
-    assert_eq!(rt; table.value(0, VELOCITY), Value::ZERO);
-    assert_eq!(rt; table.swap_out(0), None);
-    assert_eq!(rt; table.into_type_list().as_slice(), [POSITION].as_slice());
-    Ok(())
+    table.set_value(1, POSITION, WRITTEN);
+    table.set_value(0, VELOCITY, Value([7, 7, 0, 0]));
+    let moved = table.swap_out(0);
+    Ok((moved, only_row(&table)))
+}
+
+// Whether a position can be written, and a velocity, where there are positions alone.
+fn written(alloc: Global) -> Result<[bool; 2], AllocError> {
+    let type_list = TypeList::empty(alloc).with(POSITION)?;
+    let mut table = Table::new(alloc, type_list)?;
+    table.reserve(1)?;
+    table.push_row(FIRST);
+    let position = table.set_value(0, POSITION, WRITTEN);
+    let velocity = table.set_value(0, VELOCITY, WRITTEN);
+    Ok([position, velocity])
+}
+
+// Whether a table gives back the type that it was made of.
+fn gives_back(alloc: Global) -> Result<bool, AllocError> {
+    let type_list = TypeList::empty(alloc).with(POSITION)?;
+    let table = Table::new(alloc, type_list)?;
+    Ok(table.into_type_list().as_slice() == [POSITION].as_slice())
 }
 
 #[test]
-fn a_row_moves_with_its_values(rt: HostRuntime) -> Result<(), Fail> {
-    let mut tables = Tables::new(rt.alloc());
-    let one = tables.insert(TypeList::empty(rt.alloc()).with(POSITION)?)?;
-    let two = tables.insert(TypeList::empty(rt.alloc()).with(POSITION)?.with(VELOCITY)?)?;
+fn a_table_keeps_rows(rt: HostRuntime) -> Result<(), Fail> {
+    let left = (SECOND, [WRITTEN, Value::ZERO]);
+    assert_eq!(rt; swapped(rt.alloc())?, (Some(SECOND), Some(left)));
+    assert_eq!(rt; written(rt.alloc())?, [true, false]);
+    assert!(rt; gives_back(rt.alloc())?);
+    Ok(())
+}
+
+// Who moved into the hole when the first of two rows went to a table with one more id, and the row that is there.
+fn moved(alloc: Global) -> Result<(Option<Entity>, Option<(Entity, [Value; 2])>), AllocError> {
+    let position = TypeList::empty(alloc).with(POSITION)?;
+    let both = position.with(VELOCITY)?;
+    let mut tables = Tables::new(alloc);
+    let one = tables.insert(position)?;
+    let two = tables.insert(both)?;
     tables.reserve_rows(one, 2)?;
     tables.reserve_rows(two, 1)?;
     tables.push_row(one, FIRST);
     tables.push_row(one, SECOND);
-    tables.set_value(one, 0, POSITION, Value([1, 2, 0, 0]));
-    assert_eq!(rt; tables.move_row(one, 0, two), Some(SECOND));
-    assert_eq!(rt; tables.row_count(one), 1);
-    assert_eq!(rt; tables.drop_empty(one), None);
-    let moved = tables.get(two).ok_or("the second table is there")?;
-    assert_eq!(rt;
-        moved.type_list().as_slice(),
-        [POSITION, VELOCITY].as_slice()
-    );
-    assert_eq!(rt; moved.rows(), [FIRST].as_slice());
-    assert_eq!(rt; moved.row_count(), 1);
-    assert_eq!(rt; moved.value(0, POSITION), Value([1, 2, 0, 0]));
-    assert_eq!(rt; moved.value(0, VELOCITY), Value::ZERO);
-    assert_eq!(rt; tables.len(), 2);
-    assert_eq!(rt; tables.swap_out(one, 0), None);
-    let dropped = tables
-        .drop_empty(one)
-        .ok_or("a table without rows is dropped")?;
-    assert_eq!(rt; dropped.as_slice(), [POSITION].as_slice());
-    assert!(rt; !tables.contains(one));
-    assert_eq!(rt; tables.iter().next().map(|(slot, _)| slot), Some(two));
-    Ok(())
+    tables.set_value(one, 0, POSITION, WRITTEN);
+    let hole = tables.move_row(one, 0, two);
+    match tables.get(two) {
+        Some(table) => Ok((hole, only_row(table))),
+        None => Ok((hole, None)),
+    }
 }
 
 #[test]
-fn room_adds_up(rt: HostRuntime) -> Result<(), Fail> {
-    let mut tables = Tables::new(rt.alloc());
-    let slot = tables.insert(TypeList::empty(rt.alloc()).with(POSITION)?)?;
+fn a_row_moves_with_its_values(rt: HostRuntime) -> Result<(), Fail> {
+    let there = (FIRST, [WRITTEN, Value::ZERO]);
+    assert_eq!(rt; moved(rt.alloc())?, (Some(SECOND), Some(there)));
+    Ok(())
+}
+
+// Whether a table with one row is dropped, and once the row is gone whether it gives back its type; then how many are left.
+fn dropped(alloc: Global) -> Result<(bool, bool, usize), AllocError> {
+    let mut tables = Tables::new(alloc);
+    let slot = tables.insert(TypeList::empty(alloc).with(POSITION)?)?;
+    tables.reserve_rows(slot, 1)?;
+    tables.push_row(slot, FIRST);
+    let early = tables.drop_empty(slot).is_some();
+    tables.swap_out(slot, 0);
+    let is_own = match tables.drop_empty(slot) {
+        Some(type_list) => type_list.as_slice() == [POSITION].as_slice(),
+        None => false,
+    };
+    Ok((early, is_own, tables.len()))
+}
+
+// The slot of the first table that is left when the first of two was dropped, and whether that is there.
+fn left(alloc: Global) -> Result<(Option<usize>, bool), AllocError> {
+    let mut tables = Tables::new(alloc);
+    tables.insert(TypeList::empty(alloc))?;
+    tables.insert(TypeList::empty(alloc))?;
+    tables.drop_empty(0);
+    Ok((
+        tables.iter().next().map(|(slot, _)| slot),
+        tables.contains(0),
+    ))
+}
+
+#[test]
+fn a_table_without_rows_is_dropped(rt: HostRuntime) -> Result<(), Fail> {
+    assert_eq!(rt; dropped(rt.alloc())?, (false, true, 0));
+    assert_eq!(rt; left(rt.alloc())?, (Some(1), false));
+    Ok(())
+}
+
+// How many rows go into a table with room for one and one more.
+fn added_up(alloc: Global) -> Result<usize, AllocError> {
+    let mut tables = Tables::new(alloc);
+    let slot = tables.insert(TypeList::empty(alloc).with(POSITION)?)?;
     tables.waive(slot);
     tables.reserve_more(slot, 1)?;
     tables.reserve_more(slot, 1)?;
     tables.push_row(slot, FIRST);
     tables.push_row(slot, SECOND);
-    assert_eq!(rt; tables.row_count(slot), 2);
+    Ok(tables.row_count(slot))
+}
+
+#[test]
+fn room_adds_up(rt: HostRuntime) -> Result<(), Fail> {
+    assert_eq!(rt; added_up(rt.alloc())?, 2);
     Ok(())
 }

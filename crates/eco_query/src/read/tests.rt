@@ -111,6 +111,7 @@ fn refuses_queries(rt: HostRuntime) {
         ("?(R, *), a", Refusal::WildcardHere),
         ("(R, *) || a", Refusal::WildcardHere),
         ("Nope || (*, x)", Refusal::WildcardHere),
+        ("R, ?#1.0, (a, *) || #2.0", Refusal::WildcardHere),
         ("!a", Refusal::NoPositive),
         ("!(Nope, *)", Refusal::NoPositive),
         ("R, Nope", Refusal::UnknownName { at: 3 }),
@@ -156,27 +157,54 @@ fn reads_a_query(rt: HostRuntime) {
     );
 }
 
+// Whether an entity of just these ids has a type that the query matches.
+fn matches(alloc: Global, text: &str, ids: &[Id]) -> Result<bool, Refusal> {
+    let query = read_query(alloc, text, &Known)?;
+    let mut own = TypeList::empty(alloc);
+    for id in ids {
+        own = own.with(*id)?;
+    }
+    Ok(query.matches_type(&own))
+}
+
+// Whether the query reads just these patterns.
+fn reads(alloc: Global, text: &str, patterns: &[Pattern]) -> Result<bool, Refusal> {
+    let query = read_query(alloc, text, &Known)?;
+    Ok(query.reads(alloc)?.as_slice() == patterns)
+}
+
+const OF_FIVE: &str = "R, !a, ?#1.0, (a, R) || #2.0";
+
 #[test]
 fn matches_types(rt: HostRuntime) -> Result<(), Refusal> {
-    let query = read_query(rt.alloc(), "R, !a, ?#1.0, (a, *) || #2.0 || #3.0", &Known);
-    assert!(rt; matches!(query, Err(Refusal::WildcardHere)));
-    let query = read_query(rt.alloc(), "R, !a, ?#1.0, (a, R) || #2.0", &Known)?;
-    let own = TypeList::empty(rt.alloc()).with(Id::One(entity(9, 0)))?;
-    assert!(rt; !query.matches_type(&own));
-    let paired = own.with(Id::Two(entity(10, 0), entity(9, 0)))?;
-    assert!(rt; query.matches_type(&paired));
-    assert!(rt; query.matches_type(&own.with(Id::One(entity(2, 0)))?));
-    assert!(rt; !query.matches_type(&paired.with(Id::One(entity(10, 0)))?));
-    assert!(rt;
-        query.reads(rt.alloc())?.as_slice()
-            == [
-                Pattern::One(entity(9, 0)),
-                Pattern::One(entity(10, 0)),
-                Pattern::One(entity(1, 0)),
-                Pattern::Two(Part::Is(entity(10, 0)), Part::Is(entity(9, 0))),
-                Pattern::One(entity(2, 0)),
-            ]
-            .as_slice()
-    );
+    let [r, a, b] = [
+        Id::One(entity(9, 0)),
+        Id::One(entity(10, 0)),
+        Id::One(entity(2, 0)),
+    ];
+    let pair = Id::Two(entity(10, 0), entity(9, 0));
+    let types: [(&[Id], bool); 5] = [
+        (&[r], false),
+        (&[r, pair], true),
+        (&[r, b], true),
+        (&[r, pair, a], false),
+        (&[pair], false),
+    ];
+    for (ids, wanted) in types {
+        assert!(rt; matches(rt.alloc(), OF_FIVE, ids)? == wanted);
+    }
+    Ok(())
+}
+
+#[test]
+fn reads_patterns(rt: HostRuntime) -> Result<(), Refusal> {
+    let patterns = [
+        Pattern::One(entity(9, 0)),
+        Pattern::One(entity(10, 0)),
+        Pattern::One(entity(1, 0)),
+        Pattern::Two(Part::Is(entity(10, 0)), Part::Is(entity(9, 0))),
+        Pattern::One(entity(2, 0)),
+    ];
+    assert!(rt; reads(rt.alloc(), OF_FIVE, &patterns)?);
     Ok(())
 }

@@ -20,10 +20,7 @@ pub struct Rows {
 // Written out, so that giving it up is one call, and an early return is short to prove.
 impl Drop for Rows {
     fn drop(self) {
-        let Rows {
-            alloc: _,
-            types: _,
-        } = self;
+        let Rows { alloc: _, types: _ } = self;
     }
 }
 

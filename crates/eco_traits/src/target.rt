@@ -45,11 +45,29 @@ pub fn target_type<H: Holdings>(
     if is_plain(id, traits) {
         return Ok(own.with(id)?);
     }
+    closed_type(alloc, holdings, entity, own, id, traits)
+}
+
+// What `target_type` does with an id that isn't plain, apart, so that one that is needs no room for what this one keeps.
+#[inline(never)]
+fn closed_type<H: Holdings>(
+    alloc: Global,
+    holdings: &H,
+    entity: Entity,
+    own: &TypeList,
+    added: Id,
+    traits: &TypeList,
+) -> Result<TypeList, Refusal>
+    requires lives { IsTrue (world.names_living (H.world holdings.now) added) }
+    requires own { Some own.now ≡ option_map type_of_record (record_of (H.world holdings.now) entity) }
+    requires traits { Some traits.now ≡ option_map type_of_record (record_of (H.world holdings.now) (head_of added)) }
+    ensures { FindsType (H.world holdings.now) entity added result }
+{
     if brings_any(traits) {
-        let coming = closure(alloc, holdings, id)?;
-        judged_type(alloc, holdings, entity, own, id, coming.as_slice())
+        let coming = closure(alloc, holdings, added)?;
+        judged_type(alloc, holdings, entity, own, added, coming.as_slice())
     } else {
-        judged_type(alloc, holdings, entity, own, id, &[id])
+        judged_type(alloc, holdings, entity, own, added, &[added])
     }
 }
 

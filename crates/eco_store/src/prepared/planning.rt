@@ -20,9 +20,20 @@ impl Prepared {
         ensures nothing { self.new ≡ nothing_prepared }
         ensures rows { SameRows archetypes.old archetypes.new }
     {
-        if self.is_idle() {
-            return;
+        if !self.is_idle() {
+            self.forget_all(archetypes);
         }
+    }
+
+    // What `forget` does where something was prepared, apart, so that a call with nothing prepared costs no more than a look.
+    #[cold]
+    #[inline(never)]
+    fn forget_all(&mut self, archetypes: &mut Archetypes)
+        requires { RowlessIn archetypes.old self.old.targets }
+        ensures tidy { RowlessIn archetypes.new [] }
+        ensures nothing { self.new ≡ nothing_prepared }
+        ensures rows { SameRows archetypes.old archetypes.new }
+    {
         archetypes.drop_each(self.targets());
         self.clear();
     }

@@ -1,6 +1,6 @@
 use Rattle.std.proofs.Common.{◌++◌, [], sym, ap, ◌∙◌, subst, append-nil}
 use Rattle.eco_store.specs.Archetypes.{RowlessIn}
-use Rattle.eco_store.proofs.prepared.Prepared.forget.Goals as goal
+use Rattle.eco_store.proofs.prepared.Prepared.forget_all.Goals as goal
 
 pub returns-clause-tidy : goal.returns-clause-tidy
 returns-clause-tidy c =

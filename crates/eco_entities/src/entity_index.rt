@@ -32,7 +32,7 @@ pub struct EntityIndex {
     names: Names,
 }
 
-// Written out, so that giving it up is one call, and an early return is short to prove.
+// By hand, so that dropping it is one call: a derived drop is proved anew at each early return of whoever holds it.
 impl Drop for EntityIndex {
     fn drop(self) {
         let EntityIndex { slots: _, names: _ } = self;

@@ -37,7 +37,7 @@ pub struct Query {
     slots: Vec<Slot>,
 }
 
-// Written out, so that giving it up is one call, and an early return is short to prove.
+// By hand, so that dropping it is one call: a derived drop is proved anew at each early return of whoever holds it.
 impl Drop for Query {
     fn drop(self) {
         let Query { slots: _ } = self;

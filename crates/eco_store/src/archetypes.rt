@@ -27,7 +27,7 @@ pub struct Archetypes {
     by_id: IdIndex,
 }
 
-// Written out, so that giving it up is one call, and an early return is short to prove.
+// By hand, so that dropping it is one call: a derived drop is proved anew at each early return of whoever holds it.
 impl Drop for Archetypes {
     fn drop(self) {
         let Archetypes {

@@ -54,7 +54,7 @@ impl Model for Store {
     ghost invariant = { λ s. IsSound s.entities s.archetypes s.prepared };
 }
 
-// Written out, so that giving it up is one call, and an early return is short to prove.
+// By hand, so that dropping it is one call: a derived drop is proved anew at each early return of whoever holds it.
 impl Drop for Store {
     fn drop(self) {
         let Store {

@@ -20,7 +20,7 @@ pub struct Tables {
     slots: Slab<Table>,
 }
 
-// Written out, so that giving it up is one call, and an early return is short to prove.
+// By hand, so that dropping it is one call: a derived drop is proved anew at each early return of whoever holds it.
 impl Drop for Tables {
     fn drop(self) {
         let Tables { alloc: _, slots: _ } = self;

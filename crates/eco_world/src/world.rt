@@ -45,7 +45,7 @@ pub struct World {
     arities: Vec<Option<u8>>,
 }
 
-// Written out, so that giving it up is one call, and an early return is short to prove.
+// By hand, so that dropping it is one call: a derived drop is proved anew at each early return of whoever holds it.
 impl Drop for World {
     fn drop(self) {
         let World {

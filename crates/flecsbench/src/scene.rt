@@ -16,7 +16,7 @@ pub struct Scene {
     work: Vec<(Entity, Id)>,
 }
 
-// Written out, so that giving it up is one call, and an early return is short to prove.
+// By hand, so that dropping it is one call: a derived drop is proved anew at each early return of whoever holds it.
 impl Drop for Scene {
     fn drop(self) {
         let Scene {

@@ -17,7 +17,7 @@ pub struct Rows {
     types: Vec<TypeList>,
 }
 
-// Written out, so that giving it up is one call, and an early return is short to prove.
+// By hand, so that dropping it is one call: a derived drop is proved anew at each early return of whoever holds it.
 impl Drop for Rows {
     fn drop(self) {
         let Rows { alloc: _, types: _ } = self;

@@ -48,29 +48,39 @@ fn swapped(alloc: Global) -> Result<(Option<Entity>, Option<(Entity, [Value; 2])
     Ok((moved, only_row(&table)))
 }
 
-// Whether a position can be written, and a velocity, where there are positions alone.
-fn written(alloc: Global) -> Result<[bool; 2], AllocError> {
+// What is found of a position and a velocity in the only row; nothing, where there isn't just one row.
+fn found(table: &Table) -> [Option<Value>; 2] {
+    if table.row_count() != 1 {
+        return [None; 2];
+    }
+    [table.find_value(0, POSITION), table.find_value(0, VELOCITY)]
+}
+
+// Whether a position can be written, and a velocity, where there are positions alone; and what is found of both then.
+fn written(alloc: Global) -> Result<([bool; 2], [Option<Value>; 2]), AllocError> {
     let type_list = TypeList::empty(alloc).with(POSITION)?;
     let mut table = Table::new(alloc, type_list)?;
     table.reserve(1)?;
     table.push_row(FIRST);
     let position = table.set_value(0, POSITION, WRITTEN);
     let velocity = table.set_value(0, VELOCITY, WRITTEN);
-    Ok([position, velocity])
+    Ok(([position, velocity], found(&table)))
 }
 
-// Whether a table gives back the type that it was made of.
+// Whether a table tells the type that it was made of, and gives it back.
 fn gives_back(alloc: Global) -> Result<bool, AllocError> {
     let type_list = TypeList::empty(alloc).with(POSITION)?;
     let table = Table::new(alloc, type_list)?;
-    Ok(table.into_type_list().as_slice() == [POSITION].as_slice())
+    let is_told = table.type_list().as_slice() == [POSITION].as_slice();
+    Ok(is_told && table.into_type_list().as_slice() == [POSITION].as_slice())
 }
 
 #[test]
 fn a_table_keeps_rows(rt: HostRuntime) -> Result<(), Fail> {
     let left = (SECOND, [WRITTEN, Value::ZERO]);
     assert_eq!(rt; swapped(rt.alloc())?, (Some(SECOND), Some(left)));
-    assert_eq!(rt; written(rt.alloc())?, [true, false]);
+    let there = ([true, false], [Some(WRITTEN), None]);
+    assert_eq!(rt; written(rt.alloc())?, there);
     assert!(rt; gives_back(rt.alloc())?);
     Ok(())
 }

@@ -7,9 +7,10 @@ use Rattle.std.proofs.lemmas.Slice.Eq.{bytes_eq-Decides}
 use Rattle.eco_ids.specs.declared.entity.Entity.{Entity}
 use Rattle.eco_ids.specs.Indices.{Indexed, IndexState, Retired, Free, Living, record_in, record_of, living_from}
 use Rattle.eco_ids.specs.Names.{is_text, is_called, bearer}
-use Rattle.eco_entities.specs.Registration.{Registration, name_of, own_name}
+use Rattle.eco_ids.specs.Renaming.{own_name}
+use Rattle.eco_entities.specs.Registration.{Registration, name_of}
 use Rattle.eco_entities.specs.Registry.{IsRegistry}
-use Rattle.eco_entities.proofs.States.{record_here}
+use Rattle.eco_ids.proofs.States.{record_here}
 
 -- `is_text` is equality
 
@@ -39,12 +40,14 @@ IsBearer n xs name q = (n ≤ q.0.index) × (record_in (slice_get xs (q.0.index 
 abbrev Found : ℕ → List (IndexState Registration) → List ℕ → Option (Entity × Registration) → Type 0
 Found n xs name o = MatchOption o (NoBearer xs name) (IsBearer n xs name)
 
-none_after : (x : IndexState Registration) (xs : List (IndexState Registration)) (name : List ℕ) → ((g : ℕ) (r : Registration) → record_in (Some x) g ≡ Some r → is_called name (name_of r) ≡ false) → NoBearer xs name → NoBearer (x ∷ xs) name
+none_after : (x : IndexState Registration) (xs : List (IndexState Registration)) (name : List ℕ) →
+    ((g : ℕ) (r : Registration) → record_in (Some x) g ≡ Some r → is_called name (name_of r) ≡ false) → NoBearer xs name → NoBearer (x ∷ xs) name
 none_after x xs name here rest zero g r h = here g r h
 none_after x xs name here rest (suc i) g r h = rest i g r h
 
 -- one state in front, at which nobody has the name
-found_later : (n : ℕ) (x : IndexState Registration) (xs : List (IndexState Registration)) (name : List ℕ) (o : Option (Entity × Registration)) → ((g : ℕ) (r : Registration) → record_in (Some x) g ≡ Some r → is_called name (name_of r) ≡ false) → Found (n + 1) xs name o → Found n (x ∷ xs) name o
+found_later : (n : ℕ) (x : IndexState Registration) (xs : List (IndexState Registration)) (name : List ℕ) (o : Option (Entity × Registration)) →
+    ((g : ℕ) (r : Registration) → record_in (Some x) g ≡ Some r → is_called name (name_of r) ≡ false) → Found (n + 1) xs name o → Found n (x ∷ xs) name o
 found_later n x xs name None here rest = none_after x xs name here rest
 found_later n x xs name (Some q) here rest =
     let above : n + 1 ≤ q.0.index = rest.0 in
@@ -58,7 +61,8 @@ living_one g f r q h =
       | inr ne ↦ absurd (none-some q (sym (ap (λ b. cond b (Some r) None) (ne_eqb f g ne)) ∙ h))
     ]
 
-found_living : (n g : ℕ) (r : Registration) (xs : List (IndexState Registration)) (name : List ℕ) (b : Bool) (o : Option (Entity × Registration)) → is_called name (name_of r) ≡ b → Found (n + 1) xs name o → Found n (Living g r ∷ xs) name (cond b (Some (record { index = n; generation = g }, r)) o)
+found_living : (n g : ℕ) (r : Registration) (xs : List (IndexState Registration)) (name : List ℕ) (b : Bool) (o : Option (Entity × Registration)) →
+    is_called name (name_of r) ≡ b → Found (n + 1) xs name o → Found n (Living g r ∷ xs) name (cond b (Some (record { index = n; generation = g }, r)) o)
 found_living n g r xs name true o e rest =
     let here : n - n ≡ 0 = omega arith in
     (omega arith, rw here (record_here g r), e)
@@ -71,21 +75,24 @@ found_from n (Retired ∷ xs) name = found_later n Retired xs name _ (λ g r h. 
 found_from n (Free f ∷ xs) name = found_later n (Free f) xs name _ (λ g r h. absurd (none-some r h)) (found_from (n + 1) xs name)
 found_from n (Living g r ∷ xs) name = found_living n g r xs name (is_called name (name_of r)) _ refl (found_from (n + 1) xs name)
 
-unnamed : {name : List ℕ} (o : Option Registration) → option_and_then name_of o ≡ Some name → ((r : Registration) → o ≡ Some r → is_called name (name_of r) ≡ false) → ⊥
+unnamed : {name : List ℕ} (o : Option Registration) → option_and_then name_of o ≡ Some name →
+    ((r : Registration) → o ≡ Some r → is_called name (name_of r) ≡ false) → ⊥
 unnamed {name} None h none = none-some name h
 unnamed {name} (Some r) h none = false≢true (sym (none r refl) ∙ (ap (is_called name) h ∙ text_refl name))
 
 -- in a registry, what is found under a name is its bearer
-registry_finds : (found : List ℕ → Option Entity) (w : Indexed Registration) (name : List ℕ) (o : Option (Entity × Registration)) → IsRegistry found (own_name w) → Found 0 w.indices name o → (f : Option Entity) → f ≡ found name → f ≡ option_map (λ p. p.0) o
+registry_finds : (found : List ℕ → Option Entity) (w : Indexed Registration) (name : List ℕ) (o : Option (Entity × Registration)) →
+    IsRegistry found (own_name name_of w) → Found 0 w.indices name o → (f : Option Entity) → f ≡ found name → f ≡ option_map (λ p. p.0) o
 registry_finds found w name None r none None e = refl
 registry_finds found w name None r none (Some x) e =
-    let lived : own_name w x ≡ Some name = r.lives name x (sym e) in
+    let lived : own_name name_of w x ≡ Some name = r.lives name x (sym e) in
     absurd (unnamed (record_of w x) lived (none x.index x.generation))
 registry_finds found w name (Some q) r has f e =
     let place : q.0.index - 0 ≡ q.0.index = omega arith in
     let kept : record_of w q.0 ≡ Some q.1 = rw place at has.1 in
-    let named : own_name w q.0 ≡ Some name = ap (option_and_then name_of) kept ∙ called_same name (name_of q.1) has.2 in
+    let named : own_name name_of w q.0 ≡ Some name = ap (option_and_then name_of) kept ∙ called_same name (name_of q.1) has.2 in
     e ∙ r.listed name q.0 named
 
-pub registry_bearer : (found : List ℕ → Option Entity) (w : Indexed Registration) (name : List ℕ) → IsRegistry found (own_name w) → found name ≡ bearer name_of w name
+pub registry_bearer : (found : List ℕ → Option Entity) (w : Indexed Registration) (name : List ℕ) → IsRegistry found (own_name name_of w) →
+    found name ≡ bearer name_of w name
 registry_bearer found w name r = registry_finds found w name _ r (found_from 0 w.indices name) (found name) refl

@@ -103,7 +103,8 @@ word-without_bit_other ws k w ne = rw get_or-set_other
 -- the summary
 
 -- a bit set below is set above
-pub summarizes-with_bit : (lower upper : List ℕ) (k : ℕ) → Summarizes lower upper → k / 64 < length lower → k / 64 / 64 < length upper → Summarizes (with_bit lower k) (with_bit upper (k / 64))
+pub summarizes-with_bit : (lower upper : List ℕ) (k : ℕ) → Summarizes lower upper → k / 64 < length lower → k / 64 / 64 < length upper →
+    Summarizes (with_bit lower k) (with_bit upper (k / 64))
 summarizes-with_bit lower upper k s l u = record {
   exact = λ w. elim (cases_eq w (k / 64)) [
     | inl e ↦
@@ -115,7 +116,8 @@ summarizes-with_bit lower upper k s l u = record {
 }
 
 -- the last bit of a word is cleared above too
-pub summarizes_emptied : (lower upper : List ℕ) (k : ℕ) → Summarizes lower upper → get_or (without_bit lower k) (k / 64) 0 ≡ 0 → k / 64 / 64 < length upper → Summarizes (without_bit lower k) (without_bit upper (k / 64))
+pub summarizes_emptied : (lower upper : List ℕ) (k : ℕ) → Summarizes lower upper → get_or (without_bit lower k) (k / 64) 0 ≡ 0 → k / 64 / 64 < length upper →
+    Summarizes (without_bit lower k) (without_bit upper (k / 64))
 summarizes_emptied lower upper k s z u = record {
   exact = λ w. elim (cases_eq w (k / 64)) [
     | inl e ↦
@@ -132,7 +134,8 @@ unfolding without_bit
 word-without_bit_le ws k l = rw get_or-set_same (and_le_l _ _)
 
 -- a word that keeps a bit stays marked
-pub summarizes_kept : (lower upper : List ℕ) (k : ℕ) → Summarizes lower upper → (get_or (without_bit lower k) (k / 64) 0 ≡ 0 → ⊥) → k / 64 < length lower → Summarizes (without_bit lower k) upper
+pub summarizes_kept : (lower upper : List ℕ) (k : ℕ) → Summarizes lower upper → (get_or (without_bit lower k) (k / 64) 0 ≡ 0 → ⊥) → k / 64 < length lower →
+    Summarizes (without_bit lower k) upper
 summarizes_kept lower upper k s ne l = record {
   exact = λ w. elim (cases_eq w (k / 64)) [
     | inl e ↦
@@ -147,7 +150,8 @@ summarizes_kept lower upper k s ne l = record {
 
 pub lowest_of_first : (ws : List ℕ) (at : ℕ) → IsFirstWord ws at → get_or ws at 0 < 2 ^ 64 → IsLowestBit ws (at * 64 + trailing_zeros w64 (get_or ws at 0))
 lowest_of_first ws at f fits =
-    let found : (trailing_zeros w64 (get_or ws at 0) < 64) × (bit_at (get_or ws at 0) (trailing_zeros w64 (get_or ws at 0)) ≡ 1) × ((i : ℕ) → i < trailing_zeros w64 (get_or ws at 0) → bit_at (get_or ws at 0) i ≡ 0) = bit_at-trailing_zeros w64 (get_or ws at 0) f.marked fits in
+    let found : (trailing_zeros w64 (get_or ws at 0) < 64) × (bit_at (get_or ws at 0) (trailing_zeros w64 (get_or ws at 0)) ≡ 1)
+    × ((i : ℕ) → i < trailing_zeros w64 (get_or ws at 0) → bit_at (get_or ws at 0) i ≡ 0) = bit_at-trailing_zeros w64 (get_or ws at 0) f.marked fits in
     let below : trailing_zeros w64 (get_or ws at 0) < 64 = found.0 in
     let word : (at * 64 + trailing_zeros w64 (get_or ws at 0)) / 64 ≡ at = omega arith in
     let place : (at * 64 + trailing_zeros w64 (get_or ws at 0)) % 64 ≡ trailing_zeros w64 (get_or ws at 0) = omega arith in
@@ -212,23 +216,27 @@ has_bit-fill_above from to old new k f h =
     (rw (f.words (k / 64), bit_at_or) (omega (arith, bit_at-mask_above from to k h)))
 
 -- a word that the range reaches has a bit
-pub word_filled : (from to w : ℕ) (old new : List ℕ) → FillsBits from to old new → from < to → from / 64 ≤ w → w < to / 64 + min 1 (to % 64) → 0 < get_or new w 0
+pub word_filled : (from to w : ℕ) (old new : List ℕ) → FillsBits from to old new → from < to → from / 64 ≤ w → w < to / 64 + min 1 (to % 64) →
+    0 < get_or new w 0
 word_filled from to w old new f l after within =
     let word : max from (w * 64) / 64 ≡ w = omega arith in
     let low : from ≤ max from (w * 64) = omega arith in
     let high : max from (w * 64) < to = omega arith in
-    let set : 0 < get_or new (max from (w * 64) / 64) 0 = word_of_bit new (max from (w * 64)) (has_bit-fill_inside from to old new (max from (w * 64)) f low high) in
+    let set : 0 < get_or new (max from (w * 64) / 64) 0 = word_of_bit new (max from (w * 64))
+    (has_bit-fill_inside from to old new (max from (w * 64)) f low high) in
     rw word at set
 
 -- a range set below is a range set above
-pub summarizes_filled : (from to up_to : ℕ) (lower lower' upper upper' : List ℕ) → Summarizes lower upper → from < to → up_to ≡ to / 64 + min 1 (to % 64) → FillsBits from to lower lower' → FillsBits (from / 64) up_to upper upper' → Summarizes lower' upper'
+pub summarizes_filled : (from to up_to : ℕ) (lower lower' upper upper' : List ℕ) → Summarizes lower upper → from < to → up_to ≡ to / 64 + min 1 (to % 64) →
+    FillsBits from to lower lower' → FillsBits (from / 64) up_to upper upper' → Summarizes lower' upper'
 summarizes_filled from to up_to lower lower' upper upper' s l up f g = record {
   exact = λ w. elim (cases_lt w (from / 64)) [
     | inl before ↦
         let same : get_or lower' w 0 ≡ get_or lower w 0 = f.words w ∙ rw (mask_before from to w (omega arith) before) (or_zero_r _) in
         has_bit-fill_below (from / 64) up_to upper upper' w g before ∙ (s.exact w ∙ ap (λ n. nat_lt 0 n) (sym same))
     | inr after ↦ elim (cases_lt w up_to) [
-      | inl within ↦ has_bit-fill_inside (from / 64) up_to upper upper' w g after within ∙ sym (lt-ltb _ _ (word_filled from to w lower lower' f l after (omega arith)))
+      | inl within ↦ has_bit-fill_inside (from / 64) up_to upper upper' w g after within
+          ∙ sym (lt-ltb _ _ (word_filled from to w lower lower' f l after (omega arith)))
       | inr past ↦
           let same : get_or lower' w 0 ≡ get_or lower w 0 = f.words w ∙ rw (mask_after from to w (omega arith) (omega arith)) (or_zero_r _) in
           has_bit-fill_above (from / 64) up_to upper upper' w g past ∙ (s.exact w ∙ ap (λ n. nat_lt 0 n) (sym same))
@@ -292,7 +300,8 @@ first_later n x ws (Some p) z rest =
     let le : n + 1 ≤ p = rest.0 in
     (omega arith, rw later rest.1, λ k l. zeros_after x ws k z (λ j h. rest.2 j (omega arith)))
 
-first_here : (n x : ℕ) (ws : List ℕ) (b : Bool) → nat_lt 0 x ≡ b → FirstFrom (n + 1) ws (position_from (λ w. nat_lt 0 w) (n + 1) ws) → FirstFrom n (x ∷ ws) (cond b (Some n) (position_from (λ w. nat_lt 0 w) (n + 1) ws))
+first_here : (n x : ℕ) (ws : List ℕ) (b : Bool) → nat_lt 0 x ≡ b → FirstFrom (n + 1) ws (position_from (λ w. nat_lt 0 w) (n + 1) ws) →
+    FirstFrom n (x ∷ ws) (cond b (Some n) (position_from (λ w. nat_lt 0 w) (n + 1) ws))
 first_here n x ws true e rest =
     let none : n - n ≡ 0 = omega arith in
     (omega arith, rw none (ltb-true 0 x e), λ k l. absurd (omega arith))

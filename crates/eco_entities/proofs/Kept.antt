@@ -5,7 +5,9 @@ use Rattle.std.proofs.lemmas.Option.{slice_get_within}
 use Rattle.eco_ids.specs.declared.entity.Entity.{Entity}
 use Rattle.eco_ids.specs.Indices.{Indexed, IndexState, Retired, Free, Living, record_in, record_of, is_alive, is_free_in, is_free_at, with_record, with_death, with_new, admitted, raised, next_entity}
 use Rattle.eco_entities.specs.Changes.{ChangesAt, Keeps}
-use Rattle.eco_entities.proofs.States.{slice_get-set_same, slice_get-set_other, free_known, alive_known, record_here, next_is}
+use Rattle.eco_ids.proofs.Lists.{slice_get-set_same, slice_get-set_other}
+use Rattle.eco_ids.proofs.States.{record_here}
+use Rattle.eco_entities.proofs.States.{free_known, alive_known, next_is}
 
 living_else : {A : Type 0} (f g : ℕ) (r : A) → g ≢ f → record_in (Some (Living f r)) g ≡ None
 living_else f g r ne = ap (λ b. cond b (Some r) None) (ne_eqb g f ne)
@@ -18,12 +20,15 @@ raised_none : (A : Type 0) (f g : ℕ) → record_in {A = A} (Some (raised f)) g
 raised_none A f g = raised_cases A f g (nat_lt f 65535)
 
 -- at the index only what is kept of this handle changes
-pub record-set : {A : Type 0} (w : Indexed A) (e : Entity) (x y : IndexState A) → slice_get w.indices e.index ≡ Some y → ((g : ℕ) → g ≢ e.generation → record_in (Some x) g ≡ record_in (Some y) g) → ChangesAt (record_of w) (record_of (record w { indices = slice_set w.indices e.index x })) e (record_in (Some x) e.generation)
+pub record-set : {A : Type 0} (w : Indexed A) (e : Entity) (x y : IndexState A) → slice_get w.indices e.index ≡ Some y →
+    ((g : ℕ) → g ≢ e.generation → record_in (Some x) g ≡ record_in (Some y) g) →
+    ChangesAt (record_of w) (record_of (record w { indices = slice_set w.indices e.index x })) e (record_in (Some x) e.generation)
 record-set w e x y here apart_from = record {
   here = ap (λ o. record_in o e.generation) (slice_get-set_same w.indices e.index x (slice_get_within w.indices e.index y here));
   others = λ j ne. elim (cases_eq j.index e.index) [
     | inl i ↦
-        let apart : j.generation ≢ e.generation = λ g. ne (ap (λ n. record { index = n; generation = j.generation }) i ∙ ap (λ n. record { index = e.index; generation = n }) g) in
+        let apart : j.generation ≢ e.generation = λ g. ne (ap (λ n. record { index = n; generation = j.generation }) i
+        ∙ ap (λ n. record { index = e.index; generation = n }) g) in
         rw i
         (ap (λ o. record_in o j.generation) (slice_get-set_same w.indices e.index x (slice_get_within w.indices e.index y here))
         ∙ (apart_from j.generation apart ∙ sym (ap (λ o. record_in o j.generation) here)))
@@ -32,7 +37,8 @@ record-set w e x y here apart_from = record {
 }
 
 -- a free handle comes to live
-pub record-settled : {A : Type 0} (w : Indexed A) (e : Entity) (r : A) → is_free_at w e ≡ true → ChangesAt (record_of w) (record_of (with_record w e r)) e (Some r)
+pub record-settled : {A : Type 0} (w : Indexed A) (e : Entity) (r : A) → is_free_at w e ≡ true →
+    ChangesAt (record_of w) (record_of (with_record w e r)) e (Some r)
 record-settled w e r free =
     let c : ChangesAt (record_of w) (record_of (with_record w e r)) e (record_in (Some (Living e.generation r)) e.generation) =
     record-set w e (Living e.generation r) (Free e.generation) (free_known w e free) (λ g ne. living_else e.generation g r ne) in
@@ -46,15 +52,18 @@ pub record-died : {A : Type 0} (w : Indexed A) (e : Entity) → is_alive w e ≡
 record-died {A} w e alive =
     let living : (r : A) × (slice_get w.indices e.index ≡ Some (Living e.generation r)) = alive_known w e alive in
     let c : ChangesAt (record_of w) (record_of (with_death w e)) e (record_in (Some (raised e.generation)) e.generation) =
-    record-set w e (raised e.generation) (Living e.generation living.0) living.1 (λ g ne. raised_none A e.generation g ∙ sym (living_else e.generation g living.0 ne)) in
+    record-set w e (raised e.generation) (Living e.generation living.0) living.1
+    (λ g ne. raised_none A e.generation g ∙ sym (living_else e.generation g living.0 ne)) in
     record { here = c.here ∙ raised_none A e.generation e.generation; others = c.others }
 
 -- something else is kept of a living one
-pub record-replaced : {A : Type 0} (w : Indexed A) (e : Entity) (r : A) → is_alive w e ≡ true → ChangesAt (record_of w) (record_of (with_record w e r)) e (Some r)
+pub record-replaced : {A : Type 0} (w : Indexed A) (e : Entity) (r : A) → is_alive w e ≡ true →
+    ChangesAt (record_of w) (record_of (with_record w e r)) e (Some r)
 record-replaced {A} w e r alive =
     let living : (q : A) × (slice_get w.indices e.index ≡ Some (Living e.generation q)) = alive_known w e alive in
     let c : ChangesAt (record_of w) (record_of (with_record w e r)) e (record_in (Some (Living e.generation r)) e.generation) =
-    record-set w e (Living e.generation r) (Living e.generation living.0) living.1 (λ g ne. living_else e.generation g r ne ∙ sym (living_else e.generation g living.0 ne)) in
+    record-set w e (Living e.generation r) (Living e.generation living.0) living.1
+    (λ g ne. living_else e.generation g r ne ∙ sym (living_else e.generation g living.0 ne)) in
     record { here = c.here ∙ record_here e.generation r; others = c.others }
 
 -- more free indices
@@ -144,7 +153,8 @@ next_is_free {A} w e h within =
     let room : IsRoom w e = next_has_room w e h in
     ap (λ (v : Indexed A). is_free_at v e) (sym (room_known w e within)) ∙ room.free
 
-pub new_last : {A : Type 0} (w : Indexed A) (e : Entity) (r : A) → next_entity w ≡ Some e → length w.indices ≤ e.index → record w { indices = w.indices ++ Living 0 r ∷ [] } ≡ with_new w e r
+pub new_last : {A : Type 0} (w : Indexed A) (e : Entity) (r : A) → next_entity w ≡ Some e → length w.indices ≤ e.index →
+    record w { indices = w.indices ++ Living 0 r ∷ [] } ≡ with_new w e r
 new_last {A} w e r h past =
     elim (next_is w e h) [
       | inl free ↦ absurd (let within : e.index < length w.indices = slice_get_within w.indices e.index (Free e.generation) free in omega arith)

@@ -46,10 +46,12 @@ flags-without_bit n ws i l room =
     ])
 
 -- the flags from `from` on are all set
-pub flags_filled : (n from : ℕ) (old new : List ℕ) → from ≤ n → FillsBits from n old new → bits_below n new ≡ take from (bits_below n old) ++ replicate (n - from) true
+pub flags_filled : (n from : ℕ) (old new : List ℕ) → from ≤ n → FillsBits from n old new →
+    bits_below n new ≡ take from (bits_below n old) ++ replicate (n - from) true
 flags_filled n from old new l f =
     let front : length (take from (bits_below n old)) ≡ from = length-take from (bits_below n old) ∙ rw length-bits_below (omega arith) in
-    let whole : length (take from (bits_below n old) ++ replicate (n - from) true) ≡ n = length-append (take from (bits_below n old)) (replicate (n - from) true) ∙ rw (front, length-replicate) (omega arith) in
+    let whole : length (take from (bits_below n old) ++ replicate (n - from) true) ≡ n =
+    length-append (take from (bits_below n old)) (replicate (n - from) true) ∙ rw (front, length-replicate) (omega arith) in
     flags_are n _ _ whole
     (λ k d b. elim (cases_lt k from) [
       | inl before ↦
@@ -60,15 +62,18 @@ flags_filled n from old new l f =
           has_bit-fill_inside from n old new k f after b ∙ rw (get_or-append_right _ _ from k d front after, get_or-replicate) refl
     ])
 
-pub flags_filled_from : (n from : ℕ) (old new : List ℕ) (xs : List Bool) → bits_below n old ≡ xs → from ≤ n → FillsBits from n old new → bits_below n new ≡ take from xs ++ replicate (length xs - from) true
+pub flags_filled_from : (n from : ℕ) (old new : List ℕ) (xs : List Bool) → bits_below n old ≡ xs → from ≤ n → FillsBits from n old new →
+    bits_below n new ≡ take from xs ++ replicate (length xs - from) true
 flags_filled_from n from old new xs e l f =
     let whole : length xs ≡ n = ap length (sym e) ∙ length-bits_below n old in
     rw whole (flags_filled n from old new l f ∙ ap (λ (ys : List Bool). take from ys ++ replicate (n - from) true) e)
 
 -- more flags, none of them set
-pub flags_grown : (n m len : ℕ) (old new : List ℕ) → new ≡ old ++ replicate len 0 → ((k : ℕ) → n ≤ k → has_bit old k ≡ false) → bits_below (n + m) new ≡ bits_below n old ++ replicate m false
+pub flags_grown : (n m len : ℕ) (old new : List ℕ) → new ≡ old ++ replicate len 0 → ((k : ℕ) → n ≤ k → has_bit old k ≡ false) →
+    bits_below (n + m) new ≡ bits_below n old ++ replicate m false
 flags_grown n m len old new a past =
-    let whole : length (bits_below n old ++ replicate m false) ≡ n + m = length-append (bits_below n old) (replicate m false) ∙ rw (length-bits_below, length-replicate) refl in
+    let whole : length (bits_below n old ++ replicate m false) ≡ n + m = length-append (bits_below n old) (replicate m false)
+    ∙ rw (length-bits_below, length-replicate) refl in
     flags_are (n + m) _ _ whole
     (λ k d b. has_bit-appended len old new k a ∙ elim (cases_lt k n) [
       | inl before ↦
@@ -81,7 +86,8 @@ flags_grown n m len old new a past =
 
 -- the first flag that is set
 
-pub position_at : (n k : ℕ) (xs : List Bool) → get_or xs k false ≡ true → ((j : ℕ) → j < k → get_or xs j false ≡ false) → position_from (λ b. b) n xs ≡ Some (n + k)
+pub position_at : (n k : ℕ) (xs : List Bool) → get_or xs k false ≡ true → ((j : ℕ) → j < k → get_or xs j false ≡ false) →
+    position_from (λ b. b) n xs ≡ Some (n + k)
 position_at n k [] set below = absurd (false≢true set)
 position_at n zero (x ∷ xs) set below = rw set (ap Some (omega arith))
 position_at n (suc k) (x ∷ xs) set below =
@@ -108,7 +114,8 @@ flags_none n ws none =
 
 -- the levels
 
-pub levelled-set : (len : ℕ) (indices words groups : List ℕ) (i : ℕ) → IsLevelled len indices words groups → i < len → IsLevelled len (with_bit indices i) (with_bit words (i / 64)) (with_bit groups (i / 64 / 64))
+pub levelled-set : (len : ℕ) (indices words groups : List ℕ) (i : ℕ) → IsLevelled len indices words groups → i < len →
+    IsLevelled len (with_bit indices i) (with_bit words (i / 64)) (with_bit groups (i / 64 / 64))
 levelled-set len indices words groups i v l = record {
   bounded = v.bounded;
   indices_room = rw length-with_bit v.indices_room;
@@ -132,7 +139,9 @@ nothing_filled xs from l =
 pub in_flags : (n : ℕ) (ws : List ℕ) (xs : List Bool) (i : ℕ) → bits_below n ws ≡ xs → i < length xs → i < n
 in_flags n ws xs i e l = let whole : length xs ≡ n = ap length (sym e) ∙ length-bits_below n ws in omega arith
 
-pub levelled-clear : (len : ℕ) (indices words groups words' groups' : List ℕ) (i : ℕ) → IsLevelled len indices words groups → i < len → length words' ≡ length words → length groups' ≡ length groups → Summarizes (without_bit indices i) words' → Summarizes words' groups' → IsLevelled len (without_bit indices i) words' groups'
+pub levelled-clear : (len : ℕ) (indices words groups words' groups' : List ℕ) (i : ℕ) → IsLevelled len indices words groups → i < len →
+    length words' ≡ length words → length groups' ≡ length groups → Summarizes (without_bit indices i) words' → Summarizes words' groups' →
+    IsLevelled len (without_bit indices i) words' groups'
 levelled-clear len indices words groups words' groups' i v l same_words same_groups words_say groups_say = record {
   bounded = v.bounded;
   indices_room = rw length-without_bit v.indices_room;
@@ -146,7 +155,10 @@ levelled-clear len indices words groups words' groups' i v l same_words same_gro
   past = λ k p. let apart : k ≢ i = omega arith in has_bit-without_bit_other indices i k apart (omega (arith, v)) ∙ v.past k p;
 }
 
-pub levelled-fill : (len from : ℕ) (indices words groups indices' words' groups' : List ℕ) → IsLevelled len indices words groups → from < len → FillsBits from len indices indices' → FillsBits (from / 64) (len / 64 + min 1 (len % 64)) words words' → FillsBits (from / 64 / 64) ((len / 64 + min 1 (len % 64)) / 64 + min 1 ((len / 64 + min 1 (len % 64)) % 64)) groups groups' → IsLevelled len indices' words' groups'
+pub levelled-fill : (len from : ℕ) (indices words groups indices' words' groups' : List ℕ) → IsLevelled len indices words groups → from < len →
+    FillsBits from len indices indices' → FillsBits (from / 64) (len / 64 + min 1 (len % 64)) words words' →
+    FillsBits (from / 64 / 64) ((len / 64 + min 1 (len % 64)) / 64 + min 1 ((len / 64 + min 1 (len % 64)) % 64)) groups groups' →
+    IsLevelled len indices' words' groups'
 levelled-fill len from indices words groups indices' words' groups' v l f g h = record {
   bounded = v.bounded;
   indices_room = rw f.count v.indices_room;
@@ -165,7 +177,8 @@ levelled-fill len from indices words groups indices' words' groups' v l f g h = 
 pub length-appended : (n : ℕ) (old new : List ℕ) → new ≡ old ++ replicate n 0 → length new ≡ length old + n
 length-appended n old new a = rw (a, length-append, length-replicate) refl
 
-pub levelled_groups : (len n : ℕ) (indices words groups groups' : List ℕ) → IsLevelled len indices words groups → groups' ≡ groups ++ replicate n 0 → length groups' < 2 ^ 32 → IsLevelled len indices words groups'
+pub levelled_groups : (len n : ℕ) (indices words groups groups' : List ℕ) → IsLevelled len indices words groups → groups' ≡ groups ++ replicate n 0 →
+    length groups' < 2 ^ 32 → IsLevelled len indices words groups'
 levelled_groups len n indices words groups groups' v a b = record {
   bounded = v.bounded;
   indices_room = v.indices_room;
@@ -179,7 +192,8 @@ levelled_groups len n indices words groups groups' v a b = record {
   past = v.past;
 }
 
-pub levelled_words : (len n : ℕ) (indices words words' groups : List ℕ) → IsLevelled len indices words groups → words' ≡ words ++ replicate n 0 → length words' ≤ 64 * length groups → length words' < 2 ^ 32 → IsLevelled len indices words' groups
+pub levelled_words : (len n : ℕ) (indices words words' groups : List ℕ) → IsLevelled len indices words groups → words' ≡ words ++ replicate n 0 →
+    length words' ≤ 64 * length groups → length words' < 2 ^ 32 → IsLevelled len indices words' groups
 levelled_words len n indices words words' groups v a room b = record {
   bounded = v.bounded;
   indices_room = v.indices_room;
@@ -193,7 +207,9 @@ levelled_words len n indices words words' groups v a room b = record {
   past = v.past;
 }
 
-pub levelled_indices : (len len' n : ℕ) (indices indices' words groups : List ℕ) → IsLevelled len indices words groups → len ≤ len' → len' < 2 ^ 32 → len' ≤ 64 * length indices' → indices' ≡ indices ++ replicate n 0 → length indices' ≤ 64 * length words → length indices' < 2 ^ 32 → IsLevelled len' indices' words groups
+pub levelled_indices : (len len' n : ℕ) (indices indices' words groups : List ℕ) → IsLevelled len indices words groups → len ≤ len' → len' < 2 ^ 32 →
+    len' ≤ 64 * length indices' → indices' ≡ indices ++ replicate n 0 → length indices' ≤ 64 * length words → length indices' < 2 ^ 32 →
+    IsLevelled len' indices' words groups
 levelled_indices len len' n indices indices' words groups v more bounded enough a room b = record {
   bounded = bounded;
   indices_room = enough;

@@ -6,11 +6,14 @@ use Rattle.eco_ids.specs.declared.entity.Entity.{Entity}
 use Rattle.eco_ids.specs.declared.refusal.Refusal.{Refusal}
 use Rattle.eco_ids.specs.declared.refusal.Refusal.TheVariants.{Taken, NoMoreIds}
 use Rattle.eco_ids.specs.Births.{may_make, Admits, may_admit, unfit_name}
-use Rattle.eco_ids.specs.Indices.{Indexed, IndexState, Retired, Free, Living, record_in, record_of, is_alive, is_free_at, next_entity, with_record, with_new, with_death, admitted, raised}
+use Rattle.eco_ids.specs.Indices.{Indexed, IndexState, Retired, Free, Living, record_in, record_of, is_alive, is_free_at, next_entity, with_record, with_new, with_death, admitted, raised, changed, change_kept}
 use Rattle.eco_ids.specs.Outcome.{Refuses, Answers, is_out_of_memory}
-use Rattle.eco_entities.specs.Registration.{Registration, newcomer, name_of, change_in, with_change, placed, renamed, unfit_rename, may_rename}
+use Rattle.eco_ids.specs.Renaming.{unfit_rename, may_rename}
+use Rattle.eco_entities.specs.Registration.{Registration, newcomer, name_of, placed, renamed}
 use Rattle.eco_entities.specs.Runs.{Call, Create, Admit, Revive, Kill, Rename, SetPlace, LeadsTo, RunsTo, NobodyLivesTwice}
-use Rattle.eco_entities.proofs.States.{slice_get-set_same, slice_get-set_other, free_known, alive_known, state_at, next_is}
+use Rattle.eco_ids.proofs.Lists.{slice_get-set_same, slice_get-set_other}
+use Rattle.eco_ids.proofs.States.{living_at}
+use Rattle.eco_entities.proofs.States.{free_known, alive_known, next_is}
 use Rattle.eco_entities.proofs.Kept.{next_has_room, IsRoom, with_room}
 
 -- the state is past the generation: nobody of that generation lives there or will
@@ -41,7 +44,8 @@ raised_past f g true l = omega arith
 raised_past f g false l = tt
 
 -- another state at some index, which is past too where it is this one
-past_put : (w : Indexed Registration) (e : Entity) (i : ℕ) (x : IndexState Registration) → IsPast w e → (i ≡ e.index → IsPastIn (Some x) e.generation) → IsPast (record w { indices = slice_set w.indices i x }) e
+past_put : (w : Indexed Registration) (e : Entity) (i : ℕ) (x : IndexState Registration) → IsPast w e → (i ≡ e.index → IsPastIn (Some x) e.generation) →
+    IsPast (record w { indices = slice_set w.indices i x }) e
 past_put w e i x p here = record {
   state = elim (cases_eq e.index i) [
     | inl same ↦
@@ -71,7 +75,8 @@ past_died : (w : Indexed Registration) (e x : Entity) → is_alive w x ≡ true 
 past_died w e x alive p =
     let living : (r : Registration) × (slice_get w.indices x.index ≡ Some (Living x.generation r)) = alive_known w x alive in
     past_put w e x.index (raised x.generation) p
-    (λ same. let above : e.generation < x.generation = rw living.1 at (rw (← same) at p.state) in raised_past x.generation e.generation (nat_lt x.generation 65535) (omega arith))
+    (λ same. let above : e.generation < x.generation = rw living.1 at (rw (← same) at p.state) in
+    raised_past x.generation e.generation (nat_lt x.generation 65535) (omega arith))
 
 -- the killed one
 pub past_killed : (w : Indexed Registration) (e : Entity) → is_alive w e ≡ true → IsPast (with_death w e) e
@@ -108,31 +113,37 @@ past_new w e x r h p =
     let room : IsRoom w x = next_has_room w x h in
     rw (← room.settled r) (past_settled (with_room w x) e x r room.free (past_room w e x p))
 
-past_made : (w new : Indexed Registration) (e : Entity) (d : Registration) (r : Result Entity Refusal) (u : Option Refusal) (o : Option Entity) → next_entity w ≡ o → MatchOption u (MatchOption o (Refuses NoMoreIds w r new) (λ x. Answers x (with_new w x d) r new)) (λ why. Refuses why w r new) → IsPast w e → IsPast new e
+past_made : (w new : Indexed Registration) (e : Entity) (d : Registration) (r : Result Entity Refusal) (u : Option Refusal) (o : Option Entity) →
+    next_entity w ≡ o → MatchOption u (MatchOption o (Refuses NoMoreIds w r new) (λ x. Answers x (with_new w x d) r new)) (λ why. Refuses why w r new) →
+    IsPast w e → IsPast new e
 past_made w new e d r (Some why) o n h p = rw h.1 p
 past_made w new e d r None None n h p = rw h.1 p
 past_made w new e d r None (Some x) n h p = rw h.1 (past_new w e x d n p)
 
-made_next : (w new : Indexed Registration) (x : Entity) (d : Registration) (u : Option Refusal) (o : Option Entity) → next_entity w ≡ o → MatchOption u (MatchOption o (Refuses {A = Entity} NoMoreIds w (Ok x) new) (λ y. Answers y (with_new w y d) (Ok x) new)) (λ why. Refuses {A = Entity} why w (Ok x) new) → next_entity w ≡ Some x
+made_next : (w new : Indexed Registration) (x : Entity) (d : Registration) (u : Option Refusal) (o : Option Entity) → next_entity w ≡ o →
+    MatchOption u (MatchOption o (Refuses {A = Entity} NoMoreIds w (Ok x) new) (λ y. Answers y (with_new w y d) (Ok x) new))
+    (λ why. Refuses {A = Entity} why w (Ok x) new) → next_entity w ≡ Some x
 made_next w new x d (Some why) o n h = let e : Ok x ≡ Err why = h.0 in cc
 made_next w new x d None None n h = let e : Ok x ≡ Err NoMoreIds = h.0 in cc
 made_next w new x d None (Some y) n h = let e : Ok x ≡ Ok y = h.0 in cc
 
-past_changed : (w : Indexed Registration) (e x : Entity) (change : Registration → Registration) (o : Option Registration) → record_of w x ≡ o → IsPast w e → IsPast (change_in w x change o) e
+past_changed : (w : Indexed Registration) (e x : Entity) (change : Registration → Registration) (o : Option Registration) → record_of w x ≡ o → IsPast w e →
+    IsPast (change_kept w x change o) e
 past_changed w e x change None h p = p
 past_changed w e x change (Some r) h p =
     past_put w e x.index (Living x.generation (change r)) p
-    (λ same. rw (state_at w x r h) at (rw (← same) at p.state))
+    (λ same. rw (living_at w x r h) at (rw (← same) at p.state))
 
-past_renamed : (w new : Indexed Registration) (e x : Entity) (name : Option (List ℕ)) (r : Result (Unit {0}) Refusal) (u : Option Refusal) → MatchOption u (Answers tt (with_change w x (renamed name)) r new) (λ why. Refuses why w r new) → IsPast w e → IsPast new e
+past_renamed : (w new : Indexed Registration) (e x : Entity) (name : Option (List ℕ)) (r : Result (Unit {0}) Refusal) (u : Option Refusal) →
+    MatchOption u (Answers tt (changed w x (renamed name)) r new) (λ why. Refuses why w r new) → IsPast w e → IsPast new e
 past_renamed w new e x name r None h p = rw h.1 (past_changed w e x (renamed name) (record_of w x) refl p)
 past_renamed w new e x name r (Some why) h p = rw h.1 p
 
 past_call : (c : Call) (w new : Indexed Registration) (e : Entity) → LeadsTo c w new → IsPast w e → IsPast new e
-past_call (Create name) w new e h p =
+past_call (Create name arity) w new e h p =
     elim (cases_Bool (is_out_of_memory h.0)) [
       | inl out ↦ let same : IsTrue (may_make name_of w name) × (new ≡ w) = MatchBool-at_true _ _ out h.1 in rw same.1 p
-      | inr step ↦ past_made w new e (newcomer name) h.0 (unfit_name name_of w name) (next_entity w) refl (MatchBool-at_false _ _ step h.1) p
+      | inr step ↦ past_made w new e (newcomer name arity) h.0 (unfit_name name_of w name) (next_entity w) refl (MatchBool-at_false _ _ step h.1) p
     ]
 past_call (Admit n) w new e h p =
     elim (cases_Bool (is_out_of_memory h.0)) [
@@ -146,14 +157,15 @@ past_call (Admit n) w new e h p =
     ]
 past_call (Revive x) w new e h p =
     elim (cases_Bool (is_free_at w x)) [
-      | inl free ↦ let done : (h.0 ≡ Ok tt) × (new ≡ with_record w x (newcomer None)) = MatchBool-at_true _ _ free h.1 in rw done.1 (past_settled w e x (newcomer None) free p)
+      | inl free ↦ let done : (h.0 ≡ Ok tt) × (new ≡ with_record w x (newcomer None None)) = MatchBool-at_true _ _ free h.1 in
+          rw done.1 (past_settled w e x (newcomer None None) free p)
       | inr other ↦ let refused : (h.0 ≡ Err Taken) × (new ≡ w) = MatchBool-at_false _ _ other h.1 in rw refused.1 p
     ]
 past_call (Kill x) w new e h p = rw h.1 (past_died w e x h.0 p)
 past_call (Rename x name) w new e h p =
     elim (cases_Bool (is_out_of_memory h.0)) [
-      | inl out ↦ let same : IsTrue (may_rename w x name) × (new ≡ w) = MatchBool-at_true _ _ out h.1 in rw same.1 p
-      | inr step ↦ past_renamed w new e x name h.0 (unfit_rename w x name) (MatchBool-at_false _ _ step h.1) p
+      | inl out ↦ let same : IsTrue (may_rename name_of w x false name) × (new ≡ w) = MatchBool-at_true _ _ out h.1 in rw same.1 p
+      | inr step ↦ past_renamed w new e x name h.0 (unfit_rename name_of w x false name) (MatchBool-at_false _ _ step h.1) p
     ]
 past_call (SetPlace x place) w new e h p = rw h.1 (past_changed w e x (placed place) (record_of w x) refl p)
 
@@ -165,5 +177,5 @@ pub lives_once : NobodyLivesTwice
 lives_once old later e calls alive runs =
     let p : IsPast later e = past_run calls (with_death old e) later e runs (past_killed old e alive) in (
       past_not_alive later e p,
-      λ name x new h. next_not_past later e x (made_next later new x (newcomer name) (unfit_name name_of later name) (next_entity later) refl h) p,
+      λ name arity x new h. next_not_past later e x (made_next later new x (newcomer name arity) (unfit_name name_of later name) (next_entity later) refl h) p,
     )

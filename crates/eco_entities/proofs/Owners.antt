@@ -11,91 +11,107 @@ use Rattle.eco_entities.specs.declared.place.Place.{Place}
 use Rattle.eco_entities.proofs.Registers.{cases_entity, registry_same, registry_nameless}
 use Rattle.std.proofs.lemmas.Option.{slice_get_within}
 use Rattle.eco_ids.specs.declared.entity.Entity.{Entity}
-use Rattle.eco_ids.specs.Indices.{Indexed, Living, record_in, record_of, is_alive, is_free_at, with_record, with_death, admitted, raised, with_new, next_entity}
-use Rattle.eco_entities.specs.Registration.{Registration, newcomer, name_of, own_name, with_change, change_in, placed, renamed}
+use Rattle.eco_ids.specs.Indices.{Indexed, Living, record_in, record_of, is_alive, is_free_at, with_record, with_death, admitted, raised, with_new, next_entity, changed, change_kept}
+use Rattle.eco_ids.specs.Renaming.{own_name}
+use Rattle.eco_entities.specs.Registration.{Registration, newcomer, name_of, placed, renamed}
 use Rattle.eco_entities.specs.Changes.{ChangesAt, Keeps}
 use Rattle.eco_entities.specs.Registry.{IsRegistry}
-use Rattle.eco_entities.proofs.States.{slice_get-set_same, alive_known, record_here, record_at}
+use Rattle.eco_ids.proofs.Lists.{slice_get-set_same}
+use Rattle.eco_ids.proofs.States.{record_here, record_at}
+use Rattle.eco_entities.proofs.States.{alive_known}
 use Rattle.eco_entities.proofs.Kept.{record-new, record_of_next, record-settled, record_of_free, record-died, record-replaced, record-admitted}
 
 -- where what is kept changes at one entity, so do the names
-pub names_follow : (w new : Indexed Registration) (e : Entity) (o : Option Registration) → ChangesAt (record_of w) (record_of new) e o → ChangesAt (own_name w) (own_name new) e (option_and_then name_of o)
+pub names_follow : (w new : Indexed Registration) (e : Entity) (o : Option Registration) → ChangesAt (record_of w) (record_of new) e o →
+    ChangesAt (own_name name_of w) (own_name name_of new) e (option_and_then name_of o)
 names_follow w new e o c = record { here = ap (option_and_then name_of) c.here; others = λ j ne. ap (option_and_then name_of) (c.others j ne) }
 
 -- where what is kept stays, so do the names
-pub names_stay : (w new : Indexed Registration) → Keeps (record_of w) (record_of new) → Keeps (own_name w) (own_name new)
+pub names_stay : (w new : Indexed Registration) → Keeps (record_of w) (record_of new) → Keeps (own_name name_of w) (own_name name_of new)
 names_stay w new k = record { all = λ e. ap (option_and_then name_of) (k.all e) }
 
 -- a newcomer has its name, and the others keep theirs
-pub own-settled : (w : Indexed Registration) (e : Entity) (name : Option (List ℕ)) → is_free_at w e ≡ true → ChangesAt (own_name w) (own_name (with_record w e (newcomer name))) e name
-own-settled w e name free = names_follow w (with_record w e (newcomer name)) e (Some (newcomer name)) (record-settled w e (newcomer name) free)
+pub own-settled : (w : Indexed Registration) (e : Entity) (name : Option (List ℕ)) (arity : Option ℕ) → is_free_at w e ≡ true →
+    ChangesAt (own_name name_of w) (own_name name_of (with_record w e (newcomer name arity))) e name
+own-settled w e name arity free =
+    names_follow w (with_record w e (newcomer name arity)) e (Some (newcomer name arity)) (record-settled w e (newcomer name arity) free)
 
-pub own_of_free : (w : Indexed Registration) (e : Entity) → is_free_at w e ≡ true → own_name w e ≡ None
+pub own_of_free : (w : Indexed Registration) (e : Entity) → is_free_at w e ≡ true → own_name name_of w e ≡ None
 own_of_free w e free = ap (option_and_then name_of) (record_of_free w e free)
 
 -- the next entity has its name, and the others keep theirs
-pub own-new : (w : Indexed Registration) (e : Entity) (name : Option (List ℕ)) → next_entity w ≡ Some e → ChangesAt (own_name w) (own_name (with_new w e (newcomer name))) e name
-own-new w e name next = names_follow w (with_new w e (newcomer name)) e (Some (newcomer name)) (record-new w e (newcomer name) next)
+pub own-new : (w : Indexed Registration) (e : Entity) (name : Option (List ℕ)) (arity : Option ℕ) → next_entity w ≡ Some e →
+    ChangesAt (own_name name_of w) (own_name name_of (with_new w e (newcomer name arity))) e name
+own-new w e name arity next =
+    names_follow w (with_new w e (newcomer name arity)) e (Some (newcomer name arity)) (record-new w e (newcomer name arity) next)
 
-pub own_of_next : (w : Indexed Registration) (e : Entity) → next_entity w ≡ Some e → own_name w e ≡ None
+pub own_of_next : (w : Indexed Registration) (e : Entity) → next_entity w ≡ Some e → own_name name_of w e ≡ None
 own_of_next w e next = ap (option_and_then name_of) (record_of_next w e next)
 
 -- the dead have no name, and the others keep theirs
-pub own-died : (w : Indexed Registration) (e : Entity) → is_alive w e ≡ true → ChangesAt (own_name w) (own_name (with_death w e)) e None
+pub own-died : (w : Indexed Registration) (e : Entity) → is_alive w e ≡ true → ChangesAt (own_name name_of w) (own_name name_of (with_death w e)) e None
 own-died w e alive = names_follow w (with_death w e) e None (record-died w e alive)
 
 -- a change of what is kept of one entity
-pub record-changed : (w : Indexed Registration) (e : Entity) (change : Registration → Registration) (r : Registration) → record_of w e ≡ Some r → ChangesAt (record_of w) (record_of (with_change w e change)) e (Some (change r))
+pub record-changed : (w : Indexed Registration) (e : Entity) (change : Registration → Registration) (r : Registration) → record_of w e ≡ Some r →
+    ChangesAt (record_of w) (record_of (changed w e change)) e (Some (change r))
 record-changed w e change r h =
-    let is : with_change w e change ≡ with_record w e (change r) = ap (change_in w e change) h in
+    let is : changed w e change ≡ with_record w e (change r) = ap (change_kept w e change) h in
     let c : ChangesAt (record_of w) (record_of (with_record w e (change r))) e (Some (change r)) = record-replaced w e (change r) (ap is_some h) in
     record {
       here = ap (λ (v : Indexed Registration). record_of v e) is ∙ c.here;
       others = λ j ne. ap (λ (v : Indexed Registration). record_of v j) is ∙ c.others j ne;
     }
 
-pub own-changed : (w : Indexed Registration) (e : Entity) (change : Registration → Registration) (r : Registration) → slice_get w.indices e.index ≡ Some (Living e.generation r) → ChangesAt (own_name w) (own_name (with_change w e change)) e (name_of (change r))
-own-changed w e change r here = names_follow w (with_change w e change) e (Some (change r)) (record-changed w e change r (record_at w e r here))
+pub own-changed : (w : Indexed Registration) (e : Entity) (change : Registration → Registration) (r : Registration) →
+    slice_get w.indices e.index ≡ Some (Living e.generation r) → ChangesAt (own_name name_of w) (own_name name_of (changed w e change)) e (name_of (change r))
+own-changed w e change r here = names_follow w (changed w e change) e (Some (change r)) (record-changed w e change r (record_at w e r here))
 
-pub own-renamed : (w : Indexed Registration) (e : Entity) (name : Option (List ℕ)) → is_alive w e ≡ true → ChangesAt (own_name w) (own_name (with_change w e (renamed name))) e name
+pub own-renamed : (w : Indexed Registration) (e : Entity) (name : Option (List ℕ)) → is_alive w e ≡ true →
+    ChangesAt (own_name name_of w) (own_name name_of (changed w e (renamed name))) e name
 own-renamed w e name alive =
     let living : (r : Registration) × (slice_get w.indices e.index ≡ Some (Living e.generation r)) = alive_known w e alive in
     own-changed w e (renamed name) living.0 living.1
 
 -- a place is no name
-pub own-placed : (w : Indexed Registration) (e : Entity) (p : Place) → is_alive w e ≡ true → Keeps (own_name w) (own_name (with_change w e (placed p)))
+pub own-placed : (w : Indexed Registration) (e : Entity) (p : Place) → is_alive w e ≡ true →
+    Keeps (own_name name_of w) (own_name name_of (changed w e (placed p)))
 own-placed w e p alive =
     let living : (r : Registration) × (slice_get w.indices e.index ≡ Some (Living e.generation r)) = alive_known w e alive in
-    let c : ChangesAt (own_name w) (own_name (with_change w e (placed p))) e (name_of living.0) = own-changed w e (placed p) living.0 living.1 in
+    let c : ChangesAt (own_name name_of w) (own_name name_of (changed w e (placed p))) e (name_of living.0) = own-changed w e (placed p) living.0 living.1 in
     record {
       all = λ j. elim (cases_entity j e) [
-        | inl same ↦ ap (own_name (with_change w e (placed p))) same ∙ (c.here ∙ (sym (ap (option_and_then name_of) (record_at w e living.0 living.1)) ∙ ap (own_name w) (sym same)))
+        | inl same ↦ ap (own_name name_of (changed w e (placed p))) same
+            ∙ (c.here ∙ (sym (ap (option_and_then name_of) (record_at w e living.0 living.1)) ∙ ap (own_name name_of w) (sym same)))
         | inr apart ↦ c.others j apart
       ];
     }
 
 -- who dies after losing the name
-pub death_of_renamed : (w : Indexed Registration) (e : Entity) (change : Registration → Registration) → is_alive w e ≡ true → with_death (with_change w e change) e ≡ with_death w e
+pub death_of_renamed : (w : Indexed Registration) (e : Entity) (change : Registration → Registration) → is_alive w e ≡ true →
+    with_death (changed w e change) e ≡ with_death w e
 death_of_renamed w e change alive =
     let living : (r : Registration) × (slice_get w.indices e.index ≡ Some (Living e.generation r)) = alive_known w e alive in
-    ap (λ v. with_death v e) (ap (change_in w e change) (record_at w e living.0 living.1))
+    ap (λ v. with_death v e) (ap (change_kept w e change) (record_at w e living.0 living.1))
     ∙ ap (λ xs. record w { indices = xs }) (set-set w.indices e.index (Living e.generation (change living.0)) (raised e.generation))
 
 module _ {found : List ℕ → Option Entity} where
   -- a call that revives keeps the registry
-  pub registry_revived : (w new : Indexed Registration) (e : Entity) (r : Result (Unit {0}) Refusal) → IsRegistry found (own_name w) → RevivesWith w e (newcomer None) r new → IsRegistry found (own_name new)
+  pub registry_revived : (w new : Indexed Registration) (e : Entity) (r : Result (Unit {0}) Refusal) → IsRegistry found (own_name name_of w) →
+      RevivesWith w e (newcomer None None) r new → IsRegistry found (own_name name_of new)
   registry_revived w new e r g h =
       elim (cases_Bool (is_free_at w e)) [
         | inl free ↦
-            let done : (r ≡ Ok tt) × (new ≡ with_record w e (newcomer None)) = MatchBool-at_true _ _ free h in
-            rw done.1 (registry_nameless e g (own_of_free w e free) (record { all = λ k. refl }) (own-settled w e None free))
+            let done : (r ≡ Ok tt) × (new ≡ with_record w e (newcomer None None)) = MatchBool-at_true _ _ free h in
+            rw done.1 (registry_nameless e g (own_of_free w e free) (record { all = λ k. refl }) (own-settled w e None None free))
         | inr other ↦
             let refused : (r ≡ Err Taken) × (new ≡ w) = MatchBool-at_false _ _ other h in
             rw refused.1 g
       ]
 
   -- a call that admits keeps the registry
-  pub registry_admitted : (w new : Indexed Registration) (n : ℕ) (may : Bool) (r : Result (Unit {0}) Refusal) → IsRegistry found (own_name w) → Meets (Admits w n) may w r new → IsRegistry found (own_name new)
+  pub registry_admitted : (w new : Indexed Registration) (n : ℕ) (may : Bool) (r : Result (Unit {0}) Refusal) → IsRegistry found (own_name name_of w) →
+      Meets (Admits w n) may w r new → IsRegistry found (own_name name_of new)
   registry_admitted w new n may r g h =
       elim (cases_Bool (is_out_of_memory r)) [
         | inl out ↦ let same : IsTrue may × (new ≡ w) = MatchBool-at_true _ _ out h in rw same.1 g
@@ -111,9 +127,12 @@ module _ {found : List ℕ → Option Entity} where
             ]
       ]
 
-pub alive_changed : (w : Indexed Registration) (e : Entity) (change : Registration → Registration) → is_alive w e ≡ true → is_alive (with_change w e change) e ≡ true
+pub alive_changed : (w : Indexed Registration) (e : Entity) (change : Registration → Registration) → is_alive w e ≡ true →
+    is_alive (changed w e change) e ≡ true
 alive_changed w e change alive =
     let living : (r : Registration) × (slice_get w.indices e.index ≡ Some (Living e.generation r)) = alive_known w e alive in
-    ap (λ (v : Indexed Registration). is_alive v e) (ap (change_in w e change) (record_at w e living.0 living.1))
-    ∙ (ap (λ o. is_some (record_in o e.generation)) (slice_get-set_same w.indices e.index (Living e.generation (change living.0)) (slice_get_within w.indices e.index (Living e.generation living.0) living.1))
+    ap (λ (v : Indexed Registration). is_alive v e) (ap (change_kept w e change) (record_at w e living.0 living.1))
+    ∙ (ap (λ o. is_some (record_in o e.generation))
+    (slice_get-set_same w.indices e.index (Living e.generation (change living.0))
+    (slice_get_within w.indices e.index (Living e.generation living.0) living.1))
     ∙ ap is_some (record_here e.generation (change living.0)))

@@ -38,7 +38,8 @@ module _ {found found' : List ℕ → Option Entity} {own own' : Entity → Opti
   }
 
   -- an entity without name gets one that nobody has
-  pub registry_gain : (name : List ℕ) (e : Entity) → IsRegistry found own → own e ≡ None → found name ≡ None → is_name name ≡ true → ChangesAt found found' name (Some e) → ChangesAt own own' e (Some name) → IsRegistry found' own'
+  pub registry_gain : (name : List ℕ) (e : Entity) → IsRegistry found own → own e ≡ None → found name ≡ None → is_name name ≡ true →
+      ChangesAt found found' name (Some e) → ChangesAt own own' e (Some name) → IsRegistry found' own'
   registry_gain name e r nameless free good f o = record {
     lives = λ n x h. elim (cases_text n name) [
       | inl same ↦
@@ -63,7 +64,8 @@ module _ {found found' : List ℕ → Option Entity} {own own' : Entity → Opti
   }
 
   -- an entity loses its name
-  pub registry_lose : (name : List ℕ) (e : Entity) → IsRegistry found own → own e ≡ Some name → ChangesAt found found' name None → ChangesAt own own' e None → IsRegistry found' own'
+  pub registry_lose : (name : List ℕ) (e : Entity) → IsRegistry found own → own e ≡ Some name → ChangesAt found found' name None → ChangesAt own own' e None →
+      IsRegistry found' own'
   registry_lose name e r named f o = record {
     lives = λ n x h. elim (cases_text n name) [
       | inl same ↦ absurd (none-some x (sym f.here ∙ (ap found' (sym same) ∙ h)))
@@ -86,11 +88,55 @@ module _ {found found' : List ℕ → Option Entity} {own own' : Entity → Opti
   -- an entity without name still has none
   pub registry_nameless : (e : Entity) → IsRegistry found own → own e ≡ None → Keeps found found' → ChangesAt own own' e None → IsRegistry found' own'
   registry_nameless e r nameless f o =
-      registry_same r f (record { all = λ x. elim (cases_entity x e) [ inl same ↦ ap own' same ∙ (o.here ∙ (sym nameless ∙ ap own (sym same))) | inr apart ↦ o.others x apart ] })
+      registry_same r f (record {
+        all = λ x. elim (cases_entity x e) [
+          | inl same ↦ ap own' same
+              ∙ (o.here ∙ (sym nameless ∙ ap own (sym same)))
+          | inr apart ↦ o.others x apart
+        ];
+      })
 
--- an entity gets another name in place of its old one
-pub registry_exchange : {found found' found'' : List ℕ → Option Entity} {own own' own'' : Entity → Option (List ℕ)} (old name : List ℕ) (e : Entity) → IsRegistry found own → own e ≡ Some old → ChangesAt found found' old None → ChangesAt own own' e None → found name ≡ None → is_name name ≡ true → ChangesAt found' found'' name (Some e) → ChangesAt own own'' e (Some name) → IsRegistry found'' own''
-registry_exchange {found'} old name e r named f o free good g p =
-    let still_free : found' name ≡ None = elim (cases_text name old) [ inl same ↦ ap found' same ∙ f.here | inr apart ↦ f.others name apart ∙ free ] in
-    registry_gain name e (registry_lose old e r named f o) o.here still_free good g
-    (record { here = p.here; others = λ j ne. p.others j ne ∙ sym (o.others j ne) })
+-- a name that was given and taken back
+pub keeps_undone : {found found' found'' : List ℕ → Option Entity} (name : List ℕ) (e : Entity)
+    → found name ≡ None → ChangesAt found found' name (Some e) → ChangesAt found' found'' name None → Keeps found found''
+keeps_undone {found} {found'} {found''} name e free f g = record {
+  all = λ n. elim (cases_text n name) [
+    | inl same ↦ ap found'' same ∙ (g.here ∙ (sym free ∙ sym (ap found same)))
+    | inr apart ↦ g.others n apart ∙ f.others n apart
+  ];
+}
+
+-- an entity gets another name, and then the old one is free
+pub registry_exchange : {found found' found'' : List ℕ → Option Entity} {own own' : Entity → Option (List ℕ)} (old name : List ℕ) (e : Entity)
+    → IsRegistry found own → own e ≡ Some old → found name ≡ None → is_name name ≡ true
+    → ChangesAt found found' name (Some e) → ChangesAt found' found'' old None → ChangesAt own own' e (Some name) → IsRegistry found'' own'
+registry_exchange {found} {found'} {found''} {own} {own'} old name e r named free good f g o =
+    let held : found old ≡ Some e = r.listed old e named in
+    let differ : name ≢ old = λ is. none-some e (sym free ∙ (ap found is ∙ held)) in
+    record {
+      lives = λ n x h. elim (cases_text n old) [
+        | inl same ↦ absurd (none-some x (sym g.here ∙ (ap found'' (sym same) ∙ h)))
+        | inr kept ↦ elim (cases_text n name) [
+          | inl new ↦
+              let bearer : x ≡ e = same_Some x e (sym h ∙ (g.others n kept ∙ (ap found' new ∙ f.here))) in
+              ap own' bearer ∙ (o.here ∙ ap Some (sym new))
+          | inr apart ↦
+              let lived : own x ≡ Some n = r.lives n x (sym (f.others n apart) ∙ (sym (g.others n kept) ∙ h)) in
+              o.others x (λ is. kept (same_Some n old (sym lived ∙ (ap own is ∙ named)))) ∙ lived
+        ]
+      ];
+      listed = λ n x h. elim (cases_entity x e) [
+        | inl same ↦
+            let called : n ≡ name = same_Some n name (sym h ∙ (ap own' same ∙ o.here)) in
+            ap found'' called ∙ (g.others name differ ∙ (f.here ∙ ap Some (sym same)))
+        | inr other ↦
+            let was : found n ≡ Some x = r.listed n x (sym (o.others x other) ∙ h) in
+            let kept : n ≢ old = λ is. other (same_Some x e (sym was ∙ (ap found is ∙ held))) in
+            let apart : n ≢ name = λ is. none-some x (sym free ∙ (ap found (sym is) ∙ was)) in
+            g.others n kept ∙ (f.others n apart ∙ was)
+      ];
+      proper = λ x. elim (cases_entity x e) [
+        | inl same ↦ ap is_proper (ap own' same ∙ o.here) ∙ good
+        | inr other ↦ ap is_proper (o.others x other) ∙ r.proper x
+      ];
+    }

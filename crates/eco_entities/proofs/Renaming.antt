@@ -1,62 +1,66 @@
 -- What a rename answers.
-use Rattle.std.proofs.Common.{◌≡◌, ℕ, zero, suc, Bool, true, false, not, ◌&&◌, List, [], ◌∷◌, set, slice_get, refl, sym, ap, ◌∙◌, Option, Some, None, is_some, Result, Ok, Err, MatchOption, option_and_then, inl, inr, eqb, eqb-true, eq-eqb}
+use Rattle.std.proofs.Common.{◌≡◌, ℕ, Bool, true, false, not, ◌&&◌, List, [], ◌∷◌, slice_get, refl, sym, ap, ◌∙◌, Option, Some, None, is_some, Result, Ok, Err, MatchOption, option_and_then, inl, inr, eqb, eqb-true, eq-eqb}
 use Rattle.std.proofs.lemmas.Bool.{cases_Bool, false≢true, and_parts, and_from}
 use Rattle.std.proofs.lemmas.Option.{none-some, same_Some}
 use Rattle.eco_ids.specs.declared.entity.Entity.{Entity}
 use Rattle.eco_ids.specs.declared.refusal.Refusal.{Refusal}
 use Rattle.eco_ids.specs.declared.refusal.Refusal.TheVariants.{BadName, NameTaken}
 use Rattle.eco_ids.specs.Births.{unfit_name, Makes}
-use Rattle.eco_ids.specs.Indices.{Indexed, Living, is_alive, with_record}
+use Rattle.eco_ids.specs.Indices.{Indexed, Living, is_alive, with_record, changed, change_kept}
 use Rattle.eco_ids.specs.Names.{is_name, is_called, bearer}
 use Rattle.eco_ids.specs.Outcome.{Meets, first_refusal, is_out_of_memory}
-use Rattle.eco_entities.specs.Registration.{Registration, newcomer, name_of, own_name, with_change, change_in, renamed, Renames, may_rename}
+use Rattle.eco_ids.specs.Renaming.{own_name, RenamesWith, may_rename}
+use Rattle.eco_entities.specs.Registration.{Registration, newcomer, name_of, renamed}
 use Rattle.eco_entities.proofs.Bearers.{text_refl, called_same}
-use Rattle.eco_entities.proofs.States.{alive_known, record_at}
+use Rattle.eco_ids.proofs.States.{record_at}
+use Rattle.eco_ids.proofs.Lists.{set_own}
+use Rattle.eco_entities.proofs.States.{alive_known}
 
 -- who doesn't bear the name isn't called by it
-pub uncalled : (w : Indexed Registration) (e : Entity) (name : List ℕ) → (own_name w e ≡ Some name → ⊥) → is_called name (own_name w e) ≡ false
+pub uncalled : (w : Indexed Registration) (e : Entity) (name : List ℕ) → (own_name name_of w e ≡ Some name → ⊥) → is_called name (own_name name_of w e) ≡ false
 uncalled w e name ne =
-    elim (cases_Bool (is_called name (own_name w e))) [
-      | inl called ↦ absurd (ne (called_same name (own_name w e) called))
+    elim (cases_Bool (is_called name (own_name name_of w e))) [
+      | inl called ↦ absurd (ne (called_same name (own_name name_of w e) called))
       | inr other ↦ other
     ]
 
 -- another has it
-pub rename_taken : (w : Indexed Registration) (e x : Entity) (name : List ℕ) → is_alive w e ≡ true → is_name name ≡ true → is_called name (own_name w e) ≡ false → bearer name_of w name ≡ Some x → Renames w e (Some name) (Err NameTaken) w
+pub rename_taken : (w : Indexed Registration) (e x : Entity) (name : List ℕ) → is_alive w e ≡ true → is_name name ≡ true →
+    is_called name (own_name name_of w e) ≡ false → bearer name_of w name ≡ Some x → RenamesWith name_of renamed w e false (Some name) (Err NameTaken) w
 rename_taken w e x name alive good other found = rw (alive, good, other, found) (refl, refl)
 
 -- nobody has it, so there is nothing against it
-pub rename_may : (w : Indexed Registration) (e : Entity) (name : List ℕ) → is_alive w e ≡ true → is_name name ≡ true → is_called name (own_name w e) ≡ false → bearer name_of w name ≡ None → may_rename w e (Some name) ≡ true
+pub rename_may : (w : Indexed Registration) (e : Entity) (name : List ℕ) → is_alive w e ≡ true → is_name name ≡ true →
+    is_called name (own_name name_of w e) ≡ false → bearer name_of w name ≡ None → may_rename name_of w e false (Some name) ≡ true
 rename_may w e name alive good other free = rw (alive, good, other, free) refl
 
 -- a state set again
-pub set-same : {X : Type 0} (xs : List X) (i : ℕ) (x : X) → slice_get xs i ≡ Some x → set xs i x ≡ xs
-set-same [] i x h = refl
-set-same (y ∷ ys) zero x h = ap (λ z. z ∷ ys) (sym (same_Some y x h))
-set-same (y ∷ ys) (suc i) x h = ap (λ zs. y ∷ zs) (set-same ys i x h)
-
 same_name : (r : Registration) (name : Option (List ℕ)) → r.name ≡ name → renamed name r ≡ r
 same_name r name h = ap (λ n. renamed n r) (sym h)
 
 -- its own name again changes nothing
-pub renamed_same : (w : Indexed Registration) (e : Entity) (name : List ℕ) → is_alive w e ≡ true → own_name w e ≡ Some name → with_change w e (renamed (Some name)) ≡ w
+pub renamed_same : (w : Indexed Registration) (e : Entity) (name : List ℕ) → is_alive w e ≡ true → own_name name_of w e ≡ Some name →
+    changed w e (renamed (Some name)) ≡ w
 renamed_same w e name alive own =
     let living : (r : Registration) × (slice_get w.indices e.index ≡ Some (Living e.generation r)) = alive_known w e alive in
     let called : name_of living.0 ≡ Some name = sym (ap (option_and_then name_of) (record_at w e living.0 living.1)) ∙ own in
-    ap (change_in w e (renamed (Some name))) (record_at w e living.0 living.1)
+    ap (change_kept w e (renamed (Some name))) (record_at w e living.0 living.1)
     ∙ (ap (λ r. with_record w e r) (same_name living.0 (Some name) called)
-    ∙ ap (λ xs. record w { indices = xs }) (set-same w.indices e.index (Living e.generation living.0) living.1))
+    ∙ ap (λ xs. record w { indices = xs }) (set_own w.indices e.index (Living e.generation living.0) living.1))
 
-pub rename_same : (w : Indexed Registration) (e : Entity) (name : List ℕ) → is_alive w e ≡ true → is_name name ≡ true → own_name w e ≡ Some name → Renames w e (Some name) (Ok tt) w
+pub rename_same : (w : Indexed Registration) (e : Entity) (name : List ℕ) → is_alive w e ≡ true → is_name name ≡ true → own_name name_of w e ≡ Some name →
+    RenamesWith name_of renamed w e false (Some name) (Ok tt) w
 rename_same w e name alive good own = rw (alive, good, ap (is_called name) own, text_refl name) (refl, sym (renamed_same w e name alive own))
 
 -- a name is refused for itself, and not for want of memory
-unfit_whys : (A : Type 0) (a b : Bool) (why : Refusal) → first_refusal ((a, BadName) ∷ (b, NameTaken) ∷ []) ≡ Some why → is_out_of_memory {A = A} (Err why) ≡ false
+unfit_whys : (A : Type 0) (a b : Bool) (why : Refusal) → first_refusal ((a, BadName) ∷ (b, NameTaken) ∷ []) ≡ Some why →
+    is_out_of_memory {A = A} (Err why) ≡ false
 unfit_whys A true b why h = rw (← same_Some BadName why h) refl
 unfit_whys A false true why h = rw (← same_Some NameTaken why h) refl
 unfit_whys A false false why h = absurd (none-some why h)
 
-pub unfit_why : (A : Type 0) (w : Indexed Registration) (name : Option (List ℕ)) (why : Refusal) → unfit_name name_of w name ≡ Some why → is_out_of_memory {A = A} (Err why) ≡ false
+pub unfit_why : (A : Type 0) (w : Indexed Registration) (name : Option (List ℕ)) (why : Refusal) → unfit_name name_of w name ≡ Some why →
+    is_out_of_memory {A = A} (Err why) ≡ false
 unfit_why A w name why h = unfit_whys A _ _ why h
 
 pub checked : (o : Option Refusal) (r : Result (Unit {0}) Refusal) (why : Refusal) → MatchOption o (r ≡ Ok tt) (λ y. r ≡ Err y) → r ≡ Err why → o ≡ Some why
@@ -64,15 +68,17 @@ checked None r why h e = absurd (let both : Ok tt ≡ Err why = sym h ∙ e in c
 checked (Some y) r why h e = let both : Err y ≡ Err why = sym h ∙ e in cc
 
 -- a create whose name is unfit
-pub makes_refused : (w : Indexed Registration) (name : Option (List ℕ)) (may : Bool) (why : Refusal) → unfit_name name_of w name ≡ Some why → Meets (Makes name_of w (newcomer name)) may w (Err why) w
-makes_refused w name may why h = rw (unfit_why Entity w name why h, h) (refl, refl)
+pub makes_refused : (w : Indexed Registration) (name : Option (List ℕ)) (arity : Option ℕ) (may : Bool) (why : Refusal) → unfit_name name_of w name ≡ Some why →
+    Meets (Makes name_of w (newcomer name arity)) may w (Err why) w
+makes_refused w name arity may why h = rw (unfit_why Entity w name why h, h) (refl, refl)
 
 -- the test of two handles
 
 pub same_entity : (a b : Entity) → true ≡ (eqb a.index b.index && eqb a.generation b.generation) → a ≡ b
 same_entity a b h =
     let parts : (eqb a.index b.index ≡ true) × (eqb a.generation b.generation ≡ true) = and_parts _ _ (sym h) in
-    ap (λ n. record { index = n; generation = a.generation }) (eqb-true _ _ parts.0) ∙ ap (λ n. record { index = b.index; generation = n }) (eqb-true _ _ parts.1)
+    ap (λ n. record { index = n; generation = a.generation }) (eqb-true _ _ parts.0)
+    ∙ ap (λ n. record { index = b.index; generation = n }) (eqb-true _ _ parts.1)
 
 pub other_entity : (a b : Entity) → false ≡ (eqb a.index b.index && eqb a.generation b.generation) → a ≡ b → ⊥
 other_entity a b h e =

@@ -1,25 +1,11 @@
 -- Lists of states: who lives or is free at an index, and what a change leaves of it.
-use Rattle.std.proofs.Common.{◌≡◌, ◌≢◌, ℕ, zero, suc, ◌+◌, ◌-◌, ◌<◌, ◌≤◌, ◌==◌, true, cond, List, [], ◌∷◌, length, set, slice_get, refl, sym, ap, ◌∙◌, Option, Some, None, is_some, ◌⊎◌, inl, inr, nat_lt, if◌then◌else◌, arith, eq-eqb, eqb-true}
+use Rattle.std.proofs.Common.{◌≡◌, ◌≢◌, ℕ, suc, ◌+◌, ◌-◌, ◌<◌, ◌≤◌, true, cond, List, [], ◌∷◌, length, set, slice_get, refl, sym, ap, ◌∙◌, Option, Some, None, is_some, ◌⊎◌, inl, inr, nat_lt, if◌then◌else◌, arith, eqb-true}
 use Rattle.std.specs.Option.{option_or}
-use Rattle.std.proofs.lemmas.Bool.{cases_eq, ltb-true, false≢true, cond-true, ne_eqb}
+use Rattle.std.proofs.lemmas.Bool.{cases_eq, ltb-true, false≢true, ne_eqb}
 use Rattle.std.proofs.lemmas.Option.{none-some, cond_some, same_Some, slice_get_within}
 use Rattle.eco_ids.specs.declared.entity.Entity.{Entity}
-use Rattle.eco_ids.specs.Indices.{Indexed, IndexState, Retired, Free, Living, record_in, record_of, is_alive, is_free_in, is_free_at, map_state, lowest_free, next_entity}
-use Rattle.eco_entities.specs.Registration.{Registration, change_in, with_change}
-
--- lists by their places
-
-pub slice_get-set_same : {X : Type 0} (xs : List X) (i : ℕ) (x : X) → i < length xs → slice_get (set xs i x) i ≡ Some x
-slice_get-set_same [] i x l = absurd (omega arith)
-slice_get-set_same (y ∷ ys) zero x l = refl
-slice_get-set_same (y ∷ ys) (suc i) x l = slice_get-set_same ys i x (omega arith)
-
-pub slice_get-set_other : {X : Type 0} (xs : List X) (i j : ℕ) (x : X) → j ≢ i → slice_get (set xs i x) j ≡ slice_get xs j
-slice_get-set_other [] i j x ne = refl
-slice_get-set_other (y ∷ ys) zero zero x ne = absurd (ne refl)
-slice_get-set_other (y ∷ ys) zero (suc j) x ne = refl
-slice_get-set_other (y ∷ ys) (suc i) zero x ne = refl
-slice_get-set_other (y ∷ ys) (suc i) (suc j) x ne = slice_get-set_other ys i j x (λ e. ne (ap suc e))
+use Rattle.eco_ids.specs.Indices.{Indexed, IndexState, Retired, Free, Living, record_in, is_alive, is_free_in, is_free_at, map_state, lowest_free, next_entity, change_kept, changed}
+use Rattle.eco_ids.proofs.States.{record_at}
 
 -- who is there
 
@@ -47,45 +33,28 @@ living_in {A} (Some (Living f r)) g h =
 pub alive_known : {A : Type 0} (w : Indexed A) (e : Entity) → is_alive w e ≡ true → (r : A) × (slice_get w.indices e.index ≡ Some (Living e.generation r))
 alive_known w e h = living_in (slice_get w.indices e.index) e.generation h
 
-pub record_here : {A : Type 0} (g : ℕ) (r : A) → record_in (Some (Living g r)) g ≡ Some r
-record_here g r = cond-true (g == g) (Some r) None (eq-eqb g g refl)
-
-pub record_at : {A : Type 0} (w : Indexed A) (e : Entity) (r : A) → slice_get w.indices e.index ≡ Some (Living e.generation r) → record_of w e ≡ Some r
-record_at w e r h = ap (λ o. record_in o e.generation) h ∙ record_here e.generation r
-
--- the one who lives is the one with that record
-some_in : {A : Type 0} (o : Option (IndexState A)) (g : ℕ) (r : A) → record_in o g ≡ Some r → o ≡ Some (Living g r)
-some_in None g r h = absurd (none-some r h)
-some_in (Some Retired) g r h = absurd (none-some r h)
-some_in (Some (Free f)) g r h = absurd (none-some r h)
-some_in (Some (Living f q)) g r h =
-    elim (cases_eq g f) [
-      | inl e ↦
-          let same : Some q ≡ Some r = sym (record_here f q) ∙ (ap (λ n. record_in (Some (Living f q)) n) (sym e) ∙ h) in
-          cc
-      | inr ne ↦ absurd (none-some r (sym (ap (λ b. cond b (Some q) None) (ne_eqb g f ne)) ∙ h))
-    ]
-
-pub state_at : {A : Type 0} (w : Indexed A) (e : Entity) (r : A) → record_of w e ≡ Some r → slice_get w.indices e.index ≡ Some (Living e.generation r)
-state_at w e r h = some_in (slice_get w.indices e.index) e.generation r h
-
 -- a change of what is kept of a living entity, as the index itself shows it
-pub changed_states : (limit : ℕ) (xs : List (IndexState Registration)) (e : Entity) (x y : IndexState Registration) (change : Registration → Registration) → is_alive (record { limit = limit; indices = xs }) e ≡ true → slice_get xs e.index ≡ Some y → x ≡ map_state change y → ◌≡◌ {A = Indexed Registration} (record { limit = limit; indices = set xs e.index x }) (with_change (record { limit = limit; indices = xs }) e change)
-changed_states limit xs e x y change alive here is =
-    let living : (r : Registration) × (slice_get xs e.index ≡ Some (Living e.generation r)) = alive_known (record { limit = limit; indices = xs }) e alive in
+pub changed_states : {A : Type 0} (limit : ℕ) (xs : List (IndexState A)) (e : Entity) (x y : IndexState A) (change : A → A) →
+    is_alive (record { limit = limit; indices = xs }) e ≡ true → slice_get xs e.index ≡ Some y → x ≡ map_state change y →
+    ◌≡◌ {A = Indexed A} (record { limit = limit; indices = set xs e.index x }) (changed (record { limit = limit; indices = xs }) e change)
+changed_states {A} limit xs e x y change alive here is =
+    let living : (r : A) × (slice_get xs e.index ≡ Some (Living e.generation r)) = alive_known (record { limit = limit; indices = xs }) e alive in
     let same : x ≡ Living e.generation (change living.0) = is ∙ ap (map_state change) (same_Some y (Living e.generation living.0) (sym here ∙ living.1)) in
     ap (λ z. record { limit = limit; indices = set xs e.index z }) same
-    ∙ sym (ap (change_in (record { limit = limit; indices = xs }) e change) (record_at (record { limit = limit; indices = xs }) e living.0 living.1))
+    ∙ sym (ap (change_kept (record { limit = limit; indices = xs }) e change) (record_at (record { limit = limit; indices = xs }) e living.0 living.1))
 
 -- who is made next is free at a known index, or comes first after the known ones
 
-lowest_on : {A : Type 0} (n : ℕ) (x : IndexState A) (xs : List (IndexState A)) (e : Entity) → (n + 1 ≤ e.index) × (slice_get xs (e.index - (n + 1)) ≡ Some (Free e.generation)) → (n ≤ e.index) × (slice_get (x ∷ xs) (e.index - n) ≡ Some (Free e.generation))
+lowest_on : {A : Type 0} (n : ℕ) (x : IndexState A) (xs : List (IndexState A)) (e : Entity) →
+    (n + 1 ≤ e.index) × (slice_get xs (e.index - (n + 1)) ≡ Some (Free e.generation)) →
+    (n ≤ e.index) × (slice_get (x ∷ xs) (e.index - n) ≡ Some (Free e.generation))
 lowest_on n x xs e h =
     let above : n + 1 ≤ e.index = h.0 in
     let place : e.index - n ≡ suc (e.index - (n + 1)) = omega arith in
     (omega arith, rw place h.1)
 
-lowest_is : {A : Type 0} (n : ℕ) (xs : List (IndexState A)) (e : Entity) → lowest_free n xs ≡ Some e → (n ≤ e.index) × (slice_get xs (e.index - n) ≡ Some (Free e.generation))
+lowest_is : {A : Type 0} (n : ℕ) (xs : List (IndexState A)) (e : Entity) → lowest_free n xs ≡ Some e →
+    (n ≤ e.index) × (slice_get xs (e.index - n) ≡ Some (Free e.generation))
 lowest_is n [] e h = absurd (none-some e h)
 lowest_is n (Retired ∷ xs) e h = lowest_on n Retired xs e (lowest_is (n + 1) xs e h)
 lowest_is n (Free g ∷ xs) e h =
@@ -95,15 +64,19 @@ lowest_is n (Free g ∷ xs) e h =
     (omega arith, rw here (ap (λ m. Some (Free m)) generation))
 lowest_is n (Living g r ∷ xs) e h = lowest_on n (Living g r) xs e (lowest_is (n + 1) xs e h)
 
-next_or : {A : Type 0} (w : Indexed A) (e : Entity) (o : Option Entity) → lowest_free 0 w.indices ≡ o → option_or o (if nat_lt (length w.indices) w.limit then Some (record { index = length w.indices; generation = 0 }) else None) ≡ Some e → (slice_get w.indices e.index ≡ Some (Free e.generation)) ⊎ ((length w.indices < w.limit) × (record { index = length w.indices; generation = 0 } ≡ e))
+next_or : {A : Type 0} (w : Indexed A) (e : Entity) (o : Option Entity) → lowest_free 0 w.indices ≡ o →
+    option_or o (if nat_lt (length w.indices) w.limit then Some (record { index = length w.indices; generation = 0 }) else None) ≡ Some e →
+    (slice_get w.indices e.index ≡ Some (Free e.generation)) ⊎ ((length w.indices < w.limit) × (record { index = length w.indices; generation = 0 } ≡ e))
 next_or w e None low h =
-    let found : (nat_lt (length w.indices) w.limit ≡ true) × (record { index = length w.indices; generation = 0 } ≡ e) = cond_some (nat_lt (length w.indices) w.limit) (record { index = length w.indices; generation = 0 }) e h in
+    let found : (nat_lt (length w.indices) w.limit ≡ true) × (record { index = length w.indices; generation = 0 } ≡ e) =
+    cond_some (nat_lt (length w.indices) w.limit) (record { index = length w.indices; generation = 0 }) e h in
     inr (ltb-true _ _ found.0, found.1)
 next_or w e (Some x) low h =
     let place : e.index - 0 ≡ e.index = omega arith in
     inl (rw place at (lowest_is 0 w.indices e (low ∙ h)).1)
 
-pub next_is : {A : Type 0} (w : Indexed A) (e : Entity) → next_entity w ≡ Some e → (slice_get w.indices e.index ≡ Some (Free e.generation)) ⊎ ((length w.indices < w.limit) × (record { index = length w.indices; generation = 0 } ≡ e))
+pub next_is : {A : Type 0} (w : Indexed A) (e : Entity) → next_entity w ≡ Some e →
+    (slice_get w.indices e.index ≡ Some (Free e.generation)) ⊎ ((length w.indices < w.limit) × (record { index = length w.indices; generation = 0 } ≡ e))
 next_is w e h = next_or w e (lowest_free 0 w.indices) refl h
 
 -- where its index isn't known, there is room for it

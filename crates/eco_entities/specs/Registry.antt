@@ -1,6 +1,6 @@
 -- Which names are in use, and by whom.
 use Rattle.std.specs.Prelude.{◌≡◌, ℕ, true, List, Option, Some}
-use Rattle.std.specs.HashMap.{get_by_text}
+use Rattle.std.specs.BTreeMap.{get_by_text}
 use Rattle.eco_ids.specs.declared.entity.Entity.{Entity}
 use Rattle.eco_ids.specs.Names.{is_proper}
 use Rattle.eco_entities.specs.declared.names.Names.{Names}

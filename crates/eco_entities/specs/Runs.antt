@@ -2,15 +2,15 @@
 use Rattle.std.specs.Prelude.{◌≡◌, ◌≢◌, ℕ, false, List, [], ◌∷◌, Option, None, Result, Ok, IsTrue}
 use Rattle.eco_ids.specs.declared.entity.Entity.{Entity}
 use Rattle.eco_ids.specs.declared.refusal.Refusal.{Refusal}
-use Rattle.eco_ids.specs.Births.{Makes, may_make, Admits, may_admit, RevivesWith}
-use Rattle.eco_ids.specs.Indices.{Indexed, is_alive, with_death}
+use Rattle.eco_ids.specs.Births.{Makes, Admits, may_admit, RevivesWith}
+use Rattle.eco_ids.specs.Indices.{Indexed, is_alive, with_death, changed}
 use Rattle.eco_ids.specs.Outcome.{Meets}
-use Rattle.eco_entities.specs.Registration.{Registration, newcomer, name_of, with_change, placed, Renames, may_rename}
+use Rattle.eco_entities.specs.Registration.{Creates, Registration, Renames, newcomer, name_of, placed}
 use Rattle.eco_entities.specs.declared.place.Place.{Place}
 
 -- a call that changes the index
 pub data Call : Type 0 where
-  Create : Option (List ℕ) → Call
+  Create : Option (List ℕ) → Option ℕ → Call
   Admit : ℕ → Call
   Revive : Entity → Call
   Kill : Entity → Call
@@ -19,12 +19,12 @@ pub data Call : Type 0 where
 
 -- the call leads from the old index to the new one, whatever it answers
 abbrev pub LeadsTo : Call → Indexed Registration → Indexed Registration → Type 0
-LeadsTo (Create name) old new = (r : Result Entity Refusal) × Meets (Makes name_of old (newcomer name)) (may_make name_of old name) old r new
+LeadsTo (Create name arity) old new = (r : Result Entity Refusal) × Creates old name arity r new
 LeadsTo (Admit n) old new = (r : Result (Unit {0}) Refusal) × Meets (Admits old n) (may_admit old n) old r new
-LeadsTo (Revive e) old new = (r : Result (Unit {0}) Refusal) × RevivesWith old e (newcomer None) r new
+LeadsTo (Revive e) old new = (r : Result (Unit {0}) Refusal) × RevivesWith old e (newcomer None None) r new
 LeadsTo (Kill e) old new = IsTrue (is_alive old e) × (new ≡ with_death old e)
-LeadsTo (Rename e name) old new = (r : Result (Unit {0}) Refusal) × Meets (Renames old e name) (may_rename old e name) old r new
-LeadsTo (SetPlace e p) old new = IsTrue (is_alive old e) × (new ≡ with_change old e (placed p))
+LeadsTo (Rename e name) old new = (r : Result (Unit {0}) Refusal) × Renames old e name r new
+LeadsTo (SetPlace e p) old new = IsTrue (is_alive old e) × (new ≡ changed old e (placed p))
 
 -- the calls, one after another, lead from the old index to the new one
 abbrev pub RunsTo : List Call → Indexed Registration → Indexed Registration → Type 0
@@ -36,4 +36,4 @@ abbrev pub NobodyLivesTwice : Type 0
 NobodyLivesTwice =
     (old later : Indexed Registration) (e : Entity) (calls : List Call) → IsTrue (is_alive old e) → RunsTo calls (with_death old e) later
     → (is_alive later e ≡ false)
-    × ((name : Option (List ℕ)) (x : Entity) (new : Indexed Registration) → Makes name_of later (newcomer name) (Ok x) new → x ≢ e)
+    × ((name : Option (List ℕ)) (arity : Option ℕ) (x : Entity) (new : Indexed Registration) → Makes name_of later (newcomer name arity) (Ok x) new → x ≢ e)

@@ -6,8 +6,9 @@ use Rattle.eco_entities.specs.declared.slot.Slot.{Slot}
 use Rattle.eco_entities.specs.declared.slot.Slot.TheVariants as slot
 use Rattle.eco_entities.specs.Registration.{Registration}
 
+-- what is kept of a living entity
 abbrev pub registration_of : Registered → Registration
-registration_of r = record { name = option_map string_bytes r.name; place = r.place }
+registration_of r = record { name = option_map string_bytes r.name; arity = r.arity; place = r.place }
 
 -- the state of the slot's index
 abbrev pub state_of : Slot → IndexState Registration
@@ -15,6 +16,7 @@ state_of slot.Retired = Retired
 state_of (slot.Free g) = Free g
 state_of (slot.Living g r) = Living g (registration_of r)
 
+-- somebody may live there, and nobody does
 abbrev pub is_free : {A : Type 0} → IndexState A → Bool
 is_free Retired = false
 is_free (Free g) = true

@@ -2,17 +2,18 @@
 //!
 //! An entity is named by a handle: an index, and how often that index was used before. A handle that outlives its entity
 //! is never taken for the one who lives at its index now (Flecs manual, Entities and Components).
-ghost use Rattle.std.specs.Prelude.{◌≡◌, ◌↔◌, ℕ, ◌≤◌, ◌&&◌, nat_lt, true, [], length, List, Option, Some, None, IsTrue, OnOk, OnErr, MatchOption};
+ghost use Rattle.std.specs.Prelude.{◌≡◌, ◌↔◌, ◌≤◌, ◌&&◌, nat_lt, true, [], length, Option, Some, None, IsTrue, OnOk, OnErr, MatchOption};
 ghost use Rattle.std.specs.Option.{option_copied};
-ghost use Rattle.eco_ids.specs.Births.{Admits, may_admit, Makes, may_make, RevivesWith, unfit_name};
+ghost use Rattle.eco_ids.specs.Births.{Admits, may_admit, Makes, RevivesWith, unfit_name};
 ghost use Rattle.eco_ids.specs.declared.entity.Entity.{Entity};
-ghost use Rattle.eco_ids.specs.Indices.{is_alive, is_free_at, next_entity, with_new, with_death};
+ghost use Rattle.eco_ids.specs.Indices.{changed, is_alive, is_free_at, next_entity, with_new, with_death};
 ghost use Rattle.eco_ids.specs.Names.{bearer, is_name};
 ghost use Rattle.eco_ids.specs.Outcome.{Meets};
-ghost use Rattle.eco_entities.specs.Registration.{newcomer, name_of, own_name, own_place, entity_at, with_change, placed, renamed, Renames, may_rename};
+ghost use Rattle.eco_ids.specs.Renaming.{own_name};
+ghost use Rattle.eco_entities.specs.Registration.{Creates, Renames, newcomer, name_of, own_arity, own_place, entity_at, placed, renamed};
 ghost use Rattle.eco_entities.specs.Rules.{IsRuled};
 
-use crate::names::{Names, NewName};
+use crate::names::Names;
 use crate::place::Place;
 use crate::slots::Slots;
 use eco_ids::{Entity, Refusal, is_name};
@@ -25,8 +26,8 @@ use std::marker::Model;
 /// name at most, however many indices are known; only [`admit`](EntityIndex::admit) costs as much as it admits. What
 /// grows is taken from the allocator that [`new`](EntityIndex::new) is given.
 ///
-/// A contract sees the index as its limit and the list of the states of its indices, each living one with its name and
-/// its place.
+/// A contract sees the index as its limit and the list of the states of its indices, each living one with its name,
+/// its arity and its place.
 pub struct EntityIndex {
     slots: Slots,
     names: Names,
@@ -41,14 +42,15 @@ impl Drop for EntityIndex {
 
 impl Model for EntityIndex {
     ghost use Rattle.eco_ids.specs.Indices.{Indexed};
-    ghost use Rattle.eco_entities.specs.Registration.{Registration, own_name};
+    ghost use Rattle.eco_ids.specs.Renaming.{own_name};
+    ghost use Rattle.eco_entities.specs.Registration.{Registration, name_of};
     ghost use Rattle.eco_entities.specs.Registry.{IsRegistry, entity_of};
 
     ghost Value = { Indexed Registration };
 
     ghost view = { λ s. s.slots };
 
-    ghost invariant = { λ s. IsRegistry (entity_of s.names) (own_name s.slots) };
+    ghost invariant = { λ s. IsRegistry (entity_of s.names) (own_name name_of s.slots) };
 }
 
 impl EntityIndex {
@@ -96,7 +98,7 @@ impl EntityIndex {
 
     /// The name of a living entity, if it has one.
     pub fn name(&self, entity: Entity) -> Option<&str>
-        ensures { option_copied result ≡ own_name self.now entity }
+        ensures { option_copied result ≡ own_name name_of self.now entity }
     {
         self.slots.name(entity)
     }
@@ -104,7 +106,7 @@ impl EntityIndex {
     /// The living entity of this name. No two have the same. Takes no memory.
     pub fn lookup(&self, name: &str) -> Option<Entity>
         ensures bearer { result ≡ bearer name_of self.now name.now }
-        ensures exact { (e : Entity) → (result ≡ Some e) ↔ (own_name self.now e ≡ Some name.now) }
+        ensures exact { (e : Entity) → (result ≡ Some e) ↔ (own_name name_of self.now e ≡ Some name.now) }
     {
         self.names.get(name)
     }
@@ -114,6 +116,13 @@ impl EntityIndex {
         ensures { result ≡ entity_at self.now index }
     {
         self.slots.entity_at(index)
+    }
+
+    /// The arity of a living entity, if it has one.
+    pub fn arity_of(&self, entity: Entity) -> Option<u8>
+        ensures { result ≡ own_arity self.now entity }
+    {
+        self.slots.arity(entity)
     }
 
     /// Who is made next: the lowest free index at its generation, else the first unknown one below the limit.
@@ -139,15 +148,16 @@ impl EntityIndex {
     }
 
     /// Makes an entity at the lowest free index, at the generation that its index has come to, else at the first unknown
-    /// index, at generation 0. It has this name, or none, and no place yet.
+    /// index, at generation 0. It has this name, or none, and this arity,
+    /// or none, and no place yet.
     ///
     /// Refused with `BadName` where the name is none, with `NameTaken` where a living entity has it, with `NoMoreIds`
     /// where every index below the limit is in use or retired, and with `OutOfMemory` where a growth was refused, in this
     /// order. A refused call changes nothing.
     ///
     /// Flecs uses ids again in the order of its own list; the lowest comes first here, so that a run can be repeated.
-    pub fn create(&mut self, name: Option<&str>) -> Result<Entity, Refusal>
-        ensures { Meets (Makes name_of self.old (newcomer (option_copied name.entry))) (may_make name_of self.old (option_copied name.entry)) self.old result self.new }
+    pub fn create(&mut self, name: Option<&str>, arity: Option<u8>) -> Result<Entity, Refusal>
+        ensures { Creates self.old (option_copied name.entry) arity result self.new }
     {
         if name.is_some() {
             self.check_name(name)?;
@@ -155,7 +165,7 @@ impl EntityIndex {
         let Some(entity) = self.slots.next() else {
             return Err(Refusal::NoMoreIds);
         };
-        self.settle(entity, name)?;
+        self.settle(entity, name, arity)?;
         Ok(entity)
     }
 
@@ -176,21 +186,30 @@ impl EntityIndex {
         Ok(())
     }
 
-    // The next entity lives, with a name that nobody has, or none. An `Err` leaves everything.
-    fn settle(&mut self, entity: Entity, name: Option<&str>) -> Result<(), AllocError>
+    // The next entity lives, with this arity and a name that nobody has, or none. An `Err` leaves everything.
+    fn settle(
+        &mut self,
+        entity: Entity,
+        name: Option<&str>,
+        arity: Option<u8>,
+    ) -> Result<(), AllocError>
         requires next { next_entity self.old ≡ Some entity }
         requires fit { unfit_name name_of self.old (option_copied name) ≡ None }
-        ensures ok { OnOk result (self.new ≡ with_new self.old entity (newcomer (option_copied name.entry))) }
+        ensures ok { OnOk result (self.new ≡ with_new self.old entity (newcomer (option_copied name.entry) arity)) }
         ensures err { OnErr result (self.new ≡ self.old) }
     {
         let Some(text) = name else {
-            self.slots.settle_next(entity, None)?;
+            self.slots.settle_next(entity, None, arity)?;
             return Ok(());
         };
-        let NewName { listed, own } = self.names.prepare(text)?;
-        self.slots.settle_next(entity, Some(own))?;
-        self.names.insert(listed, entity);
-        Ok(())
+        let own = self.names.insert(text, entity)?;
+        match self.slots.settle_next(entity, Some(own), arity) {
+            Ok(()) => Ok(()),
+            Err(refused) => {
+                self.names.remove(text);
+                Err(refused)
+            }
+        }
     }
 
     /// Makes `count` more indices known, after the others. They are free at generation 0, and nobody lives there.
@@ -203,12 +222,12 @@ impl EntityIndex {
         self.slots.admit(count)
     }
 
-    /// This very handle lives from now on, without name and place (Flecs manual, Entities and Components).
+    /// This very handle lives from now on, without name, arity and place (Flecs manual, Entities and Components).
     /// Takes no memory.
     ///
     /// Refused with `Taken` unless its index is known, free and at its generation. A refused call changes nothing.
     pub fn revive(&mut self, entity: Entity) -> Result<(), Refusal>
-        ensures { RevivesWith self.old entity (newcomer None) result self.new }
+        ensures { RevivesWith self.old entity (newcomer None None) result self.new }
     {
         self.slots.revive(entity)
     }
@@ -216,7 +235,7 @@ impl EntityIndex {
     /// The living entity is kept there from now on.
     pub fn set_place(&mut self, entity: Entity, place: Place)
         requires { IsTrue (is_alive self.old entity) }
-        ensures { self.new ≡ with_change self.old entity (placed place) }
+        ensures { self.new ≡ changed self.old entity (placed place) }
     {
         self.slots.set_place(entity, place);
     }
@@ -231,13 +250,13 @@ impl EntityIndex {
         self.slots.kill(entity);
     }
 
-    /// The living entity has this name, or none, from now on. Its own name again is done, and changes nothing.
+    /// The living entity has this name, or none, from now on, and keeps its arity. Its own name again is done, and changes nothing.
     ///
     /// Refused with `NotAlive` where this entity doesn't live, with `BadName` where the name is none, with `NameTaken`
     /// where another living entity has it, and with `OutOfMemory` where a growth was refused, in this order. A refused
     /// call changes nothing, so the old name stays.
     pub fn rename(&mut self, entity: Entity, name: Option<&str>) -> Result<(), Refusal>
-        ensures { Meets (Renames self.old entity (option_copied name.entry)) (may_rename self.old entity (option_copied name.entry)) self.old result self.new }
+        ensures { Renames self.old entity (option_copied name.entry) result self.new }
     {
         if !self.is_alive(entity) {
             return Err(Refusal::NotAlive);
@@ -261,22 +280,21 @@ impl EntityIndex {
         requires alive { IsTrue (is_alive self.old entity) }
         requires proper { IsTrue (is_name name.now) }
         requires free { bearer name_of self.old name.now ≡ None }
-        ensures ok { OnOk result (self.new ≡ with_change self.old entity (renamed (Some name.now))) }
+        ensures ok { OnOk result (self.new ≡ changed self.old entity (renamed (Some name.now))) }
         ensures err { OnErr result (self.new ≡ self.old) }
     {
-        let NewName { listed, own } = self.names.prepare(name)?;
+        let own = self.names.insert(name, entity)?;
         if let Some(old) = self.slots.name(entity) {
             self.names.remove(old);
         }
         self.slots.set_name(entity, Some(own));
-        self.names.insert(listed, entity);
         Ok(())
     }
 
     // The living entity has no name any more.
     fn unname(&mut self, entity: Entity)
         requires { IsTrue (is_alive self.old entity) }
-        ensures { self.new ≡ with_change self.old entity (renamed None) }
+        ensures { self.new ≡ changed self.old entity (renamed None) }
     {
         if let Some(name) = self.slots.name(entity) {
             self.names.remove(name);

@@ -1,5 +1,5 @@
 //! The set of free indices, as a bitmap of three levels.
-ghost use Rattle.std.specs.Prelude.{◌≡◌, ℕ, ◌+◌, ◌-◌, ◌^◌, ◌<◌, ◌≤◌, true, false, List, [], ◌++◌, length, take, replicate, slice_set, OnOk, OnErr};
+ghost use Rattle.std.specs.Prelude.{◌≡◌, ◌+◌, ◌-◌, ◌^◌, ◌<◌, ◌≤◌, true, false, List, [], ◌++◌, length, take, replicate, slice_set, OnOk, OnErr};
 ghost use Rattle.std.specs.List.{position_from};
 
 use crate::level::{Level, WORD_BITS};

@@ -1,4 +1,4 @@
-//! The entity index: handles that are never confused, and the names and places of the living.
+//! The entity index: handles that are never confused, and the names, arities and places of the living.
 #![tactic(auto)]
 
 mod entity_index;
@@ -12,6 +12,3 @@ mod slots;
 
 pub use entity_index::EntityIndex;
 pub use place::Place;
-
-#[cfg(test)]
-mod tests;

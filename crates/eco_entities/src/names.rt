@@ -1,22 +1,15 @@
 //! The names in use, each with the living entity that bears it.
-ghost use Rattle.std.specs.Prelude.{◌≡◌, ◌<◌, ◌≤◌, Some, None, OnOk, IfOk, string_bytes};
-ghost use Rattle.std.specs.HashMap.{spare};
+ghost use Rattle.std.specs.Prelude.{◌≡◌, Some, None, OnOk, OnErr, IfOk, string_bytes};
 
 use eco_ids::Entity;
 use std::alloc::{AllocError, Global};
-use std::collections::HashMap;
+use std::collections::BTreeMap;
 
 #[derive(Drop)]
 pub(crate) struct Names {
-    entities: HashMap<String, Entity>,
+    // An ordered tree, so that no choice of names makes a look-up slow, as it would where the names of a hash map collide.
+    entities: BTreeMap<String, Entity>,
     alloc: Global,
-}
-
-/// A name that is to be given: one copy for the list of names, and one for the entity.
-#[derive(Drop)]
-pub(crate) struct NewName {
-    pub(crate) listed: String,
-    pub(crate) own: String,
 }
 
 impl Names {
@@ -28,7 +21,7 @@ impl Names {
         ensures { Keeps (λ _. None) (entity_of result) }
     {
         Names {
-            entities: HashMap::new(alloc),
+            entities: BTreeMap::new(alloc),
             alloc,
         }
     }
@@ -40,32 +33,22 @@ impl Names {
         self.entities.get(name).copied()
     }
 
-    /// Takes the room for one more name. An `Err` comes where a growth was refused.
-    pub(crate) fn prepare(&mut self, name: &str) -> Result<NewName, AllocError>
-        ensures keeps { Keeps (entity_of self.old) (entity_of self.new) }
-        ensures room { OnOk result (0 < spare self.new.entities) }
-        ensures own { IfOk result (λ n. string_bytes n.own ≡ name.now) }
-        ensures listed { IfOk result (λ n. string_bytes n.listed ≡ name.now) }
+    /// The entity bears this name, which nobody bears. The answer is a copy of the name. An `Err` comes where a growth was
+    /// refused, and changes nothing.
+    pub(crate) fn insert(&mut self, name: &str, entity: Entity) -> Result<String, AllocError>
+        ensures ok { OnOk result (ChangesAt (entity_of self.old) (entity_of self.new) name.now (Some entity)) }
+        ensures own { IfOk result (λ own. string_bytes own ≡ name.now) }
+        ensures err { OnErr result (Keeps (entity_of self.old) (entity_of self.new)) }
     {
         let own = String::from_str(self.alloc, name)?;
         let listed = String::from_str(self.alloc, name)?;
-        self.entities.reserve(1)?;
-        Ok(NewName { listed, own })
-    }
-
-    /// The entity bears this name, for which there is room.
-    pub(crate) fn insert(&mut self, name: String, entity: Entity)
-        requires { 0 < spare self.old.entities }
-        ensures { ChangesAt (entity_of self.old) (entity_of self.new) (string_bytes name) (Some entity) }
-    {
-        // There is room, so it is done.
-        let _: Result<_, _> = self.entities.insert(name, entity);
+        self.entities.insert(listed, entity)?;
+        Ok(own)
     }
 
     /// Nobody bears the name.
     pub(crate) fn remove(&mut self, name: &str)
-        ensures changes { ChangesAt (entity_of self.old) (entity_of self.new) name.now None }
-        ensures room { spare self.old.entities ≤ spare self.new.entities }
+        ensures { ChangesAt (entity_of self.old) (entity_of self.new) name.now None }
     {
         let _ = self.entities.remove(name);
     }

@@ -1,6 +1,6 @@
 //! What the index keeps of one index.
-ghost use Rattle.std.specs.Prelude.{◌≡◌, option_map, option_and_then, string_bytes, Some};
-ghost use Rattle.eco_ids.specs.Indices.{map_state, raised, record_in};
+ghost use Rattle.std.specs.Prelude.{◌≡◌, option_map, string_bytes, Some};
+ghost use Rattle.eco_ids.specs.Indices.{map_state, raised};
 ghost use Rattle.eco_entities.specs.Registration.{placed, renamed};
 ghost use Rattle.eco_entities.specs.Slots.{is_free, state_of};
 
@@ -11,6 +11,7 @@ use std::mem;
 #[derive(Drop)]
 pub(crate) struct Registered {
     pub(crate) name: Option<String>,
+    pub(crate) arity: Option<u8>,
     pub(crate) place: Option<Place>,
 }
 

@@ -1,10 +1,11 @@
 //! The known indices: which of them live, are free or retired, and what is kept of the living.
 ghost use Rattle.std.specs.Prelude.{◌≡◌, ℕ, ◌+◌, ◌≤◌, ◌<◌, ◌&&◌, nat_lt, [], ◌∷◌, ◌++◌, replicate, vec_len, vec_capacity, length, slice_get, IsTrue, OnOk, OnErr, Some, None, option_map, string_bytes};
 ghost use Rattle.eco_ids.specs.Births.{Admits, may_admit, RevivesWith};
-ghost use Rattle.eco_ids.specs.Indices.{record_of, is_alive, is_free_at, next_entity, admitted, with_new, with_record, with_death, Living};
+ghost use Rattle.eco_ids.specs.Indices.{changed, record_of, is_alive, is_free_at, next_entity, admitted, with_new, with_record, with_death, Living};
 ghost use Rattle.eco_ids.specs.Outcome.{Meets};
 ghost use Rattle.std.specs.Option.{option_copied};
-ghost use Rattle.eco_entities.specs.Registration.{newcomer, own_name, entity_at, with_change, placed, renamed};
+ghost use Rattle.eco_ids.specs.Renaming.{own_name};
+ghost use Rattle.eco_entities.specs.Registration.{name_of, newcomer, own_arity, entity_at, placed, renamed};
 ghost use Rattle.eco_entities.specs.Slots.{registration_of, next_generation, Fits};
 
 use crate::free_set::FreeSet;
@@ -88,9 +89,16 @@ impl Slots {
 
     /// The name of a living entity, if it has one.
     pub(crate) fn name(&self, entity: Entity) -> Option<&str>
-        ensures { option_copied result ≡ own_name self.now entity }
+        ensures { option_copied result ≡ own_name name_of self.now entity }
     {
         self.get(entity)?.name.as_deref()
+    }
+
+    /// The arity of a living entity, if it has one.
+    pub(crate) fn arity(&self, entity: Entity) -> Option<u8>
+        ensures { result ≡ own_arity self.now entity }
+    {
+        self.get(entity)?.arity
     }
 
     /// Who lives at the index.
@@ -168,55 +176,69 @@ impl Slots {
         Ok(())
     }
 
-    /// A handle that is free lives, with this name.
-    pub(crate) fn settle(&mut self, entity: Entity, name: Option<String>)
+    /// A handle that is free lives, with this name and this arity.
+    pub(crate) fn settle(&mut self, entity: Entity, name: Option<String>, arity: Option<u8>)
         requires { IsTrue (is_free_at self.old entity) }
-        ensures { self.new ≡ with_record self.old entity (newcomer (option_map string_bytes name)) }
+        ensures { self.new ≡ with_record self.old entity (newcomer (option_map string_bytes name) arity) }
     {
         let index = entity.index as usize;
         self.free.remove(index);
-        self.slots[index] = Slot::Living(entity.generation, Registered { name, place: None });
+        self.slots[index] = Slot::Living(
+            entity.generation,
+            Registered {
+                name,
+                arity,
+                place: None,
+            },
+        );
     }
 
-    /// The next entity lives, with this name. An `Err` leaves everything.
+    /// The next entity lives, with this name and this arity. An `Err` leaves everything.
     pub(crate) fn settle_next(
         &mut self,
         entity: Entity,
         name: Option<String>,
+        arity: Option<u8>,
     ) -> Result<(), AllocError>
         requires { next_entity self.old ≡ Some entity }
-        ensures ok { OnOk result (self.new ≡ with_new self.old entity (newcomer (option_map string_bytes name))) }
+        ensures ok { OnOk result (self.new ≡ with_new self.old entity (newcomer (option_map string_bytes name) arity)) }
         ensures err { OnErr result (self.new ≡ self.old) }
     {
         if entity.index < self.high() {
-            self.settle(entity, name);
+            self.settle(entity, name, arity);
             return Ok(());
         }
-        self.settle_last(name)
+        self.settle_last(name, arity)
     }
 
-    // The first unknown index, which lies below the limit, is known from now on, and an entity lives there, with this name. It
-    // was never free, so no mark is set and cleared. An `Err` leaves everything.
-    fn settle_last(&mut self, name: Option<String>) -> Result<(), AllocError>
+    // The first unknown index, which lies below the limit, is known from now on, and an entity lives there, with this name and
+    // this arity. It was never free, so no mark is set and cleared. An `Err` leaves everything.
+    fn settle_last(&mut self, name: Option<String>, arity: Option<u8>) -> Result<(), AllocError>
         requires { length self.old.indices + 1 ≤ self.old.limit }
-        ensures ok { OnOk result (self.new ≡ record self.old { indices = self.old.indices ++ Living 0 (newcomer (option_map string_bytes name)) ∷ [] }) }
+        ensures ok { OnOk result (self.new ≡ record self.old { indices = self.old.indices ++ Living 0 (newcomer (option_map string_bytes name) arity) ∷ [] }) }
         ensures err { OnErr result (self.new ≡ self.old) }
     {
         self.slots.reserve(1)?;
         self.free.grow(1)?;
-        self.slots
-            .push_reserved(Slot::Living(0, Registered { name, place: None }));
+        self.slots.push_reserved(Slot::Living(
+            0,
+            Registered {
+                name,
+                arity,
+                place: None,
+            },
+        ));
         Ok(())
     }
 
-    /// A handle that is free lives, without name.
+    /// A handle that is free lives, without name and arity.
     pub(crate) fn revive(&mut self, entity: Entity) -> Result<(), Refusal>
-        ensures { RevivesWith self.old entity (newcomer None) result self.new }
+        ensures { RevivesWith self.old entity (newcomer None None) result self.new }
     {
         if !self.is_free_at(entity) {
             return Err(Refusal::Taken);
         }
-        self.settle(entity, None);
+        self.settle(entity, None, None);
         Ok(())
     }
 
@@ -235,14 +257,14 @@ impl Slots {
 
     pub(crate) fn set_place(&mut self, entity: Entity, place: Place)
         requires { IsTrue (is_alive self.old entity) }
-        ensures { self.new ≡ with_change self.old entity (placed place) }
+        ensures { self.new ≡ changed self.old entity (placed place) }
     {
         self.slots[entity.index as usize].set_place(place);
     }
 
     pub(crate) fn set_name(&mut self, entity: Entity, name: Option<String>)
         requires { IsTrue (is_alive self.old entity) }
-        ensures { self.new ≡ with_change self.old entity (renamed (option_map string_bytes name)) }
+        ensures { self.new ≡ changed self.old entity (renamed (option_map string_bytes name)) }
     {
         self.slots[entity.index as usize].set_name(name);
     }

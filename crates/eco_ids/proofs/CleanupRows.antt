@@ -1,28 +1,21 @@
 -- Worked rows: whom a delete takes, what it leaves, and what forbids it.
-use Rattle.std.proofs.Common.{◌≡◌, ℕ, true, false, map, refl, sym, ap, subst, true≢false, ◌==◌, IsTrue, List, [], ◌∷◌, ◌++◌, Some, None, is_some, cond, inr}
+use Rattle.std.proofs.Common.{◌≡◌, true, false, refl, sym, ap, subst, true≢false, ◌==◌, IsTrue, [], ◌∷◌, Some, None, is_some, cond, inl, inr}
 use Rattle.eco_ids.specs.declared.entity.Entity.{Entity}
 use Rattle.eco_ids.specs.declared.entity.TheConstants.{CHILD_OF, DELETE, ON_DELETE, PANIC}
 use Rattle.eco_ids.specs.declared.id.Id.{Id}
 use Rattle.eco_ids.specs.declared.id.Id.TheVariants.{One, Two}
 use Rattle.eco_ids.specs.Cleanup.{Doomed, Forbids, HoldsOn, Names, after_delete}
-use Rattle.eco_ids.specs.Indices.{IndexState, Free, Living}
+use Rattle.eco_ids.specs.Indices.{Free}
 use Rattle.eco_ids.specs.Least.{root, next}
 use Rattle.eco_ids.specs.Order.{id_eq}
-use Rattle.eco_ids.specs.World.{WorldState, Record, first_world, has, zeros}
+use Rattle.eco_ids.specs.World.{WorldState, has, zeros}
 use Rattle.eco_ids.proofs.Facts.{id_eq_is}
-
-abbrev e : ℕ → Entity
-e n = record { index = n; generation = 0 }
-
-abbrev having : List Id → IndexState Record
-having ids = Living 0 (record { name = None; arity = None; held = map (λ i. (i, zeros)) ids })
-
-abbrev world : List (IndexState Record) → WorldState
-world made = record { limit = 64; indices = (first_world 64).indices ++ made }
+use Rattle.eco_ids.proofs.Worlds.{e, having, world}
 
 -- a tree: r 9 with children g 10 and s 11, p 12 a child of g, k 13 of p
 abbrev tree : WorldState
-tree = world (having [] ∷ having (Two CHILD_OF (e 9) ∷ []) ∷ having (Two CHILD_OF (e 9) ∷ []) ∷ having (Two CHILD_OF (e 10) ∷ []) ∷ having (Two CHILD_OF (e 12) ∷ []) ∷ [])
+tree = world (having [] ∷ having (Two CHILD_OF (e 9) ∷ []) ∷ having (Two CHILD_OF (e 9) ∷ []) ∷ having (Two CHILD_OF (e 10) ∷ []) ∷ having
+    (Two CHILD_OF (e 12) ∷ []) ∷ [])
 
 grandchild : Doomed tree (λ x. x ≡ e 10) (e 13)
 grandchild = next (next (root refl) (Two CHILD_OF (e 10), refl, inr (refl, refl))) (Two CHILD_OF (e 12), refl, inr (refl, refl))
@@ -45,7 +38,8 @@ abbrev tagged : WorldState
 tagged = world (having [] ∷ having [] ∷ having (One (e 9) ∷ []) ∷ [])
 
 only : (i j : Id) → IsTrue (is_some (cond (id_eq i j) (Some zeros) None)) → i ≡ j
-only i j h = elim (id_eq i j) as (λ b. id_eq i j ≡ b → IsTrue (is_some (cond b (Some zeros) None)) → i ≡ j) [ true ↦ λ k _. id_eq_is i j k | false ↦ λ k no. absurd (true≢false (sym no)) ] refl h
+only i j h = elim (id_eq i j) as (λ b. id_eq i j ≡ b → IsTrue (is_some (cond b (Some zeros) None)) →
+    i ≡ j) [ true ↦ λ k _. id_eq_is i j k | false ↦ λ k no. absurd (true≢false (sym no)) ] refl h
 
 spared : HoldsOn tagged DELETE (e 9) (e 11) → ⊥
 spared h = no_policy h.0 h.1 h.2
@@ -62,3 +56,17 @@ guarded = world (having [] ∷ having (Two CHILD_OF (e 9) ∷ Two ON_DELETE PANI
 
 deep : Forbids guarded (e 9 ∷ e 10 ∷ []) (e 11) (e 10)
 deep = (refl, refl, refl, (One (e 10), refl, (refl, refl)))
+
+-- h 11 has c and is a child of g as well: the only holder of c dies with it, and nothing forbids the delete
+abbrev doomed_holder : WorldState
+doomed_holder = world (having [] ∷ having (Two CHILD_OF (e 9) ∷ Two ON_DELETE PANIC ∷ []) ∷ having (One (e 10) ∷ Two CHILD_OF (e 9) ∷ []) ∷ [])
+
+permitted : (m : Entity) → Forbids doomed_holder (e 9 ∷ e 10 ∷ e 11 ∷ []) (e 11) m → ⊥
+permitted m f = true≢false f.1
+
+-- R 9 takes its holders with it: h 11 has (R, t 10)
+abbrev relation : WorldState
+relation = world (having (Two ON_DELETE DELETE ∷ []) ∷ having [] ∷ having (Two (e 9) (e 10) ∷ []) ∷ [])
+
+by_relationship : Doomed relation (λ x. x ≡ e 9) (e 11)
+by_relationship = next (root refl) (Two (e 9) (e 10), refl, inl (refl, refl))

@@ -1,74 +1,97 @@
 -- Each step has one end, and a refused one changes nothing.
-use Rattle.std.proofs.Common.{◌≡◌, ℕ, Bool, true, false, List, sym, ap, ◌∙◌, true≢false, IsTrue, is_ok, Option, Some, None, MatchOption, MatchBool, Result, Ok, Err}
+use Rattle.std.proofs.Common.{◌≡◌, ℕ, Bool, true, false, List, sym, ap, ◌∙◌, IsTrue, Option, Some, None, MatchOption, MatchBool, Result, Err}
 use Rattle.eco_ids.specs.declared.entity.Entity.{Entity}
 use Rattle.eco_ids.specs.declared.id.Id.{Id}
 use Rattle.eco_ids.specs.declared.refusal.Refusal.{Refusal}
 use Rattle.eco_ids.specs.declared.refusal.Refusal.TheVariants.{NoMoreIds, Reserved, Taken}
 use Rattle.eco_ids.specs.declared.value.Value.{Value}
 use Rattle.eco_ids.specs.Births.{Makes, RevivesWith, Admits, unfit_name}
-use Rattle.eco_ids.specs.Builtin.{is_builtins}
+use Rattle.eco_ids.specs.Builtin.{is_builtin, is_builtins}
 use Rattle.eco_ids.specs.Cleanup.{Deletes}
 use Rattle.eco_ids.specs.Delete.{DeletesOne, DeletesWith}
-use Rattle.eco_ids.specs.Indices.{next_entity}
+use Rattle.eco_ids.specs.Indices.{Indexed, next_entity}
 use Rattle.eco_ids.specs.Outcome.{Answers, Refuses}
-use Rattle.eco_ids.specs.Step.{Adds, Sets, Changes, RemovesAll, Extends, unfit, unfit_set, unfit_actor, unchanged, changed, with_closure, with_value}
-use Rattle.eco_ids.specs.World.{WorldState, Record, has}
+use Rattle.eco_ids.specs.Renaming.{RenamesWith, unfit_rename}
+use Rattle.eco_ids.specs.Step.{Adds, Sets, Removes, Clears, Renames, RemovesAll, Extends, unfit, unfit_set, unfit_actor, unchanged, changed, grown, with_name, with_value}
+use Rattle.eco_ids.specs.World.{WorldState, Record, has, entities, with_entities, OnEntities}
 use Rattle.eco_ids.proofs.Exact.{deletes_unique}
+use Rattle.eco_ids.proofs.Facts.{not_ok}
 use Rattle.eco_ids.proofs.Meaning.{extends_unique}
 
 -- one end, and refused none but the beginning
-pub record IsSettled {A : Type 0} (w : WorldState) (Step : Result A Refusal → WorldState → Type 0) : Type 0 where
-  pub one : (r q : Result A Refusal) (new other : WorldState) → Step r new → Step q other → (r ≡ q) × (new ≡ other)
-  pub kept : (why : Refusal) (new : WorldState) → Step (Err why) new → new ≡ w
+pub record IsSettled {A S : Type 0} (old : S) (Step : Result A Refusal → S → Type 0) : Type 0 where
+  pub one : (r q : Result A Refusal) (new other : S) → Step r new → Step q other → (r ≡ q) × (new ≡ other)
+  pub kept : (why : Refusal) (new : S) → Step (Err why) new → new ≡ old
 
-not_ok : {A : Type 0} (x : A) (why : Refusal) → Err why ≡ Ok x → ⊥
-not_ok {A} x why e = true≢false (sym (ap (λ (r : Result A Refusal). is_ok r) e))
+answers : {A S : Type 0} (old : S) (x : A) (after : S) → IsSettled old (Answers x after)
+answers old x after = record { one = λ r q new other a b. (a.0 ∙ sym b.0, a.1 ∙ sym b.1); kept = λ why new a. absurd (not_ok (sym a.0)) }
 
-answers : {A : Type 0} (w : WorldState) (x : A) (after : WorldState) → IsSettled w (Answers x after)
-answers w x after = record { one = λ r q new other a b. (a.0 ∙ sym b.0, a.1 ∙ sym b.1); kept = λ why new a. absurd (not_ok x why a.0) }
+refuses : {A S : Type 0} (old : S) (why : Refusal) → IsSettled {A = A} old (Refuses why old)
+refuses old why = record { one = λ r q new other a b. (a.0 ∙ sym b.0, a.1 ∙ sym b.1); kept = λ _ new a. a.1 }
 
-refuses : {A : Type 0} (w : WorldState) (why : Refusal) → IsSettled {A = A} w (Refuses why w)
-refuses w why = record { one = λ r q new other a b. (a.0 ∙ sym b.0, a.1 ∙ sym b.1); kept = λ _ new a. a.1 }
+by_option : {A B S : Type 0} (old : S) (o : Option B) (P : Result A Refusal → S → Type 0) (Q : B → Result A Refusal → S → Type 0) →
+    IsSettled old P → ((b : B) → IsSettled old (Q b)) → IsSettled old (λ r new. MatchOption o (P r new) (λ b. Q b r new))
+by_option old None P Q p q = p
+by_option old (Some b) P Q p q = q b
 
-by_option : {A B : Type 0} (w : WorldState) (o : Option B) (P : Result A Refusal → WorldState → Type 0) (Q : B → Result A Refusal → WorldState → Type 0) →
-    IsSettled w P → ((b : B) → IsSettled w (Q b)) → IsSettled w (λ r new. MatchOption o (P r new) (λ b. Q b r new))
-by_option w None P Q p q = p
-by_option w (Some b) P Q p q = q b
+by_bool : {A S : Type 0} (old : S) (b : Bool) (P Q : Result A Refusal → S → Type 0) → IsSettled old P → IsSettled old Q →
+    IsSettled old (λ r new. MatchBool b (P r new) (Q r new))
+by_bool old true P Q p q = p
+by_bool old false P Q p q = q
 
-by_bool : {A : Type 0} (w : WorldState) (b : Bool) (P Q : Result A Refusal → WorldState → Type 0) → IsSettled w P → IsSettled w Q → IsSettled w (λ r new. MatchBool b (P r new) (Q r new))
-by_bool w true P Q p q = p
-by_bool w false P Q p q = q
+-- done at once, unless something stands against it
+at_once : {A S : Type 0} (old : S) (unfit : Option Refusal) (x : A) (after : S) →
+    IsSettled old (λ r new. MatchOption unfit (Answers x after r new) (λ why. Refuses why old r new))
+at_once old unfit x after = by_option old unfit _ _ (answers old x after) (λ why. refuses old why)
 
-pub makes_settled : (name_of : Record → Option (List ℕ)) (w : WorldState) (d : Record) → IsSettled w (Makes name_of w d)
+-- a step of the entities that is settled is settled in the world
+lifted : {A : Type 0} (w : WorldState) (Step : Indexed Record → Result A Refusal → Indexed Record → Type 0) → IsSettled (entities w) (Step (entities w)) →
+    IsSettled w (OnEntities Step w)
+lifted w Step s = record {
+  one = λ r q new other a b.
+      let e = s.one r q a.0 b.0 a.1 b.1 in
+      (e.0, a.2 ∙ ap (with_entities w) e.1 ∙ sym b.2);
+  kept = λ why new a. a.2 ∙ ap (with_entities w) (s.kept why a.0 a.1);
+}
+
+pub makes_settled : (name_of : Record → Option (List ℕ)) (w : WorldState) (d : Record) → IsSettled w (OnEntities (λ v. Makes name_of v d) w)
 makes_settled name_of w d =
-    by_option w (unfit_name name_of w (name_of d)) _ _ (by_option w (next_entity w) _ _ (refuses w NoMoreIds) (λ e. answers w e _)) (λ why. refuses w why)
+    lifted w (λ v. Makes name_of v d)
+    (by_option (entities w) (unfit_name name_of (entities w) (name_of d)) _ _
+    (by_option (entities w) (next_entity (entities w)) _ _ (refuses (entities w) NoMoreIds) (λ e. answers (entities w) e _))
+    (λ why. refuses (entities w) why))
 
-pub revives_settled : (w : WorldState) (e : Entity) (d : Record) → IsSettled w (RevivesWith w e d)
-revives_settled w e d = by_bool w _ _ _ (answers w tt _) (refuses w Taken)
+pub revives_settled : (w : WorldState) (e : Entity) (d : Record) → IsSettled w (OnEntities (λ v. RevivesWith v e d) w)
+revives_settled w e d = lifted w (λ v. RevivesWith v e d) (by_bool (entities w) _ _ _ (answers (entities w) tt _) (refuses (entities w) Taken))
 
-pub admits_settled : (w : WorldState) (n : ℕ) → IsSettled w (Admits w n)
-admits_settled w n = by_bool w _ _ _ (answers w tt _) (refuses w NoMoreIds)
+pub admits_settled : (w : WorldState) (n : ℕ) → IsSettled w (OnEntities (λ v. Admits v n) w)
+admits_settled w n = lifted w (λ v. Admits v n) (by_bool (entities w) _ _ _ (answers (entities w) tt _) (refuses (entities w) NoMoreIds))
 
-pub changes_settled : (w : WorldState) (e : Entity) (unfit : Option Refusal) (change : Record → Record) → IsSettled w (Changes w e unfit change)
-changes_settled w e unfit change = by_option w unfit _ _ (answers w tt _) (λ why. refuses w why)
+pub renames_settled : (w : WorldState) (e : Entity) (name : Option (List ℕ)) → IsSettled w (Renames w e name)
+renames_settled w e name = lifted w (λ v. RenamesWith (λ r. r.name) with_name v e (is_builtin w e) name)
+    (at_once (entities w) (unfit_rename (λ r. r.name) (entities w) e (is_builtin w e) name) tt _)
+
+pub removes_settled : (w : WorldState) (e : Entity) (i : Id) → IsSettled w (Removes w e i)
+removes_settled w e i = at_once w (unfit_actor w e) tt _
+
+pub clears_settled : (w : WorldState) (e : Entity) → IsSettled w (Clears w e)
+clears_settled w e = at_once w (unfit_actor w e) tt _
 
 pub removes_all_settled : (w : WorldState) (i : Id) → IsSettled w (RemovesAll w i)
 removes_all_settled w i = by_bool w (is_builtins w i) _ _ (refuses w Reserved) (answers w tt _)
 
-extends_kept : (w : WorldState) (e : Entity) (i : Id) (besides : Record → Record) (why : Refusal) (new : WorldState) → Extends w e i besides (Err why) new → new ≡ w
-extends_kept w e i besides why new x = elim x.2 as (λ v. MatchOption v (Answers {A = Unit {0}} tt (changed w e (λ d. besides (with_closure w x.0 d))) (Err why) new) (λ y. Refuses {A = Unit {0}} y w (Err why) new) → new ≡ w) [
-  | None ↦ λ a. absurd (not_ok tt why a.0)
-  | Some y ↦ λ a. a.1
-] x.4
-
 extends_settled : (w : WorldState) (e : Entity) (i : Id) (besides : Record → Record) → IsSettled w (Extends w e i besides)
-extends_settled w e i besides = record { one = λ r q new other. extends_unique w e i besides r q new other; kept = extends_kept w e i besides }
+extends_settled w e i besides = record {
+  one = λ r q new other. extends_unique w e i besides r q new other;
+  kept = λ why new x. (at_once w x.2 tt (changed (grown w e x.0) e besides)).kept why new x.4;
+}
 
 pub adds_settled : (w : WorldState) (e : Entity) (i : Id) → IsSettled w (Adds w e i)
 adds_settled w e i = by_option w (unfit w e i) _ _ (by_bool w (has w e i) _ _ (answers w tt w) (extends_settled w e i unchanged)) (λ why. refuses w why)
 
 pub sets_settled : (w : WorldState) (e : Entity) (i : Id) (v : Value) → IsSettled w (Sets w e i v)
-sets_settled w e i v = by_option w (unfit_set w e i v) _ _ (by_bool w (has w e i) _ _ (answers w tt _) (extends_settled w e i (with_value i v))) (λ why. refuses w why)
+sets_settled w e i v = by_option w (unfit_set w e i v) _ _ (by_bool w (has w e i) _ _ (answers w tt _) (extends_settled w e i (with_value i v)))
+    (λ why. refuses w why)
 
 deletes_settled : (w : WorldState) (IsRoot : Entity → Type 0) → IsSettled w (Deletes w IsRoot)
 deletes_settled w IsRoot = record { one = λ r q new other. deletes_unique w IsRoot r q new other; kept = λ why new d. (d.2).0 }

@@ -1,28 +1,19 @@
 -- Worked rows: what With brings, and a walk that would close a cycle.
-use Rattle.std.proofs.Common.{◌≡◌, ℕ, false, map, refl, sym, subst, true≢false, IsTrue, List, [], ◌∷◌, ◌++◌, Some, None, Err, inl, inr}
+use Rattle.std.proofs.Common.{◌≡◌, false, refl, sym, subst, true≢false, IsTrue, [], ◌∷◌, Some, None, Err, inl, inr}
 use Rattle.std.specs.Ordering.{is_le}
 use Rattle.eco_ids.specs.declared.entity.Entity.{Entity}
 use Rattle.eco_ids.specs.declared.entity.TheConstants.{CHILD_OF, WITH}
 use Rattle.eco_ids.specs.declared.id.Id.{Id}
 use Rattle.eco_ids.specs.declared.id.Id.TheVariants.{One, Two}
 use Rattle.eco_ids.specs.declared.refusal.Refusal.TheVariants.{Cycle}
-use Rattle.eco_ids.specs.Indices.{IndexState, Living}
 use Rattle.eco_ids.specs.Least.{root, next}
 use Rattle.eco_ids.specs.Order.{entity_cmp, id_cmp, id_eq, has_item}
 use Rattle.eco_ids.specs.Step.{Adds, IsClosure, ClosesCycle, with_closure}
 use Rattle.eco_ids.specs.Traits.{Brings, InClosure, Reaches}
-use Rattle.eco_ids.specs.World.{WorldState, Record, first_world, zeros}
+use Rattle.eco_ids.specs.World.{WorldState, zeros}
 use Rattle.eco_ids.proofs.Facts.{id_eq_is, or_parts}
+use Rattle.eco_ids.proofs.Worlds.{e, having, world}
 use Rattle.eco_ids.proofs.Gains.{same_relationship}
-
-abbrev e : ℕ → Entity
-e n = record { index = n; generation = 0 }
-
-abbrev having : List Id → IndexState Record
-having ids = Living 0 (record { name = None; arity = None; held = map (λ i. (i, zeros)) ids })
-
-abbrev world : List (IndexState Record) → WorldState
-world made = record { limit = 64; indices = (first_world 64).indices ++ made }
 
 -- Power 9 goes with Resp 10, Loves 11 with Likes 12; Pears 13, e 14
 abbrev liking : WorldState
@@ -94,4 +85,4 @@ least : (q : Entity) → ClosesCycle family (e 11) (wanted ∷ []) q → IsTrue 
 least q c = subst (λ r. IsTrue (is_le (entity_cmp CHILD_OF r))) (same_relationship (only wanted (Two q c.1) c.2)) refl
 
 cycle : Adds family (e 11) wanted (Err (Cycle CHILD_OF)) family
-cycle = (wanted ∷ [], closure, Some (Cycle CHILD_OF), (CHILD_OF, refl, closes, least), (refl, refl))
+cycle = (wanted ∷ [], closure, Some (Cycle CHILD_OF), (Some CHILD_OF, (closes, least), refl), (refl, refl))

@@ -2,18 +2,18 @@
 use Rattle.std.proofs.Common.{◌≡◌, ℕ, zero, suc, ◌+◌, ◌<◌, ◌≤◌, get_or, drop, drop-cons, add-one, arith, Bool, true, false, ◌&&◌, ◌||◌, if◌then◌else◌, List, [], ◌∷◌, ◌++◌, length, Option, Some, None, Result, Ok, Err, refl, ap, ◌∙◌, sym, subst, append_assoc}
 use Rattle.std.specs.List.{list_any}
 use Rattle.std.proofs.lemmas.List.{append-nil}
-use Rattle.eco_ids.specs.Answer.{Asked}
-use Rattle.eco_ids.specs.Answer as ask
+use Rattle.eco_ids.specs.Slots.{Asked}
+use Rattle.eco_ids.specs.Slots as ask
 use Rattle.eco_ids.specs.declared.entity.Entity.{Entity}
 use Rattle.eco_ids.specs.declared.id.Id.{Id}
 use Rattle.eco_ids.specs.declared.refusal.Refusal.{Refusal}
 use Rattle.eco_query.specs.Grammar.{WrittenAtom, alternatives, WrittenSlot, IsProperAtom}
-use Rattle.eco_query.specs.Machine.{body_of}
-use Rattle.eco_query.specs.Points.{atom_view, is_bare_head}
+use Rattle.eco_query.specs.Reader.Machine.{body_of}
+use Rattle.eco_query.specs.Reader.Points.{atom_view, is_bare_head}
 use Rattle.eco_query.specs.Queries.{QuerySlot}
 use Rattle.eco_query.specs.Readings.{ok_map, ok_both, id_of, ids_of, pattern_of, asked_of, slots_of, has_wildcard, misplaces_wildcard, is_positive}
-use Rattle.eco_query.specs.Terms.{asks, slots_from, grouping, AreWhole, AreProperMarks}
-use Rattle.eco_query.specs.LastTerms.{last_of, misplaces_last, asked_by, left_over}
+use Rattle.eco_query.specs.Reader.Marks.{asks, slots_from, grouping, AreWhole, AreProperMarks}
+use Rattle.eco_query.specs.Reader.LastTerms.{last_of, misplaces_last, asked_by, left_over}
 use Rattle.eco_query.specs.declared.written.WrittenAtom as written
 use Rattle.eco_query.specs.declared.access.Access.{Access}
 use Rattle.eco_query.specs.declared.point.Mark.{Mark}
@@ -72,7 +72,8 @@ last_wildcard a Optional xs x w e = refl
 last_wildcard a Alone [] x w e = refl
 last_wildcard a Alone (y ∷ ys) x w e = cc
 
-pub slot_grouped : (xs : List WrittenAtom) (a : Access) (h : Head) (ms : List Mark) → (if some_of xs && is_bare_head h then None else grouping false ms) ≡ Some false
+pub slot_grouped : (xs : List WrittenAtom) (a : Access) (h : Head) (ms : List Mark)
+    → (if some_of xs && is_bare_head h then None else grouping false ms) ≡ Some false
     → ((some_of xs && is_bare_head h) ≡ false) × (grouping false ms ≡ Some false)
 slot_grouped xs a h ms e =
     elim (some_of xs && is_bare_head h) as (λ c. (if c then None else grouping false ms) ≡ Some false → (c ≡ false) × (grouping false ms ≡ Some false)) [
@@ -86,7 +87,8 @@ wildcards xs [] w g = refl
 wildcards xs (marks.Same ∷ ms) w g = cc
 wildcards xs (marks.Begin ∷ ms) w g = cc
 wildcards xs (marks.Other a x ∷ ms) w g =
-    elim (has_wildcard (atom_view x)) as (λ c. has_wildcard (atom_view x) ≡ c → (c || misplaced true ms) ≡ list_any misplaces_wildcard (slots_from (xs ++ atom_view x ∷ []) ms)) [
+    elim (has_wildcard (atom_view x)) as
+    (λ c. has_wildcard (atom_view x) ≡ c → (c || misplaced true ms) ≡ list_any misplaces_wildcard (slots_from (xs ++ atom_view x ∷ []) ms)) [
       | true ↦ λ e. sym (pending_wildcard (xs ++ atom_view x ∷ []) ms (some_of-more xs (atom_view x))
           (any-append has_wildcard xs (atom_view x) ∙ ap (λ c. list_any has_wildcard xs || c) e ∙ or_true (list_any has_wildcard xs)) g)
       | false ↦ λ e.
@@ -127,7 +129,8 @@ module _ (entity_named : List ℕ → Option Entity) where
       → ids_of entity_named (xs ++ x ∷ []) ≡ ok_map (λ i. group ++ i ∷ []) (id_of entity_named x)
   ids_more [] group x e =
       let none : [] ≡ group = cc in
-      elim (id_of entity_named x) as (λ r. ok_both (λ i is. i ∷ is) r (Ok []) ≡ ok_map (λ i. group ++ i ∷ []) r) [ Err f ↦ refl | Ok i ↦ ap (λ g. Ok (g ++ i ∷ [])) none ]
+      elim (id_of entity_named x) as (λ r. ok_both (λ i is. i ∷ is) r (Ok []) ≡ ok_map (λ i. group ++ i ∷ []) r)
+      [ Err f ↦ refl | Ok i ↦ ap (λ g. Ok (g ++ i ∷ [])) none ]
   ids_more (y ∷ xs) group x e =
       elim (id_of entity_named y) as (λ r. ok_both (λ i is. i ∷ is) r (ids_of entity_named xs) ≡ Ok group
       → ok_both (λ i is. i ∷ is) r (ids_of entity_named (xs ++ x ∷ [])) ≡ ok_map (λ i. group ++ i ∷ []) (id_of entity_named x)) [
@@ -154,29 +157,37 @@ module _ (entity_named : List ℕ → Option Entity) where
       → asked_of entity_named (alternatives ((y ∷ ys) ++ x ∷ [])) ≡ ok_map (asked_by group) (ok_map (λ i. last.Alternative i) (id_of entity_named x))
   asked_group y ys group x d =
       asked_two y ys x ∙ ap (λ r. ok_map (λ is. ask.OneOf is) r) (ids_more (y ∷ ys) group x d)
-      ∙ elim (id_of entity_named x) as (λ r. ok_map (λ is. ask.OneOf is) (ok_map (λ i. group ++ i ∷ []) r) ≡ ok_map (asked_by group) (ok_map (λ i. last.Alternative i) r)) [
+      ∙ elim (id_of entity_named x) as
+      (λ r. ok_map (λ is. ask.OneOf is) (ok_map (λ i. group ++ i ∷ []) r) ≡ ok_map (asked_by group) (ok_map (λ i. last.Alternative i) r)) [
         | Err f ↦ refl
         | Ok i ↦ refl
       ]
 
   -- what a slot asks comes from its last atom and the alternatives before
-  asked_last : (h : Head) (xs : List WrittenAtom) (group : List Id) (x : WrittenAtom) → ids_of entity_named xs ≡ Ok group → (some_of xs && is_bare_head h) ≡ false
+  asked_last : (h : Head) (xs : List WrittenAtom) (group : List Id) (x : WrittenAtom) → ids_of entity_named xs ≡ Ok group
+      → (some_of xs && is_bare_head h) ≡ false
       → asked_of entity_named (body_of h xs x) ≡ ok_map (asked_by group) (last_of entity_named h (some_of xs) x)
-  asked_last Plain [] group x d e = elim (pattern_of entity_named x) as (λ r. ok_map (λ p. ask.Plain p) r ≡ ok_map (asked_by group) (ok_map (λ p. last.Plain p) r)) [ Err f ↦ refl | Ok p ↦ refl ]
+  asked_last Plain [] group x d e = elim (pattern_of entity_named x) as
+      (λ r. ok_map (λ p. ask.Plain p) r ≡ ok_map (asked_by group) (ok_map (λ p. last.Plain p) r)) [ Err f ↦ refl | Ok p ↦ refl ]
   asked_last Plain (y ∷ ys) group x d e = asked_group y ys group x d
-  asked_last Without xs group x d e = elim (pattern_of entity_named x) as (λ r. ok_map (λ p. ask.Without p) r ≡ ok_map (asked_by group) (ok_map (λ p. last.Without p) r)) [ Err f ↦ refl | Ok p ↦ refl ]
-  asked_last Optional xs group x d e = elim (id_of entity_named x) as (λ r. ok_map (λ p. ask.Optional p) r ≡ ok_map (asked_by group) (ok_map (λ p. last.Optional p) r)) [ Err f ↦ refl | Ok p ↦ refl ]
-  asked_last Alone [] group x d e = elim (pattern_of entity_named x) as (λ r. ok_map (λ p. ask.Plain p) r ≡ ok_map (asked_by group) (ok_map (λ p. last.Plain p) r)) [ Err f ↦ refl | Ok p ↦ refl ]
+  asked_last Without xs group x d e = elim (pattern_of entity_named x) as
+      (λ r. ok_map (λ p. ask.Without p) r ≡ ok_map (asked_by group) (ok_map (λ p. last.Without p) r)) [ Err f ↦ refl | Ok p ↦ refl ]
+  asked_last Optional xs group x d e = elim (id_of entity_named x) as
+      (λ r. ok_map (λ p. ask.Optional p) r ≡ ok_map (asked_by group) (ok_map (λ p. last.Optional p) r)) [ Err f ↦ refl | Ok p ↦ refl ]
+  asked_last Alone [] group x d e = elim (pattern_of entity_named x) as
+      (λ r. ok_map (λ p. ask.Plain p) r ≡ ok_map (asked_by group) (ok_map (λ p. last.Plain p) r)) [ Err f ↦ refl | Ok p ↦ refl ]
   asked_last Alone (y ∷ ys) group x d e = cc
 
   ids_unknown : (xs : List WrittenAtom) (f : Refusal) (x : WrittenAtom) → ids_of entity_named xs ≡ Err f → ids_of entity_named (xs ++ x ∷ []) ≡ Err f
   ids_unknown [] f x e = cc
   ids_unknown (y ∷ xs) f x e =
-      elim (id_of entity_named y) as (λ r. ok_both (λ i is. i ∷ is) r (ids_of entity_named xs) ≡ Err f → ok_both (λ i is. i ∷ is) r (ids_of entity_named (xs ++ x ∷ [])) ≡ Err f) [
+      elim (id_of entity_named y) as (λ r. ok_both (λ i is. i ∷ is) r (ids_of entity_named xs) ≡ Err f
+      → ok_both (λ i is. i ∷ is) r (ids_of entity_named (xs ++ x ∷ [])) ≡ Err f) [
         | Err k ↦ λ e. e
         | Ok i ↦ λ e. elim (ids_of entity_named xs) as (λ r. ids_of entity_named xs ≡ r → ok_both (λ i is. i ∷ is) (Ok i) r ≡ Err f
             → ok_both (λ i is. i ∷ is) (Ok i) (ids_of entity_named (xs ++ x ∷ [])) ≡ Err f) [
-              | Err k ↦ λ d e. let same : ◌≡◌ {A = Result (List Id) Refusal} (Err k) (Err f) = cc in ap (λ r. ok_both (λ i is. i ∷ is) (Ok i) r) (ids_unknown xs k x d) ∙ cc
+              | Err k ↦ λ d e. let same : ◌≡◌ {A = Result (List Id) Refusal} (Err k) (Err f) = cc in ap (λ r. ok_both (λ i is. i ∷ is) (Ok i) r)
+                  (ids_unknown xs k x d) ∙ cc
               | Ok rest ↦ λ d e. cc
             ] refl e
       ] e
@@ -202,7 +213,8 @@ module _ (entity_named : List ℕ → Option Entity) where
   pending_unknown xs (marks.Slot a Alone x ∷ ms) f s d g = cc
 
 -- where a loop stands that looks up names: the slots that it made, the alternatives that are pending, and the atoms that are left
-pub record Standing (entity_named : List ℕ → Option Entity) (all : List Mark) (xs : List WrittenAtom) (ys : List QuerySlot) (group : List Id) (rest : List Mark) : Type 0 where
+pub record Standing (entity_named : List ℕ → Option Entity) (all : List Mark) (xs : List WrittenAtom) (ys : List QuerySlot) (group : List Id)
+    (rest : List Mark) : Type 0 where
   pub known : ids_of entity_named xs ≡ Ok group
   pub whole : slots_of entity_named (slots_from [] all) ≡ joined entity_named ys (slots_of entity_named (slots_from xs rest))
   pub groups : grouping (some_of xs) rest ≡ Some false
@@ -233,14 +245,16 @@ module _ (entity_named : List ℕ → Option Entity) (all : List Mark) where
         s.whole ∙ ap (joined entity_named ys) (pending_unknown entity_named (xs ++ atom_view x ∷ []) ms f (some_of-more xs (atom_view x))
         (ids_more entity_named xs group (atom_view x) s.known ∙ ap (ok_map (λ i. group ++ i ∷ [])) e) s.groups)
 
-    pub last_unknown : (a : Access) (h : Head) (x : written.WrittenAtom) (f : Refusal) (ms : List Mark) → Standing entity_named all xs ys group (marks.Slot a h x ∷ ms)
+    pub last_unknown : (a : Access) (h : Head) (x : written.WrittenAtom) (f : Refusal) (ms : List Mark)
+        → Standing entity_named all xs ys group (marks.Slot a h x ∷ ms)
         → last_of entity_named h (some_of xs) (atom_view x) ≡ Err f → slots_of entity_named (slots_from [] all) ≡ Err f
     last_unknown a h x f ms s e =
         let (bare, rest) = slot_grouped xs a h ms s.groups in
         s.whole ∙ ap (joined entity_named ys) (slot_unknown entity_named (record { access = a; body = body_of h xs (atom_view x) }) (slots_from [] ms) f
         (asked_last entity_named h xs group (atom_view x) s.known bare ∙ ap (ok_map (asked_by group)) e))
 
-    pub last_known : (a : Access) (h : Head) (x : written.WrittenAtom) (l : LastTerm) (ms : List Mark) → Standing entity_named all xs ys group (marks.Slot a h x ∷ ms)
+    pub last_known : (a : Access) (h : Head) (x : written.WrittenAtom) (l : LastTerm) (ms : List Mark)
+        → Standing entity_named all xs ys group (marks.Slot a h x ∷ ms)
         → last_of entity_named h (some_of xs) (atom_view x) ≡ Ok l
         → Standing entity_named all [] (ys ++ (record { access = a; asked = asked_by group l }) ∷ []) [] ms
     last_known a h x l ms s e =
@@ -250,8 +264,11 @@ module _ (entity_named : List ℕ → Option Entity) (all : List Mark) where
         record {
           known = refl;
           whole = s.whole
-              ∙ ap (λ r. joined entity_named ys (ok_both (λ t ts. t ∷ ts) (ok_map (λ k. let q : QuerySlot = record { access = a; asked = k } in q) r) (slots_of entity_named (slots_from [] ms)))) asked
-              ∙ elim (slots_of entity_named (slots_from [] ms)) as (λ r. joined entity_named ys (ok_both (λ t ts. t ∷ ts) (Ok (let q : QuerySlot = record { access = a; asked = asked_by group l } in q)) r)
+              ∙ ap (λ r. joined entity_named ys
+              (ok_both (λ t ts. t ∷ ts) (ok_map (λ k. let q : QuerySlot = record { access = a; asked = k } in q) r)
+              (slots_of entity_named (slots_from [] ms)))) asked
+              ∙ elim (slots_of entity_named (slots_from [] ms)) as
+              (λ r. joined entity_named ys (ok_both (λ t ts. t ∷ ts) (Ok (let q : QuerySlot = record { access = a; asked = asked_by group l } in q)) r)
               ≡ joined entity_named (ys ++ (record { access = a; asked = asked_by group l }) ∷ []) r) [
                 | Err f ↦ refl
                 | Ok zs ↦ ap (λ qs. Ok qs) (sym (append_assoc ys ((record { access = a; asked = asked_by group l }) ∷ []) zs))
@@ -263,10 +280,12 @@ module _ (entity_named : List ℕ → Option Entity) (all : List Mark) where
     pub all_known : Standing entity_named all xs ys group [] → slots_of entity_named (slots_from [] all) ≡ Ok ys
     all_known s = s.whole ∙ ap (λ qs. Ok qs) (append-nil ys)
 
-    pub atom_proper : (a : Access) (x : written.WrittenAtom) (ms : List Mark) → Standing entity_named all xs ys group (marks.Other a x ∷ ms) → IsProperAtom (atom_view x)
+    pub atom_proper : (a : Access) (x : written.WrittenAtom) (ms : List Mark) → Standing entity_named all xs ys group (marks.Other a x ∷ ms)
+        → IsProperAtom (atom_view x)
     atom_proper a x ms s = s.proper.0
 
-    pub last_proper : (a : Access) (h : Head) (x : written.WrittenAtom) (ms : List Mark) → Standing entity_named all xs ys group (marks.Slot a h x ∷ ms) → IsProperAtom (atom_view x)
+    pub last_proper : (a : Access) (h : Head) (x : written.WrittenAtom) (ms : List Mark) → Standing entity_named all xs ys group (marks.Slot a h x ∷ ms)
+        → IsProperAtom (atom_view x)
     last_proper a h x ms s = s.proper.0
 
     pub not_same : (ms : List Mark) → Standing entity_named all xs ys group (marks.Same ∷ ms) → ⊥
@@ -280,7 +299,8 @@ no_other (Err f) l none e = cc
 no_other (Ok i) l none e = none i cc
 
 -- nothing is left of the alternatives behind a slot
-pub none_left : (entity_named : List ℕ → Option Entity) (h : Head) (xs : List WrittenAtom) (group : List Id) (x : WrittenAtom) (l : LastTerm) → ids_of entity_named xs ≡ Ok group
+pub none_left : (entity_named : List ℕ → Option Entity) (h : Head) (xs : List WrittenAtom) (group : List Id) (x : WrittenAtom) (l : LastTerm)
+    → ids_of entity_named xs ≡ Ok group
     → (some_of xs && is_bare_head h) ≡ false → last_of entity_named h (some_of xs) x ≡ Ok l → left_over group l ≡ []
 none_left entity_named h [] group x (last.Plain p) d b e = cc
 none_left entity_named h [] group x (last.Without p) d b e = cc
@@ -321,7 +341,8 @@ wildcard_none ms g i w inv ge = sym (sym (misplaced_is ms w) ∙ inv ∙ ap (mis
 
 pub positive_found : (ms : List Mark) (i : ℕ) (m : Mark) → list_any asks ms ≡ list_any asks (drop i ms) → i < length ms
     → get_or ms i marks.Same ≡ m → asks m ≡ true → true ≡ list_any (λ s. is_positive s.body) (slots_from [] ms)
-positive_found ms i m inv lt e found = sym (sym (asks_is [] ms) ∙ inv ∙ ap (list_any asks) (at_mark ms i m lt e) ∙ ap (λ c. c || list_any asks (drop (i + 1) ms)) found)
+positive_found ms i m inv lt e found = sym (sym (asks_is [] ms) ∙ inv ∙ ap (list_any asks) (at_mark ms i m lt e)
+    ∙ ap (λ c. c || list_any asks (drop (i + 1) ms)) found)
 
 pub positive_none : (ms : List Mark) (i : ℕ) → list_any asks ms ≡ list_any asks (drop i ms) → length ms ≤ i
     → false ≡ list_any (λ s. is_positive s.body) (slots_from [] ms)

@@ -11,7 +11,7 @@ use Rattle.std.proofs.lemmas.Str.{IsUtf8-from_ascii}
 use Rattle.std.specs.Str.{IsAscii, IsUtf8}
 use Rattle.eco_ids.specs.Names.{may_begin, may_follow, is_name, is_text}
 use Rattle.eco_query.specs.Tokens.{is_white, is_digit}
-use Rattle.eco_query.specs.Machine.{is_lone}
+use Rattle.eco_query.specs.Reader.Machine.{is_lone}
 
 -- ---- tests
 

@@ -4,7 +4,7 @@ use Rattle.std.proofs.lemmas.List.{append-nil, length-append, take-take, get_or-
 use Rattle.std.proofs.Math.Seq.{take-length}
 use Rattle.eco_query.specs.Faults.{IsFault}
 use Rattle.eco_query.specs.Grammar.{WrittenSlot}
-use Rattle.eco_query.specs.Machine.{Point, end, advance, runs, Stops}
+use Rattle.eco_query.specs.Reader.Machine.{Point, end, advance, runs, Stops}
 use Rattle.eco_query.proofs.Stuck.{stuck_at}
 use Rattle.eco_query.proofs.Rest.{Rest}
 use Rattle.eco_query.proofs.Runs.{run_in, run_out, end_in}
@@ -41,7 +41,8 @@ module _ (Is : List ℕ → Type 0) (first' : Point) (fits : Fits first')
   fault_stuck : (text : List ℕ) (n m : ℕ) (q : Point) → n < length text → runs advance (0, first') (take n text) ≡ Some (m, q)
       → advance (m, q) (get_or text n 0) ≡ None → IsFault Is text n
   fault_stuck text n m q lt e stuck = record {
-    nothing = λ s. not_read text [] (subst (λ t. runs advance (0, first') t ≡ None) (append-nil text) (stuck_at advance (0, first') (m, q) text n lt e stuck []))
+    nothing = λ s. not_read text []
+        (subst (λ t. runs advance (0, first') t ≡ None) (append-nil text) (stuck_at advance (0, first') (m, q) text n lt e stuck []))
         (subst Is (sym (append-nil text)) s);
     within = omega arith;
     begins = front_on (take n text) m q e;
@@ -61,7 +62,8 @@ module _ (Is : List ℕ → Type 0) (first' : Point) (fits : Fits first')
   fault_end text n q e last = record {
     nothing = λ s.
         let (r, t, run, h) = begins_read text [] (subst Is (sym (append-nil text)) s) in
-        let both' : ◌≡◌ {A = ℕ × Point} (n, q) (length text, t) = (let same : ◌≡◌ {A = Option (ℕ × Point)} (Some (n, q)) (Some (length text, t)) = sym e ∙ run in cc) in
+        let both' : ◌≡◌ {A = ℕ × Point} (n, q) (length text, t) = (let same : ◌≡◌ {A = Option (ℕ × Point)} (Some (n, q)) (Some (length text, t)) = sym e
+        ∙ run in cc) in
         let same : q ≡ t = ap (λ (s : ℕ × Point). s.1) both' in
         let ends : end t ≡ Some r = end_in (length (text ++ [])) r t h in
         let bad : ◌≡◌ {A = Option (List WrittenSlot)} None (Some r) = sym last ∙ ap end same ∙ ends in cc;
@@ -74,5 +76,6 @@ module _ (Is : List ℕ → Type 0) (first' : Point) (fits : Fits first')
   pub fault_at : (text : List ℕ) (n : ℕ) → Stops first' text n → IsFault Is text n
   fault_at text n (q, e, inl (lt, stuck)) = fault_stuck text n n q lt e (ap (λ o. option_map (λ q. (n + 1, q)) o) stuck)
   fault_at text n (q, e, inr (all, last)) =
-      let whole' : runs advance (0, first') text ≡ Some (n, q) = ap (λ xs. runs advance (0, first') xs) (sym (ap (λ k. take k text) all ∙ take-length text)) ∙ e in
+      let whole' : runs advance (0, first') text ≡ Some (n, q) = ap (λ xs. runs advance (0, first') xs) (sym (ap (λ k. take k text) all ∙ take-length text))
+      ∙ e in
       subst (λ k. IsFault Is text k) (sym all) (fault_end text n q whole' last)

@@ -1,7 +1,7 @@
 -- std's `starts_with` on bytes.
 use Rattle.std.proofs.Common.{◌≡◌, ℕ, ◌==◌, ◌&&◌, true, false, List, [], ◌∷◌, refl, if◌then◌else◌}
 use Rattle.std.specs.List.{starts_with}
-use Rattle.eco_query.specs.Machine.{is_prefix}
+use Rattle.eco_query.specs.Reader.Machine.{is_prefix}
 
 pub starts_prefix : (w k : List ℕ) → starts_with (λ x y. x == y) w k ≡ is_prefix k w
 starts_prefix [] [] = refl

@@ -1,14 +1,17 @@
 pub mod Built
 pub mod ByteTests
+pub mod Entries
 pub mod Fault
 pub mod Fronts
 pub mod Live
 pub mod Loops
 pub mod Matched
 pub mod Queried
+pub mod Readable
 pub mod Rest
 pub mod Rows
 pub mod Runs
+pub mod Skipped
 pub mod Spelled
 pub mod Stored
 pub mod Stuck

@@ -6,13 +6,13 @@ use Rattle.std.proofs.lemmas.Bool.Decides.{Decides-eqb}
 use Rattle.std.proofs.lemmas.Slice.Eq.{bytes_eq-Decides}
 use Rattle.eco_ids.specs.Names.{may_begin, may_follow}
 use Rattle.eco_query.specs.Tokens.{Reference, name, handle, is_white, is_digit}
-use Rattle.eco_query.specs.Machine.{grown, is_lone}
+use Rattle.eco_query.specs.Reader.Machine.{grown, is_lone}
 use Rattle.eco_query.specs.Grammar.{WrittenPart, named, each, any, WrittenAtom, single, pair, WrittenSlot, access_word}
 use Rattle.eco_query.specs.declared.access.Access.{Access}
 use Rattle.eco_query.specs.declared.access.Access.TheVariants.{Out, InOut, InOutNone}
 use Rattle.eco_query.specs.declared.point.Head.{Head}
 use Rattle.eco_query.specs.declared.point.Head.TheVariants.{Plain, Without, Optional, Alone}
-use Rattle.eco_query.specs.Machine.{Before, Role, whole, first, second, sole, takes_wildcard, Spot, slot, word, shut, body, atom, part, behind, after, Point, at, letters, bar, name_of, hash, index, dot, generation, slots_with, others_with, begun, part_of, is_prefix, is_front, access_of, part_or, atom_or, body_or, behind_atom, enter, move_at, move, advance, runs}
+use Rattle.eco_query.specs.Reader.Machine.{Before, Role, whole, first, second, sole, takes_wildcard, Spot, slot, word, shut, body, atom, part, behind, after, Point, at, letters, bar, name_of, hash, index, dot, generation, slots_with, others_with, begun, part_of, is_prefix, is_front, access_of, part_or, atom_or, body_or, behind_atom, enter, move_at, move, advance, runs}
 use Rattle.eco_query.proofs.ByteTests.{and_left, and_right, if_some_cond}
 use Rattle.eco_query.proofs.Tokens.{Sat}
 use Rattle.eco_query.proofs.Rest.{IsNamed, After, Follow, Rest, move_out}
@@ -200,7 +200,8 @@ live_letters n ss m e =
 
 live_generation : (n : ℕ) (o : Role) (from i g : ℕ) → Live n (generation o from i g)
 live_generation n o from i g =
-    let (size, r, u, place, (v, tok, f)) = live_behind n o (named from (handle i g)) (fits_named o from (handle i g)) in (size, r, u, place, ([], g, v, refl, tok, f))
+    let (size, r, u, place, (v, tok, f)) = live_behind n o (named from (handle i g)) (fits_named o from (handle i g)) in
+    (size, r, u, place, ([], g, v, refl, tok, f))
 
 live_dot : (n : ℕ) (o : Role) (from i : ℕ) → Live n (dot o from i)
 live_dot n o from i = live_by n (dot o from i) 48 (generation o from i 0) refl (live_generation (n + 1) o from i 0)
@@ -232,7 +233,8 @@ live_name n o from m =
     ] refl
 
 pub live : (n : ℕ) (p : Point) → Fits p → Live n p
-live n (at (slot ss)) f = live_by n (at (slot ss)) 42 (at (behind (whole (begun ss InOut Plain)) each)) refl (live_behind (n + 1) (whole (begun ss InOut Plain)) each tt)
+live n (at (slot ss)) f = live_by n (at (slot ss)) 42 (at (behind (whole (begun ss InOut Plain)) each)) refl
+    (live_behind (n + 1) (whole (begun ss InOut Plain)) each tt)
 live n (at (word ss)) f = live_by n (at (word ss)) 105 (letters ss (codes "i")) refl (live_letters (n + 1) ss (codes "i") refl)
 live n (at (shut ss a)) f = live_shut n ss a
 live n (at (body ss a)) f = live_body n ss a
@@ -242,7 +244,8 @@ live n (at (behind o p)) f = live_behind n o p f
 live n (at (after c x)) f = live_after n c x
 live n (letters ss m) f = live_letters n ss m f
 live n (bar c x) f = live_by n (bar c x) 124 (at (atom (others_with c x))) refl
-    (live_by (n + 1) (at (atom (others_with c x))) 42 (at (behind (whole (others_with c x)) each)) refl (live_behind (n + 1 + 1) (whole (others_with c x)) each tt))
+    (live_by (n + 1) (at (atom (others_with c x))) 42 (at (behind (whole (others_with c x)) each)) refl
+    (live_behind (n + 1 + 1) (whole (others_with c x)) each tt))
 live n (name_of o from m) f = live_name n o from m
 live n (hash o from) f = live_hash n o from
 live n (index o from i) f = live_index n o from i

@@ -3,11 +3,8 @@ use Rattle.std.proofs.Common.{◌≡◌, ℕ, ◌+◌, ◌<◌, inl, inr, List, 
 use Rattle.std.proofs.lemmas.List.{take_more}
 use Rattle.std.proofs.Math.Seq.{take-length}
 use Rattle.eco_query.specs.Grammar.{WrittenAtom}
-use Rattle.eco_query.specs.Machine.{Point, Before, move, end, advance, runs, slots_with, Stops, EndsWith}
+use Rattle.eco_query.specs.Reader.Machine.{Point, Before, move, end, advance, runs, slots_with, Reached, Stops, EndsWith}
 use Rattle.eco_query.proofs.Stuck.{runs-more}
-
-abbrev pub Reached : Point → List ℕ → ℕ → Point → Type 0
-Reached start text n q = runs advance (0, start) (take n text) ≡ Some (n, q)
 
 pub reached_more : (start : Point) (text : List ℕ) (n : ℕ) (q r : Point) → n < length text → Reached start text n q → Some r ≡ move n q (get_or text n 0)
     → Reached start text (n + 1) r

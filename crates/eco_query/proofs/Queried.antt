@@ -6,10 +6,11 @@ use Rattle.std.proofs.lemmas.Bool.Decides.{nat_tests}
 use Rattle.eco_ids.specs.declared.entity.Entity.{Entity}
 use Rattle.eco_ids.specs.declared.refusal.Refusal.TheVariants.{WildcardHere, TooManyTerms, NoPositive}
 use Rattle.eco_query.specs.Grammar.{WrittenAtom, single, pair, WrittenBody, absent, optional, alternatives, WrittenSlot, IsAtom, AreMore, IsBody, AreSlots, SpellsSlots, SpellsQuery, IsProperAtom}
-use Rattle.eco_query.specs.Machine.{body_of}
-use Rattle.eco_query.specs.Points.{atom_view, is_bare_head}
+use Rattle.eco_query.specs.Reader.Machine.{body_of}
+use Rattle.eco_query.specs.Reader.Points.{atom_view, is_bare_head}
 use Rattle.eco_query.specs.Readings.{misplaces_wildcard, is_positive, slots_of, query_of}
-use Rattle.eco_query.specs.Terms.{atoms_of, count_atoms, slots_from, grouping, HoldsSlots, AreProperMarks}
+use Rattle.eco_query.specs.Readings.{atoms_of, count_atoms}
+use Rattle.eco_query.specs.Reader.Marks.{slots_from, grouping, HoldsSlots, AreProperMarks}
 use Rattle.eco_query.specs.declared.point.Mark.{Mark}
 use Rattle.eco_query.specs.declared.point.Mark.TheVariants as marks
 use Rattle.eco_query.specs.declared.point.Head.{Head}
@@ -69,7 +70,8 @@ none_proper : (xs : List WrittenAtom) → Some (some_of xs) ≡ Some false → A
 none_proper [] e = tt
 none_proper (x ∷ xs) e = cc
 
-marks_proper : (xs : List WrittenAtom) (ms : List Mark) → grouping (some_of xs) ms ≡ Some false → AreProperSlots (slots_from xs ms) → AreProperMarks ms × AreProperAtoms xs
+marks_proper : (xs : List WrittenAtom) (ms : List Mark) → grouping (some_of xs) ms ≡ Some false → AreProperSlots (slots_from xs ms) → AreProperMarks ms
+    × AreProperAtoms xs
 marks_proper xs [] g s = (tt, none_proper xs g)
 marks_proper xs (marks.Same ∷ ms) g s = cc
 marks_proper xs (marks.Begin ∷ ms) g s = cc

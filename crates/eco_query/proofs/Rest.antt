@@ -7,13 +7,13 @@ use Rattle.std.proofs.lemmas.Slice.Eq.{bytes_eq-Decides}
 use Rattle.eco_query.proofs.ByteTests.{and_left, and_right, and_both, name_parts, name_of_parts}
 use Rattle.eco_ids.specs.Names.{may_begin, may_follow}
 use Rattle.eco_query.specs.Tokens.{name, handle, is_white, is_digit}
-use Rattle.eco_query.specs.Machine.{grown, is_lone}
+use Rattle.eco_query.specs.Reader.Machine.{grown, is_lone}
 use Rattle.eco_query.specs.Grammar.{WrittenPart, named, each, any, WrittenAtom, single, pair, WrittenBody, absent, optional, alternatives, WrittenSlot, IsTok, IsPart, IsAtom, AreMore, IsBody, access_word, IsSlot, AreSlots}
 use Rattle.eco_query.specs.declared.access.Access.{Access}
 use Rattle.eco_query.specs.declared.access.Access.TheVariants.{In, Out, InOut, InOutNone}
 use Rattle.eco_query.specs.declared.point.Head.{Head}
 use Rattle.eco_query.specs.declared.point.Head.TheVariants.{Plain, Without, Optional, Alone}
-use Rattle.eco_query.specs.Machine.{Before, Role, whole, first, second, sole, takes_wildcard, Spot, slot, word, shut, body, atom, part, behind, after, Point, at, letters, bar, name_of, hash, index, dot, generation, body_of, slots_with, others_with, begun, part_of, is_front, access_of, part_or, atom_or, body_or, comma, behind_atom, enter, move_at, move}
+use Rattle.eco_query.specs.Reader.Machine.{Before, Role, whole, first, second, sole, takes_wildcard, Spot, slot, word, shut, body, atom, part, behind, after, Point, at, letters, bar, name_of, hash, index, dot, generation, body_of, slots_with, others_with, begun, part_of, is_front, access_of, part_or, atom_or, body_or, comma, behind_atom, enter, move_at, move}
 use Rattle.eco_query.proofs.Tokens.{Sat, sat_if, if_sat, else_sat, same_byte, tok_cons, tok_uncons, enter_white, word_stops, digit_word, none_sat, four, word_ends, front_of, access_of_word, word_of_access, then_out, some_out, digits, digits_in, digits_out, number_front, number_back}
 
 -- a reference is a name or a handle
@@ -104,7 +104,8 @@ module _ (size : ℕ) (r : List WrittenSlot) where
       inl (atom_split (begun ss a Plain) x u w s (xs, v, more, others, slots, e))
 
   body_join : (ss : List WrittenSlot) (a : Access) (u : List ℕ) → BodyThen ss a u
-      → (k : WrittenBody) × (v : List ℕ) × (more : List WrittenSlot) × IsBody size u v k × AreSlots size v more × (r ≡ ss ++ (record { access = a; body = k }) ∷ more)
+      → (k : WrittenBody) × (v : List ℕ) × (more : List WrittenSlot) × IsBody size u v k × AreSlots size v more
+      × (r ≡ ss ++ (record { access = a; body = k }) ∷ more)
   body_join ss a u (inl s) =
       let (x, w, isx, (xs, v, more, others, slots, e)) = atom_join (begun ss a Plain) u s in
       (alternatives (x ∷ xs), v, more, (w, isx, others), slots, e)
@@ -113,7 +114,8 @@ module _ (size : ℕ) (r : List WrittenSlot) where
   body_join ss a u (inr (inr (w, tok, s))) =
       let (x, v, isx, (more, slots, e)) = atom_join (begun ss a Optional) w s in (optional x, v, more, (w, tok, isx), slots, e)
 
-  pub slot_split : (ss : List WrittenSlot) (s : WrittenSlot) (more : List WrittenSlot) (u v : List ℕ) → IsSlot size u v s → AreSlots size v more → r ≡ ss ++ s ∷ more
+  pub slot_split : (ss : List WrittenSlot) (s : WrittenSlot) (more : List WrittenSlot) (u v : List ℕ) → IsSlot size u v s → AreSlots size v more
+      → r ≡ ss ++ s ∷ more
       → SlotThen ss u
   slot_split ss s more u v (w, inl (same, none), k) slots e =
       let f : s ≡ record { access = InOut; body = s.body } = ap (λ (a : Access). let t : WrittenSlot = record { access = a; body = s.body } in t) none in
@@ -135,16 +137,24 @@ module _ (size : ℕ) (r : List WrittenSlot) where
   comma_in h c x b u [] e f = cc
   comma_in h c x b u (s ∷ ss) (a, v, tok, iss, slots) f =
       let t = tok_cons 44 [] b u a tok in
-      subst (λ k. Sat (comma h c x k) (λ q. Rest q u)) (sym t.0)
-      (a, t.1, slot_split (slots_with h c x) s ss a v iss slots (f ∙ sym (append_assoc c.slots (record { access = c.access; body = body_of h c.others x } ∷ []) (s ∷ ss))))
+      subst (λ k. Sat (comma h c x k) (λ q. Rest q u)) (sym t.0) (
+        a,
+        t.1,
+        slot_split (slots_with h c x) s ss a v iss slots
+            (f ∙ sym (append_assoc c.slots (record { access = c.access; body = body_of h c.others x } ∷ []) (s ∷ ss))),
+      )
 
   comma_out : (h : Head) (c : Before) (x : WrittenAtom) (b : ℕ) (u : List ℕ) → Sat (comma h c x b) (λ q. Rest q u)
       → (more : List WrittenSlot) × AreSlots size (b ∷ u) more × (r ≡ c.slots ++ (record { access = c.access; body = body_of h c.others x }) ∷ more)
   comma_out h c x b u s =
       sat_if (b == 44) _ _ (λ q. Rest q u) _
       (λ e (a, tok, t).
-      let (s', v, ss, iss, slots, f) = slot_join (slots_with h c x) a t in
-      (s' ∷ ss, (a, v, tok_uncons 44 [] b u a (same_byte b 44 e) tok, iss, slots), f ∙ append_assoc c.slots (record { access = c.access; body = body_of h c.others x } ∷ []) (s' ∷ ss)))
+      let (s', v, ss, iss, slots, f) = slot_join (slots_with h c x) a t in (
+        s' ∷ ss,
+        (a, v, tok_uncons 44 [] b u a (same_byte b 44 e) tok, iss, slots),
+        f
+            ∙ append_assoc c.slots (record { access = c.access; body = body_of h c.others x } ∷ []) (s' ∷ ss),
+      ))
       (λ _ z. absurd z) s
 
   after_in : (h : Head) (c : Before) (x : WrittenAtom) (b : ℕ) (u : List ℕ) → After h c x (b ∷ u) → Sat (behind_atom h c x b) (λ q. Rest q u)
@@ -239,7 +249,8 @@ module _ (size : ℕ) (r : List WrittenSlot) where
   part_out n o b u y place s =
       sat_if (may_begin b) _ _ (λ q. Rest q u) _
       (λ letter (t, v, words, small, tok, f).
-      elim (is_lone (b ∷ t)) as (λ c. is_lone (b ∷ t) ≡ c → Follow o (if c then any else named n (name (b ∷ t))) v → PartThen o (b ∷ u) ⊎ Sat y (λ q. Rest q u)) [
+      elim (is_lone (b ∷ t)) as (λ c. is_lone (b ∷ t) ≡ c → Follow o (if c then any else named n (name (b ∷ t))) v → PartThen o (b ∷ u)
+      ⊎ Sat y (λ q. Rest q u)) [
         | true ↦ λ e g.
             let same : b ∷ t ≡ 95 ∷ [] = (bytes_eq-Decides (b ∷ t) (codes "_")).0 e in
             let b_is : b ≡ 95 = cc in
@@ -294,7 +305,8 @@ module _ (size : ℕ) (r : List WrittenSlot) where
         | inl t ↦ inl (inl t)
         | inr t ↦
             sat_if (b == 33) _ _ (λ q. Rest q u) _ (λ e (v, tok, s). inl (inr (inl (v, tok_uncons 33 [] b u v (same_byte b 33 e) tok, s))))
-            (λ _ s. sat_if (b == 63) _ _ (λ q. Rest q u) _ (λ e (v, tok, s). inl (inr (inr (v, tok_uncons 63 [] b u v (same_byte b 63 e) tok, s)))) (λ _ s. inr s) s) t
+            (λ _ s. sat_if (b == 63) _ _ (λ q. Rest q u) _ (λ e (v, tok, s). inl (inr (inr (v, tok_uncons 63 [] b u v (same_byte b 63 e) tok, s))))
+            (λ _ s. inr s) s) t
       ]
 
   -- ---- between tokens

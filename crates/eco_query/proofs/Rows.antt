@@ -4,7 +4,7 @@ use Rattle.eco_query.specs.Tokens.{name}
 use Rattle.eco_query.specs.Faults.{IsSpelled, IsFault}
 use Rattle.eco_query.specs.Grammar.{named, each, any, single, pair, absent, alternatives, WrittenSlot, SpellsQuery}
 use Rattle.eco_query.specs.declared.access.Access.TheVariants.{In, InOut}
-use Rattle.eco_query.specs.Machine.{Point, end, advance, runs, query_start}
+use Rattle.eco_query.specs.Reader.Machine.{Point, end, advance, runs, query_start}
 use Rattle.eco_query.proofs.Spelled.{query_fault}
 
 row_inn : IsFault (IsSpelled SpellsQuery) (codes "[inn] P") 3

@@ -7,7 +7,7 @@ use Rattle.eco_query.specs.declared.access.Access.{Access}
 use Rattle.eco_query.specs.declared.access.Access.TheVariants.{In, Out, InOut, InOutNone}
 use Rattle.eco_query.specs.declared.point.Head.{Head}
 use Rattle.eco_query.specs.declared.point.Head.TheVariants.{Plain, Without, Optional, Alone}
-use Rattle.eco_query.specs.Machine.{Before, whole, first, second, sole, Spot, slot, word, shut, body, atom, part, behind, after, Point, at, letters, bar, name_of, hash, index, dot, generation, slots_with, begun, part_of, move, end_at, end, advance, runs}
+use Rattle.eco_query.specs.Reader.Machine.{Before, whole, first, second, sole, Spot, slot, word, shut, body, atom, part, behind, after, Point, at, letters, bar, name_of, hash, index, dot, generation, slots_with, begun, part_of, move, end_at, end, advance, runs}
 use Rattle.eco_query.proofs.Tokens.{Sat, tok_nil, number_front}
 use Rattle.eco_query.proofs.Rest.{After, Follow, AtomThen, BodyThen, Then, Rest, move_in, move_out}
 

@@ -6,14 +6,14 @@ use Rattle.eco_ids.specs.declared.refusal.Refusal.TheVariants.{Syntax}
 use Rattle.eco_query.specs.Tokens.{Reference}
 use Rattle.eco_query.specs.Grammar.{WrittenPart, named, each, any, WrittenAtom, single, pair, alternatives, WrittenSlot, IsPart, SpellsId, PlacedReference, SpellsRef, IsProperPart, IsProperAtom}
 use Rattle.eco_query.specs.Faults.{IsSpelled, IsFault}
-use Rattle.eco_query.specs.Machine.{Point, Before, end, advance, runs, slots_with, body_of, id_start, ref_start, begun, EndsWith, Stops}
+use Rattle.eco_query.specs.Reader.Machine.{Point, Before, end, advance, runs, slots_with, body_of, id_start, ref_start, begun, EndsWith, Stops}
 use Rattle.eco_query.specs.declared.access.Access.TheVariants.{InOut}
 use Rattle.eco_query.specs.declared.point.Head.{Head}
 use Rattle.eco_query.specs.declared.point.Head.TheVariants.{Plain, Without, Optional, Alone}
 use Rattle.eco_query.specs.Readings.{Reads, SpellsOnce, ReadsOnce, entity_at, entity_of_part}
 use Rattle.eco_query.proofs.Rest.{Rest}
 use Rattle.eco_query.specs.Grammar.{SpellsSlots, SpellsQuery, IsAtom}
-use Rattle.eco_query.specs.Machine.{query_start}
+use Rattle.eco_query.specs.Reader.Machine.{query_start}
 use Rattle.eco_query.proofs.Rest.{slot_split, slot_join, atom_split, atom_join}
 use Rattle.eco_query.proofs.Runs.{read_out, rest_once}
 use Rattle.eco_query.proofs.Fault.{fault_at}
@@ -24,16 +24,18 @@ start_in : (size : ℕ) (text : List ℕ) (slots : List WrittenSlot) → SpellsS
 start_in size text [] s = absurd s
 start_in size text (s ∷ ss) (a, b, tok, iss, more) = (a, tok, slot_split size (s ∷ ss) [] s ss a b iss more refl)
 
-start_out : (size : ℕ) (text : List ℕ) (slots : List WrittenSlot) → Rest size slots query_start text → SpellsSlots size text slots
+pub start_out : (size : ℕ) (text : List ℕ) (slots : List WrittenSlot) → Rest size slots query_start text → SpellsSlots size text slots
 start_out size text slots (a, tok, t) =
     let (s, b, ss, iss, more, e) = slot_join size slots [] a t in
     subst (λ k. SpellsSlots size text k) (sym e) (a, b, tok, iss, more)
 
 pub query_fault : (text : List ℕ) (n : ℕ) → Stops query_start text n → IsFault (IsSpelled SpellsQuery) text n
 query_fault text n s =
-    fault_at (IsSpelled SpellsQuery) query_start tt (λ text (r, s). (r, start_in (length text) text r s)) (λ text r h. (r, start_out (length text) text r h)) text n s
+    fault_at (IsSpelled SpellsQuery) query_start tt (λ text (r, s). (r, start_in (length text) text r s)) (λ text r h. (r, start_out (length text) text r h))
+    text n s
 
-pub query_ended : (text : List ℕ) (q : Point) (r : List WrittenSlot) → runs advance (0, query_start) text ≡ Some (length text, q) → end q ≡ Some r → SpellsQuery text r
+pub query_ended : (text : List ℕ) (q : Point) (r : List WrittenSlot) → runs advance (0, query_start) text ≡ Some (length text, q) → end q ≡ Some r
+    → SpellsQuery text r
 query_ended text q r e last = start_out (length text) text r (read_out query_start text r (length text) q e last)
 
 pub query_once : SpellsOnce SpellsQuery
@@ -91,7 +93,8 @@ ref_slots r = id_slots (single (named r.at r.reference))
 ref_in : (text : List ℕ) (r : PlacedReference) → SpellsRef text r → Rest (length text) (ref_slots r) ref_start text
 ref_in text r (a, tok, s) = (a, tok, (named r.at r.reference, [], s, (tt, refl, refl)))
 
-ref_out : (text : List ℕ) (slots : List WrittenSlot) → Rest (length text) slots ref_start text → (r : PlacedReference) × SpellsRef text r × (slots ≡ ref_slots r)
+pub ref_out : (text : List ℕ) (slots : List WrittenSlot) → Rest (length text) slots ref_start text
+    → (r : PlacedReference) × SpellsRef text r × (slots ≡ ref_slots r)
 ref_out text slots (a, tok, (named from r, v, s, (is, none, e))) =
     (record { at = from; reference = r }, (a, tok, subst (λ v. IsPart (length text) a v (named from r)) none s), e)
 ref_out text slots (a, tok, (each, v, s, (is, none, e))) = absurd is
@@ -99,7 +102,8 @@ ref_out text slots (a, tok, (any, v, s, (is, none, e))) = absurd is
 
 pub ref_fault : (text : List ℕ) (n : ℕ) → Stops ref_start text n → IsFault (IsSpelled SpellsRef) text n
 ref_fault text n s =
-    fault_at (IsSpelled SpellsRef) ref_start tt (λ text (r, s). (ref_slots r, ref_in text r s)) (λ text k h. let (r, s, e) = ref_out text k h in (r, s)) text n s
+    fault_at (IsSpelled SpellsRef) ref_start tt (λ text (r, s). (ref_slots r, ref_in text r s)) (λ text k h. let (r, s, e) = ref_out text k h in (r, s)) text
+    n s
 
 pub ref_ended : (text : List ℕ) (x : WrittenAtom) → EndsWith ref_start text x → (r : PlacedReference) × SpellsRef text r × (x ≡ single (named r.at r.reference))
 ref_ended text x (q, c, e, last) =
@@ -170,4 +174,5 @@ pub reads_once : {X T : Type 0} (Spells : List ℕ → X → Type 0) (meaning : 
 reads_once Spells meaning once text r s (inl (x, is, e)) (inl (y, is', f)) = e ∙ ap meaning (once text x y is is') ∙ sym f
 reads_once Spells meaning once text r s (inl (x, is, e)) (inr (n, fault, f)) = absurd (fault.nothing (x, is))
 reads_once Spells meaning once text r s (inr (n, fault, e)) (inl (x, is, f)) = absurd (fault.nothing (x, is))
-reads_once Spells meaning once text r s (inr (n, fault, e)) (inr (m, fault', f)) = e ∙ ap (λ k. Err (Syntax k)) (fault_once (IsSpelled Spells) text n m fault fault') ∙ sym f
+reads_once Spells meaning once text r s (inr (n, fault, e)) (inr (m, fault', f)) = e
+    ∙ ap (λ k. Err (Syntax k)) (fault_once (IsSpelled Spells) text n m fault fault') ∙ sym f

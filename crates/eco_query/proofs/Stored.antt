@@ -5,9 +5,10 @@ use Rattle.std.proofs.lemmas.Bool.{cond-true, cond-false, lt-ltb, ltb-true}
 use Rattle.std.specs.Prelude.{slice_set}
 use Rattle.std.proofs.lemmas.Bool.Decides.{nat_tests}
 use Rattle.eco_query.specs.Grammar.{WrittenAtom, WrittenSlot}
-use Rattle.eco_query.specs.Machine.{body_of}
-use Rattle.eco_query.specs.Points.{Draft, atom_view, marked, is_bare_head, keeps_slots}
-use Rattle.eco_query.specs.Terms.{with_mark, put_down, atoms_of, count_atoms, slots_from, grouping, HoldsSlots}
+use Rattle.eco_query.specs.Reader.Machine.{body_of}
+use Rattle.eco_query.specs.Reader.Points.{Draft, atom_view, marked, is_bare_head, keeps_slots}
+use Rattle.eco_query.specs.Readings.{atoms_of, count_atoms}
+use Rattle.eco_query.specs.Reader.Marks.{with_mark, put_down, slots_from, grouping, HoldsSlots}
 use Rattle.eco_query.specs.declared.access.Access.{Access}
 use Rattle.eco_query.specs.declared.point.Mark.{Mark}
 use Rattle.eco_query.specs.declared.point.Mark.TheVariants as marks
@@ -63,7 +64,8 @@ grouping-append g (marks.Same ∷ ms) ns = refl
 grouping-append g (marks.Begin ∷ ms) ns = refl
 grouping-append g (marks.Other a x ∷ ms) ns = grouping-append true ms ns
 grouping-append g (marks.Slot a h x ∷ ms) ns =
-    elim (g && is_bare_head h) as (λ c. (if c then None else grouping false (ms ++ ns)) ≡ option_and_then (λ k. grouping k ns) (if c then None else grouping false ms)) [
+    elim (g && is_bare_head h) as
+    (λ c. (if c then None else grouping false (ms ++ ns)) ≡ option_and_then (λ k. grouping k ns) (if c then None else grouping false ms)) [
       | true ↦ refl
       | false ↦ grouping-append false ms ns
     ]
@@ -77,7 +79,8 @@ count_atoms-append [] ts = omega arith
 count_atoms-append (s ∷ ss) ts = let e = count_atoms-append ss ts in omega arith
 
 -- no alternatives are dropped
-atoms_of-body : (h : Head) (xs : List WrittenAtom) (x : WrittenAtom) → (some_of xs && is_bare_head h) ≡ false → length (atoms_of (body_of h xs x)) ≡ length xs + 1
+atoms_of-body : (h : Head) (xs : List WrittenAtom) (x : WrittenAtom) → (some_of xs && is_bare_head h) ≡ false
+    → length (atoms_of (body_of h xs x)) ≡ length xs + 1
 atoms_of-body Plain xs x e = length-append xs (x ∷ [])
 atoms_of-body Without [] x e = refl
 atoms_of-body Without (y ∷ xs) x e = cc
@@ -128,14 +131,26 @@ put_holds (Some ms) d marks.Same bare next h empty e = (h, λ f. empty (sym (con
 put_holds None d marks.Begin bare next h empty e = (let o : d.others ≡ [] = empty e in let l : length d.others ≡ 0 = ap length o in omega arith, λ f. refl)
 put_holds (Some ms) d marks.Begin bare next h empty e =
     (subst (λ d. HoldsDraft (Some ms) d) (ap (λ (o : List WrittenAtom). let t : Draft = record { slots = d.slots; others = o } in t) (empty e)) h, λ f. refl)
-put_holds None d (marks.Other a x) bare next h empty e =
-    (store_holds None d (marks.Other a x) h (let l = length-append d.others (atom_view x ∷ []) in omega arith) (sym (ap (λ c. Some c) (some_of-more d.others (atom_view x)))), λ f. cc)
-put_holds (Some ms) d (marks.Other a x) bare next h empty e =
-    (store_holds (Some ms) d (marks.Other a x) h (let l = length-append d.others (atom_view x ∷ []) in omega arith) (sym (ap (λ c. Some c) (some_of-more d.others (atom_view x)))), λ f. cc)
-put_holds None d (marks.Slot a h x) bare next holds empty e =
-    (store_holds None d (marks.Slot a h x) holds (slot_atoms d a h (atom_view x) (last_bare d h bare empty e)) (cond-false (some_of d.others && is_bare_head h) _ _ (last_bare d h bare empty e)), λ f. refl)
-put_holds (Some ms) d (marks.Slot a h x) bare next holds empty e =
-    (store_holds (Some ms) d (marks.Slot a h x) holds (slot_atoms d a h (atom_view x) (last_bare d h bare empty e)) (cond-false (some_of d.others && is_bare_head h) _ _ (last_bare d h bare empty e)), λ f. refl)
+put_holds None d (marks.Other a x) bare next h empty e = (
+  store_holds None d (marks.Other a x) h (let l = length-append d.others (atom_view x ∷ []) in omega arith)
+      (sym (ap (λ c. Some c) (some_of-more d.others (atom_view x)))),
+  λ f. cc,
+)
+put_holds (Some ms) d (marks.Other a x) bare next h empty e = (
+  store_holds (Some ms) d (marks.Other a x) h (let l = length-append d.others (atom_view x ∷ []) in omega arith)
+      (sym (ap (λ c. Some c) (some_of-more d.others (atom_view x)))),
+  λ f. cc,
+)
+put_holds None d (marks.Slot a h x) bare next holds empty e = (
+  store_holds None d (marks.Slot a h x) holds (slot_atoms d a h (atom_view x) (last_bare d h bare empty e))
+      (cond-false (some_of d.others && is_bare_head h) _ _ (last_bare d h bare empty e)),
+  λ f. refl,
+)
+put_holds (Some ms) d (marks.Slot a h x) bare next holds empty e = (
+  store_holds (Some ms) d (marks.Slot a h x) holds (slot_atoms d a h (atom_view x) (last_bare d h bare empty e))
+      (cond-false (some_of d.others && is_bare_head h) _ _ (last_bare d h bare empty e)),
+  λ f. refl,
+)
 
 -- ---- the slots that the atoms make
 

@@ -4,7 +4,7 @@ use Rattle.std.proofs.lemmas.List.{take-append-drop, take_more}
 use Rattle.std.proofs.Math.Seq.{drop-cons}
 use Rattle.std.specs.Prelude.{slice_range, slice_index}
 use Rattle.std.proofs.Common.{◌-◌, length-drop, get_or-drop}
-use Rattle.eco_query.specs.Machine.{runs}
+use Rattle.eco_query.specs.Reader.Machine.{runs}
 
 pub runs-append : {S : Type 0} (step : S → ℕ → Option S) (s : S) (xs ys : List ℕ)
     → runs step s (xs ++ ys) ≡ option_and_then (λ q. runs step q ys) (runs step s xs)

@@ -8,16 +8,16 @@ use Rattle.std.proofs.lemmas.Slice.Eq.{bytes_eq-Decides}
 use Rattle.eco_query.proofs.ByteTests.{and_left, and_right, and_both, white_not_word, digit_is, is_digit_of, one_digit, more_digits}
 use Rattle.std.proofs.lemmas.Fmt.{decimal_by_steps}
 use Rattle.std.proofs.Common.{◌/◌, ◌%◌}
-use Rattle.eco_query.specs.Machine.{is_prefix}
+use Rattle.eco_query.specs.Reader.Machine.{is_prefix}
 use Rattle.eco_ids.specs.Names.{may_follow}
 use Rattle.eco_query.specs.Tokens.{is_white, is_digit}
-use Rattle.eco_query.specs.Machine.{grown}
+use Rattle.eco_query.specs.Reader.Machine.{grown}
 use Rattle.eco_query.specs.Grammar.{WrittenPart, WrittenAtom, single, IsTok, access_word}
 use Rattle.eco_query.specs.declared.access.Access.{Access}
 use Rattle.eco_query.specs.declared.access.Access.TheVariants.{In, Out, InOut, InOutNone}
 use Rattle.eco_query.specs.declared.point.Head.{Head}
 use Rattle.eco_query.specs.declared.point.Head.TheVariants.{Plain, Without, Optional, Alone}
-use Rattle.eco_query.specs.Machine.{Before, Role, whole, first, second, sole, Spot, slot, word, shut, body, atom, part, behind, after, is_front, access_of, behind_atom, enter, move_at}
+use Rattle.eco_query.specs.Reader.Machine.{Before, Role, whole, first, second, sole, Spot, slot, word, shut, body, atom, part, behind, after, is_front, access_of, behind_atom, enter, move_at}
 
 abbrev pub Sat : {X : Type 0} → Option X → (X → Type 0) → Type 0
 Sat None P = ⊥
@@ -110,7 +110,8 @@ enter_white n (after c x) b w = behind_white c.head c x b w
 -- behind a name no letter or digit goes on
 pub word_stops : (n : ℕ) (o : Role) (p : WrittenPart) (b : ℕ) → may_follow b ≡ true → move_at n (behind o p) b ≡ None
 word_stops n o p b w =
-    let no : is_white b ≡ false = elim (is_white b) as (λ c. is_white b ≡ c → c ≡ false) [ true ↦ λ e. let f = white_not_word b e in cc | false ↦ λ e. refl ] refl in
+    let no : is_white b ≡ false = elim (is_white b) as (λ c. is_white b ≡ c → c ≡ false) [ true ↦ λ e. let f = white_not_word b e in cc | false ↦ λ e. refl ]
+    refl in
     cond-false (is_white b) _ _ no ∙ elim o as (λ o. enter n (behind o p) b ≡ None) [
       | whole c ↦ behind_word c.head c (single p) b w
       | first c ↦ cond-false (b == 44) _ _ (word_not b 44 w refl)

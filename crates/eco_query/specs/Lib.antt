@@ -1,9 +1,6 @@
-pub mod Tokens
-pub mod Grammar
 pub mod Faults
-pub mod LastTerms
-pub mod Machine
-pub mod Points
+pub mod Grammar
 pub mod Queries
+pub mod Reader
 pub mod Readings
-pub mod Terms
+pub mod Tokens

@@ -1,15 +1,14 @@
 -- Queries as contracts see them.
-use Rattle.std.specs.Prelude.{Bool, true, not, List, [], ◌∷◌, map, flat_map}
-use Rattle.std.specs.List.{list_any, list_all}
-use Rattle.eco_ids.specs.Answer.{Asked}
-use Rattle.eco_ids.specs.Answer as ask
+use Rattle.std.specs.Prelude.{Bool, true, false, List, [], ◌∷◌, map, flat_map}
+use Rattle.std.specs.List.{list_all}
+use Rattle.eco_ids.specs.Slots.{Asked}
+use Rattle.eco_ids.specs.Slots as ask
+use Rattle.eco_ids.specs.Answer.{entries_of}
 use Rattle.eco_ids.specs.declared.id.Id.{Id}
 use Rattle.eco_ids.specs.declared.id.Id.TheVariants as id
 use Rattle.eco_ids.specs.declared.pattern.Part.TheVariants.{Is}
 use Rattle.eco_ids.specs.declared.pattern.Pattern.{Pattern}
 use Rattle.eco_ids.specs.declared.pattern.Pattern.TheVariants as pattern
-use Rattle.eco_ids.specs.Matching.{pattern_matches}
-use Rattle.eco_ids.specs.Order.{has_item, id_cmp}
 use Rattle.eco_query.specs.declared.access.Access.{Access}
 use Rattle.eco_query.specs.declared.query.Term.{Term}
 use Rattle.eco_query.specs.declared.query.Term.TheVariants.{Plain, Without, Optional, OneOf}
@@ -29,12 +28,14 @@ asked_view (OneOf v) = ask.OneOf v.items
 abbrev pub slot_view : Slot → QuerySlot
 slot_view s = record { access = s.access; asked = asked_view s.term }
 
--- the slot holds on an entity that has these ids
+-- there is something in the list
+abbrev pub has_any : {A : Type 0} → List A → Bool
+has_any [] = false
+has_any (x ∷ xs) = true
+
+-- the slot holds on an entity that has these ids: it has an entry there
 abbrev pub holds : List Id → Asked → Bool
-holds ids (ask.Plain p) = list_any (pattern_matches p) ids
-holds ids (ask.Without p) = not (list_any (pattern_matches p) ids)
-holds ids (ask.Optional i) = true
-holds ids (ask.OneOf is) = list_any (has_item id_cmp ids) is
+holds ids slot = has_any (entries_of ids slot)
 
 -- each slot holds on an entity of this type
 abbrev pub matches_type : List Id → List QuerySlot → Bool

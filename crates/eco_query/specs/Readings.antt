@@ -1,8 +1,8 @@
 -- What the readers of texts answer.
-use Rattle.std.specs.Prelude.{◌≡◌, ◌⊎◌, ℕ, Bool, true, false, not, ◌||◌, nat_lt, List, [], ◌∷◌, IsOk, Option, Some, None, Result, Ok, Err, if◌then◌else◌}
+use Rattle.std.specs.Prelude.{◌≡◌, ◌⊎◌, ℕ, ◌+◌, Bool, true, false, not, ◌||◌, nat_lt, List, [], ◌∷◌, length, IsOk, Option, Some, None, Result, Ok, Err, if◌then◌else◌}
 use Rattle.std.specs.List.{list_any}
-use Rattle.eco_ids.specs.Answer.{Asked}
-use Rattle.eco_ids.specs.Answer as ask
+use Rattle.eco_ids.specs.Slots.{Asked}
+use Rattle.eco_ids.specs.Slots as ask
 use Rattle.eco_ids.specs.declared.entity.Entity.{Entity}
 use Rattle.eco_ids.specs.declared.id.Id.{Id}
 use Rattle.eco_ids.specs.declared.id.Id.TheVariants.{One, Two}
@@ -15,7 +15,6 @@ use Rattle.eco_ids.specs.declared.refusal.Refusal.TheVariants.{Syntax, UnknownNa
 use Rattle.eco_query.specs.Tokens.{Reference, name, handle}
 use Rattle.eco_query.specs.Grammar.{WrittenPart, named, each, any, WrittenAtom, single, pair, WrittenBody, absent, optional, alternatives, WrittenSlot, PlacedReference}
 use Rattle.eco_query.specs.Queries.{QuerySlot}
-use Rattle.eco_query.specs.Terms.{count_atoms}
 use Rattle.eco_query.specs.Faults.{IsSpelled, IsFault}
 
 -- what a text spells is answered as `meaning` says; a text that spells nothing is refused at its first fault
@@ -31,6 +30,10 @@ SpellsOnce {X} Spells = (text : List ℕ) (a b : X) → Spells text a → Spells
 -- a text is answered in one way at most
 abbrev pub ReadsOnce : {X T : Type 0} → (List ℕ → X → Type 0) → (X → Result T Refusal) → Type 0
 ReadsOnce {X} {T} Spells meaning = (text : List ℕ) (r s : Result T Refusal) → Reads Spells meaning text r → Reads Spells meaning text s → r ≡ s
+
+-- each text is answered in some way
+abbrev pub ReadsAll : {X T : Type 0} → (List ℕ → X → Type 0) → (X → Result T Refusal) → Type 0
+ReadsAll {X} {T} Spells meaning = (text : List ℕ) → (r : Result T Refusal) × Reads Spells meaning text r
 
 -- the entity that was found, or else no entity has the name that begins there
 abbrev pub found_at : ℕ → Option Entity → Result Entity Refusal
@@ -100,6 +103,17 @@ pattern_of entity_named (pair p q) = ok_both (λ r t. pattern.Two r t) (part_of 
 abbrev pub is_lone_wildcard : WrittenAtom → Bool
 is_lone_wildcard (single p) = is_wildcard p
 is_lone_wildcard (pair p q) = false
+
+-- the atoms of a body
+abbrev pub atoms_of : WrittenBody → List WrittenAtom
+atoms_of (absent x) = x ∷ []
+atoms_of (optional x) = x ∷ []
+atoms_of (alternatives xs) = xs
+
+-- how many atoms the slots have
+abbrev pub count_atoms : List WrittenSlot → ℕ
+count_atoms [] = 0
+count_atoms (s ∷ ss) = length (atoms_of s.body) + count_atoms ss
 
 -- a wildcard stands as a single id, or behind `?`, or among alternatives
 abbrev pub misplaces_wildcard : WrittenSlot → Bool

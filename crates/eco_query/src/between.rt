@@ -1,8 +1,8 @@
 //! What a byte does between tokens.
 ghost use Rattle.std.specs.Prelude.{◌≡◌, ◌+◌, ◌<◌, length, Option, IfSome, option_map, slice_index};
-ghost use Rattle.eco_query.specs.Machine as machine;
-ghost use Rattle.eco_query.specs.Machine.{part_or};
-ghost use Rattle.eco_query.specs.Points.{Draft, IsBegunAt, KeepsSlots, is_bare, is_bare_head, is_bare_role, is_bare_spot, atom_view, before_view, marked, or_point, role_view, spot_view, step_view};
+ghost use Rattle.eco_query.specs.Reader.Machine as machine;
+ghost use Rattle.eco_query.specs.Reader.Machine.{part_or};
+ghost use Rattle.eco_query.specs.Reader.Points.{Draft, IsBegunAt, KeepsSlots, is_bare, is_bare_head, is_bare_role, is_bare_spot, atom_view, before_view, marked, or_point, role_view, spot_view, step_view};
 
 use crate::access::Access;
 use crate::classes::{is_name_start, is_white_space};
@@ -118,10 +118,10 @@ pub fn behind_part<'a>(
 fn step_to<'a>(point: Option<Point<'a>>, mark: Mark<'a>) -> Option<Step<'a>>
     ensures { result ≡ option_map (λ p. record { point = p; mark = mark.entry }) point.entry }
 {
-    Some(Step {
-        point: point?,
-        mark,
-    })
+    match point {
+        Some(point) => Some(Step { point, mark }),
+        None => None,
+    }
 }
 
 /// What a byte does between tokens that is no white space.

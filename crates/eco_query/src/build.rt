@@ -3,8 +3,8 @@ ghost use Rattle.std.specs.Prelude.{◌≡◌, ◌⊎◌, [], Err, IfErr, IsOk, 
 ghost use Rattle.std.specs.List.{list_any};
 ghost use Rattle.eco_query.specs.Readings as reading;
 ghost use Rattle.eco_query.specs.Readings.{is_positive, slots_of};
-ghost use Rattle.eco_query.specs.Terms as term;
-ghost use Rattle.eco_query.specs.Terms.{AreProperMarks, AreWhole, slots_from};
+ghost use Rattle.eco_query.specs.Reader.Marks as term;
+ghost use Rattle.eco_query.specs.Reader.Marks.{AreProperMarks, AreWhole, slots_from};
 
 use crate::last_term::{last_term, misplaces_last};
 use crate::names::Names;

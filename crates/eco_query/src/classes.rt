@@ -1,8 +1,8 @@
 //! The bytes of tokens.
 ghost use Rattle.std.specs.Prelude.{◌≡◌, true, Option};
-ghost use Rattle.eco_ids.specs.Names.{may_begin};
+ghost use Rattle.eco_ids.specs.Names.{may_begin, may_follow};
 ghost use Rattle.eco_query.specs.Tokens.{is_white, is_digit};
-ghost use Rattle.eco_query.specs.Machine.{grown};
+ghost use Rattle.eco_query.specs.Reader.Machine.{grown};
 
 pub fn is_white_space(byte: u8) -> bool
     ensures { result ≡ is_white byte }
@@ -14,6 +14,12 @@ pub fn is_name_start(byte: u8) -> bool
     ensures { result ≡ may_begin byte }
 {
     matches!(byte, b'A'..=b'Z' | b'a'..=b'z' | b'_')
+}
+
+pub fn is_name_byte(byte: u8) -> bool
+    ensures { result ≡ may_follow byte }
+{
+    is_name_start(byte) || is_decimal_digit(byte)
 }
 
 pub fn is_decimal_digit(byte: u8) -> bool

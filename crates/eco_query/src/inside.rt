@@ -1,11 +1,11 @@
 //! What a byte does inside of a token.
 ghost use Rattle.std.specs.Prelude.{◌≡◌, true, ◌+◌, ◌<◌, length, IfSome, option_map, slice_index};
-ghost use Rattle.eco_query.specs.Machine as machine;
-ghost use Rattle.eco_query.specs.Points.{Draft, IsBegunAt, KeepsSlots, is_bare, is_bare_role, IsInHandle, atom_view, before_view, part_view, point_view, role_view, step_view};
+ghost use Rattle.eco_query.specs.Reader.Machine as machine;
+ghost use Rattle.eco_query.specs.Reader.Points.{Draft, IsBegunAt, KeepsSlots, is_bare, is_bare_role, IsInHandle, atom_view, before_view, part_view, point_view, role_view, step_view};
 
 use crate::access::Access;
 use crate::between::move_at;
-use crate::classes::{grow, is_decimal_digit, is_name_start};
+use crate::classes::{grow, is_decimal_digit, is_name_byte};
 use crate::point::{Head, Mark, Point, Role, Spot, Step};
 use crate::written::{Reference, WrittenAtom, WrittenPart};
 
@@ -20,7 +20,7 @@ pub fn advance_name<'a>(text: &'a [u8], at: usize, role: Role<'a>, from: usize) 
 {
     let byte = text[at];
     let word = &text[from..at];
-    if is_name_start(byte) || is_decimal_digit(byte) {
+    if is_name_byte(byte) {
         if word.len() < 63 {
             Some(Step {
                 point: Point::Name(role, from),

@@ -2,9 +2,9 @@
 ghost use Rattle.std.specs.Prelude.{◌≡◌, IfOk, IfErr};
 ghost use Rattle.eco_ids.specs.declared.refusal.Refusal.TheVariants.{OutOfMemory};
 ghost use Rattle.eco_query.specs.Grammar.{IsProperAtom};
-ghost use Rattle.eco_query.specs.LastTerms as last;
-ghost use Rattle.eco_query.specs.LastTerms.{asked_by, last_of, left_over};
-ghost use Rattle.eco_query.specs.Points.{atom_view};
+ghost use Rattle.eco_query.specs.Reader.LastTerms as last;
+ghost use Rattle.eco_query.specs.Reader.LastTerms.{asked_by, last_of, left_over};
+ghost use Rattle.eco_query.specs.Reader.Points.{atom_view};
 ghost use Rattle.eco_query.specs.Queries.{asked_view};
 
 use crate::names::Names;

@@ -2,7 +2,7 @@
 ghost use Rattle.std.specs.Prelude.{ℕ, List, Option};
 ghost use Rattle.eco_ids.specs.declared.entity.Entity.{Entity};
 ghost use Rattle.eco_query.specs.Grammar.{SpellsId, SpellsQuery, SpellsRef};
-ghost use Rattle.eco_query.specs.Readings.{ReadsOnce, SpellsOnce, entity_at, id_of};
+ghost use Rattle.eco_query.specs.Readings.{ReadsAll, ReadsOnce, SpellsOnce, entity_at, id_of, query_of};
 
 /// A text spells one thing at most.
 pub fn texts_spell_once()
@@ -15,4 +15,12 @@ pub fn texts_spell_once()
 pub fn texts_read_once()
     ensures reference { (entity_named : List ℕ → Option Entity) → ReadsOnce SpellsRef (entity_at entity_named) }
     ensures id { (entity_named : List ℕ → Option Entity) → ReadsOnce SpellsId (id_of entity_named) }
+    ensures query { (entity_named : List ℕ → Option Entity) → ReadsOnce SpellsQuery (query_of entity_named) }
+{}
+
+/// Under any names each text is answered in some way: as what it spells, or as a refusal with a place.
+pub fn texts_are_read()
+    ensures reference { (entity_named : List ℕ → Option Entity) → ReadsAll SpellsRef (entity_at entity_named) }
+    ensures id { (entity_named : List ℕ → Option Entity) → ReadsAll SpellsId (id_of entity_named) }
+    ensures query { (entity_named : List ℕ → Option Entity) → ReadsAll SpellsQuery (query_of entity_named) }
 {}

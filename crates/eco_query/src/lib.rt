@@ -14,6 +14,7 @@ pub mod query;
 pub mod read;
 mod resolve;
 mod scan;
+mod skip;
 mod terms;
 mod written;
 

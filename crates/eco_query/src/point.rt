@@ -1,7 +1,7 @@
 //! How far a text has been read: the points of the reader, and what a byte does at them.
 ghost use Rattle.std.specs.Prelude.{◌≡◌};
-ghost use Rattle.eco_query.specs.Machine.{takes_wildcard};
-ghost use Rattle.eco_query.specs.Points.{Draft, role_view};
+ghost use Rattle.eco_query.specs.Reader.Machine.{takes_wildcard};
+ghost use Rattle.eco_query.specs.Reader.Points.{Draft, role_view};
 
 use crate::access::Access;
 use crate::written::{WrittenAtom, WrittenPart};

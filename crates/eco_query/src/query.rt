@@ -83,6 +83,7 @@ impl Slot {
     pub fn holds(&self, ids: &TypeList) -> bool
         ensures { result ≡ holds ids.now (asked_view self.now.term) }
     {
+        eco_ids::order::ids_are_ordered();
         match &self.term {
             Term::Plain(pattern) => has_match(ids, *pattern),
             Term::Without(pattern) => !has_match(ids, *pattern),

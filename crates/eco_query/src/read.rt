@@ -74,6 +74,3 @@ pub fn read_query<N: Names>(alloc: Global, text: &str, names: &N) -> Result<Quer
     check_names(marks, names)?;
     build_query(alloc, marks, names)
 }
-
-#[cfg(test)]
-mod tests;

@@ -1,7 +1,7 @@
 //! What a written reference or id means under some names.
 ghost use Rattle.std.specs.Prelude.{◌≡◌, ℕ};
 ghost use Rattle.eco_query.specs.Grammar.{IsProper, IsProperAtom, IsProperPart};
-ghost use Rattle.eco_query.specs.Points.{atom_view, part_view, reference_view};
+ghost use Rattle.eco_query.specs.Reader.Points.{atom_view, part_view, reference_view};
 ghost use Rattle.eco_query.specs.Readings.{entity_of, entity_of_part, has_wildcard, id_of, is_lone_wildcard, is_wildcard, part_of, pattern_of};
 
 use crate::names::Names;

@@ -1,14 +1,15 @@
 //! Reads a whole text, byte by byte.
 ghost use Rattle.std.specs.Prelude.{◌≡◌, List, length, [], IfErr, IfOk, IfSome, option_map};
-ghost use Rattle.eco_query.specs.Machine as machine;
+ghost use Rattle.eco_query.specs.Reader.Machine as machine;
 ghost use Rattle.eco_query.specs.Grammar.{SpellsQuery, WrittenSlot};
-ghost use Rattle.eco_query.specs.Machine.{EndsWith, Stops, query_start};
-ghost use Rattle.eco_query.specs.Points.{Draft, IsBegunAt, KeepsLast, is_bare, is_bare_role, atom_view, before_view, part_view, point_view, role_view, spot_view};
-ghost use Rattle.eco_query.specs.Terms.{HoldsSlots};
+ghost use Rattle.eco_query.specs.Reader.Machine.{EndsWith, Stops, query_start};
+ghost use Rattle.eco_query.specs.Reader.Points.{Draft, IsBegunAt, KeepsLast, is_bare, is_bare_role, atom_view, before_view, part_view, point_view, role_view, spot_view};
+ghost use Rattle.eco_query.specs.Reader.Marks.{HoldsSlots};
 
 use crate::access::Access;
 use crate::inside::advance;
 use crate::point::{Head, Mark, Point, Role, Spot};
+use crate::skip::skip;
 use crate::terms::Terms;
 use crate::written::{Reference, WrittenAtom, WrittenPart};
 
@@ -17,12 +18,12 @@ pub fn scan_atom<'a>(text: &'a [u8], start: Spot<'a>) -> Result<WrittenAtom<'a>,
     ensures found { IfOk result (λ x. EndsWith (machine.at (spot_view (record { slots = []; others = [] }) start.entry)) text.now (atom_view x)) }
     ensures fault { IfErr result (λ n. Stops (machine.at (spot_view (record { slots = []; others = [] }) start.entry)) text.now n) }
 {
-    let mut point = Point::At(start);
-    for at in 0..text.len() {
+    let (mut at, mut point) = (0, Point::At(start));
+    while at < text.len() {
         let Some(step) = advance(text, at, point) else {
             return Err(at);
         };
-        point = step.point;
+        (at, point) = skip(text, at + 1, step.point);
     }
     match last_atom(text, point) {
         Some((_, _, atom)) => Ok(atom),
@@ -35,14 +36,14 @@ pub fn scan_query(text: &[u8]) -> Result<Terms<'_>, usize>
     ensures found { IfOk result (λ t. (slots : List WrittenSlot) × SpellsQuery text.now slots × HoldsSlots t slots) }
     ensures fault { IfErr result (λ n. Stops query_start text.now n) }
 {
-    let mut point = Point::At(Spot::Slot);
+    let (mut at, mut point) = (0, Point::At(Spot::Slot));
     let mut terms = Terms::new();
-    for at in 0..text.len() {
+    while at < text.len() {
         let Some(step) = advance(text, at, point) else {
             return Err(at);
         };
         terms.put(step.mark);
-        point = step.point;
+        (at, point) = skip(text, at + 1, step.point);
     }
     let Some((access, head, atom)) = last_atom(text, point) else {
         return Err(text.len());
@@ -57,11 +58,10 @@ fn last_part<'a>(role: Role<'a>, part: WrittenPart<'a>) -> Option<(Access, Head,
     ensures end { (d : Draft) → option_map (λ l. machine.slots_with l.1 (before_view d l.0 l.1) (atom_view l.2)) result
         ≡ machine.end_at (machine.behind (role_view d role.entry) (part_view part.entry)) }
 {
-    match (role, part) {
-        (Role::Whole(access, head), _) => Some((access, head, WrittenAtom::Single(part))),
-        (Role::Sole, WrittenPart::Named(_, _)) => {
-            Some((Access::InOut, Head::Alone, WrittenAtom::Single(part)))
-        }
+    let atom = WrittenAtom::Single(part);
+    match role {
+        Role::Whole(access, head) => Some((access, head, atom)),
+        Role::Sole if !part.is_wildcard() => Some((Access::InOut, Head::Alone, atom)),
         _ => None,
     }
 }

@@ -1,6 +1,6 @@
 //! The atoms that a text puts down, as long as they are no more than a query may have.
 ghost use Rattle.std.specs.Prelude.{◌≡◌, None, Some, [], MatchOption, option_and_then};
-ghost use Rattle.eco_query.specs.Terms.{put_down, with_mark};
+ghost use Rattle.eco_query.specs.Reader.Marks.{put_down, with_mark};
 
 use crate::point::Mark;
 use std::marker::Model;

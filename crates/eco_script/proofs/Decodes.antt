@@ -151,7 +151,8 @@ pub value_read : (ds : List Data) (fields : List ℤ) (i : ℕ) → i ≡ length
     → each_in integer_in ds ≡ Some (take i fields) → drop i fields ≡ replicate (FIELD_COUNT - i) (pos 0)
     → value_of_items ds ≡ Some (record { 0 = fields })
 value_read ds fields i count low high found zeros =
-    let long : length ds ≡ length (take i fields) = same_length IsIntegerData ds (take i fields) (each_is integer_in IsIntegerData integer_is ds (take i fields) found) in
+    let long : length ds ≡ length (take i fields) = same_length IsIntegerData ds (take i fields)
+    (each_is integer_in IsIntegerData integer_is ds (take i fields) found) in
     let whole : take i fields ++ replicate (FIELD_COUNT - length (take i fields)) (pos 0) ≡ fields =
     ap (λ n. take i fields ++ replicate (FIELD_COUNT - n) (pos 0)) (sym long ∙ sym count) ∙ ap (λ t. take i fields ++ t) (sym zeros)
     ∙ take-append-drop i fields in
@@ -256,7 +257,8 @@ step_is : (d : Data) (s : Step) → step_in d ≡ Some s → IsStepData d s
 step_is d s e = option_and_then_some step_of_words (list_in d) s e (λ ds is h. rw (list_is d ds is) (words_are ds s h))
 
 -- the list of the steps
-steps_are : (d : Data) (ss : List Step) → option_and_then (each_in step_in) (list_in d) ≡ Some ss → (items : List Data) × (d ≡ list_data items) × AllZip IsStepData items ss
+steps_are : (d : Data) (ss : List Step) → option_and_then (each_in step_in) (list_in d) ≡ Some ss → (items : List Data) × (d ≡ list_data items)
+    × AllZip IsStepData items ss
 steps_are d ss e = option_and_then_some (each_in step_in) (list_in d) ss e (λ ds is h. (ds, list_is d ds is, each_is step_in IsStepData step_is ds ss h))
 
 parts_are : (ds : List Data) (s : Script) → script_of_parts ds ≡ Some s → IsScriptData (list_data ds) s
@@ -265,9 +267,11 @@ parts_are (a ∷ []) s e = cc
 parts_are (a ∷ b ∷ []) s e = cc
 parts_are (a ∷ b ∷ c ∷ d ∷ ds) s e = cc
 parts_are (a ∷ b ∷ c ∷ []) s e =
-    option_and_then_some (λ v. option_and_then (λ l. option_map (λ ss. record { limit = l; steps = ss }) (option_and_then (each_in step_in) (list_in c))) (number_in 9 1048576 b))
+    option_and_then_some (λ v. option_and_then (λ l. option_map (λ ss. record { limit = l; steps = ss }) (option_and_then (each_in step_in) (list_in c)))
+    (number_in 9 1048576 b))
     (number_in 1 1 a) s e
-    (λ v is h. option_and_then_some (λ l. option_map (λ ss. record { limit = l; steps = ss }) (option_and_then (each_in step_in) (list_in c))) (number_in 9 1048576 b) s h
+    (λ v is h. option_and_then_some (λ l. option_map (λ ss. record { limit = l; steps = ss }) (option_and_then (each_in step_in) (list_in c)))
+    (number_in 9 1048576 b) s h
     (λ l at k. whole v (number_is 1 1 a v is) l (number_is 9 1048576 b l at) (option_and_then (each_in step_in) (list_in c)) refl k)) where
       whole : (v : ℕ) → (a ≡ number (unsigned v)) × (1 ≤ v) × (v ≤ 1) → (l : ℕ) → (b ≡ number (unsigned l)) × (9 ≤ l) × (l ≤ 1048576)
           → (o : Option (List Step)) → option_and_then (each_in step_in) (list_in c) ≡ o → option_map (λ ss. record { limit = l; steps = ss }) o ≡ Some s
@@ -289,3 +293,10 @@ no_script d e s is = let found = script_in_data d s is in cc
 
 pub no_script_bytes : (bytes : List ℕ) (d : Data) → read bytes ≡ Some d → script_in d ≡ None → (s : Script) → ¬ IsScript bytes s
 no_script_bytes bytes d at e s (utf8, v, is, of) = let q : v ≡ d = cc in no_script d e s (rw q at of)
+
+pub one_script : (bytes : List ℕ) (a b : Script) → IsScript bytes a → IsScript bytes b → a ≡ b
+one_script bytes a b (utf8, v, is, of) (other, w, at, so) =
+    let same : v ≡ w = cc in
+    let first = script_in_data v a of in
+    let second : script_in v ≡ Some b = rw same (script_in_data w b so) in
+    cc

@@ -8,15 +8,19 @@ use Rattle.eco_ids.specs.declared.refusal.Refusal.TheVariants.{NotAlive, DeadId,
 use Rattle.eco_ids.specs.Answer.{answer}
 use Rattle.eco_world.specs.Queries.{term_of}
 use Rattle.eco_ids.specs.Births.{Creates, may_create, MakesComponent, may_make_component, unfit_name}
-use Rattle.eco_ids.specs.Indices.{is_alive, living, next_entity, map_state}
+use Rattle.eco_ids.specs.Indices.{next_entity}
+use Rattle.eco_ids.specs.Indices as indexed
+use Rattle.eco_ids.specs.Losses.{without, nobody}
+use Rattle.eco_ids.specs.Order.{entity_eq, id_eq}
 use Rattle.eco_ids.specs.Outcome.{first_refusal, is_out_of_memory, Refuses, Answers, Meets}
-use Rattle.eco_ids.specs.Step.{Adds, may_add, Sets, may_set, Removes, may_remove, Clears, may_clear, RemovesAll, may_remove_all, Renames, may_rename, unfit, unfit_set, unfit_actor, unfit_rename, changed, with_value, without_id, without_ids, with_name, own_name}
+use Rattle.eco_ids.specs.Step.{Adds, may_add, Sets, may_set, Removes, may_remove, Clears, may_clear, RemovesAll, may_remove_all, Renames, may_rename, unfit, unfit_set, unfit_actor, unfit_rename, changed, with_value, with_name, own_name}
 use Rattle.eco_ids.specs.Builtin.{is_builtin, is_builtins}
 use Rattle.eco_ids.specs.Data.{arity, fits}
 use Rattle.eco_ids.specs.declared.value.Value.{Value}
-use Rattle.eco_ids.specs.World.{WorldState, has, names_living}
+use Rattle.eco_ids.specs.World.{WorldState, has, names_living, is_alive, living, entities}
+use Rattle.eco_query.specs.Grammar.{SpellsId, SpellsRef}
+use Rattle.eco_query.specs.Readings.{ReadsAll, entity_at, id_of}
 use Rattle.eco_script.specs.References.{ReadsEntity, ReadsId}
-use Rattle.eco_script.proofs.Readable.{ref_read, id_read}
 use Rattle.eco_script.specs.Replies.{Reply, truth, got, shown, listed, found, replied, Calls, On, OnEntity, OnId, Replies}
 use Rattle.eco_script.specs.Steps as step
 use Rattle.eco_script.specs.Text.{Does, step_lines}
@@ -55,26 +59,29 @@ wanting Step may w e = (Err OutOfMemory, w, (e, refl))
 
 create_ends : (w : WorldState) (name : Option (List ℕ)) → Ends (Meets (Creates w name) (may_create w name) w)
 create_ends w name =
-    unless (Creates w name) (may_create w name) w (unfit_name (λ r. r.name) w name)
-    (plain_refusal ((not (is_proper name), BadName) ∷ (is_taken w name, NameTaken) ∷ []) refl) (λ why e. rw e (refl, refl))
-    (λ fit. next (next_entity w) refl fit) where
-      next : (o : Option Entity) → next_entity w ≡ o → unfit_name (λ r. r.name) w name ≡ None → Ends (Meets (Creates w name) (may_create w name) w)
-      next None e fit = (Err NoMoreIds, w, rw (fit, e) (refl, refl))
+    unless (Creates w name) (may_create w name) w (unfit_name (λ r. r.name) (entities w) name)
+    (plain_refusal ((not (is_proper name), BadName) ∷ (is_taken w name, NameTaken) ∷ []) refl) (λ why e. (entities w, rw e (refl, refl), refl))
+    (λ fit. next (next_entity (entities w)) refl fit) where
+      next : (o : Option Entity) → next_entity (entities w) ≡ o → unfit_name (λ r. r.name) (entities w) name ≡ None
+          → Ends (Meets (Creates w name) (may_create w name) w)
+      next None e fit = (Err NoMoreIds, w, (entities w, rw (fit, e) (refl, refl), refl))
       next (Some x) e fit = wanting (Creates w name) (may_create w name) w (rw (fit, e) refl)
 
 component_ends : (w : WorldState) (name : Option (List ℕ)) (n : ℕ) → Ends (Meets (MakesComponent w name n) (may_make_component w name) w)
 component_ends w name n =
-    unless (MakesComponent w name n) (may_make_component w name) w (unfit_name (λ r. r.name) w name)
-    (plain_refusal ((not (is_proper name), BadName) ∷ (is_taken w name, NameTaken) ∷ []) refl) (λ why e. rw e (refl, refl))
-    (λ fit. next (next_entity w) refl fit) where
-      next : (o : Option Entity) → next_entity w ≡ o → unfit_name (λ r. r.name) w name ≡ None → Ends (Meets (MakesComponent w name n) (may_make_component w name) w)
-      next None e fit = (Err NoMoreIds, w, rw (fit, e) (refl, refl))
+    unless (MakesComponent w name n) (may_make_component w name) w (unfit_name (λ r. r.name) (entities w) name)
+    (plain_refusal ((not (is_proper name), BadName) ∷ (is_taken w name, NameTaken) ∷ []) refl) (λ why e. (entities w, rw e (refl, refl), refl))
+    (λ fit. next (next_entity (entities w)) refl fit) where
+      next : (o : Option Entity) → next_entity (entities w) ≡ o → unfit_name (λ r. r.name) (entities w) name ≡ None
+          → Ends (Meets (MakesComponent w name n) (may_make_component w name) w)
+      next None e fit = (Err NoMoreIds, w, (entities w, rw (fit, e) (refl, refl), refl))
       next (Some x) e fit = wanting (MakesComponent w name n) (may_make_component w name) w (rw (fit, e) refl)
 
 add_ends : (w : WorldState) (e : Entity) (i : Id) → Ends (Meets (Adds w e i) (may_add w e i) w)
 add_ends w e i =
     unless (Adds w e i) (may_add w e i) w (unfit w e i)
-    (plain_refusal ((not (is_alive w e), NotAlive) ∷ (is_builtin w e, Reserved) ∷ (not (names_living w i), DeadId) ∷ []) refl) (λ why eq. rw eq (refl, refl)) (λ fit. there (has w e i) refl fit) where
+    (plain_refusal ((not (is_alive w e), NotAlive) ∷ (is_builtin w e, Reserved) ∷ (not (names_living w i), DeadId) ∷ []) refl) (λ why eq. rw eq (refl, refl))
+    (λ fit. there (has w e i) refl fit) where
       there : (b : Bool) → has w e i ≡ b → unfit w e i ≡ None → Ends (Meets (Adds w e i) (may_add w e i) w)
       there true h fit = (Ok tt, w, rw (fit, h) (refl, refl))
       there false h fit = wanting (Adds w e i) (may_add w e i) w (rw (fit, h) refl)
@@ -92,26 +99,26 @@ remove_ends : (w : WorldState) (e : Entity) (i : Id) → Ends (Meets (Removes w 
 remove_ends w e i =
     unless (Removes w e i) (may_remove w e i) w (unfit_actor w e)
     (plain_refusal ((not (is_alive w e), NotAlive) ∷ (is_builtin w e, Reserved) ∷ []) refl) (λ why eq. rw eq (refl, refl))
-    (λ fit. (Ok tt, changed w e (without_id i), rw fit (refl, refl)))
+    (λ fit. (Ok tt, without w nobody (λ x j. entity_eq x e && id_eq j i), rw fit (refl, refl)))
 
 clear_ends : (w : WorldState) (e : Entity) → Ends (Meets (Clears w e) (may_clear w e) w)
 clear_ends w e =
     unless (Clears w e) (may_clear w e) w (unfit_actor w e)
     (plain_refusal ((not (is_alive w e), NotAlive) ∷ (is_builtin w e, Reserved) ∷ []) refl) (λ why eq. rw eq (refl, refl))
-    (λ fit. (Ok tt, changed w e without_ids, rw fit (refl, refl)))
+    (λ fit. (Ok tt, without w nobody (λ x j. entity_eq x e), rw fit (refl, refl)))
 
 remove_all_ends : (w : WorldState) (i : Id) → Ends (Meets (RemovesAll w i) (may_remove_all w i) w)
 remove_all_ends w i = which (is_builtins w i) refl where
   which : (b : Bool) → is_builtins w i ≡ b → Ends (Meets (RemovesAll w i) (may_remove_all w i) w)
   which true e = (Err Reserved, w, rw e (refl, refl))
-  which false e = (Ok tt, record w { indices = map (map_state (without_id i)) w.indices }, rw e (refl, refl))
+  which false e = (Ok tt, without w nobody (λ x j. id_eq j i), rw e (refl, refl))
 
 rename_ends : (w : WorldState) (e : Entity) (name : Option (List ℕ)) → Ends (Meets (Renames w e name) (may_rename w e name) w)
 rename_ends w e name =
     unless (Renames w e name) (may_rename w e name) w (unfit_rename w e name)
     (plain_refusal ((not (is_alive w e), NotAlive) ∷ (is_builtin w e, Reserved) ∷ (not (is_proper name), BadName)
-    ∷ (not (is_same_name (own_name w e) name) && is_taken w name, NameTaken) ∷ []) refl) (λ why eq. rw eq (refl, refl))
-    (λ fit. (Ok tt, changed w e (with_name name), rw fit (refl, refl)))
+    ∷ (not (is_same_name (own_name w e) name) && is_taken w name, NameTaken) ∷ []) refl) (λ why eq. (entities w, rw eq (refl, refl), refl))
+    (λ fit. (Ok tt, changed w e (with_name name), (indexed.changed (entities w) e (with_name name), rw fit (refl, refl), refl)))
 
 show_ends : (w : WorldState) (e : Entity) (b : Bool)
     → Ends (λ r new. MatchBool b (Answers (shown e) w r new) (Refuses NotAlive w r new))
@@ -126,37 +133,43 @@ on_ends : {A : Type 0} (Reads : Result A Refusal → Type 0) (w : WorldState) (G
 on_ends Reads w Goes (Ok x, is) goes = let (r, new, g) = goes x in (r, new, (Ok x, is, g))
 on_ends Reads w Goes (Err why, is) goes = (Err why, w, (Err why, is, (refl, refl)))
 
-reads_entity : (w : WorldState) (text : List ℕ) → (n : Result Entity Refusal) × ReadsEntity w text n
-unfolding ReadsEntity
-reads_entity w text = ref_read (lookup w) text
+-- under any names each text is answered in some way
+pub record TextsRead : Type 0 where
+  pub refs : (entity_named : List ℕ → Option Entity) → ReadsAll SpellsRef (entity_at entity_named)
+  pub ids : (entity_named : List ℕ → Option Entity) → ReadsAll SpellsId (id_of entity_named)
 
-reads_id : (w : WorldState) (text : List ℕ) → (n : Result Id Refusal) × ReadsId w text n
-unfolding ReadsId
-reads_id w text = id_read (lookup w) text
+module _ (texts : TextsRead) where
+  reads_entity : (w : WorldState) (text : List ℕ) → (n : Result Entity Refusal) × ReadsEntity w text n
+  unfolding ReadsEntity
+  reads_entity w text = texts.refs (lookup w) text
 
-on_entity : (w : WorldState) (text : List ℕ) (Goes : Entity → Result Reply Refusal → WorldState → Type 0)
-    → ((x : Entity) → Ends (Goes x)) → Ends (OnEntity w text Goes)
-on_entity w text Goes goes = on_ends (ReadsEntity w text) w Goes (reads_entity w text) goes
+  reads_id : (w : WorldState) (text : List ℕ) → (n : Result Id Refusal) × ReadsId w text n
+  unfolding ReadsId
+  reads_id w text = texts.ids (lookup w) text
 
-on_id : (w : WorldState) (text : List ℕ) (Goes : Id → Result Reply Refusal → WorldState → Type 0)
-    → ((x : Id) → Ends (Goes x)) → Ends (OnId w text Goes)
-on_id w text Goes goes = on_ends (ReadsId w text) w Goes (reads_id w text) goes
+  on_entity : (w : WorldState) (text : List ℕ) (Goes : Entity → Result Reply Refusal → WorldState → Type 0)
+      → ((x : Entity) → Ends (Goes x)) → Ends (OnEntity w text Goes)
+  on_entity w text Goes goes = on_ends (ReadsEntity w text) w Goes (reads_entity w text) goes
 
-replies_end : (w : WorldState) (s : step.Step) → Ends (Replies w s)
-replies_end w (step.create name) = calls_end _ _ (create_ends w name)
-replies_end w (step.component name n) = calls_end _ _ (component_ends w (Some name) n)
-replies_end w (step.add e i) = on_entity w e _ (λ x. on_id w i _ (λ y. calls_end _ _ (add_ends w x y)))
-replies_end w (step.remove e i) = on_entity w e _ (λ x. on_id w i _ (λ y. calls_end _ _ (remove_ends w x y)))
-replies_end w (step.set e i v) = on_entity w e _ (λ x. on_id w i _ (λ y. calls_end _ _ (set_ends w x y v)))
-replies_end w (step.clear e) = on_entity w e _ (λ x. calls_end _ _ (clear_ends w x))
-replies_end w (step.remove_all i) = on_id w i _ (λ y. calls_end _ _ (remove_all_ends w y))
-replies_end w (step.rename e name) = on_entity w e _ (λ x. calls_end _ _ (rename_ends w x name))
-replies_end w (step.has e i) = on_entity w e _ (λ x. on_id w i _ (λ y. (Ok (truth (has w x y)), w, (refl, refl))))
-replies_end w (step.get e i) = on_entity w e _ (λ x. on_id w i _ (λ y. (Ok (got (shown_value w x y)), w, (refl, refl))))
-replies_end w (step.show e) = on_entity w e _ (λ x. show_ends w x (is_alive w x))
-replies_end w step.list = (Ok (listed (map (λ p. p.0) (living w))), w, (refl, refl))
-replies_end w (step.query q) = on_id w q _ (λ y. (Ok (found (answer w (term_of y))), w, (refl, refl)))
+  on_id : (w : WorldState) (text : List ℕ) (Goes : Id → Result Reply Refusal → WorldState → Type 0)
+      → ((x : Id) → Ends (Goes x)) → Ends (OnId w text Goes)
+  on_id w text Goes goes = on_ends (ReadsId w text) w Goes (reads_id w text) goes
 
--- some lines, and some world after them
-pub some_step : (s : step.Step) (w : WorldState) → (t : List ℕ) × (e : WorldState) × Does w s t e
-some_step s w = let (r, new, p) = replies_end w s in (step_lines new r, new, (r, p, refl))
+  replies_end : (w : WorldState) (s : step.Step) → Ends (Replies w s)
+  replies_end w (step.create name) = calls_end _ _ (create_ends w name)
+  replies_end w (step.component name n) = calls_end _ _ (component_ends w (Some name) n)
+  replies_end w (step.add e i) = on_entity w e _ (λ x. on_id w i _ (λ y. calls_end _ _ (add_ends w x y)))
+  replies_end w (step.remove e i) = on_entity w e _ (λ x. on_id w i _ (λ y. calls_end _ _ (remove_ends w x y)))
+  replies_end w (step.set e i v) = on_entity w e _ (λ x. on_id w i _ (λ y. calls_end _ _ (set_ends w x y v)))
+  replies_end w (step.clear e) = on_entity w e _ (λ x. calls_end _ _ (clear_ends w x))
+  replies_end w (step.remove_all i) = on_id w i _ (λ y. calls_end _ _ (remove_all_ends w y))
+  replies_end w (step.rename e name) = on_entity w e _ (λ x. calls_end _ _ (rename_ends w x name))
+  replies_end w (step.has e i) = on_entity w e _ (λ x. on_id w i _ (λ y. (Ok (truth (has w x y)), w, (refl, refl))))
+  replies_end w (step.get e i) = on_entity w e _ (λ x. on_id w i _ (λ y. (Ok (got (shown_value w x y)), w, (refl, refl))))
+  replies_end w (step.show e) = on_entity w e _ (λ x. show_ends w x (is_alive w x))
+  replies_end w step.list = (Ok (listed (map (λ p. p.0) (living w))), w, (refl, refl))
+  replies_end w (step.query q) = on_id w q _ (λ y. (Ok (found (answer w (term_of y))), w, (refl, refl)))
+
+  -- some lines, and some world after them
+  pub some_step : (s : step.Step) (w : WorldState) → (t : List ℕ) × (e : WorldState) × Does w s t e
+  some_step s w = let (r, new, p) = replies_end w s in (step_lines new r, new, (r, p, refl))

@@ -1,6 +1,6 @@
 pub mod Decodes
+pub mod Determined
 pub mod Devices
 pub mod Ends
-pub mod Readable
 pub mod Runs
 pub mod Values

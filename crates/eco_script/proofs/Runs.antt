@@ -10,7 +10,7 @@ use Rattle.eco_ids.specs.World.{WorldState, first_world}
 use Rattle.eco_script.specs.Beginning.{IsBeginning}
 use Rattle.eco_script.specs.Steps.{Step}
 use Rattle.eco_script.specs.Text.{Does, Text}
-use Rattle.eco_script.proofs.Ends.{some_step}
+use Rattle.eco_script.proofs.Ends.{TextsRead, some_step}
 
 pub Text-append : (xs ys : List Step) (w m e : WorldState) (t u : List ℕ) → Text w xs t m → Text m ys u e → Text w (xs ++ ys) (t ++ u) e
 Text-append [] ys w m e t u (tn, mw) q = rw (tn, ← mw) q
@@ -23,11 +23,11 @@ Text-one s w m t d = (t, [], m, d, (refl, refl), sym (append-nil t))
 pub Text-more : (xs : List Step) (s : Step) (w m e : WorldState) (t u : List ℕ) → Text w xs t m → Does m s u e → Text w (xs ++ s ∷ []) (t ++ u) e
 Text-more xs s w m e t u p d = Text-append xs (s ∷ []) w m e t u p (Text-one s m e u d)
 
-pub some_text : (ss : List Step) (w : WorldState) → (t : List ℕ) × (e : WorldState) × Text w ss t e
-some_text [] w = ([], w, (refl, refl))
-some_text (s ∷ ss) w =
-    let one = some_step s w in
-    let more = some_text ss one.1 in
+pub some_text : TextsRead → (ss : List Step) (w : WorldState) → (t : List ℕ) × (e : WorldState) × Text w ss t e
+some_text texts [] w = ([], w, (refl, refl))
+some_text texts (s ∷ ss) w =
+    let one = some_step texts s w in
+    let more = some_text texts ss one.1 in
     (one.0 ++ more.0, more.1, (one.0, more.0, one.1, one.2, more.2, refl))
 
 begins : (t q r u more : List ℕ) → u ≡ q ++ r → (t ++ u) ++ more ≡ (t ++ q) ++ (r ++ more)
@@ -43,38 +43,48 @@ module _ {X : Type 0} (f : X → Step) (xs : List X) where
       rw front (Text-more (map f (take i xs)) (f x) w m e t u p does)
 
   -- a run goes on to some end
-  text_goes_on : (i : ℕ) (w m : WorldState) (t : List ℕ) → Text w (map f (take i xs)) t m
+  text_goes_on : TextsRead → (i : ℕ) (w m : WorldState) (t : List ℕ) → Text w (map f (take i xs)) t m
       → (more : List ℕ) × (e : WorldState) × Text w (map f xs) (t ++ more) e
-  text_goes_on i w m t p =
-      let rest = some_text (map f (drop i xs)) m in
+  text_goes_on texts i w m t p =
+      let rest = some_text texts (map f (drop i xs)) m in
       let whole : map f xs ≡ map f (take i xs) ++ map f (drop i xs) =
       ap (λ ys. map f ys) (sym (take-append-drop i xs)) ∙ map-append f (take i xs) (drop i xs) in
       (rest.0, rest.1, rw whole (Text-append (map f (take i xs)) (map f (drop i xs)) w m rest.1 t rest.0 p rest.2))
 
-  -- what was written when the run stops between two steps
-  pub stopped_between : (i : ℕ) (w m : WorldState) (a b : Option (List ℕ))
-      → ((t : List ℕ) × Text w (map f (take i xs)) t m × Appends a b t)
-      → (part : List ℕ) × (text : List ℕ) × (end : WorldState) × Text w (map f xs) text end × IsBeginning part text × Appends a b part
-  stopped_between i w m a b (t, p, h) =
-      let on = text_goes_on i w m t p in
-      (t, t ++ on.0, on.1, on.2, (on.0, refl), h)
+  -- the steps so far have a text, of which this much is not written yet
+  abbrev pub Gathered : ℕ → WorldState → WorldState → Option (List ℕ) → Option (List ℕ) → List ℕ → Type 0
+  Gathered i w m a b rest = (done : List ℕ) × Text w (map f (take i xs)) (done ++ rest) m × Appends a b done
 
-  -- what was written when the run stops within the text of a step
-  pub stopped_within : (i : ℕ) (x : X) (w m e : WorldState) (a b c : Option (List ℕ)) (u : List ℕ) → i < length xs → x ≡ get_or xs i x
-      → ((t : List ℕ) × Text w (map f (take i xs)) t m × Appends a b t)
-      → Does m (f x) u e
-      → ((q : List ℕ) × IsBeginning q u × Appends b c q)
-      → (part : List ℕ) × (text : List ℕ) × (end : WorldState) × Text w (map f xs) text end × IsBeginning part text × Appends a c part
-  stopped_within i x w m e a b c u lt is (t, p, h) does (q, (r, er), hq) =
-      let on = text_goes_on (i + 1) w e (t ++ u) (text_more i x w m e t u lt is p does) in
-      (t ++ q, (t ++ u) ++ on.0, on.1, on.2, (r ++ on.0, begins t q r u on.0 er), Appends-more a b c t q h hq)
+  -- what is written where the run stops
+  abbrev Stopped : WorldState → Option (List ℕ) → Option (List ℕ) → Type 0
+  Stopped w a b = (part : List ℕ) × (text : List ℕ) × (end : WorldState) × Text w (map f xs) text end × IsBeginning part text × Appends a b part
 
-  -- one more step was run, and its text written
-  pub ran_more : (i : ℕ) (x : X) (w m e : WorldState) (a b c : Option (List ℕ)) (u : List ℕ) → i < length xs → x ≡ get_or xs i x
-      → ((t : List ℕ) × Text w (map f (take i xs)) t m × Appends a b t)
-      → Does m (f x) u e → Appends b c u
-      → (t : List ℕ) × Text w (map f (take (i + 1) xs)) t e × Appends a c t
-  ran_more i x w m e a b c u lt is (t, p, h) does hu = (t ++ u, text_more i x w m e t u lt is p does, Appends-more a b c t u h hu)
+  -- one more step was run
+  pub gathered_more : (i : ℕ) (x : X) (w m e : WorldState) (a b : Option (List ℕ)) (rest more u : List ℕ) → i < length xs → x ≡ get_or xs i x
+      → Gathered i w m a b rest → Does m (f x) u e → more ≡ rest ++ u → Gathered (i + 1) w e a b more
+  gathered_more i x w m e a b rest more u lt at (done, p, h) does is =
+      let whole : (done ++ rest) ++ u ≡ done ++ more = append_assoc done rest u ∙ ap (λ t. done ++ t) (sym is) in
+      (done, rw (← whole) (text_more i x w m e (done ++ rest) u lt at p does), h)
+
+  -- some of it was written
+  pub gathered_less : (i : ℕ) (w m : WorldState) (a b c : Option (List ℕ)) (rest part left : List ℕ) → rest ≡ part ++ left
+      → Gathered i w m a b rest → Appends b c part → Gathered i w m a c left
+  gathered_less i w m a b c rest part left is (done, p, h) k =
+      let whole : done ++ rest ≡ (done ++ part) ++ left = ap (λ t. done ++ t) is ∙ sym (append_assoc done part left) in
+      (done ++ part, rw (← whole) p, Appends-more a b c done part h k)
+
+  -- the run stops between two steps
+  pub stopped_between : TextsRead → (i : ℕ) (w m : WorldState) (a b : Option (List ℕ)) (rest : List ℕ) → Gathered i w m a b rest → Stopped w a b
+  stopped_between texts i w m a b rest (done, p, h) =
+      let on = text_goes_on texts i w m (done ++ rest) p in
+      (done, (done ++ rest) ++ on.0, on.1, on.2, (rest ++ on.0, append_assoc done rest on.0), h)
+
+  -- or while it writes
+  pub stopped_within : TextsRead → (i : ℕ) (w m : WorldState) (a b c : Option (List ℕ)) (rest : List ℕ) → Gathered i w m a b rest
+      → ((q : List ℕ) × IsBeginning q rest × Appends b c q) → Stopped w a c
+  stopped_within texts i w m a b c rest (done, p, h) (q, (r, er), hq) =
+      let on = text_goes_on texts i w m (done ++ rest) p in
+      (done ++ q, (done ++ rest) ++ on.0, on.1, on.2, (r ++ on.0, begins done q r rest on.0 er), Appends-more a b c done q h hq)
 
 Text-at : (w v e : WorldState) (ss rs : List Step) (t : List ℕ) → w ≡ v → ss ≡ rs → Text w ss t e → Text v rs t e
 Text-at w v e ss rs t p q h = rw (← p, ← q) h

@@ -49,5 +49,6 @@ module _ {V A B : Type 0} (view : V → Data) (find : Data → Option A) (f : B 
       → each_in find (map view vs) ≡ option_map (λ xs. map f new ++ xs) (each_in find (map view (drop (i + 1) vs)))
   one_more vs i d old new x there found is was =
       was ∙ ap (λ (ws : List V). option_map (λ xs. map f old ++ xs) (each_in find (map view ws))) (drop_more vs i d there)
-      ∙ ap (λ (o : Option A). option_map (λ xs. map f old ++ xs) (option_and_then (λ y. option_map (λ ys. y ∷ ys) (each_in find (map view (drop (i + 1) vs)))) o)) (sym found)
+      ∙ ap (λ (o : Option A). option_map (λ xs. map f old ++ xs)
+      (option_and_then (λ y. option_map (λ ys. y ∷ ys) (each_in find (map view (drop (i + 1) vs)))) o)) (sym found)
       ∙ in_front old new x (each_in find (map view (drop (i + 1) vs))) is

@@ -1,6 +1,7 @@
 pub mod Answers
 pub mod Beginning
 pub mod Decode
+pub mod Laws
 pub mod Lines
 pub mod References
 pub mod Replies

@@ -6,10 +6,9 @@ use Rattle.eco_ids.specs.declared.refusal.Refusal.{Refusal}
 use Rattle.eco_ids.specs.declared.refusal.Refusal.TheVariants.{NotAlive}
 use Rattle.eco_ids.specs.Answer.{Row, answer}
 use Rattle.eco_ids.specs.Births.{Creates, may_create, MakesComponent, may_make_component}
-use Rattle.eco_ids.specs.Indices.{is_alive, living}
 use Rattle.eco_ids.specs.Outcome.{Refuses, Answers, Meets}
 use Rattle.eco_ids.specs.Step.{Adds, may_add, Sets, may_set, Removes, may_remove, Clears, may_clear, RemovesAll, may_remove_all, Renames, may_rename}
-use Rattle.eco_ids.specs.World.{WorldState, has}
+use Rattle.eco_ids.specs.World.{WorldState, has, is_alive, living}
 use Rattle.eco_world.specs.Queries.{term_of}
 use Rattle.eco_script.specs.References.{ReadsEntity, ReadsId}
 use Rattle.eco_script.specs.Steps as step

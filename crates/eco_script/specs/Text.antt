@@ -1,8 +1,9 @@
 -- The text that a run of steps writes.
-use Rattle.std.specs.Prelude.{◌≡◌, ℕ, Bool, true, false, List, [], ◌∷◌, ◌++◌, length, map, flat_map, codes, decimal, Option, Some, None, Result, Ok, Err}
+use Rattle.std.specs.Prelude.{◌≡◌, ℕ, Bool, true, false, List, [], ◌∷◌, ◌++◌, length, map, flat_map, codes, decimal, Option, Some, None, Result, Ok, Err, IsFalse}
 use Rattle.eco_ids.specs.declared.entity.Entity.{Entity}
 use Rattle.eco_ids.specs.declared.refusal.Refusal.{Refusal}
 use Rattle.eco_ids.specs.Data.{arity_of}
+use Rattle.eco_ids.specs.Outcome.{is_out_of_memory}
 use Rattle.eco_ids.specs.Refusals.{refusal_text}
 use Rattle.eco_ids.specs.Step.{own_name}
 use Rattle.eco_ids.specs.Text.{entity_text}
@@ -45,8 +46,20 @@ step_lines w (Err why) = codes "refused " ++ refusal_text why ++ codes "\n"
 abbrev pub Does : WorldState → Step → List ℕ → WorldState → Type 0
 Does old s lines new = (r : Result Reply Refusal) × Replies old s r new × (lines ≡ step_lines new r)
 
+-- likewise, and the answer is not that memory was wanting
+abbrev pub DoesInMemory : WorldState → Step → List ℕ → WorldState → Type 0
+DoesInMemory old s lines new = (r : Result Reply Refusal) × Replies old s r new × IsFalse (is_out_of_memory r) × (lines ≡ step_lines new r)
+
+-- steps, one after another, each of which takes a world to the next so, with their lines
+abbrev pub TextBy : (WorldState → Step → List ℕ → WorldState → Type 0) → WorldState → List Step → List ℕ → WorldState → Type 0
+TextBy One old [] text new = (text ≡ []) × (new ≡ old)
+TextBy One old (s ∷ ss) text new =
+    (first : List ℕ) × (rest : List ℕ) × (mid : WorldState) × One old s first mid × TextBy One mid ss rest new × (text ≡ first ++ rest)
+
 -- the steps, one after another, may take the old world to the new one, and this is their text
 abbrev pub Text : WorldState → List Step → List ℕ → WorldState → Type 0
-Text old [] text new = (text ≡ []) × (new ≡ old)
-Text old (s ∷ ss) text new =
-    (first : List ℕ) × (rest : List ℕ) × (mid : WorldState) × Does old s first mid × Text mid ss rest new × (text ≡ first ++ rest)
+Text = TextBy Does
+
+-- likewise, and no answer is that memory was wanting
+abbrev pub TextInMemory : WorldState → List Step → List ℕ → WorldState → Type 0
+TextInMemory = TextBy DoesInMemory

@@ -1,11 +1,49 @@
 //! Devices over the readers and writers of std.
 
-ghost use Rattle.std.specs.Prelude.{◌≡◌, ◌+◌, ◌<◌};
+ghost use Rattle.std.specs.Prelude.{◌≡◌, ◌+◌, ◌<◌, ◌≤◌, length, take, IfOk, OnErr};
+ghost use Rattle.std.specs.Io.KnownBytes.{Appends, Consumes, IsAtEnd, Keeps};
 
 use crate::device::{DeviceFailed, ScriptReader, ScriptWriter};
-use std::io::{Read, Write};
+use std::io::{ErrorKind, Read, Write};
 
-/// A reader or writer of std, with the counts of its calls. A write that takes no byte of a rest counts as failed.
+// A read that is made again where a signal came before any byte.
+fn read_again<R: Read>(reader: &mut R, buffer: &mut [u8]) -> Result<usize, DeviceFailed>
+    ensures within { IfOk result (λ n. n ≤ length buffer.new) }
+    ensures consumed { IfOk result (λ n. Consumes (R.remaining reader.old) (R.remaining reader.new)
+        (take n buffer.new)) }
+    ensures ended { IfOk result (λ n. n ≡ 0 → 0 < length buffer.new → IsAtEnd (R.remaining reader.new)) }
+{
+    for _ in 0..u64::MAX {
+        match reader.read(buffer) {
+            Ok(n) => return Ok(n),
+            Err(e) if e.kind() == ErrorKind::Interrupted => {}
+            Err(_) => break,
+        }
+    }
+    Err(DeviceFailed)
+}
+
+// A write that is made again where a signal came before any byte. The error is a call that failed, or took
+// none.
+fn write_again<W: Write>(writer: &mut W, rest: &[u8]) -> Result<usize, DeviceFailed>
+    ensures within { IfOk result (λ n. n ≤ length rest.now) }
+    ensures takes { IfOk result (λ n. 0 < n) }
+    ensures appends { IfOk result (λ n. Appends (W.contents writer.old) (W.contents writer.new)
+        (take n rest.now)) }
+    ensures keeps { OnErr result (Keeps (W.contents writer.old) (W.contents writer.new)) }
+{
+    for _ in 0..u64::MAX {
+        match writer.write(rest) {
+            Ok(n) if n > 0 => return Ok(n),
+            Err(e) if e.kind() == ErrorKind::Interrupted => {}
+            _ => break,
+        }
+    }
+    Err(DeviceFailed)
+}
+
+/// A reader or writer of std, with the counts of its calls. A call that a signal interrupts is made again, and
+/// counts once. A write that takes no byte of a rest counts as failed.
 #[derive(Drop)]
 pub struct Counted<R> {
     inner: R,
@@ -44,13 +82,11 @@ impl<R: Read> ScriptReader for Counted<R> {
 
     fn read(&mut self, buffer: &mut [u8]) -> Result<usize, DeviceFailed> {
         self.calls += 1;
-        match self.inner.read(buffer) {
-            Ok(n) => Ok(n),
-            Err(_) => {
-                self.failures += 1;
-                Err(DeviceFailed)
-            }
+        let read = read_again(&mut self.inner, buffer);
+        if read.is_err() {
+            self.failures += 1;
         }
+        read
     }
 }
 
@@ -60,12 +96,10 @@ impl<W: Write> ScriptWriter for Counted<W> {
     ghost failures = { λ s. s.failures };
 
     fn write(&mut self, rest: &[u8]) -> Result<usize, DeviceFailed> {
-        match self.inner.write(rest) {
-            Ok(n) if n > 0 => Ok(n),
-            _ => {
-                self.failures += 1;
-                Err(DeviceFailed)
-            }
+        let written = write_again(&mut self.inner, rest);
+        if written.is_err() {
+            self.failures += 1;
         }
+        written
     }
 }

@@ -6,6 +6,7 @@ mod arity;
 pub mod counted;
 pub mod device;
 mod fault;
+pub mod laws;
 mod lines;
 mod perform;
 mod reply;
@@ -14,8 +15,6 @@ mod script;
 mod shown_value;
 pub mod status;
 mod step;
-#[cfg(test)]
-mod tests;
 mod transfer;
 
 pub use counted::Counted;

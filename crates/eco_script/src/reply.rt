@@ -1,6 +1,6 @@
 //! What the steps of a script answer.
 
-ghost use Rattle.std.specs.Prelude.{◌≡◌, ◌++◌, IfOk, OnOk, string_bytes, flat_map, map};
+ghost use Rattle.std.specs.Prelude.{◌≡◌, ◌++◌, OnOk, string_bytes, flat_map, map};
 ghost use Rattle.eco_script.specs.Answers.{answer_view, reply_view};
 ghost use Rattle.eco_world.specs.Queries.{result_of};
 ghost use Rattle.eco_script.specs.Lines.{row_line};
@@ -10,7 +10,7 @@ use crate::lines::{EntityLine, RowLine};
 use crate::shown_value::ShownValue;
 use eco_ids::{Entity, Refusal};
 use eco_world::{Row, World};
-use std::alloc::{AllocError, Global};
+use std::alloc::AllocError;
 
 /// What a step answers where it is done.
 #[derive(Drop)]
@@ -65,49 +65,49 @@ fn push_row_lines(text: &mut String, rows: &[Row]) -> Result<(), AllocError>
 }
 
 impl Reply {
-    /// The lines of the reply, on the world that the step has left.
-    pub fn lines(&self, alloc: Global, world: &World) -> Result<String, AllocError>
-        ensures { IfOk result (λ s. string_bytes s ≡ reply_lines world.now (reply_view self.now)) }
+    /// Adds the lines of the reply, on the world that the step has left.
+    pub fn push_lines(&self, text: &mut String, world: &World) -> Result<(), AllocError>
+        ensures { OnOk result (string_bytes text.new
+            ≡ string_bytes text.old ++ reply_lines world.now (reply_view self.now)) }
     {
         match self {
-            Reply::Done => String::from_str(alloc, "ok\n"),
-            Reply::Made(entity) => format!(in alloc; "ok {entity}\n"),
-            Reply::Truth(truth) => format!(in alloc; "ok {truth}\n"),
-            Reply::Got(None) => String::from_str(alloc, "ok none\n"),
-            Reply::Got(Some(value)) => format!(in alloc; "ok {value}\n"),
+            Reply::Done => text.push_str("ok\n"),
+            Reply::Made(entity) => write!(text, "ok {entity}\n"),
+            Reply::Truth(truth) => write!(text, "ok {truth}\n"),
+            Reply::Got(None) => text.push_str("ok none\n"),
+            Reply::Got(Some(value)) => write!(text, "ok {value}\n"),
             Reply::Shown(entity) => {
                 let line = EntityLine {
                     world,
                     entity: *entity,
                 };
-                format!(in alloc; "ok {line}")
+                write!(text, "ok {line}")
             }
             Reply::Listed(entities) => {
                 let count = entities.len();
-                let mut text = format!(in alloc; "ok {count}\n")?;
-                push_entity_lines(&mut text, world, entities.as_slice())?;
-                Ok(text)
+                write!(text, "ok {count}\n")?;
+                push_entity_lines(text, world, entities.as_slice())
             }
             Reply::Found(rows) => {
                 let count = rows.len();
-                let mut text = format!(in alloc; "ok {count}\n")?;
-                push_row_lines(&mut text, rows.as_slice())?;
-                Ok(text)
+                write!(text, "ok {count}\n")?;
+                push_row_lines(text, rows.as_slice())
             }
         }
     }
 }
 
-/// The lines of a step's answer: those of its reply, or the line of its refusal.
-pub fn step_lines(
-    alloc: Global,
+/// Adds the lines of a step's answer: those of its reply, or the line of its refusal.
+pub fn push_step_lines(
+    text: &mut String,
     world: &World,
     answer: &Result<Reply, Refusal>,
-) -> Result<String, AllocError>
-    ensures { IfOk result (λ s. string_bytes s ≡ step_lines world.now (answer_view answer.now)) }
+) -> Result<(), AllocError>
+    ensures { OnOk result (string_bytes text.new
+        ≡ string_bytes text.old ++ step_lines world.now (answer_view answer.now)) }
 {
     match answer {
-        Ok(reply) => reply.lines(alloc, world),
-        Err(refusal) => format!(in alloc; "refused {refusal}\n"),
+        Ok(reply) => reply.push_lines(text, world),
+        Err(refusal) => write!(text, "refused {refusal}\n"),
     }
 }

@@ -1,6 +1,6 @@
 //! Runs of scripts.
 
-ghost use Rattle.std.specs.Prelude.{◌≡◌, ◌≢◌, ℕ, ◌+◌, ◌^◌, ◌<◌, ◌≤◌, List, Some, IfOk, OnOk, OnErr, IsErrOf, map, string_bytes};
+ghost use Rattle.std.specs.Prelude.{◌≡◌, ◌≢◌, ℕ, ◌+◌, ◌^◌, ◌<◌, ◌≤◌, List, ◌++◌, Some, OnOk, OnErr, IsErrOf, map, string_bytes};
 ghost use Rattle.std.specs.Io.KnownBytes.{Appends};
 ghost use Rattle.eco_ids.specs.World.{WorldState};
 ghost use Rattle.eco_script.specs.Beginning.{IsBeginning};
@@ -8,26 +8,46 @@ ghost use Rattle.eco_script.specs.Run.{Ran, WasNotRead, WasStopped};
 ghost use Rattle.eco_script.specs.Text.{Does, Text};
 ghost use Rattle.eco_script.specs.Views.{step_view};
 
-use crate::device::{ScriptReader, ScriptWriter};
+use crate::device::{DeviceFailed, ScriptReader, ScriptWriter};
 use crate::fault::Fault;
 use crate::script::Script;
 use crate::status::Status;
 use crate::step::Step;
-use crate::transfer::{self, MOST_READS};
-use crate::{perform, reply};
+use crate::{perform, reply, transfer};
 use eco_world::World;
 use serde_json::Value;
 use std::alloc::{AllocError, Global};
 
-// Runs a step, and gives its lines. The error is want of memory for the lines.
-fn run_step(alloc: Global, world: &mut World, step: &Step<'_>) -> Result<String, AllocError>
-    ensures { IfOk result (λ s. Does world.old (step_view step.now) (string_bytes s) world.new) }
+// How many bytes of lines are gathered before they are written.
+const GATHERED: usize = 65_536;
+
+// Runs a step, and puts its lines behind others. The error is want of memory for the lines.
+fn run_step(world: &mut World, step: &Step<'_>, text: &mut String) -> Result<(), AllocError>
+    ensures { OnOk result ((lines : List ℕ) × Does world.old (step_view step.now) lines world.new
+        × (string_bytes text.new ≡ string_bytes text.old ++ lines)) }
 {
     let answer = perform::perform(world, step);
-    reply::step_lines(alloc, world, &answer)
+    reply::push_step_lines(text, world, &answer)
 }
 
-// Runs the steps on a world, and writes the lines of each.
+// Writes the gathered lines, if there are many of them, and gathers anew.
+fn write_many<W: ScriptWriter>(writer: &mut W, text: &mut String) -> Result<(), DeviceFailed>
+    requires countable { W.failures writer.old + 1 < 2 ^ 64 }
+    ensures ok { OnOk result ((part : List ℕ) × (string_bytes text.old ≡ part ++ string_bytes text.new)
+        × Appends (W.held writer.old) (W.held writer.new) part) }
+    ensures counts_none { OnOk result (W.failures writer.new ≡ W.failures writer.old) }
+    ensures err { OnErr result ((part : List ℕ) × IsBeginning part (string_bytes text.old)
+        × Appends (W.held writer.old) (W.held writer.new) part) }
+    ensures counts_one { OnErr result (W.failures writer.new ≡ W.failures writer.old + 1) }
+{
+    if text.len() >= GATHERED {
+        transfer::write_all(writer, text.as_str().as_bytes())?;
+        text.clear();
+    }
+    Ok(())
+}
+
+// Runs the steps on a world, and writes their lines.
 fn run_steps<W: ScriptWriter>(
     alloc: Global,
     world: &mut World,
@@ -42,15 +62,20 @@ fn run_steps<W: ScriptWriter>(
     ensures device { IsErrOf result Fault.Device → W.failures writer.new ≡ W.failures writer.old + 1 }
     ensures read { IsErrOf result Fault.NotRead → ⊥ }
 {
+    eco_query::laws::texts_are_read();
+    let mut text = String::new(alloc);
     for step in steps {
-        let Ok(lines) = run_step(alloc, world, step) else {
+        let Ok(()) = run_step(world, step, &mut text) else {
             return Err(Fault::Memory);
         };
-        let Ok(()) = transfer::write_all(writer, lines.as_str().as_bytes()) else {
+        let Ok(()) = write_many(writer, &mut text) else {
             return Err(Fault::Device);
         };
     }
-    Ok(())
+    match transfer::write_all(writer, text.as_str().as_bytes()) {
+        Ok(()) => Ok(()),
+        Err(_) => Err(Fault::Device),
+    }
 }
 
 // Runs the script that some bytes are, and says why it gave up.
@@ -73,8 +98,8 @@ fn run_bytes<W: ScriptWriter>(alloc: Global, bytes: &[u8], writer: &mut W) -> Re
     run_steps(alloc, &mut world, script.steps.as_slice(), writer)
 }
 
-/// Reads a script to the end of the input, and runs it on a world of its own. Its lines go to the writer, those of a step
-/// before the next step is run.
+/// Reads a script to the end of the input, and runs it on a world of its own. Its lines go to the writer in the
+/// order of the steps, many at a time.
 ///
 /// All work is done on the calling thread, whatever the number of workers, 1 to 64.
 pub fn run_script<R: ScriptReader, W: ScriptWriter>(
@@ -84,7 +109,7 @@ pub fn run_script<R: ScriptReader, W: ScriptWriter>(
     workers: u32,
 ) -> Status
     requires workers { (1 ≤ workers) × (workers ≤ 64) }
-    requires reads { R.calls reader.old + MOST_READS < 2 ^ 64 }
+    requires reads { R.calls reader.old + 16777216 < 2 ^ 64 }
     requires failed_reads { R.failures reader.old + 1 < 2 ^ 64 }
     requires failed_writes { W.failures writer.old + 1 < 2 ^ 64 }
     // The bytes are a script, and the text of a run of it was written.
@@ -94,7 +119,7 @@ pub fn run_script<R: ScriptReader, W: ScriptWriter>(
     // Nothing was written, or a beginning of such a text.
     ensures stopped { result ≡ Status.Stopped → WasStopped (R.remaining reader.old) (W.held writer.old) (W.held writer.new) }
     ensures no_other { result ≢ Status.BadArguments }
-    ensures reads { R.calls reader.new ≤ R.calls reader.old + MOST_READS }
+    ensures reads { R.calls reader.new ≤ R.calls reader.old + 16777216 }
 {
     let _ = workers;
     let bytes = match transfer::read_all(alloc, reader) {

@@ -24,7 +24,7 @@ fn read_steps(alloc: Global, values: &[Value]) -> Result<Vec<Step<'_>>, Fault>
     ensures not_read { IsErrOf result Fault.NotRead → each_in step_in (map view values.now) ≡ None }
     ensures no_device { result ≢ Err Fault.Device }
 {
-    let mut steps = Vec::new(alloc);
+    let mut steps = Vec::with_capacity(alloc, values.len()).map_err(|_| Fault::Memory)?;
     for value in values {
         let Some(step) = Step::read(value) else {
             return Err(Fault::NotRead);

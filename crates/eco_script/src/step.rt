@@ -63,11 +63,12 @@ impl<'a> Step<'a> {
     fn of_none(word: &str) -> Option<Step<'a>>
         ensures { option_map step_view result ≡ step_of_none word.now }
     {
-        match word {
-            "create" => Some(Step::Create(None)),
-            "list" => Some(Step::List),
-            _ => None,
-        }
+        let step = match word {
+            "create" => Step::Create(None),
+            "list" => Step::List,
+            _ => return None,
+        };
+        Some(step)
     }
 
     // A step with one argument.

@@ -13,16 +13,16 @@ pub const MOST_READS: u32 = 16_777_216;
 
 /// The bytes that a reader has, all of them.
 ///
-/// The error is `Device` where a call failed, or where `MOST_READS` calls met no end; and `Memory` where the bytes found none.
+/// The error is `Device` where a call failed, or where 16,777,216 calls met no end; and `Memory` where the bytes found none.
 pub fn read_all<R: ScriptReader>(alloc: Global, reader: &mut R) -> Result<Vec<u8>, Fault>
-    requires callable { R.calls reader.old + MOST_READS < 2 ^ 64 }
+    requires callable { R.calls reader.old + 16777216 < 2 ^ 64 }
     requires countable { R.failures reader.old + 1 < 2 ^ 64 }
     ensures whole { IfOk result (λ v. Consumes (R.remaining reader.old) (R.remaining reader.new) v.items) }
     ensures ended { OnOk result (IsAtEnd (R.remaining reader.new)) }
     ensures device { IsErrOf result Fault.Device → (R.failures reader.new ≡ R.failures reader.old + 1)
-        ⊎ (R.calls reader.new ≡ R.calls reader.old + MOST_READS) }
+        ⊎ (R.calls reader.new ≡ R.calls reader.old + 16777216) }
     ensures no_not_read { IsErrOf result Fault.NotRead → ⊥ }
-    ensures bounded { R.calls reader.new ≤ R.calls reader.old + MOST_READS }
+    ensures bounded { R.calls reader.new ≤ R.calls reader.old + 16777216 }
 {
     let mut bytes = Vec::new(alloc);
     let mut chunk = [0u8; 4096];

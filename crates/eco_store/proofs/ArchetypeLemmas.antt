@@ -44,7 +44,8 @@ module _ (s s' : List (Option TableState)) where
   sets_types n t sets there same k =
       elim (cases_eq k n) [
         | inl here ↦
-            ap (type_at s') here ∙ ap (option_map (λ (x : TableState). x.ids)) sets.changed ∙ ap Some same ∙ sym (type_there s n there) ∙ ap (type_at s) (sym here)
+            ap (type_at s') here ∙ ap (option_map (λ (x : TableState). x.ids)) sets.changed ∙ ap Some same ∙ sym (type_there s n there)
+            ∙ ap (type_at s) (sym here)
         | inr other ↦ ap (option_map (λ (x : TableState). x.ids)) (sets.others k other)
       ]
 
@@ -88,15 +89,18 @@ module _ {S S' T : Type 0} (s s' : List (Option TableState)) (m m' : HashMap (Li
       by : (f : Entity) (k : ℕ) (b : Bool) → nat_eq n k ≡ b → cond (names_any t.ids f && b) true (is_listed l f k) ≡ type_names (type_at s' k) f
       by f k true e =
           let here : n ≡ k = (Decides-eqb n k).0 e in
-          let was : is_listed l f k ≡ false = found.names f k ∙ ap (λ j. type_names (type_at s j) f) (sym here) ∙ ap (λ o. type_names (option_map (λ (x : TableState). x.ids) o) f) vacant in
-          either (names_any t.ids f) (is_listed l f k) was ∙ sym (ap (λ j. type_names (type_at s' j) f) (sym here) ∙ ap (λ o. type_names (option_map (λ (x : TableState). x.ids) o) f) sets.changed)
+          let was : is_listed l f k ≡ false = found.names f k ∙ ap (λ j. type_names (type_at s j) f) (sym here)
+          ∙ ap (λ o. type_names (option_map (λ (x : TableState). x.ids) o) f) vacant in
+          either (names_any t.ids f) (is_listed l f k) was ∙ sym (ap (λ j. type_names (type_at s' j) f) (sym here)
+          ∙ ap (λ o. type_names (option_map (λ (x : TableState). x.ids) o) f) sets.changed)
         where
           either : (c x : Bool) → x ≡ false → cond (c && true) true x ≡ c
           either true x h = refl
           either false x h = h
       by f k false e =
           let apart : k ≢ n = λ h. let same : nat_eq n k ≡ true = (Decides-eqb n k).1 (sym h) in cc in
-          neither (names_any t.ids f) (is_listed l f k) ∙ found.names f k ∙ ap (λ o. type_names (option_map (λ (x : TableState). x.ids) o) f) (sym (sets.others k apart))
+          neither (names_any t.ids f) (is_listed l f k) ∙ found.names f k
+          ∙ ap (λ o. type_names (option_map (λ (x : TableState). x.ids) o) f) (sym (sets.others k apart))
         where
           neither : (c x : Bool) → cond (c && false) true x ≡ x
           neither true x = refl
@@ -118,14 +122,16 @@ module _ {S S' T : Type 0} (s s' : List (Option TableState)) (m m' : HashMap (Li
       by f k true e =
           let here : n ≡ k = (Decides-eqb n k).0 e in
           let was : is_listed l f k ≡ names_any ids f = found.names f k ∙ ap (λ j. type_names (type_at s j) f) (sym here) ∙ ap (λ o. type_names o f) had in
-          either (names_any ids f) (is_listed l f k) was ∙ sym (ap (λ j. type_names (type_at s' j) f) (sym here) ∙ ap (λ o. type_names (option_map (λ (x : TableState). x.ids) o) f) sets.changed)
+          either (names_any ids f) (is_listed l f k) was ∙ sym (ap (λ j. type_names (type_at s' j) f) (sym here)
+          ∙ ap (λ o. type_names (option_map (λ (x : TableState). x.ids) o) f) sets.changed)
         where
           either : (c x : Bool) → x ≡ c → cond (c && true) false x ≡ false
           either true x h = refl
           either false x h = h
       by f k false e =
           let apart : k ≢ n = λ h. let same : nat_eq n k ≡ true = (Decides-eqb n k).1 (sym h) in cc in
-          neither (names_any ids f) (is_listed l f k) ∙ found.names f k ∙ ap (λ o. type_names (option_map (λ (x : TableState). x.ids) o) f) (sym (sets.others k apart))
+          neither (names_any ids f) (is_listed l f k) ∙ found.names f k ∙ ap (λ o. type_names (option_map (λ (x : TableState). x.ids) o) f)
+          (sym (sets.others k apart))
         where
           neither : (c x : Bool) → cond (c && false) false x ≡ x
           neither true x = refl
@@ -149,7 +155,8 @@ pub same_rows : (s s' : List (Option TableState)) (n : ℕ) (slot : Option Table
 same_rows s s' n slot sets same k row =
     elim (cases_eq k n) [
       | inl here ↦
-          ap (λ j. slice_get (table_in s' j).rows row) here ∙ ap (λ o. slice_get (unwrap_or o no_table).rows row) sets.changed ∙ ap (λ rows. slice_get rows row) same
+          ap (λ j. slice_get (table_in s' j).rows row) here ∙ ap (λ o. slice_get (unwrap_or o no_table).rows row) sets.changed
+          ∙ ap (λ rows. slice_get rows row) same
           ∙ sym (ap (λ j. slice_get (table_in s j).rows row) here)
       | inr other ↦ ap (λ o. slice_get (unwrap_or o no_table).rows row) (sets.others k other)
     ]

@@ -30,7 +30,8 @@ none_there None h = refl
 none_there (Some x) h = absurd (cc)
 
 -- one more entry is the next
-pub arrived : {S : Type 0} (eq : Entity → Entity → Bool) (e : Entity) (n : ℕ) → ((k : Entity) → eq e k ≡ entity_eq e k) → (m : HashMap Entity ℕ S) (es : List (Entity × ℕ))
+pub arrived : {S : Type 0} (eq : Entity → Entity → Bool) (e : Entity) (n : ℕ) → ((k : Entity) → eq e k ≡ entity_eq e k) →
+    (m : HashMap Entity ℕ S) (es : List (Entity × ℕ))
     → es ≡ insert_entry eq m.entries e n → IsTrue (not (list_any (λ a. entity_eq e a.0) (reverse m.entries)))
     → reverse es ≡ (e, n) ∷ reverse m.entries
 arrived eq e n same m es inserted none =

@@ -2,23 +2,27 @@
 use Rattle.std.proofs.Common.{◌≡◌, ◌≢◌, ℕ, ◌≤◌, List, [], ◌∷◌, ◌++◌, map, length, slice_get, Option, Some, None, option_map, is_some, IsTrue, replicate, Bool, true, false, ◌&&◌, nat_le, MatchBool, Result, Ok, Err, MatchOption, zero, suc, ◌+◌, refl, sym, ap, subst, ◌∙◌, inl, inr}
 use Rattle.std.proofs.lemmas.Bool.{cases_eq}
 use Rattle.std.proofs.lemmas.List.{length-map}
+use Rattle.eco_ids.specs.World.{Record}
 use Rattle.eco_ids.specs.declared.entity.Entity.{Entity}
 use Rattle.eco_ids.specs.declared.id.Id.{Id}
 use Rattle.eco_ids.specs.declared.refusal.Refusal.{Refusal}
 use Rattle.eco_ids.specs.declared.refusal.Refusal.TheVariants.{NoMoreIds}
 use Rattle.eco_ids.specs.Births.{Admits, may_admit, unfit_name}
 use Rattle.eco_ids.specs.Outcome.{Meets, is_out_of_memory, Answers, Refuses}
-use Rattle.eco_ids.specs.Indices.{Indexed, IndexState, Retired, Free, Living, with_record, with_new, next_entity, is_alive, is_free_at, is_free_in, map_state, admitted}
+use Rattle.eco_ids.specs.Indices.{changed, change_kept, Indexed, IndexState, Retired, Free, Living, with_record, with_new, next_entity, is_alive, is_free_at, is_free_in, map_state, admitted}
 use Rattle.eco_tables.specs.Column.{retyped}
 use Rattle.eco_tables.specs.Table.{TableState}
 use Rattle.eco_tables.specs.Tables.{table_in, Sets, with_row}
 use Rattle.eco_entities.specs.declared.place.Place.{Place}
-use Rattle.eco_entities.specs.Registration.{Registration, name_of, newcomer, with_change, change_in, placed}
+use Rattle.eco_entities.specs.Registration.{Registration, name_of, newcomer, placed}
 use Rattle.eco_store.specs.Placing.{Opposes}
 use Rattle.eco_store.specs.Seats.{IsSeated, seat_of, row_at, seen, held_of, SameRows}
-use Rattle.eco_store.specs.Store.{Kept, kept_name, kept, read, seat_in, seat_at, HasPlace, IsStore, all_zeros, newborn}
-use Rattle.eco_store.proofs.Moves.{slice_get-map, push_seated, push_others_seen, push_held}
-use Rattle.eco_store.proofs.Views.{ext_slice_get, slice_get-set_same, slice_get-set_other, record_at, seen_alike}
+use Rattle.eco_store.specs.Store.{record_name, record_for, read, seat_in, seat_at, HasPlace, IsStore, all_zeros, newborn}
+use Rattle.std.proofs.lemmas.Option.{slice_get-map}
+use Rattle.eco_store.proofs.Moves.{push_seated, push_others_seen, push_held}
+use Rattle.eco_ids.proofs.Lists.{slice_get-set_there, slice_get-set_other, map-replicate}
+use Rattle.eco_ids.proofs.States.{record_at}
+use Rattle.eco_store.proofs.Views.{ext_slice_get, bare, seen_alike}
 use Rattle.eco_store.proofs.Newborn.{unfit_name-map, next_entity-map, Vacant, born_here, born_other, born_limit, next_is}
 use Rattle.eco_store.proofs.StoreChanges.{same_store}
 
@@ -29,9 +33,10 @@ no_seat (Some (Free g)) v = refl
 no_seat (Some (Living g r)) v = absurd v
 
 module _ (w w1 : Indexed Registration) (s s0 s1 : List (Option TableState)) (e : Entity) (slot end : ℕ) (ids : List Id) (name : Option (List ℕ))
+    (arity : Option ℕ)
     (store : IsStore w s) (alike : SameRows s s0) (typed : (table_in s0 slot).ids ≡ ids)
     (vacant : Vacant (slice_get w.indices e.index))
-    (here1 : slice_get w1.indices e.index ≡ Some (Living e.generation (newcomer name)))
+    (here1 : slice_get w1.indices e.index ≡ Some (Living e.generation (newcomer name arity)))
     (others1 : (j : ℕ) → j ≢ e.index → slice_get w1.indices j ≡ slice_get w.indices j)
     (limit1 : w1.limit ≡ w.limit)
     (sets : Sets s0 s1 slot (Some (with_row (table_in s0 slot) (record { entity = e; held = [] })))) (end_is : end ≡ length (table_in s0 slot).rows) where
@@ -39,19 +44,19 @@ module _ (w w1 : Indexed Registration) (s s0 s1 : List (Option TableState)) (e :
   place = record { table = slot; row = end }
 
   abbrev settled : Registration
-  settled = placed place (newcomer name)
+  settled = placed place (newcomer name arity)
 
   abbrev w2 : Indexed Registration
-  w2 = with_change w1 e (placed place)
+  w2 = changed w1 e (placed place)
 
   abbrev w2' : Indexed Registration
   w2' = with_record w1 e settled
 
   w2_is : w2 ≡ w2'
-  w2_is = ap (change_in w1 e (placed place)) (record_at w1 e (newcomer name) here1)
+  w2_is = ap (change_kept w1 e (placed place)) (record_at w1 e (newcomer name arity) here1)
 
   w2_here : slice_get w2'.indices e.index ≡ Some (Living e.generation settled)
-  w2_here = slice_get-set_same w1.indices e.index (Living e.generation settled) (Living e.generation (newcomer name)) here1
+  w2_here = slice_get-set_there w1.indices e.index (Living e.generation settled) (Living e.generation (newcomer name arity)) here1
 
   w2_others : (j : ℕ) → j ≢ e.index → slice_get w2'.indices j ≡ slice_get w.indices j
   w2_others j other = slice_get-set_other w1.indices e.index j (Living e.generation settled) other ∙ others1 j other
@@ -77,8 +82,8 @@ module _ (w w1 : Indexed Registration) (s s0 s1 : List (Option TableState)) (e :
     ];
   })
 
-  abbrev child : Kept
-  child = newborn name ids
+  abbrev child : Record
+  child = newborn name arity ids
 
   held_now : held_of (row_at s1 slot end) ≡ all_zeros ids
   held_now =
@@ -88,12 +93,12 @@ module _ (w w1 : Indexed Registration) (s s0 s1 : List (Option TableState)) (e :
 
   seen_here : slice_get (read w2' s1).indices e.index ≡ Some (Living e.generation child)
   seen_here =
-      slice_get-map (map_state (kept (row_at s1))) w2'.indices e.index ∙ ap (option_map (map_state (kept (row_at s1)))) w2_here
-      ∙ (λ t. Some (Living e.generation (record { name = name; held = held_now t })))
+      slice_get-map (map_state (record_for (row_at s1))) w2'.indices e.index ∙ ap (option_map (map_state (record_for (row_at s1)))) w2_here
+      ∙ (λ t. Some (Living e.generation (record { name = name; arity = arity; held = held_now t })))
 
   seen_others : (j : ℕ) → j ≢ e.index → slice_get (read w2' s1).indices j ≡ slice_get (read w s).indices j
   seen_others j other =
-      seen_alike w w2' s s1 j (ap (option_map (map_state (λ (r : Registration). r.name))) (w2_others j other))
+      seen_alike w w2' s s1 j (ap (option_map (map_state bare)) (w2_others j other))
       (push_others_seen (seat_at w) (seat_at w2') s0 s1 e slot end ready.seated (no_seat _ vacant) sets end_is seat_now seats_kept j other
       ∙ ap (λ E. option_map (seen E) (seat_at w j)) rows_s)
 
@@ -104,7 +109,8 @@ module _ (w w1 : Indexed Registration) (s s0 s1 : List (Option TableState)) (e :
       let indices : (read w2' s1).indices ≡ (with_new (read w s) e child).indices =
       ext_slice_get (read w2' s1).indices (with_new (read w s) e child).indices
       (λ j. elim (cases_eq j e.index) [
-        | inl h ↦ ap (slice_get (read w2' s1).indices) h ∙ seen_here ∙ sym (ap (slice_get (with_new (read w s) e child).indices) h ∙ born_here (read w s) e child near')
+        | inl h ↦ ap (slice_get (read w2' s1).indices) h ∙ seen_here ∙ sym
+            (ap (slice_get (with_new (read w s) e child).indices) h ∙ born_here (read w s) e child near')
         | inr other ↦ seen_others j other ∙ sym (born_other (read w s) e child near' j other)
       ]) in
       let limits : w1.limit ≡ (with_new (read w s) e child).limit = limit1 ∙ sym (born_limit (read w s) e child near') in
@@ -113,14 +119,14 @@ module _ (w w1 : Indexed Registration) (s s0 s1 : List (Option TableState)) (e :
   -- where its index was known
   pub revived_read : (x : IndexState Registration) → slice_get w.indices e.index ≡ Some x → read w2 s1 ≡ with_record (read w s) e child
   revived_read x was =
-      let old : slice_get (read w s).indices e.index ≡ Some (map_state (kept (row_at s)) x) =
-      slice_get-map (map_state (kept (row_at s))) w.indices e.index ∙ ap (option_map (map_state (kept (row_at s)))) was in
+      let old : slice_get (read w s).indices e.index ≡ Some (map_state (record_for (row_at s)) x) =
+      slice_get-map (map_state (record_for (row_at s))) w.indices e.index ∙ ap (option_map (map_state (record_for (row_at s)))) was in
       let indices : (read w2' s1).indices ≡ (with_record (read w s) e child).indices =
       ext_slice_get (read w2' s1).indices (with_record (read w s) e child).indices
       (λ j. elim (cases_eq j e.index) [
         | inl h ↦
             ap (slice_get (read w2' s1).indices) h ∙ seen_here
-            ∙ sym (ap (slice_get (with_record (read w s) e child).indices) h ∙ slice_get-set_same (read w s).indices e.index (Living e.generation child) _ old)
+            ∙ sym (ap (slice_get (with_record (read w s) e child).indices) h ∙ slice_get-set_there (read w s).indices e.index (Living e.generation child) _ old)
         | inr other ↦ seen_others j other ∙ sym (slice_get-set_other (read w s).indices e.index j (Living e.generation child) other)
       ]) in
       ap (λ v. read v s1) w2_is ∙ (λ t. record { limit = limit1 t; indices = indices t })
@@ -136,9 +142,10 @@ free_is {A} w e = by (slice_get w.indices e.index)
     by (Some (Living g r)) h = absurd (cc)
 
 pub is_free_at-read : (w : Indexed Registration) (s : List (Option TableState)) (e : Entity) → is_free_at (read w s) e ≡ is_free_at w e
-is_free_at-read w s e = ap (λ o. is_free_in o e.generation) (slice_get-map (map_state (kept (row_at s))) w.indices e.index) ∙ by (slice_get w.indices e.index)
+is_free_at-read w s e = ap (λ o. is_free_in o e.generation) (slice_get-map (map_state (record_for (row_at s))) w.indices e.index)
+    ∙ by (slice_get w.indices e.index)
   where
-    by : (o : Option (IndexState Registration)) → is_free_in (option_map (map_state (kept (row_at s))) o) e.generation ≡ is_free_in o e.generation
+    by : (o : Option (IndexState Registration)) → is_free_in (option_map (map_state (record_for (row_at s))) o) e.generation ≡ is_free_in o e.generation
     by None = refl
     by (Some Retired) = refl
     by (Some (Free g)) = refl
@@ -149,10 +156,6 @@ is_free_at-read w s e = ap (λ o. is_free_in o e.generation) (slice_get-map (map
 map-append : {X Y : Type 0} (f : X → Y) (xs ys : List X) → map f (xs ++ ys) ≡ map f xs ++ map f ys
 map-append f [] ys = refl
 map-append f (x ∷ xs) ys = ap (λ zs. f x ∷ zs) (map-append f xs ys)
-
-map-replicate : {X Y : Type 0} (f : X → Y) (n : ℕ) (x : X) → map f (replicate n x) ≡ replicate n (f x)
-map-replicate f zero x = refl
-map-replicate f (suc n) x = ap (λ zs. f x ∷ zs) (map-replicate f n x)
 
 fresh_seat : (xs : List (IndexState Registration)) (n j : ℕ) → seat_in (slice_get (xs ++ replicate n (Free 0)) j) ≡ seat_in (slice_get xs j)
 fresh_seat [] zero j = refl
@@ -176,44 +179,52 @@ admitted_store w s n store = record {
 
 pub admitted_read : (w : Indexed Registration) (s : List (Option TableState)) (n : ℕ) → read (admitted n w) s ≡ admitted n (read w s)
 admitted_read w s n =
-    λ t. record { limit = w.limit; indices = (map-append (map_state (kept (row_at s))) w.indices (replicate n (Free 0)) ∙ ap (λ ys. map (map_state (kept (row_at s))) w.indices ++ ys) (map-replicate (map_state (kept (row_at s))) n (Free 0))) t }
+    λ t. record {
+      limit = w.limit;
+      indices = (map-append (map_state (record_for (row_at s))) w.indices (replicate n (Free 0))
+          ∙ ap (λ ys. map (map_state (record_for (row_at s))) w.indices ++ ys) (map-replicate (map_state (record_for (row_at s))) n (Free 0))) t;
+    }
 
 -- ---- a created entity
-module _ (w w1 : Indexed Registration) (s s0 s1 : List (Option TableState)) (e : Entity) (slot : ℕ) (ids : List Id) (name : Option (List ℕ))
+module _ (w w1 : Indexed Registration) (s s0 s1 : List (Option TableState)) (e : Entity) (slot : ℕ) (ids : List Id) (name : Option (List ℕ)) (arity : Option ℕ)
     (store : IsStore w s) (alike : SameRows s s0) (typed : (table_in s0 slot).ids ≡ ids)
-    (next : next_entity w ≡ Some e) (is : w1 ≡ with_new w e (newcomer name))
+    (next : next_entity w ≡ Some e) (is : w1 ≡ with_new w e (newcomer name arity))
     (sets : Sets s0 s1 slot (Some (with_row (table_in s0 slot) (record { entity = e; held = [] })))) where
   near_end : e.index ≤ length w.indices
   near_end = (next_is w e next).0
 
-  created_here : slice_get w1.indices e.index ≡ Some (Living e.generation (newcomer name))
-  created_here = ap (λ (v : Indexed Registration). slice_get v.indices e.index) is ∙ born_here w e (newcomer name) near_end
+  created_here : slice_get w1.indices e.index ≡ Some (Living e.generation (newcomer name arity))
+  created_here = ap (λ (v : Indexed Registration). slice_get v.indices e.index) is ∙ born_here w e (newcomer name arity) near_end
 
   created_others : (j : ℕ) → j ≢ e.index → slice_get w1.indices j ≡ slice_get w.indices j
-  created_others j other = ap (λ (v : Indexed Registration). slice_get v.indices j) is ∙ born_other w e (newcomer name) near_end j other
+  created_others j other = ap (λ (v : Indexed Registration). slice_get v.indices j) is ∙ born_other w e (newcomer name arity) near_end j other
 
   created_limit : w1.limit ≡ w.limit
-  created_limit = ap (λ (v : Indexed Registration). v.limit) is ∙ born_limit w e (newcomer name) near_end
+  created_limit = ap (λ (v : Indexed Registration). v.limit) is ∙ born_limit w e (newcomer name arity) near_end
 
   abbrev created_place : Place
   created_place = record { table = slot; row = length (table_in s0 slot).rows }
 
-  pub created_store : IsStore (with_change w1 e (placed created_place)) s1
+  pub created_store : IsStore (changed w1 e (placed created_place)) s1
   created_store =
-      born_store w w1 s s0 s1 e slot (length (table_in s0 slot).rows) ids name store alike typed (next_is w e next).1 created_here created_others created_limit sets refl
+      born_store w w1 s s0 s1 e slot (length (table_in s0 slot).rows) ids name arity store alike typed
+      (next_is w e next).1 created_here created_others created_limit sets refl
 
-  pub created_read : read (with_change w1 e (placed created_place)) s1 ≡ with_new (read w s) e (newborn name ids)
+  pub created_read : read (changed w1 e (placed created_place)) s1 ≡ with_new (read w s) e (newborn name arity ids)
   created_read =
-      born_read w w1 s s0 s1 e slot (length (table_in s0 slot).rows) ids name store alike typed (next_is w e next).1 created_here created_others created_limit sets refl near_end
+      born_read w w1 s s0 s1 e slot (length (table_in s0 slot).rows) ids name arity store alike typed
+      (next_is w e next).1 created_here created_others created_limit sets refl near_end
 
-pub created_alive : (w w1 : Indexed Registration) (e : Entity) (name : Option (List ℕ)) → next_entity w ≡ Some e → w1 ≡ with_new w e (newcomer name) → IsTrue (is_alive w1 e)
-created_alive w w1 e name next is =
-    ap is_some (record_at w1 e (newcomer name) (ap (λ (v : Indexed Registration). slice_get v.indices e.index) is ∙ born_here w e (newcomer name) (next_is w e next).0))
+pub created_alive : (w w1 : Indexed Registration) (e : Entity) (name : Option (List ℕ)) (arity : Option ℕ) → next_entity w ≡ Some e →
+    w1 ≡ with_new w e (newcomer name arity) → IsTrue (is_alive w1 e)
+created_alive w w1 e name arity next is =
+    ap is_some (record_at w1 e (newcomer name arity) (ap (λ (v : Indexed Registration). slice_get v.indices e.index) is
+    ∙ born_here w e (newcomer name arity) (next_is w e next).0))
 
 -- ---- a revived entity
-module _ (w w1 : Indexed Registration) (s s0 s1 : List (Option TableState)) (e : Entity) (slot : ℕ) (ids : List Id) (name : Option (List ℕ))
+module _ (w w1 : Indexed Registration) (s s0 s1 : List (Option TableState)) (e : Entity) (slot : ℕ) (ids : List Id) (name : Option (List ℕ)) (arity : Option ℕ)
     (store : IsStore w s) (alike : SameRows s s0) (typed : (table_in s0 slot).ids ≡ ids)
-    (free : IsTrue (is_free_at w e)) (is : w1 ≡ with_record w e (newcomer name))
+    (free : IsTrue (is_free_at w e)) (is : w1 ≡ with_record w e (newcomer name arity))
     (sets : Sets s0 s1 slot (Some (with_row (table_in s0 slot) (record { entity = e; held = [] })))) where
   found : (g : ℕ) × (slice_get w.indices e.index ≡ Some (Free g))
   found = free_is w e free
@@ -221,11 +232,13 @@ module _ (w w1 : Indexed Registration) (s s0 s1 : List (Option TableState)) (e :
   revived_vacant : Vacant (slice_get w.indices e.index)
   revived_vacant = subst Vacant (sym found.1) tt
 
-  revived_here : slice_get w1.indices e.index ≡ Some (Living e.generation (newcomer name))
-  revived_here = ap (λ (v : Indexed Registration). slice_get v.indices e.index) is ∙ slice_get-set_same w.indices e.index (Living e.generation (newcomer name)) (Free found.0) found.1
+  revived_here : slice_get w1.indices e.index ≡ Some (Living e.generation (newcomer name arity))
+  revived_here = ap (λ (v : Indexed Registration). slice_get v.indices e.index) is
+      ∙ slice_get-set_there w.indices e.index (Living e.generation (newcomer name arity)) (Free found.0) found.1
 
   revived_others : (j : ℕ) → j ≢ e.index → slice_get w1.indices j ≡ slice_get w.indices j
-  revived_others j other = ap (λ (v : Indexed Registration). slice_get v.indices j) is ∙ slice_get-set_other w.indices e.index j (Living e.generation (newcomer name)) other
+  revived_others j other = ap (λ (v : Indexed Registration). slice_get v.indices j) is
+      ∙ slice_get-set_other w.indices e.index j (Living e.generation (newcomer name arity)) other
 
   revived_limit : w1.limit ≡ w.limit
   revived_limit = ap (λ (v : Indexed Registration). v.limit) is
@@ -233,23 +246,28 @@ module _ (w w1 : Indexed Registration) (s s0 s1 : List (Option TableState)) (e :
   abbrev revived_place : Place
   revived_place = record { table = slot; row = length (table_in s0 slot).rows }
 
-  pub revived_store : IsStore (with_change w1 e (placed revived_place)) s1
+  pub revived_store : IsStore (changed w1 e (placed revived_place)) s1
   revived_store =
-      born_store w w1 s s0 s1 e slot (length (table_in s0 slot).rows) ids name store alike typed revived_vacant revived_here revived_others revived_limit sets refl
+      born_store w w1 s s0 s1 e slot
+      (length (table_in s0 slot).rows) ids name arity store alike typed revived_vacant revived_here revived_others revived_limit sets refl
 
-  pub revived_seen : read (with_change w1 e (placed revived_place)) s1 ≡ with_record (read w s) e (newborn name ids)
+  pub revived_seen : read (changed w1 e (placed revived_place)) s1 ≡ with_record (read w s) e (newborn name arity ids)
   revived_seen =
-      revived_read w w1 s s0 s1 e slot (length (table_in s0 slot).rows) ids name store alike typed revived_vacant revived_here revived_others revived_limit sets refl
+      revived_read w w1 s s0 s1 e slot
+      (length (table_in s0 slot).rows) ids name arity store alike typed revived_vacant revived_here revived_others revived_limit sets refl
       (Free found.0) found.1
 
-pub revived_alive : (w w1 : Indexed Registration) (e : Entity) (name : Option (List ℕ)) → IsTrue (is_free_at w e) → w1 ≡ with_record w e (newcomer name) → IsTrue (is_alive w1 e)
-revived_alive w w1 e name free is =
+pub revived_alive : (w w1 : Indexed Registration) (e : Entity) (name : Option (List ℕ)) (arity : Option ℕ) → IsTrue (is_free_at w e) →
+    w1 ≡ with_record w e (newcomer name arity) → IsTrue (is_alive w1 e)
+revived_alive w w1 e name arity free is =
     let was = free_is w e free in
-    ap is_some (record_at w1 e (newcomer name) (ap (λ (v : Indexed Registration). slice_get v.indices e.index) is ∙ slice_get-set_same w.indices e.index (Living e.generation (newcomer name)) (Free was.0) was.1))
+    ap is_some (record_at w1 e (newcomer name arity) (ap (λ (v : Indexed Registration). slice_get v.indices e.index) is
+    ∙ slice_get-set_there w.indices e.index (Living e.generation (newcomer name arity)) (Free was.0) was.1))
 
 -- where the name is unfit, that stands against the entity
 pub name_opposes : (unfit : Option Refusal) (next : Option Entity) (why : Refusal)
-    → MatchOption unfit (◌≡◌ {A = Result (Unit {0}) Refusal} (Err why) (Ok tt)) (λ x. ◌≡◌ {A = Result (Unit {0}) Refusal} (Err why) (Err x)) → Opposes unfit next (Err why)
+    → MatchOption unfit (◌≡◌ {A = Result (Unit {0}) Refusal} (Err why) (Ok tt)) (λ x. ◌≡◌ {A = Result (Unit {0}) Refusal} (Err why) (Err x)) →
+    Opposes unfit next (Err why)
 name_opposes None next why h = absurd (cc)
 name_opposes (Some x) next why h = h
 
@@ -259,7 +277,7 @@ pub admit_lifts : (w w1 : Indexed Registration) (s : List (Option TableState)) (
 admit_lifts w w1 s n some r h = by (is_out_of_memory r) h
   where
     fits : nat_le (length (read w s).indices + n) w.limit ≡ nat_le (length w.indices + n) w.limit
-    fits = ap (λ l. nat_le (l + n) w.limit) (length-map w.indices (map_state (kept (row_at s))))
+    fits = ap (λ l. nat_le (l + n) w.limit) (length-map w.indices (map_state (record_for (row_at s))))
 
     ends : (b : Bool) → MatchBool b (Answers tt (admitted n w) r w1) (Refuses NoMoreIds w r w1)
         → (IsStore w s → IsStore w1 s) × MatchBool b (Answers tt (admitted n (read w s)) r (read w1 s)) (Refuses NoMoreIds (read w s) r (read w1 s))
@@ -275,7 +293,7 @@ admit_lifts w w1 s n some r h = by (is_out_of_memory r) h
 
 -- what stands against a new entity is seen of the store
 pub opposes_seen : (w : Indexed Registration) (s : List (Option TableState)) (name : Option (List ℕ)) (r : Result (Unit {0}) Refusal)
-    → Opposes (unfit_name name_of w name) (next_entity w) r → Opposes (unfit_name kept_name (read w s) name) (next_entity (read w s)) r
+    → Opposes (unfit_name name_of w name) (next_entity w) r → Opposes (unfit_name record_name (read w s) name) (next_entity (read w s)) r
 opposes_seen w s name r h =
-    subst (λ u. Opposes u (next_entity (read w s)) r) (sym (unfit_name-map (kept (row_at s)) name_of kept_name (λ a. refl) w name))
-    (subst (λ n. Opposes (unfit_name name_of w name) n r) (sym (next_entity-map (kept (row_at s)) name_of kept_name (λ a. refl) w)) h)
+    subst (λ u. Opposes u (next_entity (read w s)) r) (sym (unfit_name-map (record_for (row_at s)) name_of record_name (λ a. refl) w name))
+    (subst (λ n. Opposes (unfit_name name_of w name) n r) (sym (next_entity-map (record_for (row_at s)) name_of record_name (λ a. refl) w)) h)

@@ -20,7 +20,8 @@ itself : (n : ℕ) → nat_eq n n ≡ true
 itself n = eq-eqb n n refl
 
 -- the slot that a transfer's rows leave is one of them
-pub from_named : (ts : List Transfer) (i : ℕ) (d : Transfer) (slots : List ℕ) → i < length ts → IsTrue (list_any (nat_eq (get_or ts i d).from) (ends ts ++ slots))
+pub from_named : (ts : List Transfer) (i : ℕ) (d : Transfer) (slots : List ℕ) → i < length ts →
+    IsTrue (list_any (nat_eq (get_or ts i d).from) (ends ts ++ slots))
 from_named [] i d slots within = absurd (omega arith)
 from_named (t ∷ ts) zero d slots within = or_left (nat_eq t.from t.from) _ (itself t.from)
 from_named (t ∷ ts) (suc i) d slots within =

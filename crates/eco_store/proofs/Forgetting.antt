@@ -10,5 +10,5 @@ use Rattle.eco_store.proofs.StoreChanges.{same_read}
 
 -- what is kept is seen as before
 pub still_seen : (w : Indexed Registration) (s s' : List (Option TableState)) (ms : List Move) (x : StoreState) → SameRows s s'
-    → ◌≡◌ {A = StoreState} (record { kept = read w s; prepared = ms }) x → read w s' ≡ x.kept
-still_seen w s s' ms x same is = same_read w s s' same ∙ ap (λ (y : StoreState). y.kept) is
+    → ◌≡◌ {A = StoreState} (record { entities = read w s; prepared = ms }) x → read w s' ≡ x.entities
+still_seen w s s' ms x same is = same_read w s s' same ∙ ap (λ (y : StoreState). y.entities) is

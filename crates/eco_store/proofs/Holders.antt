@@ -1,33 +1,31 @@
--- Who has an id that a pattern matches stands in a table that is found.
+-- Who has ids that pass a test stands in a table whose type does.
 use Rattle.std.proofs.Common.{◌≡◌, ◌≢◌, ℕ, zero, suc, ◌<◌, Bool, true, false, true≢false, ◌&&◌, ◌||◌, IsTrue, ◌↔◌, nat_eq, nat_lt, List, [], ◌∷◌, map, length, get_or, slice_get, Option, Some, None, option_map, unwrap_or, refl, sym, ap, ◌∙◌, subst, arith, inl, inr}
 use Rattle.std.specs.List.{AllByRecursion, Contains, IsDistinct, list_any}
 use Rattle.std.proofs.lemmas.Bool.Decides.{Decides-eqb, nat_tests}
 use Rattle.std.proofs.lemmas.List.{get_or-map, length-map}
 use Rattle.std.proofs.lemmas.List.Elements.{Contains-append_cases, Contains-append_left, Contains-append_right}
 use Rattle.std.proofs.lemmas.Option.{get_or_from_slice_get, none-some, same_Some, slice_get-get_or}
+use Rattle.eco_ids.specs.World.{Record}
 use Rattle.eco_ids.specs.declared.entity.Entity.{Entity}
 use Rattle.eco_ids.specs.declared.id.Id.{Id}
-use Rattle.eco_ids.specs.declared.pattern.Pattern.{Pattern}
 use Rattle.eco_ids.specs.Indices.{Indexed, living, record_of}
-use Rattle.eco_ids.specs.Matching.{pattern_matches}
 use Rattle.eco_ids.specs.Order.{entity_cmp, has_item, is_ascending}
 use Rattle.eco_tables.specs.Table.{Row, TableState, entities_of}
 use Rattle.eco_tables.specs.Tables.{no_table, slot_of, table_in}
-use Rattle.eco_store.specs.Archetypes.{FindsSome, is_found}
-use Rattle.eco_store.specs.Holders.{has_match, holders, standing_in}
+use Rattle.eco_store.specs.Archetypes.{is_found_by, type_names}
+use Rattle.eco_store.specs.Holders.{passes, entities_whose, standing_in}
+use Rattle.eco_store.specs.IdIndex.{names_any}
 use Rattle.eco_store.specs.Seats.{row_at}
-use Rattle.eco_store.specs.Store.{IsShown, Kept}
-use Rattle.eco_store.proofs.Living.{PassesOwn, own_from_passed, passed_ascend, passed_from_own, passes_some, some_passes}
+use Rattle.eco_store.specs.Store.{IsShown}
+use Rattle.eco_ids.proofs.Passing.{PassesOwn, own_from_passed, passed_ascend, passed_from_own, passes_some, some_passes}
+use Rattle.eco_ids.proofs.Ascending.{first, second}
+use Rattle.eco_ids.proofs.Facts.{or_right}
 use Rattle.eco_store.proofs.Sorting.{Apart, apart_append}
 use Rattle.eco_store.proofs.Values.{stands_type}
 
-both_left : (a b : Bool) → (a && b) ≡ true → a ≡ true
-both_left true b h = refl
-both_left false b h = absurd (true≢false (sym h))
-
-both_right : (a b : Bool) → (a && b) ≡ true → b ≡ true
-both_right true b h = h
-both_right false b h = absurd (true≢false (sym h))
+pub first_row : (rows : List Row) → 0 < length rows → (r : Row) × (slice_get rows 0 ≡ Some r)
+first_row [] none = absurd (omega arith)
+first_row (r ∷ rows) some = (r, refl)
 
 same_truth : (a b : Bool) → (a ≡ true → b ≡ true) → (b ≡ true → a ≡ true) → a ≡ b
 same_truth true b f g = sym (f refl)
@@ -41,64 +39,63 @@ row_within (x ∷ rows) zero r at = omega arith
 row_within (x ∷ rows) (suc k) r at = let rest = row_within rows k r at in omega (arith, rest)
 
 -- the table has rows and a match exactly where it is found
-is_found_there : (p : Pattern) (o : Option TableState) → 0 < length (unwrap_or o no_table).rows → list_any (pattern_matches p) (unwrap_or o no_table).ids ≡ true → is_found p o ≡ true
-is_found_there p None rows matches = absurd (omega arith)
-is_found_there p (Some t) rows matches = let some : nat_lt 0 (length t.rows) ≡ true = grind (arith, nat_tests) in ap (λ b. b && list_any (pattern_matches p) t.ids) some ∙ matches
+is_found_there : (test : List Id → Bool) (o : Option TableState) → 0 < length (unwrap_or o no_table).rows → test (unwrap_or o no_table).ids ≡ true →
+    is_found_by test o ≡ true
+is_found_there test None rows matches = absurd (omega arith)
+is_found_there test (Some t) rows matches = let some : nat_lt 0 (length t.rows) ≡ true = grind (arith, nat_tests) in ap (λ b. b && test t.ids) some ∙ matches
 
-pub found_matches : (p : Pattern) (o : Option TableState) → is_found p o ≡ true → list_any (pattern_matches p) (unwrap_or o no_table).ids ≡ true
-found_matches p None h = absurd (true≢false (sym h))
-found_matches p (Some t) h = both_right (nat_lt 0 (length t.rows)) (list_any (pattern_matches p) t.ids) h
+pub found_matches : (test : List Id → Bool) (o : Option TableState) → is_found_by test o ≡ true → test (unwrap_or o no_table).ids ≡ true
+found_matches test None h = absurd (true≢false (sym h))
+found_matches test (Some t) h = second (nat_lt 0 (length t.rows)) (test t.ids) h
 
-pub found_rows : (p : Pattern) (o : Option TableState) → is_found p o ≡ true → 0 < length (unwrap_or o no_table).rows
-found_rows p None h = absurd (true≢false (sym h))
-found_rows p (Some t) h = let some = both_left (nat_lt 0 (length t.rows)) (list_any (pattern_matches p) t.ids) h in grind (arith, nat_tests)
+pub found_rows : (test : List Id → Bool) (o : Option TableState) → is_found_by test o ≡ true → 0 < length (unwrap_or o no_table).rows
+found_rows test None h = absurd (true≢false (sym h))
+found_rows test (Some t) h = let some = first (nat_lt 0 (length t.rows)) (test t.ids) h in grind (arith, nat_tests)
 
-pub some_kept : (o : Option Kept) (ids : List Id) → Some ids ≡ option_map (λ k. map (λ (h : Id × _). h.0) k.held) o → (k : Kept) × (o ≡ Some k) × (map (λ h. h.0) k.held ≡ ids)
+pub some_kept : (o : Option Record) (ids : List Id) → Some ids ≡ option_map (λ k. map (λ (h : Id × _). h.0) k.held) o →
+    (k : Record) × (o ≡ Some k) × (map (λ h. h.0) k.held ≡ ids)
 some_kept None ids e = absurd (none-some ids (sym e))
 some_kept (Some k) ids e = (k, refl, sym (same_Some _ _ e))
 
-module _ (w : Indexed Kept) (s : List (Option TableState)) (p : Pattern) (shown : IsShown w s) where
+module _ (w : Indexed Record) (s : List (Option TableState)) (test : List Id → Bool) (shown : IsShown w s) where
   -- the entity of a row has the ids of the row's table
-  pub row_kept : (n row : ℕ) (r : Row) → row_at s n row ≡ Some r → (k : Kept) × (record_of w r.entity ≡ Some k) × (map (λ h. h.0) k.held ≡ (table_in s n).ids)
-  row_kept n row r at = some_kept (record_of w r.entity) (table_in s n).ids (stands_type (record_of w r.entity) (table_in s n) row (shown.rows n row r at) (shown.own n))
+  pub row_kept : (n row : ℕ) (r : Row) → row_at s n row ≡ Some r → (k : Record) × (record_of w r.entity ≡ Some k) × (map (λ h. h.0) k.held ≡ (table_in s n).ids)
+  row_kept n row r at = some_kept (record_of w r.entity) (table_in s n).ids
+      (stands_type (record_of w r.entity) (table_in s n) row (shown.rows n row r at) (shown.own n))
 
-  -- who stands in a table that is found has a match
-  pub found_has : (n row : ℕ) (r : Row) → row_at s n row ≡ Some r → is_found p (slot_of s n) ≡ true → PassesOwn (has_match p) w r.entity
-  found_has n row r at found =
+  -- who stands in a table whose type passes does
+  pub found_has : (n row : ℕ) (r : Row) → row_at s n row ≡ Some r → test (table_in s n).ids ≡ true → PassesOwn (passes test) w r.entity
+  found_has n row r at fit =
       let own = row_kept n row r at in
-      (own.0, own.1, ap (list_any (pattern_matches p)) own.2 ∙ found_matches p (slot_of s n) found)
+      (own.0, own.1, ap test own.2 ∙ fit)
 
   -- the row of an entity, in a table that is found
   abbrev pub StandsFound : Entity → Type 0
-  StandsFound e = (n : ℕ) × (row : ℕ) × (r : Row) × (row_at s n row ≡ Some r) × (r.entity ≡ e) × (is_found p (slot_of s n) ≡ true)
+  StandsFound e = (n : ℕ) × (row : ℕ) × (r : Row) × (row_at s n row ≡ Some r) × (r.entity ≡ e) × (is_found_by test (slot_of s n) ≡ true)
 
-  -- who has a match stands in one
-  pub has_found : (e : Entity) → PassesOwn (has_match p) w e → StandsFound e
+  -- who passes stands in one
+  pub has_found : (e : Entity) → PassesOwn (passes test) w e → StandsFound e
   has_found e own =
       let there = shown.living e own.0 own.1 in
       let kept = row_kept there.0 there.1 there.2 there.3 in
       let same : kept.0 ≡ own.0 = same_Some _ _ (sym kept.1 ∙ ap (record_of w) there.4 ∙ own.1) in
       let within = row_within (table_in s there.0).rows there.1 there.2 there.3 in
-      let matches = ap (list_any (pattern_matches p)) (sym kept.2) ∙ ap (has_match p) same ∙ own.2 in
-      (there.0, there.1, there.2, there.3, there.4, is_found_there p (slot_of s there.0) (omega (arith, within)) matches)
+      let matches = ap test (sym kept.2) ∙ ap (passes test) same ∙ own.2 in
+      (there.0, there.1, there.2, there.3, there.4, is_found_there test (slot_of s there.0) (omega (arith, within)) matches)
 
   -- some table is found exactly where some living entity has a match
-  pub held_is : (b : Bool) → IsTrue b ↔ FindsSome p s → b ≡ list_any (λ (x : Entity × Kept). has_match p x.1) (living w)
+  pub held_is : (b : Bool) → IsTrue b ↔ ((n : ℕ) × IsTrue (is_found_by test (slot_of s n))) → b ≡ list_any (λ (x : Entity × Record). passes test x.1) (living w)
   held_is b finds =
-      same_truth b (list_any (λ (x : Entity × Kept). has_match p x.1) (living w))
+      same_truth b (list_any (λ (x : Entity × Record). passes test x.1) (living w))
       (λ h.
       let found = finds.0 h in
-      let rows = found_rows p (slot_of s found.0) found.1 in
+      let rows = found_rows test (slot_of s found.0) found.1 in
       let at = first_row (table_in s found.0).rows rows in
-      passes_some (has_match p) w at.0.entity (found_has found.0 0 at.0 at.1 found.1))
+      passes_some (passes test) w at.0.entity (found_has found.0 0 at.0 at.1 (found_matches test (slot_of s found.0) found.1)))
       (λ h.
-      let some = some_passes (has_match p) w h in
+      let some = some_passes (passes test) w h in
       let there = has_found some.0 some.1 in
       finds.1 (there.0, there.5))
-    where
-      first_row : (rows : List Row) → 0 < length rows → (r : Row) × (slice_get rows 0 ≡ Some r)
-      first_row [] none = absurd (omega arith)
-      first_row (r ∷ rows) some = (r, refl)
 
   -- ---- all of them
 
@@ -120,17 +117,17 @@ module _ (w : Indexed Kept) (s : List (Option TableState)) (p : Pattern) (shown 
         (n, row.0, row.1, row.2, row.3, ap (λ b. b || list_any (nat_eq n) ns) ((Decides-eqb n n).1 refl))
     | inr there ↦
         let row = standing_row ns e there in
-        (row.0, row.1, row.2, row.3, row.4, behind (nat_eq row.0 n) (list_any (nat_eq row.0) ns) row.5)
+        (row.0, row.1, row.2, row.3, row.4, or_right (nat_eq row.0 n) (list_any (nat_eq row.0) ns) row.5)
   ]
-    where
-      behind : (a b : Bool) → b ≡ true → (a || b) ≡ true
-      behind true b h = refl
-      behind false b h = h
 
   rows_contain : (rows : List Row) (row : ℕ) (r : Row) → slice_get rows row ≡ Some r → Contains (entities_of rows) r.entity
   rows_contain rows row r at =
-      let within = row_within rows row r at in
-      (row, rw length-map within, get_or-map (λ (x : Row). x.entity) rows row r r.entity within ∙ ap (λ (x : Row). x.entity) (get_or_from_slice_get rows row r r at))
+      let within = row_within rows row r at in (
+        row,
+        rw length-map within,
+        get_or-map (λ (x : Row). x.entity) rows row r r.entity within
+            ∙ ap (λ (x : Row). x.entity) (get_or_from_slice_get rows row r r at),
+      )
 
   pub row_standing : (ns : List ℕ) (n row : ℕ) (r : Row) → list_any (nat_eq n) ns ≡ true → row_at s n row ≡ Some r → Contains (standing_in s ns) r.entity
   row_standing [] n row r listed at = absurd (true≢false (sym listed))
@@ -141,7 +138,8 @@ module _ (w : Indexed Kept) (s : List (Option TableState)) (p : Pattern) (shown 
           Contains-append_left (entities_of (table_in s m).rows) (standing_in s ns) r.entity
           (rows_contain (table_in s m).rows row r (ap (λ k. row_at s k row) (sym ((Decides-eqb n m).0 same)) ∙ at))
       by rest false other =
-          Contains-append_right (entities_of (table_in s m).rows) (standing_in s ns) r.entity (rest (ap (λ b. b || list_any (nat_eq n) ns) (sym other) ∙ listed))
+          Contains-append_right (entities_of (table_in s m).rows) (standing_in s ns) r.entity
+          (rest (ap (λ b. b || list_any (nat_eq n) ns) (sym other) ∙ listed))
 
   -- no entity stands in two rows
   rows_apart : (n : ℕ) → Apart (entities_of (table_in s n).rows)
@@ -172,17 +170,30 @@ module _ (w : Indexed Kept) (s : List (Option TableState)) (p : Pattern) (shown 
       let two = standing_row ns y there in
       absent n two.0 ns distinct.0 two.5 (shown.once n one.0 two.0 two.1 one.1 two.2 one.2 two.3 (one.3 ∙ same ∙ sym two.4)).0)
 
-  -- who stands in the found tables, and who has a match, are the same
-  pub standing_holders : (ns : List ℕ) → ((n : ℕ) → list_any (nat_eq n) ns ≡ is_found p (slot_of s n))
-      → (e : Entity) → Contains (standing_in s ns) e ↔ IsTrue (has_item entity_cmp (holders w p) e)
-  standing_holders ns listed e = (
+  -- who stands in the found tables, and who passes, are the same
+  pub standing_whose : (ns : List ℕ) → ((n : ℕ) → list_any (nat_eq n) ns ≡ true → test (table_in s n).ids ≡ true)
+      → ((n : ℕ) → is_found_by test (slot_of s n) ≡ true → list_any (nat_eq n) ns ≡ true)
+      → (e : Entity) → Contains (standing_in s ns) e ↔ IsTrue (has_item entity_cmp (entities_whose w test) e)
+  standing_whose ns sound whole e = (
     λ c.
         let row = standing_row ns e c in
-        passed_from_own (has_match p) w e (subst (PassesOwn (has_match p) w) row.4 (found_has row.0 row.1 row.2 row.3 (sym (listed row.0) ∙ row.5))),
+        passed_from_own (passes test) w e (subst (PassesOwn (passes test) w) row.4 (found_has row.0 row.1 row.2 row.3 (sound row.0 row.5))),
     λ h.
-        let row = has_found e (own_from_passed (has_match p) w e h) in
-        subst (Contains (standing_in s ns)) row.4 (row_standing ns row.0 row.1 row.2 (listed row.0 ∙ row.5) row.3),
+        let row = has_found e (own_from_passed (passes test) w e h) in
+        subst (Contains (standing_in s ns)) row.4 (row_standing ns row.0 row.1 row.2 (whole row.0 row.5) row.3),
   )
 
-pub holders_ascend : (w : Indexed Kept) (p : Pattern) → IsTrue (is_ascending entity_cmp (holders w p))
-holders_ascend w p = passed_ascend (has_match p) 0 w.indices
+pub whose_ascend : (w : Indexed Record) (test : List Id → Bool) → IsTrue (is_ascending entity_cmp (entities_whose w test))
+whose_ascend w test = passed_ascend (passes test) 0 w.indices
+
+-- ---- tables whose types name an entity
+
+pub named_there : (e : Entity) (o : Option TableState) → type_names (option_map (λ (t : TableState). t.ids) o) e ≡ true →
+    names_any (unwrap_or o no_table).ids e ≡ true
+named_there e None h = absurd (true≢false (sym h))
+named_there e (Some t) h = h
+
+pub found_naming : (e : Entity) (o : Option TableState) → is_found_by (λ ids. names_any ids e) o ≡ true →
+    type_names (option_map (λ (t : TableState). t.ids) o) e ≡ true
+found_naming e None h = absurd (true≢false (sym h))
+found_naming e (Some t) h = second (nat_lt 0 (length t.rows)) (names_any t.ids e) h

@@ -2,18 +2,19 @@
 use Rattle.std.proofs.Common.{◌≡◌, ◌≢◌, ℕ, ◌-◌, ◌<◌, List, [], ◌∷◌, length, slice_get, get_or, Option, Some, None, option_map, option_and_then, unwrap_or, is_some, IsTrue, zero-le, refl, sym, ap, subst, ◌∙◌, arith}
 use Rattle.std.proofs.lemmas.Option.{slice_get-get_or, slice_get_past}
 use Rattle.std.proofs.lemmas.List.{get_or-map, length-map}
+use Rattle.eco_ids.specs.World.{Record}
 use Rattle.eco_ids.specs.declared.entity.Entity.{Entity}
 use Rattle.eco_ids.specs.declared.id.Id.{Id}
-use Rattle.eco_ids.specs.Indices.{Indexed, record_of, is_alive}
+use Rattle.eco_ids.specs.Indices.{changed, Indexed, record_of, is_alive}
 use Rattle.eco_entities.specs.declared.place.Place.{Place}
-use Rattle.eco_entities.specs.Registration.{Registration, with_change, placed, own_place}
+use Rattle.eco_entities.specs.Registration.{Registration, placed, own_place}
 use Rattle.eco_tables.specs.Table.{TableState, Row, entities_of}
 use Rattle.eco_tables.specs.Tables.{table_in, row_in, no_row, no_table, Moves, AllHaveIds}
 use Rattle.eco_store.specs.declared.type_change.TypeChange.{TypeChange}
 use Rattle.eco_store.specs.Archetypes.{type_at}
-use Rattle.eco_store.specs.Retyping.{kept_ids, after_change}
+use Rattle.eco_store.specs.Retyping.{after_change}
 use Rattle.eco_store.specs.Seats.{row_at, seat_of}
-use Rattle.eco_store.specs.Store.{Kept, kept, read, seat_at, HasPlace, IsStore}
+use Rattle.eco_store.specs.Store.{record_ids, record_for, read, seat_at, HasPlace, IsStore}
 use Rattle.eco_store.specs.Transfers.{change_of}
 use Rattle.eco_store.proofs.ArchetypeLemmas.{there_by_row, there_by_room, type_there}
 use Rattle.eco_store.proofs.Moves.{moved_none}
@@ -21,22 +22,22 @@ use Rattle.eco_store.proofs.Retyping.{one_before, none_changes}
 use Rattle.eco_store.proofs.SeatChanges.{no_some, one_some}
 use Rattle.eco_store.proofs.StoreChanges.{placed_record, seat_there, read_record, to_store, to_read}
 use Rattle.eco_store.proofs.Values.{place_from_seat, slot_there, from_read, has_place, stands_there, stands_type}
-use Rattle.eco_store.proofs.Views.{living_at, record_at}
+use Rattle.eco_ids.proofs.States.{living_at, record_at}
 
 -- an entity's ids are the type of the table in which it stands
-pub own_ids : (w : Indexed Registration) (s : List (Option TableState)) (e : Entity) (p : Place) (k : Kept) → IsStore w s → AllHaveIds s
-    → own_place w e ≡ Some p → record_of (read w s) e ≡ Some k → (type_at s p.table ≡ Some (table_in s p.table).ids) × (kept_ids k ≡ (table_in s p.table).ids)
+pub own_ids : (w : Indexed Registration) (s : List (Option TableState)) (e : Entity) (p : Place) (k : Record) → IsStore w s → AllHaveIds s
+    → own_place w e ≡ Some p → record_of (read w s) e ≡ Some k → (type_at s p.table ≡ Some (table_in s p.table).ids) × (record_ids k ≡ (table_in s p.table).ids)
 own_ids w s e p k store have own at =
     let seat = store.seated.there e.index (seat_of e p.table p.row) (seat_there w e p own) in
     let slot = slot_there s p.table p.row seat.0 seat.1 in
     let stands = stands_there w s e p (table_in s p.table) store own slot in
     let ids = stands_type (record_of (read w s) e) (table_in s p.table) p.row stands (have p.table) in (
       ap (option_map (λ (t : TableState). t.ids)) slot,
-      one_some (Some (kept_ids k)) (kept_ids k) (table_in s p.table).ids refl (sym (ids ∙ ap (option_map (λ (x : Kept). kept_ids x)) at)),
+      one_some (Some (record_ids k)) (record_ids k) (table_in s p.table).ids refl (sym (ids ∙ ap (option_map (λ (x : Record). record_ids x)) at)),
     )
 
 -- a living entity has a row
-pub row_of_living : (w : Indexed Registration) (s : List (Option TableState)) (e : Entity) (k : Kept) → IsStore w s → record_of (read w s) e ≡ Some k
+pub row_of_living : (w : Indexed Registration) (s : List (Option TableState)) (e : Entity) (k : Record) → IsStore w s → record_of (read w s) e ≡ Some k
     → (p : Place) × (own_place w e ≡ Some p) × (r : Row) × (row_at s p.table p.row ≡ Some r)
 row_of_living w s e k store at =
     let found = from_read w s e k at in
@@ -101,17 +102,19 @@ module _ (w : Indexed Registration) (s s1 : List (Option TableState)) (from to r
         sym (moved_none (seat_at w) s s1 e.index (seat_of e from row) (slice_get (entities_of (table_in s1 from).rows) row) store.seated seat
         (ap (λ o. unwrap_or o no_table) moves.source) refl (sym at_last))
 
-    pub last_store : IsStore (with_change w e (placed (record { table = to; row = end }))) s1
+    pub last_store : IsStore (changed w e (placed (record { table = to; row = end }))) s1
     last_store = to_store w s s s1 s1 e place to end (table_in s to).ids None store own (λ n k. refl) apart refl moves nobody_moved end_is (λ n k. refl)
 
     pub last_ends : AllHaveIds s → ((m k : ℕ) (ids : List Id) → type_at s m ≡ Some ids → type_at s k ≡ Some ids → m ≡ k)
-        → after_change (read (with_change w e (placed (record { table = to; row = end }))) s1) (change_of s (record { from = from; to = to }))
+        → after_change (read (changed w e (placed (record { table = to; row = end }))) s1) (change_of s (record { from = from; to = to }))
         ≡ after_change (read w s) (change_of s (record { from = from; to = to }))
     last_ends have kinds =
         let c : TypeChange = change_of s (record { from = from; to = to }) in
         let own_record = placed_record w e place own in
-        let at : record_of (read w s) e ≡ Some (kept (row_at s) own_record.0) = read_record w s e own_record.0 own_record.1 in
-        let ids = own_ids w s e place (kept (row_at s) own_record.0) store have own at in
-        ap (λ v. after_change v c) (to_read w s s s1 s1 e place to end (table_in s to).ids None store own (λ n k. refl) apart refl moves nobody_moved end_is (λ n k. refl))
-        ∙ one_before (read w s) e (kept (row_at s) own_record.0) c at ids.1
-        (λ same. apart (kinds from to (table_in s from).ids (type_there s from (there_by_row s from row row_there)) (type_there s to (there_by_room s to room) ∙ ap Some same)))
+        let at : record_of (read w s) e ≡ Some (record_for (row_at s) own_record.0) = read_record w s e own_record.0 own_record.1 in
+        let ids = own_ids w s e place (record_for (row_at s) own_record.0) store have own at in
+        ap (λ v. after_change v c)
+        (to_read w s s s1 s1 e place to end (table_in s to).ids None store own (λ n k. refl) apart refl moves nobody_moved end_is (λ n k. refl))
+        ∙ one_before (read w s) e (record_for (row_at s) own_record.0) c at ids.1
+        (λ same. apart (kinds from to (table_in s from).ids (type_there s from (there_by_row s from row row_there))
+        (type_there s to (there_by_room s to room) ∙ ap Some same)))

@@ -1,6 +1,5 @@
 pub mod ArchetypeLemmas
 pub mod Holders
-pub mod Ids
 pub mod Listed
 pub mod Moves
 pub mod RowChanges
@@ -12,7 +11,6 @@ pub mod Newborn
 pub mod BirthChanges
 pub mod Values
 pub mod Listings
-pub mod Living
 pub mod Sorting
 pub mod Retyping
 pub mod LastMoves

@@ -18,23 +18,9 @@ use Rattle.eco_tables.specs.Table.{TableState}
 use Rattle.eco_tables.specs.Tables.{slot_of}
 use Rattle.eco_store.specs.Archetypes.{type_names, is_found, Covers, named_by}
 use Rattle.eco_store.specs.IdIndex.{same_entity, names}
-use Rattle.eco_store.proofs.Ids.{entity_eq-Decides}
-
-both_left : (a b : Bool) → (a && b) ≡ true → a ≡ true
-both_left true b h = refl
-both_left false b h = absurd (cc)
-
-both_right : (a b : Bool) → (a && b) ≡ true → b ≡ true
-both_right true b h = h
-both_right false b h = absurd (cc)
-
-either_left : (a b : Bool) → a ≡ true → (a || b) ≡ true
-either_left true b h = refl
-either_left false b h = absurd (cc)
-
-either_right : (a b : Bool) → b ≡ true → (a || b) ≡ true
-either_right true b h = refl
-either_right false b h = h
+use Rattle.eco_ids.proofs.SameIds.{entity_eq-Decides}
+use Rattle.eco_ids.proofs.Ascending.{first, second}
+use Rattle.eco_ids.proofs.Facts.{or_left, or_right}
 
 equal : (own e : Entity) → entity_eq own e ≡ true → same_entity e own ≡ true
 equal own e h = (entity_eq-Decides e own).1 (sym (order.same_entity own e (by (entity_cmp own e) h)))
@@ -51,11 +37,11 @@ single_names e (id.Two r t) h = absurd (cc)
 
 pub first_names : (e : Entity) (q : Part) (i : Id) → pattern_matches (Two (Is e) q) i ≡ true → names i e ≡ true
 first_names e q (id.One x) h = absurd (cc)
-first_names e q (id.Two r t) h = either_left (same_entity r e) (same_entity t e) (equal e r (both_left (entity_eq e r) (part_matches q t) h))
+first_names e q (id.Two r t) h = or_left (same_entity r e) (same_entity t e) (equal e r (first (entity_eq e r) (part_matches q t) h))
 
 pub second_names : (p : Part) (e : Entity) (i : Id) → pattern_matches (Two p (Is e)) i ≡ true → names i e ≡ true
 second_names p e (id.One x) h = absurd (cc)
-second_names p e (id.Two r t) h = either_right (same_entity r e) (same_entity t e) (equal e t (both_right (part_matches p r) (entity_eq e t) h))
+second_names p e (id.Two r t) h = or_right (same_entity r e) (same_entity t e) (equal e t (second (part_matches p r) (entity_eq e t) h))
 
 -- what passes a test passes a weaker one
 pub any_weaker : {X : Type 0} (p q : X → Bool) → ((x : X) → p x ≡ true → q x ≡ true) → (xs : List X) → list_any p xs ≡ true → list_any q xs ≡ true
@@ -63,8 +49,8 @@ any_weaker p q weaker [] h = h
 any_weaker p q weaker (x ∷ xs) h = by (p x) refl (any_weaker p q weaker xs) h
   where
     by : (b : Bool) → p x ≡ b → (list_any p xs ≡ true → list_any q xs ≡ true) → (b || list_any p xs) ≡ true → (q x || list_any q xs) ≡ true
-    by true is later h = either_left (q x) (list_any q xs) (weaker x is)
-    by false is later h = either_right (q x) (list_any q xs) (later h)
+    by true is later h = or_left (q x) (list_any q xs) (weaker x is)
+    by false is later h = or_right (q x) (list_any q xs) (later h)
 
 -- an id that matches names whom the pattern was found to name
 pub names_named : (p : Pattern) (e : Entity) → named_by p ≡ Some e → (i : Id) → pattern_matches p i ≡ true → names i e ≡ true
@@ -82,7 +68,7 @@ pub found_named : (p : Pattern) (e : Entity) → ((i : Id) → pattern_matches p
     → (o : Option TableState) → is_found p o ≡ true → type_names (option_map (λ (t : TableState). t.ids) o) e ≡ true
 found_named p e named None h = absurd (cc)
 found_named p e named (Some t) h =
-    any_weaker (pattern_matches p) (λ i. names i e) named t.ids (both_right (nat_lt 0 (length t.rows)) (list_any (pattern_matches p) t.ids) h)
+    any_weaker (pattern_matches p) (λ i. names i e) named t.ids (second (nat_lt 0 (length t.rows)) (list_any (pattern_matches p) t.ids) h)
 
 pub found_there : (p : Pattern) (o : Option TableState) → is_found p o ≡ true → IsSome o
 found_there p None h = absurd (cc)
@@ -136,7 +122,8 @@ pub distinct_none : IsDistinct nat_eq []
 unfolding IsDistinct
 distinct_none = tt
 
-all_pushed : (x y : ℕ) (xs : List ℕ) → nat_eq x y ≡ false → AllByRecursion (λ z. nat_eq x z ≡ false) xs → AllByRecursion (λ z. nat_eq x z ≡ false) (xs ++ y ∷ [])
+all_pushed : (x y : ℕ) (xs : List ℕ) → nat_eq x y ≡ false → AllByRecursion (λ z. nat_eq x z ≡ false) xs →
+    AllByRecursion (λ z. nat_eq x z ≡ false) (xs ++ y ∷ [])
 all_pushed x y [] h all = (h, tt)
 all_pushed x y (z ∷ zs) h all = (all.0, all_pushed x y zs h all.1)
 
@@ -150,7 +137,10 @@ eq_sym x y h = by (nat_eq x y) refl
 pub distinct_pushed : (xs : List ℕ) (x : ℕ) → IsDistinct nat_eq xs → list_any (nat_eq x) xs ≡ false → IsDistinct nat_eq (xs ++ x ∷ [])
 unfolding IsDistinct
 distinct_pushed [] x h none = (tt, tt)
-distinct_pushed (y ∷ ys) x h none = (all_pushed y x ys (eq_sym y x (first_of (nat_eq x y) (list_any (nat_eq x) ys) none)) h.0, distinct_pushed ys x h.1 (rest_of (nat_eq x y) (list_any (nat_eq x) ys) none))
+distinct_pushed (y ∷ ys) x h none = (
+  all_pushed y x ys (eq_sym y x (first_of (nat_eq x y) (list_any (nat_eq x) ys) none)) h.0,
+  distinct_pushed ys x h.1 (rest_of (nat_eq x y) (list_any (nat_eq x) ys) none),
+)
   where
     first_of : (a b : Bool) → (a || b) ≡ false → a ≡ false
     first_of true b q = q
@@ -180,7 +170,7 @@ below_pushed q found i here listed n =
     by true h =
         let same : n ≡ i = (Decides-eqb n i).0 h in
         let below : nat_lt n (i + 1) ≡ true = grind (arith, nat_tests) in
-        either_right (nat_lt n i && q n) (true || false) refl ∙ sym ((λ t. below t && (ap q same ∙ here) t))
+        or_right (nat_lt n i && q n) (true || false) refl ∙ sym ((λ t. below t && (ap q same ∙ here) t))
     by false h = in_order (nat_lt n i) (q n) ∙ ap (λ b. b && q n) (apart h)
 
 pub below_passed : (q : ℕ → Bool) (found : List ℕ) (i : ℕ) → q i ≡ false → ((n : ℕ) → list_any (nat_eq n) found ≡ (nat_lt n i && q n))

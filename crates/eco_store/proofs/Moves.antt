@@ -1,21 +1,16 @@
 -- The seats after a row was moved to another table.
-use Rattle.std.proofs.Common.{◌≡◌, ◌≢◌, ℕ, ◌-◌, ◌<◌, ◌==◌, cond, List, ◌∷◌, [], zero, suc, map, length, get_or, slice_get, Option, Some, None, option_map, unwrap_or, refl, sym, ap, ◌∙◌, arith, inl, inr}
+use Rattle.std.proofs.Common.{◌≡◌, ◌≢◌, ℕ, ◌-◌, ◌<◌, ◌==◌, cond, List, [], length, get_or, slice_get, Option, Some, None, option_map, unwrap_or, refl, sym, ap, ◌∙◌, arith, inl, inr}
 use Rattle.std.specs.List.{swap_remove}
 use Rattle.std.proofs.lemmas.Bool.{cases_eq}
-use Rattle.std.proofs.lemmas.Option.{slice_get-get_or, slice_get_within, slice_get_past}
+use Rattle.std.proofs.lemmas.Option.{slice_get-map, slice_get-get_or, slice_get_within, slice_get_past}
 use Rattle.eco_ids.specs.declared.entity.Entity.{Entity}
 use Rattle.eco_tables.specs.Column.{retyped}
 use Rattle.eco_tables.specs.Table.{TableState, Row, retyped_row, entities_of}
 use Rattle.eco_tables.specs.Tables.{table_in, row_in, no_row, no_table, Moves, Sets, with_row, without_row}
-use Rattle.eco_tables.proofs.Lists.{not_equal}
+use Rattle.eco_ids.proofs.Lists.{not_equal, slice_get-push_last, slice_get-push_other}
 use Rattle.eco_store.specs.Seats.{Seat, IsSeated, entity_of, seat_of, row_at, held_of, seen}
 use Rattle.eco_store.proofs.SeatChanges.{Removed, Pushed, no_some, one_some, seated_removed, seated_pushed, removed_seen, pushed_seen}
-use Rattle.eco_store.proofs.RowChanges.{between_rows, moves_removes, moves_pushes, swap_at_row, swap_at_last, swap_others, push_at_end, push_others, is_equal}
-
-pub slice_get-map : {X Y : Type 0} (f : X → Y) (xs : List X) (i : ℕ) → slice_get (map f xs) i ≡ option_map f (slice_get xs i)
-slice_get-map f [] i = refl
-slice_get-map f (x ∷ xs) zero = refl
-slice_get-map f (x ∷ xs) (suc i) = slice_get-map f xs i
+use Rattle.eco_store.proofs.RowChanges.{between_rows, moves_removes, moves_pushes, swap_at_row, swap_at_last, swap_others, is_equal}
 
 pub row_there : (P : ℕ → Option Seat) (s : List (Option TableState)) (i : ℕ) (p : Seat) → IsSeated P (row_at s) → P i ≡ Some p
     → p.row < length (table_in s p.slot).rows
@@ -63,8 +58,10 @@ module _ (P : ℕ → Option Seat) (s s' : List (Option TableState)) (i : ℕ) (
       elim (cases_eq last p.row) [
         | inl same ↦ absurd (no_some moved e (moved_none same) is)
         | inr other ↦
-            let who : m.entity ≡ e = one_some moved m.entity e (moved_some other) is in
-            (sym (ap (λ (x : Entity). P x.index) who) ∙ m_seat ∙ ap (λ (x : Entity). Some (seat_of x p.slot last)) who, λ h. m_other other (ap (λ (x : Entity). x.index) who ∙ h))
+            let who : m.entity ≡ e = one_some moved m.entity e (moved_some other) is in (
+              sym (ap (λ (x : Entity). P x.index) who) ∙ m_seat ∙ ap (λ (x : Entity). Some (seat_of x p.slot last)) who,
+              λ h. m_other other (ap (λ (x : Entity). x.index) who ∙ h),
+            )
       ]
 
   module _ (P' : ℕ → Option Seat)
@@ -178,7 +175,8 @@ module _ (P P' : ℕ → Option Seat) (s s' : List (Option TableState)) (i : ℕ
   takes = record {
     at_row = λ d. ap (λ (t : TableState). slice_get t.rows p.row) source_set ∙ swap_at_row (table_in s p.slot).rows p.row (row_there P s i p seated here) d;
     at_last = ap (λ (t : TableState). slice_get t.rows end_row) source_set ∙ swap_at_last (table_in s p.slot).rows p.row (row_there P s i p seated here);
-    others_here = λ k a b. ap (λ (t : TableState). slice_get t.rows k) source_set ∙ swap_others (table_in s p.slot).rows p.row (row_there P s i p seated here) k a b;
+    others_here = λ k a b. ap (λ (t : TableState). slice_get t.rows k) source_set
+        ∙ swap_others (table_in s p.slot).rows p.row (row_there P s i p seated here) k a b;
     others = λ n k o. ap (λ t. slice_get (unwrap_or t no_table).rows k) (sets.others n o);
   }
 
@@ -192,7 +190,8 @@ module _ (P P' : ℕ → Option Seat) (s s' : List (Option TableState)) (i : ℕ
   take_others j other =
       removed_seen P P' (row_at s) (row_at s') i p.generation p.slot p.row end_row no_row taken seated takes here
       (m_row P s s' i p moved seated here source_set moved_is) gone
-      (fixed_there P s s' i p moved seated here source_set moved_is P' fixed kept) (fixed_others P s s' i p moved seated here source_set moved_is P' fixed kept) j other
+      (fixed_there P s s' i p moved seated here source_set moved_is P' fixed kept)
+      (fixed_others P s s' i p moved seated here source_set moved_is P' fixed kept) j other
 
 -- a new entity in a row of its own
 module _ (P P' : ℕ → Option Seat) (s s' : List (Option TableState)) (e : Entity) (t end : ℕ)
@@ -208,8 +207,8 @@ module _ (P P' : ℕ → Option Seat) (s s' : List (Option TableState)) (e : Ent
   puts : Pushed (row_at s) (row_at s') t end born
   puts = rw end_is (record {
     free = slice_get_past (table_in s t).rows (length (table_in s t).rows) (omega arith);
-    at_end = ap (λ (x : TableState). slice_get x.rows (length (table_in s t).rows)) target_set ∙ push_at_end (table_in s t).rows born;
-    others_here = λ k o. ap (λ (x : TableState). slice_get x.rows k) target_set ∙ push_others (table_in s t).rows born k o;
+    at_end = ap (λ (x : TableState). slice_get x.rows (length (table_in s t).rows)) target_set ∙ slice_get-push_last (table_in s t).rows born;
+    others_here = λ k o. ap (λ (x : TableState). slice_get x.rows k) target_set ∙ slice_get-push_other (table_in s t).rows born k o;
     others = λ n k o. ap (λ x. slice_get (unwrap_or x no_table).rows k) (sets.others n o);
   })
 

@@ -11,7 +11,7 @@ use Rattle.eco_ids.specs.declared.refusal.Refusal.TheVariants.{BadName, NameTake
 use Rattle.eco_ids.specs.Names.{is_called, bearer, is_borne, is_proper}
 use Rattle.eco_ids.specs.Outcome.{first_refusal, Meets, is_out_of_memory, Refuses, Answers}
 use Rattle.eco_store.specs.Placing.{Opposes}
-use Rattle.eco_store.proofs.Views.{slice_get-set_same, slice_get-set_other}
+use Rattle.eco_ids.proofs.Lists.{slice_get-push_last, slice_get-push_other, slice_get-set_there, slice_get-set_other}
 
 -- nobody lives there
 abbrev pub Vacant : {A : Type 0} → Option (IndexState A) → Type 0
@@ -19,16 +19,6 @@ Vacant None = Unit {0}
 Vacant (Some Retired) = ⊥
 Vacant (Some (Free g)) = Unit {0}
 Vacant (Some (Living g r)) = ⊥
-
-push_here : {X : Type 0} (xs : List X) (x : X) → slice_get (xs ++ x ∷ []) (length xs) ≡ Some x
-push_here [] x = refl
-push_here (y ∷ ys) x = push_here ys x
-
-push_other : {X : Type 0} (xs : List X) (x : X) (j : ℕ) → j ≢ length xs → slice_get (xs ++ x ∷ []) j ≡ slice_get xs j
-push_other [] x zero other = absurd (other refl)
-push_other [] x (suc j) other = refl
-push_other (y ∷ ys) x zero other = refl
-push_other (y ∷ ys) x (suc j) other = push_other ys x j (λ e. other (ap suc e))
 
 get_below : {X : Type 0} (xs : List X) (j : ℕ) → j < length xs → (x : X) × (slice_get xs j ≡ Some x)
 get_below [] j h = absurd (omega arith)
@@ -40,14 +30,15 @@ module _ {A : Type 0} (w : Indexed A) (e : Entity) (d : A) (near : e.index ≤ l
   born_here = by (nat_lt e.index (length w.indices)) refl
     where
       by : (b : Bool) → nat_lt e.index (length w.indices) ≡ b
-          → slice_get (if b then with_record w e d else record w { indices = w.indices ++ Living e.generation d ∷ [] }).indices e.index ≡ Some (Living e.generation d)
+          → slice_get (if b then with_record w e d else record w { indices = w.indices ++ Living e.generation d ∷ [] }).indices e.index
+          ≡ Some (Living e.generation d)
       by true h =
           let below : e.index < length w.indices = grind (arith, nat_tests) in
           let had = get_below w.indices e.index below in
-          slice_get-set_same w.indices e.index (Living e.generation d) had.0 had.1
+          slice_get-set_there w.indices e.index (Living e.generation d) had.0 had.1
       by false h =
           let at_end : e.index ≡ length w.indices = grind (arith, nat_tests) in
-          ap (slice_get (w.indices ++ Living e.generation d ∷ [])) at_end ∙ push_here w.indices (Living e.generation d)
+          ap (slice_get (w.indices ++ Living e.generation d ∷ [])) at_end ∙ slice_get-push_last w.indices (Living e.generation d)
 
   pub born_other : (j : ℕ) → j ≢ e.index → slice_get (with_new w e d).indices j ≡ slice_get w.indices j
   born_other j other = by (nat_lt e.index (length w.indices)) refl
@@ -57,7 +48,7 @@ module _ {A : Type 0} (w : Indexed A) (e : Entity) (d : A) (near : e.index ≤ l
       by true h = slice_get-set_other w.indices e.index j (Living e.generation d) other
       by false h =
           let at_end : e.index ≡ length w.indices = grind (arith, nat_tests) in
-          push_other w.indices (Living e.generation d) j (λ q. other (q ∙ sym at_end))
+          slice_get-push_other w.indices (Living e.generation d) j (λ q. other (q ∙ sym at_end))
 
   pub born_limit : (with_new w e d).limit ≡ w.limit
   born_limit = by (nat_lt e.index (length w.indices))
@@ -130,7 +121,8 @@ module _ {A B : Type 0} (f : A → B) (name_a : A → Option (List ℕ)) (name_b
   find-map : (name : List ℕ) (xs : List (Entity × A))
       → option_map (λ p. p.0) (find (λ p. is_called name (name_b p.1)) (map second xs)) ≡ option_map (λ p. p.0) (find (λ p. is_called name (name_a p.1)) xs)
   find-map name [] = refl
-  find-map name (x ∷ xs) = ap (λ b. option_map (λ p. p.0) (if b then Some (second x) else find (λ p. is_called name (name_b p.1)) (map second xs))) (ap (is_called name) (names x.1)) ∙ by (is_called name (name_a x.1)) (find-map name xs)
+  find-map name (x ∷ xs) = ap (λ b. option_map (λ p. p.0) (if b then Some (second x) else find (λ p. is_called name (name_b p.1)) (map second xs)))
+      (ap (is_called name) (names x.1)) ∙ by (is_called name (name_a x.1)) (find-map name xs)
     where
       by : (b : Bool)
           → option_map (λ p. p.0) (find (λ p. is_called name (name_b p.1)) (map second xs)) ≡ option_map (λ p. p.0) (find (λ p. is_called name (name_a p.1)) xs)
@@ -140,7 +132,8 @@ module _ {A B : Type 0} (f : A → B) (name_a : A → Option (List ℕ)) (name_b
       by false rest = rest
 
   pub bearer-map : (w : Indexed A) (name : List ℕ) → bearer name_b (mapped w) name ≡ bearer name_a w name
-  bearer-map w name = ap (λ ys. option_map (λ p. p.0) (find (λ p. is_called name (name_b p.1)) ys)) (living-map 0 w.indices) ∙ find-map name (living_from 0 w.indices)
+  bearer-map w name = ap (λ ys. option_map (λ p. p.0) (find (λ p. is_called name (name_b p.1)) ys)) (living-map 0 w.indices)
+      ∙ find-map name (living_from 0 w.indices)
 
   pub is_borne-map : (w : Indexed A) (name : Option (List ℕ)) → is_borne name_b (mapped w) name ≡ is_borne name_a w name
   is_borne-map w None = refl
@@ -159,7 +152,8 @@ Ends unfit next after old r new =
     MatchOption unfit (MatchOption next (Refuses NoMoreIds old r new) (λ e. Answers e (after e) r new)) (λ why. Refuses why old r new)
 
 -- a refusal is a refusal of the other state, and neither changes
-refused_ends : {S T : Type 0} (unfit : Option Refusal) (next : Option Entity) (after : Entity → S) (after' : Entity → T) (old new : S) (old' : T) (why : Refusal)
+refused_ends : {S T : Type 0} (unfit : Option Refusal) (next : Option Entity) (after : Entity → S) (after' : Entity → T) (old new : S) (old' : T)
+    (why : Refusal)
     → Ends unfit next after old (Err why) new → (new ≡ old) × Ends unfit next after' old' (Err why) old'
 refused_ends (Some u) next after after' old new old' why h = (h.1, (h.0, refl))
 refused_ends None None after after' old new old' why h = (h.1, (h.0, refl))
@@ -199,9 +193,13 @@ module _ {A B : Type 0} (f : A → B) (name_a : A → Option (List ℕ)) (name_b
       by false q =
           let r = refused_ends (unfit_name name_a w (name_a d)) (next_entity w) (λ e. with_new w e d) (λ e. with_new shown e d') w new shown why q in (
             r.0,
-            subst (λ u. MatchOption u (MatchOption (next_entity shown) (Refuses NoMoreIds shown (refused why) shown) (λ e. Answers e (with_new shown e d') (refused why) shown)) (λ x. Refuses x shown (refused why) shown))
+            subst (λ u. MatchOption u
+                (MatchOption (next_entity shown) (Refuses NoMoreIds shown (refused why) shown) (λ e. Answers e (with_new shown e d') (refused why) shown))
+                (λ x. Refuses x shown (refused why) shown))
                 (sym unfit_same)
-                (subst (λ n. MatchOption (unfit_name name_a w (name_a d)) (MatchOption n (Refuses NoMoreIds shown (refused why) shown) (λ e. Answers e (with_new shown e d') (refused why) shown)) (λ x. Refuses x shown (refused why) shown))
+                (subst (λ n. MatchOption (unfit_name name_a w (name_a d))
+                (MatchOption n (Refuses NoMoreIds shown (refused why) shown) (λ e. Answers e (with_new shown e d') (refused why) shown))
+                (λ x. Refuses x shown (refused why) shown))
                 (sym next_same) r.1),
           )
 
@@ -214,7 +212,8 @@ module _ {A B : Type 0} (f : A → B) (name_a : A → Option (List ℕ)) (name_b
       → new' ≡ with_new shown e d' → Meets (Makes name_b shown d') (may_make name_b shown (name_b d')) shown (Ok e) new'
   create_done new new' e h is =
       let r = made_ends (unfit_name name_a w (name_a d)) (next_entity w) (λ x. with_new w x d) w new e h in
-      subst (λ u. MatchOption u (MatchOption (next_entity shown) (Refuses NoMoreIds shown (Ok e) new') (λ x. Answers x (with_new shown x d') (Ok e) new')) (λ x. Refuses x shown (Ok e) new'))
+      subst (λ u. MatchOption u (MatchOption (next_entity shown) (Refuses NoMoreIds shown (Ok e) new') (λ x. Answers x (with_new shown x d') (Ok e) new'))
+      (λ x. Refuses x shown (Ok e) new'))
       (sym (unfit_same ∙ r.0))
       (subst (λ n. MatchOption n (Refuses NoMoreIds shown (Ok e) new') (λ x. Answers x (with_new shown x d') (Ok e) new'))
       (sym (next_same ∙ r.1)) (refl, is))
@@ -251,14 +250,19 @@ module _ {A B : Type 0} (f : A → B) (name_a : A → Option (List ℕ)) (name_b
           let same : why ≡ x = let e : ◌≡◌ {A = Result (Unit {0}) Refusal} (Err why) (Err x) = q in cc in
           subst (λ b. MatchBool b (IsTrue (may_make name_b view_of (name_b d')) × (view_of ≡ view_of)) (Makes name_b view_of d' (refused why) view_of))
           (sym (unfit_known name_a w name why (is_u ∙ ap Some (sym same))))
-          (subst (λ u. MatchOption u (MatchOption (next_entity view_of) (Refuses NoMoreIds view_of (refused why) view_of) (λ e. Answers e (with_new view_of e d') (refused why) view_of)) (λ z. Refuses z view_of (refused why) view_of))
+          (subst (λ u. MatchOption u
+          (MatchOption (next_entity view_of) (Refuses NoMoreIds view_of (refused why) view_of)
+          (λ e. Answers e (with_new view_of e d') (refused why) view_of)) (λ z. Refuses z view_of (refused why) view_of))
           (sym (unfit_seen ∙ is_u)) (ap refused same, refl))
       by None None is_u is_n q =
           let same : why ≡ NoMoreIds = let e : ◌≡◌ {A = Result (Unit {0}) Refusal} (Err why) (Err NoMoreIds) = q in cc in
           subst (λ x. Meets (Makes name_b view_of d') (may_make name_b view_of (name_b d')) view_of (refused x) view_of) (sym same)
-          (subst (λ u. MatchOption u (MatchOption (next_entity view_of) (Refuses NoMoreIds view_of (refused NoMoreIds) view_of) (λ e. Answers e (with_new view_of e d') (refused NoMoreIds) view_of)) (λ z. Refuses z view_of (refused NoMoreIds) view_of))
+          (subst (λ u. MatchOption u
+          (MatchOption (next_entity view_of) (Refuses NoMoreIds view_of (refused NoMoreIds) view_of)
+          (λ e. Answers e (with_new view_of e d') (refused NoMoreIds) view_of)) (λ z. Refuses z view_of (refused NoMoreIds) view_of))
           (sym (unfit_seen ∙ is_u))
-          (subst (λ n. MatchOption n (Refuses NoMoreIds view_of (refused NoMoreIds) view_of) (λ e. Answers e (with_new view_of e d') (refused NoMoreIds) view_of)) (sym (next_seen ∙ is_n)) (refl, refl)))
+          (subst (λ n. MatchOption n (Refuses NoMoreIds view_of (refused NoMoreIds) view_of)
+          (λ e. Answers e (with_new view_of e d') (refused NoMoreIds) view_of)) (sym (next_seen ∙ is_n)) (refl, refl)))
       by None (Some e) is_u is_n q = absurd (let bad : ◌≡◌ {A = Result (Unit {0}) Refusal} (Err why) (Ok tt) = q in cc)
 
   -- where nothing does, memory may be wanted

@@ -7,18 +7,17 @@ use Rattle.eco_ids.proofs.Ascending.{second}
 use Rattle.eco_ids.specs.declared.entity.Entity.{Entity}
 use Rattle.eco_ids.specs.declared.id.Id.{Id}
 use Rattle.eco_ids.specs.Order.{entity_eq, id_cmp, is_ascending}
-use Rattle.eco_ids.specs.Indices.{Indexed}
-use Rattle.eco_tables.specs.Column.{retyped}
+use Rattle.eco_ids.specs.Indices.{Indexed, changed}
 use Rattle.eco_tables.specs.Table.{TableState}
 use Rattle.eco_tables.specs.Tables.{slot_of, table_in, no_table, Moves, AllHaveIds}
 use Rattle.eco_entities.specs.declared.place.Place.{Place}
 use Rattle.eco_entities.specs.Registration.{Registration, own_place}
 use Rattle.eco_store.specs.Archetypes.{type_at}
 use Rattle.eco_store.specs.Preparing.{PreparedState, move_to, moves_of, is_next, moves_left, arriving, IsReady}
-use Rattle.eco_store.specs.Store.{IsStore, read, with_holding, held_by}
+use Rattle.eco_store.specs.Store.{IsStore, read, with_type}
 use Rattle.eco_store.specs.TypeMap.{same_ids}
 use Rattle.eco_store.proofs.ArchetypeLemmas.{there_by_row, moves_types}
-use Rattle.eco_store.proofs.Ids.{same_ids-Decides}
+use Rattle.eco_ids.proofs.SameIds.{same_ids-Decides}
 use Rattle.eco_store.proofs.Pouring.{still_there}
 use Rattle.eco_store.proofs.Readiness.{moves_alike}
 use Rattle.eco_store.proofs.RowChanges.{is_equal}
@@ -79,7 +78,8 @@ module _ (s : List (Option TableState)) (p p' : PreparedState) (a : Entity × �
       room = λ n. elim (cases_eq n a.1) [
         | inl here ↦
             let one = ap {B = ℕ} (λ b. if b then 1 else 0) (is_equal a.1 n (sym here)) in
-            let had : (if a.1 == n then 1 else 0) + arriving p'.arrivals n ≤ (table_in s a.1).room = subst (λ m. (if a.1 == n then 1 else 0) + arriving p'.arrivals n ≤ (table_in s m).room) here (was_ready.room n) in
+            let had : (if a.1 == n then 1 else 0) + arriving p'.arrivals n ≤ (table_in s a.1).room =
+            subst (λ m. (if a.1 == n then 1 else 0) + arriving p'.arrivals n ≤ (table_in s m).room) here (was_ready.room n) in
             let left : (table_in s1 a.1).room ≡ (table_in s a.1).room - 1 = ap (λ o. (unwrap_or o no_table).room) moves.target in
             let now : arriving p'.arrivals n ≤ (table_in s1 a.1).room = omega (arith, one, had, left) in
             subst (λ m. arriving p'.arrivals n ≤ (table_in s1 m).room) (sym here) now
@@ -97,9 +97,10 @@ module _ (s : List (Option TableState)) (p p' : PreparedState) (a : Entity × �
     }
 
 -- a move to the table in which the entity stands changes nothing
-pub stays_there : (w : Indexed Registration) (s : List (Option TableState)) (e : Entity) (p : Place) (ids : List Id) → IsStore w s → own_place w e ≡ Some p → AllHaveIds s
+pub stays_there : (w : Indexed Registration) (s : List (Option TableState)) (e : Entity) (p : Place) (ids : List Id) → IsStore w s → own_place w e ≡ Some p →
+    AllHaveIds s
     → IsTrue (is_ascending id_cmp ids) → (table_in s p.table).ids ≡ ids
-    → read w s ≡ with_holding (read w s) e (retyped ids (held_by (read w s) e))
+    → read w s ≡ changed (read w s) e (with_type ids)
 stays_there w s e p ids store own have up is =
     let there = row_within w s e p store own in
     same_type w s e p (table_in s p.table) ids store own (slot_is (slot_of s p.table) (there_by_row s p.table p.row there)) (have p.table)

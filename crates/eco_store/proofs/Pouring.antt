@@ -8,7 +8,8 @@ use Rattle.std.proofs.lemmas.List.Elements.{All-head, All-tail, All-push}
 use Rattle.eco_ids.specs.declared.id.Id.{Id}
 use Rattle.eco_tables.specs.Table.{TableState}
 use Rattle.eco_tables.specs.Tables.{slot_of, table_in, no_table, Sets}
-use Rattle.eco_tables.proofs.Lists.{not_equal}
+use Rattle.eco_ids.proofs.Lists.{not_equal}
+use Rattle.eco_store.proofs.ArchetypeLemmas.{type_there}
 use Rattle.eco_store.specs.declared.transfer.Transfer.{Transfer}
 use Rattle.eco_store.specs.declared.type_change.TypeChange.{TypeChange}
 use Rattle.eco_store.specs.Archetypes.{type_at, KeepsTypes}
@@ -45,23 +46,17 @@ still_there s s' n same there = sym (there_by_type s' n) ∙ ap is_some same ∙
 pub there_as_typed : (s : List (Option TableState)) (n : ℕ) (ids : List Id) → type_at s n ≡ Some ids → IsSome (slot_of s n)
 there_as_typed s n ids typed = sym (there_by_type s n) ∙ ap is_some typed
 
--- the type of a table that is there
-pub type_of_there : (s : List (Option TableState)) (n : ℕ) → IsSome (slot_of s n) → type_at s n ≡ Some (table_in s n).ids
-type_of_there s n = by (slot_of s n)
-  where
-    by : (o : Option TableState) → IsSome o → option_map (λ (t : TableState). t.ids) o ≡ Some (unwrap_or o no_table).ids
-    by None h = absurd (cc)
-    by (Some t) h = refl
-
 pub kept_type : (s s' : List (Option TableState)) (n : ℕ) → KeepsTypes s s' → IsSome (slot_of s n) → type_at s' n ≡ type_at s n
-kept_type s s' n keeps there = keeps n (table_in s n).ids (type_of_there s n there) ∙ sym (type_of_there s n there)
+kept_type s s' n keeps there = keeps n (table_in s n).ids (type_there s n there) ∙ sym (type_there s n there)
 
-pub change_kept : (s s' : List (Option TableState)) (t : Transfer) → type_at s' t.from ≡ type_at s t.from → type_at s' t.to ≡ type_at s t.to → change_of s' t ≡ change_of s t
+pub change_kept : (s s' : List (Option TableState)) (t : Transfer) → type_at s' t.from ≡ type_at s t.from → type_at s' t.to ≡ type_at s t.to →
+    change_of s' t ≡ change_of s t
 change_kept s s' t from to = λ i. record { from = same_ids_in s s' t.from from i; to = same_ids_in s s' t.to to i }
 
 -- ---- plans
 
-changes_kept : (s s' : List (Option TableState)) (ts : List Transfer) → KeepsTypes s s' → All (λ t. IsSome (slot_of s t.from)) ts → All (λ t. IsSome (slot_of s t.to)) ts
+changes_kept : (s s' : List (Option TableState)) (ts : List Transfer) → KeepsTypes s s' → All (λ t. IsSome (slot_of s t.from)) ts →
+    All (λ t. IsSome (slot_of s t.to)) ts
     → map (change_of s') ts ≡ map (change_of s) ts
 changes_kept s s' [] keeps sources targets = refl
 changes_kept s s' (t ∷ ts) keeps sources targets =
@@ -69,7 +64,8 @@ changes_kept s s' (t ∷ ts) keeps sources targets =
     let target = All-head (λ (x : Transfer). IsSome (slot_of s x.to)) t ts targets in
     let here = change_kept s s' t (kept_type s s' t.from keeps source) (kept_type s s' t.to keeps target) in
     let rest =
-    changes_kept s s' ts keeps (All-tail (λ (x : Transfer). IsSome (slot_of s x.from)) t ts sources) (All-tail (λ (x : Transfer). IsSome (slot_of s x.to)) t ts targets) in
+    changes_kept s s' ts keeps (All-tail (λ (x : Transfer). IsSome (slot_of s x.from)) t ts sources)
+    (All-tail (λ (x : Transfer). IsSome (slot_of s x.to)) t ts targets) in
     λ i. here i ∷ rest i
 
 -- a plan stays one while no table goes
@@ -136,7 +132,8 @@ due_none s (t ∷ ts) n none =
     omega (arith, here, rest)
 
 -- there is room for what the first transfer brings
-pub room_first : (s : List (Option TableState)) (t : Transfer) (ts : List Transfer) → HasRoom s (t ∷ ts) → length (table_in s t.from).rows ≤ (table_in s t.to).room
+pub room_first : (s : List (Option TableState)) (t : Transfer) (ts : List Transfer) → HasRoom s (t ∷ ts) →
+    length (table_in s t.from).rows ≤ (table_in s t.to).room
 room_first s t ts room = let here = brought_here s t t.to refl in omega (arith, room t.to, here)
 
 -- when the first is carried out, there is still room for the others
@@ -182,7 +179,8 @@ due_more s [] t n = omega arith
 due_more s (u ∷ ts) t n = let rest = due_more s ts t n in omega (arith, rest)
 
 -- room for one transfer more
-pub room_more : (s s' : List (Option TableState)) (ts : List Transfer) (t : Transfer) (slot : Option TableState) → HasRoom s ts → SameRows s s' → Sets s s' t.to slot
+pub room_more : (s s' : List (Option TableState)) (ts : List Transfer) (t : Transfer) (slot : Option TableState) → HasRoom s ts → SameRows s s' →
+    Sets s s' t.to slot
     → (table_in s t.to).room + length (table_in s t.from).rows ≤ (table_in s' t.to).room → HasRoom s' (ts ++ t ∷ [])
 room_more s s' ts t slot room same sets more n =
     let fewer : due s' (ts ++ t ∷ []) n ≤ due s (ts ++ t ∷ []) n =

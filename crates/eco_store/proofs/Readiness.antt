@@ -9,7 +9,7 @@ use Rattle.eco_ids.specs.declared.id.Id.{Id}
 use Rattle.eco_ids.specs.Order.{entity_eq}
 use Rattle.eco_tables.specs.Table.{TableState}
 use Rattle.eco_tables.specs.Tables.{slot_of, table_in, no_table, Sets, without_row}
-use Rattle.eco_tables.proofs.Lists.{not_equal}
+use Rattle.eco_ids.proofs.Lists.{not_equal}
 use Rattle.eco_store.specs.declared.moving.Move.{Move}
 use Rattle.eco_store.specs.Archetypes.{type_at, KeepsTypes, KeepsRoom, SameSlots}
 use Rattle.eco_store.specs.Preparing.{PreparedState, nothing_prepared, with_arrival, with_target, move_to, moves_of, has_move, AreOfDifferent, arriving, IsReady}
@@ -44,7 +44,8 @@ still_fits : (s s' : List (Option TableState)) (xs : List (Entity × ℕ)) (n : 
 still_fits s s' [] n kept = inr refl
 still_fits s s' (a ∷ xs) n kept =
     elim (cases_eq a.1 n) [
-      | inl here ↦ inl (subst (λ m. (table_in s m).room ≤ (table_in s' m).room) here (All-head (λ (x : Entity × ℕ). (table_in s x.1).room ≤ (table_in s' x.1).room) a xs kept))
+      | inl here ↦ inl (subst (λ m. (table_in s m).room ≤ (table_in s' m).room) here
+          (All-head (λ (x : Entity × ℕ). (table_in s x.1).room ≤ (table_in s' x.1).room) a xs kept))
       | inr other ↦ elim (still_fits s s' xs n (All-tail (λ (x : Entity × ℕ). (table_in s x.1).room ≤ (table_in s' x.1).room) a xs kept)) [
         | inl fits ↦ inl fits
         | inr none ↦
@@ -68,7 +69,8 @@ ready_spared s s' p spares ready = record {
   ];
 }
 
-pub moves_alike : (s s' : List (Option TableState)) (xs : List (Entity × ℕ)) → All (λ a. type_at s' a.1 ≡ type_at s a.1) xs → map (move_to s') xs ≡ map (move_to s) xs
+pub moves_alike : (s s' : List (Option TableState)) (xs : List (Entity × ℕ)) → All (λ a. type_at s' a.1 ≡ type_at s a.1) xs →
+    map (move_to s') xs ≡ map (move_to s) xs
 moves_alike s s' [] same = refl
 moves_alike s s' (a ∷ xs) same =
     let here = same_ids_in s s' a.1 (All-head (λ (x : Entity × ℕ). type_at s' x.1 ≡ type_at s x.1) a xs same) in
@@ -106,10 +108,6 @@ spares_other s s' p n slot ready free sets = record {
     apart k d within same =
         let stays = ready.stays k d within in
         true≢false (sym stays ∙ ap (λ m. list_any (nat_eq m) p.targets) same ∙ free)
-
-pub not_true : (b : Bool) → not b ≡ true → b ≡ false
-not_true true h = absurd (cc)
-not_true false h = refl
 
 -- more targets
 pub targeted : (s : List (Option TableState)) (p : PreparedState) (n : ℕ) → IsReady s p → IsReady s (with_target p n)
@@ -154,7 +152,8 @@ ready_more s s' p e n slot ready stays there types sets room = record {
 }
 
 -- the moves, with one more before them
-pub moves_more : (s s' : List (Option TableState)) (p : PreparedState) (e : Entity) (n : ℕ) (ids : List Id) → type_at s n ≡ Some ids → SameTypes s s' → IsReady s p
+pub moves_more : (s s' : List (Option TableState)) (p : PreparedState) (e : Entity) (n : ℕ) (ids : List Id) → type_at s n ≡ Some ids → SameTypes s s' →
+    IsReady s p
     → moves_of s' (with_arrival p (e, n)) ≡ record { entity = e; type_list = ids } ∷ moves_of s p
 moves_more s s' p e n ids typed types ready =
     let here = same_ids_in s s' n (types n) ∙ typed_table s n ids typed in
@@ -179,7 +178,8 @@ none_later ms k d different within = ap not (list_any_none (λ (m : Move). entit
         different k (k + 1 + j) x (omega arith) there (ap (λ (m : Move). m.entity) (sym same_d) ∙ e ∙ ap (λ (m : Move). m.entity) is) in
         by (entity_eq (get_or ms k d).entity (get_or (drop (k + 1) ms) j x).entity) refl apart
       where
-        by : (b : Bool) → entity_eq (get_or ms k d).entity (get_or (drop (k + 1) ms) j x).entity ≡ b → (get_or ms k d).entity ≢ (get_or (drop (k + 1) ms) j x).entity → b ≡ false
+        by : (b : Bool) → entity_eq (get_or ms k d).entity (get_or (drop (k + 1) ms) j x).entity ≡ b →
+            (get_or ms k d).entity ≢ (get_or (drop (k + 1) ms) j x).entity → b ≡ false
         by true e apart = absurd (apart (entity_eq_is (get_or ms k d).entity (get_or (drop (k + 1) ms) j x).entity e))
         by false e apart = refl
 
@@ -195,7 +195,8 @@ spares_dropped s s' p n None ready free dropped kept = record {
 }
 
 -- a row goes out of a table
-pub spares_without : (s s1 : List (Option TableState)) (p : PreparedState) (n row : ℕ) → IsSome (slot_of s n) → Sets s s1 n (Some (without_row (table_in s n) row))
+pub spares_without : (s s1 : List (Option TableState)) (p : PreparedState) (n row : ℕ) → IsSome (slot_of s n) →
+    Sets s s1 n (Some (without_row (table_in s n) row))
     → Spares s s1 p.arrivals
 spares_without s s1 p n row there sets = record {
   types = λ k d within. sets_types s s1 n (without_row (table_in s n) row) sets there refl (get_or p.arrivals k d).1;
@@ -217,5 +218,6 @@ spares_without s s1 p n row there sets = record {
 -- two moves of different entities
 pub two_apart : (a b : Move) → a.entity ≢ b.entity → AreOfDifferent (a ∷ b ∷ [])
 two_apart a b apart =
-    AllPairs-cons (λ (x y : Move). x.entity ≢ y.entity) a (b ∷ []) (All-cons (λ (y : Move). a.entity ≢ y.entity) b [] apart (All-nil (λ (y : Move). a.entity ≢ y.entity)))
+    AllPairs-cons (λ (x y : Move). x.entity ≢ y.entity) a (b ∷ [])
+    (All-cons (λ (y : Move). a.entity ≢ y.entity) b [] apart (All-nil (λ (y : Move). a.entity ≢ y.entity)))
     (AllPairs-cons (λ (x y : Move). x.entity ≢ y.entity) b [] (All-nil (λ (y : Move). b.entity ≢ y.entity)) (λ i j d before within. absurd (omega arith)))

@@ -1,13 +1,12 @@
 -- A moved row is a row taken out of one table and put at the end of another.
-use Rattle.std.proofs.Common.{◌≡◌, ◌≢◌, ℕ, ◌-◌, ◌<◌, ◌==◌, Bool, true, false, cond, List, ◌∷◌, [], ◌++◌, length, slice_get, Option, Some, None, unwrap_or, refl, sym, ap, ◌∙◌, arith, inl, inr}
+use Rattle.std.proofs.Common.{◌≡◌, ◌≢◌, ℕ, ◌-◌, ◌<◌, ◌==◌, Bool, true, false, cond, List, length, slice_get, Option, Some, None, unwrap_or, refl, sym, ap, ◌∙◌, arith, inl, inr}
 use Rattle.std.specs.List.{swap_remove}
 use Rattle.std.proofs.lemmas.Bool.{cases_eq, cases_lt}
 use Rattle.std.proofs.lemmas.Bool.Decides.{Decides-eqb}
 use Rattle.std.proofs.lemmas.Option.{slice_get_past, slice_get-get_or}
-use Rattle.std.proofs.lemmas.List.{get_or_append_left, get_or_push, length-append}
 use Rattle.eco_tables.specs.Table.{TableState, Row, retyped_row}
 use Rattle.eco_tables.specs.Tables.{table_in, row_in, no_row, no_table, Moves, with_row, without_row}
-use Rattle.eco_tables.proofs.Lists.{get_or-swap_remove, length-swap_remove, before, not_equal}
+use Rattle.eco_ids.proofs.Lists.{slice_get-push_last, slice_get-push_other, get_or-swap_remove, length-swap_remove, before, not_equal}
 use Rattle.eco_store.specs.Seats.{row_at}
 use Rattle.eco_store.proofs.SeatChanges.{Removed, Pushed}
 
@@ -40,19 +39,6 @@ module _ (xs : List Row) (row : ℕ) (there : row < length xs) where
             slice_get_past (swap_remove xs row no_row) k (rw (length-swap_remove xs row no_row) above) ∙ sym (slice_get_past xs k (omega arith))
       ]
 
-pub push_at_end : (xs : List Row) (x : Row) → slice_get (xs ++ x ∷ []) (length xs) ≡ Some x
-push_at_end xs x =
-    slice_get-get_or (xs ++ x ∷ []) (length xs) x (omega (arith, length-append xs (x ∷ []))) ∙ ap Some (get_or_push xs x x (length xs) refl)
-
-pub push_others : (xs : List Row) (x : Row) (k : ℕ) → k ≢ length xs → slice_get (xs ++ x ∷ []) k ≡ slice_get xs k
-push_others xs x k other =
-    elim (cases_lt k (length xs)) [
-      | inl below ↦
-          slice_get-get_or (xs ++ x ∷ []) k x (omega (arith, length-append xs (x ∷ []))) ∙ ap Some (get_or_append_left xs (x ∷ []) x k below)
-          ∙ sym (slice_get-get_or xs k x below)
-      | inr above ↦ slice_get_past (xs ++ x ∷ []) k (omega (arith, length-append xs (x ∷ []))) ∙ sym (slice_get_past xs k above)
-    ]
-
 module _ (s s' : List (Option TableState)) (f row to : ℕ) (apart : f ≢ to) (there : row < length (table_in s f).rows) (moves : Moves s s' f row to) where
   -- the rows when one was taken out
   abbrev pub between_rows : ℕ → ℕ → Option Row
@@ -79,13 +65,16 @@ module _ (s s' : List (Option TableState)) (f row to : ℕ) (apart : f ≢ to) (
       let source : table_in s' f ≡ without_row (table_in s f) row = ap (λ o. unwrap_or o no_table) moves.source in
       record {
         free = between_there to (length (table_in s to).rows) back ∙ slice_get_past (table_in s to).rows (length (table_in s to).rows) (omega arith);
-        at_end = ap (λ (t : TableState). slice_get t.rows (length (table_in s to).rows)) target ∙ push_at_end (table_in s to).rows (retyped_row (table_in s to).ids (row_in s f row));
+        at_end = ap (λ (t : TableState). slice_get t.rows (length (table_in s to).rows)) target
+            ∙ slice_get-push_last (table_in s to).rows (retyped_row (table_in s to).ids (row_in s f row));
         others_here = λ k o.
-            ap (λ (t : TableState). slice_get t.rows k) target ∙ push_others (table_in s to).rows (retyped_row (table_in s to).ids (row_in s f row)) k o
+            ap (λ (t : TableState). slice_get t.rows k) target
+            ∙ slice_get-push_other (table_in s to).rows (retyped_row (table_in s to).ids (row_in s f row)) k o
             ∙ sym (between_there to k back);
         others = λ n k o.
             elim (cases_eq n f) [
-              | inl same ↦ ap (λ z. row_at s' z k) same ∙ ap (λ (t : TableState). slice_get t.rows k) source ∙ sym (ap (λ z. between_rows z k) same ∙ between_here k)
+              | inl same ↦ ap (λ z. row_at s' z k) same ∙ ap (λ (t : TableState). slice_get t.rows k) source
+                  ∙ sym (ap (λ z. between_rows z k) same ∙ between_here k)
               | inr other ↦ ap (λ o. slice_get (unwrap_or o no_table).rows k) (moves.others n other o) ∙ sym (between_there n k other)
             ];
       }

@@ -6,18 +6,20 @@ use Rattle.std.proofs.lemmas.Bool.Decides.{Decides-eqb}
 use Rattle.std.proofs.lemmas.List.{length-append}
 use Rattle.eco_tables.specs.Table.{TableState, Row}
 use Rattle.eco_tables.specs.Tables.{slot_of, table_in, no_table, rowless, rowless_type, Sets, Moves, with_row}
-use Rattle.eco_tables.proofs.Lists.{not_equal}
+use Rattle.eco_ids.proofs.Lists.{not_equal}
 use Rattle.eco_store.specs.Archetypes.{is_rowless, RowlessIn}
 use Rattle.eco_store.specs.Seats.{SameRows}
 use Rattle.eco_store.specs.Transfers.{SameTypes}
 use Rattle.eco_store.specs.Preparing.{PreparedState, nothing_prepared, with_target}
 use Rattle.eco_ids.specs.Indices.{Indexed}
+use Rattle.eco_ids.proofs.Facts.{or_right}
+use Rattle.eco_store.proofs.ArchetypeLemmas.{type_there}
 use Rattle.eco_entities.specs.Registration.{Registration}
 use Rattle.eco_store.specs.Sound.{IsSound}
 use Rattle.eco_store.specs.Store.{IsStore}
 use Rattle.eco_store.proofs.Readiness.{is_targeted, ready_nothing}
 use Rattle.std.proofs.lemmas.List.Folds.{list_any-append}
-use Rattle.eco_store.proofs.Pouring.{rows_same, type_of_there, there_as_typed}
+use Rattle.eco_store.proofs.Pouring.{rows_same, there_as_typed}
 
 -- a table without rows is there, and has none
 pub rowless_there : (s : List (Option TableState)) (n : ℕ) → IsTrue (is_rowless s n) → IsSome (slot_of s n) × ((table_in s n).rows ≡ [])
@@ -39,7 +41,8 @@ rowless_from s n = by (slot_of s n)
     by (Some t) h none = ap (λ rows. is_some (rowless t rows)) none
 
 -- more slots may be without rows
-pub rowless_more : (s : List (Option TableState)) (few many : List ℕ) → ((n : ℕ) → IsTrue (list_any (nat_eq n) few) → IsTrue (list_any (nat_eq n) many)) → RowlessIn s few → RowlessIn s many
+pub rowless_more : (s : List (Option TableState)) (few many : List ℕ) → ((n : ℕ) → IsTrue (list_any (nat_eq n) few) → IsTrue (list_any (nat_eq n) many)) →
+    RowlessIn s few → RowlessIn s many
 rowless_more s few many more was n empty = more n (was n empty)
 
 -- one of the slots is among the others
@@ -55,7 +58,7 @@ rowless_twice s n slots among =
 pub rowless_same : (s s' : List (Option TableState)) (slots : List ℕ) → SameRows s s' → SameTypes s s' → RowlessIn s slots → RowlessIn s' slots
 rowless_same s s' slots rows types was n empty =
     let now = rowless_there s' n empty in
-    let there : IsSome (slot_of s n) = there_as_typed s n (table_in s' n).ids (sym (types n) ∙ type_of_there s' n now.0) in
+    let there : IsSome (slot_of s n) = there_as_typed s n (table_in s' n).ids (sym (types n) ∙ type_there s' n now.0) in
     was n (rowless_from s n there (sym (rows_same s s' rows n) ∙ now.1))
 
 module _ (s s' : List (Option TableState)) (n : ℕ) (slots : List ℕ) where
@@ -85,12 +88,14 @@ module _ (s s' : List (Option TableState)) (n : ℕ) (slots : List ℕ) where
       ]
 
   -- a table has as many rows as before
-  pub rowless_rewritten : (slot : Option TableState) → Sets s s' n slot → length (table_in s' n).rows ≡ length (table_in s n).rows → IsSome (slot_of s n) → RowlessIn s slots → RowlessIn s' slots
+  pub rowless_rewritten : (slot : Option TableState) → Sets s s' n slot → length (table_in s' n).rows ≡ length (table_in s n).rows → IsSome (slot_of s n) →
+      RowlessIn s slots → RowlessIn s' slots
   rowless_rewritten slot sets as_many there was m empty =
       elim (cases_eq m n) [
         | inl here ↦
             let none : length (table_in s' n).rows ≡ 0 = ap length (ap (λ k. (table_in s' k).rows) (sym here) ∙ (rowless_there s' m empty).1) in
-            subst (λ k. IsTrue (list_any (nat_eq k) slots)) (sym here) (was n (rowless_from s n there (no_rows (table_in s n).rows (omega (arith, none, as_many)))))
+            subst (λ k. IsTrue (list_any (nat_eq k) slots)) (sym here)
+            (was n (rowless_from s n there (no_rows (table_in s n).rows (omega (arith, none, as_many)))))
         | inr other ↦ was m (others_rowless slot sets m other empty)
       ]
     where
@@ -99,7 +104,8 @@ module _ (s s' : List (Option TableState)) (n : ℕ) (slots : List ℕ) where
       no_rows (r ∷ rest) h = absurd (omega (arith, h))
 
 -- a row went from one table to another
-pub rowless_moved : (s s' : List (Option TableState)) (from row to : ℕ) (slots : List ℕ) → Moves s s' from row to → RowlessIn s (to ∷ slots) → RowlessIn s' (from ∷ slots)
+pub rowless_moved : (s s' : List (Option TableState)) (from row to : ℕ) (slots : List ℕ) → Moves s s' from row to → RowlessIn s (to ∷ slots) →
+    RowlessIn s' (from ∷ slots)
 rowless_moved s s' from row to slots moves was m empty =
     elim (cases_eq m from) [
       | inl here ↦ ap (λ b. b || list_any (nat_eq m) slots) ((Decides-eqb m from).1 here)
@@ -131,7 +137,8 @@ rowless_targeted s p n =
     stays m false h = list_any-append (nat_eq m) p.targets (n ∷ []) ∙ ap (λ b. b || list_any (nat_eq m) (n ∷ [])) h
 
 -- a store is sound where nothing is prepared and no table is without rows
-pub sound_unprepared : (w : Indexed Registration) (s : List (Option TableState)) (p : PreparedState) → IsStore w s → p ≡ nothing_prepared → RowlessIn s [] → IsSound w s p
+pub sound_unprepared : (w : Indexed Registration) (s : List (Option TableState)) (p : PreparedState) → IsStore w s → p ≡ nothing_prepared → RowlessIn s [] →
+    IsSound w s p
 sound_unprepared w s p places nothing none = record {
   places = places;
   moves = ready_nothing s p nothing;
@@ -141,8 +148,4 @@ sound_unprepared w s p places nothing none = record {
 
 -- one more slot may be without rows
 pub rowless_beside : (s : List (Option TableState)) (n : ℕ) (slots : List ℕ) → RowlessIn s slots → RowlessIn s (n ∷ slots)
-rowless_beside s n slots = rowless_more s slots (n ∷ slots) (λ m there. either (nat_eq m n) (list_any (nat_eq m) slots) there)
-  where
-    either : (a b : Bool) → IsTrue b → IsTrue (a || b)
-    either true b h = refl
-    either false b h = h
+rowless_beside s n slots = rowless_more s slots (n ∷ slots) (λ m there. or_right (nat_eq m n) (list_any (nat_eq m) slots) there)

@@ -152,8 +152,10 @@ module _ (P P' : ℕ → Option Seat) (E E' : ℕ → ℕ → Option Row) (i g f
         let keeps : E n k ≡ Some x → (n ≡ f → k ≢ row) → (n ≡ f → k ≢ last) → P' x.entity.index ≡ Some (seat_of x.entity n k) =
         λ old a b.
         let q = seated.back n k x old in
-        let not_i : x.entity.index ≢ i = λ w. let both = one_some (P i) _ _ (ap P (sym w) ∙ q) at in a (ap (λ (p : Seat). p.slot) both) (ap (λ (p : Seat). p.row) both) in
-        let not_m : x.entity.index ≢ m.entity.index = λ w. let both = one_some (P m.entity.index) _ _ (ap P (sym w) ∙ q) m_at in b (ap (λ (p : Seat). p.slot) both) (ap (λ (p : Seat). p.row) both) in
+        let not_i : x.entity.index ≢ i = λ w. let both = one_some (P i) _ _ (ap P (sym w) ∙ q) at in
+        a (ap (λ (p : Seat). p.slot) both) (ap (λ (p : Seat). p.row) both) in
+        let not_m : x.entity.index ≢ m.entity.index = λ w. let both = one_some (P m.entity.index) _ _ (ap P (sym w) ∙ q) m_at in
+        b (ap (λ (p : Seat). p.slot) both) (ap (λ (p : Seat). p.row) both) in
         kept x.entity.index not_i not_m ∙ q in
         elim (cases_eq n f) [
           | inr other ↦ keeps (sym (removed.others n k other) ∙ e) (λ w. absurd (other w)) (λ w. absurd (other w))

@@ -1,5 +1,5 @@
 -- A sorted list in which nothing comes twice ascends, and its members are those of the list that was sorted.
-use Rattle.std.proofs.Common.{◌≡◌, ◌≢◌, ℕ, zero, suc, ◌<◌, Bool, true, false, true≢false, ◌||◌, IsTrue, ◌↔◌, is_lt, is_eq, List, [], ◌∷◌, ◌++◌, length, get_or, refl, sym, ap, ◌∙◌, subst, arith, suc-add, Ordering, Less, Equal, Greater, inl, inr}
+use Rattle.std.proofs.Common.{◌≡◌, ◌≢◌, ℕ, zero, suc, ◌<◌, Bool, true, false, true≢false, ◌||◌, IsTrue, ◌↔◌, is_lt, is_eq, List, [], ◌∷◌, ◌++◌, length, get_or, refl, sym, ap, ◌∙◌, subst, arith, suc-add, Ordering, Less, Equal, Greater, inl, inr, Result, Ok, Err, IfOk}
 use Rattle.std.specs.Bool.{Decides}
 use Rattle.std.specs.Cmp.{IsTotalOrder}
 use Rattle.std.specs.FinMap.{IsAntisymmetric}
@@ -28,7 +28,8 @@ apart_append {K} (x ∷ xs) ys one two cross =
     AllPairs-cons (λ a b. a ≢ b) x (xs ++ ys)
     (All-append (λ b. x ≢ b) xs ys (λ k d within. one 0 (suc k) d (omega arith) (omega arith))
     (λ k d within. cross x (get_or ys k d) (0, omega arith, refl) (k, within, same ys k d (get_or ys k d) within)))
-    (apart_append xs ys (λ i j d below within. one (suc i) (suc j) d (omega arith) (omega arith)) two (λ a b p q. cross a b (suc p.0, omega (arith, p.1), p.2) q))
+    (apart_append xs ys (λ i j d below within. one (suc i) (suc j) d (omega arith) (omega arith)) two
+    (λ a b p q. cross a b (suc p.0, omega (arith, p.1), p.2) q))
   where
     same : (zs : List K) (k : ℕ) (d e : K) → k < length zs → get_or zs k e ≡ get_or zs k d
     same [] k d e within = absurd (omega arith)
@@ -57,7 +58,8 @@ module _ {K : Type 0} {R : K → K → Ordering} (o : IsTotalOrder R) (same : Is
       apart_below x (get_or xs k d)
       (sorted_far (λ a b. is_lt (R a b)) (ranks_by o (λ z. z)) (x ∷ xs) up 0 (suc k) d (omega arith) (omega arith))
       (apart 0 (suc k) d (omega arith) (omega arith))))
-      (ascending_sorted xs (λ k d low within. rw suc-add at (up (suc k) d (omega arith) (omega arith))) (λ i j d below within. apart (suc i) (suc j) d (omega arith) (omega arith)))
+      (ascending_sorted xs (λ k d low within. rw suc-add at (up (suc k) d (omega arith) (omega arith)))
+      (λ i j d below within. apart (suc i) (suc j) d (omega arith) (omega arith)))
 
   eq_decides : (x y : K) → Decides (eq_by_cmp R x y) (x ≡ y)
   eq_decides x y = (λ h. same x y (equal_tie _ h), λ e. subst (λ z. eq_by_cmp R x z ≡ true) e (ap is_eq (tied_itself o x)))
@@ -92,3 +94,8 @@ module _ {K : Type 0} {R : K → K → Ordering} (o : IsTotalOrder R) (same : Is
         λ h. (members x).0 (Contains-permutation sorted xs x (IsPermutation-sym xs sorted moved) (contains_item sorted x h)),
         λ h. item_contained sorted x (Contains-permutation xs sorted x moved ((members x).1 h)),
       ))
+
+-- what two clauses say of an answer that came
+pub both_ok : {T E : Type 0} (P Q S : T → Type 0) → ((x : T) → P x → Q x → S x) → (r : Result T E) → IfOk r P → IfOk r Q → IfOk r S
+both_ok P Q S make (Ok x) p q = make x p q
+both_ok P Q S make (Err e) p q = tt

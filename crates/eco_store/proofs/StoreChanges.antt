@@ -1,10 +1,10 @@
 -- The store after an entity's row went, and the entity that took its place was placed anew.
-use Rattle.std.proofs.Common.{◌≡◌, ◌≢◌, ℕ, ◌<◌, ◌-◌, Bool, true, false, true≢false, cond, Bor, Ordering, Less, Equal, Greater, is_eq, is_lt, List, [], ◌∷◌, map, length, slice_get, set, get_or, zero, suc, ◌+◌, nat_lt, if◌then◌else◌, Option, Some, None, option_map, option_and_then, unwrap_or, is_some, IsSome, IfSome, IsTrue, refl, sym, ap, subst, ◌∙◌, inl, inr}
+use Rattle.std.proofs.Common.{◌≡◌, ◌≢◌, ℕ, ◌<◌, ◌-◌, Bool, true, false, true≢false, cond, Bor, Ordering, Less, Equal, Greater, is_eq, is_lt, List, [], ◌∷◌, map, length, slice_get, set, get_or, ◌+◌, nat_lt, if◌then◌else◌, Option, Some, None, option_map, option_and_then, unwrap_or, is_some, IsSome, IfSome, IsTrue, refl, sym, ap, subst, ◌∙◌, inl, inr}
 use Rattle.std.proofs.lemmas.Bool.{cases_eq}
 use Rattle.eco_ids.specs.declared.entity.Entity.{Entity}
 use Rattle.eco_ids.specs.declared.id.Id.{Id}
 use Rattle.eco_ids.specs.declared.value.Value.{Value}
-use Rattle.eco_ids.specs.Indices.{Indexed, IndexState, Retired, Free, Living, record_of, with_death, raised, is_alive, map_state}
+use Rattle.eco_ids.specs.Indices.{changed, change_kept, with_record, Indexed, IndexState, Retired, Free, Living, record_of, with_death, raised, is_alive, map_state}
 use Rattle.eco_tables.specs.Column.{retyped}
 use Rattle.eco_tables.specs.Table.{TableState, Row, entities_of}
 use Rattle.eco_tables.specs.Tables.{slot_of, table_in, Sets, Moves, without_row, no_table}
@@ -14,22 +14,25 @@ use Rattle.std.specs.Ordering.{ordering_reverse}
 use Rattle.std.specs.FinMap.Entries.{find}
 use Rattle.std.proofs.lemmas.Option.{slice_get_within, slice_get-get_or}
 use Rattle.eco_ids.specs.Order.{id_cmp, id_eq, is_ascending}
-use Rattle.eco_ids.specs.World.{zeros}
+use Rattle.eco_ids.specs.World.{Record, zeros}
 use Rattle.eco_ids.proofs.Ascending.{first, second, less}
 use Rattle.eco_ids.proofs.IdOrder.{id_cmp_total}
 use Rattle.eco_tables.specs.Column.{value_in}
 use Rattle.eco_tables.specs.Table.{HasIds}
 use Rattle.eco_store.specs.Archetypes.{type_at, KeepsTypes}
 use Rattle.eco_store.specs.TypeMap.{same_ids}
-use Rattle.eco_store.proofs.Ids.{same_ids-Decides}
+use Rattle.eco_ids.proofs.SameIds.{same_ids-Decides}
 use Rattle.eco_entities.specs.declared.place.Place.{Place}
-use Rattle.eco_entities.specs.Registration.{Registration, with_change, change_in, placed, own_place}
+use Rattle.eco_entities.specs.Registration.{Registration, placed, own_place}
 use Rattle.eco_store.specs.Placing.{fixed}
 use Rattle.eco_store.specs.Seats.{IsSeated, seat_of, row_at, seen, held_of, SameRows}
-use Rattle.eco_store.specs.Store.{Kept, kept, held_at, read, seat_in, seat_at, seat_of_place, HasPlace, IsStore, with_holding, holding_in, held_by}
+use Rattle.eco_store.specs.Store.{record_for, held_at, read, seat_in, seat_at, seat_of_place, HasPlace, IsStore, with_type}
 use Rattle.eco_store.proofs.SeatChanges.{one_some}
-use Rattle.eco_store.proofs.Moves.{slice_get-map, row_there, mover, take_seated, take_others, move_seated, move_others, move_new_held}
-use Rattle.eco_store.proofs.Views.{ext_slice_get, slice_get-set_same, slice_get-set_other, living_at, record_at, bare_at, seen_alike}
+use Rattle.std.proofs.lemmas.Option.{slice_get-map}
+use Rattle.eco_store.proofs.Moves.{row_there, mover, take_seated, take_others, move_seated, move_others, move_new_held}
+use Rattle.eco_ids.proofs.Lists.{slice_get-set_there, slice_get-set_other, set_own}
+use Rattle.eco_ids.proofs.States.{living_at, record_at}
+use Rattle.eco_store.proofs.Views.{ext_slice_get, bare, bare_at, seen_alike}
 
 -- what a seat says of its index
 pub living_from_seat : (o : Option (IndexState Registration)) (e : Entity) (n k : ℕ) → seat_in o ≡ Some (seat_of e n k)
@@ -39,12 +42,14 @@ living_from_seat (Some Retired) e n k h = absurd (cc)
 living_from_seat (Some (Free g)) e n k h = absurd (cc)
 living_from_seat (Some (Living g r)) e n k h = (r, by r.place h)
   where
-    by : (p : Option Place) → option_map (seat_of_place g) p ≡ Some (seat_of e n k) → ◌≡◌ {A = Option (IndexState Registration)} (Some (Living g r)) (Some (Living e.generation r))
+    by : (p : Option Place) → option_map (seat_of_place g) p ≡ Some (seat_of e n k) →
+        ◌≡◌ {A = Option (IndexState Registration)} (Some (Living g r)) (Some (Living e.generation r))
     by None h = absurd (cc)
     by (Some p) h = let same : seat_of_place g p ≡ seat_of e n k = cc in λ t. Some (Living (same t).generation r)
 
 -- the record of an entity that has a place
-pub placed_record : (w : Indexed Registration) (e : Entity) (p : Place) → own_place w e ≡ Some p → (r : Registration) × (record_of w e ≡ Some r) × (r.place ≡ Some p)
+pub placed_record : (w : Indexed Registration) (e : Entity) (p : Place) → own_place w e ≡ Some p →
+    (r : Registration) × (record_of w e ≡ Some r) × (r.place ≡ Some p)
 placed_record w e p = by (record_of w e)
   where
     by : (o : Option Registration) → option_and_then (λ r. r.place) o ≡ Some p → (r : Registration) × (o ≡ Some r) × (r.place ≡ Some p)
@@ -63,21 +68,21 @@ pub fixed_other : (w : Indexed Registration) (moved : Option Entity) (p : Place)
 fixed_other w None p j apart = refl
 fixed_other w (Some m) p j apart = by (record_of w m)
   where
-    by : (o : Option Registration) → slice_get (change_in w m (placed p) o).indices j ≡ slice_get w.indices j
+    by : (o : Option Registration) → slice_get (change_kept w m (placed p) o).indices j ≡ slice_get w.indices j
     by None = refl
     by (Some r) = slice_get-set_other w.indices m.index j (Living m.generation (placed p r)) (apart m refl)
 
 pub fixed_here : (w : Indexed Registration) (m : Entity) (p : Place) (r : Registration) → record_of w m ≡ Some r
     → slice_get (fixed w (Some m) p).indices m.index ≡ Some (Living m.generation (placed p r))
 fixed_here w m p r h =
-    ap (λ o. slice_get (change_in w m (placed p) o).indices m.index) h
-    ∙ slice_get-set_same w.indices m.index (Living m.generation (placed p r)) (Living m.generation r) (living_at w m r h)
+    ap (λ o. slice_get (change_kept w m (placed p) o).indices m.index) h
+    ∙ slice_get-set_there w.indices m.index (Living m.generation (placed p r)) (Living m.generation r) (living_at w m r h)
 
 pub fixed_limit : (w : Indexed Registration) (moved : Option Entity) (p : Place) → (fixed w moved p).limit ≡ w.limit
 fixed_limit w None p = refl
 fixed_limit w (Some m) p = by (record_of w m)
   where
-    by : (o : Option Registration) → (change_in w m (placed p) o).limit ≡ w.limit
+    by : (o : Option Registration) → (change_kept w m (placed p) o).limit ≡ w.limit
     by None = refl
     by (Some r) = refl
 
@@ -85,29 +90,31 @@ pub fixed_bare : (w : Indexed Registration) (moved : Option Entity) (p : Place) 
 fixed_bare w None p j = refl
 fixed_bare w (Some m) p j = by (record_of w m) refl
   where
-    by : (o : Option Registration) → record_of w m ≡ o → bare_at (change_in w m (placed p) o) j ≡ bare_at w j
+    by : (o : Option Registration) → record_of w m ≡ o → bare_at (change_kept w m (placed p) o) j ≡ bare_at w j
     by None h = refl
     by (Some r) h =
         elim (cases_eq j m.index) [
           | inl here ↦
-              ap (λ k. option_map (map_state (λ (x : Registration). x.name)) (slice_get (set w.indices m.index (Living m.generation (placed p r))) k)) here
-              ∙ ap (option_map (map_state (λ (x : Registration). x.name))) (slice_get-set_same w.indices m.index (Living m.generation (placed p r)) (Living m.generation r) (living_at w m r h))
-              ∙ sym (ap (λ k. bare_at w k) here ∙ ap (option_map (map_state (λ (x : Registration). x.name))) (living_at w m r h))
-          | inr other ↦ ap (option_map (map_state (λ (x : Registration). x.name))) (slice_get-set_other w.indices m.index j (Living m.generation (placed p r)) other)
+              ap (λ k. option_map (map_state bare) (slice_get (set w.indices m.index (Living m.generation (placed p r))) k)) here
+              ∙ ap (option_map (map_state bare))
+              (slice_get-set_there w.indices m.index (Living m.generation (placed p r)) (Living m.generation r) (living_at w m r h))
+              ∙ sym (ap (λ k. bare_at w k) here ∙ ap (option_map (map_state bare)) (living_at w m r h))
+          | inr other ↦ ap (option_map (map_state bare)) (slice_get-set_other w.indices m.index j (Living m.generation (placed p r)) other)
         ]
 
-pub fixed_placed : (w : Indexed Registration) (moved : Option Entity) (p : Place) (j : ℕ) → HasPlace (slice_get w.indices j) → HasPlace (slice_get (fixed w moved p).indices j)
+pub fixed_placed : (w : Indexed Registration) (moved : Option Entity) (p : Place) (j : ℕ) → HasPlace (slice_get w.indices j) →
+    HasPlace (slice_get (fixed w moved p).indices j)
 fixed_placed w None p j had = had
 fixed_placed w (Some m) p j had = by (record_of w m) refl
   where
-    by : (o : Option Registration) → record_of w m ≡ o → HasPlace (slice_get (change_in w m (placed p) o).indices j)
+    by : (o : Option Registration) → record_of w m ≡ o → HasPlace (slice_get (change_kept w m (placed p) o).indices j)
     by None h = had
     by (Some r) h =
         elim (cases_eq j m.index) [
           | inl here ↦
               let now : slice_get (set w.indices m.index (Living m.generation (placed p r))) j ≡ Some (Living m.generation (placed p r)) =
               ap (slice_get (set w.indices m.index (Living m.generation (placed p r)))) here
-              ∙ slice_get-set_same w.indices m.index (Living m.generation (placed p r)) (Living m.generation r) (living_at w m r h) in
+              ∙ slice_get-set_there w.indices m.index (Living m.generation (placed p r)) (Living m.generation r) (living_at w m r h) in
               subst HasPlace (sym now) refl
           | inr other ↦ subst HasPlace (sym (slice_get-set_other w.indices m.index j (Living m.generation (placed p r)) other)) had
         ]
@@ -127,7 +134,7 @@ module _ (w : Indexed Registration) (e : Entity) (p : Place) (moved : Option Ent
   fixed_e = fixed_other w moved p e.index (λ m is h. (movers m is).1 (sym h)) ∙ was
 
   pub after_e : slice_get after.indices e.index ≡ Some x
-  after_e = slice_get-set_same (fixed w moved p).indices e.index x (Living e.generation r) fixed_e
+  after_e = slice_get-set_there (fixed w moved p).indices e.index x (Living e.generation r) fixed_e
 
   after_not_e : (j : ℕ) → j ≢ e.index → slice_get after.indices j ≡ slice_get (fixed w moved p).indices j
   after_not_e j other = slice_get-set_other (fixed w moved p).indices e.index j x other
@@ -142,7 +149,7 @@ module _ (w : Indexed Registration) (e : Entity) (p : Place) (moved : Option Ent
   after_others j not_e not_m = ap seat_in (after_not_e j not_e ∙ fixed_other w moved p j not_m)
 
   pub after_bare : (j : ℕ) → j ≢ e.index → bare_at after j ≡ bare_at w j
-  after_bare j not_e = ap (option_map (map_state (λ (y : Registration). y.name))) (after_not_e j not_e) ∙ fixed_bare w moved p j
+  after_bare j not_e = ap (option_map (map_state bare)) (after_not_e j not_e) ∙ fixed_bare w moved p j
 
   pub after_placed : ((j : ℕ) → HasPlace (slice_get w.indices j)) → HasPlace (Some x) → (j : ℕ) → HasPlace (slice_get after.indices j)
   after_placed had has j =
@@ -152,20 +159,20 @@ module _ (w : Indexed Registration) (e : Entity) (p : Place) (moved : Option Ent
       ]
 
   -- all is seen as before but what is seen of the entity
-  pub after_read : (s s' : List (Option TableState)) (y : IndexState Kept)
+  pub after_read : (s s' : List (Option TableState)) (y : IndexState Record)
       → ((j : ℕ) → j ≢ e.index → option_map (seen (row_at s')) (seat_at after j) ≡ option_map (seen (row_at s)) (seat_at w j))
-      → option_map (map_state (kept (row_at s'))) (Some x) ≡ Some y
+      → option_map (map_state (record_for (row_at s'))) (Some x) ≡ Some y
       → read after s' ≡ record (read w s) { indices = set (read w s).indices e.index y }
   after_read s s' y others it =
-      let old : slice_get (read w s).indices e.index ≡ Some (map_state (kept (row_at s)) (Living e.generation r)) =
-      slice_get-map (map_state (kept (row_at s))) w.indices e.index ∙ ap (option_map (map_state (kept (row_at s)))) was in
+      let old : slice_get (read w s).indices e.index ≡ Some (map_state (record_for (row_at s)) (Living e.generation r)) =
+      slice_get-map (map_state (record_for (row_at s))) w.indices e.index ∙ ap (option_map (map_state (record_for (row_at s)))) was in
       let indices : (read after s').indices ≡ set (read w s).indices e.index y =
       ext_slice_get (read after s').indices (set (read w s).indices e.index y)
       (λ j. elim (cases_eq j e.index) [
         | inl here ↦
             ap (slice_get (read after s').indices) here
-            ∙ slice_get-map (map_state (kept (row_at s'))) after.indices e.index ∙ ap (option_map (map_state (kept (row_at s')))) after_e ∙ it
-            ∙ sym (ap (slice_get (set (read w s).indices e.index y)) here ∙ slice_get-set_same (read w s).indices e.index y _ old)
+            ∙ slice_get-map (map_state (record_for (row_at s'))) after.indices e.index ∙ ap (option_map (map_state (record_for (row_at s')))) after_e ∙ it
+            ∙ sym (ap (slice_get (set (read w s).indices e.index y)) here ∙ slice_get-set_there (read w s).indices e.index y _ old)
         | inr other ↦
             seen_alike w after s s' j (after_bare j other) (others j other)
             ∙ sym (slice_get-set_other (read w s).indices e.index j y other)
@@ -184,7 +191,8 @@ module _ (w : Indexed Registration) (s s1 s2 : List (Option TableState)) (e : En
 
   out_movers : (m : Entity) → moved ≡ Some m → (seat_at w m.index ≡ Some (seat_of m p.table (length (table_in s p.table).rows - 1))) × (m.index ≢ e.index)
   out_movers m is =
-      mover (seat_at w) s s1 e.index (seat_of e p.table p.row) moved store.seated (seat_there w e p own) (ap (λ o. unwrap_or o no_table) sets.changed) moved_is m is
+      mover (seat_at w) s s1 e.index (seat_of e p.table p.row) moved store.seated (seat_there w e p own)
+      (ap (λ o. unwrap_or o no_table) sets.changed) moved_is m is
 
   pub out_movers_live : IfSome moved (λ m. IsTrue (is_alive w m))
   out_movers_live = by moved refl
@@ -209,10 +217,10 @@ module _ (w : Indexed Registration) (s s1 s2 : List (Option TableState)) (e : En
       by true = tt
       by false = tt
 
-  raised_kept : (E : ℕ → ℕ → Option Row) (g : ℕ) → map_state (kept E) (raised g) ≡ raised g
+  raised_kept : (E : ℕ → ℕ → Option Row) (g : ℕ) → map_state (record_for E) (raised g) ≡ raised g
   raised_kept E g = by (nat_lt g 65535)
     where
-      by : (b : Bool) → map_state (kept E) (if b then Free (g + 1) else Retired) ≡ (if b then Free (g + 1) else Retired)
+      by : (b : Bool) → map_state (record_for E) (if b then Free (g + 1) else Retired) ≡ (if b then Free (g + 1) else Retired)
       by true = refl
       by false = refl
 
@@ -230,7 +238,8 @@ module _ (w : Indexed Registration) (s s1 s2 : List (Option TableState)) (e : En
   out_seated : IsSeated (seat_at out_after) (row_at s1)
   out_seated =
       take_seated (seat_at w) (seat_at out_after) s s1 e.index (seat_of e p.table p.row) moved store.seated (seat_there w e p own) sets moved_is out_gone
-      (after_m w e p moved out_record.0 _ (raised e.generation) out_was out_movers) (after_others w e p moved out_record.0 _ (raised e.generation) out_was out_movers)
+      (after_m w e p moved out_record.0 _ (raised e.generation) out_was out_movers)
+      (after_others w e p moved out_record.0 _ (raised e.generation) out_was out_movers)
 
   pub out_store : IsStore out_after s2
   out_store = record {
@@ -244,15 +253,16 @@ module _ (w : Indexed Registration) (s s1 s2 : List (Option TableState)) (e : En
       (λ j other.
       ap (λ E. option_map (seen E) (seat_at out_after j)) (rows_as s1 s2 dropped)
       ∙ take_others (seat_at w) (seat_at out_after) s s1 e.index (seat_of e p.table p.row) moved store.seated (seat_there w e p own) sets moved_is out_gone
-      (after_m w e p moved out_record.0 _ (raised e.generation) out_was out_movers) (after_others w e p moved out_record.0 _ (raised e.generation) out_was out_movers) j other)
+      (after_m w e p moved out_record.0 _ (raised e.generation) out_was out_movers)
+      (after_others w e p moved out_record.0 _ (raised e.generation) out_was out_movers) j other)
       (ap Some (raised_kept (row_at s2) e.generation))
 
 -- what a store shows of a living entity
 pub read_record : (w : Indexed Registration) (s : List (Option TableState)) (e : Entity) (r : Registration) → record_of w e ≡ Some r
-    → record_of (read w s) e ≡ Some (kept (row_at s) r)
+    → record_of (read w s) e ≡ Some (record_for (row_at s) r)
 read_record w s e r h =
-    record_at (read w s) e (kept (row_at s) r)
-    (slice_get-map (map_state (kept (row_at s))) w.indices e.index ∙ ap (option_map (map_state (kept (row_at s)))) (living_at w e r h))
+    record_at (read w s) e (record_for (row_at s) r)
+    (slice_get-map (map_state (record_for (row_at s))) w.indices e.index ∙ ap (option_map (map_state (record_for (row_at s)))) (living_at w e r h))
 
 pub same_store : (w : Indexed Registration) (s s' : List (Option TableState)) → SameRows s s' → IsStore w s → IsStore w s'
 same_store w s s' same store = record {
@@ -261,7 +271,7 @@ same_store w s s' same store = record {
 }
 
 pub same_read : (w : Indexed Registration) (s s' : List (Option TableState)) → SameRows s s' → read w s' ≡ read w s
-same_read w s s' same = ap (λ E. record { limit = w.limit; indices = map (map_state (kept E)) w.indices }) (rows_as s s' same)
+same_read w s s' same = ap (λ E. record { limit = w.limit; indices = map (map_state (record_for E)) w.indices }) (rows_as s s' same)
 
 -- an entity's row is there
 pub row_within : (w : Indexed Registration) (s : List (Option TableState)) (e : Entity) (p : Place) → IsStore w s → own_place w e ≡ Some p
@@ -284,7 +294,8 @@ module _ (w : Indexed Registration) (s s0 s1 s2 : List (Option TableState)) (e :
 
   to_movers : (m : Entity) → moved ≡ Some m → (seat_at w m.index ≡ Some (seat_of m p.table (length (table_in s0 p.table).rows - 1))) × (m.index ≢ e.index)
   to_movers m is =
-      mover (seat_at w) s0 s1 e.index (seat_of e p.table p.row) moved to_ready.seated (seat_there w e p own) (ap (λ o. unwrap_or o no_table) moves.source) moved_is m is
+      mover (seat_at w) s0 s1 e.index (seat_of e p.table p.row) moved to_ready.seated (seat_there w e p own)
+      (ap (λ o. unwrap_or o no_table) moves.source) moved_is m is
 
   pub to_movers_live : IfSome moved (λ m. IsTrue (is_alive w m))
   to_movers_live = by moved refl
@@ -310,60 +321,58 @@ module _ (w : Indexed Registration) (s s0 s1 s2 : List (Option TableState)) (e :
   abbrev to_after : Indexed Registration
   to_after = after w e p moved to_record.0 _ new_state to_was to_movers
 
-  to_is : with_change (fixed w moved p) e (placed new_place) ≡ to_after
-  to_is = ap (change_in (fixed w moved p) e (placed new_place)) to_fixed
+  to_is : changed (fixed w moved p) e (placed new_place) ≡ to_after
+  to_is = ap (change_kept (fixed w moved p) e (placed new_place)) to_fixed
 
   to_now : seat_at to_after e.index ≡ Some (seat_of e to end)
   to_now = ap seat_in (after_e w e p moved to_record.0 _ new_state to_was to_movers)
 
   to_seated : IsSeated (seat_at to_after) (row_at s1)
   to_seated =
-      move_seated (seat_at w) (seat_at to_after) s0 s1 e.index to end (seat_of e p.table p.row) moved to_ready.seated (seat_there w e p own) apart moves moved_is end_is to_now
+      move_seated (seat_at w) (seat_at to_after) s0 s1 e.index to end (seat_of e p.table p.row) moved to_ready.seated
+      (seat_there w e p own) apart moves moved_is end_is to_now
       (after_m w e p moved to_record.0 _ new_state to_was to_movers) (after_others w e p moved to_record.0 _ new_state to_was to_movers)
 
   to_others : (j : ℕ) → j ≢ e.index → option_map (seen (row_at s2)) (seat_at to_after j) ≡ option_map (seen (row_at s)) (seat_at w j)
   to_others j other =
       ap (λ E. option_map (seen E) (seat_at to_after j)) (rows_as s1 s2 dropped)
-      ∙ move_others (seat_at w) (seat_at to_after) s0 s1 e.index to end (seat_of e p.table p.row) moved to_ready.seated (seat_there w e p own) apart moves moved_is end_is to_now
+      ∙ move_others (seat_at w) (seat_at to_after) s0 s1 e.index to end (seat_of e p.table p.row) moved to_ready.seated
+      (seat_there w e p own) apart moves moved_is end_is to_now
       (after_m w e p moved to_record.0 _ new_state to_was to_movers) (after_others w e p moved to_record.0 _ new_state to_was to_movers) j other
       ∙ ap (λ E. option_map (seen E) (seat_at w j)) (rows_as s s0 alike)
 
   to_held : held_of (row_at s2 to end) ≡ retyped ids (held_of (row_at s p.table p.row))
   to_held =
       ap held_of (dropped to end)
-      ∙ move_new_held (seat_at w) (seat_at to_after) s0 s1 e.index to end (seat_of e p.table p.row) moved to_ready.seated (seat_there w e p own) apart moves moved_is end_is to_now
+      ∙ move_new_held (seat_at w) (seat_at to_after) s0 s1 e.index to end (seat_of e p.table p.row) moved to_ready.seated
+      (seat_there w e p own) apart moves moved_is end_is to_now
       (after_m w e p moved to_record.0 _ new_state to_was to_movers) (after_others w e p moved to_record.0 _ new_state to_was to_movers)
       ∙ (λ t. retyped (typed t) (held_of (alike p.table p.row t)))
 
-  pub to_store : IsStore (with_change (fixed w moved p) e (placed new_place)) s2
+  pub to_store : IsStore (changed (fixed w moved p) e (placed new_place)) s2
   to_store = subst (λ v. IsStore v s2) (sym to_is) (record {
     seated = subst (IsSeated (seat_at to_after)) (sym (rows_as s1 s2 dropped)) to_seated;
     placed = after_placed w e p moved to_record.0 _ new_state to_was to_movers store.placed refl;
   })
 
-  abbrev new_kept : IndexState Kept
-  new_kept = Living e.generation (record { name = to_record.0.name; held = retyped ids (held_of (row_at s p.table p.row)) })
+  abbrev new_kept : IndexState Record
+  new_kept = Living e.generation (record { name = to_record.0.name; arity = to_record.0.arity; held = retyped ids (held_of (row_at s p.table p.row)) })
 
-  pub to_read : read (with_change (fixed w moved p) e (placed new_place)) s2 ≡ with_holding (read w s) e (retyped ids (held_by (read w s) e))
+  pub to_read : read (changed (fixed w moved p) e (placed new_place)) s2 ≡ changed (read w s) e (with_type ids)
   to_read =
-      let old : record_of (read w s) e ≡ Some (kept (row_at s) to_record.0) = read_record w s e to_record.0 to_record.1 in
-      let held : held_by (read w s) e ≡ held_of (row_at s p.table p.row) =
-      ap (λ o. unwrap_or (option_map (λ (k : Kept). k.held) o) []) old ∙ ap (held_at (row_at s)) to_record.2 in
+      let old : record_of (read w s) e ≡ Some (record_for (row_at s) to_record.0) = read_record w s e to_record.0 to_record.1 in
+      let held : held_at (row_at s) to_record.0.place ≡ held_of (row_at s p.table p.row) = ap (held_at (row_at s)) to_record.2 in
       ap (λ v. read v s2) to_is
       ∙ after_read w e p moved to_record.0 _ new_state to_was to_movers s s2 new_kept to_others
-      (λ t. Some (Living e.generation (record { name = to_record.0.name; held = to_held t })))
-      ∙ sym ((λ t. holding_in (read w s) e (retyped ids (held t)) (old t)))
+      (λ t. Some (Living e.generation (record { name = to_record.0.name; arity = to_record.0.arity; held = to_held t })))
+      ∙ sym (ap (change_kept (read w s) e (with_type ids)) old
+      ∙ (λ t. with_record (read w s) e (record { name = to_record.0.name; arity = to_record.0.arity; held = retyped ids (held t) })))
 
 -- ---- an entity that has the type already
 
 pub some_from_copied : {X : Type 0} (o : Option (Bor X)) (s : Option X) → option_copied o ≡ s → IsSome s → IsSome o
 some_from_copied None s h there = absurd (let none : is_some s ≡ false = sym (ap is_some h) in true≢false (sym there ∙ none))
 some_from_copied (Some b) s h there = refl
-
-pub set_own : {X : Type 0} (xs : List X) (i : ℕ) (x : X) → slice_get xs i ≡ Some x → set xs i x ≡ xs
-set_own [] i x h = refl
-set_own (y ∷ ys) zero x h = let same : y ≡ x = cc in ap (λ z. z ∷ ys) (sym same)
-set_own (y ∷ ys) (suc i) x h = ap (λ zs. y ∷ zs) (set_own ys i x h)
 
 -- ids below an id are not it
 not_alike : (i j : Id) → IsTrue (is_lt (id_cmp i j)) → id_eq j i ≡ false
@@ -399,24 +408,26 @@ retyped-own (p ∷ rest) up =
 pub same_type : (w : Indexed Registration) (s : List (Option TableState)) (e : Entity) (p : Place) (table : TableState) (ids : List Id)
     → IsStore w s → own_place w e ≡ Some p → slot_of s p.table ≡ Some table → All (HasIds table.ids) table.rows
     → IsTrue (is_ascending id_cmp table.ids) → table.ids ≡ ids
-    → read w s ≡ with_holding (read w s) e (retyped ids (held_by (read w s) e))
+    → read w s ≡ changed (read w s) e (with_type ids)
 same_type w s e p table ids store own at typed up is =
     let r = placed_record w e p own in
     let seat = store.seated.there e.index (seat_of e p.table p.row) (seat_there w e p own) in
     let in_table : slice_get table.rows p.row ≡ Some seat.0 = sym (ap (λ o. slice_get (unwrap_or o no_table).rows p.row) at) ∙ seat.1 in
     let within : p.row < length table.rows = slice_get_within table.rows p.row seat.0 in_table in
-    let row_is : get_or table.rows p.row seat.0 ≡ seat.0 = one_some (slice_get table.rows p.row) _ _ (slice_get-get_or table.rows p.row seat.0 within) in_table in
+    let row_is : get_or table.rows p.row seat.0 ≡ seat.0 = one_some (slice_get table.rows p.row) _ _
+    (slice_get-get_or table.rows p.row seat.0 within) in_table in
     let ids_are : map (λ q. q.0) seat.0.held ≡ table.ids = ap (λ (x : Row). map (λ q. q.0) x.held) (sym row_is) ∙ typed p.row seat.0 within in
-    let old : record_of (read w s) e ≡ Some (kept (row_at s) r.0) = read_record w s e r.0 r.1 in
-    let held : held_by (read w s) e ≡ seat.0.held =
-    ap (λ o. unwrap_or (option_map (λ (k : Kept). k.held) o) []) old ∙ ap (held_at (row_at s)) r.2 ∙ ap held_of seat.1 in
-    let own_held : retyped ids (held_by (read w s) e) ≡ (kept (row_at s) r.0).held =
+    let old : record_of (read w s) e ≡ Some (record_for (row_at s) r.0) = read_record w s e r.0 r.1 in
+    let held : held_at (row_at s) r.0.place ≡ seat.0.held = ap (held_at (row_at s)) r.2 ∙ ap held_of seat.1 in
+    let own_held : retyped ids (held_at (row_at s) r.0.place) ≡ held_at (row_at s) r.0.place =
     (λ t. retyped ((sym is ∙ sym ids_are) t) (held t))
     ∙ retyped-own seat.0.held (subst (λ xs. IsTrue (is_ascending id_cmp xs)) (sym ids_are) up)
-    ∙ sym (ap (held_at (row_at s)) r.2 ∙ ap held_of seat.1) in
-    let same : set (read w s).indices e.index (Living e.generation (kept (row_at s) r.0)) ≡ (read w s).indices =
-    set_own (read w s).indices e.index (Living e.generation (kept (row_at s) r.0)) (living_at (read w s) e (kept (row_at s) r.0) old) in
-    sym ((λ t. holding_in (read w s) e (own_held t) (old t)) ∙ (λ t. record { limit = w.limit; indices = same t }))
+    ∙ sym held in
+    let same : set (read w s).indices e.index (Living e.generation (record_for (row_at s) r.0)) ≡ (read w s).indices =
+    set_own (read w s).indices e.index (Living e.generation (record_for (row_at s) r.0)) (living_at (read w s) e (record_for (row_at s) r.0) old) in
+    sym (ap (change_kept (read w s) e (with_type ids)) old
+    ∙ (λ t. with_record (read w s) e (record { name = r.0.name; arity = r.0.arity; held = own_held t }))
+    ∙ (λ t. record { limit = w.limit; indices = same t }))
 
 -- the type that an entity gets is not in the slot that it has
 pub other_slot : (s s0 : List (Option TableState)) (n to : ℕ) (own ids : List Id) → type_at s n ≡ Some own → KeepsTypes s s0 → type_at s0 to ≡ Some ids

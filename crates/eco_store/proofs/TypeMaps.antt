@@ -4,7 +4,7 @@ use Rattle.std.specs.HashMap.{HashMap, get}
 use Rattle.std.proofs.lemmas.Bool.Decides.{Decides-eqb}
 use Rattle.eco_ids.specs.declared.id.Id.{Id}
 use Rattle.eco_store.specs.TypeMap.{same_ids, IsTypeMap}
-use Rattle.eco_store.proofs.Ids.{same_ids-Decides}
+use Rattle.eco_ids.proofs.SameIds.{same_ids-Decides}
 
 -- the two ways of a test
 way : (b : Bool) (P : Type 0) → (b ≡ true → P) → (b ≡ false → P) → P

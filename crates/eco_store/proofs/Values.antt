@@ -4,12 +4,13 @@ use Rattle.std.specs.List.{All}
 use Rattle.std.specs.FinMap.Entries.{find}
 use Rattle.std.proofs.lemmas.Bool.{cases_eq}
 use Rattle.std.proofs.lemmas.Option.{slice_get_within, slice_get-get_or}
+use Rattle.eco_ids.specs.World.{Record}
 use Rattle.eco_ids.specs.declared.entity.Entity.{Entity}
 use Rattle.eco_ids.specs.declared.id.Id.{Id}
 use Rattle.eco_ids.specs.declared.refusal.Refusal.{Refusal}
-use Rattle.eco_ids.specs.declared.refusal.Refusal.TheVariants.{NotAlive, BadName, NameTaken}
+use Rattle.eco_ids.specs.declared.refusal.Refusal.TheVariants.{NotAlive, Reserved, BadName, NameTaken}
 use Rattle.eco_ids.specs.declared.value.Value.{Value}
-use Rattle.eco_ids.specs.Indices.{Indexed, IndexState, Retired, Free, Living, record_in, record_of, with_record, is_alive, map_state}
+use Rattle.eco_ids.specs.Indices.{changed, change_kept, Indexed, IndexState, Retired, Free, Living, record_in, record_of, with_record, is_alive, map_state}
 use Rattle.eco_ids.specs.Names.{is_proper, is_same_name}
 use Rattle.eco_ids.specs.Order.{id_cmp}
 use Rattle.eco_ids.specs.Outcome.{Meets, is_out_of_memory, first_refusal, Answers, Refuses}
@@ -17,15 +18,18 @@ use Rattle.eco_tables.specs.Column.{with_held}
 use Rattle.eco_tables.specs.Table.{TableState, Row, HasIds}
 use Rattle.eco_tables.specs.Tables.{AllHaveIds, slot_of, table_in, row_in, no_row, no_table, Sets}
 use Rattle.eco_entities.specs.declared.place.Place.{Place}
-use Rattle.eco_entities.specs.Registration as registry
-use Rattle.eco_entities.specs.Registration.{Registration, name_of, own_place, with_change, change_in, renamed}
+use Rattle.eco_ids.specs.Renaming.{own_name, unfit_rename, RenamesWith, may_rename}
+use Rattle.eco_ids.specs.Step.{with_name}
+use Rattle.eco_entities.specs.Registration.{Registration, name_of, own_place, renamed}
 use Rattle.eco_store.specs.Seats.{Seat, IsSeated, seat_of, row_at, seen, held_of}
-use Rattle.eco_store.specs.Store.{Kept, kept, kept_name, held_at, held_by, read, seat_in, seat_at, HasPlace, IsStore, with_holding, holding_in, with_naming, naming_in, own_name, unfit_rename, Renames, may_rename, Stands, IsShown, seat_of_place}
+use Rattle.eco_store.specs.Store.{record_for, type_of, record_name, held_at, held_by, read, seat_in, seat_at, HasPlace, IsStore, Stands, IsShown, seat_of_place, with_written}
 use Rattle.eco_store.proofs.SeatChanges.{no_some, one_some}
-use Rattle.eco_store.proofs.Moves.{slice_get-map}
+use Rattle.std.proofs.lemmas.Option.{slice_get-map}
 use Rattle.eco_store.proofs.Newborn.{is_borne-map}
 use Rattle.eco_store.proofs.StoreChanges.{placed_record, seat_there, read_record, row_within}
-use Rattle.eco_store.proofs.Views.{ext_slice_get, slice_get-set_same, slice_get-set_other, living_at, record_at, seen_alike}
+use Rattle.eco_ids.proofs.Lists.{slice_get-set_there, slice_get-set_other}
+use Rattle.eco_ids.proofs.States.{living_at, record_at}
+use Rattle.eco_store.proofs.Views.{ext_slice_get, seen_alike}
 
 -- ---- readers
 
@@ -44,23 +48,33 @@ stands_there w s e p t store own at =
           ∙ ap (λ (x : Row). x.held) (one_some (slice_get t.rows p.row) seat.0 (get_or t.rows p.row d) in_table (slice_get-get_or t.rows p.row d within));
     })
 
-pub stands_type : (o : Option Kept) (t : TableState) (row : ℕ) → Stands o t row → All (HasIds t.ids) t.rows
+pub stands_type : (o : Option Record) (t : TableState) (row : ℕ) → Stands o t row → All (HasIds t.ids) t.rows
     → ◌≡◌ {A = Option (List Id)} (Some t.ids) (option_map (λ k. map (λ p. p.0) k.held) o)
 stands_type None t row h typed = absurd h
 stands_type (Some k) t row h typed =
     sym (ap Some (ap (λ xs. map (λ p. p.0) xs) (h.held no_row) ∙ typed row no_row h.within))
 
+-- the ids that a store shows of an entity are those of the table in which it stands
+pub own_type_list : (w : Indexed Registration) (s : List (Option TableState)) (e : Entity) (p : Place) (t : TableState) (ids : List Id)
+    → IsStore w s → own_place w e ≡ Some p → slot_of s p.table ≡ Some t → All (HasIds t.ids) t.rows → type_of (read w s) e ≡ Some ids → t.ids ≡ ids
+own_type_list w s e p t ids store own at typed h =
+    one_some (Some t.ids) t.ids ids refl (stands_type (record_of (read w s) e) t p.row (stands_there w s e p t store own at) typed ∙ h)
+
 -- what a search of an entity's row finds, the entity has
-pub value_found : (o : Option Kept) (t : TableState) (row : ℕ) (i : Id) (v : Option Value) → Stands o t row
+pub value_found : (o : Option Record) (t : TableState) (row : ℕ) (i : Id) (v : Option Value) → Stands o t row
     → ((r : Row) → v ≡ find id_cmp i (get_or t.rows row r).held)
-    → v ≡ find id_cmp i (unwrap_or (option_map (λ (k : Kept). k.held) o) [])
+    → v ≡ find id_cmp i (unwrap_or (option_map (λ (k : Record). k.held) o) [])
 value_found None t row i v h is = absurd h
 value_found (Some k) t row i v h is = is no_row ∙ ap (find id_cmp i) (sym (h.held no_row))
 
 -- ---- a value written
 module _ (w : Indexed Registration) (s s1 : List (Option TableState)) (e : Entity) (p : Place) (i : Id) (v : Value)
     (store : IsStore w s) (own : own_place w e ≡ Some p)
-    (sets : Sets s s1 p.table (Some (record (table_in s p.table) { rows = set (table_in s p.table).rows p.row (record { entity = (row_in s p.table p.row).entity; held = with_held (row_in s p.table p.row).held i v }) }))) where
+    (sets : Sets s s1 p.table
+    (Some (record (table_in s p.table) {
+      rows = set (table_in s p.table).rows p.row
+          (record { entity = (row_in s p.table p.row).entity; held = with_held (row_in s p.table p.row).held i v });
+    }))) where
   abbrev rows : List Row
   rows = (table_in s p.table).rows
 
@@ -74,7 +88,7 @@ module _ (w : Indexed Registration) (s s1 : List (Option TableState)) (e : Entit
   old_there = slice_get-get_or rows p.row no_row (row_within w s e p store own)
 
   new_there : row_at s1 p.table p.row ≡ Some new_row
-  new_there = ap (λ o. slice_get (unwrap_or o no_table).rows p.row) sets.changed ∙ slice_get-set_same rows p.row new_row old_row old_there
+  new_there = ap (λ o. slice_get (unwrap_or o no_table).rows p.row) sets.changed ∙ slice_get-set_there rows p.row new_row old_row old_there
 
   elsewhere : (n k : ℕ) → (n ≡ p.table → k ≡ p.row → ⊥) → row_at s1 n k ≡ row_at s n k
   elsewhere n k apart =
@@ -144,41 +158,50 @@ module _ (w : Indexed Registration) (s s1 : List (Option TableState)) (e : Entit
   pub held_read : held_by (read w s) e ≡ old_row.held
   held_read =
       let r = placed_record w e p own in
-      ap (λ o. unwrap_or (option_map (λ (k : Kept). k.held) o) []) (read_record w s e r.0 r.1) ∙ ap (held_at (row_at s)) r.2 ∙ ap held_of old_there
+      ap (λ o. unwrap_or (option_map (λ (k : Record). k.held) o) []) (read_record w s e r.0 r.1) ∙ ap (held_at (row_at s)) r.2 ∙ ap held_of old_there
 
-  pub written_read : read w s1 ≡ with_holding (read w s) e (with_held (held_by (read w s) e) i v)
+  pub written_read : read w s1 ≡ changed (read w s) e (with_written i v)
   written_read =
       let r = placed_record w e p own in
       let living = living_at w e r.0 r.1 in
-      let before : record_of (read w s) e ≡ Some (kept (row_at s) r.0) = read_record w s e r.0 r.1 in
-      let held = held_read in
-      let after : Kept = record { name = r.0.name; held = with_held (held_by (read w s) e) i v } in
+      let before : record_of (read w s) e ≡ Some (record_for (row_at s) r.0) = read_record w s e r.0 r.1 in
+      let held : held_at (row_at s) r.0.place ≡ old_row.held = ap (held_at (row_at s)) r.2 ∙ ap held_of old_there in
+      let after : Record = with_written i v (record_for (row_at s) r.0) in
       let here : slice_get (read w s1).indices e.index ≡ Some (Living e.generation after) =
-      slice_get-map (map_state (kept (row_at s1))) w.indices e.index ∙ ap (option_map (map_state (kept (row_at s1)))) living
-      ∙ (λ t. Some (Living e.generation (record { name = r.0.name; held = (ap (held_at (row_at s1)) r.2 ∙ ap held_of new_there ∙ ap (λ xs. with_held xs i v) (sym held)) t }))) in
+      slice_get-map (map_state (record_for (row_at s1))) w.indices e.index ∙ ap (option_map (map_state (record_for (row_at s1)))) living
+      ∙ (λ t. Some (Living e.generation
+      (record {
+        name = r.0.name;
+        arity = r.0.arity;
+        held = (ap (held_at (row_at s1)) r.2 ∙ ap held_of new_there
+            ∙ ap (λ xs. with_held xs i v) (sym held)) t;
+      }))) in
       let indices : (read w s1).indices ≡ set (read w s).indices e.index (Living e.generation after) =
       ext_slice_get (read w s1).indices (set (read w s).indices e.index (Living e.generation after))
       (λ j. elim (cases_eq j e.index) [
         | inl h ↦
             ap (slice_get (read w s1).indices) h ∙ here
             ∙ sym (ap (slice_get (set (read w s).indices e.index (Living e.generation after))) h
-            ∙ slice_get-set_same (read w s).indices e.index (Living e.generation after) _ (living_at (read w s) e (kept (row_at s) r.0) before))
+            ∙ slice_get-set_there (read w s).indices e.index (Living e.generation after) _ (living_at (read w s) e (record_for (row_at s) r.0) before))
         | inr other ↦
             seen_alike w w s s1 j refl (others_seen j other (seat_at w j) refl)
             ∙ sym (slice_get-set_other (read w s).indices e.index j (Living e.generation after) other)
       ]) in
-      (λ t. record { limit = w.limit; indices = indices t }) ∙ sym (ap (holding_in (read w s) e (with_held (held_by (read w s) e) i v)) before)
+      (λ t. record { limit = w.limit; indices = indices t }) ∙ sym (ap (change_kept (read w s) e (with_written i v)) before)
 
 -- ---- a name given
-record_of-read : (w : Indexed Registration) (s : List (Option TableState)) (e : Entity) → record_of (read w s) e ≡ option_map (kept (row_at s)) (record_of w e)
+record_of-read : (w : Indexed Registration) (s : List (Option TableState)) (e : Entity) →
+    record_of (read w s) e ≡ option_map (record_for (row_at s)) (record_of w e)
 record_of-read w s e =
-    ap (λ o. record_in o e.generation) (slice_get-map (map_state (kept (row_at s))) w.indices e.index) ∙ by (slice_get w.indices e.index)
+    ap (λ o. record_in o e.generation) (slice_get-map (map_state (record_for (row_at s))) w.indices e.index) ∙ by (slice_get w.indices e.index)
   where
-    with_test : (b : Bool) (r : Registration) → ◌≡◌ {A = Option Kept} (if b then Some (kept (row_at s) r) else None) (option_map (kept (row_at s)) (if b then Some r else None))
+    with_test : (b : Bool) (r : Registration) → ◌≡◌ {A = Option Record} (if b then Some (record_for (row_at s) r) else None)
+        (option_map (record_for (row_at s)) (if b then Some r else None))
     with_test true r = refl
     with_test false r = refl
 
-    by : (o : Option (IndexState Registration)) → record_in (option_map (map_state (kept (row_at s))) o) e.generation ≡ option_map (kept (row_at s)) (record_in o e.generation)
+    by : (o : Option (IndexState Registration)) → record_in (option_map (map_state (record_for (row_at s))) o) e.generation
+        ≡ option_map (record_for (row_at s)) (record_in o e.generation)
     by None = refl
     by (Some Retired) = refl
     by (Some (Free g)) = refl
@@ -195,76 +218,89 @@ module _ (w : Indexed Registration) (s : List (Option TableState)) (e : Entity) 
       elim (cases_eq j e.index) [
         | inl here ↦
             ap (λ k. seat_in (slice_get (set w.indices e.index (Living e.generation (renamed name r))) k)) here
-            ∙ ap seat_in (slice_get-set_same w.indices e.index (Living e.generation (renamed name r)) (Living e.generation r) (living_at w e r h))
+            ∙ ap seat_in (slice_get-set_there w.indices e.index (Living e.generation (renamed name r)) (Living e.generation r) (living_at w e r h))
             ∙ sym (ap (seat_at w) here ∙ ap seat_in (living_at w e r h))
         | inr other ↦ ap seat_in (slice_get-set_other w.indices e.index j (Living e.generation (renamed name r)) other)
       ]
 
-  places_same : (r : Registration) → record_of w e ≡ Some r → ((j : ℕ) → HasPlace (slice_get w.indices j)) → (j : ℕ) → HasPlace (slice_get (with_record w e (renamed name r)).indices j)
+  places_same : (r : Registration) → record_of w e ≡ Some r → ((j : ℕ) → HasPlace (slice_get w.indices j)) → (j : ℕ) →
+      HasPlace (slice_get (with_record w e (renamed name r)).indices j)
   places_same r h had j =
       elim (cases_eq j e.index) [
         | inl here ↦
             subst HasPlace (sym (ap (slice_get (set w.indices e.index (Living e.generation (renamed name r)))) here
-            ∙ slice_get-set_same w.indices e.index (Living e.generation (renamed name r)) (Living e.generation r) (living_at w e r h)))
+            ∙ slice_get-set_there w.indices e.index (Living e.generation (renamed name r)) (Living e.generation r) (living_at w e r h)))
             (subst HasPlace (living_at w e r h) (had e.index))
         | inr other ↦ subst HasPlace (sym (slice_get-set_other w.indices e.index j (Living e.generation (renamed name r)) other)) (had j)
       ]
 
-  renamed_store : IsStore w s → IsStore (with_change w e (renamed name)) s
+  renamed_store : IsStore w s → IsStore (changed w e (renamed name)) s
   renamed_store store = by (record_of w e) refl
     where
-      by : (o : Option Registration) → record_of w e ≡ o → IsStore (change_in w e (renamed name) o) s
+      by : (o : Option Registration) → record_of w e ≡ o → IsStore (change_kept w e (renamed name) o) s
       by None h = store
       by (Some r) h = record {
         seated = subst (λ P. IsSeated P (row_at s)) (sym (λ t j. seats_same r h j t)) store.seated;
         placed = places_same r h store.placed;
       }
 
-  renamed_read : read (with_change w e (renamed name)) s ≡ with_naming (read w s) e name
-  renamed_read = by (record_of w e) ∙ ap (naming_in (read w s) e name) (sym (record_of-read w s e))
+  renamed_read : read (changed w e (renamed name)) s ≡ changed (read w s) e (with_name name)
+  renamed_read = by (record_of w e) ∙ ap (change_kept (read w s) e (with_name name)) (sym (record_of-read w s e))
     where
-      by : (o : Option Registration) → read (change_in w e (renamed name) o) s ≡ naming_in (read w s) e name (option_map (kept (row_at s)) o)
+      by : (o : Option Registration) → read (change_kept w e (renamed name) o) s
+          ≡ change_kept (read w s) e (with_name name) (option_map (record_for (row_at s)) o)
       by None = refl
-      by (Some r) = λ t. record { limit = w.limit; indices = map-set (map_state (kept (row_at s))) w.indices e.index (Living e.generation (renamed name r)) t }
+      by (Some r) = λ t. record {
+        limit = w.limit;
+        indices = map-set (map_state (record_for (row_at s))) w.indices e.index
+            (Living e.generation (renamed name r)) t;
+      }
 
   alive_same : is_alive (read w s) e ≡ is_alive w e
   alive_same = ap is_some (record_of-read w s e) ∙ by (record_of w e)
     where
-      by : (o : Option Registration) → is_some (option_map (kept (row_at s)) o) ≡ is_some o
+      by : (o : Option Registration) → is_some (option_map (record_for (row_at s)) o) ≡ is_some o
       by None = refl
       by (Some r) = refl
 
-  name_same : own_name (read w s) e ≡ registry.own_name w e
-  name_same = ap (option_and_then kept_name) (record_of-read w s e) ∙ by (record_of w e)
+  name_same : own_name record_name (read w s) e ≡ own_name name_of w e
+  name_same = ap (option_and_then record_name) (record_of-read w s e) ∙ by (record_of w e)
     where
-      by : (o : Option Registration) → option_and_then kept_name (option_map (kept (row_at s)) o) ≡ option_and_then name_of o
+      by : (o : Option Registration) → option_and_then record_name (option_map (record_for (row_at s)) o) ≡ option_and_then name_of o
       by None = refl
       by (Some r) = refl
 
-  unfit_same : unfit_rename (read w s) e name ≡ registry.unfit_rename w e name
+  unfit_same : unfit_rename record_name (read w s) e false name ≡ unfit_rename name_of w e false name
   unfit_same = λ t.
       first_refusal
-      ((not (alive_same t), NotAlive) ∷ (not (is_proper name), BadName)
-      ∷ (not (is_same_name (name_same t) name) && is_borne-map (kept (row_at s)) name_of kept_name (λ a. refl) w name t, NameTaken) ∷ [])
+      ((not (alive_same t), NotAlive) ∷ (false, Reserved) ∷ (not (is_proper name), BadName)
+      ∷ (not (is_same_name (name_same t) name) && is_borne-map (record_for (row_at s)) name_of record_name (λ a. refl) w name t, NameTaken) ∷ [])
 
-  may_same : may_rename (read w s) e name ≡ registry.may_rename w e name
+  may_same : may_rename record_name (read w s) e false name ≡ may_rename name_of w e false name
   may_same = λ t. not (is_some (unfit_same t)) && (is_some name && not (is_same_name (name_same t) name))
 
-  pub rename_lifts : (w1 : Indexed Registration) (r : Result (Unit {0}) Refusal) → Meets (registry.Renames w e name) (registry.may_rename w e name) w r w1
-      → (IsStore w s → IsStore w1 s) × Meets (Renames (read w s) e name) (may_rename (read w s) e name) (read w s) r (read w1 s)
+  pub rename_lifts : (w1 : Indexed Registration) (r : Result (Unit {0}) Refusal) →
+      Meets (RenamesWith name_of renamed w e false name) (may_rename name_of w e false name) w r w1
+      → (IsStore w s → IsStore w1 s) × Meets (RenamesWith record_name with_name (read w s) e false name) (may_rename record_name (read w s) e false name)
+      (read w s) r (read w1 s)
   rename_lifts w1 r h = by (is_out_of_memory r) h
     where
-      ends : (u : Option Refusal) → MatchOption u (Answers tt (with_change w e (renamed name)) r w1) (λ why. Refuses why w r w1)
-          → (IsStore w s → IsStore w1 s) × MatchOption u (Answers tt (with_naming (read w s) e name) r (read w1 s)) (λ why. Refuses why (read w s) r (read w1 s))
+      ends : (u : Option Refusal) → MatchOption u (Answers tt (changed w e (renamed name)) r w1) (λ why. Refuses why w r w1)
+          → (IsStore w s → IsStore w1 s) × MatchOption u (Answers tt (changed (read w s) e (with_name name)) r (read w1 s))
+          (λ why. Refuses why (read w s) r (read w1 s))
       ends None q = (λ store. subst (λ x. IsStore x s) (sym q.1) (renamed_store store), (q.0, ap (λ x. read x s) q.1 ∙ renamed_read))
       ends (Some why) q = (λ store. subst (λ x. IsStore x s) (sym q.1) store, (q.0, ap (λ x. read x s) q.1))
 
-      by : (b : Bool) → MatchBool b (IsTrue (registry.may_rename w e name) × (w1 ≡ w)) (registry.Renames w e name r w1)
-          → (IsStore w s → IsStore w1 s) × MatchBool b (IsTrue (may_rename (read w s) e name) × (read w1 s ≡ read w s)) (Renames (read w s) e name r (read w1 s))
+      by : (b : Bool) → MatchBool b (IsTrue (may_rename name_of w e false name) × (w1 ≡ w)) (RenamesWith name_of renamed w e false name r w1)
+          → (IsStore w s → IsStore w1 s) × MatchBool b (IsTrue (may_rename record_name (read w s) e false name) × (read w1 s ≡ read w s))
+          (RenamesWith record_name with_name (read w s) e false name r (read w1 s))
       by true q = (λ store. subst (λ x. IsStore x s) (sym q.1) store, (may_same ∙ q.0, ap (λ x. read x s) q.1))
       by false q =
-          let k = ends (registry.unfit_rename w e name) q in
-          (k.0, subst (λ u. MatchOption u (Answers tt (with_naming (read w s) e name) r (read w1 s)) (λ why. Refuses why (read w s) r (read w1 s))) (sym unfit_same) k.1)
+          let k = ends (unfit_rename name_of w e false name) q in (
+            k.0,
+            subst (λ u. MatchOption u (Answers tt (changed (read w s) e (with_name name)) r (read w1 s)) (λ why. Refuses why (read w s) r (read w1 s)))
+                (sym unfit_same) k.1,
+          )
 
 -- ---- the tables show the store
 
@@ -276,7 +312,8 @@ place_from_seat (Some (Free g)) e n k h = absurd (cc)
 place_from_seat (Some (Living g r)) e n k h = by r.place refl h
   where
     by : (p : Option Place) → r.place ≡ p → option_map (seat_of_place g) p ≡ Some (seat_of e n k)
-        → (x : Registration) × (◌≡◌ {A = Option (IndexState Registration)} (Some (Living g r)) (Some (Living e.generation x))) × (x.place ≡ Some (record { table = n; row = k }))
+        → (x : Registration) × (◌≡◌ {A = Option (IndexState Registration)} (Some (Living g r)) (Some (Living e.generation x)))
+        × (x.place ≡ Some (record { table = n; row = k }))
     by None is h = absurd (cc)
     by (Some p) is h =
         let same : seat_of_place g p ≡ seat_of e n k = cc in
@@ -293,10 +330,11 @@ slot_there s n k r = by (slot_of s n)
     by None h = absurd (no_some (slice_get no_table.rows k) r (nothing k) h)
     by (Some t) h = refl
 
-pub from_read : (w : Indexed Registration) (s : List (Option TableState)) (e : Entity) (k : Kept) → record_of (read w s) e ≡ Some k → (r : Registration) × (record_of w e ≡ Some r)
+pub from_read : (w : Indexed Registration) (s : List (Option TableState)) (e : Entity) (k : Record) → record_of (read w s) e ≡ Some k →
+    (r : Registration) × (record_of w e ≡ Some r)
 from_read w s e k h = by (record_of w e) (sym (record_of-read w s e) ∙ h)
   where
-    by : (o : Option Registration) → option_map (kept (row_at s)) o ≡ Some k → (r : Registration) × (o ≡ Some r)
+    by : (o : Option Registration) → option_map (record_for (row_at s)) o ≡ Some k → (r : Registration) × (o ≡ Some r)
     by None q = absurd (cc)
     by (Some r) q = (r, refl)
 

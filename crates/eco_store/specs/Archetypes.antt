@@ -58,10 +58,14 @@ RowlessIn slots allowed = (n : ℕ) → IsTrue (is_rowless slots n) → IsTrue (
 abbrev pub KeepsRoom : List (Option TableState) → List (Option TableState) → Type 0
 KeepsRoom old new = (n : ℕ) → (table_in old n).room ≤ (table_in new n).room
 
+-- the table has rows, and its type passes the test
+abbrev pub is_found_by : (List Id → Bool) → Option TableState → Bool
+is_found_by test None = false
+is_found_by test (Some t) = nat_lt 0 (length t.rows) && test t.ids
+
 -- the table has rows, and its type an id that the pattern matches
 abbrev pub is_found : Pattern → Option TableState → Bool
-is_found p None = false
-is_found p (Some t) = nat_lt 0 (length t.rows) && list_any (pattern_matches p) t.ids
+is_found p = is_found_by (list_any (pattern_matches p))
 
 -- some table is found
 abbrev pub FindsSome : Pattern → List (Option TableState) → Type 0

@@ -3,14 +3,14 @@ use Rattle.std.specs.Prelude.{◌≡◌, Option, Some, None, Result, Ok, Err, Ma
 use Rattle.eco_ids.specs.declared.entity.Entity.{Entity}
 use Rattle.eco_ids.specs.declared.refusal.Refusal.{Refusal}
 use Rattle.eco_ids.specs.declared.refusal.Refusal.TheVariants.{NoMoreIds}
-use Rattle.eco_ids.specs.Indices.{Indexed}
+use Rattle.eco_ids.specs.Indices.{changed, Indexed}
 use Rattle.eco_entities.specs.declared.place.Place.{Place}
-use Rattle.eco_entities.specs.Registration.{Registration, with_change, placed}
+use Rattle.eco_entities.specs.Registration.{Registration, placed}
 
 -- the entity that came to the place, if one did, is placed there
 abbrev pub fixed : Indexed Registration → Option Entity → Place → Indexed Registration
 fixed w None p = w
-fixed w (Some e) p = with_change w e (placed p)
+fixed w (Some e) p = changed w e (placed p)
 
 -- the answer says what stands against a new entity: its name is unfit, or nobody can be made next
 abbrev pub Opposes : Option Refusal → Option Entity → Result (Unit {0}) Refusal → Type 0

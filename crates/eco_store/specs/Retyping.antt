@@ -1,30 +1,26 @@
 -- All entities of a type get another.
 use Rattle.std.specs.Prelude.{◌≡◌, ◌≢◌, List, map, fold, Some, IsTrue, if◌then◌else◌}
 use Rattle.std.specs.List.{All, list_any}
+use Rattle.eco_ids.specs.World.{Record}
 use Rattle.eco_ids.specs.declared.entity.Entity.{Entity}
 use Rattle.eco_ids.specs.declared.id.Id.{Id}
 use Rattle.eco_ids.specs.declared.pattern.Pattern.{Pattern}
 use Rattle.eco_ids.specs.Indices.{Indexed, map_state}
 use Rattle.eco_ids.specs.Matching.{pattern_matches}
-use Rattle.eco_tables.specs.Column.{retyped}
 use Rattle.eco_store.specs.declared.type_change.TypeChange.{TypeChange}
-use Rattle.eco_store.specs.Store.{Kept, type_of}
+use Rattle.eco_store.specs.Store.{record_ids, type_of, with_type}
 use Rattle.eco_store.specs.TypeMap.{same_ids}
 
--- the ids of what is kept of an entity
-abbrev pub kept_ids : Kept → List Id
-kept_ids k = map (λ p. p.0) k.held
-
 -- an entity of the type that goes has the type that comes: values of ids that both have stay, and new ids hold zeros
-abbrev pub changed_kept : TypeChange → Kept → Kept
-changed_kept c k = if same_ids (kept_ids k) c.from then record k { held = retyped c.to k.held } else k
+abbrev pub changed_record : TypeChange → Record → Record
+changed_record c r = if same_ids (record_ids r) c.from then with_type c.to r else r
 
 -- the store after a change of every living entity
-abbrev pub after_change : Indexed Kept → TypeChange → Indexed Kept
-after_change w c = record w { indices = map (map_state (changed_kept c)) w.indices }
+abbrev pub after_change : Indexed Record → TypeChange → Indexed Record
+after_change w c = record w { indices = map (map_state (changed_record c)) w.indices }
 
 -- the store after these changes, one after another
-abbrev pub after_changes : Indexed Kept → List TypeChange → Indexed Kept
+abbrev pub after_changes : Indexed Record → List TypeChange → Indexed Record
 after_changes w cs = fold after_change w cs
 
 -- no type that comes is one that goes
@@ -32,5 +28,5 @@ abbrev pub IsOneWay : List TypeChange → Type 0
 IsOneWay cs = All (λ c. All (λ d. c.to ≢ d.from) cs) cs
 
 -- some living entity has this type, and the pattern matches one of its ids
-abbrev pub IsTypeWith : Indexed Kept → Pattern → List Id → Type 0
+abbrev pub IsTypeWith : Indexed Record → Pattern → List Id → Type 0
 IsTypeWith w p ids = IsTrue (list_any (pattern_matches p) ids) × (e : Entity) × (type_of w e ≡ Some ids)

@@ -4,10 +4,10 @@ ghost use Rattle.std.specs.List.{list_any, IsDistinct};
 ghost use Rattle.std.specs.FinMap.Entries.{find};
 ghost use Rattle.eco_ids.specs.declared.id.Id.{Id as Ids};
 ghost use Rattle.eco_ids.specs.Order.{id_cmp};
-ghost use Rattle.eco_tables.specs.Column.{value_in, with_held};
-ghost use Rattle.eco_tables.specs.Table.{TableState, Row, entities_of};
+ghost use Rattle.eco_tables.specs.Column.{with_held};
+ghost use Rattle.eco_tables.specs.Table.{TableState, entities_of};
 ghost use Rattle.eco_tables.specs.Tables.{slot_of, table_in, row_in, Sets, Moves, with_row, without_row, rowless_type};
-ghost use Rattle.eco_store.specs.Archetypes.{type_at, new_table, SameSlots, KeepsTypes, KeepsRoom, RowlessIn, is_found, FindsSome, FindsBelow, named_by, named_part};
+ghost use Rattle.eco_store.specs.Archetypes.{type_at, new_table, SameSlots, KeepsTypes, KeepsRoom, RowlessIn, is_found, FindsSome, FindsBelow, named_by, named_part, type_names};
 ghost use Rattle.eco_store.specs.Seats.{SameRows};
 
 use crate::id_index::IdIndex;
@@ -224,6 +224,14 @@ impl Archetypes {
             Some(entity) => self.found_among(self.by_id.slots(entity), pattern),
             None => self.found_below(self.tables.slot_bound(), pattern),
         }
+    }
+
+    /// The slots of the tables whose types name the entity, each once, in any order.
+    pub fn tables_naming(&self, entity: Entity) -> &[usize]
+        ensures listed { (n : ℕ) → list_any (nat_eq n) result.now ≡ type_names (type_at self.now n) entity }
+        ensures distinct { IsDistinct nat_eq result.now }
+    {
+        self.by_id.slots(entity)
     }
 
     /// Whether some table has rows and a type with an id that the pattern matches. Where the pattern names an entity, it

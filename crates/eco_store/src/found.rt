@@ -17,27 +17,29 @@ pub struct Found<'a> {
     pub slots: Vec<usize>,
 }
 
-impl Found<'_> {
-    /// The entities that stand in the found tables, in their order. An `Err` comes where memory is refused.
-    pub fn entities(&self, alloc: Global) -> Result<Vec<Entity>, AllocError>
-        ensures all { IfOk result (λ v. IsPermutation (standing_in self.now.tables.now self.now.slots.items) v.items) }
-        ensures sorted { IfOk result (λ v. IsSorted entity_cmp v.items) }
-    {
-        let mut entities = self.gather(alloc)?;
-        entities.sort_unstable();
-        Ok(entities)
-    }
+/// The entities that stand in the tables in these slots, in their order. An `Err` comes where memory is refused.
+pub fn entities_in(
+    alloc: Global,
+    tables: &Tables,
+    slots: &[usize],
+) -> Result<Vec<Entity>, AllocError>
+    ensures all { IfOk result (λ v. IsPermutation (standing_in tables.now slots.now) v.items) }
+    ensures sorted { IfOk result (λ v. IsSorted entity_cmp v.items) }
+{
+    let mut entities = gather(alloc, tables, slots)?;
+    entities.sort_unstable();
+    Ok(entities)
+}
 
-    // The entities that stand in the found tables, table by table.
-    fn gather(&self, alloc: Global) -> Result<Vec<Entity>, AllocError>
-        ensures { IfOk result (λ v. v.items ≡ standing_in self.now.tables.now self.now.slots.items) }
-    {
-        let mut entities = Vec::new(alloc);
-        for slot in &self.slots {
-            entities.extend_from_slice(entities_at(self.tables, *slot))?;
-        }
-        Ok(entities)
+// The entities that stand in the tables in these slots, table by table.
+fn gather(alloc: Global, tables: &Tables, slots: &[usize]) -> Result<Vec<Entity>, AllocError>
+    ensures { IfOk result (λ v. v.items ≡ standing_in tables.now slots.now) }
+{
+    let mut entities = Vec::new(alloc);
+    for slot in slots {
+        entities.extend_from_slice(entities_at(tables, *slot))?;
     }
+    Ok(entities)
 }
 
 // The entities that stand in the table in a slot; none, where the slot is empty.

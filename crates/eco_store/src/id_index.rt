@@ -1,5 +1,5 @@
 //! For each entity, the slots of the tables whose types name it.
-ghost use Rattle.std.specs.Prelude.{◌≡◌, [], ℕ, OnOk, OnErr, IfOk, Some, nat_eq, cond, true, false};
+ghost use Rattle.std.specs.Prelude.{◌≡◌, [], ℕ, OnOk, OnErr, Some, nat_eq, cond, true, false};
 ghost use Rattle.std.specs.List.{list_any, IsDistinct};
 ghost use Rattle.std.specs.HashMap.{IsEmpty};
 ghost use Rattle.std.specs.HashSet.{contains};

@@ -8,21 +8,19 @@
 //! Which ids are data, and how many fields their values have, is not known here: each id has a value, zeros when new.
 #![tactic(auto)]
 
-pub mod archetypes;
-pub mod found;
-pub mod id_index;
-pub mod moving;
-pub mod placing;
-pub mod prepared;
-pub mod store;
-pub mod transfer;
-pub mod type_change;
-pub mod type_map;
+mod archetypes;
+mod found;
+mod id_index;
+mod moving;
+mod placing;
+mod prepared;
+mod store;
+mod transfer;
+mod type_change;
+mod type_map;
 
+pub use eco_tables::{Table, Tables};
 pub use found::Found;
 pub use moving::Move;
 pub use store::Store;
 pub use type_change::TypeChange;
-
-#[cfg(test)]
-mod tests;

@@ -1,12 +1,11 @@
 //! Rows and places together: an entity's row moves, and its place with it.
 ghost use Rattle.std.specs.Prelude.{◌≡◌, ◌≢◌, ◌<◌, ◌∷◌, [], List, ℕ, length, Some, IsTrue, IfSome};
-ghost use Rattle.eco_ids.specs.Indices.{is_alive};
-ghost use Rattle.eco_entities.specs.Registration.{with_change, placed, own_place};
-ghost use Rattle.eco_tables.specs.Column.{retyped};
+ghost use Rattle.eco_ids.specs.Indices.{changed, is_alive};
+ghost use Rattle.eco_entities.specs.Registration.{placed, own_place};
 ghost use Rattle.eco_tables.specs.Tables.{table_in, Sets, Moves, with_row};
 ghost use Rattle.eco_store.specs.Archetypes.{RowlessIn};
 ghost use Rattle.eco_store.specs.Placing.{fixed};
-ghost use Rattle.eco_store.specs.Store.{IsStore, read, with_holding, held_by};
+ghost use Rattle.eco_store.specs.Store.{IsStore, read, with_type};
 
 use crate::archetypes::Archetypes;
 use eco_entities::{EntityIndex, Place};
@@ -26,7 +25,7 @@ pub fn fix_place(entities: &mut EntityIndex, moved: Option<Entity>, place: Place
 pub fn settle(entities: &mut EntityIndex, archetypes: &mut Archetypes, slot: usize, entity: Entity)
     requires living { IsTrue (is_alive entities.old entity) }
     requires room { 0 < (table_in archetypes.old slot).room }
-    ensures places { entities.new ≡ with_change entities.old entity (placed (record { table = slot; row = length (table_in archetypes.old slot).rows })) }
+    ensures places { entities.new ≡ changed entities.old entity (placed (record { table = slot; row = length (table_in archetypes.old slot).rows })) }
     ensures rows { Sets archetypes.old archetypes.new slot (Some (with_row (table_in archetypes.old slot) (record { entity = entity; held = [] }))) }
     ensures rowless { (slots : List ℕ) → RowlessIn archetypes.old (slot ∷ slots) → RowlessIn archetypes.new slots }
 {
@@ -50,7 +49,7 @@ pub fn move_entity(
     ensures store { IsStore entities.new archetypes.new }
     ensures moves { Moves archetypes.old archetypes.new place.table place.row to }
     ensures rowless { (slots : List ℕ) → RowlessIn archetypes.old (to ∷ slots) → RowlessIn archetypes.new (place.table ∷ slots) }
-    ensures read { read entities.new archetypes.new ≡ with_holding (read entities.old archetypes.old) entity (retyped (table_in archetypes.old to).ids (held_by (read entities.old archetypes.old) entity)) }
+    ensures read { read entities.new archetypes.new ≡ changed (read entities.old archetypes.old) entity (with_type (table_in archetypes.old to).ids) }
 {
     let end = archetypes.tables().row_count(to);
     let moved = archetypes.move_row(place.table, place.row, to);

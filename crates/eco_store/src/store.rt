@@ -1,24 +1,23 @@
 //! The store of a world: each living entity with its name, its ids and their values.
-ghost use Rattle.std.specs.Prelude.{◌≡◌, ◌≤◌, ◌<◌, ◌&&◌, nat_lt, nat_eq, List, ℕ, [], length, None, Some, is_some, IsTrue, OnOk, OnErr, IfOk, IfSome, MatchOption, option_map, map};
+ghost use Rattle.std.specs.Prelude.{◌≡◌, ◌≤◌, ◌<◌, nat_eq, List, ℕ, [], length, None, Some, is_some, IsTrue, IfOk, MatchOption, map};
 ghost use Rattle.std.specs.Option.{option_copied};
 ghost use Rattle.std.specs.FinMap.Entries.{find};
-ghost use Rattle.eco_ids.specs.Births.{unfit_name, Makes, may_make, Admits, may_admit, RevivesWith};
-ghost use Rattle.eco_ids.specs.Indices.{is_alive, is_free_at, living, next_entity, with_death, record_of};
+ghost use Rattle.eco_ids.specs.Births.{unfit_name, Makes};
+ghost use Rattle.eco_ids.specs.Indices.{changed, is_alive, is_free_at, living, next_entity, record_of};
 ghost use Rattle.eco_ids.specs.Names.{bearer};
 ghost use Rattle.eco_ids.specs.Order.{id_cmp, is_ascending};
-ghost use Rattle.eco_ids.specs.Outcome.{Meets};
-ghost use Rattle.eco_tables.specs.Column.{retyped, with_held};
-ghost use Rattle.eco_tables.specs.Tables.{slot_of, table_in, Sets, with_row};
+ghost use Rattle.eco_ids.specs.Renaming.{own_name};
+ghost use Rattle.eco_tables.specs.Tables.{slot_of};
 ghost use Rattle.eco_store.specs.Archetypes.{type_at, is_found};
 ghost use Rattle.std.specs.List.{list_any, IsDistinct};
 ghost use Rattle.eco_ids.specs.declared.id.Id.{Id as Ids};
-ghost use Rattle.eco_entities.specs.Registration.{entity_at, name_of, with_change, placed};
-ghost use Rattle.eco_store.specs.Holders.{has_match, holders};
-ghost use Rattle.eco_store.specs.Placing.{fixed, Opposes};
-ghost use Rattle.eco_store.specs.Store.{with_holding, held_by, kept_name, newborn, own_name, type_of, Renames, may_rename, Stands, IsShown};
+ghost use Rattle.eco_entities.specs.Registration.{entity_at, name_of};
+ghost use Rattle.eco_store.specs.Holders.{has_match, entities_with, holders};
+ghost use Rattle.eco_store.specs.Placing.{Opposes};
+ghost use Rattle.eco_store.specs.Store.{Admission, Creates, Renames, Revives, held_by, own_arity, record_name, type_of, with_written, Stands, IsShown};
 
 use crate::archetypes::Archetypes;
-use crate::found::Found;
+use crate::found::{Found, entities_in};
 use crate::placing::settle;
 use crate::prepared::Prepared;
 use eco_entities::{EntityIndex, Place};
@@ -49,7 +48,7 @@ impl Model for Store {
 
     ghost Value = { StoreState };
 
-    ghost view = { λ s. record { kept = read s.entities s.archetypes; prepared = moves_of s.archetypes s.prepared } };
+    ghost view = { λ s. record { entities = read s.entities s.archetypes; prepared = moves_of s.archetypes s.prepared } };
 
     ghost invariant = { λ s. IsSound s.entities s.archetypes s.prepared };
 }
@@ -81,7 +80,7 @@ impl Store {
     /// No index is known. Indices lie below the limit.
     pub fn new(alloc: Global, limit: u32) -> Store
         requires { limit ≤ 1048576 }
-        ensures { result ≡ record { kept = record { limit = limit; indices = [] }; prepared = [] } }
+        ensures { result ≡ record { entities = record { limit = limit; indices = [] }; prepared = [] } }
     {
         Store {
             alloc,
@@ -93,51 +92,58 @@ impl Store {
 
     /// All indices lie below it.
     pub fn limit(&self) -> u32
-        ensures { result ≡ self.now.kept.limit }
+        ensures { result ≡ self.now.entities.limit }
     {
         self.entities.limit()
     }
 
     /// How many indices are known: living, free or retired.
     pub fn high(&self) -> u32
-        ensures known { result ≡ length self.now.kept.indices }
-        ensures within { length self.now.kept.indices ≤ self.now.kept.limit }
-        ensures limited { self.now.kept.limit ≤ 1048576 }
+        ensures known { result ≡ length self.now.entities.indices }
+        ensures within { length self.now.entities.indices ≤ self.now.entities.limit }
+        ensures limited { self.now.entities.limit ≤ 1048576 }
     {
         self.entities.high()
     }
 
     /// Whether the entity lives.
     pub fn is_alive(&self, e: Entity) -> bool
-        ensures { result ≡ is_alive self.now.kept e }
+        ensures { result ≡ is_alive self.now.entities e }
     {
         self.entities.is_alive(e)
     }
 
     /// The living entity at an index.
     pub fn entity_at(&self, index: u32) -> Option<Entity>
-        ensures { result ≡ entity_at self.now.kept index }
+        ensures { result ≡ entity_at self.now.entities index }
     {
         self.entities.entity_at(index)
     }
 
     /// The name of a living entity, if it has one.
     pub fn name(&self, e: Entity) -> Option<&str>
-        ensures { option_copied result ≡ own_name self.now.kept e }
+        ensures { option_copied result ≡ own_name record_name self.now.entities e }
     {
         self.entities.name(e)
     }
 
+    /// The arity of a living entity, if it has one.
+    pub fn arity_of(&self, e: Entity) -> Option<u8>
+        ensures { result ≡ own_arity self.now.entities e }
+    {
+        self.entities.arity_of(e)
+    }
+
     /// The living entity of this name.
     pub fn lookup(&self, name: &str) -> Option<Entity>
-        ensures { result ≡ bearer kept_name self.now.kept name.now }
+        ensures { result ≡ bearer record_name self.now.entities name.now }
     {
         self.entities.lookup(name)
     }
 
     // The table in which a living entity stands, and its row.
     fn stand(&self, e: Entity) -> Option<(&Table, usize)>
-        ensures { MatchOption result (record_of self.now.kept e ≡ None) (λ x. Stands (record_of self.now.kept e) x.0.now x.1) }
+        ensures { MatchOption result (record_of self.now.entities e ≡ None) (λ x. Stands (record_of self.now.entities e) x.0.now x.1) }
     {
         let place = self.entities.place_of(e)?;
         let table = self.archetypes.tables().get(place.table).unwrap();
@@ -146,7 +152,7 @@ impl Store {
 
     /// The ids of a living entity.
     pub fn type_of(&self, e: Entity) -> Option<&TypeList>
-        ensures { option_copied result ≡ type_of self.now.kept e }
+        ensures { option_copied result ≡ type_of self.now.entities e }
     {
         let (table, _) = self.stand(e)?;
         Some(table.type_list())
@@ -154,7 +160,7 @@ impl Store {
 
     /// The ids of an entity, ascending; none where it isn't living.
     pub fn ids_of(&self, e: Entity) -> &[Id]
-        ensures ids { result.now ≡ map (λ p. p.0) (held_by self.now.kept e) }
+        ensures ids { result.now ≡ map (λ p. p.0) (held_by self.now.entities e) }
         ensures ascending { IsTrue (is_ascending id_cmp result.now) }
     {
         match self.type_of(e) {
@@ -165,7 +171,7 @@ impl Store {
 
     /// The value of an id that a living entity has.
     pub fn value(&self, e: Entity, id: Id) -> Option<Value>
-        ensures { result ≡ find id_cmp id (held_by self.now.kept e) }
+        ensures { result ≡ find id_cmp id (held_by self.now.entities e) }
     {
         let (table, row) = self.stand(e)?;
         table.find_value(row, id)
@@ -174,7 +180,7 @@ impl Store {
     /// The tables, to read. Each living entity stands in one row, in the table of its own ids, and no two tables have the
     /// same type.
     pub fn tables(&self) -> &Tables
-        ensures shown { IsShown self.now.kept result.now }
+        ensures shown { IsShown self.now.entities result.now }
         ensures kinds { (n m : ℕ) (ids : List Ids) → type_at result.now n ≡ Some ids → type_at result.now m ≡ Some ids → n ≡ m }
     {
         let tables = self.archetypes.tables();
@@ -184,7 +190,7 @@ impl Store {
 
     /// The tables that have rows and a type with an id that the pattern matches. An `Err` comes where memory is refused.
     pub fn tables_with(&self, pattern: Pattern) -> Result<Found<'_>, AllocError>
-        ensures shown { IfOk result (λ f. IsShown self.now.kept f.tables.now) }
+        ensures shown { IfOk result (λ f. IsShown self.now.entities f.tables.now) }
         ensures listed { IfOk result (λ f. (n : ℕ) → list_any (nat_eq n) f.slots.items ≡ is_found pattern (slot_of f.tables.now n)) }
         ensures distinct { IfOk result (λ f. IsDistinct nat_eq f.slots.items) }
         ensures kinds { IfOk result (λ f. (n m : ℕ) (ids : List Ids) → type_at f.tables.now n ≡ Some ids → type_at f.tables.now m ≡ Some ids → n ≡ m) }
@@ -198,7 +204,7 @@ impl Store {
     /// Whether some living entity has an id that the pattern matches. Where the pattern names an entity, it looks alone at
     /// tables whose types name that entity, and it stops at the first that is found. It takes no memory.
     pub fn is_held(&self, pattern: Pattern) -> bool
-        ensures { result ≡ list_any (λ p. has_match pattern p.1) (living self.now.kept) }
+        ensures { result ≡ list_any (λ p. has_match pattern p.1) (living self.now.entities) }
     {
         self.archetypes.tables().rows_have_ids();
         self.archetypes.is_held(pattern)
@@ -206,31 +212,48 @@ impl Store {
 
     /// The living entities that have an id which the pattern matches, ascending. Its time grows with how many they are,
     /// and with the tables whose types name the pattern's entity. An `Err` comes where memory is refused.
-    pub fn holders(&self, pattern: Pattern) -> Result<Vec<Entity>, AllocError>
-        ensures { IfOk result (λ v. v.items ≡ holders self.now.kept pattern) }
+    pub fn entities_with(&self, pattern: Pattern) -> Result<Vec<Entity>, AllocError>
+        ensures { IfOk result (λ v. v.items ≡ entities_with self.now.entities pattern) }
     {
         eco_ids::order::handles_are_ordered();
         eco_ids::order::ascending_lists_are_sets();
         let found = self.tables_with(pattern)?;
-        found.entities(self.alloc)
+        entities_in(self.alloc, found.tables, &found.slots)
+    }
+
+    /// The living entities that have an id which names this one, ascending. Its time grows with how many they are, and with
+    /// the tables whose types name it. An `Err` comes where memory is refused.
+    pub fn holders(&self, e: Entity) -> Result<Vec<Entity>, AllocError>
+        ensures { IfOk result (λ v. v.items ≡ holders self.now.entities e) }
+    {
+        eco_ids::order::handles_are_ordered();
+        eco_ids::order::ascending_lists_are_sets();
+        let tables = self.archetypes.tables();
+        tables.rows_have_ids();
+        entities_in(self.alloc, tables, self.archetypes.tables_naming(e))
     }
 
     /// What stands against a new entity of this name, or none: `BadName` where it is no name, `NameTaken` where a living
     /// entity has it, and `NoMoreIds` where every index below the limit is in use or retired, in this order.
     pub fn check_new(&self, name: Option<&str>) -> Result<(), Refusal>
-        ensures { Opposes (unfit_name kept_name self.now.kept (option_copied name.entry)) (next_entity self.now.kept) result }
+        ensures { Opposes (unfit_name record_name self.now.entities (option_copied name.entry)) (next_entity self.now.entities) result }
     {
         check_new(&self.entities, name)
     }
 
     /// Makes an entity with these ids, all with zeros, at the lowest free index, else at the first unknown one. It has this
-    /// name, or none.
+    /// name and this arity, or none.
     ///
     /// Refused with `BadName` where the name is none, with `NameTaken` where a living entity has it, and with `NoMoreIds`
     /// where every index below the limit is in use or retired, in this order; then with `OutOfMemory` where memory is
     /// refused. A refusal changes nothing.
-    pub fn create(&mut self, name: Option<&str>, type_list: &TypeList) -> Result<Entity, Refusal>
-        ensures step { Meets (Makes kept_name self.old.kept (newborn (option_copied name.entry) type_list.now)) (may_make kept_name self.old.kept (option_copied name.entry)) self.old.kept result self.new.kept }
+    pub fn create(
+        &mut self,
+        name: Option<&str>,
+        arity: Option<u8>,
+        type_list: &TypeList,
+    ) -> Result<Entity, Refusal>
+        ensures step { Creates self.old.entities (option_copied name.entry) arity type_list.now result self.new.entities }
         ensures unprepared { self.new.prepared ≡ [] }
     {
         self.prepared.forget(&mut self.archetypes);
@@ -242,7 +265,7 @@ impl Store {
                 return Err(Refusal::from(refused));
             }
         };
-        match self.entities.create(name) {
+        match self.entities.create(name, arity) {
             Ok(entity) => {
                 settle(&mut self.entities, &mut self.archetypes, slot, entity);
                 Ok(entity)
@@ -258,19 +281,19 @@ impl Store {
     ///
     /// Refused with `NoMoreIds` where they would pass the limit, else with `OutOfMemory` where memory is refused.
     pub fn admit(&mut self, count: u32) -> Result<(), Refusal>
-        ensures step { Meets (Admits self.old.kept count) (may_admit self.old.kept count && nat_lt 0 count) self.old.kept result self.new.kept }
+        ensures step { Admission self.old.entities count result self.new.entities }
         ensures unprepared { self.new.prepared ≡ [] }
     {
         self.prepared.forget(&mut self.archetypes);
         self.entities.admit(count)
     }
 
-    /// This very handle lives from now on, without name and ids.
+    /// This very handle lives from now on, without name, arity and ids.
     ///
     /// Refused with `Taken` unless its index is known, free and at its generation, else with `OutOfMemory` where memory is
     /// refused. A refusal changes nothing.
     pub fn revive(&mut self, e: Entity) -> Result<(), Refusal>
-        ensures step { Meets (RevivesWith self.old.kept e (newborn None [])) (is_free_at self.old.kept e) self.old.kept result self.new.kept }
+        ensures step { Revives self.old.entities e result self.new.entities }
         ensures unprepared { self.new.prepared ≡ [] }
     {
         self.prepared.forget(&mut self.archetypes);
@@ -288,7 +311,7 @@ impl Store {
     /// Refused with `NotAlive` where nobody lives there, with `BadName` where the name is none, and with `NameTaken` where
     /// another living entity has it, in this order; then with `OutOfMemory`. The old name stays then.
     pub fn rename(&mut self, e: Entity, name: Option<&str>) -> Result<(), Refusal>
-        ensures step { Meets (Renames self.old.kept e (option_copied name.entry)) (may_rename self.old.kept e (option_copied name.entry)) self.old.kept result self.new.kept }
+        ensures step { Renames self.old.entities e (option_copied name.entry) result self.new.entities }
         ensures unprepared { self.new.prepared ≡ [] }
     {
         self.prepared.forget(&mut self.archetypes);
@@ -298,9 +321,9 @@ impl Store {
     /// Writes the value of an id that a living entity has, and takes no memory. The answer is whether it has the id; where
     /// it lacks it nothing is written.
     pub fn set_value(&mut self, e: Entity, id: Id, value: Value) -> bool
-        requires { IsTrue (is_alive self.old.kept e) }
-        ensures written { self.new.kept ≡ with_holding self.old.kept e (with_held (held_by self.old.kept e) id value) }
-        ensures had { result ≡ is_some (find id_cmp id (held_by self.old.kept e)) }
+        requires { IsTrue (is_alive self.old.entities e) }
+        ensures written { self.new.entities ≡ changed self.old.entities e (with_written id value) }
+        ensures had { result ≡ is_some (find id_cmp id (held_by self.old.entities e)) }
         ensures unprepared { self.new.prepared ≡ [] }
     {
         self.prepared.forget(&mut self.archetypes);

@@ -1,5 +1,5 @@
 //! Which slot has the table of a type.
-ghost use Rattle.std.specs.Prelude.{◌≡◌, ◌<◌, List, Some, None, OnOk, cond};
+ghost use Rattle.std.specs.Prelude.{◌≡◌, ◌<◌, Some, None, OnOk};
 ghost use Rattle.std.specs.HashMap.{IsEmpty, IsUnchanged, Updates, get, spare};
 ghost use Rattle.eco_store.specs.TypeMap.{same_ids};
 

@@ -1,21 +1,17 @@
 -- Each row has a value for each id of its table's type, whatever changes.
-use Rattle.std.proofs.Common.{◌≡◌, ℕ, ◌<◌, ◌-◌, Bool, true, false, if◌then◌else◌, List, [], ◌∷◌, length, map, get_or, set, Option, Some, unwrap_or, refl, sym, ap, ◌∙◌, subst, inl, inr}
+use Rattle.std.proofs.Common.{◌≡◌, ℕ, ◌<◌, ◌-◌, Bool, true, false, if◌then◌else◌, List, [], ◌∷◌, length, map, get_or, set, Option, Some, is_some, unwrap_or, refl, sym, ap, ◌∙◌, subst, inl, inr}
 use Rattle.std.specs.List.{All}
 use Rattle.std.proofs.lemmas.Bool.{cases_eq}
 use Rattle.std.proofs.lemmas.List.Elements.{All-nil, All-set, All-push}
-use Rattle.slab.specs.Slab.{Slab, Updates, ContainsKey, with_value}
+use Rattle.slab.specs.Slab.{Slab, Updates, with_value}
 use Rattle.slab.proofs.SlabLemmas.{Updates-with_value}
 use Rattle.eco_ids.specs.declared.id.Id.{Id}
 use Rattle.eco_ids.specs.declared.value.Value.{Value}
 use Rattle.eco_ids.specs.Order.{id_eq}
-use Rattle.eco_tables.specs.Column.{retyped, with_held}
+use Rattle.eco_tables.specs.Column.{value_in, with_held}
 use Rattle.eco_tables.specs.Table.{TableState, Row, HasIds, RowsHaveIds, retyped_row}
 use Rattle.eco_tables.specs.Tables.{slot_of, no_table, no_row, with_row, without_row, AllHaveIds}
-use Rattle.eco_tables.proofs.Lists.{before, before_within, get_or-swap_remove, length-swap_remove}
-
-pub ids_retyped : (ids : List Id) (held : List (Id × Value)) → map (λ (p : Id × Value). p.0) (retyped ids held) ≡ ids
-ids_retyped [] held = refl
-ids_retyped (i ∷ ids) held = ap (λ xs. i ∷ xs) (ids_retyped ids held)
+use Rattle.eco_ids.proofs.Lists.{keys_paired, before, before_within, get_or-swap_remove, length-swap_remove}
 
 ids_written : (held : List (Id × Value)) (i : Id) (v : Value) → map (λ (p : Id × Value). p.0) (with_held held i v) ≡ map (λ (p : Id × Value). p.0) held
 ids_written [] i v = refl
@@ -31,7 +27,7 @@ none_lacks t none = subst (All (HasIds t.ids)) none (All-nil (HasIds t.ids))
 
 -- one more row, under the table's own type
 pub pushed_has : (t : TableState) (r : Row) → RowsHaveIds t → RowsHaveIds (with_row t r)
-pushed_has t r all = All-push (HasIds t.ids) t.rows (retyped_row t.ids r) all (ids_retyped t.ids r.held)
+pushed_has t r all = All-push (HasIds t.ids) t.rows (retyped_row t.ids r) all (keys_paired (value_in r.held) t.ids)
 
 -- a row less
 pub removed_has : (t : TableState) (row : ℕ) → row < length t.rows → RowsHaveIds t → RowsHaveIds (without_row t row)
@@ -55,10 +51,12 @@ updated_have s s' n slot puts new old m =
       | inr other ↦ subst (λ o. RowsHaveIds (unwrap_or o no_table)) (sym (puts.others m other)) (old m)
     ]
 
--- the table in a slot was changed in its place
-pub changed_have : (s : Slab TableState) (n : ℕ) (t : TableState) → ContainsKey s n → RowsHaveIds t → AllHaveIds s.slots → AllHaveIds (with_value s n t).slots
-changed_have s n t there new old = updated_have s (with_value s n t) n (Some t) (Updates-with_value s n t there) new old
-
 -- the table that is there
 pub there_has : (s : List (Option TableState)) (n : ℕ) (t : TableState) → slot_of s n ≡ Some t → AllHaveIds s → RowsHaveIds t
 there_has s n t at all = subst (λ o. RowsHaveIds (unwrap_or o no_table)) at (all n)
+
+-- the table in a slot was changed in its place
+pub still_have : (s : Slab TableState) (n : ℕ) (t t' : TableState) → slot_of s.slots n ≡ Some t → (RowsHaveIds t → RowsHaveIds t')
+    → AllHaveIds s.slots → AllHaveIds (with_value s n t').slots
+still_have s n t t' at keeps all =
+    updated_have s (with_value s n t') n (Some t') (Updates-with_value s n t' (ap is_some at)) (keeps (there_has s.slots n t at all)) all

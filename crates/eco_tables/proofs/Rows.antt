@@ -9,9 +9,8 @@ use Rattle.eco_ids.specs.declared.id.Id.{Id}
 use Rattle.eco_ids.specs.declared.value.Value.{Value}
 use Rattle.eco_ids.specs.World.{zeros}
 use Rattle.eco_ids.specs.Order.{id_eq}
-use Rattle.eco_tables.proofs.Columns.{written}
-use Rattle.eco_tables.proofs.Lists.{before, before_within, get_or-swap_remove, length-swap_remove}
-use Rattle.eco_tables.specs.Column.{ColumnState, held_in, contents, pushed, with_removed, with_value, with_held}
+use Rattle.eco_ids.proofs.Lists.{before, before_within, get_or-swap_remove, length-swap_remove}
+use Rattle.eco_tables.specs.Column.{ColumnState, held_in, contents, pushed, with_removed, with_value, with_held, written}
 use Rattle.eco_tables.specs.Table.{Row, rows_from, HasShape, entities_of, HasIds}
 
 -- a Vec's elements, after all of them were written through a slice
@@ -93,17 +92,20 @@ swapped_rows cs es row d r even there =
     ∙ sym (get_or-swap_remove (rows_from cs 0 es) row j r r (rw n there) (rw n inside)))
 
 -- a push
-pub rows_append : (cs : List ColumnState) (k : ℕ) (es : List Entity) (e : Entity) → rows_from cs k (es ++ e ∷ []) ≡ rows_from cs k es ++ row_of e cs (k + length es) ∷ []
+pub rows_append : (cs : List ColumnState) (k : ℕ) (es : List Entity) (e : Entity)
+    → rows_from cs k (es ++ e ∷ []) ≡ rows_from cs k es ++ row_of e cs (k + length es) ∷ []
 rows_append cs k [] e = ap (λ n. row_of e cs n ∷ []) (let h : k ≡ k + 0 = omega arith in h)
 rows_append cs k (f ∷ es) e =
-    ap (λ xs. row_of f cs k ∷ xs) (rows_append cs (suc k) es e ∙ ap (λ n. rows_from cs (suc k) es ++ row_of e cs n ∷ []) (let h : suc k + length es ≡ k + suc (length es) = omega arith in h))
+    ap (λ xs. row_of f cs k ∷ xs) (rows_append cs (suc k) es e
+    ∙ ap (λ n. rows_from cs (suc k) es ++ row_of e cs n ∷ []) (let h : suc k + length es ≡ k + suc (length es) = omega arith in h))
 
 pub last_pushed : (g : Id → Value) (cs : List ColumnState) (ids : List Id) (n : ℕ) → All (λ c. length c.values ≡ n) cs → map (λ c. c.id) cs ≡ ids
     → held_in (map (λ c. pushed c (g c.id)) cs) n ≡ map (λ i. (i, g i)) ids
 last_pushed g cs ids n even kinds =
     by_column cs even ∙ ap (λ is. map (λ i. (i, g i)) is) kinds
   where
-    by_column : (ds : List ColumnState) → All (λ c. length c.values ≡ n) ds → held_in (map (λ c. pushed c (g c.id)) ds) n ≡ map (λ i. (i, g i)) (map (λ c. c.id) ds)
+    by_column : (ds : List ColumnState) → All (λ c. length c.values ≡ n) ds
+        → held_in (map (λ c. pushed c (g c.id)) ds) n ≡ map (λ i. (i, g i)) (map (λ c. c.id) ds)
     by_column [] even = refl
     by_column (d ∷ ds) even =
         let here = get_or_push d.values (g d.id) zeros n (All-head (λ c. length c.values ≡ n) d ds even) in
@@ -129,7 +131,7 @@ pushed_rows g cs ids es e even kinds =
     ∙ (λ t. old t ++ record { entity = e; held = (ap (λ n. held_in ds n) (let h : 0 + length es ≡ length es = omega arith in h) ∙ new) t } ∷ [])
 
 -- a write
-written_rows : (cs : List ColumnState) (es : List Entity) (row : ℕ) (i : Id) (v : Value) (r : Row)
+pub written_rows : (cs : List ColumnState) (es : List Entity) (row : ℕ) (i : Id) (v : Value) (r : Row)
     → All (λ c. length c.values ≡ length es) cs → row < length es
     → rows_from (map (λ c. written c row i v) cs) 0 es
     ≡ set (rows_from cs 0 es) row (record { entity = (get_or (rows_from cs 0 es) row r).entity; held = with_held (get_or (rows_from cs 0 es) row r).held i v })
@@ -158,7 +160,8 @@ written_rows cs es row i v r even there =
         → ((written c row i v).id ≡ c.id) × (get_or (written c row i v).values j zeros ≡ get_or c.values j zeros)
     written_there c row j i v other = by (id_eq c.id i)
       where
-        by : (b : Bool) → ((if b then with_value c row v else c).id ≡ c.id) × (get_or (if b then with_value c row v else c).values j zeros ≡ get_or c.values j zeros)
+        by : (b : Bool) → ((if b then with_value c row v else c).id ≡ c.id) ×
+            (get_or (if b then with_value c row v else c).values j zeros ≡ get_or c.values j zeros)
         by true = (refl, get_or-set_other c.values row j v zeros other)
         by false = (refl, refl)
 
@@ -171,18 +174,13 @@ written_rows cs es row i v r even there =
         λ t. here t ∷ rest t
       where
         by : (b : Bool) → row < length d.values
-            → ◌≡◌ {A = Id × Value} ((if b then with_value d row v else d).id, get_or (if b then with_value d row v else d).values row zeros) (if b then (d.id, v) else (d.id, get_or d.values row zeros))
+            → ◌≡◌ {A = Id × Value} ((if b then with_value d row v else d).id, get_or (if b then with_value d row v else d).values row zeros)
+            (if b then (d.id, v) else (d.id, get_or d.values row zeros))
         by true h = ap (λ x. (d.id, x)) (get_or-set_same d.values row v zeros h)
         by false h = refl
 
--- the rows under columns of which each was written
-pub rows_after : (cs ds : List ColumnState) (es : List Entity) (row : ℕ) (i : Id) (v : Value) (r : Row)
-    → ds ≡ map (λ c. written c row i v) cs → All (λ c. length c.values ≡ length es) cs → row < length es
-    → rows_from ds 0 es
-    ≡ set (rows_from cs 0 es) row (record { entity = (get_or (rows_from cs 0 es) row r).entity; held = with_held (get_or (rows_from cs 0 es) row r).held i v })
-rows_after cs ds es row i v r is even there = ap (λ xs. rows_from xs 0 es) is ∙ written_rows cs es row i v r even there
-
-pub ids_kept : (f : ColumnState → ColumnState) → ((c : ColumnState) → (f c).id ≡ c.id) → (cs : List ColumnState) → map (λ c. c.id) (map f cs) ≡ map (λ c. c.id) cs
+pub ids_kept : (f : ColumnState → ColumnState) → ((c : ColumnState) → (f c).id ≡ c.id) → (cs : List ColumnState)
+    → map (λ c. c.id) (map f cs) ≡ map (λ c. c.id) cs
 ids_kept f same [] = refl
 ids_kept f same (c ∷ cs) = λ t. same c t ∷ ids_kept f same cs t
 
@@ -232,7 +230,8 @@ module _ (ids : List Id) (es : List Entity) (capacity : ℕ) (cs : List ColumnSt
     kinds = ids_kept (λ c. written c row i v) (λ c. by_id (id_eq c.id i) c) cs ∙ shape.kinds;
     even = All-map (λ c. length c.values ≡ length es) (λ c. written c row i v) cs
         (λ k d in_cs. by_length (id_eq (get_or cs k d).id i) (get_or cs k d) ∙ shape.even k d in_cs);
-    roomy = All-map (λ c. room ≤ c.room) (λ c. written c row i v) cs (λ k d in_cs. rw (by_room (id_eq (get_or cs k d).id i) (get_or cs k d)) (shape.roomy k d in_cs));
+    roomy = All-map (λ c. room ≤ c.room) (λ c. written c row i v) cs
+        (λ k d in_cs. rw (by_room (id_eq (get_or cs k d).id i) (get_or cs k d)) (shape.roomy k d in_cs));
     rows_room = shape.rows_room;
   }
     where

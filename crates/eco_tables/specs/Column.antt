@@ -26,6 +26,10 @@ pushed c v = record { id = c.id; values = c.values ++ v ∷ []; room = c.room - 
 abbrev pub with_value : ColumnState → ℕ → Value → ColumnState
 with_value c row v = record c { values = slice_set c.values row v }
 
+-- the column with a value in the row, where it is the id's
+abbrev pub written : ColumnState → ℕ → Id → Value → ColumnState
+written c row i v = if id_eq c.id i then with_value c row v else c
+
 -- the last value in the place of the row's
 abbrev pub with_removed : ColumnState → ℕ → ColumnState
 with_removed c row = record { id = c.id; values = swap_remove c.values row zeros; room = c.room + 1 }

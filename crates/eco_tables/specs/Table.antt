@@ -17,6 +17,10 @@ pub record TableState : Type 0 where
   pub rows : List Row
   pub room : ℕ
 
+-- the table of this type without rows and room
+abbrev pub empty_table : List Id → TableState
+empty_table ids = record { ids = ids; rows = []; room = 0 }
+
 -- the rows of these entities, from the row k of the columns on
 abbrev pub rows_from : List ColumnState → ℕ → List Entity → List Row
 rows_from columns k [] = []

@@ -1,7 +1,10 @@
 -- Tables in slots.
-use Rattle.std.specs.Prelude.{◌≡◌, ◌≢◌, ℕ, ◌-◌, ◌+◌, List, [], ◌∷◌, ◌++◌, Option, None, Some, slice_index_or, unwrap_or}
+use Rattle.std.specs.Prelude.{◌≡◌, ◌≢◌, ℕ, ◌-◌, ◌+◌, List, [], ◌∷◌, ◌++◌, Option, None, Some, slice_index_or, slice_set, unwrap_or}
 use Rattle.std.specs.List.{swap_remove}
+use Rattle.eco_ids.specs.declared.entity.Entity.{Entity}
 use Rattle.eco_ids.specs.declared.id.Id.{Id}
+use Rattle.eco_ids.specs.declared.value.Value.{Value}
+use Rattle.eco_tables.specs.Column.{with_held}
 use Rattle.eco_tables.specs.Table.{TableState, Row, retyped_row, RowsHaveIds}
 
 -- the table in a slot, if there is one
@@ -28,6 +31,26 @@ row_in slots n row = slice_index_or (table_in slots n).rows row no_row
 pub record Sets (old new : List (Option TableState)) (n : ℕ) (slot : Option TableState) : Type 0 where
   pub changed : slot_of new n ≡ slot
   pub others : (m : ℕ) → m ≢ n → slot_of new m ≡ slot_of old m
+
+-- the table with so much room
+abbrev pub with_room : TableState → ℕ → TableState
+with_room t n = record t { room = n }
+
+-- the new slots have at n the same table with other room, and every other slot keeps what it had
+abbrev pub SetsRoom : List (Option TableState) → List (Option TableState) → ℕ → Type 0
+SetsRoom old new n = Sets old new n (Some (with_room (table_in old n) (table_in new n).room))
+
+-- the row with this value at the id, where it has the id
+abbrev pub row_with : Row → Id → Value → Row
+row_with r i v = record { entity = r.entity; held = with_held r.held i v }
+
+-- the table with this value at the id in the row
+abbrev pub with_written : TableState → ℕ → Id → Value → TableState
+with_written t row i v = record t { rows = slice_set t.rows row (row_with (slice_index_or t.rows row no_row) i v) }
+
+-- the row of an entity that nothing is known of but zeros
+abbrev pub new_row : Entity → Row
+new_row e = record { entity = e; held = [] }
 
 -- the table with the row at its end, under its own type
 abbrev pub with_row : TableState → Row → TableState

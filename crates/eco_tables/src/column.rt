@@ -1,12 +1,12 @@
 //! The values of one id, a place for each row; and what is done to all columns of a table.
-ghost use Rattle.std.specs.Prelude.{◌≡◌, ℕ, ◌<◌, ◌≤◌, ◌+◌, ◌-◌, [], length, map, slice_index_or, slice_set, unwrap_or, OnOk, OnErr, IfOk, IsTrue};
+ghost use Rattle.std.specs.Prelude.{◌≡◌, ℕ, ◌<◌, ◌≤◌, ◌+◌, ◌-◌, [], length, map, slice_index_or, slice_set, is_some, unwrap_or, OnOk, IfOk};
 ghost use Rattle.std.specs.List.{swap_remove, All};
 ghost use Rattle.std.specs.FinMap.Entries.{find};
 ghost use Rattle.eco_ids.specs.World.{zeros};
-ghost use Rattle.eco_ids.specs.Order.{id_cmp, is_ascending};
-ghost use Rattle.eco_tables.specs.Column.{ColumnState, pushed, with_removed, with_value, held_in, value_in, contents, place_from};
+ghost use Rattle.eco_ids.specs.Order.{id_cmp};
+ghost use Rattle.eco_tables.specs.Column.{ColumnState, pushed, with_removed, with_value, written, held_in, value_in, contents, place_from};
 
-use eco_ids::{Id, Value};
+use eco_ids::{Id, TypeList, Value};
 use std::alloc::{AllocError, Global};
 use std::marker::Model;
 
@@ -107,17 +107,39 @@ pub fn swap_out_row(columns: &mut [Column], row: usize)
     }
 }
 
-/// The value of an id in a row, zeros where no column has the id.
-pub fn value_at(columns: &[Column], row: usize, id: Id) -> Value
-    requires { All (λ c. row < length c.values) columns.now }
-    ensures { result ≡ value_in (held_in columns.now row) id }
+/// The value of an id in a row, if one of the columns, which are those of the type, has the id.
+pub fn find_value(columns: &[Column], type_list: &TypeList, row: usize, id: Id) -> Option<Value>
+    requires kinds { map (λ c. c.id) columns.now ≡ type_list.now }
+    requires row { All (λ c. row < length c.values) columns.now }
+    ensures { result ≡ find id_cmp id (held_in columns.now row) }
 {
-    for column in columns {
-        if id.is(column.id()) {
-            return column.value(row);
-        }
-    }
-    Value::ZERO
+    // Its ids ascend, and so do the ids of the columns.
+    let _ids = type_list.as_slice();
+    let place = type_list.find(id)?;
+    Some(columns[place].value(row))
+}
+
+/// Writes the value of an id in a row. The answer is whether one of the columns, which are those of the type, has the id;
+/// where none has it nothing is written.
+pub fn write_value(
+    columns: &mut [Column],
+    type_list: &TypeList,
+    row: usize,
+    id: Id,
+    value: Value,
+) -> bool
+    requires kinds { map (λ c. c.id) columns.old ≡ type_list.now }
+    requires row { All (λ c. row < length c.values) columns.old }
+    ensures written { columns.new ≡ map (λ c. written c row id value) columns.old }
+    ensures had { result ≡ is_some (find id_cmp id (held_in columns.old row)) }
+{
+    // Its ids ascend, and so do the ids of the columns.
+    let _ids = type_list.as_slice();
+    let Some(place) = type_list.find(id) else {
+        return false;
+    };
+    columns[place].write(row, value);
+    true
 }
 
 /// One column for each id, without a row.
@@ -144,20 +166,21 @@ pub fn reserve(columns: &mut [Column], more: usize) -> Result<(), AllocError>
     Ok(())
 }
 
-/// A place for one more row in each, with the values of a row elsewhere: zeros for an id that has no column there.
+/// A place for one more row in each, with the values of a row elsewhere, where the columns are those of the type: zeros
+/// for an id that has no column there.
 ///
 /// Both lists ascend by their ids, so one walk along the source finds all that is there.
-pub fn push_from(columns: &mut [Column], source: &[Column], row: usize)
+pub fn push_from(columns: &mut [Column], source: &[Column], type_list: &TypeList, row: usize)
     requires room { All (λ c. 0 < c.room) columns.old }
+    requires kinds { map (λ c. c.id) source.now ≡ type_list.now }
     requires row { All (λ c. row < length c.values) source.now }
-    requires ascending { IsTrue (is_ascending id_cmp (map (λ c. c.id) source.now)) }
     ensures { columns.new ≡ map (λ c. pushed c (value_in (held_in source.now row) c.id)) columns.old }
 {
     let mut near = 0;
     for column in columns.iter_mut() {
         let id = column.id();
         near = next_place(source, near, id);
-        let value = value_near(source, near, row, id);
+        let value = value_near(source, near, type_list, row, id);
         column.push(value);
     }
 }
@@ -175,13 +198,15 @@ fn next_place(columns: &[Column], from: usize, id: Id) -> usize
 }
 
 // The value of an id in a row, zeros where no column has the id. Its column is looked for at this place first.
-fn value_near(columns: &[Column], place: usize, row: usize, id: Id) -> Value
+fn value_near(columns: &[Column], place: usize, type_list: &TypeList, row: usize, id: Id) -> Value
+    requires kinds { map (λ c. c.id) columns.now ≡ type_list.now }
     requires row { All (λ c. row < length c.values) columns.now }
-    requires ascending { IsTrue (is_ascending id_cmp (map (λ c. c.id) columns.now)) }
     ensures { result ≡ value_in (held_in columns.now row) id }
 {
+    // Its ids ascend, and so do the ids of the columns.
+    let _ids = type_list.as_slice();
     if place < columns.len() && id.is(columns[place].id()) {
         return columns[place].value(row);
     }
-    value_at(columns, row, id)
+    find_value(columns, type_list, row, id).unwrap_or(Value::ZERO)
 }

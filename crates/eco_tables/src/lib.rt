@@ -9,12 +9,8 @@
 #![tactic(auto)]
 
 mod column;
-mod grid;
 mod table;
 mod tables;
 
 pub use table::Table;
 pub use tables::Tables;
-
-#[cfg(test)]
-mod tests;

@@ -1,10 +1,10 @@
 //! Tables, each in a slot of its own.
-ghost use Rattle.std.specs.Prelude.{◌≡◌, ◌≢◌, ℕ, ◌<◌, ◌≤◌, ◌+◌, [], ◌∷◌, length, slice_get, slice_index_or, slice_set, None, Some, IsSome, is_some, OnSome, IfNone, count_by, OnOk, OnErr, IfOk, option_copied};
+ghost use Rattle.std.specs.Prelude.{◌≡◌, ◌≢◌, ℕ, ◌<◌, ◌≤◌, ◌+◌, ◌-◌, [], ◌∷◌, length, slice_get, slice_index_or, slice_set, None, Some, IsSome, is_some, OnSome, IfNone, count_by, OnOk, OnErr, IsOk, IfOk, option_copied};
 ghost use Rattle.std.specs.FinMap.Entries.{find};
 ghost use Rattle.eco_ids.specs.Order.{id_cmp};
 ghost use Rattle.eco_tables.specs.Column.{value_in, with_held};
-ghost use Rattle.eco_tables.specs.Table.{TableState, Row, entities_of};
-ghost use Rattle.eco_tables.specs.Tables.{slot_of, table_in, row_in, no_row, Sets, Moves, with_row, without_row, rowless_type, AllHaveIds};
+ghost use Rattle.eco_tables.specs.Table.{TableState, Row, entities_of, empty_table};
+ghost use Rattle.eco_tables.specs.Tables.{slot_of, table_in, row_in, no_row, Sets, SetsRoom, Moves, new_row, with_room, with_row, with_written, without_row, rowless_type, AllHaveIds};
 ghost use Rattle.slab.specs.Slab.{entries_from};
 
 use crate::table::Table;
@@ -61,7 +61,7 @@ impl Tables {
     /// and changes nothing.
     pub fn insert(&mut self, type_list: TypeList) -> Result<usize, AllocError>
         ensures vacant { IfOk result (λ n. slot_of self.old n ≡ None) }
-        ensures sets { IfOk result (λ n. Sets self.old self.new n (Some (record { ids = type_list; rows = []; room = 0 }))) }
+        ensures sets { IfOk result (λ n. Sets self.old self.new n (Some (empty_table type_list))) }
         ensures err { OnErr result (self.new ≡ self.old) }
     {
         let table = Table::new(self.alloc, type_list)?;
@@ -122,11 +122,16 @@ impl Tables {
         self.slots.len()
     }
 
-    /// Every table's slot lies below.
+    /// One past the last slot that has a table, 0 where there is none.
     pub fn slot_bound(&self) -> usize
-        ensures { (n : ℕ) → IsSome (slot_of self.now n) → n < result }
+        ensures above { (n : ℕ) → IsSome (slot_of self.now n) → n < result }
+        ensures least { 0 < result → IsSome (slot_of self.now (result - 1)) }
     {
-        self.slots.capacity()
+        let mut bound = self.slots.capacity();
+        while bound > 0 && !self.slots.contains(bound - 1) {
+            bound -= 1;
+        }
+        bound
     }
 
     /// The tables with their slots, slots ascending.
@@ -139,9 +144,10 @@ impl Tables {
     /// Room for more rows in a table. An `Err` keeps all rows and the room that was there.
     pub fn reserve_rows(&mut self, slot: usize, more: usize) -> Result<(), AllocError>
         requires { IsSome (slot_of self.old slot) }
-        ensures sets { Sets self.old self.new slot (Some (record (table_in self.old slot) { room = (table_in self.new slot).room })) }
+        ensures sets { SetsRoom self.old self.new slot }
         ensures kept { (table_in self.old slot).room ≤ (table_in self.new slot).room }
         ensures room { OnOk result (more ≤ (table_in self.new slot).room) }
+        ensures ready { more ≤ (table_in self.old slot).room → IsOk result }
     {
         let table = &mut self.slots[slot];
         table.reserve(more)
@@ -150,9 +156,10 @@ impl Tables {
     /// Room for so many rows more than a table had room for. An `Err` keeps all rows and the room that was there.
     pub fn reserve_more(&mut self, slot: usize, more: usize) -> Result<(), AllocError>
         requires { IsSome (slot_of self.old slot) }
-        ensures sets { Sets self.old self.new slot (Some (record (table_in self.old slot) { room = (table_in self.new slot).room })) }
+        ensures sets { SetsRoom self.old self.new slot }
         ensures kept { (table_in self.old slot).room ≤ (table_in self.new slot).room }
         ensures room { OnOk result ((table_in self.old slot).room + more ≤ (table_in self.new slot).room) }
+        ensures ready { more ≡ 0 → IsOk result }
     {
         let table = &mut self.slots[slot];
         table.reserve_more(more)
@@ -161,7 +168,7 @@ impl Tables {
     /// Takes the promise of room in a table back. Its memory stays.
     pub fn waive(&mut self, slot: usize)
         requires { IsSome (slot_of self.old slot) }
-        ensures { Sets self.old self.new slot (Some (record (table_in self.old slot) { room = 0 })) }
+        ensures { Sets self.old self.new slot (Some (with_room (table_in self.old slot) 0)) }
     {
         let table = &mut self.slots[slot];
         table.waive();
@@ -171,7 +178,7 @@ impl Tables {
     /// lacks it nothing is written.
     pub fn set_value(&mut self, slot: usize, row: usize, id: Id, value: Value) -> bool
         requires { row < length (table_in self.old slot).rows }
-        ensures written { Sets self.old self.new slot (Some (record (table_in self.old slot) { rows = slice_set (table_in self.old slot).rows row (record { entity = (row_in self.old slot row).entity; held = with_held (row_in self.old slot row).held id value }) })) }
+        ensures written { Sets self.old self.new slot (Some (with_written (table_in self.old slot) row id value)) }
         ensures had { result ≡ is_some (find id_cmp id (row_in self.old slot row).held) }
     {
         let table = &mut self.slots[slot];
@@ -181,7 +188,7 @@ impl Tables {
     /// A row for a new entity, with zeros, in room that was reserved.
     pub fn push_row(&mut self, slot: usize, entity: Entity)
         requires { 0 < (table_in self.old slot).room }
-        ensures { Sets self.old self.new slot (Some (with_row (table_in self.old slot) (record { entity = entity; held = [] }))) }
+        ensures { Sets self.old self.new slot (Some (with_row (table_in self.old slot) (new_row entity))) }
     {
         let table = &mut self.slots[slot];
         table.push_row(entity);

@@ -1,5 +1,5 @@
 -- The closure of an id is the walk of pairs of With from its head.
-use Rattle.std.proofs.Common.{◌≡◌, ℕ, ◌+◌, ◌<◌, Bool, true, false, ◌||◌, ◌↔◌, inl, inr, List, [], ◌∷◌, ◌++◌, length, take, get_or, refl, sym, ap, ◌∙◌, subst, true≢false, IsTrue, Option, Some, None, is_some, Result, Ok, Err, IfOk}
+use Rattle.std.proofs.Common.{◌≡◌, ℕ, ◌+◌, ◌<◌, ◌||◌, ◌↔◌, inl, inr, List, [], ◌∷◌, length, take, get_or, refl, sym, ap, ◌∙◌, subst, true≢false, IsTrue, Option, Some, None, is_some}
 use Rattle.std.proofs.lemmas.List.{take_more}
 use Rattle.eco_ids.specs.declared.entity.Entity.{Entity}
 use Rattle.eco_ids.specs.declared.entity.TheConstants.{WITH}
@@ -14,7 +14,14 @@ use Rattle.eco_ids.specs.Step.{IsClosure}
 use Rattle.eco_ids.specs.Traits.{Brings, InClosure, Reaches}
 use Rattle.eco_ids.specs.World.{WorldState, has}
 use Rattle.eco_traits.specs.Closure.{head_of, with_head, with_heads}
-use Rattle.eco_traits.specs.Same.{or_parts, or_left, or_right, first, entity_eq_is, entity_eq_itself, id_eq_is, id_eq_itself, has_append}
+use Rattle.std.proofs.lemmas.Bool.{or_left}
+use Rattle.std.proofs.Math.Bool.{or-false, or_comm}
+use Rattle.std.proofs.lemmas.List.{map-append}
+use Rattle.eco_ids.proofs.IdOrder.{same_id}
+use Rattle.eco_ids.proofs.Ascending.{first}
+use Rattle.eco_ids.proofs.Facts.{or_parts, or_right, id_eq_is, id_eq_itself}
+use Rattle.eco_ids.proofs.Overlaps.{entity_eq_is, entity_eq_itself}
+use Rattle.eco_traits.proofs.Members.{only, has_append}
 
 -- ---- the pairs of With
 
@@ -23,25 +30,12 @@ starts_with (One e) h = absurd (true≢false (sym h))
 starts_with (Two r t) h = (t, ap (λ q. Two q t) (sym (entity_eq_is WITH r (first _ _ h))))
 
 -- a search for one finds one where there is one
-pub with_found : (ids : List Id) (o : Option Id) → IsLeastMatch (PairOf (Is WITH) Any) ids o → IsTrue (is_some o) ↔ ((x : Entity) × IsTrue (has_item id_cmp ids (Two WITH x)))
+pub with_found : (ids : List Id) (o : Option Id) → IsLeastMatch (PairOf (Is WITH) Any) ids o
+    → IsTrue (is_some o) ↔ ((x : Entity) × IsTrue (has_item id_cmp ids (Two WITH x)))
 with_found ids None none = (λ h. absurd (true≢false (sym h)), λ p. absurd (true≢false (none (Two WITH p.0) p.1)))
 with_found ids (Some i) found = (λ h. let pair = starts_with i found.1 in (pair.0, subst (λ j. IsTrue (has_item id_cmp ids j)) pair.1 found.0), λ p. refl)
 
 -- ---- the id with many heads
-
-heads_append : (i : Id) (xs ys : List Entity) → with_heads i (xs ++ ys) ≡ with_heads i xs ++ with_heads i ys
-heads_append i [] ys = refl
-heads_append i (x ∷ xs) ys = ap (λ zs. with_head i x ∷ zs) (heads_append i xs ys)
-
-or_turns : (a b : Bool) → (a || b) ≡ (b || a)
-or_turns true true = refl
-or_turns true false = refl
-or_turns false true = refl
-or_turns false false = refl
-
-or_none : (a : Bool) → (a || false) ≡ a
-or_none true = refl
-or_none false = refl
 
 -- one more head
 pub heads_more : (i : Id) (heads : List Entity) (k : ℕ) (d : Entity) (old new : List Id) → k < length heads
@@ -49,24 +43,27 @@ pub heads_more : (i : Id) (heads : List Entity) (k : ℕ) (d : Entity) (old new 
     → (j : Id) → has_item id_cmp new j ≡ has_item id_cmp (with_heads i (take (k + 1) heads)) j
 heads_more i heads k d old new l h joins j =
     let x = get_or heads k d in
-    joins j ∙ or_turns (id_eq (with_head i x) j) (has_item id_cmp old j)
+    joins j ∙ or_comm (id_eq (with_head i x) j) (has_item id_cmp old j)
     ∙ ap (λ b. b || id_eq (with_head i x) j) (h j)
-    ∙ ap (λ b. has_item id_cmp (with_heads i (take k heads)) j || b) (sym (or_none (id_eq (with_head i x) j)))
+    ∙ ap (λ b. has_item id_cmp (with_heads i (take k heads)) j || b) (sym (or-false (id_eq (with_head i x) j)))
     ∙ sym (has_append id_cmp (with_heads i (take k heads)) (with_head i x ∷ []) j)
-    ∙ ap (λ xs. has_item id_cmp xs j) (sym (heads_append i (take k heads) (x ∷ [])) ∙ ap (with_heads i) (sym (take_more heads k d l)))
+    ∙ ap (λ xs. has_item id_cmp xs j) (sym (map-append (with_head i) (take k heads) (x ∷ [])) ∙ ap (with_heads i) (sym (take_more heads k d l)))
 
 has_head : (i : Id) (heads : List Entity) (x : Entity) → IsTrue (has_item entity_cmp heads x) → IsTrue (has_item id_cmp (with_heads i heads) (with_head i x))
 has_head i [] x h = absurd (true≢false (sym h))
 has_head i (y ∷ ys) x h =
-    elim (or_parts (entity_eq y x) (has_item entity_cmp ys x) h) as (λ _. IsTrue (id_eq (with_head i y) (with_head i x) || has_item id_cmp (with_heads i ys) (with_head i x))) [
+    elim (or_parts (entity_eq y x) (has_item entity_cmp ys x) h) as (λ _. IsTrue
+    (id_eq (with_head i y) (with_head i x) || has_item id_cmp (with_heads i ys) (with_head i x))) [
       | inl k ↦ or_left _ _ (subst (λ z. IsTrue (id_eq (with_head i y) (with_head i z))) (entity_eq_is y x k) (id_eq_itself (with_head i y)))
       | inr k ↦ or_right _ _ (has_head i ys x k)
     ]
 
-head_of_item : (i : Id) (heads : List Entity) (j : Id) → IsTrue (has_item id_cmp (with_heads i heads) j) → (x : Entity) × IsTrue (has_item entity_cmp heads x) × (with_head i x ≡ j)
+head_of_item : (i : Id) (heads : List Entity) (j : Id) → IsTrue (has_item id_cmp (with_heads i heads) j)
+    → (x : Entity) × IsTrue (has_item entity_cmp heads x) × (with_head i x ≡ j)
 head_of_item i [] j h = absurd (true≢false (sym h))
 head_of_item i (y ∷ ys) j h =
-    elim (or_parts (id_eq (with_head i y) j) (has_item id_cmp (with_heads i ys) j) h) as (λ _. (x : Entity) × IsTrue (entity_eq y x || has_item entity_cmp ys x) × (with_head i x ≡ j)) [
+    elim (or_parts (id_eq (with_head i y) j) (has_item id_cmp (with_heads i ys) j) h) as (λ _. (x : Entity) × IsTrue
+    (entity_eq y x || has_item entity_cmp ys x) × (with_head i x ≡ j)) [
       | inl k ↦ (y, or_left _ _ (entity_eq_itself y), id_eq_is (with_head i y) j k)
       | inr k ↦ let rest = head_of_item i ys j k in (rest.0, or_right _ _ rest.1, rest.2)
     ]
@@ -98,13 +95,15 @@ closure_to_reach w i (next {a = a} {b = b} member brings) =
     let n = brought w i m.0 b (subst (λ k. Brings w k b) m.2 brings) in
     (n.0, next m.1 n.1, n.2)
 
-pub closure_of_heads : (w : WorldState) (i : Id) (heads : List Entity) (s : List Id) → ((x : Entity) → IsTrue (has_item entity_cmp heads x) ↔ Reaches w WITH (head_of i) x)
+pub closure_of_heads : (w : WorldState) (i : Id) (heads : List Entity) (s : List Id)
+    → ((x : Entity) → IsTrue (has_item entity_cmp heads x) ↔ Reaches w WITH (head_of i) x)
     → ((j : Id) → has_item id_cmp s j ≡ has_item id_cmp (with_heads i heads) j) → IsTrue (is_ascending id_cmp s) → IsClosure w i s
 closure_of_heads w i heads s exact same up = record {
   ascending = up;
   exact = λ j. (
     λ h. let m = head_of_item i heads j (sym (same j) ∙ h) in subst (InClosure w i) m.2 (reach_to_closure w i ((exact m.0).0 m.1)),
-    λ h. let m = closure_to_reach w i h in same j ∙ subst (λ k. IsTrue (has_item id_cmp (with_heads i heads) k)) (sym m.2) (has_head i heads m.0 ((exact m.0).1 m.1)),
+    λ h. let m = closure_to_reach w i h in same j ∙ subst (λ k. IsTrue (has_item id_cmp (with_heads i heads) k)) (sym m.2)
+        (has_head i heads m.0 ((exact m.0).1 m.1)),
   );
 }
 
@@ -118,22 +117,10 @@ pub closure_alone : (w : WorldState) (i : Id) → ((x : Entity) → IsTrue (has 
 closure_alone w i none = record {
   ascending = refl;
   exact = λ j. (
-    λ h. root (sym (elim (or_parts (id_eq i j) false h) as (λ _. i ≡ j) [ inl k ↦ id_eq_is i j k | inr k ↦ absurd (true≢false (sym k)) ])),
+    λ h. root (sym (only same_id i j h)),
     λ h.
         let m = closure_to_reach w i h in
         let is : j ≡ i = m.2 ∙ ap (with_head i) (stays w WITH (head_of i) none m.1) ∙ own_head i in
         or_left _ _ (subst (λ k. IsTrue (id_eq i k)) (sym is) (id_eq_itself i)),
   );
 }
-
--- ---- as results
-
-pub made_of_heads : {E : Type 0} (w : WorldState) (i : Id) (heads : List Entity) → ((x : Entity) → IsTrue (has_item entity_cmp heads x) ↔ Reaches w WITH (head_of i) x)
-    → (r : Result (List Id) E) → IfOk r (λ s. (j : Id) → has_item id_cmp s j ≡ has_item id_cmp (with_heads i heads) j) → IfOk r (λ s. IsTrue (is_ascending id_cmp s)) → IfOk r (IsClosure w i)
-made_of_heads w i heads exact (Ok s) same up = closure_of_heads w i heads s exact same up
-made_of_heads w i heads exact (Err e) same up = tt
-
-pub made_alone : {E : Type 0} (w : WorldState) (i : Id) → ((x : Entity) → IsTrue (has w (head_of i) (Two WITH x)) → ⊥)
-    → (r : Result (List Id) E) → IfOk r (λ s. s ≡ i ∷ []) → IfOk r (IsClosure w i)
-made_alone w i none (Ok s) is = subst (IsClosure w i) (sym is) (closure_alone w i none)
-made_alone w i none (Err e) is = tt

@@ -1,8 +1,8 @@
-pub mod Agree
 pub mod Closures
 pub mod Joined
+pub mod Known
+pub mod Members
 pub mod Plain
-pub mod Retype
 pub mod Rows
 pub mod Search
 pub mod Verdicts

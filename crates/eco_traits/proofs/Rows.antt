@@ -9,14 +9,16 @@ use Rattle.std.specs.FinMap.Entries.{find}
 use Rattle.eco_ids.specs.declared.entity.Entity.{Entity}
 use Rattle.eco_ids.specs.declared.id.Id.{Id}
 use Rattle.eco_ids.specs.declared.value.Value.{Value}
-use Rattle.eco_ids.specs.Indices.{IndexState, Living, living_from, record_in, record_of}
+use Rattle.eco_ids.specs.Indices.{IndexState, Living, living_from, record_in}
 use Rattle.eco_ids.specs.Order.{id_cmp, has_item}
 use Rattle.eco_ids.specs.Step.{is_pair_of, is_used}
-use Rattle.eco_ids.specs.World.{WorldState, Record, has, zeros}
-use Rattle.eco_traits.specs.Known.{has_of}
-use Rattle.eco_traits.specs.Same.{or_parts, or_left, or_right, same_truth}
+use Rattle.eco_ids.specs.World.{WorldState, Record, has, zeros, record_of, first_world}
+use Rattle.eco_ids.proofs.Keeps.{has_in}
+use Rattle.std.proofs.lemmas.Bool.{or_left}
+use Rattle.eco_ids.proofs.Facts.{or_parts, or_right}
+use Rattle.eco_traits.proofs.Members.{same_truth}
 use Rattle.eco_traits.specs.Target.{type_of_record}
-use Rattle.eco_traits.proofs.Walks.{ids_in, ids_find}
+use Rattle.eco_ids.proofs.Exact.{keys, keys_find}
 
 abbrev pub with_ids : List Id → Record
 with_ids ids = record { name = None; arity = None; held = map (λ i. (i, zeros)) ids }
@@ -25,9 +27,9 @@ abbrev pub row_states : List (List Id) → List (IndexState Record)
 row_states rows = map (λ ids. Living 0 (with_ids ids)) rows
 
 abbrev pub rows_world : List (List Id) → WorldState
-rows_world rows = record { limit = 1048576; indices = row_states rows }
+rows_world rows = record (first_world 1048576) { indices = row_states rows }
 
-own_ids : (ids : List Id) → ids_in (map (λ (i : Id). (i, zeros)) ids) ≡ ids
+own_ids : (ids : List Id) → keys (map (λ (i : Id). (i, zeros)) ids) ≡ ids
 own_ids [] = refl
 own_ids (i ∷ ids) = ap (λ xs. i ∷ xs) (own_ids ids)
 
@@ -59,7 +61,9 @@ pair_in : (r : Entity) (ids : List Id) → list_any (λ (q : Id × Value). is_pa
 pair_in r [] = refl
 pair_in r (i ∷ ids) = ap (λ b. is_pair_of r i || b) (pair_in r ids)
 
-used_from : (r : Entity) (n : ℕ) (rows : List (List Id)) → list_any (λ ids. list_any (is_pair_of r) ids) rows ≡ list_any (λ (p : Entity × Record). list_any (λ (q : Id × Value). is_pair_of r q.0) p.1.held) (living_from n (row_states rows))
+used_from : (r : Entity) (n : ℕ) (rows : List (List Id))
+    → list_any (λ ids. list_any (is_pair_of r) ids) rows ≡ list_any (λ (p : Entity × Record). list_any (λ (q : Id × Value). is_pair_of r q.0) p.1.held)
+    (living_from n (row_states rows))
 used_from r n [] = refl
 used_from r n (ids ∷ rows) =
     ap (λ b. b || list_any (λ xs. list_any (is_pair_of r) xs) rows) (sym (pair_in r ids))
@@ -69,25 +73,30 @@ pub used : (r : Entity) (rows : List (List Id)) → list_any (λ ids. list_any (
 used r rows = used_from r 0 rows
 
 row_has : (i : Id) (ids : List Id) → is_some (find id_cmp i (map (λ (j : Id). (j, zeros)) ids)) ≡ has_item id_cmp ids i
-row_has i ids = ids_find (map (λ (j : Id). (j, zeros)) ids) i ∙ ap (λ xs. has_item id_cmp xs i) (own_ids ids)
+row_has i ids = keys_find (map (λ (j : Id). (j, zeros)) ids) i ∙ ap (λ xs. has_item id_cmp xs i) (own_ids ids)
 
-holder_in : (i : Id) (rows : List (List Id)) → IsTrue (list_any (λ ids. has_item id_cmp ids i) rows) → (n : ℕ) × IsTrue (has_of (record_in (slice_get (row_states rows) n) 0) i)
+holder_in : (i : Id) (rows : List (List Id)) → IsTrue (list_any (λ ids. has_item id_cmp ids i) rows)
+    → (n : ℕ) × IsTrue (has_in (record_in (slice_get (row_states rows) n) 0) i)
 holder_in i [] h = absurd (true≢false (sym h))
-holder_in i (ids ∷ rows) h = elim (or_parts (has_item id_cmp ids i) (list_any (λ xs. has_item id_cmp xs i) rows) h) as (λ _. (n : ℕ) × IsTrue (has_of (record_in (slice_get (row_states (ids ∷ rows)) n) 0) i)) [
-  | inl k ↦ (zero, row_has i ids ∙ k)
-  | inr k ↦ let rest = holder_in i rows k in (suc rest.0, rest.1)
-]
+holder_in i (ids ∷ rows) h = elim (or_parts (has_item id_cmp ids i) (list_any (λ xs. has_item id_cmp xs i) rows) h) as (λ _. (n : ℕ) × IsTrue
+    (has_in (record_in (slice_get (row_states (ids ∷ rows)) n) 0) i)) [
+      | inl k ↦ (zero, row_has i ids ∙ k)
+      | inr k ↦ let rest = holder_in i rows k in (suc rest.0, rest.1)
+    ]
 
-in_holder : (i : Id) (rows : List (List Id)) (n g : ℕ) → IsTrue (has_of (record_in (slice_get (row_states rows) n) g) i) → IsTrue (list_any (λ ids. has_item id_cmp ids i) rows)
+in_holder : (i : Id) (rows : List (List Id)) (n g : ℕ) → IsTrue (has_in (record_in (slice_get (row_states rows) n) g) i)
+    → IsTrue (list_any (λ ids. has_item id_cmp ids i) rows)
 in_holder i [] n g h = absurd (true≢false (sym h))
 in_holder i (ids ∷ rows) zero g h =
-    elim (g == 0) as (λ b. IsTrue (has_of (if b then Some (with_ids ids) else None) i) → IsTrue (has_item id_cmp ids i || list_any (λ xs. has_item id_cmp xs i) rows)) [
+    elim (g == 0) as (λ b. IsTrue (has_in (if b then Some (with_ids ids) else None) i)
+    → IsTrue (has_item id_cmp ids i || list_any (λ xs. has_item id_cmp xs i) rows)) [
       | true ↦ λ k. or_left _ _ (sym (row_has i ids) ∙ k)
       | false ↦ λ k. absurd (true≢false (sym k))
     ] h
 in_holder i (ids ∷ rows) (suc n) g h = or_right _ _ (in_holder i rows n g h)
 
-pub target : (i : Id) (rows : List (List Id)) → IsTrue (list_any (λ ids. has_item id_cmp ids i) rows) ↔ ((holder : Entity) × IsTrue (has (rows_world rows) holder i))
+pub target : (i : Id) (rows : List (List Id)) → IsTrue (list_any (λ ids. has_item id_cmp ids i) rows) ↔
+    ((holder : Entity) × IsTrue (has (rows_world rows) holder i))
 target i rows = (
   λ h. let at = holder_in i rows h in (record { index = at.0; generation = 0 }, at.1),
   λ p. in_holder i rows p.0.index p.0.generation p.1,

@@ -1,50 +1,51 @@
 -- What stands against a closure.
-use Rattle.std.proofs.Common.{◌≡◌, ℕ, zero, suc, ◌+◌, ◌<◌, Bool, false, ◌||◌, ◌⊎◌, inl, inr, List, [], ◌∷◌, length, take, get_or, refl, sym, ap, ◌∙◌, subst, true≢false, IsTrue, Option, Some, None, MatchBool, MatchOption, option_map, is_lt, Less, Equal, Greater, arith}
+use Rattle.std.proofs.Common.{◌≡◌, ℕ, zero, suc, ◌+◌, ◌<◌, Bool, false, ◌||◌, ◌⊎◌, inl, inr, List, [], ◌∷◌, length, take, get_or, refl, sym, ap, ◌∙◌, subst, true≢false, IsTrue, Option, Some, None, MatchBool, option_map, is_lt, Less, Equal, Greater, arith}
 use Rattle.std.proofs.lemmas.List.{take_more}
 use Rattle.std.specs.Cmp.{tied_itself}
-use Rattle.std.specs.List.{list_all, list_any}
+use Rattle.std.specs.List.{list_any}
 use Rattle.std.specs.Ordering.{is_le, ordering_then}
+use Rattle.eco_ids.specs.declared.edition.Edition.{Edition}
+use Rattle.eco_ids.specs.declared.edition.Edition.TheVariants.{First}
 use Rattle.eco_ids.specs.declared.entity.Entity.{Entity}
 use Rattle.eco_ids.specs.declared.entity.TheConstants.{ACYCLIC, EXCLUSIVE}
 use Rattle.eco_ids.specs.declared.id.Id.{Id}
 use Rattle.eco_ids.specs.declared.id.Id.TheVariants.{Two}
 use Rattle.eco_ids.specs.declared.refusal.Refusal.{Refusal}
 use Rattle.eco_ids.specs.declared.refusal.Refusal.TheVariants.{Cycle, InUse, NotAPolicy}
+use Rattle.eco_ids.specs.Edition.{late_traits}
 use Rattle.eco_ids.specs.Order.{id_cmp, id_eq, entity_cmp, has_item, is_ascending}
-use Rattle.eco_ids.specs.Step.{ClosesCycle, Judges, is_late, is_wrong_policy, late_traits}
+use Rattle.eco_ids.specs.Step.{IsFirstCycle, Judges, is_late, is_wrong_policy}
 use Rattle.eco_ids.specs.World.{WorldState}
-use Rattle.eco_traits.specs.Same.{or_parts, or_left, or_right, first, second, id_eq_is, id_eq_itself, entity_cmp_total, has_append}
-use Rattle.eco_traits.specs.Target.{ClosesBy, IsClosedBy, IsFirstCycle}
+use Rattle.std.proofs.lemmas.Bool.{or_left}
+use Rattle.eco_ids.proofs.Gains.{same_relationship}
+use Rattle.eco_ids.proofs.Members.{all_item}
+use Rattle.eco_ids.proofs.IdOrder.{id_cmp_total, same_id}
+use Rattle.eco_ids.proofs.Ascending.{first, second}
+use Rattle.eco_ids.proofs.Facts.{or_parts, or_right, id_eq_is}
+use Rattle.eco_ids.proofs.IdOrder.{entity_cmp_total}
+use Rattle.eco_traits.proofs.Members.{only, has_get, has_append}
+use Rattle.eco_traits.specs.Target.{ClosesBy, IsClosedBy}
 
 -- ---- ascending ids
-
-all_above : (t : Id → Bool) (xs : List Id) (y : Id) → IsTrue (list_all t xs) → IsTrue (has_item id_cmp xs y) → IsTrue (t y)
-all_above t [] y all h = absurd (true≢false (sym h))
-all_above t (x ∷ xs) y all h = elim (or_parts (id_eq x y) (has_item id_cmp xs y) h) as (λ _. IsTrue (t y)) [
-  | inl k ↦ subst (λ z. IsTrue (t z)) (id_eq_is x y k) (first (t x) _ all)
-  | inr k ↦ all_above t xs y (second (t x) _ all) k
-]
 
 -- an item stands before the place, at it, or above what is there
 before_or_above : (xs : List Id) (k : ℕ) (d y : Id) → IsTrue (is_ascending id_cmp xs) → k < length xs → IsTrue (has_item id_cmp xs y)
     → IsTrue (has_item id_cmp (take k xs) y) ⊎ ((get_or xs k d ≡ y) ⊎ IsTrue (is_lt (id_cmp (get_or xs k d) y)))
 before_or_above [] k d y up l h = absurd (true≢false (sym h))
-before_or_above (x ∷ xs) zero d y up l h = elim (or_parts (id_eq x y) (has_item id_cmp xs y) h) as (λ _. IsTrue (has_item id_cmp (take zero (x ∷ xs)) y) ⊎ ((x ≡ y) ⊎ IsTrue (is_lt (id_cmp x y)))) [
-  | inl n ↦ inr (inl (id_eq_is x y n))
-  | inr n ↦ inr (inr (all_above (λ z. is_lt (id_cmp x z)) xs y (first _ _ up) n))
-]
-before_or_above (x ∷ xs) (suc k) d y up l h = elim (or_parts (id_eq x y) (has_item id_cmp xs y) h) as (λ _. IsTrue (id_eq x y || has_item id_cmp (take k xs) y) ⊎ ((get_or xs k d ≡ y) ⊎ IsTrue (is_lt (id_cmp (get_or xs k d) y)))) [
-  | inl n ↦ inl (or_left _ _ n)
-  | inr n ↦ elim (before_or_above xs k d y (second _ _ up) (omega arith) n) as (λ _. IsTrue (id_eq x y || has_item id_cmp (take k xs) y) ⊎ ((get_or xs k d ≡ y) ⊎ IsTrue (is_lt (id_cmp (get_or xs k d) y)))) [
-    | inl m ↦ inl (or_right _ _ m)
-    | inr m ↦ inr m
-  ]
-]
-
-has_at : (xs : List Id) (k : ℕ) (d : Id) → k < length xs → IsTrue (has_item id_cmp xs (get_or xs k d))
-has_at [] k d l = absurd (omega arith)
-has_at (x ∷ xs) zero d l = or_left _ _ (id_eq_itself x)
-has_at (x ∷ xs) (suc k) d l = or_right _ _ (has_at xs k d (omega arith))
+before_or_above (x ∷ xs) zero d y up l h = elim (or_parts (id_eq x y) (has_item id_cmp xs y) h) as (λ _. IsTrue (has_item id_cmp (take zero (x ∷ xs)) y) ⊎
+    ((x ≡ y) ⊎ IsTrue (is_lt (id_cmp x y)))) [
+      | inl n ↦ inr (inl (id_eq_is x y n))
+      | inr n ↦ inr (inr (all_item id_cmp_total same_id (λ z. is_lt (id_cmp x z)) xs y (first _ _ up) n))
+    ]
+before_or_above (x ∷ xs) (suc k) d y up l h = elim (or_parts (id_eq x y) (has_item id_cmp xs y) h) as (λ _. IsTrue
+    (id_eq x y || has_item id_cmp (take k xs) y) ⊎ ((get_or xs k d ≡ y) ⊎ IsTrue (is_lt (id_cmp (get_or xs k d) y)))) [
+      | inl n ↦ inl (or_left _ _ n)
+      | inr n ↦ elim (before_or_above xs k d y (second _ _ up) (omega arith) n) as (λ _. IsTrue (id_eq x y || has_item id_cmp (take k xs) y) ⊎
+          ((get_or xs k d ≡ y) ⊎ IsTrue (is_lt (id_cmp (get_or xs k d) y)))) [
+            | inl m ↦ inl (or_right _ _ m)
+            | inr m ↦ inr m
+          ]
+    ]
 
 below_by_relationship : (r q t u : Entity) → IsTrue (is_lt (id_cmp (Two r t) (Two q u))) → IsTrue (is_le (entity_cmp r q))
 below_by_relationship r q t u = elim (entity_cmp r q) as (λ c. IsTrue (is_lt (ordering_then c (entity_cmp t u))) → IsTrue (is_le c)) [
@@ -52,9 +53,6 @@ below_by_relationship r q t u = elim (entity_cmp r q) as (λ c. IsTrue (is_lt (o
   | Equal ↦ λ h. refl
   | Greater ↦ λ h. absurd (true≢false (sym h))
 ]
-
-same_relationship : (r q t u : Entity) → Two r t ≡ Two q u → r ≡ q
-same_relationship r q t u e = cc
 
 -- ---- cycles
 
@@ -64,52 +62,46 @@ NoneCloses w e s = (j : Id) (r : Entity) → IsTrue (has_item id_cmp s j) → Cl
 pub no_cycle : (w : WorldState) (e : Entity) (s : List Id) → NoneCloses w e s → IsFirstCycle w e s None
 no_cycle w e s none = λ r closes. none (Two r closes.1) r closes.2 (closes.1, refl, closes.0, closes.3)
 
-pub first_found : (w : WorldState) (e : Entity) (s : List Id) (k : ℕ) (d : Id) (r : Entity) → IsTrue (is_ascending id_cmp s) → k < length s → NoneCloses w e (take k s) → (o : Option Entity) → IsClosedBy w e (get_or s k d) o → o ≡ Some r → IsFirstCycle w e s (Some r)
+pub first_found : (w : WorldState) (e : Entity) (s : List Id) (k : ℕ) (d : Id) (r : Entity) → IsTrue (is_ascending id_cmp s) → k < length s
+    → NoneCloses w e (take k s) → (o : Option Entity) → IsClosedBy w e (get_or s k d) o → o ≡ Some r → IsFirstCycle w e s (Some r)
 first_found w e s k d r up l none o says is =
     let closes : ClosesBy w e (get_or s k d) r = subst (IsClosedBy w e (get_or s k d)) is says in
-    let here : IsTrue (has_item id_cmp s (Two r closes.0)) = subst (λ i. IsTrue (has_item id_cmp s i)) closes.1 (has_at s k d l) in (
+    let here : IsTrue (has_item id_cmp s (Two r closes.0)) = subst (λ i. IsTrue (has_item id_cmp s i)) closes.1 (has_get id_cmp_total s k d l) in (
       (closes.2, closes.0, here, closes.3),
       λ q other.
           elim (before_or_above s k d (Two q other.1) up l other.2) as (λ _. IsTrue (is_le (entity_cmp r q))) [
             | inl m ↦ absurd (none (Two q other.1) q m (other.1, refl, other.0, other.3))
             | inr m ↦ elim m as (λ _. IsTrue (is_le (entity_cmp r q))) [
-              | inl n ↦ subst (λ x. IsTrue (is_le (entity_cmp r x))) (same_relationship r q closes.0 other.1 (sym closes.1 ∙ n)) (ap is_le (tied_itself entity_cmp_total r))
+              | inl n ↦ subst (λ x. IsTrue (is_le (entity_cmp r x))) (same_relationship (sym closes.1 ∙ n)) (ap is_le (tied_itself entity_cmp_total r))
               | inr n ↦ below_by_relationship r q closes.0 other.1 (subst (λ i. IsTrue (is_lt (id_cmp i (Two q other.1)))) closes.1 n)
             ]
           ],
     )
 
 -- one more that closes none
-pub none_more : (w : WorldState) (e : Entity) (s : List Id) (k : ℕ) (d : Id) → k < length s → NoneCloses w e (take k s) → (o : Option Entity) → IsClosedBy w e (get_or s k d) o → o ≡ None → NoneCloses w e (take (k + 1) s)
+pub none_more : (w : WorldState) (e : Entity) (s : List Id) (k : ℕ) (d : Id) → k < length s → NoneCloses w e (take k s) → (o : Option Entity)
+    → IsClosedBy w e (get_or s k d) o → o ≡ None → NoneCloses w e (take (k + 1) s)
 none_more w e s k d l none o says is = λ j r h closes.
-    elim (or_parts (has_item id_cmp (take k s) j) (has_item id_cmp (get_or s k d ∷ []) j) (sym (has_append id_cmp (take k s) (get_or s k d ∷ []) j) ∙ subst (λ xs. IsTrue (has_item id_cmp xs j)) (take_more s k d l) h)) as (λ _. ⊥) [
+    elim (or_parts (has_item id_cmp (take k s) j) (has_item id_cmp (get_or s k d ∷ []) j)
+    (sym (has_append id_cmp (take k s) (get_or s k d ∷ []) j) ∙ subst (λ xs. IsTrue (has_item id_cmp xs j)) (take_more s k d l) h)) as (λ _. ⊥) [
       | inl m ↦ none j r m closes
-      | inr m ↦ subst (IsClosedBy w e (get_or s k d)) is says r (subst (λ i. ClosesBy w e i r) (sym (alone (get_or s k d) j m)) closes)
+      | inr m ↦ subst (IsClosedBy w e (get_or s k d)) is says r (subst (λ i. ClosesBy w e i r) (sym (only same_id (get_or s k d) j m)) closes)
     ]
-  where
-    alone : (x j : Id) → IsTrue (has_item id_cmp (x ∷ []) j) → x ≡ j
-    alone x j h = elim (or_parts (id_eq x j) false h) as (λ _. x ≡ j) [ inl n ↦ id_eq_is x j n | inr n ↦ absurd (true≢false (sym n)) ]
 
 -- ---- all of it
 
 abbrev pub Cycles : WorldState → Entity → List Id → Option Refusal → Type 0
-Cycles w e s verdict =
-    MatchOption verdict
-    ((r : Entity) → ClosesCycle w e s r → ⊥)
-    (λ why. (r : Entity) × (why ≡ Cycle r) × ClosesCycle w e s r × ((q : Entity) → ClosesCycle w e s q → IsTrue (is_le (entity_cmp r q))))
+Cycles w e s verdict = (cycle : Option Entity) × IsFirstCycle w e s cycle × (verdict ≡ option_map Cycle cycle)
 
 abbrev pub Late : WorldState → Entity → List Id → Option Refusal → Type 0
-Late w e s verdict = MatchBool (list_any (is_late w e s) (late_traits w)) (verdict ≡ Some InUse) (Cycles w e s verdict)
+Late w e s verdict = MatchBool (list_any (is_late w e s) (late_traits w.edition)) (verdict ≡ Some InUse) (Cycles w e s verdict)
 
-pub judged_cycle : (w : WorldState) (e : Entity) (s : List Id) (o : Option Entity) (verdict : Option Refusal) → list_any is_wrong_policy s ≡ false → is_late w e s EXCLUSIVE ≡ false → is_late w e s ACYCLIC ≡ false
+pub judged_cycle : (w : WorldState) (e : Entity) (s : List Id) (o : Option Entity) (verdict : Option Refusal) → list_any is_wrong_policy s ≡ false
+    → is_late w e s EXCLUSIVE ≡ false → is_late w e s ACYCLIC ≡ false
     → IsFirstCycle w e s o → verdict ≡ option_map Cycle o → Judges w e s verdict
 judged_cycle w e s o verdict policy late later first is =
     subst (λ b. MatchBool b (verdict ≡ Some NotAPolicy) (Late w e s verdict)) (sym policy)
-    (subst (λ b. MatchBool b (verdict ≡ Some InUse) (Cycles w e s verdict)) (sym (or_false late later)) (subst (Cycles w e s) (sym is) (go o first)))
+    (subst (λ b. MatchBool b (verdict ≡ Some InUse) (Cycles w e s verdict)) (sym (none_late w.edition)) (o, first, is))
   where
-    or_false : {a b : Bool} → a ≡ false → b ≡ false → (a || (b || false)) ≡ false
-    or_false {b = b} p q = ap (λ x. x || (b || false)) p ∙ ap (λ x. x || false) q
-
-    go : (o : Option Entity) → IsFirstCycle w e s o → Cycles w e s (option_map Cycle o)
-    go None h = h
-    go (Some r) h = (r, refl, h.0, h.1)
+    none_late : (d : Edition) → list_any (is_late w e s) (late_traits d) ≡ false
+    none_late First = ap (λ x. x || (is_late w e s ACYCLIC || false)) late ∙ ap (λ x. x || false) later

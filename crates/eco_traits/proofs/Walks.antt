@@ -1,44 +1,39 @@
 -- What an entity has, by its ids; the targets of its pairs; and walks along them.
-use Rattle.std.proofs.Common.{◌≡◌, ℕ, ◌+◌, ◌<◌, Bool, true, false, cond, ◌||◌, ◌↔◌, ◌⊎◌, inl, inr, List, [], ◌∷◌, ◌++◌, map, length, take, get_or, refl, sym, ap, ◌∙◌, subst, true≢false, IsTrue, Option, Some, None, is_some, is_eq, option_map, option_to_list, unwrap_or, if◌then◌else◌, Less, Equal, Greater, Result, Ok, Err, IfOk}
+use Rattle.std.proofs.Common.{◌≡◌, ℕ, ◌+◌, ◌<◌, Bool, false, ◌||◌, ◌↔◌, ◌⊎◌, inl, inr, List, [], ◌∷◌, ◌++◌, length, take, get_or, refl, sym, ap, ◌∙◌, subst, true≢false, IsTrue, Option, Some, None, is_some, is_eq, option_map, option_to_list, unwrap_or, if◌then◌else◌, Less, Equal, Greater}
 use Rattle.std.proofs.lemmas.List.{take_more}
-use Rattle.std.specs.FinMap.Entries.{find}
 use Rattle.std.specs.Ordering.{ordering_then}
 use Rattle.eco_ids.specs.declared.entity.Entity.{Entity}
 use Rattle.eco_ids.specs.declared.id.Id.{Id}
 use Rattle.eco_ids.specs.declared.id.Id.TheVariants.{One, Two}
-use Rattle.eco_ids.specs.declared.value.Value.{Value}
-use Rattle.eco_ids.specs.Indices.{record_of}
 use Rattle.eco_ids.specs.Least.{Least, root, next}
 use Rattle.eco_ids.specs.Order.{id_cmp, id_eq, entity_cmp, entity_eq, has_item}
 use Rattle.eco_ids.specs.Traits.{Reaches}
-use Rattle.eco_ids.specs.World.{WorldState, Record, has}
-use Rattle.eco_traits.specs.Known.{has_of}
-use Rattle.eco_traits.specs.Same.{or_parts, or_left, or_right, id_eq_sym, has_append, entity_eq_is, entity_eq_itself}
+use Rattle.eco_ids.specs.World.{WorldState, Record, has, record_of}
+use Rattle.eco_ids.proofs.Keeps.{has_in}
+use Rattle.std.proofs.lemmas.Bool.{or_left}
+use Rattle.std.proofs.Math.Bool.{or-false, or_assoc}
+use Rattle.eco_ids.proofs.IdOrder.{same_entity}
+use Rattle.eco_ids.proofs.Exact.{keys, keys_find}
+use Rattle.eco_ids.proofs.Facts.{or_parts, or_right}
+use Rattle.eco_ids.proofs.Overlaps.{entity_eq_itself}
+use Rattle.eco_traits.proofs.Members.{only, has_append}
 use Rattle.eco_traits.specs.Target.{type_of_record, target_by_pair}
 
 -- ---- what an entity has
 
-abbrev pub ids_in : List (Id × Value) → List Id
-ids_in = map (λ p. p.0)
-
-pub ids_find : (held : List (Id × Value)) (i : Id) → is_some (find id_cmp i held) ≡ has_item id_cmp (ids_in held) i
-ids_find [] i = refl
-ids_find (p ∷ held) i =
-    ap (λ b. is_some (cond b (Some p.1) (find id_cmp i held))) (id_eq_sym i p.0)
-    ∙ elim (id_eq p.0 i) as (λ b. is_some (cond b (Some p.1) (find id_cmp i held)) ≡ (b || has_item id_cmp (ids_in held) i)) [ true ↦ refl | false ↦ ids_find held i ]
-
 some_is : {A : Type 0} (x y : A) → Some x ≡ Some y → x ≡ y
 some_is x y e = ap (λ o. unwrap_or o x) e
 
-has_of_some : (o : Option Record) (i : Id) (ids : List Id) → Some ids ≡ option_map type_of_record o → has_of o i ≡ has_item id_cmp ids i
+has_of_some : (o : Option Record) (i : Id) (ids : List Id) → Some ids ≡ option_map type_of_record o → has_in o i ≡ has_item id_cmp ids i
 has_of_some None i ids e = absurd (true≢false (ap is_some e))
-has_of_some (Some d) i ids e = ids_find d.held i ∙ ap (λ xs. has_item id_cmp xs i) (sym (some_is ids (ids_in d.held) e))
+has_of_some (Some d) i ids e = keys_find d.held i ∙ ap (λ xs. has_item id_cmp xs i) (sym (some_is ids (keys d.held) e))
 
-has_of_none : (o : Option Record) (i : Id) → None ≡ option_map type_of_record o → has_of o i ≡ false
+has_of_none : (o : Option Record) (i : Id) → None ≡ option_map type_of_record o → has_in o i ≡ false
 has_of_none None i e = refl
 has_of_none (Some d) i e = absurd (true≢false (sym (ap is_some e)))
 
-pub has_listed : (w : WorldState) (e : Entity) (i : Id) (ids : List Id) → Some ids ≡ option_map type_of_record (record_of w e) → has w e i ≡ has_item id_cmp ids i
+pub has_listed : (w : WorldState) (e : Entity) (i : Id) (ids : List Id) → Some ids ≡ option_map type_of_record (record_of w e)
+    → has w e i ≡ has_item id_cmp ids i
 has_listed w e i ids h = has_of_some (record_of w e) i ids h
 
 pub has_nothing : (w : WorldState) (e : Entity) (i : Id) → None ≡ option_map type_of_record (record_of w e) → has w e i ≡ false
@@ -46,25 +41,18 @@ has_nothing w e i h = has_of_none (record_of w e) i h
 
 -- ---- the targets of its pairs
 
-or_none : (a : Bool) → a ≡ (a || false)
-or_none true = refl
-or_none false = refl
-
-or_assoc : (a b c : Bool) → ((a || b) || c) ≡ (a || (b || c))
-or_assoc true b c = refl
-or_assoc false b c = refl
-
 pair_test : (r b : Entity) (i : Id) → has_item entity_cmp (option_to_list (target_by_pair r i)) b ≡ id_eq i (Two r b)
 pair_test r b (One e) = refl
 pair_test r b (Two q t) =
     elim (entity_cmp q r) as (λ c. has_item entity_cmp (option_to_list (if is_eq c then Some t else None)) b ≡ is_eq (ordering_then c (entity_cmp t b))) [
       | Less ↦ refl
-      | Equal ↦ sym (or_none (entity_eq t b))
+      | Equal ↦ or-false (entity_eq t b)
       | Greater ↦ refl
     ]
 
 -- one more id is looked at
-pub targets_more : (ids : List Id) (k : ℕ) (d : Id) (start now : List Entity) (o : Option Entity) (r b : Entity) → k < length ids → o ≡ target_by_pair r (get_or ids k d)
+pub targets_more : (ids : List Id) (k : ℕ) (d : Id) (start now : List Entity) (o : Option Entity) (r b : Entity) → k < length ids
+    → o ≡ target_by_pair r (get_or ids k d)
     → has_item entity_cmp now b ≡ (has_item entity_cmp start b || has_item id_cmp (take k ids) (Two r b))
     → has_item entity_cmp (now ++ option_to_list o) b ≡ (has_item entity_cmp start b || has_item id_cmp (take (k + 1) ids) (Two r b))
 targets_more ids k d start now o r b l is h =
@@ -72,23 +60,17 @@ targets_more ids k d start now o r b l is h =
     ∙ ap (λ x. x || has_item entity_cmp (option_to_list o) b) h
     ∙ or_assoc (has_item entity_cmp start b) (has_item id_cmp (take k ids) (Two r b)) (has_item entity_cmp (option_to_list o) b)
     ∙ ap (λ x. has_item entity_cmp start b || x)
-    (ap (λ x. has_item id_cmp (take k ids) (Two r b) || x) (ap (λ p. has_item entity_cmp (option_to_list p) b) is ∙ pair_test r b (get_or ids k d) ∙ or_none _)
+    (ap (λ x. has_item id_cmp (take k ids) (Two r b) || x)
+    (ap (λ p. has_item entity_cmp (option_to_list p) b) is ∙ pair_test r b (get_or ids k d) ∙ sym (or-false _))
     ∙ sym (has_append id_cmp (take k ids) (get_or ids k d ∷ []) (Two r b))
     ∙ ap (λ xs. has_item id_cmp xs (Two r b)) (sym (take_more ids k d l)))
 
 -- a test by cases, as a fact
-pub start_with : (a : Bool) → a ≡ (a || false)
-start_with a = or_none a
-
 pub or_fact : (a b c : Bool) → a ≡ (b || c) → IsTrue a ↔ (IsTrue b ⊎ IsTrue c)
 or_fact a b c e = (λ h. or_parts b c (sym e ∙ h), λ h. e ∙ elim h as (λ _. IsTrue (b || c)) [ inl k ↦ or_left b c k | inr k ↦ or_right b c k ])
 
 pub nothing_more : (a c : Bool) → c ≡ false → IsTrue a ↔ (IsTrue a ⊎ IsTrue c)
 nothing_more a c e = (λ h. inl h, λ h. elim h as (λ _. IsTrue a) [ inl k ↦ k | inr k ↦ absurd (true≢false (sym k ∙ e)) ])
-
-pub if_ok : {A E : Type 0} {P Q : A → Type 0} (r : Result A E) → ((x : A) → P x → Q x) → IfOk r P → IfOk r Q
-if_ok (Ok x) f h = f x h
-if_ok (Err e) f h = h
 
 -- ---- walks
 
@@ -96,12 +78,10 @@ pub from_other_roots : {A : Type 0} {P Q : A → Type 0} {L : A → A → Type 0
 from_other_roots f (root h) = root (f _ h)
 from_other_roots f (next member edge) = next (from_other_roots f member) edge
 
-is_alone : (from a : Entity) → IsTrue (has_item entity_cmp (from ∷ []) a) → a ≡ from
-is_alone from a h = elim (or_parts (entity_eq from a) false h) as (λ _. a ≡ from) [ inl k ↦ sym (entity_eq_is from a k) | inr k ↦ absurd (true≢false (sym k)) ]
-
 alone_is : (from a : Entity) → a ≡ from → IsTrue (has_item entity_cmp (from ∷ []) a)
 alone_is from a e = or_left _ _ (subst (λ x. IsTrue (entity_eq from x)) (sym e) (entity_eq_itself from))
 
 -- from the only root
-pub from_one : (w : WorldState) (r from b : Entity) → Least (λ a. IsTrue (has_item entity_cmp (from ∷ []) a)) (λ c d. IsTrue (has w c (Two r d))) b ↔ Reaches w r from b
-from_one w r from b = (λ h. from_other_roots (is_alone from) h, λ h. from_other_roots (alone_is from) h)
+pub from_one : (w : WorldState) (r from b : Entity)
+    → Least (λ a. IsTrue (has_item entity_cmp (from ∷ []) a)) (λ c d. IsTrue (has w c (Two r d))) b ↔ Reaches w r from b
+from_one w r from b = (λ h. from_other_roots (λ a k. sym (only same_entity from a k)) h, λ h. from_other_roots (alone_is from) h)

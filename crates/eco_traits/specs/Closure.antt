@@ -1,8 +1,11 @@
 -- A closure as a walk: each of its ids has another head and the same target.
-use Rattle.std.specs.Prelude.{List, map}
+use Rattle.std.specs.Prelude.{◌≡◌, List, map, IsTrue, IsFalse}
 use Rattle.eco_ids.specs.declared.entity.Entity.{Entity}
+use Rattle.eco_ids.specs.declared.entity.TheConstants.{WITH}
 use Rattle.eco_ids.specs.declared.id.Id.{Id}
 use Rattle.eco_ids.specs.declared.id.Id.TheVariants.{One, Two}
+use Rattle.eco_ids.specs.Order.{has_item, id_cmp}
+use Rattle.eco_ids.specs.World.{WorldState, has}
 
 -- the entity whose pairs of With say what the id brings
 abbrev pub head_of : Id → Entity
@@ -17,3 +20,15 @@ with_head (Two r t) x = Two x t
 -- the id with each of the heads
 abbrev pub with_heads : Id → List Entity → List Id
 with_heads i xs = map (with_head i) xs
+
+-- the entity has a pair of With
+abbrev pub HasWith : WorldState → Entity → Type 0
+HasWith w e = (x : Entity) × IsTrue (has w e (Two WITH x))
+
+-- it has none
+abbrev pub LacksWith : WorldState → Entity → Type 0
+LacksWith w e = (x : Entity) → IsFalse (has w e (Two WITH x))
+
+-- the ids are these, in any order
+abbrev pub HasSameIds : List Id → List Id → Type 0
+HasSameIds ids these = (j : Id) → has_item id_cmp ids j ≡ has_item id_cmp these j

@@ -1,22 +1,40 @@
 -- The type that an add leads to.
-use Rattle.std.specs.Prelude.{◌≡◌, List, map, Option, Some, None, Result, Ok, Err, IsTrue, IsFalse, false, MatchBool, MatchOption, if◌then◌else◌}
-use Rattle.std.specs.Ordering.{is_le}
+use Rattle.std.specs.Prelude.{◌≡◌, ◌↔◌, ◌||◌, not, List, map, filter, fold, option_map, Option, Some, None, Result, Ok, Err, IsTrue, IsFalse, false, MatchBool, MatchOption, if◌then◌else◌}
 use Rattle.eco_ids.specs.declared.entity.Entity.{Entity}
 use Rattle.eco_ids.specs.declared.entity.TheConstants.{ACYCLIC, EXCLUSIVE, WITH}
 use Rattle.eco_ids.specs.declared.id.Id.{Id}
 use Rattle.eco_ids.specs.declared.id.Id.TheVariants.{One, Two}
 use Rattle.eco_ids.specs.declared.refusal.Refusal.{Refusal}
 use Rattle.eco_ids.specs.declared.refusal.Refusal.TheVariants.{DeadId}
-use Rattle.eco_ids.specs.Indices.{record_of}
-use Rattle.eco_ids.specs.Order.{entity_cmp, entity_eq, has_item, id_cmp}
+use Rattle.eco_ids.specs.Order.{entity_cmp, entity_eq, has_item, id_cmp, with_item}
 use Rattle.eco_ids.specs.Outcome.{is_out_of_memory}
-use Rattle.eco_ids.specs.Step.{ClosesCycle, IsClosure, Judges, is_wrong_policy, with_closure}
+use Rattle.eco_ids.specs.Step.{IsClosure, Judges, is_displaced, is_wrong_policy, with_closure}
 use Rattle.eco_ids.specs.Traits.{Reaches}
-use Rattle.eco_ids.specs.World.{Record, WorldState, is_acyclic, names_living}
+use Rattle.eco_ids.specs.World.{Record, WorldState, has, is_acyclic, names_living, record_of}
 
 -- the ids of a record
 abbrev pub type_of_record : Record → List Id
 type_of_record r = map (λ p. p.0) r.held
+
+-- the ids of a living entity
+abbrev pub type_of_entity : WorldState → Entity → Option (List Id)
+type_of_entity w e = option_map type_of_record (record_of w e)
+
+-- all that a walk of pairs of r leads to
+abbrev pub IsReach : WorldState → Entity → Entity → List Entity → Type 0
+IsReach w r from members = (b : Entity) → IsTrue (has_item entity_cmp members b) ↔ Reaches w r from b
+
+-- the new list has what the old one has, and the targets of the pairs of r among the ids
+abbrev pub AppendsTargets : Entity → List Id → List Entity → List Entity → Type 0
+AppendsTargets r ids old new = (b : Entity) → has_item entity_cmp new b ≡ (has_item entity_cmp old b || has_item id_cmp ids (Two r b))
+
+-- what the closure s does not displace
+abbrev pub left_by : WorldState → List Id → List Id → List Id
+left_by w s ids = filter (λ i. not (is_displaced w s i)) ids
+
+-- that, and the closure
+abbrev pub extended_by : WorldState → List Id → List Id → List Id
+extended_by w s ids = fold (with_item id_cmp) (left_by w s ids) s
 
 -- the target of a pair of r
 abbrev pub target_by_pair : Entity → Id → Option Entity
@@ -31,11 +49,6 @@ ClosesBy w e i r = (t : Entity) × (i ≡ Two r t) × IsTrue (is_acyclic w r) ×
 abbrev pub IsClosedBy : WorldState → Entity → Id → Option Entity → Type 0
 IsClosedBy w e i None = (r : Entity) → ClosesBy w e i r → ⊥
 IsClosedBy w e i (Some r) = ClosesBy w e i r
-
--- the least relationship of which a pair among the ids closes a cycle, if one does
-abbrev pub IsFirstCycle : WorldState → Entity → List Id → Option Entity → Type 0
-IsFirstCycle w e s None = (r : Entity) → ClosesCycle w e s r → ⊥
-IsFirstCycle w e s (Some r) = ClosesCycle w e s r × ((q : Entity) → ClosesCycle w e s q → IsTrue (is_le (entity_cmp r q)))
 
 -- no id is a pair of With
 abbrev pub BringsNone : List Id → Type 0
@@ -56,14 +69,20 @@ IsPlain (Two r t) ids = (is_wrong_policy (Two r t) ≡ false) × LacksTraits ids
 abbrev pub IsTypeWith : WorldState → Entity → List Id → Result (List Id) Refusal → Type 0
 IsTypeWith w e s r = (d : Record) × (record_of w e ≡ Some d) × (r ≡ Ok (type_of_record (with_closure w s d)))
 
--- an add of i to e leads to a type, or something stands against it: an entity in the id that isn't living, and then
--- what stands against its whole closure
+-- the type that e has
+abbrev pub IsOwnType : WorldState → Entity → Result (List Id) Refusal → Type 0
+IsOwnType w e r = (d : Record) × (record_of w e ≡ Some d) × (r ≡ Ok (type_of_record d))
+
+-- the closure of i leads to a type, or something stands against it
+abbrev pub ExtendsTo : WorldState → Entity → Id → Result (List Id) Refusal → Type 0
+ExtendsTo w e i r =
+    (s : List Id) × IsClosure w i s × (verdict : Option Refusal) × Judges w e s verdict
+    × MatchOption verdict (IsTypeWith w e s r) (λ why. r ≡ Err why)
+
+-- an add of i to e leads to a type, or something stands against it: an entity in the id that isn't living; e has its own
+-- type where it has the id already, and else what stands against the whole closure counts
 abbrev pub LeadsTo : WorldState → Entity → Id → Result (List Id) Refusal → Type 0
-LeadsTo w e i r =
-    MatchBool (names_living w i)
-    ((s : List Id) × IsClosure w i s × (verdict : Option Refusal) × Judges w e s verdict
-    × MatchOption verdict (IsTypeWith w e s r) (λ why. r ≡ Err why))
-    (r ≡ Err DeadId)
+LeadsTo w e i r = MatchBool (names_living w i) (MatchBool (has w e i) (IsOwnType w e r) (ExtendsTo w e i r)) (r ≡ Err DeadId)
 
 -- the answer is that type or that refusal, or memory was wanting, which is asked for only once each entity in the id lives
 abbrev pub FindsType : WorldState → Entity → Id → Result (List Id) Refusal → Type 0

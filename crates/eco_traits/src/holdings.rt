@@ -2,9 +2,8 @@
 ghost use Rattle.std.specs.Prelude.{◌≡◌, ◌↔◌, IsTrue, option_map, option_copied};
 ghost use Rattle.eco_ids.specs.declared.entity.Entity.{Entity as EntityData};
 ghost use Rattle.eco_ids.specs.declared.id.Id.TheVariants.{Two};
-ghost use Rattle.eco_ids.specs.Indices.{record_of};
 ghost use Rattle.eco_ids.specs.Step.{is_used as some_has_pair_of};
-ghost use Rattle.eco_ids.specs.World.{WorldState, has};
+ghost use Rattle.eco_ids.specs.World.{WorldState, has, record_of};
 ghost use Rattle.eco_traits.specs.Target.{type_of_record};
 
 use eco_ids::{Entity, TypeList};

@@ -23,7 +23,7 @@ use std::alloc::{AllocError, Global};
 /// and then it takes no memory. `AllocError` comes where memory for the set is refused.
 pub fn closure<H: Holdings>(alloc: Global, holdings: &H, id: Id) -> Result<TypeList, AllocError>
     ensures exact { IfOk result (λ ids. IsClosure (H.world holdings.now) id ids) }
-    ensures alone { ((x : EntityData) → IsFalse (has (H.world holdings.now) (spec.head_of id) (Two WITH_DATA x))) → IsOk result }
+    ensures alone { spec.LacksWith (H.world holdings.now) (spec.head_of id) → IsOk result }
 {
     let head = head_of(id);
     if !has_with(holdings, head) {
@@ -54,7 +54,7 @@ fn with_head(id: Id, head: Entity) -> Id
 
 // Whether the entity has a pair of With.
 fn has_with<H: Holdings>(holdings: &H, entity: Entity) -> bool
-    ensures { IsTrue result ↔ ((x : EntityData) × IsTrue (has (H.world holdings.now) entity (Two WITH_DATA x))) }
+    ensures { IsTrue result ↔ spec.HasWith (H.world holdings.now) entity }
 {
     match holdings.type_of(entity) {
         Some(ids) => brings_any(ids),
@@ -72,7 +72,7 @@ pub(crate) fn brings_any(ids: &TypeList) -> bool
 
 // The id with each of the heads in the place of its own.
 fn with_heads(alloc: Global, id: Id, heads: &[Entity]) -> Result<TypeList, AllocError>
-    ensures members { IfOk result (λ ids. (j : IdData) → has_item id_cmp ids j ≡ has_item id_cmp (spec.with_heads id heads.now) j) }
+    ensures members { IfOk result (λ ids. spec.HasSameIds ids (spec.with_heads id heads.now)) }
     ensures ascending { IfOk result (λ ids. IsTrue (is_ascending id_cmp ids)) }
 {
     let mut ids = TypeList::empty(alloc);

@@ -3,7 +3,7 @@ ghost use Rattle.std.specs.Prelude.{◌≡◌, ◌<◌, ◌↔◌, ◌||◌, ◌
 ghost use Rattle.eco_ids.specs.declared.entity.Entity.{Entity as EntityData};
 ghost use Rattle.eco_ids.specs.Least.{Least};
 ghost use Rattle.eco_ids.specs.Order.{entity_cmp, has_item};
-ghost use Rattle.eco_traits.specs.Search.{IsTurn, noted, noted_all};
+ghost use Rattle.eco_traits.specs.Search.{Appends, Covers, IsInLeast, IsLeastSet, IsTurn, noted, noted_all};
 
 use eco_ids::Entity;
 use indexmap::IndexSet;
@@ -16,11 +16,11 @@ pub trait Graph {
 
     ghost leads: { Self → EntityData → EntityData → Type 0 };
 
-    /// Appends whatever the entity leads to, in any order. `AllocError` comes where no memory is to be had for it.
+    /// Appends whatever the entity leads to, in any order, all of it known. `AllocError` comes where no memory is to be had
+    /// for it.
     fn append_next(&self, entity: Entity, found: &mut Vec<Entity>) -> Result<(), AllocError>
-        ensures { OnOk result ((b : EntityData) → IsTrue (has_item entity_cmp found.new.items b) ↔ (IsTrue (has_item entity_cmp found.old.items b) ⊎ leads self.now entity b)) };
-
-    ghost within: { (graph : Self) (a b : EntityData) → leads graph a b → IsTrue (has_item entity_cmp (nodes graph) b) };
+        ensures exact { OnOk result (Appends (leads self.now entity) found.old.items found.new.items) }
+        ensures within { Covers (nodes self.now) (leads self.now entity) };
 }
 
 /// The least set that holds the roots and, with each member, whatever it leads to.
@@ -32,7 +32,7 @@ pub fn least_set<G: Graph>(
     graph: &G,
     roots: &[Entity],
 ) -> Result<IndexSet<Entity>, AllocError>
-    ensures { IfOk result (λ set. (a : EntityData) → IsTrue (has_item entity_cmp set.keys a) ↔ Least (λ root. IsTrue (has_item entity_cmp roots.now root)) (G.leads graph.now) a) }
+    ensures { IfOk result (λ set. IsLeastSet (G.leads graph.now) roots.now set.keys) }
 {
     let mut members = IndexSet::new(alloc);
     let mut found = Vec::new(alloc);
@@ -54,7 +54,7 @@ pub fn is_in_least_set<G: Graph>(
     roots: &[Entity],
     goal: Entity,
 ) -> Result<bool, AllocError>
-    ensures { IfOk result (λ b. IsTrue b ↔ Least (λ root. IsTrue (has_item entity_cmp roots.now root)) (G.leads graph.now) goal) }
+    ensures { IfOk result (λ b. IsTrue b ↔ IsInLeast (G.leads graph.now) roots.now goal) }
 {
     let mut members = IndexSet::new(alloc);
     let mut found = Vec::new(alloc);
@@ -78,7 +78,7 @@ fn ask<G: Graph>(
     found: &mut Vec<Entity>,
 ) -> Result<(), AllocError>
     requires { asked < length members.old.keys }
-    ensures { OnOk result (IsTurn (G.leads graph.now) members.old.keys asked members.new.keys) }
+    ensures { OnOk result (IsTurn (G.leads graph.now) (G.nodes graph.now) members.old.keys asked members.new.keys) }
 {
     let member = members.as_slice()[asked];
     found.clear();

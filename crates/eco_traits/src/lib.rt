@@ -4,7 +4,6 @@
 
 mod holdings;
 mod implied;
-pub mod laws;
 mod least;
 mod target;
 mod verdict;
@@ -15,6 +14,3 @@ pub use implied::closure;
 pub use least::{Graph, is_in_least_set, least_set};
 pub use target::target_type;
 pub use walk::{has, reached, reaches};
-
-#[cfg(test)]
-mod tests;

@@ -1,11 +1,12 @@
 //! The type that an add leads to.
 ghost use Rattle.std.specs.Prelude.{◌≡◌, ◌↔◌, IfOk, IfSome, IsFalse, IsTrue, Some, filter, fold, is_some, not, option_map, unwrap_or};
-ghost use Rattle.eco_ids.specs.Indices.{is_alive as lives, record_of};
+ghost use Rattle.std.specs.List.{list_any};
+ghost use Rattle.eco_ids.specs.World.{is_alive as lives, record_of};
 ghost use Rattle.eco_ids.specs.Order.{id_cmp, is_ascending, with_item};
 ghost use Rattle.eco_ids.specs.Step as step;
 ghost use Rattle.eco_ids.specs.World as world;
 ghost use Rattle.eco_traits.specs.Closure.{head_of};
-ghost use Rattle.eco_traits.specs.Target.{FindsType, IsPlain, LacksTraits, type_of_record};
+ghost use Rattle.eco_traits.specs.Target.{FindsType, IsPlain, LacksTraits, extended_by, left_by, type_of_entity};
 
 use crate::holdings::Holdings;
 use crate::implied::{brings_any, closure};
@@ -15,12 +16,13 @@ use eco_ids::entity::{ACYCLIC, EXCLUSIVE};
 use eco_ids::{Entity, Id, Refusal, TypeList};
 use std::alloc::{AllocError, Global};
 
-/// The type that a living entity has once an id was added to it with its closure: what it had and the closure, without the
-/// other pairs of each exclusive relationship of which the closure has a pair (Flecs manual, Relationships, "Exclusive
-/// relationships").
+/// The type that a living entity has once an id was added to it: its own where it has the id already, else what it had and
+/// the closure of the id, without the other pairs of each exclusive relationship of which the closure has a pair (Flecs
+/// manual, Relationships, "Exclusive relationships").
 ///
 /// It is refused, in this order, where
-/// - [`Refusal::DeadId`]: an entity in the id isn't living;
+/// - [`Refusal::DeadId`]: an entity in the id isn't living; whatever else stands against it counts only where the entity
+///   lacks the id;
 /// - [`Refusal::NotAPolicy`]: a pair of OnDelete or OnDeleteTarget in the closure has another target than Remove, Delete
 ///   and Panic;
 /// - [`Refusal::InUse`]: Exclusive or Acyclic is in the closure, the entity lacks it, and some living entity has a pair
@@ -41,7 +43,9 @@ pub fn target_type<H: Holdings>(
     let Some(traits) = traits_of(holdings, id) else {
         return Err(Refusal::DeadId);
     };
-    let _ids = own.as_slice();
+    if own.has(id) {
+        return Ok(own.try_copy()?);
+    }
     if is_plain(id, traits) {
         return Ok(own.with(id)?);
     }
@@ -59,8 +63,9 @@ fn closed_type<H: Holdings>(
     traits: &TypeList,
 ) -> Result<TypeList, Refusal>
     requires lives { IsTrue (world.names_living (H.world holdings.now) added) }
-    requires own { Some own.now ≡ option_map type_of_record (record_of (H.world holdings.now) entity) }
-    requires traits { Some traits.now ≡ option_map type_of_record (record_of (H.world holdings.now) (head_of added)) }
+    requires absent { IsFalse (world.has (H.world holdings.now) entity added) }
+    requires own { Some own.now ≡ type_of_entity (H.world holdings.now) entity }
+    requires traits { Some traits.now ≡ type_of_entity (H.world holdings.now) (head_of added) }
     ensures { FindsType (H.world holdings.now) entity added result }
 {
     if brings_any(traits) {
@@ -75,7 +80,7 @@ fn closed_type<H: Holdings>(
 // entity in the id isn't living.
 fn traits_of<H: Holdings>(holdings: &H, id: Id) -> Option<&TypeList>
     ensures living { is_some result ≡ world.names_living (H.world holdings.now) id }
-    ensures traits { IfSome result (λ ids. Some ids.now ≡ option_map type_of_record (record_of (H.world holdings.now) (head_of id))) }
+    ensures traits { IfSome result (λ ids. Some ids.now ≡ type_of_entity (H.world holdings.now) (head_of id)) }
 {
     match id {
         Id::One(entity) => holdings.type_of(entity),
@@ -99,14 +104,15 @@ fn judged_type<H: Holdings>(
     coming: &[Id],
 ) -> Result<TypeList, Refusal>
     requires lives { IsTrue (world.names_living (H.world holdings.now) added) }
-    requires own { Some own.now ≡ option_map type_of_record (record_of (H.world holdings.now) entity) }
+    requires absent { IsFalse (world.has (H.world holdings.now) entity added) }
+    requires own { Some own.now ≡ type_of_entity (H.world holdings.now) entity }
     requires closure { step.IsClosure (H.world holdings.now) added coming.now }
     ensures { FindsType (H.world holdings.now) entity added result }
 {
     if let Some(refusal) = verdict(alloc, holdings, entity, coming)? {
         return Err(refusal);
     }
-    Ok(extended(holdings, own, added, coming)?)
+    Ok(extended(holdings, own, coming)?)
 }
 
 // Whether the id comes alone, displaces nothing, and nothing stands against it, as with most tags, components and pairs.
@@ -126,63 +132,63 @@ fn has_trait(ids: &TypeList) -> bool
     ids.has(Id::One(EXCLUSIVE)) || ids.has(Id::One(ACYCLIC)) || brings_any(ids)
 }
 
-// What the closure of the added id does not displace, and the closure.
+// What the closure does not displace, and the closure.
 fn extended<H: Holdings>(
     holdings: &H,
     own: &TypeList,
-    added: Id,
     coming: &[Id],
 ) -> Result<TypeList, AllocError>
-    requires { step.IsClosure (H.world holdings.now) added coming.now }
-    ensures ids { IfOk result (λ ids. ids ≡ fold (with_item id_cmp) (filter (λ i. not (step.is_displaced (H.world holdings.now) coming.now i)) own.now) coming.now) }
+    ensures ids { IfOk result (λ ids. ids ≡ extended_by (H.world holdings.now) coming.now own.now) }
     ensures ascending { IsTrue (is_ascending id_cmp own.now) }
 {
-    let _ids = own.as_slice();
-    match added {
-        // A single id displaces nothing.
-        Id::One(_) => joined(own, coming),
-        Id::Two(..) => {
-            let kept = kept(holdings, own, added, coming)?;
-            joined(kept.as_ref().unwrap_or(own), coming)
-        }
-    }
+    let kept = kept(holdings, own, coming)?;
+    joined(kept.as_ref().unwrap_or(own), coming)
 }
 
-// What the closure of the added id does not displace; none, where that is all.
+// What the closure does not displace; none, where that is all.
 fn kept<H: Holdings>(
     holdings: &H,
     own: &TypeList,
-    added: Id,
     coming: &[Id],
 ) -> Result<Option<TypeList>, AllocError>
-    requires { step.IsClosure (H.world holdings.now) added coming.now }
-    ensures kept { IfOk result (λ ids. unwrap_or ids own.now ≡ filter (λ i. not (step.is_displaced (H.world holdings.now) coming.now i)) own.now) }
+    ensures kept { IfOk result (λ ids. unwrap_or ids own.now ≡ left_by (H.world holdings.now) coming.now own.now) }
     ensures ascending { IsTrue (is_ascending id_cmp own.now) }
 {
     let mut kept: Option<TypeList> = None;
     for id in own.as_slice() {
-        if is_displaced(holdings, added, coming, *id) {
+        if is_displaced(holdings, coming, *id) {
             kept = Some(kept.as_ref().unwrap_or(own).without(*id)?);
         }
     }
     Ok(kept)
 }
 
-// All pairs of a closure have the target of the added pair. So a pair goes where it has another target, its exclusive
-// relationship being there with that one.
-fn is_displaced<H: Holdings>(holdings: &H, added: Id, coming: &[Id], id: Id) -> bool
-    requires { step.IsClosure (H.world holdings.now) added coming.now }
+// The closure has a pair of the same relationship, which is exclusive, and not this one. What takes least is asked first.
+fn is_displaced<H: Holdings>(holdings: &H, coming: &[Id], id: Id) -> bool
     ensures { result ≡ step.is_displaced (H.world holdings.now) coming.now id }
 {
-    let Id::Two(_, target) = added else {
+    let Id::Two(relationship, _) = id else {
         return false;
     };
-    let Id::Two(relationship, old) = id else {
-        return false;
-    };
-    !old.is(target)
-        && is_among(coming, Id::Two(relationship, target))
+    has_pair_of(coming, relationship)
+        && !is_among(coming, id)
         && has(holdings, relationship, Id::One(EXCLUSIVE))
+}
+
+// Whether one of the ids is a pair of the relationship.
+fn has_pair_of(ids: &[Id], relationship: Entity) -> bool
+    ensures { result ≡ list_any (step.is_pair_of relationship) ids.now }
+{
+    ids.iter().any(|id| is_pair_of(*id, relationship))
+}
+
+fn is_pair_of(id: Id, relationship: Entity) -> bool
+    ensures { result ≡ step.is_pair_of relationship id }
+{
+    match id {
+        Id::One(_) => false,
+        Id::Two(own, _) => relationship.is(own),
+    }
 }
 
 // The ids, and those that come.

@@ -3,7 +3,7 @@ ghost use Rattle.std.specs.Prelude.{◌≡◌, ◌||◌, IfOk, IsTrue};
 ghost use Rattle.std.specs.List.{list_any};
 ghost use Rattle.eco_ids.specs.Order.{entity_eq, has_item, id_cmp, is_ascending};
 ghost use Rattle.eco_ids.specs.Step as step;
-ghost use Rattle.eco_traits.specs.Target.{IsClosedBy, IsFirstCycle};
+ghost use Rattle.eco_traits.specs.Target.{IsClosedBy};
 
 use crate::holdings::Holdings;
 use crate::walk::{has, reaches};
@@ -84,7 +84,7 @@ fn first_cycle<H: Holdings>(
     ids: &[Id],
 ) -> Result<Option<Entity>, AllocError>
     requires { IsTrue (is_ascending id_cmp ids.now) }
-    ensures { IfOk result (IsFirstCycle (H.world holdings.now) entity ids.now) }
+    ensures { IfOk result (step.IsFirstCycle (H.world holdings.now) entity ids.now) }
 {
     for id in ids {
         if let Some(relationship) = closed_by(alloc, holdings, entity, *id)? {

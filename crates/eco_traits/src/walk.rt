@@ -5,8 +5,8 @@ ghost use Rattle.eco_ids.specs.declared.id.Id.TheVariants.{Two};
 ghost use Rattle.eco_ids.specs.Order.{entity_cmp, has_item, id_cmp};
 ghost use Rattle.eco_ids.specs.Traits.{Reaches};
 ghost use Rattle.eco_ids.specs.World.{has as world_has};
-ghost use Rattle.eco_traits.specs.Known.{all_targets, target_is_known};
-ghost use Rattle.eco_traits.specs.Target.{target_by_pair};
+ghost use Rattle.eco_traits.specs.Known.{all_targets};
+ghost use Rattle.eco_traits.specs.Target.{AppendsTargets, IsReach, target_by_pair};
 
 use crate::holdings::Holdings;
 use crate::least::{Graph, is_in_least_set, least_set};
@@ -26,14 +26,13 @@ impl<H: Holdings> Graph for Pairs<'_, H> {
 
     ghost leads = { λ p a b. IsTrue (world_has (H.world p.holdings.now) a (Two p.relationship b)) };
 
+    #[tactic(auto, using(crate::proofs::Known::target_is_known))]
     fn append_next(&self, entity: Entity, found: &mut Vec<Entity>) -> Result<(), AllocError> {
         if let Some(ids) = self.holdings.type_of(entity) {
             append_targets(ids.as_slice(), self.relationship, found)?;
         }
         Ok(())
     }
-
-    ghost within = { λ p a b h. target_is_known (H.world p.holdings.now) p.relationship a b h };
 }
 
 fn append_targets(
@@ -41,7 +40,7 @@ fn append_targets(
     relationship: Entity,
     found: &mut Vec<Entity>,
 ) -> Result<(), AllocError>
-    ensures { OnOk result ((b : EntityData) → has_item entity_cmp found.new.items b ≡ (has_item entity_cmp found.old.items b || has_item id_cmp ids.now (Two relationship b))) }
+    ensures { OnOk result (AppendsTargets relationship ids.now found.old.items found.new.items) }
 {
     for id in ids {
         if let Some(target) = target_by(*id, relationship) {
@@ -68,7 +67,7 @@ pub fn reached<H: Holdings>(
     relationship: Entity,
     from: Entity,
 ) -> Result<IndexSet<Entity>, AllocError>
-    ensures { IfOk result (λ set. (b : EntityData) → IsTrue (has_item entity_cmp set.keys b) ↔ Reaches (H.world holdings.now) relationship from b) }
+    ensures { IfOk result (λ set. IsReach (H.world holdings.now) relationship from set.keys) }
 {
     least_set(
         alloc,

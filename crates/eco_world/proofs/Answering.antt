@@ -1,5 +1,5 @@
 -- What a query of one term answers.
-use Rattle.std.proofs.Common.{◌≡◌, ℕ, suc, ◌+◌, Bool, true, false, cond, not, ◌&&◌, ◌||◌, List, [], ◌∷◌, ◌++◌, map, filter, flat_map, slice_get, Option, Some, refl, sym, ap, ◌∙◌, subst, Less, Equal, Greater, is_eq, is_lt, is_some, IsTrue, T}
+use Rattle.std.proofs.Common.{if◌then◌else◌, ◌≡◌, ℕ, suc, ◌+◌, Bool, true, false, cond, not, ◌&&◌, ◌||◌, List, [], ◌∷◌, ◌++◌, map, filter, flat_map, slice_get, Option, Some, refl, sym, ap, ◌∙◌, subst, Less, Equal, Greater, is_eq, is_lt, is_some, IsTrue, T}
 use Rattle.std.specs.List.{list_any}
 use Rattle.std.specs.FinMap.Entries.{find, is_sorted, below_all}
 use Rattle.std.specs.Cmp.{tied_itself}
@@ -9,18 +9,19 @@ use Rattle.eco_ids.specs.declared.id.Id.{Id}
 use Rattle.eco_ids.specs.declared.id.Id.TheVariants as id
 use Rattle.eco_ids.specs.declared.pattern.Pattern.{Pattern}
 use Rattle.eco_ids.specs.declared.value.Value.{Value}
-use Rattle.eco_ids.specs.Answer.{answer, is_least_match, same_filling, Plain, Asked, entries_of, choices, Row as Result}
+use Rattle.eco_ids.specs.Answer.{answer, is_least_match, same_filling, entries_of, choices, Row as Result}
+use Rattle.eco_ids.specs.Slots.{Plain, Asked}
 use Rattle.eco_ids.specs.Matching.{pattern_matches}
 use Rattle.eco_ids.specs.Order.{id_cmp, id_eq, entity_cmp}
-use Rattle.eco_ids.specs.Indices.{Indexed, IndexState, Retired, Free, Living, living_from, record_of}
-use Rattle.eco_ids.specs.World.{WorldState, Record}
+use Rattle.eco_ids.specs.Indices.{IndexState, Retired, Free, Living, living, living_from, record_in}
+use Rattle.eco_ids.specs.World.{WorldState, Record, entities, record_of}
 use Rattle.eco_query.specs.Queries.{exactly}
 use Rattle.eco_store.specs.Holders as store
 use Rattle.eco_store.specs.Holders.{has_match}
-use Rattle.eco_store.specs.Store.{Kept}
-use Rattle.eco_store.proofs.Views.{record_at}
-use Rattle.eco_traits.specs.Same.{id_eq_is, id_cmp_total}
-use Rattle.eco_world.specs.Joined.{arity_at, later, record_for, joined, world_of}
+use Rattle.eco_ids.proofs.Facts.{id_eq_is}
+use Rattle.eco_ids.proofs.IdOrder.{id_cmp_total}
+use Rattle.eco_ids.proofs.States.{record_here}
+use Rattle.eco_ids.proofs.Ascending.{first_T, second_T}
 use Rattle.eco_world.specs.Queries.{term_of, holders}
 use Rattle.eco_world.proofs.Held.{keys}
 
@@ -30,9 +31,15 @@ matches_exactly (id.One e) (id.One x) = refl
 matches_exactly (id.One e) (id.Two s u) = refl
 matches_exactly (id.Two r t) (id.One x) = refl
 matches_exactly (id.Two r t) (id.Two s u) =
-    elim (entity_cmp r s) as (λ o. (is_eq o && is_eq (entity_cmp t u)) ≡ is_eq (ordering_then o (entity_cmp t u))) [ Less ↦ refl | Equal ↦ refl | Greater ↦ refl ]
+    elim (entity_cmp r s) as (λ o. (is_eq o && is_eq (entity_cmp t u)) ≡ is_eq (ordering_then o (entity_cmp t u))) [
+      | Less ↦ refl
+      | Equal ↦ refl
+      | Greater ↦
+          refl
+    ]
 
-no_less : (p : Pattern) (i j k : Id) → pattern_matches p k ≡ id_eq i k → IsTrue (id_eq i j) → (is_lt (id_cmp k j) && (pattern_matches p k && same_filling p k j)) ≡ false
+no_less : (p : Pattern) (i j k : Id) → pattern_matches p k ≡ id_eq i k → IsTrue (id_eq i j) →
+    (is_lt (id_cmp k j) && (pattern_matches p k && same_filling p k j)) ≡ false
 no_less p i j k matches same = ap (λ b. is_lt (id_cmp k j) && (b && same_filling p k j)) matches ∙ go (id_eq i k) refl
   where
     and_false : (b : Bool) → (b && false) ≡ false
@@ -43,7 +50,8 @@ no_less p i j k matches same = ap (λ b. is_lt (id_cmp k j) && (b && same_fillin
     go true h = ap (λ o. is_lt o && same_filling p k j) (ap (λ x. id_cmp x j) (sym (id_eq_is i k h) ∙ id_eq_is i j same) ∙ tied_itself id_cmp_total j)
     go false h = and_false (is_lt (id_cmp k j))
 
-none_less : (p : Pattern) (i j : Id) (ids : List Id) → ((k : Id) → pattern_matches p k ≡ id_eq i k) → IsTrue (id_eq i j) → list_any (λ k. is_lt (id_cmp k j) && (pattern_matches p k && same_filling p k j)) ids ≡ false
+none_less : (p : Pattern) (i j : Id) (ids : List Id) → ((k : Id) → pattern_matches p k ≡ id_eq i k) → IsTrue (id_eq i j) →
+    list_any (λ k. is_lt (id_cmp k j) && (pattern_matches p k && same_filling p k j)) ids ≡ false
 none_less p i j [] matches same = refl
 none_less p i j (k ∷ ids) matches same =
     ap (λ b. b || list_any (λ k. is_lt (id_cmp k j) && (pattern_matches p k && same_filling p k j)) ids) (no_less p i j k (matches k) same)
@@ -51,7 +59,8 @@ none_less p i j (k ∷ ids) matches same =
 
 -- a match is the least one
 least_is : (p : Pattern) (i : Id) (ids : List Id) → ((k : Id) → pattern_matches p k ≡ id_eq i k) → (j : Id) → is_least_match p ids j ≡ id_eq i j
-least_is p i ids matches j = ap (λ b. b && not (list_any (λ k. is_lt (id_cmp k j) && (pattern_matches p k && same_filling p k j)) ids)) (matches j) ∙ go (id_eq i j) refl
+least_is p i ids matches j = ap (λ b. b && not (list_any (λ k. is_lt (id_cmp k j) && (pattern_matches p k && same_filling p k j)) ids)) (matches j)
+    ∙ go (id_eq i j) refl
   where
     go : (b : Bool) → id_eq i j ≡ b → (b && not (list_any (λ k. is_lt (id_cmp k j) && (pattern_matches p k && same_filling p k j)) ids)) ≡ b
     go true h = ap not (none_less p i j ids matches h)
@@ -64,35 +73,33 @@ filter_alike p q alike (x ∷ ids) = ap (λ b. cond b (x ∷ filter p ids) (filt
 none_above : (i : Id) (held : List (Id × Value)) → T (below_all id_cmp i held) → filter (λ j. id_eq i j) (map (λ (h : Id × Value). h.0) held) ≡ []
 none_above i [] below = refl
 none_above i (h ∷ held) below =
-    elim (id_cmp i h.0) as (λ o. T (is_lt o && below_all id_cmp i held) → cond (is_eq o) (h.0 ∷ filter (λ j. id_eq i j) (map (λ (h : Id × Value). h.0) held)) (filter (λ j. id_eq i j) (map (λ (h : Id × Value). h.0) held)) ≡ []) [
+    elim (id_cmp i h.0) as (λ o. T (is_lt o && below_all id_cmp i held) →
+    cond (is_eq o) (h.0 ∷ filter (λ j. id_eq i j) (map (λ (h : Id × Value). h.0) held)) (filter (λ j. id_eq i j) (map (λ (h : Id × Value). h.0) held))
+    ≡ []) [
       | Less ↦ λ rest. none_above i held rest
       | Equal ↦ λ no_case. absurd no_case
       | Greater ↦ λ no_case. absurd no_case
     ] below
 
-after : (b c : Bool) → T (b && c) → T c
-after true c h = h
-after false c h = absurd h
-
-before : (b c : Bool) → T (b && c) → T b
-before true c h = tt
-before false c h = h
-
 -- the id comes once, where it comes at all
-only_one : (i : Id) (held : List (Id × Value)) → T (is_sorted id_cmp held) → filter (λ j. id_eq i j) (map (λ (h : Id × Value). h.0) held) ≡ cond (is_some (find id_cmp i held)) (i ∷ []) []
+only_one : (i : Id) (held : List (Id × Value)) → T (is_sorted id_cmp held) →
+    filter (λ j. id_eq i j) (map (λ (h : Id × Value). h.0) held) ≡ cond (is_some (find id_cmp i held)) (i ∷ []) []
 only_one i [] up = refl
 only_one i (h ∷ held) up =
-    elim (id_eq i h.0) as (λ b. id_eq i h.0 ≡ b → cond b (h.0 ∷ filter (λ j. id_eq i j) (map (λ (h : Id × Value). h.0) held)) (filter (λ j. id_eq i j) (map (λ (h : Id × Value). h.0) held)) ≡ cond (is_some (cond b (Some h.1) (find id_cmp i held))) (i ∷ []) []) [
+    elim (id_eq i h.0) as (λ b. id_eq i h.0 ≡ b → cond b (h.0 ∷ filter (λ j. id_eq i j) (map (λ (h : Id × Value). h.0) held))
+    (filter (λ j. id_eq i j) (map (λ (h : Id × Value). h.0) held)) ≡ cond (is_some (cond b (Some h.1) (find id_cmp i held))) (i ∷ []) []) [
       | true ↦ λ e.
           let same : h.0 ≡ i = sym (id_eq_is i h.0 e) in
           ap (λ x. x ∷ filter (λ j. id_eq i j) (map (λ (h : Id × Value). h.0) held)) same
-          ∙ ap (λ xs. i ∷ xs) (none_above i held (subst (λ x. T (below_all id_cmp x held)) same (before _ _ up)))
-      | false ↦ λ e. only_one i held (after _ _ up)
+          ∙ ap (λ xs. i ∷ xs) (none_above i held (subst (λ x. T (below_all id_cmp x held)) same (first_T _ _ up)))
+      | false ↦ λ e. only_one i held (second_T _ _ up)
     ] refl
 
-one_entry : (i : Id) (held : List (Id × Value)) → T (is_sorted id_cmp held) → entries_of (map (λ (h : Id × Value). h.0) held) (Plain (exactly i)) ≡ cond (is_some (find id_cmp i held)) (Some i ∷ []) []
+one_entry : (i : Id) (held : List (Id × Value)) → T (is_sorted id_cmp held) →
+    entries_of (map (λ (h : Id × Value). h.0) held) (Plain (exactly i)) ≡ cond (is_some (find id_cmp i held)) (Some i ∷ []) []
 one_entry i held up =
-    ap (map Some) (filter_alike _ _ (least_is (exactly i) i (map (λ (h : Id × Value). h.0) held) (matches_exactly i)) (map (λ (h : Id × Value). h.0) held) ∙ only_one i held up)
+    ap (map Some) (filter_alike _ _ (least_is (exactly i) i (map (λ (h : Id × Value). h.0) held) (matches_exactly i)) (map (λ (h : Id × Value). h.0) held)
+    ∙ only_one i held up)
     ∙ elim (is_some (find id_cmp i held)) as (λ b. map Some (cond b (i ∷ []) []) ≡ cond b (Some i ∷ []) []) [ true ↦ refl | false ↦ refl ]
 
 abbrev result : Entity → List (Option Id) → Result
@@ -102,10 +109,14 @@ result e entries = record { entity = e; entries = entries }
 abbrev pub results : List Asked → Entity × Record → List Result
 results slots p = map (λ es. record { entity = p.0; entries = es }) (choices (map (λ h. h.0) p.1.held) slots)
 
-pub one_result : (i : Id) (e : Entity) (r : Record) → T (is_sorted id_cmp r.held) → results (term_of i) (e, r) ≡ cond (is_some (find id_cmp i r.held)) (result e (Some i ∷ []) ∷ []) []
+pub one_result : (i : Id) (e : Entity) (r : Record) → T (is_sorted id_cmp r.held) →
+    results (term_of i) (e, r) ≡ cond (is_some (find id_cmp i r.held)) (result e (Some i ∷ []) ∷ []) []
 one_result i e r up =
-    ap (λ (es : List (Option Id)). map (result e) (flat_map (λ (x : Option Id). map (λ (rest : List (Option Id)). x ∷ rest) ([] ∷ [])) es)) (one_entry i r.held up)
-    ∙ elim (is_some (find id_cmp i r.held)) as (λ b. map (result e) (flat_map (λ (x : Option Id). map (λ (rest : List (Option Id)). x ∷ rest) ([] ∷ [])) (cond b (Some i ∷ []) [])) ≡ cond b (result e (Some i ∷ []) ∷ []) []) [ true ↦ refl | false ↦ refl ]
+    ap (λ (es : List (Option Id)). map (result e) (flat_map (λ (x : Option Id). map (λ (rest : List (Option Id)). x ∷ rest) ([] ∷ [])) es))
+    (one_entry i r.held up)
+    ∙ elim (is_some (find id_cmp i r.held)) as (λ b. map (result e)
+    (flat_map (λ (x : Option Id). map (λ (rest : List (Option Id)). x ∷ rest) ([] ∷ [])) (cond b (Some i ∷ []) []))
+    ≡ cond b (result e (Some i ∷ []) ∷ []) []) [ true ↦ refl | false ↦ refl ]
 
 -- ---- all of them
 
@@ -118,7 +129,8 @@ abbrev Sorted : List (IndexState Record) → Type 0
 Sorted xs = (k g : ℕ) (r : Record) → slice_get xs k ≡ Some (Living g r) → T (is_sorted id_cmp r.held)
 
 answered : (i : Id) (n : ℕ) (xs : List (IndexState Record)) → Sorted xs →
-    flat_map (results (term_of i)) (living_from n xs) ≡ map (holding i) (map (λ (p : Entity × Record). p.0) (filter (λ (p : Entity × Record). is_some (find id_cmp i p.1.held)) (living_from n xs)))
+    flat_map (results (term_of i)) (living_from n xs)
+    ≡ map (holding i) (map (λ (p : Entity × Record). p.0) (filter (λ (p : Entity × Record). is_some (find id_cmp i p.1.held)) (living_from n xs)))
 answered i n [] sorted = refl
 answered i n (Retired ∷ xs) sorted = answered i (n + 1) xs (λ k. sorted (suc k))
 answered i n (Free g ∷ xs) sorted = answered i (n + 1) xs (λ k. sorted (suc k))
@@ -128,15 +140,19 @@ answered i n (Living g r ∷ xs) sorted =
     ∙ by e (is_some (find id_cmp i r.held)) (answered i (n + 1) xs (λ k. sorted (suc k)))
   where
     by : (e : Entity) (b : Bool)
-        → flat_map (results (term_of i)) (living_from (n + 1) xs) ≡ map (holding i) (map (λ (p : Entity × Record). p.0) (filter (λ (p : Entity × Record). is_some (find id_cmp i p.1.held)) (living_from (n + 1) xs)))
+        → flat_map (results (term_of i)) (living_from (n + 1) xs) ≡ map (holding i)
+        (map (λ (p : Entity × Record). p.0) (filter (λ (p : Entity × Record). is_some (find id_cmp i p.1.held)) (living_from (n + 1) xs)))
         → cond b (holding i e ∷ []) [] ++ flat_map (results (term_of i)) (living_from (n + 1) xs)
-        ≡ map (holding i) (map (λ (p : Entity × Record). p.0) (cond b ((e, r) ∷ filter (λ (p : Entity × Record). is_some (find id_cmp i p.1.held)) (living_from (n + 1) xs)) (filter (λ (p : Entity × Record). is_some (find id_cmp i p.1.held)) (living_from (n + 1) xs))))
+        ≡ map (holding i) (map (λ (p : Entity × Record). p.0)
+        (cond b ((e, r) ∷ filter (λ (p : Entity × Record). is_some (find id_cmp i p.1.held)) (living_from (n + 1) xs))
+        (filter (λ (p : Entity × Record). is_some (find id_cmp i p.1.held)) (living_from (n + 1) xs))))
     by e true rest = ap (λ zs. holding i e ∷ zs) rest
     by e false rest = rest
 
 -- the answer has one result for each who has the id
-pub answer_is : (w : WorldState) (i : Id) → ((e : Entity) (r : Record) → record_of w e ≡ Some r → T (is_sorted id_cmp r.held)) → answer w (term_of i) ≡ map (holding i) (holders w i)
-answer_is w i sorted = answered i 0 w.indices (λ k g r at. sorted (record { index = k; generation = g }) r (record_at w (record { index = k; generation = g }) r at))
+pub answer_is : (w : WorldState) (i : Id) → ((e : Entity) (r : Record) → record_of w e ≡ Some r → T (is_sorted id_cmp r.held)) →
+    answer w (term_of i) ≡ map (holding i) (holders w i)
+answer_is w i sorted = answered i 0 w.indices (λ k g r at. sorted (record { index = k; generation = g }) r (ap (λ o. record_in o g) at ∙ record_here g r))
 
 -- ---- as a store finds them
 
@@ -145,26 +161,17 @@ pub exactly_held : (i : Id) (held : List (Id × Value)) → list_any (pattern_ma
 exactly_held i [] = refl
 exactly_held i (h ∷ held) =
     ap (λ b. b || list_any (pattern_matches (exactly i)) (keys held)) (matches_exactly i h.0)
-    ∙ elim (id_eq i h.0) as (λ b. (b || list_any (pattern_matches (exactly i)) (keys held)) ≡ is_some (cond b (Some h.1) (find id_cmp i held))) [ true ↦ refl | false ↦ exactly_held i held ]
+    ∙ elim (id_eq i h.0) as (λ b. (b || list_any (pattern_matches (exactly i)) (keys held)) ≡ is_some (cond b (Some h.1) (find id_cmp i held))) [
+      | true ↦
+          refl
+      | false ↦ exactly_held i held
+    ]
 
-found : (i : Id) (n : ℕ) (xs : List (IndexState Kept)) (arities : List (Option ℕ)) →
-    map (λ (p : Entity × Kept). p.0) (filter (λ (p : Entity × Kept). has_match (exactly i) p.1) (living_from n xs))
-    ≡ map (λ (p : Entity × Record). p.0) (filter (λ (p : Entity × Record). is_some (find id_cmp i p.1.held)) (living_from n (joined xs arities)))
-found i n [] arities = refl
-found i n (Retired ∷ xs) arities = found i (n + 1) xs (later arities)
-found i n (Free g ∷ xs) arities = found i (n + 1) xs (later arities)
-found i n (Living g k ∷ xs) arities =
-    ap (λ b. map (λ (p : Entity × Kept). p.0) (cond b ((record { index = n; generation = g }, k) ∷ filter (λ (p : Entity × Kept). has_match (exactly i) p.1) (living_from (n + 1) xs)) (filter (λ (p : Entity × Kept). has_match (exactly i) p.1) (living_from (n + 1) xs)))) (exactly_held i k.held)
-    ∙ by (record { index = n; generation = g }) (is_some (find id_cmp i k.held)) (found i (n + 1) xs (later arities))
-  where
-    by : (e : Entity) (b : Bool)
-        → map (λ (p : Entity × Kept). p.0) (filter (λ (p : Entity × Kept). has_match (exactly i) p.1) (living_from (n + 1) xs))
-        ≡ map (λ (p : Entity × Record). p.0) (filter (λ (p : Entity × Record). is_some (find id_cmp i p.1.held)) (living_from (n + 1) (joined xs (later arities))))
-        → map (λ (p : Entity × Kept). p.0) (cond b ((e, k) ∷ filter (λ (p : Entity × Kept). has_match (exactly i) p.1) (living_from (n + 1) xs)) (filter (λ (p : Entity × Kept). has_match (exactly i) p.1) (living_from (n + 1) xs)))
-        ≡ map (λ (p : Entity × Record). p.0) (cond b ((e, record_for (arity_at arities 0) k) ∷ filter (λ (p : Entity × Record). is_some (find id_cmp i p.1.held)) (living_from (n + 1) (joined xs (later arities)))) (filter (λ (p : Entity × Record). is_some (find id_cmp i p.1.held)) (living_from (n + 1) (joined xs (later arities)))))
-    by e true rest = ap (λ es. e ∷ es) rest
-    by e false rest = rest
+found : (i : Id) (ps : List (Entity × Record)) → filter (λ (p : Entity × Record). has_match (exactly i) p.1) ps
+    ≡ filter (λ (p : Entity × Record). is_some (find id_cmp i p.1.held)) ps
+found i [] = refl
+found i (p ∷ ps) = λ t. if exactly_held i p.1.held t then p ∷ found i ps t else found i ps t
 
 -- whom the store finds by the id's pattern has the id in the world
-pub holders_joined : (i : Id) (w : Indexed Kept) (arities : List (Option ℕ)) → store.holders w (exactly i) ≡ holders (world_of w arities) i
-holders_joined i w arities = found i 0 w.indices arities
+pub found_holders : (w : WorldState) (i : Id) → store.entities_with (entities w) (exactly i) ≡ holders w i
+found_holders w i = ap (map (λ (p : Entity × Record). p.0)) (found i (living (entities w)))

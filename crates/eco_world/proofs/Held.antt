@@ -6,11 +6,13 @@ use Rattle.eco_ids.specs.declared.id.Id.{Id}
 use Rattle.eco_ids.specs.declared.value.Value.{Value}
 use Rattle.eco_ids.specs.Order.{id_cmp, id_eq, has_item, without_item}
 use Rattle.eco_ids.specs.declared.entity.Entity.{Entity}
-use Rattle.eco_ids.specs.Indices.{record_of}
-use Rattle.eco_ids.specs.World.{Record, WorldState, has, zeros}
+use Rattle.eco_ids.specs.World.{Record, WorldState, has, zeros, record_of}
 use Rattle.eco_traits.specs.Target.{type_of_record}
-use Rattle.eco_world.specs.Retyped.{type_of}
-use Rattle.eco_traits.specs.Same.{id_cmp_total, id_eq_is, id_eq_itself, id_eq_sym, same_id}
+use Rattle.eco_world.specs.Removals.{type_of}
+use Rattle.eco_ids.proofs.Exact.{id_eq_sym}
+use Rattle.eco_ids.proofs.Facts.{id_eq_is, id_eq_itself}
+use Rattle.eco_ids.proofs.IdOrder.{id_cmp_total, same_id}
+use Rattle.eco_ids.proofs.Ascending.{first_T, second_T}
 use Rattle.eco_tables.specs.Column.{value_in, retyped, with_held}
 
 abbrev pub Held : Type 0
@@ -24,20 +26,16 @@ pub find_keys : (held : Held) (i : Id) → is_some (find id_cmp i held) ≡ has_
 find_keys [] i = refl
 find_keys (p ∷ held) i =
     ap (λ b. is_some (cond b (Some p.1) (find id_cmp i held))) (id_eq_sym i p.0)
-    ∙ elim (id_eq p.0 i) as (λ b. is_some (cond b (Some p.1) (find id_cmp i held)) ≡ (b || has_item id_cmp (keys held) i)) [ true ↦ refl | false ↦ find_keys held i ]
+    ∙ elim (id_eq p.0 i) as (λ b. is_some (cond b (Some p.1) (find id_cmp i held)) ≡ (b || has_item id_cmp (keys held) i)) [
+      | true ↦ refl
+      | false ↦
+          find_keys held i
+    ]
 
 less : (o : Ordering) → T (is_lt o) → o ≡ Less
 less Less p = refl
 less Equal p = absurd p
 less Greater p = absurd p
-
-pub first : (a b : Bool) → T (a && b) → T a
-first true b p = tt
-first false b p = p
-
-pub second : (a b : Bool) → T (a && b) → T b
-second true b p = p
-second false b p = absurd p
 
 both : (a b : Bool) → T a → T b → T (a && b)
 both true b p q = q
@@ -55,7 +53,7 @@ none_below i (p ∷ held) below =
 below_less : (i j : Id) (held : Held) → id_cmp i j ≡ Less → T (below_all id_cmp j held) → T (below_all id_cmp i held)
 below_less i j [] l below = tt
 below_less i j (p ∷ held) l below =
-    both _ _ (subst (λ r. T (is_lt r)) (sym (id_cmp_total.trans i j p.0 l (less _ (first _ _ below)))) tt) (below_less i j held l (second _ _ below))
+    both _ _ (subst (λ r. T (is_lt r)) (sym (id_cmp_total.trans i j p.0 l (less _ (first_T _ _ below)))) tt) (below_less i j held l (second_T _ _ below))
 
 -- ---- other ids
 
@@ -67,12 +65,13 @@ apart i p held v below at = go (id_eq i p.0) refl
     go false e = refl
 
 -- what has the old values, and zeros where there was none, is the old under its own ids
-pub retyped_is : (new old : Held) → T (is_sorted id_cmp new) → ((i : Id) (v : Value) → find id_cmp i new ≡ Some v → value_in old i ≡ v) → retyped (keys new) old ≡ new
+pub retyped_is : (new old : Held) → T (is_sorted id_cmp new) → ((i : Id) (v : Value) → find id_cmp i new ≡ Some v → value_in old i ≡ v) →
+    retyped (keys new) old ≡ new
 retyped_is [] old up values = refl
 retyped_is (p ∷ new) old up values =
     ap (λ v. (p.0, v) ∷ retyped (keys new) old) (values p.0 p.1 (ap (λ b. cond b (Some p.1) (find id_cmp p.0 new)) (id_eq_itself p.0)))
     ∙ ap (λ held. p ∷ held)
-    (retyped_is new old (second _ _ up) (λ i v at. values i v (ap (λ b. cond b (Some p.1) (find id_cmp i new)) (apart i p new v (first _ _ up) at) ∙ at)))
+    (retyped_is new old (second_T _ _ up) (λ i v at. values i v (ap (λ b. cond b (Some p.1) (find id_cmp i new)) (apart i p new v (first_T _ _ up) at) ∙ at)))
 
 alike : (test : Id → Bool) (i j : Id) → id_cmp i j ≡ Equal → test j ≡ test i
 alike test i j e = ap test (sym (same_id i j e))
@@ -86,13 +85,15 @@ kept_find test held i v at = go (test i) (sym (find-where_key id_cmp test i (ali
 
 keys_kept : (test : Id → Bool) (held : Held) → keys (where_key id_cmp test held) ≡ filter test (keys held)
 keys_kept test [] = refl
-keys_kept test (p ∷ held) = elim (test p.0) as (λ b. keys (cond b (p ∷ where_key id_cmp test held) (where_key id_cmp test held)) ≡ cond b (p.0 ∷ filter test (keys held)) (filter test (keys held))) [
-  | true ↦ ap (λ ids. p.0 ∷ ids) (keys_kept test held)
-  | false ↦ keys_kept test held
-]
+keys_kept test (p ∷ held) = elim (test p.0) as (λ b. keys (cond b (p ∷ where_key id_cmp test held) (where_key id_cmp test held))
+    ≡ cond b (p.0 ∷ filter test (keys held)) (filter test (keys held))) [
+      | true ↦ ap (λ ids. p.0 ∷ ids) (keys_kept test held)
+      | false ↦ keys_kept test held
+    ]
 
 -- an id goes from among the values as from among the ids
-pub retyped_without : (held : Held) (i : Id) → T (is_sorted id_cmp held) → retyped (without_item id_cmp (keys held) i) held ≡ where_key id_cmp (λ j. not (id_eq j i)) held
+pub retyped_without : (held : Held) (i : Id) → T (is_sorted id_cmp held) →
+    retyped (without_item id_cmp (keys held) i) held ≡ where_key id_cmp (λ j. not (id_eq j i)) held
 retyped_without held i up =
     ap (λ ids. retyped ids held) (sym (keys_kept (λ j. not (id_eq j i)) held))
     ∙ retyped_is (where_key id_cmp (λ j. not (id_eq j i)) held) held (is_sorted-where_key id_cmp (λ j. not (id_eq j i)) held up)
@@ -112,14 +113,16 @@ none_written (p ∷ held) i v none =
 pub written_is : (held : Held) (i : Id) (v : Value) → T (is_sorted id_cmp held) → is_some (find id_cmp i held) ≡ true → with_held held i v ≡ put id_cmp i v held
 written_is [] i v up there = absurd (true≢false (sym there))
 written_is (p ∷ held) i v up there =
-    elim (id_cmp i p.0) as (λ o. id_cmp i p.0 ≡ o → is_some (cond (is_eq o) (Some p.1) (find id_cmp i held)) ≡ true → with_held (p ∷ held) i v ≡ by_order o ((i, v) ∷ p ∷ held) ((p.0, v) ∷ held) (p ∷ put id_cmp i v held)) [
-      | Less ↦ λ e some. absurd (true≢false (sym some ∙ ap is_some (none_below i held (below_less i p.0 held e (first _ _ up)))))
+    elim (id_cmp i p.0) as (λ o. id_cmp i p.0 ≡ o → is_some (cond (is_eq o) (Some p.1) (find id_cmp i held)) ≡ true →
+    with_held (p ∷ held) i v ≡ by_order o ((i, v) ∷ p ∷ held) ((p.0, v) ∷ held) (p ∷ put id_cmp i v held)) [
+      | Less ↦ λ e some. absurd (true≢false (sym some ∙ ap is_some (none_below i held (below_less i p.0 held e (first_T _ _ up)))))
       | Equal ↦ λ e some.
           ap (λ b. cond b (p.0, v) p ∷ with_held held i v) (id_eq_sym p.0 i ∙ ap is_eq e)
-          ∙ ap (λ rest. (p.0, v) ∷ rest) (none_written held i v (none_below i held (subst (λ j. T (below_all id_cmp j held)) (sym (same_id i p.0 e)) (first _ _ up))))
+          ∙ ap (λ rest. (p.0, v) ∷ rest)
+          (none_written held i v (none_below i held (subst (λ j. T (below_all id_cmp j held)) (sym (same_id i p.0 e)) (first_T _ _ up))))
       | Greater ↦ λ e some.
           ap (λ b. cond b (p.0, v) p ∷ with_held held i v) (id_eq_sym p.0 i ∙ ap is_eq e)
-          ∙ ap (λ rest. p ∷ rest) (written_is held i v (second _ _ up) some)
+          ∙ ap (λ rest. p ∷ rest) (written_is held i v (second_T _ _ up) some)
     ] refl there
 
 -- ---- of an entity
@@ -132,7 +135,8 @@ has_of_some None i ids e = absurd (none-some ids (sym e))
 has_of_some (Some d) i ids e = ap (λ xs. has_item id_cmp xs i) (same_Some ids (keys d.held) e) ∙ sym (find_keys d.held i)
 
 -- a living entity has an id where its list of ids does
-pub has_listed : (w : WorldState) (e : Entity) (i : Id) (ids : List Id) → Some ids ≡ option_map type_of_record (record_of w e) → has_item id_cmp ids i ≡ has w e i
+pub has_listed : (w : WorldState) (e : Entity) (i : Id) (ids : List Id) → Some ids ≡ option_map type_of_record (record_of w e) →
+    has_item id_cmp ids i ≡ has w e i
 has_listed w e i ids h = has_of_some (record_of w e) i ids h
 
 listed_of : (o : Option Record) (ids : List Id) → Some ids ≡ option_map type_of_record o → ids ≡ keys (unwrap_or (option_map (λ r. r.held) o) [])

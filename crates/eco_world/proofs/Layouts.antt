@@ -1,5 +1,5 @@
 -- Lists of tables that ascend by type, and a whole layout around those of some types.
-use Rattle.std.proofs.Common.{◌≡◌, ◌≢◌, ℕ, zero, suc, ◌<◌, Bool, true, false, cond, List, [], ◌∷◌, map, filter, length, get_or, refl, sym, ap, ◌∙◌, subst, arith, suc-add, zero-le, le_of_suc-le-suc, IsTrue, IsSortedBy, Ordering, Less, Equal, Greater, is_eq, is_lt, true≢false, ◌⊎◌, inl, inr, ◌↔◌, Contains}
+use Rattle.std.proofs.Common.{◌≡◌, ◌≢◌, ℕ, zero, suc, ◌<◌, Bool, ◌||◌, true, false, cond, List, [], ◌∷◌, map, filter, length, get_or, refl, sym, ap, ◌∙◌, subst, arith, suc-add, zero-le, le_of_suc-le-suc, IsTrue, IsSortedBy, Ordering, Less, Equal, Greater, is_eq, is_lt, true≢false, ◌⊎◌, inl, inr, ◌↔◌, Contains}
 use Rattle.std.specs.Cmp.{IsTotalOrder, on_total, tied_itself}
 use Rattle.std.specs.Cmp.Lexicographic.{slice_cmp, lists_total}
 use Rattle.std.specs.FinMap.Entries.{by_order}
@@ -11,17 +11,20 @@ use Rattle.std.proofs.lemmas.List.Sorted.{Contains-permutation, IsPermutation-ma
 use Rattle.std.proofs.lemmas.Map.Keys.{IsDistinct-IsPermutation, IsDistinct-head, IsDistinct-tail}
 use Rattle.eco_ids.specs.declared.entity.Entity.{Entity}
 use Rattle.eco_ids.specs.declared.id.Id.{Id}
-use Rattle.eco_ids.specs.Indices.{is_alive}
 use Rattle.eco_ids.specs.Layout.{Listed, IsLayout, is_distinct}
 use Rattle.eco_ids.specs.Order.{has_item, id_cmp, is_ascending, with_item}
-use Rattle.eco_ids.specs.World.{WorldState}
-use Rattle.eco_ids.proofs.Ascending.{ascending_with, with_present}
-use Rattle.eco_traits.specs.Same.{both, first, second, or_right, or_left, id_cmp_total, same_id}
+use Rattle.eco_ids.specs.World.{WorldState, is_alive}
+use Rattle.eco_ids.proofs.Ascending.{ascending_with, both, first, second, with_present}
+use Rattle.eco_ids.proofs.Facts.{or_right}
+use Rattle.eco_ids.proofs.IdOrder.{id_cmp_total, same_id}
 use Rattle.eco_world.specs.declared.table_rows.TableRows.{TableRows}
 use Rattle.eco_world.specs.Layouts.{IsByType, listed, listed_of}
-use Rattle.eco_world.specs.Retyped.{type_of}
+use Rattle.eco_world.specs.Removals.{type_of}
 
 -- ---- elements of a list
+
+pub or_left : (a b : Bool) → IsTrue a → IsTrue (a || b)
+or_left a b h = ap (λ c. c || b) h
 
 pub there : {X : Type 0} (y x : X) (xs : List X) → Contains xs x → Contains (y ∷ xs) x
 there y x xs p = (suc p.0, omega (arith, p.1), p.2)
@@ -86,7 +89,8 @@ below a b not_less apart = by (by_type a b) (by_type_total.antisymm b a) apart
     by Equal back e = absurd (true≢false e)
     by Greater back e = absurd (true≢false (sym (ap is_lt back) ∙ not_less))
 
-all_below : (a : TableRows) (ts : List TableRows) → ((k : ℕ) (d : TableRows) → k < length ts → is_lt (by_type (listed_of (get_or ts k d)) (listed_of a)) ≡ false)
+all_below : (a : TableRows) (ts : List TableRows) → ((k : ℕ) (d : TableRows) → k < length ts →
+    is_lt (by_type (listed_of (get_or ts k d)) (listed_of a)) ≡ false)
     → AllByRecursion (λ t. same_type (listed_of a) t ≡ false) (listed ts) → IsTrue (list_all (λ t. is_lt (by_type (listed_of a) t)) (listed ts))
 all_below a [] after apart = refl
 all_below a (t ∷ ts) after apart =
@@ -99,13 +103,16 @@ sorted_ascends : (ts : List TableRows) → IsSortedBy is_before ts → IsDistinc
 sorted_ascends [] sorted distinct = refl
 sorted_ascends (t ∷ ts) sorted distinct =
     both _ _
-    (all_below t ts (λ k d within. sorted_far is_before (ranks_by by_type_total listed_of) (t ∷ ts) sorted 0 (suc k) d (omega arith) (omega arith)) (IsDistinct-head same_type (listed_of t) (listed ts) distinct))
+    (all_below t ts (λ k d within. sorted_far is_before (ranks_by by_type_total listed_of) (t ∷ ts) sorted 0 (suc k) d (omega arith) (omega arith))
+    (IsDistinct-head same_type (listed_of t) (listed ts) distinct))
     (sorted_ascends ts (λ k d z within. rw suc-add at (sorted (suc k) d zero-le (omega arith))) (IsDistinct-tail same_type (listed_of t) (listed ts) distinct))
 
 -- what a sort by type leaves of tables of different types
-pub sorted_tables : (old new : List TableRows) → IsPermutation old new → IsByType new → IsDistinct same_type (listed old) → IsTrue (is_ascending by_type (listed new))
+pub sorted_tables : (old new : List TableRows) → IsPermutation old new → IsByType new → IsDistinct same_type (listed old) →
+    IsTrue (is_ascending by_type (listed new))
 sorted_tables old new moved sorted distinct =
-    sorted_ascends new sorted (IsDistinct-IsPermutation same_type same_type_flips (listed old) (listed new) (IsPermutation-map listed_of old new moved) distinct)
+    sorted_ascends new sorted
+    (IsDistinct-IsPermutation same_type same_type_flips (listed old) (listed new) (IsPermutation-map listed_of old new moved) distinct)
 
 -- ---- a table put in its place
 
@@ -137,7 +144,8 @@ module _ (x : Listed) where
   put_there : (ts : List Listed) → (t : Listed) × Contains (with_item by_type ts x) t × (t.ids ≡ x.ids)
   put_there [] = (x, here x [], refl)
   put_there (y ∷ ys) =
-      elim (by_type y x) as (λ r. by_type y x ≡ r → (t : Listed) × Contains (by_order r (y ∷ with_item by_type ys x) (y ∷ ys) (x ∷ y ∷ ys)) t × (t.ids ≡ x.ids)) [
+      elim (by_type y x) as (λ r. by_type y x ≡ r → (t : Listed) × Contains (by_order r (y ∷ with_item by_type ys x) (y ∷ ys) (x ∷ y ∷ ys)) t
+      × (t.ids ≡ x.ids)) [
         | Less ↦ λ e. let later = put_there ys in (later.0, there y later.0 (with_item by_type ys x) later.1, later.2)
         | Equal ↦ λ e. (y, here y ys, same_ids y.ids x.ids (ap is_eq e))
         | Greater ↦ λ e. (x, here x (y ∷ ys), refl)
@@ -176,7 +184,11 @@ grown_ascends ts (x ∷ xs) up = grown_ascends (with_item by_type ts x) xs (asce
 grown_cases : (ts xs : List Listed) (t : Listed) → Contains (grown ts xs) t → Contains ts t ⊎ Contains xs t
 grown_cases ts [] t p = inl p
 grown_cases ts (x ∷ xs) t p = elim (grown_cases (with_item by_type ts x) xs t p) as (λ _. Contains ts t ⊎ Contains (x ∷ xs) t) [
-  | inl c ↦ elim (put_cases x ts t c) as (λ _. Contains ts t ⊎ Contains (x ∷ xs) t) [ inl old ↦ inl old | inr e ↦ inr (subst (Contains (x ∷ xs)) e (here x xs)) ]
+  | inl c ↦ elim (put_cases x ts t c) as (λ _. Contains ts t ⊎ Contains (x ∷ xs) t) [
+    | inl old ↦ inl old
+    | inr e ↦
+        inr (subst (Contains (x ∷ xs)) e (here x xs))
+  ]
   | inr c ↦ inr (there x t xs c)
 ]
 
@@ -227,7 +239,8 @@ types_ascend : (ts : List Listed) → IsTrue (is_ascending by_type ts) → IsTru
 types_ascend [] up = refl
 types_ascend (t ∷ ts) up = both _ _ (lower ts (first _ _ up)) (types_ascend ts (second _ _ up))
   where
-    lower : (us : List Listed) → IsTrue (list_all (λ u. is_lt (by_type t u)) us) → IsTrue (list_all (λ ids. is_lt (slice_cmp id_cmp t.ids ids)) (map (λ u. u.ids) us))
+    lower : (us : List Listed) → IsTrue (list_all (λ u. is_lt (by_type t u)) us) →
+        IsTrue (list_all (λ ids. is_lt (slice_cmp id_cmp t.ids ids)) (map (λ u. u.ids) us))
     lower [] h = refl
     lower (u ∷ us) h = both _ _ (first _ _ h) (lower us (second _ _ h))
 

@@ -1,13 +1,11 @@
 pub mod Answering
 pub mod Asking
+pub mod Changes
+pub mod Extending
 pub mod Held
-pub mod Joined
 pub mod Layouts
-pub mod Making
-pub mod Nothing
+pub mod Removals
 pub mod Starting
 pub mod Steps
 pub mod Tabled
-pub mod Types
 pub mod Walk
-pub mod Removals

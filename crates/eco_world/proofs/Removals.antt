@@ -1,38 +1,38 @@
 -- An id goes from every entity that has it.
-use Rattle.std.proofs.Common.{◌≡◌, ◌≢◌, ℕ, zero, suc, ◌+◌, ◌-◌, ◌<◌, Bool, true, false, true≢false, cond, not, ◌||◌, T, List, [], ◌∷◌, map, fold, length, get_or, slice_get, Option, Some, None, option_map, unwrap_or, is_some, Ok, MatchBool, ◌↔◌, refl, sym, ap, ◌∙◌, subst, arith}
+use Rattle.std.proofs.Common.{◌≡◌, ◌≢◌, ℕ, zero, suc, ◌+◌, ◌-◌, ◌<◌, Bool, true, false, true≢false, cond, not, ◌||◌, List, [], ◌∷◌, map, fold, length, get_or, slice_get, Some, option_map, is_some, Ok, MatchBool, IsTrue, IsFalse, ◌↔◌, refl, sym, ap, ◌∙◌, subst, arith}
 use Rattle.std.specs.List.{All, Contains, list_any, range_with_len}
-use Rattle.std.specs.FinMap.Entries.{find, is_sorted, where_key}
+use Rattle.std.specs.FinMap.Entries.{find}
 use Rattle.std.proofs.lemmas.List.Elements.{All-head, All-tail}
 use Rattle.std.proofs.lemmas.List.{get_or-map, length-map}
 use Rattle.eco_ids.specs.declared.entity.Entity.{Entity}
 use Rattle.eco_ids.specs.declared.id.Id.{Id}
-use Rattle.eco_ids.specs.declared.refusal.Refusal.TheVariants.{Reserved}
+use Rattle.eco_ids.specs.Indices.{Indexed, IndexState, Retired, Free, Living, map_state, record_in}
 use Rattle.eco_ids.specs.Builtin.{is_builtins}
-use Rattle.eco_ids.specs.Indices.{Indexed, IndexState, Retired, Free, Living, map_state, record_of}
 use Rattle.eco_ids.specs.Lawful.{IsLawful}
+use Rattle.eco_ids.specs.Outcome.{Refuses}
+use Rattle.eco_ids.specs.Step.{Loses, RemovesAll}
+use Rattle.eco_ids.specs.declared.refusal.Refusal.TheVariants.{Reserved}
+use Rattle.eco_world.specs.Worlds.{world_of}
+use Rattle.eco_ids.specs.Losses.{keeping, without, nobody}
+use Rattle.eco_ids.proofs.Keeps.{entry_of, has_in}
+use Rattle.eco_ids.proofs.Losses.{keeps_all, without_from_all}
+use Rattle.eco_ids.proofs.States.{record_here}
+use Rattle.eco_ids.proofs.Facts.{id_eq_is, not_both}
 use Rattle.eco_ids.specs.Matching.{pattern_matches}
 use Rattle.eco_ids.specs.Order.{has_item, id_cmp, id_eq, without_item}
-use Rattle.eco_ids.specs.Outcome.{Answers, Refuses}
-use Rattle.eco_ids.specs.Step.{RemovesAll, without_id}
-use Rattle.eco_ids.specs.World.{Record, has}
+use Rattle.eco_ids.specs.World.{Record, WorldState, entities, with_entities, has, record_of}
 use Rattle.eco_query.specs.Queries.{exactly}
 use Rattle.eco_store.specs.declared.type_change.TypeChange.{TypeChange}
-use Rattle.eco_store.specs.Retyping.{after_change, after_changes, changed_kept, kept_ids, IsOneWay, IsTypeWith}
-use Rattle.eco_store.specs.Store.{Kept}
+use Rattle.eco_store.specs.Retyping.{after_change, after_changes, changed_record, IsOneWay, IsTypeWith}
+use Rattle.eco_store.specs.Store.{record_ids, with_type}
 use Rattle.eco_store.specs.TypeMap.{same_ids}
-use Rattle.eco_store.proofs.Ids.{same_ids-Decides}
-use Rattle.eco_store.proofs.Retyping.{other_type, own_type}
-use Rattle.eco_store.proofs.Views.{record_at}
 use Rattle.eco_tables.specs.Column.{retyped}
-use Rattle.eco_tables.proofs.RowIds.{ids_retyped}
-use Rattle.eco_traits.specs.Same.{id_eq_sym}
-use Rattle.eco_world.specs.Joined.{arity_at, joined, later, record_for, world_of}
-use Rattle.eco_world.specs.Removals.{TakesOut, TakesOutOfAll}
-use Rattle.eco_world.specs.Retyped.{type_of}
+use Rattle.eco_ids.proofs.Exact.{id_eq_sym}
+use Rattle.eco_world.specs.Removals.{TakesOut, TakesOutOfAll, type_of}
 use Rattle.eco_world.proofs.Answering.{matches_exactly}
-use Rattle.eco_world.proofs.Held.{find_keys, keys, retyped_without}
-use Rattle.eco_world.proofs.Joined.{record_joined}
-use Rattle.eco_world.proofs.Nothing.{all_kept}
+use Rattle.eco_world.proofs.Changes.{held_at, sorted_at}
+use Rattle.eco_world.proofs.Held.{Held, find_keys, keys, retyped_without}
+use Rattle.eco_ids.proofs.SameIds.{same_ids-Decides}
 
 -- ---- the built-ins
 
@@ -63,19 +63,30 @@ pub taken_one_way : (i : Id) (cs : List TypeChange) → All (TakesOut i) cs → 
 taken_one_way i cs each k c within j d inside same =
     true≢false (sym (each j d inside).there ∙ ap (λ ids. has_item id_cmp ids i) (sym same) ∙ lacks_to i (get_or cs k c) (each k c within))
 
--- ---- what is kept of an entity
+-- ---- one record
+
+ids_retyped : (ids : List Id) (held : Held) → keys (retyped ids held) ≡ ids
+ids_retyped [] held = refl
+ids_retyped (i ∷ ids) held = ap (λ xs. i ∷ xs) (ids_retyped ids held)
 
 -- after all changes
-abbrev pub all_changed : List TypeChange → Kept → Kept
-all_changed cs k = fold (λ x c. changed_kept c x) k cs
+abbrev pub all_changed : List TypeChange → Record → Record
+all_changed cs r = fold (λ x c. changed_record c x) r cs
+
+other_type : (c : TypeChange) (r : Record) → record_ids r ≢ c.from → changed_record c r ≡ r
+other_type c r apart = by (same_ids (record_ids r) c.from) refl
+  where
+    by : (b : Bool) → same_ids (record_ids r) c.from ≡ b → cond b (with_type c.to r) r ≡ r
+    by true same = absurd (apart ((same_ids-Decides (record_ids r) c.from).0 same))
+    by false same = refl
 
 -- who lacks the id
-pub lacking_kept : (i : Id) (cs : List TypeChange) (k : Kept) → All (TakesOut i) cs → has_item id_cmp (kept_ids k) i ≡ false → all_changed cs k ≡ k
-lacking_kept i [] k each lacks = refl
-lacking_kept i (c ∷ cs) k each lacks =
+lacking : (i : Id) (cs : List TypeChange) (r : Record) → All (TakesOut i) cs → has_item id_cmp (record_ids r) i ≡ false → all_changed cs r ≡ r
+lacking i [] r each lacks = refl
+lacking i (c ∷ cs) r each lacks =
     let here = All-head (TakesOut i) c cs each in
-    let other : kept_ids k ≢ c.from = λ same. true≢false (sym here.there ∙ ap (λ ids. has_item id_cmp ids i) (sym same) ∙ lacks) in
-    ap (all_changed cs) (other_type c k other) ∙ lacking_kept i cs k (All-tail (TakesOut i) c cs each) lacks
+    let other : record_ids r ≢ c.from = λ same. true≢false (sym here.there ∙ ap (λ ids. has_item id_cmp ids i) (sym same) ∙ lacks) in
+    ap (all_changed cs) (other_type c r other) ∙ lacking i cs r (All-tail (TakesOut i) c cs each) lacks
 
 contains_rest : {X : Type 0} (x y : X) (xs : List X) → y ≢ x → Contains (y ∷ xs) x → Contains xs x
 contains_rest x y xs apart c = by c.0 c.1 c.2
@@ -85,95 +96,102 @@ contains_rest x y xs apart c = by c.0 c.1 c.2
     by (suc k) within at = (k, omega arith, at)
 
 -- who has it
-pub having_kept : (i : Id) (cs : List TypeChange) (k : Kept) → All (TakesOut i) cs → Contains (map (λ (c : TypeChange). c.from) cs) (kept_ids k)
-    → all_changed cs k ≡ record k { held = retyped (without_item id_cmp (kept_ids k) i) k.held }
-having_kept i [] k each among = absurd (omega (arith, among.1))
-having_kept i (c ∷ cs) k each among =
-    by (same_ids (kept_ids k) c.from) refl (λ other. having_kept i cs k (All-tail (TakesOut i) c cs each) (contains_rest (kept_ids k) c.from (map (λ (x : TypeChange). x.from) cs) other among))
+having : (i : Id) (cs : List TypeChange) (r : Record) → All (TakesOut i) cs → Contains (map (λ (c : TypeChange). c.from) cs) (record_ids r) →
+    all_changed cs r ≡ with_type (without_item id_cmp (record_ids r) i) r
+having i [] r each among = absurd (omega (arith, among.1))
+having i (c ∷ cs) r each among =
+    by (same_ids (record_ids r) c.from) refl
+    (λ other. having i cs r (All-tail (TakesOut i) c cs each) (contains_rest (record_ids r) c.from (map (λ (x : TypeChange). x.from) cs) other among))
   where
-    by : (b : Bool) → same_ids (kept_ids k) c.from ≡ b → (c.from ≢ kept_ids k → all_changed cs k ≡ record k { held = retyped (without_item id_cmp (kept_ids k) i) k.held })
-        → all_changed (c ∷ cs) k ≡ record k { held = retyped (without_item id_cmp (kept_ids k) i) k.held }
+    by : (b : Bool) → same_ids (record_ids r) c.from ≡ b → (c.from ≢ record_ids r → all_changed cs r ≡ with_type (without_item id_cmp (record_ids r) i) r)
+        → all_changed (c ∷ cs) r ≡ with_type (without_item id_cmp (record_ids r) i) r
     by true is later =
         let here = All-head (TakesOut i) c cs each in
-        let same : kept_ids k ≡ c.from = (same_ids-Decides (kept_ids k) c.from).0 is in
-        let new : Kept = record k { held = retyped c.to k.held } in
-        let lacks : has_item id_cmp (kept_ids new) i ≡ false = ap (λ ids. has_item id_cmp ids i) (ids_retyped c.to k.held) ∙ lacks_to i c here in
-        ap (all_changed cs) (own_type c k same) ∙ lacking_kept i cs new (All-tail (TakesOut i) c cs each) lacks
-        ∙ ap (λ ids. record k { held = retyped ids k.held }) (here.taken ∙ ap (λ ids. without_item id_cmp ids i) (sym same))
+        let same : record_ids r ≡ c.from = (same_ids-Decides (record_ids r) c.from).0 is in
+        let lacks : has_item id_cmp (record_ids (with_type c.to r)) i ≡ false = ap (λ ids. has_item id_cmp ids i) (ids_retyped c.to r.held)
+        ∙ lacks_to i c here in
+        ap (λ b. all_changed cs (cond b (with_type c.to r) r)) is ∙ lacking i cs (with_type c.to r) (All-tail (TakesOut i) c cs each) lacks
+        ∙ ap (λ ids. with_type ids r) (here.taken ∙ ap (λ ids. without_item id_cmp ids i) (sym same))
     by false is later =
-        let other : kept_ids k ≢ c.from = λ same. true≢false (sym ((same_ids-Decides (kept_ids k) c.from).1 same) ∙ is) in
-        ap (all_changed cs) (other_type c k other) ∙ later (λ e. other (sym e))
+        let other : record_ids r ≢ c.from = λ same. true≢false (sym ((same_ids-Decides (record_ids r) c.from).1 same) ∙ is) in
+        ap (all_changed cs) (other_type c r other) ∙ later (λ e. other (sym e))
 
 -- ---- all of them
 
-states_twice : (f g : Kept → Kept) (xs : List (IndexState Kept)) → map (map_state g) (map (map_state f) xs) ≡ map (map_state (λ k. g (f k))) xs
+states_twice : (f g : Record → Record) (xs : List (IndexState Record)) → map (map_state g) (map (map_state f) xs) ≡ map (map_state (λ r. g (f r))) xs
 states_twice f g [] = refl
 states_twice f g (Retired ∷ xs) = ap (λ ys. Retired ∷ ys) (states_twice f g xs)
 states_twice f g (Free n ∷ xs) = ap (λ ys. Free n ∷ ys) (states_twice f g xs)
-states_twice f g (Living n k ∷ xs) = ap (λ ys. Living n (g (f k)) ∷ ys) (states_twice f g xs)
+states_twice f g (Living n r ∷ xs) = ap (λ ys. Living n (g (f r)) ∷ ys) (states_twice f g xs)
 
-states_same : (xs : List (IndexState Kept)) → map (map_state (λ k. k)) xs ≡ xs
+-- what is done alike to each living entity's record
+states_alike : (f g : Record → Record) (xs : List (IndexState Record)) → ((j n : ℕ) (r : Record) → slice_get xs j ≡ Some (Living n r) → f r ≡ g r) →
+    map (map_state f) xs ≡ map (map_state g) xs
+states_alike f g [] alike = refl
+states_alike f g (Retired ∷ xs) alike = ap (λ ys. Retired ∷ ys) (states_alike f g xs (λ j. alike (suc j)))
+states_alike f g (Free n ∷ xs) alike = ap (λ ys. Free n ∷ ys) (states_alike f g xs (λ j. alike (suc j)))
+states_alike f g (Living n r ∷ xs) alike = let here = alike 0 n r refl in let rest = states_alike f g xs (λ j. alike (suc j)) in λ t. Living n (here t) ∷ rest t
+
+states_same : (xs : List (IndexState Record)) → xs ≡ map (map_state (λ r. r)) xs
 states_same [] = refl
 states_same (Retired ∷ xs) = ap (λ ys. Retired ∷ ys) (states_same xs)
 states_same (Free n ∷ xs) = ap (λ ys. Free n ∷ ys) (states_same xs)
-states_same (Living n k ∷ xs) = ap (λ ys. Living n k ∷ ys) (states_same xs)
+states_same (Living n r ∷ xs) = ap (λ ys. Living n r ∷ ys) (states_same xs)
 
 -- changes after changes, entity by entity
-changes_are : (w : Indexed Kept) (cs : List TypeChange) → after_changes w cs ≡ record w { indices = map (map_state (all_changed cs)) w.indices }
-changes_are w [] = ap (λ xs. record w { indices = xs }) (sym (states_same w.indices))
-changes_are w (c ∷ cs) =
-    changes_are (after_change w c) cs ∙ ap (λ xs. record w { indices = xs }) (states_twice (changed_kept c) (all_changed cs) w.indices)
+changes_are : (v : Indexed Record) (cs : List TypeChange) → after_changes v cs ≡ record v { indices = map (map_state (all_changed cs)) v.indices }
+changes_are v [] = ap (λ xs. record v { indices = xs }) (states_same v.indices)
+changes_are v (c ∷ cs) = changes_are (after_change v c) cs ∙ ap (λ xs. record v { indices = xs }) (states_twice (changed_record c) (all_changed cs) v.indices)
 
--- what is done to each living entity's record
-joined_alike : (f : Kept → Kept) (g : Record → Record) (xs : List (IndexState Kept)) (arities : List (Option ℕ))
-    → ((j n : ℕ) (k : Kept) (arity : Option ℕ) → slice_get xs j ≡ Some (Living n k) → record_for arity (f k) ≡ g (record_for arity k))
-    → joined (map (map_state f) xs) arities ≡ map (map_state g) (joined xs arities)
-joined_alike f g [] arities alike = refl
-joined_alike f g (Retired ∷ xs) arities alike = ap (λ ys. Retired ∷ ys) (joined_alike f g xs (later arities) (λ j. alike (suc j)))
-joined_alike f g (Free n ∷ xs) arities alike = ap (λ ys. Free n ∷ ys) (joined_alike f g xs (later arities) (λ j. alike (suc j)))
-joined_alike f g (Living n k ∷ xs) arities alike =
-    let here = alike 0 n k (arity_at arities 0) refl in
-    let rest = joined_alike f g xs (later arities) (λ j. alike (suc j)) in
-    λ t. Living n (here t) ∷ rest t
+module _ (w : WorldState) (i : Id) (lawful : IsLawful w) where
+  record_there : (j n : ℕ) (r : Record) → slice_get w.indices j ≡ Some (Living n r) → record_of w (record { index = j; generation = n }) ≡ Some r
+  record_there j n r at = ap (λ o. record_in o n) at ∙ record_here n r
 
-module _ (w : Indexed Kept) (arities : List (Option ℕ)) (i : Id) (cs : List TypeChange) (lawful : IsLawful (world_of w arities)) (takes : TakesOutOfAll (world_of w arities) i cs) where
-  -- of each living entity the id goes
-  one_without : (e : Entity) (k : Kept) → record_of w e ≡ Some k → all_changed cs k ≡ record k { held = where_key id_cmp (λ j. not (id_eq j i)) k.held }
-  one_without e k at =
-      let own : record_of (world_of w arities) e ≡ Some (record_for (arity_at arities e.index) k) = record_joined w arities e ∙ ap (option_map (record_for (arity_at arities e.index))) at in
-      let ids : type_of (world_of w arities) e ≡ kept_ids k = ap (λ o. keys (unwrap_or (option_map (λ (r : Record). r.held) o) [])) own in
-      let has_is : has (world_of w arities) e i ≡ is_some (find id_cmp i k.held) = ap (λ o. is_some (find id_cmp i (unwrap_or (option_map (λ (r : Record). r.held) o) []))) own in
-      let up : T (is_sorted id_cmp k.held) = (lawful.records e (record_for (arity_at arities e.index) k) own).ascending in
-      by ids has_is up (is_some (find id_cmp i k.held)) refl
+  -- what is done to each living entity's record
+  pub without_alike : (f : Record → Record) → ((e : Entity) (r : Record) → record_of w e ≡ Some r → f r ≡ keeping (λ j. id_eq j i) r) →
+      record w { indices = map (map_state f) w.indices } ≡ without w nobody (λ x j. id_eq j i)
+  without_alike f alike =
+      ap (λ xs. record w { indices = xs })
+      (states_alike f (keeping (λ j. id_eq j i)) w.indices (λ j n r at. alike (record { index = j; generation = n }) r (record_there j n r at)))
+      ∙ sym (without_from_all w (λ j. id_eq j i))
+
+  lost : (e : Entity) (r : Record) → record_of w e ≡ Some r → is_some (find id_cmp i r.held) ≡ false → r ≡ keeping (λ j. id_eq j i) r
+  lost e r at absent = sym (keeps_all (λ j. id_eq j i) r (λ j there. by j there (id_eq j i) refl))
     where
-      by : type_of (world_of w arities) e ≡ kept_ids k → has (world_of w arities) e i ≡ is_some (find id_cmp i k.held) → T (is_sorted id_cmp k.held) → (b : Bool) → is_some (find id_cmp i k.held) ≡ b
-          → all_changed cs k ≡ record k { held = where_key id_cmp (λ j. not (id_eq j i)) k.held }
-      by ids has_is up true there =
-          having_kept i cs k takes.each (subst (Contains (map (λ (c : TypeChange). c.from) cs)) ids (takes.all e (has_is ∙ there)))
-          ∙ ap (λ held. record k { held = held }) (retyped_without k.held i up)
-      by ids has_is up false absent =
-          lacking_kept i cs k takes.each (sym (find_keys k.held i) ∙ absent)
-          ∙ ap (λ held. record k { held = held }) (sym (all_kept i k.held absent))
+      by : (j : Id) → IsTrue (is_some (find id_cmp j r.held)) → (b : Bool) → id_eq j i ≡ b → IsFalse b
+      by j there true is = absurd (not_both (subst (λ k. IsTrue (is_some (find id_cmp k r.held))) (id_eq_is j i is) there) absent)
+      by j there false is = refl
 
-  -- the world after the changes is the one without the id
-  pub all_without : world_of (after_changes w cs) arities ≡ record (world_of w arities) { indices = map (map_state (without_id i)) (world_of w arities).indices }
-  all_without =
-      ap (λ v. world_of v arities) (changes_are w cs)
-      ∙ ap (λ xs. record (world_of w arities) { indices = xs })
-      (joined_alike (all_changed cs) (without_id i) w.indices arities
-      (λ j n k arity at.
-      let e : Entity = record { index = j; generation = n } in
-      ap (record_for arity) (one_without e k (record_at w e k at))))
+  -- where nobody has the id nothing goes
+  pub nobody_loses : ((e : Entity) → has w e i ≡ false) → w ≡ without w nobody (λ x j. id_eq j i)
+  nobody_loses none = ap (λ xs. record w { indices = xs }) (states_same w.indices)
+      ∙ without_alike (λ r. r) (λ e r at. lost e r at (ap (λ o. has_in o i) (sym at) ∙ none e))
 
-  -- the step is done
-  pub removed_all : (new : Indexed Kept) → new ≡ after_changes w cs → is_builtins (world_of w arities) i ≡ false → RemovesAll (world_of w arities) i (Ok tt) (world_of new arities)
-  removed_all new is ordinary =
-      let old = world_of w arities in
-      subst
-      (λ b.
-      MatchBool b (Refuses {A = Unit {0}} Reserved old (Ok tt) (world_of new arities))
-      (Answers tt (record old { indices = map (map_state (without_id i)) old.indices }) (Ok tt) (world_of new arities)))
-      (sym ordinary) (refl, ap (λ v. world_of v arities) is ∙ all_without)
+  module _ (cs : List TypeChange) (takes : TakesOutOfAll w i cs) where
+    -- of each living entity the id goes
+    one_without : (e : Entity) (r : Record) → record_of w e ≡ Some r → all_changed cs r ≡ keeping (λ j. id_eq j i) r
+    one_without e r at = by (has w e i) refl
+      where
+        there_is : is_some (find id_cmp i r.held) ≡ has w e i
+        there_is = ap (λ o. has_in o i) (sym at)
+
+        by : (b : Bool) → has w e i ≡ b → all_changed cs r ≡ keeping (λ j. id_eq j i) r
+        by true there =
+            having i cs r takes.each (subst (Contains (map (λ (c : TypeChange). c.from) cs)) (ap keys (held_at w e r at)) (takes.all e there))
+            ∙ ap (λ held. record r { held = held }) (retyped_without r.held i (sorted_at w e lawful r at))
+        by false absent = lacking i cs r takes.each (sym (find_keys r.held i) ∙ there_is ∙ absent) ∙ lost e r at (there_is ∙ absent)
+
+    -- the world after the changes is the one without the id
+    pub all_without : with_entities w (after_changes (entities w) cs) ≡ without w nobody (λ x j. id_eq j i)
+    all_without = ap (with_entities w) (changes_are (entities w) cs) ∙ without_alike (all_changed cs) one_without
+
+-- the step is done
+pub removed_all : (v new : Indexed Record) (i : Id) (cs : List TypeChange) → IsLawful (world_of v) → TakesOutOfAll (world_of v) i cs →
+    new ≡ after_changes v cs → is_builtins (world_of v) i ≡ false → RemovesAll (world_of v) i (Ok tt) (world_of new)
+removed_all v new i cs lawful takes is ordinary =
+    subst (λ b. MatchBool b (Refuses {A = Unit {0}} Reserved (world_of v) (Ok tt) (world_of new))
+    (Loses (world_of v) (λ x j. id_eq j i) (Ok tt) (world_of new))) (sym ordinary)
+    (refl, ap world_of is ∙ all_without (world_of v) i lawful cs takes)
 
 -- ---- the changes that are found
 
@@ -181,8 +199,8 @@ exact_ids : (i : Id) (ids : List Id) → list_any (pattern_matches (exactly i)) 
 exact_ids i [] = refl
 exact_ids i (j ∷ ids) = λ t. (matches_exactly i j ∙ id_eq_sym i j) t || exact_ids i ids t
 
-module _ (w : Indexed Kept) (arities : List (Option ℕ)) (i : Id) (types : List (List Id)) (cs : List TypeChange)
-    (listed : (ids : List Id) → Contains types ids ↔ IsTypeWith w (exactly i) ids) (froms : map (λ (c : TypeChange). c.from) cs ≡ types)
+module _ (w : WorldState) (i : Id) (types : List (List Id)) (cs : List TypeChange)
+    (listed : (ids : List Id) → Contains types ids ↔ IsTypeWith (entities w) (exactly i) ids) (froms : map (λ (c : TypeChange). c.from) cs ≡ types)
     (taken : All (λ (c : TypeChange). c.to ≡ without_item id_cmp c.from i) cs) where
   each_out : All (TakesOut i) cs
   each_out k d within =
@@ -191,21 +209,14 @@ module _ (w : Indexed Kept) (arities : List (Option ℕ)) (i : Id) (types : List
       let at : get_or types k c.from ≡ c.from = ap (λ xs. get_or xs k c.from) (sym froms) ∙ get_or-map (λ (x : TypeChange). x.from) cs k d c.from within in
       record { there = sym (exact_ids i c.from) ∙ ((listed c.from).0 (k, inside, at)).0; taken = taken k d within }
 
-  every_type : (e : Entity) → has (world_of w arities) e i ≡ true → Contains (map (λ (c : TypeChange). c.from) cs) (type_of (world_of w arities) e)
-  every_type e there = by (record_of w e) refl
-    where
-      by : (o : Option Kept) → record_of w e ≡ o → Contains (map (λ (c : TypeChange). c.from) cs) (type_of (world_of w arities) e)
-      by None at =
-          let nothing : record_of (world_of w arities) e ≡ None = record_joined w arities e ∙ ap (option_map (record_for (arity_at arities e.index))) at in
-          absurd (true≢false (sym there ∙ ap (λ o. is_some (find id_cmp i (unwrap_or (option_map (λ (r : Record). r.held) o) []))) nothing))
-      by (Some k) at =
-          let own : record_of (world_of w arities) e ≡ Some (record_for (arity_at arities e.index) k) = record_joined w arities e ∙ ap (option_map (record_for (arity_at arities e.index))) at in
-          let ids : type_of (world_of w arities) e ≡ kept_ids k = ap (λ o. keys (unwrap_or (option_map (λ (r : Record). r.held) o) [])) own in
-          let has_is : has (world_of w arities) e i ≡ is_some (find id_cmp i k.held) = ap (λ o. is_some (find id_cmp i (unwrap_or (option_map (λ (r : Record). r.held) o) []))) own in
-          let matches : list_any (pattern_matches (exactly i)) (kept_ids k) ≡ true = exact_ids i (kept_ids k) ∙ sym (find_keys k.held i) ∙ sym has_is ∙ there in
-          subst (Contains (map (λ (c : TypeChange). c.from) cs)) (sym ids)
-          (subst (λ xs. Contains xs (kept_ids k)) (sym froms) ((listed (kept_ids k)).1 (matches, e, ap (option_map (λ (x : Kept). kept_ids x)) at)))
+  every_type : (e : Entity) → has w e i ≡ true → Contains (map (λ (c : TypeChange). c.from) cs) (type_of w e)
+  every_type e there =
+      let own = entry_of (record_of w e) i there in
+      let r = own.0 in
+      let matches : list_any (pattern_matches (exactly i)) (record_ids r) ≡ true = exact_ids i (record_ids r) ∙ sym (find_keys r.held i) ∙ ap is_some own.3 in
+      subst (Contains (map (λ (c : TypeChange). c.from) cs)) (sym (ap keys (held_at w e r own.2)))
+      (subst (λ xs. Contains xs (record_ids r)) (sym froms) ((listed (record_ids r)).1 (matches, e, ap (option_map record_ids) own.2)))
 
   -- the id goes from every type that has it
-  pub taken_out_of_all : TakesOutOfAll (world_of w arities) i cs
+  pub taken_out_of_all : TakesOutOfAll w i cs
   taken_out_of_all = record { each = each_out; all = every_type }

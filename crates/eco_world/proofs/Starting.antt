@@ -1,24 +1,28 @@
 -- The built-ins are made one by one, and nothing but memory stands against that.
-use Rattle.std.proofs.Common.{◌≡◌, ℕ, zero, suc, ◌+◌, ◌<◌, ◌≤◌, Bool, cond, List, [], ◌∷◌, ◌++◌, length, Option, Some, None, Ok, Err, Result, MatchOption, nat_lt, refl, sym, ap, ◌∙◌, subst, arith, lt-ltb, le-ltb, add-one}
+use Rattle.std.proofs.Common.{◌≡◌, ℕ, zero, suc, ◌+◌, ◌<◌, ◌≤◌, Bool, cond, List, [], ◌∷◌, ◌++◌, length, take, Option, Some, None, Ok, Err, Result, MatchOption, nat_lt, refl, sym, ap, ◌∙◌, subst, arith, lt-ltb, le-ltb, add-one}
 use Rattle.std.specs.Option.{option_or}
 use Rattle.eco_ids.specs.declared.entity.Entity.{Entity}
 use Rattle.eco_ids.specs.declared.id.Id.{Id}
 use Rattle.eco_ids.specs.declared.refusal.Refusal.{Refusal}
 use Rattle.eco_ids.specs.declared.refusal.Refusal.TheVariants.{OutOfMemory, NoMoreIds}
 use Rattle.eco_ids.specs.Births.{Makes, unfit_name}
-use Rattle.eco_ids.specs.Indices.{Indexed, Living, lowest_free, next_entity, with_new, with_record}
+use Rattle.eco_ids.specs.Indices.{Indexed, IndexState, Living, with_record, lowest_free, next_entity, with_new}
 use Rattle.eco_ids.specs.Outcome.{Meets, Answers, Refuses}
-use Rattle.eco_ids.specs.World.{first_world}
-use Rattle.eco_world.specs.Builtins.{builtins_below, store_of_builtins, builtin_name, builtin_type}
-use Rattle.eco_world.specs.Joined.{world_of}
-use Rattle.eco_store.specs.Store.{Kept, kept_name, newborn}
+use Rattle.eco_ids.specs.World.{Record, builtin_states}
+use Rattle.eco_ids.specs.declared.edition.Edition.TheVariants.{First}
+use Rattle.eco_world.specs.Builtins.{first_entities, builtin_name, builtin_type}
+use Rattle.eco_store.specs.Store.{record_name, newborn}
+
+-- the states of the first built-ins
+abbrev builtins_below : ℕ → List (IndexState Record)
+builtins_below n = take n (builtin_states First)
 
 -- what is so of the first built-ins, when the next one comes
 record IsNext (limit k : ℕ) (name : Option (List ℕ)) (ids : List Id) : Type 0 where
-  fit : unfit_name kept_name (store_of_builtins limit k) name ≡ None
+  fit : unfit_name record_name (first_entities limit k) name ≡ None
   none_free : lowest_free 0 (builtins_below k) ≡ None
   count : length (builtins_below k) ≡ k
-  more : builtins_below k ++ Living 0 (newborn name ids) ∷ [] ≡ builtins_below (suc k)
+  more : builtins_below k ++ Living 0 (newborn name None ids) ∷ [] ≡ builtins_below (suc k)
 
 is_next : (limit k : ℕ) → k < 9 → IsNext limit k (builtin_name k) (builtin_type k)
 is_next limit zero l = record { fit = refl; none_free = refl; count = refl; more = refl }
@@ -35,38 +39,45 @@ is_next limit (suc (suc (suc (suc (suc (suc (suc (suc (suc k))))))))) l = absurd
 not_done : (why : Refusal) (e : Entity) → Err why ≡ Ok e → ⊥
 not_done why e h = cc
 
-module _ (limit k : ℕ) (name : Option (List ℕ)) (ids : List Id) (enough : 9 ≤ limit) (within : k < 9) (is : name ≡ builtin_name k) (typed : ids ≡ builtin_type k) where
+module _ (limit k : ℕ) (name : Option (List ℕ)) (ids : List Id) (enough : 9 ≤ limit) (within : k < 9) (is : name ≡ builtin_name k)
+    (typed : ids ≡ builtin_type k) where
   next : IsNext limit k name ids
   next = subst (λ n. IsNext limit k n ids) (sym is) (subst (IsNext limit k (builtin_name k)) (sym typed) (is_next limit k within))
 
-  who : next_entity (store_of_builtins limit k) ≡ Some (record { index = k; generation = 0 })
+  who : next_entity (first_entities limit k) ≡ Some (record { index = k; generation = 0 })
   who =
-      ap (λ o. option_or o (cond (nat_lt (length (builtins_below k)) limit) (Some (record { index = length (builtins_below k); generation = 0 })) None)) next.none_free
+      ap (λ o. option_or o (cond (nat_lt (length (builtins_below k)) limit)
+      (Some (record { index = length (builtins_below k); generation = 0 })) None)) next.none_free
       ∙ ap (λ n. cond (nat_lt n limit) (Some (record { index = n; generation = 0 })) None) next.count
       ∙ ap (λ b. cond b (Some (record { index = k; generation = 0 })) None) (lt-ltb k limit (omega arith))
 
-  after : with_new (store_of_builtins limit k) (record { index = k; generation = 0 }) (newborn name ids) ≡ store_of_builtins limit (k + 1)
+  after : with_new (first_entities limit k) (record { index = k; generation = 0 }) (newborn name None ids) ≡ first_entities limit (k + 1)
   after =
-      ap (λ n. cond (nat_lt k n) (with_record (store_of_builtins limit k) (record { index = k; generation = 0 }) (newborn name ids)) (record { limit = limit; indices = builtins_below k ++ Living 0 (newborn name ids) ∷ [] })) next.count
-      ∙ ap (λ b. cond b (with_record (store_of_builtins limit k) (record { index = k; generation = 0 }) (newborn name ids)) (record { limit = limit; indices = builtins_below k ++ Living 0 (newborn name ids) ∷ [] })) (le-ltb k k (omega arith))
+      ap (λ n. cond (nat_lt k n) (with_record (first_entities limit k) (record { index = k; generation = 0 }) (newborn name None ids))
+      (record { limit = limit; indices = builtins_below k ++ Living 0 (newborn name None ids) ∷ [] })) next.count
+      ∙ ap (λ b. cond b (with_record (first_entities limit k) (record { index = k; generation = 0 }) (newborn name None ids))
+      (record { limit = limit; indices = builtins_below k ++ Living 0 (newborn name None ids) ∷ [] })) (le-ltb k k (omega arith))
       ∙ ap (λ xs. record { limit = limit; indices = xs }) next.more
-      ∙ ap (store_of_builtins limit) (sym (add-one k))
+      ∙ ap (first_entities limit) (sym (add-one k))
 
-  made : (r : Result Entity Refusal) (new : Indexed Kept) → Makes kept_name (store_of_builtins limit k) (newborn name ids) r new → (r ≡ Ok (record { index = k; generation = 0 })) × (new ≡ store_of_builtins limit (k + 1))
+  made : (r : Result Entity Refusal) (new : Indexed Record) → Makes record_name (first_entities limit k) (newborn name None ids) r new →
+      (r ≡ Ok (record { index = k; generation = 0 })) × (new ≡ first_entities limit (k + 1))
   made r new makes =
-      let one = subst (λ o. MatchOption o (MatchOption (next_entity (store_of_builtins limit k)) (Refuses NoMoreIds (store_of_builtins limit k) r new) (λ e. Answers e (with_new (store_of_builtins limit k) e (newborn name ids)) r new)) (λ why. Refuses why (store_of_builtins limit k) r new)) next.fit makes in
-      let two = subst (λ o. MatchOption o (Refuses NoMoreIds (store_of_builtins limit k) r new) (λ e. Answers e (with_new (store_of_builtins limit k) e (newborn name ids)) r new)) who one in
+      let one = subst (λ o. MatchOption o
+      (MatchOption (next_entity (first_entities limit k)) (Refuses NoMoreIds (first_entities limit k) r new)
+      (λ e. Answers e (with_new (first_entities limit k) e (newborn name None ids)) r new))
+      (λ why. Refuses why (first_entities limit k) r new)) next.fit makes in
+      let two = subst (λ o. MatchOption o (Refuses NoMoreIds (first_entities limit k) r new)
+      (λ e. Answers e (with_new (first_entities limit k) e (newborn name None ids)) r new)) who one in
       (two.0, two.1 ∙ after)
 
   -- the next built-in is there
-  pub builtin_made : (e : Entity) (new : Indexed Kept) (may : Bool) → Meets (Makes kept_name (store_of_builtins limit k) (newborn name ids)) may (store_of_builtins limit k) (Ok e) new → new ≡ store_of_builtins limit (k + 1)
+  pub builtin_made : (e : Entity) (new : Indexed Record) (may : Bool) → Meets (Makes record_name (first_entities limit k) (newborn name None ids)) may
+      (first_entities limit k) (Ok e) new → new ≡ first_entities limit (k + 1)
   builtin_made e new may m = (made (Ok e) new m).1
 
   -- or memory was wanting
-  pub builtin_refused : (why : Refusal) (new : Indexed Kept) (may : Bool) → Meets (Makes kept_name (store_of_builtins limit k) (newborn name ids)) may (store_of_builtins limit k) (Err why) new → why ≡ OutOfMemory
+  pub builtin_refused : (why : Refusal) (new : Indexed Record) (may : Bool) →
+      Meets (Makes record_name (first_entities limit k) (newborn name None ids)) may (first_entities limit k) (Err why) new → why ≡ OutOfMemory
   builtin_refused OutOfMemory new may m = refl
   builtin_refused why new may m = absurd (not_done why (record { index = k; generation = 0 }) (made (Err why) new m).0)
-
--- the first world
-pub first_view : (limit : ℕ) (w : Indexed Kept) (arities : List (Option ℕ)) → w ≡ store_of_builtins limit 9 → arities ≡ [] → world_of w arities ≡ first_world limit
-first_view limit w arities made none = ap (λ x. world_of x arities) made ∙ ap (λ xs. world_of (store_of_builtins limit 9) xs) none

@@ -3,10 +3,10 @@ use Rattle.std.proofs.Common.{◌≡◌, ◌≢◌, ℕ, zero, suc, ◌+◌, ◌
 use Rattle.std.specs.List.{All, AllByRecursion, IsDistinct, list_any}
 use Rattle.std.proofs.lemmas.Bool.Decides.{nat_tests, Decides-eqb}
 use Rattle.std.proofs.lemmas.Option.{none-some, same_Some, slice_get_within}
+use Rattle.eco_ids.specs.World.{WorldState, entities, is_alive, record_of}
 use Rattle.eco_ids.specs.declared.entity.Entity.{Entity}
 use Rattle.eco_ids.specs.declared.id.Id.{Id}
 use Rattle.eco_ids.specs.declared.pattern.Pattern.{Pattern}
-use Rattle.eco_ids.specs.Indices.{Indexed, is_alive, record_of}
 use Rattle.eco_ids.specs.Layout.{Listed, is_distinct}
 use Rattle.eco_ids.specs.Matching.{pattern_matches}
 use Rattle.eco_ids.specs.Order.{entity_cmp, has_item}
@@ -14,13 +14,14 @@ use Rattle.eco_tables.specs.Table.{TableState, Row, HasIds, entities_of}
 use Rattle.eco_tables.specs.Tables.{no_row, no_table, slot_of, table_in}
 use Rattle.eco_store.specs.Archetypes.{is_found, type_at}
 use Rattle.eco_store.specs.Seats.{row_at}
-use Rattle.eco_store.specs.Store.{IsShown, Kept, Stands}
-use Rattle.eco_traits.specs.Same.{both, first, second, entity_eq_is, or_parts, or_left, or_right}
-use Rattle.eco_world.specs.Joined.{world_of}
+use Rattle.eco_store.specs.Store.{IsShown, Stands}
+use Rattle.eco_ids.proofs.Ascending.{both, first, second}
+use Rattle.eco_ids.proofs.Facts.{or_parts, or_right}
+use Rattle.eco_ids.proofs.Overlaps.{entity_eq_is}
+use Rattle.eco_ids.specs.World.{Record}
 use Rattle.eco_world.specs.Layouts.{HasTable, shown_at, shown_of}
-use Rattle.eco_world.specs.Retyped.{type_of}
-use Rattle.eco_world.proofs.Joined.{alive_joined, held_joined}
-use Rattle.eco_world.proofs.Layouts.{Covers, IsTable, all_of, element_cases, here, no_element, same_ids, same_type, there}
+use Rattle.eco_world.specs.Removals.{type_of}
+use Rattle.eco_world.proofs.Layouts.{or_left, Covers, IsTable, all_of, element_cases, here, no_element, same_ids, same_type, there}
 use Rattle.slab.specs.Slab.{entries_from}
 
 itself : (n : ℕ) → nat_eq n n ≡ true
@@ -30,10 +31,11 @@ itself n = (Decides-eqb n n).1 refl
 
 row_of : (rows : List Row) (e : Entity) → Contains (entities_of rows) e → (k : ℕ) × (r : Row) × (slice_get rows k ≡ Some r) × (r.entity ≡ e)
 row_of [] e p = absurd (no_element e p)
-row_of (r ∷ rows) e p = elim (element_cases r.entity e (entities_of rows) p) as (λ _. (k : ℕ) × (x : Row) × (slice_get (r ∷ rows) k ≡ Some x) × (x.entity ≡ e)) [
-  | inl same ↦ (0, r, refl, same)
-  | inr c ↦ let later = row_of rows e c in (suc later.0, later.1, later.2, later.3)
-]
+row_of (r ∷ rows) e p = elim (element_cases r.entity e (entities_of rows) p) as (λ _. (k : ℕ) × (x : Row) × (slice_get (r ∷ rows) k ≡ Some x)
+    × (x.entity ≡ e)) [
+      | inl same ↦ (0, r, refl, same)
+      | inr c ↦ let later = row_of rows e c in (suc later.0, later.1, later.2, later.3)
+    ]
 
 entity_in_row : (rows : List Row) (k : ℕ) (r : Row) → slice_get rows k ≡ Some r → Contains (entities_of rows) r.entity
 entity_in_row [] k r at = absurd (none-some r at)
@@ -42,15 +44,18 @@ entity_in_row (x ∷ rows) (suc k) r at = there x.entity r.entity (entities_of r
 
 has_row : (rows : List Row) (e : Entity) → has_item entity_cmp (entities_of rows) e ≡ true → Contains (entities_of rows) e
 has_row [] e h = absurd (true≢false (sym h))
-has_row (r ∷ rows) e h = elim (or_parts (is_eq (entity_cmp r.entity e)) (has_item entity_cmp (entities_of rows) e) h) as (λ _. Contains (entities_of (r ∷ rows)) e) [
-  | inl k ↦ subst (Contains (entities_of (r ∷ rows))) (entity_eq_is r.entity e k) (here r.entity (entities_of rows))
-  | inr k ↦ there r.entity e (entities_of rows) (has_row rows e k)
-]
+has_row (r ∷ rows) e h =
+    elim (or_parts (is_eq (entity_cmp r.entity e)) (has_item entity_cmp (entities_of rows) e) h) as (λ _. Contains (entities_of (r ∷ rows)) e) [
+      | inl k ↦ subst (Contains (entities_of (r ∷ rows))) (entity_eq_is r.entity e k) (here r.entity (entities_of rows))
+      | inr k ↦ there r.entity e (entities_of rows) (has_row rows e k)
+    ]
 
 -- rows of different entities list each once
-distinct_rows : (rows : List Row) → ((i j : ℕ) (r x : Row) → slice_get rows i ≡ Some r → slice_get rows j ≡ Some x → r.entity ≡ x.entity → i ≡ j) → is_distinct (entities_of rows) ≡ true
+distinct_rows : (rows : List Row) → ((i j : ℕ) (r x : Row) → slice_get rows i ≡ Some r → slice_get rows j ≡ Some x → r.entity ≡ x.entity → i ≡ j) →
+    is_distinct (entities_of rows) ≡ true
 distinct_rows [] once = refl
-distinct_rows (r ∷ rows) once = both _ _ (by (has_item entity_cmp (entities_of rows) r.entity) refl) (distinct_rows rows (λ i j x y p q same. omega (arith, once (suc i) (suc j) x y p q same)))
+distinct_rows (r ∷ rows) once = both _ _ (by (has_item entity_cmp (entities_of rows) r.entity) refl)
+    (distinct_rows rows (λ i j x y p q same. omega (arith, once (suc i) (suc j) x y p q same)))
   where
     by : (b : Bool) → has_item entity_cmp (entities_of rows) r.entity ≡ b → not b ≡ true
     by true h =
@@ -100,19 +105,22 @@ with_rows_to k (Some table ∷ slots) t p = by (nat_lt 0 (length table.rows)) re
     ]
     by false none rest q = after (rest q)
 
-with_rows_from : (k : ℕ) (slots : List (Option TableState)) (n : ℕ) (table : TableState) → slot_of slots n ≡ Some table → 0 < length table.rows → Contains (with_rows (entries_from k slots)) (shown_of table)
+with_rows_from : (k : ℕ) (slots : List (Option TableState)) (n : ℕ) (table : TableState) → slot_of slots n ≡ Some table → 0 < length table.rows →
+    Contains (with_rows (entries_from k slots)) (shown_of table)
 with_rows_from k [] n table at some = absurd (none-some table at)
 with_rows_from k (None ∷ slots) zero table at some = absurd (none-some table at)
 with_rows_from k (None ∷ slots) (suc n) table at some = with_rows_from (k + 1) slots n table at some
 with_rows_from k (Some u ∷ slots) zero table at some =
     let test : nat_lt 0 (length u.rows) ≡ true = ap (λ (x : TableState). nat_lt 0 (length x.rows)) (same_Some u table at) ∙ positive in
     subst (λ b. Contains (cond b (shown_of u ∷ with_rows (entries_from (k + 1) slots)) (with_rows (entries_from (k + 1) slots))) (shown_of table)) (sym test)
-    (subst (λ (x : TableState). Contains (shown_of u ∷ with_rows (entries_from (k + 1) slots)) (shown_of x)) (same_Some u table at) (here (shown_of u) (with_rows (entries_from (k + 1) slots))))
+    (subst (λ (x : TableState). Contains (shown_of u ∷ with_rows (entries_from (k + 1) slots)) (shown_of x)) (same_Some u table at)
+    (here (shown_of u) (with_rows (entries_from (k + 1) slots))))
   where
     positive : nat_lt 0 (length table.rows) ≡ true
     positive = grind (arith, nat_tests)
 with_rows_from k (Some u ∷ slots) (suc n) table at some =
-    elim (nat_lt 0 (length u.rows)) as (λ b. Contains (cond b (shown_of u ∷ with_rows (entries_from (k + 1) slots)) (with_rows (entries_from (k + 1) slots))) (shown_of table)) [
+    elim (nat_lt 0 (length u.rows)) as (λ b. Contains (cond b (shown_of u ∷ with_rows (entries_from (k + 1) slots)) (with_rows (entries_from (k + 1) slots)))
+    (shown_of table)) [
       | true ↦ there (shown_of u) (shown_of table) (with_rows (entries_from (k + 1) slots)) (with_rows_from (k + 1) slots n table at some)
       | false ↦ with_rows_from (k + 1) slots n table at some
     ]
@@ -133,59 +141,64 @@ pub kinds_differ : (k : ℕ) (slots : List (Option TableState)) → HasKinds slo
 unfolding IsDistinct
 kinds_differ k [] kinds = tt
 kinds_differ k (None ∷ slots) kinds = kinds_differ (k + 1) slots (λ n m ids p q. omega (arith, kinds (suc n) (suc m) ids p q))
-kinds_differ k (Some table ∷ slots) kinds = by (nat_lt 0 (length table.rows)) (kinds_differ (k + 1) slots (λ n m ids p q. omega (arith, kinds (suc n) (suc m) ids p q)))
+kinds_differ k (Some table ∷ slots) kinds = by (nat_lt 0 (length table.rows))
+    (kinds_differ (k + 1) slots (λ n m ids p q. omega (arith, kinds (suc n) (suc m) ids p q)))
   where
-    by : (b : Bool) → IsDistinct same_type (with_rows (entries_from (k + 1) slots)) → IsDistinct same_type (cond b (shown_of table ∷ with_rows (entries_from (k + 1) slots)) (with_rows (entries_from (k + 1) slots)))
+    by : (b : Bool) → IsDistinct same_type (with_rows (entries_from (k + 1) slots)) →
+        IsDistinct same_type (cond b (shown_of table ∷ with_rows (entries_from (k + 1) slots)) (with_rows (entries_from (k + 1) slots)))
     by true rest = (no_other (shown_of table) (with_rows (entries_from (k + 1) slots)) apart, rest)
       where
         apart : (t : Listed) → Contains (with_rows (entries_from (k + 1) slots)) t → table.ids ≡ t.ids → ⊥
         apart t c same =
             let later = with_rows_to (k + 1) slots t c in
-            let again : 0 ≡ suc later.0 = kinds 0 (suc later.0) table.ids refl (ap (option_map (λ (x : TableState). x.ids)) later.2 ∙ ap Some (ap (λ (x : Listed). x.ids) later.4 ∙ sym same)) in
+            let again : 0 ≡ suc later.0 = kinds 0 (suc later.0) table.ids refl
+            (ap (option_map (λ (x : TableState). x.ids)) later.2 ∙ ap Some (ap (λ (x : Listed). x.ids) later.4 ∙ sym same)) in
             omega arith
     by false rest = rest
 
 -- ---- the tables of the world
 
-stands_typed : (o : Option Kept) (t : TableState) (row : ℕ) → Stands o t row → All (HasIds t.ids) t.rows → (is_some o ≡ true) × (t.ids ≡ map (λ p. p.0) (unwrap_or (option_map (λ (k : Kept). k.held) o) []))
+stands_typed : (o : Option Record) (t : TableState) (row : ℕ) → Stands o t row → All (HasIds t.ids) t.rows →
+    (is_some o ≡ true) × (t.ids ≡ map (λ p. p.0) (unwrap_or (option_map (λ (k : Record). k.held) o) []))
 stands_typed None t row h typed = absurd h
 stands_typed (Some k) t row h typed = (refl, sym (ap (map (λ p. p.0)) (h.held no_row) ∙ typed row no_row h.within))
 
-module _ (w : Indexed Kept) (arities : List (Option ℕ)) (slots : List (Option TableState)) (shown : IsShown w slots) (kinds : HasKinds slots) where
-  row_lives : (n row : ℕ) (r : Row) → row_at slots n row ≡ Some r → IsTrue (is_alive (world_of w arities) r.entity) × ((table_in slots n).ids ≡ type_of (world_of w arities) r.entity)
+module _ (w : WorldState) (slots : List (Option TableState)) (shown : IsShown (entities w) slots) (kinds : HasKinds slots) where
+  row_lives : (n row : ℕ) (r : Row) → row_at slots n row ≡ Some r → IsTrue (is_alive w r.entity) × ((table_in slots n).ids ≡ type_of w r.entity)
   row_lives n row r at =
       let stands = stands_typed (record_of w r.entity) (table_in slots n) row (shown.rows n row r at) (shown.own n) in
-      (alive_joined w arities r.entity ∙ stands.0, stands.1 ∙ sym (ap (map (λ p. p.0)) (held_joined w arities r.entity)))
+      stands
 
   -- the row of a living entity
-  row_there : (e : Entity) → IsTrue (is_alive (world_of w arities) e) → (n : ℕ) × (row : ℕ) × (r : Row) × (row_at slots n row ≡ Some r) × (r.entity ≡ e)
-  row_there e alive = by (record_of w e) refl (sym (alive_joined w arities e) ∙ alive)
+  row_there : (e : Entity) → IsTrue (is_alive w e) → (n : ℕ) × (row : ℕ) × (r : Row) × (row_at slots n row ≡ Some r) × (r.entity ≡ e)
+  row_there e alive = by (record_of w e) refl alive
     where
-      by : (o : Option Kept) → record_of w e ≡ o → is_some o ≡ true → (n : ℕ) × (row : ℕ) × (r : Row) × (row_at slots n row ≡ Some r) × (r.entity ≡ e)
+      by : (o : Option Record) → record_of w e ≡ o → is_some o ≡ true → (n : ℕ) × (row : ℕ) × (r : Row) × (row_at slots n row ≡ Some r) × (r.entity ≡ e)
       by None at h = absurd (true≢false (sym h))
       by (Some k) at h = shown.living e k at
 
-  pub table_is : (n : ℕ) → 0 < length (table_in slots n).rows → IsTable (world_of w arities) (shown_of (table_in slots n))
+  pub table_is : (n : ℕ) → 0 < length (table_in slots n).rows → IsTable w (shown_of (table_in slots n))
   table_is n some = record {
     non_empty = some_row (table_in slots n).rows some;
     once = distinct_rows (table_in slots n).rows (λ i j r x p q same. (shown.once n i n j r x p q same).1);
     exact = λ e. (to e, from e);
   }
     where
-      to : (e : Entity) → Contains (entities_of (table_in slots n).rows) e → IsTrue (is_alive (world_of w arities) e) × ((table_in slots n).ids ≡ type_of (world_of w arities) e)
+      to : (e : Entity) → Contains (entities_of (table_in slots n).rows) e → IsTrue (is_alive w e) × ((table_in slots n).ids ≡ type_of w e)
       to e p =
           let row = row_of (table_in slots n).rows e p in
-          subst (λ x. IsTrue (is_alive (world_of w arities) x) × ((table_in slots n).ids ≡ type_of (world_of w arities) x)) row.3 (row_lives n row.0 row.1 row.2)
+          subst (λ x. IsTrue (is_alive w x) × ((table_in slots n).ids ≡ type_of w x)) row.3 (row_lives n row.0 row.1 row.2)
 
-      from : (e : Entity) → IsTrue (is_alive (world_of w arities) e) × ((table_in slots n).ids ≡ type_of (world_of w arities) e) → Contains (entities_of (table_in slots n).rows) e
+      from : (e : Entity) → IsTrue (is_alive w e) × ((table_in slots n).ids ≡ type_of w e) → Contains (entities_of (table_in slots n).rows) e
       from e h =
           let row = row_there e h.0 in
           let own = row_lives row.0 row.1 row.2 row.3 in
-          let kind : (table_in slots row.0).ids ≡ (table_in slots n).ids = own.1 ∙ ap (type_of (world_of w arities)) row.4 ∙ sym h.1 in
+          let kind : (table_in slots row.0).ids ≡ (table_in slots n).ids = own.1 ∙ ap (type_of w) row.4 ∙ sym h.1 in
           let same : n ≡ row.0 =
           kinds n row.0 (table_in slots n).ids
           (ap (option_map (λ (t : TableState). t.ids)) (table_there (slot_of slots n) some))
-          (ap (option_map (λ (t : TableState). t.ids)) (table_there (slot_of slots row.0) (has_rows (table_in slots row.0).rows row.1 row.2 row.3)) ∙ ap Some kind) in
+          (ap (option_map (λ (t : TableState). t.ids)) (table_there (slot_of slots row.0) (has_rows (table_in slots row.0).rows row.1 row.2 row.3))
+          ∙ ap Some kind) in
           subst (λ m. Contains (entities_of (table_in slots m).rows) e) (sym same)
           (subst (Contains (entities_of (table_in slots row.0).rows)) row.4 (entity_in_row (table_in slots row.0).rows row.1 row.2 row.3))
 
@@ -193,17 +206,17 @@ module _ (w : Indexed Kept) (arities : List (Option ℕ)) (slots : List (Option 
   pub covers_of : (passes : List Id → Bool) (tables : List Listed)
       → ((t : Listed) → Contains tables t → (n : ℕ) × (0 < length (table_in slots n).rows) × (shown_of (table_in slots n) ≡ t))
       → ((n : ℕ) → 0 < length (table_in slots n).rows → passes (table_in slots n).ids ≡ true → Contains tables (shown_of (table_in slots n)))
-      → Covers (world_of w arities) passes tables
+      → Covers w passes tables
   covers_of passes tables from all = record {
-    each = λ t p. let slot = from t p in subst (IsTable (world_of w arities)) slot.2 (table_is slot.0 slot.1);
+    each = λ t p. let slot = from t p in subst (IsTable w) slot.2 (table_is slot.0 slot.1);
     all = λ e alive passed.
         let row = row_there e alive in
         let own = row_lives row.0 row.1 row.2 row.3 in
-        let kind : (table_in slots row.0).ids ≡ type_of (world_of w arities) e = own.1 ∙ ap (type_of (world_of w arities)) row.4 in
+        let kind : (table_in slots row.0).ids ≡ type_of w e = own.1 ∙ ap (type_of w) row.4 in
         (shown_of (table_in slots row.0), all row.0 (has_rows (table_in slots row.0).rows row.1 row.2 row.3) (ap passes kind ∙ passed), kind);
   }
 
-  pub all_covered : Covers (world_of w arities) (λ _. true) (with_rows (entries_from 0 slots))
+  pub all_covered : Covers w (λ _. true) (with_rows (entries_from 0 slots))
   all_covered = covers_of (λ _. true) (with_rows (entries_from 0 slots))
       (λ t p.
       let found = with_rows_to 0 slots t p in
@@ -215,15 +228,17 @@ module _ (w : Indexed Kept) (arities : List (Option ℕ)) (slots : List (Option 
 
   shown_to : (ns : List ℕ) (t : Listed) → Contains (map (shown_at slots) ns) t → (n : ℕ) × (list_any (nat_eq n) ns ≡ true) × (shown_at slots n ≡ t)
   shown_to [] t p = absurd (no_element t p)
-  shown_to (n ∷ ns) t p = elim (element_cases (shown_at slots n) t (map (shown_at slots) ns) p) as (λ _. (m : ℕ) × (list_any (nat_eq m) (n ∷ ns) ≡ true) × (shown_at slots m ≡ t)) [
-    | inl e ↦ (n, or_left (nat_eq n n) (list_any (nat_eq n) ns) (itself n), e)
-    | inr c ↦ let later = shown_to ns t c in (later.0, or_right (nat_eq later.0 n) (list_any (nat_eq later.0) ns) later.1, later.2)
-  ]
+  shown_to (n ∷ ns) t p = elim (element_cases (shown_at slots n) t (map (shown_at slots) ns) p) as (λ _. (m : ℕ) × (list_any (nat_eq m) (n ∷ ns) ≡ true)
+      × (shown_at slots m ≡ t)) [
+        | inl e ↦ (n, or_left (nat_eq n n) (list_any (nat_eq n) ns) (itself n), e)
+        | inr c ↦ let later = shown_to ns t c in (later.0, or_right (nat_eq later.0 n) (list_any (nat_eq later.0) ns) later.1, later.2)
+      ]
 
   shown_from : (ns : List ℕ) (n : ℕ) → list_any (nat_eq n) ns ≡ true → Contains (map (shown_at slots) ns) (shown_at slots n)
   shown_from [] n h = absurd (true≢false (sym h))
   shown_from (m ∷ ns) n h = elim (or_parts (nat_eq n m) (list_any (nat_eq n) ns) h) as (λ _. Contains (map (shown_at slots) (m ∷ ns)) (shown_at slots n)) [
-    | inl e ↦ subst (λ k. Contains (map (shown_at slots) (m ∷ ns)) (shown_at slots k)) (sym ((Decides-eqb n m).0 e)) (here (shown_at slots m) (map (shown_at slots) ns))
+    | inl e ↦ subst (λ k. Contains (map (shown_at slots) (m ∷ ns)) (shown_at slots k)) (sym ((Decides-eqb n m).0 e))
+        (here (shown_at slots m) (map (shown_at slots) ns))
     | inr c ↦ there (shown_at slots m) (shown_at slots n) (map (shown_at slots) ns) (shown_from ns n c)
   ]
 
@@ -231,10 +246,14 @@ module _ (w : Indexed Kept) (arities : List (Option ℕ)) (slots : List (Option 
   type_there n some = ap (option_map (λ (t : TableState). t.ids)) (table_there (slot_of slots n) some)
 
   -- tables of different slots have different types
-  shown_differ : (ns : List ℕ) → ((n : ℕ) → list_any (nat_eq n) ns ≡ true → 0 < length (table_in slots n).rows) → IsDistinct nat_eq ns → IsDistinct same_type (map (shown_at slots) ns)
+  shown_differ : (ns : List ℕ) → ((n : ℕ) → list_any (nat_eq n) ns ≡ true → 0 < length (table_in slots n).rows) → IsDistinct nat_eq ns →
+      IsDistinct same_type (map (shown_at slots) ns)
   unfolding IsDistinct
   shown_differ [] some distinct = tt
-  shown_differ (n ∷ ns) some distinct = (apart ns distinct.0 (λ m h. some m (or_right (nat_eq m n) (list_any (nat_eq m) ns) h)), shown_differ ns (λ m h. some m (or_right (nat_eq m n) (list_any (nat_eq m) ns) h)) distinct.1)
+  shown_differ (n ∷ ns) some distinct = (
+    apart ns distinct.0 (λ m h. some m (or_right (nat_eq m n) (list_any (nat_eq m) ns) h)),
+    shown_differ ns (λ m h. some m (or_right (nat_eq m n) (list_any (nat_eq m) ns) h)) distinct.1,
+  )
     where
       own : 0 < length (table_in slots n).rows
       own = some n (or_left (nat_eq n n) (list_any (nat_eq n) ns) (itself n))
@@ -246,7 +265,8 @@ module _ (w : Indexed Kept) (arities : List (Option ℕ)) (slots : List (Option 
           sym (itself n) ∙ ap (nat_eq n) same ∙ differ
       other m differ theirs false e = refl
 
-      apart : (ms : List ℕ) → AllByRecursion (λ m. nat_eq n m ≡ false) ms → ((m : ℕ) → list_any (nat_eq m) ms ≡ true → 0 < length (table_in slots m).rows) → AllByRecursion (λ t. same_type (shown_at slots n) t ≡ false) (map (shown_at slots) ms)
+      apart : (ms : List ℕ) → AllByRecursion (λ m. nat_eq n m ≡ false) ms → ((m : ℕ) → list_any (nat_eq m) ms ≡ true → 0 < length (table_in slots m).rows) →
+          AllByRecursion (λ t. same_type (shown_at slots n) t ≡ false) (map (shown_at slots) ms)
       apart [] differ theirs = tt
       apart (m ∷ ms) differ theirs = (
         other m differ.0 (theirs m (or_left (nat_eq m m) (list_any (nat_eq m) ms) (itself m))) (same_type (shown_at slots n) (shown_at slots m)) refl,
@@ -254,10 +274,12 @@ module _ (w : Indexed Kept) (arities : List (Option ℕ)) (slots : List (Option 
       )
 
   module _ (pattern : Pattern) (ns : List ℕ) (found : (n : ℕ) → list_any (nat_eq n) ns ≡ is_found pattern (slot_of slots n)) where
-    found_rows : (n : ℕ) → list_any (nat_eq n) ns ≡ true → (0 < length (table_in slots n).rows) × (list_any (pattern_matches pattern) (table_in slots n).ids ≡ true)
+    found_rows : (n : ℕ) → list_any (nat_eq n) ns ≡ true → (0 < length (table_in slots n).rows)
+        × (list_any (pattern_matches pattern) (table_in slots n).ids ≡ true)
     found_rows n h = found_in (slot_of slots n) (sym (found n) ∙ h)
       where
-        found_in : (o : Option TableState) → is_found pattern o ≡ true → (0 < length (unwrap_or o no_table).rows) × (list_any (pattern_matches pattern) (unwrap_or o no_table).ids ≡ true)
+        found_in : (o : Option TableState) → is_found pattern o ≡ true →
+            (0 < length (unwrap_or o no_table).rows) × (list_any (pattern_matches pattern) (unwrap_or o no_table).ids ≡ true)
         found_in None h = absurd (true≢false (sym h))
         found_in (Some t) h = (positive t (first _ _ h), second _ _ h)
           where
@@ -285,12 +307,13 @@ module _ (w : Indexed Kept) (arities : List (Option ℕ)) (slots : List (Option 
     pub found_match : (t : Listed) → Contains (map (shown_at slots) ns) t → list_any (pattern_matches pattern) t.ids ≡ true
     found_match t p = let slot = shown_to ns t p in subst (λ (x : Listed). list_any (pattern_matches pattern) x.ids ≡ true) slot.2 (found_rows slot.0 slot.1).1
 
-    pub found_covered : Covers (world_of w arities) (list_any (pattern_matches pattern)) (map (shown_at slots) ns)
+    pub found_covered : Covers w (list_any (pattern_matches pattern)) (map (shown_at slots) ns)
     found_covered = covers_of (list_any (pattern_matches pattern)) (map (shown_at slots) ns)
         (λ t p. let slot = shown_to ns t p in (slot.0, (found_rows slot.0 slot.1).0, slot.2))
         (λ n some passed. shown_from ns n (found n ∙ is n (slot_of slots n) some passed))
       where
-        is : (n : ℕ) (o : Option TableState) → 0 < length (unwrap_or o no_table).rows → list_any (pattern_matches pattern) (unwrap_or o no_table).ids ≡ true → is_found pattern o ≡ true
+        is : (n : ℕ) (o : Option TableState) → 0 < length (unwrap_or o no_table).rows → list_any (pattern_matches pattern) (unwrap_or o no_table).ids ≡ true →
+            is_found pattern o ≡ true
         is n None some passed = absurd (omega arith)
         is n (Some t) some passed = both _ _ positive passed
           where

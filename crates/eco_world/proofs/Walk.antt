@@ -39,10 +39,12 @@ module _ {A X : Type 0} (f : Entity × A → List X) where
         go (Living g r) at = absurd (none-some (record { index = k; generation = g }) (sym none ∙ ap (entity_in k) at))
 
     -- at an index where someone lives
-    pub walk_some : (e : Entity) → entity_at w k ≡ Some e → (r : A) × (record_of w e ≡ Some r) × (walk k (drop k w.indices) ≡ f (e, r) ++ walk (k + 1) (drop (k + 1) w.indices))
+    pub walk_some : (e : Entity) → entity_at w k ≡ Some e → (r : A) × (record_of w e ≡ Some r)
+        × (walk k (drop k w.indices) ≡ f (e, r) ++ walk (k + 1) (drop (k + 1) w.indices))
     walk_some e some = go (get_or w.indices k Retired) (slice_get-get_or w.indices k Retired within)
       where
-        go : (x : IndexState A) → slice_get w.indices k ≡ Some x → (r : A) × (record_of w e ≡ Some r) × (walk k (drop k w.indices) ≡ f (e, r) ++ walk (k + 1) (drop (k + 1) w.indices))
+        go : (x : IndexState A) → slice_get w.indices k ≡ Some x → (r : A) × (record_of w e ≡ Some r)
+            × (walk k (drop k w.indices) ≡ f (e, r) ++ walk (k + 1) (drop (k + 1) w.indices))
         go Retired at = absurd (none-some e (sym (ap (entity_in k) at) ∙ some))
         go (Free g) at = absurd (none-some e (sym (ap (entity_in k) at) ∙ some))
         go (Living g r) at =

@@ -6,11 +6,10 @@ use Rattle.eco_ids.specs.declared.value.Value.{Value}
 use Rattle.eco_ids.specs.declared.refusal.Refusal.{Refusal}
 use Rattle.eco_ids.specs.declared.refusal.Refusal.TheVariants.{NotAlive, Reserved}
 use Rattle.eco_ids.specs.Builtin.{is_builtin}
-use Rattle.eco_ids.specs.Indices.{is_alive}
 use Rattle.eco_ids.specs.Outcome.{first_refusal, is_out_of_memory}
 use Rattle.eco_ids.specs.Data.{arity, fits}
 use Rattle.eco_ids.specs.Step.{unfit_set}
-use Rattle.eco_ids.specs.World.{WorldState, names_living}
+use Rattle.eco_ids.specs.World.{WorldState, names_living, is_alive}
 
 -- this is refused first, whatever is tested after: the entity doesn't live, or it is a built-in
 pub record IsUnfit (w : WorldState) (e : Entity) (why : Refusal) : Type 0 where

@@ -1,8 +1,6 @@
 pub mod Actor
-pub mod Arities
 pub mod Builtins
-pub mod Joined
 pub mod Layouts
 pub mod Queries
-pub mod Retyped
 pub mod Removals
+pub mod Worlds

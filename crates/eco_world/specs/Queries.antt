@@ -3,10 +3,10 @@ use Rattle.std.specs.Prelude.{List, [], ◌∷◌, map, filter, is_some}
 use Rattle.std.specs.FinMap.Entries.{find}
 use Rattle.eco_ids.specs.declared.entity.Entity.{Entity}
 use Rattle.eco_ids.specs.declared.id.Id.{Id}
-use Rattle.eco_ids.specs.Answer.{Asked, Plain, Row as Result}
-use Rattle.eco_ids.specs.Indices.{living}
+use Rattle.eco_ids.specs.Answer.{Row as Result}
+use Rattle.eco_ids.specs.Slots.{Asked, Plain}
 use Rattle.eco_ids.specs.Order.{id_cmp}
-use Rattle.eco_ids.specs.World.{WorldState}
+use Rattle.eco_ids.specs.World.{WorldState, living}
 use Rattle.eco_query.specs.Queries.{exactly}
 use Rattle.eco_world.specs.declared.query.Row.{Row}
 

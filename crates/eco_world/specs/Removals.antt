@@ -4,9 +4,12 @@ use Rattle.std.specs.List.{All, Contains}
 use Rattle.eco_ids.specs.declared.entity.Entity.{Entity}
 use Rattle.eco_ids.specs.declared.id.Id.{Id}
 use Rattle.eco_ids.specs.Order.{has_item, id_cmp, without_item}
-use Rattle.eco_ids.specs.World.{WorldState, has}
+use Rattle.eco_ids.specs.World.{WorldState, has, held_by}
 use Rattle.eco_store.specs.declared.type_change.TypeChange.{TypeChange}
-use Rattle.eco_world.specs.Retyped.{type_of}
+
+-- the entity's ids
+abbrev pub type_of : WorldState → Entity → List Id
+type_of w e = map (λ p. p.0) (held_by w e)
 
 -- a type that has the id changes into the same type without it
 pub record TakesOut (i : Id) (c : TypeChange) : Type 0 where

@@ -1,7 +1,7 @@
 //! The entities that live from the start.
 ghost use Rattle.std.specs.Prelude.{◌≡◌, ◌≤◌, ◌<◌, ◌∷◌, [], Some, IfOk, IfErr};
 ghost use Rattle.eco_ids.specs.declared.refusal.Refusal.TheVariants.{OutOfMemory};
-ghost use Rattle.eco_world.specs.Builtins.{store_of_builtins, builtin_name, builtin_type};
+ghost use Rattle.eco_world.specs.Builtins.{first_entities, builtin_name, builtin_type};
 
 use eco_ids::entity::{ACYCLIC, BUILTIN_COUNT, DELETE, EXCLUSIVE, ON_DELETE_TARGET};
 use eco_ids::{Id, Refusal, TypeList};
@@ -26,19 +26,25 @@ fn builtin_name(number: u32) -> &'static str
     }
 }
 
+// The ids of ChildOf.
+fn child_of_type(alloc: Global) -> Result<TypeList, AllocError>
+    ensures { IfOk result (λ type_list. type_list ≡ builtin_type 0) }
+{
+    TypeList::empty(alloc)
+        .with(Id::One(EXCLUSIVE))?
+        .with(Id::One(ACYCLIC))?
+        .with(Id::Two(ON_DELETE_TARGET, DELETE))
+}
+
 // The ids of the built-in at this index.
 fn builtin_type(alloc: Global, number: u32) -> Result<TypeList, AllocError>
     requires { number < 9 }
     ensures { IfOk result (λ type_list. type_list ≡ builtin_type number) }
 {
-    let none = TypeList::empty(alloc);
     match number {
-        0 => none
-            .with(Id::One(EXCLUSIVE))?
-            .with(Id::One(ACYCLIC))?
-            .with(Id::Two(ON_DELETE_TARGET, DELETE)),
-        4 | 5 => none.with(Id::One(EXCLUSIVE)),
-        _ => Ok(none),
+        0 => child_of_type(alloc),
+        4 | 5 => TypeList::empty(alloc).with(Id::One(EXCLUSIVE)),
+        _ => Ok(TypeList::empty(alloc)),
     }
 }
 
@@ -46,13 +52,13 @@ fn builtin_type(alloc: Global, number: u32) -> Result<TypeList, AllocError>
 pub(crate) fn builtin_store(alloc: Global, limit: u32) -> Result<Store, Refusal>
     requires at_least { 9 ≤ limit }
     requires at_most { limit ≤ 1048576 }
-    ensures ok { IfOk result (λ store. store.kept ≡ store_of_builtins limit 9) }
+    ensures ok { IfOk result (λ store. store.entities ≡ first_entities limit 9) }
     ensures err { IfErr result (λ why. why ≡ OutOfMemory) }
 {
     let mut store = Store::new(alloc, limit);
     for number in 0..BUILTIN_COUNT {
         let type_list = builtin_type(alloc, number)?;
-        store.create(Some(builtin_name(number)), &type_list)?;
+        store.create(Some(builtin_name(number)), None, &type_list)?;
     }
     Ok(store)
 }

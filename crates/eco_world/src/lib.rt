@@ -1,7 +1,6 @@
 //! A world of entities with names, ids and values.
 #![tactic(auto)]
 
-mod arities;
 mod builtins;
 mod query;
 mod table_rows;

@@ -14,7 +14,7 @@ pub struct Query {
 
 impl Model for Query {
     ghost use Rattle.std.specs.Prelude.{List};
-    ghost use Rattle.eco_ids.specs.Answer.{Asked};
+    ghost use Rattle.eco_ids.specs.Slots.{Asked};
     ghost use Rattle.eco_world.specs.Queries.{term_of};
 
     ghost Value = { List Asked };

@@ -2,7 +2,7 @@
 ghost use Rattle.std.specs.Prelude.{◌≡◌};
 
 use eco_ids::{Entity, Id};
-use eco_tables::Table;
+use eco_store::Table;
 
 /// The entities of one type: who has exactly these ids (Flecs manual, Queries, archetypes).
 #[derive(Clone, Copy, Debug)]

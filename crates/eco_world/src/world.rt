@@ -6,22 +6,20 @@ ghost use Rattle.std.specs.FinMap.Entries.{find};
 ghost use Rattle.eco_ids.specs.declared.refusal.Refusal.TheVariants.{OutOfMemory};
 ghost use Rattle.eco_ids.specs.Answer.{answer};
 ghost use Rattle.eco_ids.specs.Data.{arity, arity_of, value_of};
-ghost use Rattle.eco_ids.specs.Indices.{is_alive, living, record_of};
 ghost use Rattle.eco_ids.specs.Lawful.{IsLawful};
 ghost use Rattle.eco_ids.specs.Matching.{pattern_matches};
 ghost use Rattle.eco_ids.specs.Names.{lookup};
 ghost use Rattle.eco_ids.specs.Order.{id_cmp, is_ascending};
 ghost use Rattle.eco_ids.specs.Step.{own_name};
-ghost use Rattle.eco_ids.specs.World.{first_world, has, held_by};
+ghost use Rattle.eco_ids.specs.World.{entities, first_world, has, held_by, is_alive, living, record_of};
 ghost use Rattle.eco_entities.specs.Registration.{entity_at};
 ghost use Rattle.eco_traits.specs.Target.{type_of_record};
 ghost use Rattle.eco_world.specs.Queries.{result_of, holders};
 
-use crate::arities;
 use crate::builtins::builtin_store;
 use crate::query::{Query, Row};
 use eco_ids::entity::BUILTIN_COUNT;
-use eco_ids::{Entity, Id, Pattern, Refusal, TypeList, Value};
+use eco_ids::{Edition, Entity, Id, Pattern, Refusal, TypeList, Value};
 use eco_query::{Names, exactly};
 use eco_store::Store;
 use std::alloc::{AllocError, Global};
@@ -39,20 +37,14 @@ mod layout;
 /// call that is refused leaves all of it as it was.
 pub struct World {
     alloc: Global,
-    // Which handles live, their names, and their ids with values.
+    // Which handles live, their names and arities, and their ids with values.
     store: Store,
-    // The arity of the entity that lives at each index. One that isn't there is none: only components make the list grow.
-    arities: Vec<Option<u8>>,
 }
 
 // By hand, so that dropping it is one call: a derived drop is proved anew at each early return of whoever holds it.
 impl Drop for World {
     fn drop(self) {
-        let World {
-            alloc: _,
-            store: _,
-            arities: _,
-        } = self;
+        let World { alloc: _, store: _ } = self;
     }
 }
 
@@ -62,11 +54,11 @@ impl Model for World {
     ghost Value = { WorldState };
 
     ghost use Rattle.eco_ids.specs.Lawful.{IsLawful};
-    ghost use Rattle.eco_world.specs.Joined.{world_of};
+    ghost use Rattle.eco_world.specs.Worlds.{world_of};
 
-    ghost view = { λ w. world_of w.store.kept w.arities.items };
+    ghost view = { λ w. world_of w.store.entities };
 
-    ghost invariant = { λ w. IsLawful (world_of w.store.kept w.arities.items) };
+    ghost invariant = { λ w. IsLawful (world_of w.store.entities) };
 }
 
 impl World {
@@ -82,11 +74,7 @@ impl World {
     {
         eco_ids::laws::first_world_is_lawful();
         let store = builtin_store(alloc, limit)?;
-        Ok(World {
-            alloc,
-            store,
-            arities: Vec::new(alloc),
-        })
+        Ok(World { alloc, store })
     }
 
     /// Does nothing, and its contract says that every world is in order: no id names a dead entity, names are unique, the
@@ -94,7 +82,14 @@ impl World {
     pub fn is_lawful(&self)
         ensures { IsLawful self.now }
     {
-        let _arities = &self.arities;
+        let _store = &self.store;
+    }
+
+    /// Which rules the world keeps.
+    pub fn edition(&self) -> Edition
+        ensures { result ≡ self.now.edition }
+    {
+        Edition::First
     }
 
     /// How many indices are known: those that were ever in use.
@@ -137,11 +132,7 @@ impl World {
     pub fn arity_of(&self, entity: Entity) -> Option<u8>
         ensures { result ≡ arity_of self.now entity }
     {
-        if self.store.is_alive(entity) {
-            arities::at(&self.arities, entity.index as usize)
-        } else {
-            None
-        }
+        self.store.arity_of(entity)
     }
 
     /// The ids of the entity, ascending; none, where it isn't living.
@@ -242,7 +233,8 @@ impl World {
 
     // Whether some living entity has an id that matches.
     fn is_held(&self, pattern: Pattern) -> bool
-        ensures { result ≡ list_any (λ p. list_any (pattern_matches pattern) (type_of_record p.1)) (living self.now) }
+        ensures { result
+            ≡ list_any (λ p. list_any (pattern_matches pattern) (type_of_record p.1)) (living self.now) }
     {
         self.store.is_held(pattern)
     }
@@ -251,12 +243,12 @@ impl World {
     fn holders(&self, id: Id) -> Result<Vec<Entity>, AllocError>
         ensures { IfOk result (λ entities. entities.items ≡ holders self.now id) }
     {
-        self.store.holders(exactly(id))
+        self.store.entities_with(exactly(id))
     }
 
     // Who lives at the index.
     fn entity_at(&self, index: u32) -> Option<Entity>
-        ensures { result ≡ entity_at self.now index }
+        ensures { result ≡ entity_at (entities self.now) index }
     {
         self.store.entity_at(index)
     }
@@ -270,6 +262,3 @@ impl Names for World {
         World::lookup(self, name)
     }
 }
-
-#[cfg(test)]
-mod tests;

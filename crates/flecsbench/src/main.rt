@@ -6,8 +6,6 @@ mod case;
 mod fault;
 mod measure;
 mod scene;
-#[cfg(test)]
-mod tests;
 
 use arguments::{Asked, Choice, read_arguments};
 use case::Case;

@@ -5,8 +5,6 @@ ghost use Rattle.std.specs.Prelude.{IfOk};
 ghost use Rattle.flecsrun.specs.Arguments.{AreGoodArguments};
 
 mod arguments;
-#[cfg(test)]
-mod tests;
 
 use arguments::Args;
 use eco_script::{Counted, Status, run_script};

@@ -1,5 +1,5 @@
 //! The tables and the room of moves to come.
-ghost use Rattle.std.specs.Prelude.{◌≡◌, ◌≢◌, ◌∷◌, [], Some, nat_eq, not, IsTrue, IfOk, OnOk, OnErr};
+ghost use Rattle.std.specs.Prelude.{◌≡◌, ◌∷◌, [], Some, nat_eq, not, IsTrue, IsOk, IfOk, OnOk, OnErr};
 ghost use Rattle.std.specs.List.{list_any};
 ghost use Rattle.eco_store.specs.Archetypes.{type_at, RowlessIn};
 ghost use Rattle.eco_store.specs.Preparing.{nothing_prepared, moves_of, moves_beside, has_move, AreOfDifferent, HasNoIdleTarget, IsReady};
@@ -92,6 +92,7 @@ impl Prepared {
         ensures done { HasNoIdleTarget self.new }
         ensures ok { OnOk result (moves_of archetypes.new self.new ≡ moves.now) }
         ensures err { OnErr result (self.new ≡ nothing_prepared) }
+        ensures nothing { moves.now ≡ [] → IsOk result }
         ensures rows { SameRows archetypes.old archetypes.new }
     {
         self.forget(archetypes);
@@ -111,6 +112,7 @@ impl Prepared {
         ensures ready { OnOk result (IsReady archetypes.new self.new) }
         ensures tidy { RowlessIn archetypes.new self.new.targets }
         ensures ok { OnOk result (moves_of archetypes.new self.new ≡ moves.now) }
+        ensures nothing { moves.now ≡ [] → IsOk result }
         ensures rows { SameRows archetypes.old archetypes.new }
     {
         for done in 0..moves.len() {

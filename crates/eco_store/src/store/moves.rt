@@ -1,9 +1,8 @@
 //! An entity gets another type, at once or as the next of prepared moves, or is taken out.
-ghost use Rattle.std.specs.Prelude.{◌≡◌, [], IsTrue, IsOk, OnOk, OnErr};
-ghost use Rattle.eco_ids.specs.Indices.{is_alive, with_death};
-ghost use Rattle.eco_tables.specs.Column.{retyped};
+ghost use Rattle.std.specs.Prelude.{◌≡◌, [], Some, IsTrue, IsOk, OnOk, OnErr};
+ghost use Rattle.eco_ids.specs.Indices.{changed, is_alive, with_death};
 ghost use Rattle.eco_store.specs.Preparing.{is_next, moves_left, moves_beside, AreOfDifferent};
-ghost use Rattle.eco_store.specs.Store.{with_holding, held_by};
+ghost use Rattle.eco_store.specs.Store.{type_of, with_type};
 
 use crate::moving::Move;
 use crate::placing::{fix_place, move_entity};
@@ -14,25 +13,27 @@ use std::alloc::AllocError;
 impl Store {
     /// Takes all room that these moves need, and changes no entity: each entity is to get the type beside it, the first one
     /// first. From then on the [`retype`](Store::retype) of the first of them takes no memory. An `Err` comes where memory is
-    /// refused, and then no move is prepared.
+    /// refused, and then no move is prepared. Without moves it takes no memory.
     pub fn prepare(&mut self, moves: &[Move]) -> Result<(), AllocError>
         requires { AreOfDifferent moves.now }
-        ensures kept { self.new.kept ≡ self.old.kept }
+        ensures entities { self.new.entities ≡ self.old.entities }
         ensures ok { OnOk result (self.new.prepared ≡ moves.now) }
         ensures err { OnErr result (self.new.prepared ≡ []) }
+        ensures nothing { moves.now ≡ [] → IsOk result }
     {
         self.prepared.prepare(&mut self.archetypes, moves)
     }
 
     /// Gives an entity another type: values of ids that both have stay, new ids hold zeros. It takes no memory and succeeds
-    /// where this is the first of the prepared moves, which is none of them from then on. An `Err` comes where memory is
+    /// where this is the first of the prepared moves, which is none of them from then on, or the type is its own. An `Err` comes where memory is
     /// refused, and then no entity has changed.
     pub fn retype(&mut self, e: Entity, type_list: &TypeList) -> Result<(), AllocError>
-        requires { IsTrue (is_alive self.old.kept e) }
-        ensures ok { OnOk result (self.new.kept ≡ with_holding self.old.kept e (retyped type_list.now (held_by self.old.kept e))) }
-        ensures err { OnErr result (self.new.kept ≡ self.old.kept) }
+        requires { IsTrue (is_alive self.old.entities e) }
+        ensures ok { OnOk result (self.new.entities ≡ changed self.old.entities e (with_type type_list.now)) }
+        ensures err { OnErr result (self.new.entities ≡ self.old.entities) }
         ensures left { self.new.prepared ≡ moves_left self.old.prepared e type_list.now }
         ensures ready { IsTrue (is_next self.old.prepared e type_list.now) → IsOk result }
+        ensures own { type_of self.old.entities e ≡ Some type_list.now → IsOk result }
     {
         if self.is_next(e, type_list) {
             self.make_next(e, type_list);
@@ -56,9 +57,9 @@ impl Store {
 
     // Makes the first of the prepared moves, which brings the entity to this type. It takes no memory.
     fn make_next(&mut self, e: Entity, type_list: &TypeList)
-        requires living { IsTrue (is_alive self.old.kept e) }
+        requires living { IsTrue (is_alive self.old.entities e) }
         requires next { IsTrue (is_next self.old.prepared e type_list.now) }
-        ensures kept { self.new.kept ≡ with_holding self.old.kept e (retyped type_list.now (held_by self.old.kept e)) }
+        ensures entities { self.new.entities ≡ changed self.old.entities e (with_type type_list.now) }
         ensures left { self.new.prepared ≡ moves_left self.old.prepared e type_list.now }
     {
         // Under its own type an entity holds what it held, since its row has a value for each id and the ids ascend.
@@ -75,10 +76,11 @@ impl Store {
 
     // Gives an entity another type, and leaves no move prepared. An `Err` changes no entity.
     fn retype_at_once(&mut self, e: Entity, type_list: &TypeList) -> Result<(), AllocError>
-        requires { IsTrue (is_alive self.old.kept e) }
-        ensures ok { OnOk result (self.new.kept ≡ with_holding self.old.kept e (retyped type_list.now (held_by self.old.kept e))) }
-        ensures err { OnErr result (self.new.kept ≡ self.old.kept) }
+        requires { IsTrue (is_alive self.old.entities e) }
+        ensures ok { OnOk result (self.new.entities ≡ changed self.old.entities e (with_type type_list.now)) }
+        ensures err { OnErr result (self.new.entities ≡ self.old.entities) }
         ensures unprepared { self.new.prepared ≡ [] }
+        ensures own { type_of self.old.entities e ≡ Some type_list.now → IsOk result }
     {
         self.prepared.forget(&mut self.archetypes);
         let place = self.entities.place_of(e).unwrap();
@@ -95,8 +97,8 @@ impl Store {
     /// The entity dies: its name is free, its row goes, and its index is free at the next generation or retired. It takes
     /// no memory.
     pub fn take_out(&mut self, e: Entity)
-        requires { IsTrue (is_alive self.old.kept e) }
-        ensures kept { self.new.kept ≡ with_death self.old.kept e }
+        requires { IsTrue (is_alive self.old.entities e) }
+        ensures entities { self.new.entities ≡ with_death self.old.entities e }
         ensures left { self.new.prepared ≡ moves_beside self.old.prepared e }
     {
         self.prepared.forget_awaited(&mut self.archetypes, e);
@@ -107,6 +109,3 @@ impl Store {
         self.prepared.release(&mut self.archetypes, place.table);
     }
 }
-
-#[cfg(test)]
-mod tests;

@@ -29,7 +29,7 @@ impl Store {
     /// The types of living entities with an id that the pattern matches, each once, in any order. An `Err` comes where
     /// memory is refused.
     pub fn types_with(&self, pattern: Pattern) -> Result<Vec<TypeList>, AllocError>
-        ensures listed { IfOk result (λ types. (ids : List Ids) → Contains types.items ids ↔ IsTypeWith self.now.kept pattern ids) }
+        ensures listed { IfOk result (λ types. (ids : List Ids) → Contains types.items ids ↔ IsTypeWith self.now.entities pattern ids) }
         ensures distinct { IfOk result (λ types. AllPairs (λ one other. one ≢ other) types.items) }
     {
         let slots = self.archetypes.tables_with(pattern)?;
@@ -45,8 +45,8 @@ impl Store {
     /// The time that it takes grows with the entities that change, and not with the store.
     pub fn retype_all(&mut self, changes: &[TypeChange]) -> Result<(), AllocError>
         requires { IsOneWay changes.now }
-        ensures ok { OnOk result (self.new.kept ≡ after_changes self.old.kept changes.now) }
-        ensures err { OnErr result (self.new.kept ≡ self.old.kept) }
+        ensures ok { OnOk result (self.new.entities ≡ after_changes self.old.entities changes.now) }
+        ensures err { OnErr result (self.new.entities ≡ self.old.entities) }
         ensures unprepared { self.new.prepared ≡ [] }
     {
         self.prepared.forget(&mut self.archetypes);
@@ -56,6 +56,3 @@ impl Store {
         Ok(())
     }
 }
-
-#[cfg(test)]
-mod tests;

@@ -2,7 +2,7 @@
 ghost use Rattle.std.specs.Prelude.{◌≡◌, IfOk};
 ghost use Rattle.eco_ids.specs.Builtin.{is_builtins};
 ghost use Rattle.eco_ids.specs.Outcome.{Meets};
-ghost use Rattle.eco_ids.specs.Step.{RemovesAll, may_remove_all};
+ghost use Rattle.eco_ids.specs.Step.{RemovesAll, is_held, may_remove_all};
 ghost use Rattle.eco_world.specs.Removals.{TakesOutOfAll};
 
 use crate::world::World;
@@ -13,8 +13,8 @@ use eco_store::TypeChange;
 use std::alloc::AllocError;
 
 impl World {
-    /// No living entity has the id any more (Flecs manual, Entities and Components). A dead id is done. All memory that it
-    /// wants is taken first, so that the id goes from all entities or from none. Its time grows with the entities that have
+    /// No living entity has the id any more (Flecs manual, Entities and Components). An id that nobody has is done,
+    /// and wants no memory. All memory that it wants is taken first, so that the id goes from all entities or from none. Its time grows with the entities that have
     /// the id, and with the tables whose types name the id's entity.
     ///
     /// Refused with `Reserved` where a built-in has the id, and last with `OutOfMemory`.
@@ -26,9 +26,18 @@ impl World {
         if self.is_builtins(id) {
             return Err(Refusal::Reserved);
         }
-        let changes = self.changes_without(id)?;
-        self.store.retype_all(&changes)?;
+        if self.is_had(id) {
+            let changes = self.changes_without(id)?;
+            self.store.retype_all(&changes)?;
+        }
         Ok(())
+    }
+
+    // Whether some living entity has the id.
+    fn is_had(&self, id: Id) -> bool
+        ensures { result ≡ is_held self.now id }
+    {
+        self.is_held(exactly(id))
     }
 
     // Whether a built-in has the id.
@@ -60,6 +69,3 @@ impl World {
         Ok(changes)
     }
 }
-
-#[cfg(test)]
-mod tests;

@@ -1,20 +1,20 @@
 //! The calls that change a world.
-ghost use Rattle.std.specs.Prelude.{◌≡◌, ◌≤◌, ◌∷◌, [], false, IfErr, IfOk, IsOk, IsTrue, map, MatchBool, Ok, OnErr, OnOk, true};
+ghost use Rattle.std.specs.Prelude.{◌≡◌, ◌≤◌, ◌&&◌, ◌∷◌, [], false, IfErr, IfOk, IsOk, IsTrue, map, option_map, Some, MatchBool, Ok, OnErr, OnOk, true};
 ghost use Rattle.std.specs.Option.{option_copied};
 ghost use Rattle.eco_ids.specs.declared.id.Id.TheVariants.{Two};
 ghost use Rattle.eco_ids.specs.declared.value.TheConstants.{LARGEST_ARITY};
 ghost use Rattle.eco_ids.specs.Births.{Creates, may_create, MakesComponent, may_make_component};
 ghost use Rattle.eco_ids.specs.Builtin.{is_builtin};
 ghost use Rattle.eco_ids.specs.Data.{is_zero_past};
-ghost use Rattle.eco_ids.specs.Indices.{is_alive};
 ghost use Rattle.eco_ids.specs.Lawful.{IsLawful};
+ghost use Rattle.eco_ids.specs.Losses.{nobody, without};
+ghost use Rattle.eco_ids.specs.Order.{entity_eq, id_eq};
 ghost use Rattle.eco_ids.specs.Outcome.{Meets};
-ghost use Rattle.eco_ids.specs.Step.{Adds, may_add, Clears, may_clear, Extends, Removes, may_remove, Renames, may_rename, Sets, may_set, changed, unchanged, with_value, without_id};
-ghost use Rattle.eco_ids.specs.World.{has, names_living};
+ghost use Rattle.eco_ids.specs.Step.{Adds, may_add, Clears, may_clear, Extends, Removes, may_remove, Renames, may_rename, Sets, may_set, changed, unchanged, with_value};
+ghost use Rattle.eco_ids.specs.World.{has, names_living, is_alive, record_of};
 ghost use Rattle.eco_world.specs.Actor.{IsUnfit, MaySet, MayNotSet};
-ghost use Rattle.eco_world.specs.Retyped.{with_type};
+ghost use Rattle.eco_store.specs.Store.{record_ids, with_type};
 
-use crate::arities::{grow_to, put};
 use crate::world::World;
 use eco_ids::entity::{BUILTIN_COUNT, ON_DELETE, PANIC};
 use eco_ids::{Entity, Id, Refusal, TypeList, Value};
@@ -28,12 +28,13 @@ fn is_zero_past(value: Value, arity: u8) -> bool
     value.0.iter().skip(arity as usize).all(|field| *field == 0)
 }
 
-// What each component has from the start: it can't be deleted while it is in use.
-fn component_type(alloc: Global) -> Result<TypeList, AllocError>
-    ensures ok { IfOk result (λ ids. ids ≡ Two ON_DELETE PANIC ∷ []) }
-    ensures short { IsOk result }
+// What each component has from the start: it can't be deleted while it is in use. So few ids take no memory.
+fn component_type(alloc: Global) -> TypeList
+    ensures { result ≡ Two ON_DELETE PANIC ∷ [] }
 {
-    TypeList::empty(alloc).with(Id::Two(ON_DELETE, PANIC))
+    TypeList::empty(alloc)
+        .with(Id::Two(ON_DELETE, PANIC))
+        .unwrap()
 }
 
 impl World {
@@ -43,13 +44,12 @@ impl World {
     /// Refused with `BadName` where the name is none, with `NameTaken` where a living entity has it, with `NoMoreIds`
     /// where no index below the limit is left, and last with `OutOfMemory`.
     pub fn create(&mut self, name: Option<&str>) -> Result<Entity, Refusal>
-        ensures { Meets (Creates self.old (option_copied name.entry)) (may_create self.old (option_copied name.entry)) self.old result self.new }
+        ensures { Meets (Creates self.old (option_copied name.entry))
+            (may_create self.old (option_copied name.entry)) self.old result self.new }
     {
         eco_ids::laws::steps_keep_lawful();
         let none = TypeList::empty(self.alloc);
-        let entity = self.store.create(name, &none)?;
-        put(&mut self.arities, entity.index as usize, None);
-        Ok(entity)
+        self.store.create(name, None, &none)
     }
 
     /// Makes a component whose values have this many fields, 1 to [`LARGEST_ARITY`](eco_ids::value::LARGEST_ARITY), with
@@ -60,16 +60,12 @@ impl World {
     pub fn component(&mut self, name: Option<&str>, arity: u8) -> Result<Entity, Refusal>
         requires at_least { 1 ≤ arity }
         requires at_most { arity ≤ LARGEST_ARITY }
-        ensures { Meets (MakesComponent self.old (option_copied name.entry) arity) (may_make_component self.old (option_copied name.entry)) self.old result self.new }
+        ensures { Meets (MakesComponent self.old (option_copied name.entry) arity)
+            (may_make_component self.old (option_copied name.entry)) self.old result self.new }
     {
         eco_ids::laws::steps_keep_lawful();
-        self.store.check_new(name)?;
-        let ids = component_type(self.alloc)?;
-        let known = self.store.high() as usize;
-        grow_to(&mut self.arities, known + 1)?;
-        let entity = self.store.create(name, &ids)?;
-        put(&mut self.arities, entity.index as usize, Some(arity));
-        Ok(entity)
+        let ids = component_type(self.alloc);
+        self.store.create(name, Some(arity), &ids)
     }
 
     /// The entity has this name, or none, from now on. Its own name again is done, and changes nothing.
@@ -78,7 +74,8 @@ impl World {
     /// the name is none, with `NameTaken` where another living entity has it, and last with `OutOfMemory`; the old name
     /// stays then. Taking a name off wants no memory.
     pub fn rename(&mut self, entity: Entity, name: Option<&str>) -> Result<(), Refusal>
-        ensures { Meets (Renames self.old entity (option_copied name.entry)) (may_rename self.old entity (option_copied name.entry)) self.old result self.new }
+        ensures { Meets (Renames self.old entity (option_copied name.entry))
+            (may_rename self.old entity (option_copied name.entry)) self.old result self.new }
     {
         eco_ids::laws::steps_keep_lawful();
         self.check_actor(entity)?;
@@ -112,7 +109,8 @@ impl World {
     /// Refused as an add is, but after `DeadId` with `NotData` where the id has no fields, and with `TooWide` where a field
     /// past those of the id isn't 0.
     pub fn set(&mut self, entity: Entity, id: Id, value: Value) -> Result<(), Refusal>
-        ensures { Meets (Sets self.old entity id value) (may_set self.old entity id value) self.old result self.new }
+        ensures { Meets (Sets self.old entity id value) (may_set self.old entity id value)
+            self.old result self.new }
     {
         eco_ids::laws::steps_keep_lawful();
         eco_ids::laws::add_adds_once();
@@ -132,7 +130,8 @@ impl World {
     /// Refused with `NotAlive` where the entity isn't living, with `Reserved` where it is a built-in, and last with
     /// `OutOfMemory`.
     pub fn remove(&mut self, entity: Entity, id: Id) -> Result<(), Refusal>
-        ensures { Meets (Removes self.old entity id) (may_remove self.old entity id) self.old result self.new }
+        ensures { Meets (Removes self.old entity id) (may_remove self.old entity id)
+            self.old result self.new }
     {
         self.check_actor(entity)?;
         if self.has(entity, id) {
@@ -141,7 +140,8 @@ impl World {
         Ok(())
     }
 
-    /// The entity has no ids any more (Flecs manual, Entities and Components).
+    /// The entity has no ids any more (Flecs manual, Entities and Components). One that has none is done, and wants no
+    /// memory.
     ///
     /// Refused with `NotAlive` where the entity isn't living, with `Reserved` where it is a built-in, and last with
     /// `OutOfMemory`.
@@ -217,7 +217,8 @@ impl World {
     fn take_away(&mut self, entity: Entity, id: Id) -> Result<(), AllocError>
         requires alive { is_alive self.old entity ≡ true }
         requires ordinary { is_builtin self.old entity ≡ false }
-        ensures ok { OnOk result (self.new ≡ changed self.old entity (without_id id)) }
+        ensures ok { OnOk result
+            (self.new ≡ without self.old nobody (λ x own. entity_eq x entity && id_eq own id)) }
         ensures err { OnErr result (self.new ≡ self.old) }
     {
         eco_ids::laws::steps_keep_lawful();
@@ -227,12 +228,13 @@ impl World {
     }
 
     // The entity has these ids: those that were there keep their values, and new ones hold zeros. An `Err` leaves
-    // everything.
+    // everything. Its own ids want no memory.
     fn retype(&mut self, entity: Entity, ids: &TypeList) -> Result<(), AllocError>
         requires alive { is_alive self.old entity ≡ true }
         requires lawful { IsLawful (changed self.old entity (with_type ids.now)) }
         ensures ok { OnOk result (self.new ≡ changed self.old entity (with_type ids.now)) }
         ensures err { OnErr result (self.new ≡ self.old) }
+        ensures own { option_map record_ids (record_of self.old entity) ≡ Some ids.now → IsOk result }
     {
         self.store.retype(entity, ids)
     }
@@ -241,9 +243,11 @@ impl World {
     // the id, so that a set looks for it once.
     fn write(&mut self, entity: Entity, id: Id, value: Value) -> bool
         requires alive { is_alive self.old entity ≡ true }
-        requires lawful { has self.old entity id ≡ true → IsLawful (changed self.old entity (with_value id value)) }
+        requires lawful { has self.old entity id ≡ true
+            → IsLawful (changed self.old entity (with_value id value)) }
         ensures had { result ≡ has self.old entity id }
-        ensures written { MatchBool result (self.new ≡ changed self.old entity (with_value id value)) (self.new ≡ self.old) }
+        ensures written { MatchBool result
+            (self.new ≡ changed self.old entity (with_value id value)) (self.new ≡ self.old) }
     {
         self.store.set_value(entity, id, value)
     }

@@ -7,7 +7,7 @@ ghost use Rattle.eco_world.specs.Layouts.{HasTable, IsByType, listed, ListsWith,
 use crate::table_rows::TableRows;
 use crate::world::World;
 use eco_ids::Pattern;
-use eco_tables::Tables;
+use eco_store::Tables;
 use std::alloc::{AllocError, Global};
 
 impl World {
@@ -66,6 +66,3 @@ fn sort_by_type(tables: &mut Vec<TableRows<'_>>)
 {
     tables.sort_unstable_by_key(|table| table.ids);
 }
-
-#[cfg(test)]
-mod tests;

@@ -12,4 +12,12 @@ pub returns : goal.returns
 unfolding range_mask
 returns c =
     let order : c.min-low.result ≤ c.min-high.result = omega arith in
-    rw (c.low_bits.ensures, c.low_bits-2.ensures, mask_is _ _ order, c.min-high.ensures, c.min-low.ensures, c.saturating_sub.ensures, c.saturating_sub-2.ensures)
+    rw (
+      c.low_bits.ensures,
+      c.low_bits-2.ensures,
+      mask_is _ _ order,
+      c.min-high.ensures,
+      c.min-low.ensures,
+      c.saturating_sub.ensures,
+      c.saturating_sub-2.ensures,
+    )

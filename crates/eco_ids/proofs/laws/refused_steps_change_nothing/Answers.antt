@@ -1,7 +1,6 @@
 use Rattle.std.proofs.Common.{None}
 use Rattle.eco_ids.specs.Births.{bare, component_record}
-use Rattle.eco_ids.specs.Step.{unfit_actor, unfit_rename, with_name, without_id, without_ids}
-use Rattle.eco_ids.proofs.Ends.{adds_settled, admits_settled, changes_settled, deletes_one_settled, deletes_with_settled, makes_settled, removes_all_settled, revives_settled, sets_settled}
+use Rattle.eco_ids.proofs.Ends.{adds_settled, admits_settled, clears_settled, deletes_one_settled, deletes_with_settled, makes_settled, removes_all_settled, removes_settled, renames_settled, revives_settled, sets_settled}
 use Rattle.eco_ids.proofs.laws.refused_steps_change_nothing.Goals as goal
 
 pub returns : goal.returns
@@ -11,9 +10,9 @@ returns c = record {
   revive = λ e w. (revives_settled w e (bare None)).kept;
   add = λ e i w. (adds_settled w e i).kept;
   set = λ e i v w. (sets_settled w e i v).kept;
-  remove = λ e i w. (changes_settled w e (unfit_actor w e) (without_id i)).kept;
-  clear = λ e w. (changes_settled w e (unfit_actor w e) without_ids).kept;
-  rename = λ e name w. (changes_settled w e (unfit_rename w e name) (with_name name)).kept;
+  remove = λ e i w. (removes_settled w e i).kept;
+  clear = λ e w. (clears_settled w e).kept;
+  rename = λ e name w. (renames_settled w e name).kept;
   remove_all = λ i w. (removes_all_settled w i).kept;
   delete = λ e w. (deletes_one_settled w e).kept;
   delete_with = λ i w. (deletes_with_settled w i).kept;

@@ -7,4 +7,5 @@ use Rattle.eco_query.proofs.build.build_query.Given as goal
 
 -- the slots and the alternatives so far are made
 abbrev pub invariant-loop-mark : goal.invariant-loop-mark
-invariant-loop-mark g l = (xs : List WrittenAtom) × (some_of xs ≡ l.grouped) × Standing (g.N.Names.entity_named l.names) l.marks xs (map slot_view l.slots.items) l.group.items (drop l.mark-index l.marks)
+invariant-loop-mark g l = (xs : List WrittenAtom) × (some_of xs ≡ l.grouped)
+    × Standing (g.N.Names.entity_named l.names) l.marks xs (map slot_view l.slots.items) l.group.items (drop l.mark-index l.marks)

@@ -1,6 +1,6 @@
 use Rattle.std.proofs.Common.{◌≡◌, drop}
 use Rattle.std.specs.List.{list_any}
-use Rattle.eco_query.specs.Terms.{asks}
+use Rattle.eco_query.specs.Reader.Marks.{asks}
 use Rattle.eco_query.proofs.build.has_positive.Given as goal
 
 -- no atom so far asks for something that is there

@@ -1,6 +1,6 @@
-use Rattle.eco_query.specs.Grammar.{SpellsId, SpellsRef}
-use Rattle.eco_query.specs.Readings.{entity_at, id_of}
-use Rattle.eco_query.proofs.Spelled.{ref_once, id_once, reads_once}
+use Rattle.eco_query.specs.Grammar.{SpellsId, SpellsQuery, SpellsRef}
+use Rattle.eco_query.specs.Readings.{entity_at, id_of, query_of}
+use Rattle.eco_query.proofs.Spelled.{ref_once, id_once, query_once, reads_once}
 use Rattle.eco_query.proofs.laws.texts_read_once.Goals as goal
 
 pub returns-clause-reference : goal.returns-clause-reference
@@ -8,3 +8,6 @@ returns-clause-reference c entity_named = reads_once SpellsRef (entity_at entity
 
 pub returns-clause-id : goal.returns-clause-id
 returns-clause-id c entity_named = reads_once SpellsId (id_of entity_named) id_once
+
+pub returns-clause-query : goal.returns-clause-query
+returns-clause-query c entity_named = reads_once SpellsQuery (query_of entity_named) query_once

@@ -1,5 +1,5 @@
-use Rattle.eco_query.specs.Machine.{EndsWith, Stops, id_start}
-use Rattle.eco_query.specs.Points.{atom_view}
+use Rattle.eco_query.specs.Reader.Machine.{EndsWith, Stops, id_start}
+use Rattle.eco_query.specs.Reader.Points.{atom_view}
 use Rattle.eco_query.proofs.Spelled.{id_ended, id_proper, id_answered, id_refused}
 use Rattle.eco_query.proofs.read.read_id.Goals as goal
 

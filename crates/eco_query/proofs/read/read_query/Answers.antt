@@ -1,5 +1,5 @@
 use Rattle.std.proofs.Common.{inl, inr, refl}
-use Rattle.eco_query.specs.Machine.{Stops, query_start}
+use Rattle.eco_query.specs.Reader.Machine.{Stops, query_start}
 use Rattle.eco_query.proofs.Spelled.{query_fault}
 use Rattle.eco_query.proofs.Queried.{held_proper}
 use Rattle.eco_query.proofs.read.read_query.Goals as goal

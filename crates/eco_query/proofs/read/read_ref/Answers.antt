@@ -1,6 +1,6 @@
 use Rattle.eco_query.specs.Grammar.{single}
-use Rattle.eco_query.specs.Machine.{EndsWith, Stops, ref_start}
-use Rattle.eco_query.specs.Points.{part_view}
+use Rattle.eco_query.specs.Reader.Machine.{EndsWith, Stops, ref_start}
+use Rattle.eco_query.specs.Reader.Points.{part_view}
 use Rattle.eco_query.proofs.Spelled.{ref_answered, ref_no_pair, ref_proper, ref_refused}
 use Rattle.eco_query.proofs.read.read_ref.Goals as goal
 

@@ -1,23 +1,27 @@
 use Rattle.std.proofs.Common.{rules, arith, refl, sym, []}
 use Rattle.eco_query.proofs.Loops.{reached_more, reached_stuck, reached_end, reached_atom}
-use Rattle.eco_query.specs.Points.{point_view, marked, before_view, atom_view}
+use Rattle.eco_query.specs.Reader.Points.{point_view, marked, before_view, atom_view}
 use Rattle.eco_query.proofs.scan.scan_atom.Goals as goal
 
 pub loop-at-init : goal.loop-at-init
-loop-at-init c = record { run = (record { slots = []; others = [] }, refl); begun = tt }
+loop-at-init c = record { run = (record { slots = []; others = [] }, refl); within = search rules; begun = tt }
 
 pub loop-at-preserved : goal.loop-at-preserved
 loop-at-preserved c =
     let (d, run) = c.loop-at.invariant.run in
+    let before = point_view c.args.text.now c.loop-at.at d c.loop-at.point in
+    let more = reached_more _ c.args.text.now c.loop-at.at before _ c.loop-at-test.true run (c.in-Some.ensures.step d) in
     record {
-      run = (marked c.in-Some.step.mark d, reached_more _ c.args.text.now c.loop-at.at (point_view c.args.text.now c.loop-at.at d c.loop-at.point) _ c.loop-at-test.true run (c.in-Some.ensures.step d));
+      run = (marked c.in-Some.step.mark d, c.skip.ensures.reached _ (marked c.in-Some.step.mark d) more);
+      within = search rules;
       begun = search rules;
     }
 
 pub returns-in_default-clause-fault : goal.returns-in_default-clause-fault
 returns-in_default-clause-fault c =
     let (d, run) = c.loop-at.invariant.run in
-    reached_stuck _ c.args.text.now c.loop-at.at (point_view c.args.text.now c.loop-at.at d c.loop-at.point) c.loop-at-test.true run (c.in_default.ensures.step d)
+    reached_stuck _ c.args.text.now c.loop-at.at (point_view c.args.text.now c.loop-at.at d c.loop-at.point) c.loop-at-test.true run
+    (c.in_default.ensures.step d)
 
 pub returns-in-Some-last_atom-clause-found : goal.returns-in-Some-last_atom-clause-found
 returns-in-Some-last_atom-clause-found c =

@@ -1,7 +1,7 @@
-use Rattle.std.proofs.Common.{◌≡◌, true, []}
-use Rattle.eco_query.specs.Machine.{query_start}
-use Rattle.eco_query.specs.Points.{Draft, IsBegunAt, point_view, is_bare}
-use Rattle.eco_query.proofs.Loops.{Reached}
+use Rattle.std.proofs.Common.{◌-◌, ◌≤◌, length, ◌≡◌, true, []}
+use Rattle.eco_query.specs.Reader.Machine.{query_start}
+use Rattle.eco_query.specs.Reader.Points.{Draft, IsBegunAt, point_view, is_bare}
+use Rattle.eco_query.specs.Reader.Machine.{Reached}
 use Rattle.eco_query.proofs.Stored.{HoldsDraft}
 use Rattle.eco_query.proofs.scan.scan_query.Given as goal
 
@@ -9,5 +9,9 @@ use Rattle.eco_query.proofs.scan.scan_query.Given as goal
 abbrev pub invariant-loop-at : goal.invariant-loop-at
 invariant-loop-at l = record {
   run : (d : Draft) × Reached query_start l.text l.at (point_view l.text l.at d l.point) × HoldsDraft l.terms d × (is_bare l.point ≡ true → d.others ≡ []);
+  within : l.at ≤ length l.text;
   begun : IsBegunAt l.at l.point;
 }
+
+abbrev pub decreases-loop-at : goal.decreases-loop-at
+decreases-loop-at l = length l.text - l.at

@@ -20,15 +20,25 @@ returns-in_err-script-clause-not_read g c = λ e.
 pub returns-clause-ok : goal.returns-clause-ok
 returns-clause-ok g c =
     on_ok_weaker _
-    (ran_bytes c.args.bytes.now (script_view c.in_ok-script.script) _ _ _ _ _
-    (c.in-Ok.ensures.ok.0, view c.in-Ok.value, c.in-Ok.ensures.ok.1, script_is (view c.in-Ok.value) (script_view c.in_ok-script.script) c.in_ok-script.ensures.ok)
+    (ran_bytes c.args.bytes.now (script_view c.in_ok-script.script) _ _ _ _ _ (
+      c.in-Ok.ensures.ok.0,
+      view c.in-Ok.value,
+      c.in-Ok.ensures.ok.1,
+      script_is (view c.in-Ok.value) (script_view c.in_ok-script.script)
+          c.in_ok-script.ensures.ok,
+    )
     c.in-Ok-new.ensures.ok (ap (λ ss. map step_view ss) c.as_slice.ensures.value))
     c.run_steps.ensures.ok
 
 pub returns-clause-err : goal.returns-clause-err
 returns-clause-err g c =
     on_err_weaker _
-    (stopped_bytes c.args.bytes.now (script_view c.in_ok-script.script) _ _ _ _
-    (c.in-Ok.ensures.ok.0, view c.in-Ok.value, c.in-Ok.ensures.ok.1, script_is (view c.in-Ok.value) (script_view c.in_ok-script.script) c.in_ok-script.ensures.ok)
+    (stopped_bytes c.args.bytes.now (script_view c.in_ok-script.script) _ _ _ _ (
+      c.in-Ok.ensures.ok.0,
+      view c.in-Ok.value,
+      c.in-Ok.ensures.ok.1,
+      script_is (view c.in-Ok.value) (script_view c.in_ok-script.script)
+          c.in_ok-script.ensures.ok,
+    )
     c.in-Ok-new.ensures.ok (ap (λ ss. map step_view ss) c.as_slice.ensures.value))
     c.run_steps.ensures.err

@@ -10,4 +10,5 @@ pub returns-in_err-check_name : goal.returns-in_err-check_name
 returns-in_err-check_name c =
     let p = err_from_is_err_and c.from_residual.result c.from_residual.ensures.1 in
     rw (p.1, p.2)
-    (name_opposes (unfit_name name_of c.args.entities.now (option_copied c.args.name)) (next_entity c.args.entities.now) c.in_err-check_name.field-0.0 c.in_err-check_name.ensures)
+    (name_opposes (unfit_name name_of c.args.entities.now (option_copied c.args.name))
+    (next_entity c.args.entities.now) c.in_err-check_name.field-0.0 c.in_err-check_name.ensures)

@@ -18,14 +18,16 @@ pub move_rows-requires-clause-apart : goal.move_rows-requires-clause-apart
 move_rows-requires-clause-apart c =
     let i = c.loop-transfer.transfer-index in
     let none : Transfer = record { from = 0; to = 0 } in
-    λ same. apart_slots c.args.archetypes.now c.args.transfers.now c.requires.one_way i i none none c.loop-transfer-test.true c.loop-transfer-test.true (sym same)
+    λ same. apart_slots c.args.archetypes.now c.args.transfers.now c.requires.one_way i i none none c.loop-transfer-test.true c.loop-transfer-test.true
+    (sym same)
 
 pub move_rows-requires-clause-there : goal.move_rows-requires-clause-there
 move_rows-requires-clause-there c =
     let i = c.loop-transfer.transfer-index in
     let none : Transfer = record { from = 0; to = 0 } in
     let t = get_or c.args.transfers.now i none in
-    still_there c.args.archetypes.now c.loop-transfer.archetypes t.from (c.loop-transfer.invariant.types t.from) (c.requires.plan.sources i none c.loop-transfer-test.true)
+    still_there c.args.archetypes.now c.loop-transfer.archetypes t.from (c.loop-transfer.invariant.types t.from)
+    (c.requires.plan.sources i none c.loop-transfer-test.true)
 
 pub move_rows-requires-clause-room : goal.move_rows-requires-clause-room
 move_rows-requires-clause-room c =

@@ -10,6 +10,7 @@ invariant-loop-transfer l = record {
   store : IsStore l.entities l.archetypes;
   types : SameTypes l.initial.archetypes l.archetypes;
   room : HasRoom l.archetypes (drop l.transfer-index l.transfers);
-  read : read l.entities l.archetypes ≡ after_changes (read l.initial.entities l.initial.archetypes) (map (change_of l.initial.archetypes) (take l.transfer-index l.transfers));
+  read : read l.entities l.archetypes ≡ after_changes (read l.initial.entities l.initial.archetypes)
+      (map (change_of l.initial.archetypes) (take l.transfer-index l.transfers));
   rowless : (slots : List ℕ) → RowlessIn l.initial.archetypes (ends l.transfers ++ slots) → RowlessIn l.archetypes (ends l.transfers ++ slots);
 }

@@ -9,5 +9,6 @@ if_done f (Err e) h = h
 pub returns : goal.returns
 returns g c =
     if_done
-    (λ noted. turn (g.G.Graph.leads c.args.graph.now) c.args.members.now.keys _ _ _ _ _ c.args.asked _ c.as_slice.ensures.keys c.clear.ensures.items c.deref.ensures.value c.in_ok-append_next.ensures noted)
+    (λ noted. turn (g.G.Graph.leads c.args.graph.now) (g.G.Graph.nodes c.args.graph.now) c.args.members.now.keys _ _ _ _ _ c.args.asked _
+    c.as_slice.ensures.keys c.clear.ensures.items c.deref.ensures.value c.in_ok-append_next.ensures.exact c.append_next.ensures.within noted)
     c.note_all.result c.note_all.ensures

@@ -1,5 +1,5 @@
 use Rattle.std.proofs.Common.{◌<◌, true≢false, sym, ap, subst, ◌∙◌, length, arith, refl}
-use Rattle.eco_traits.specs.Same.{list_any-derived}
+use Rattle.eco_traits.proofs.Members.{list_any-derived}
 use Rattle.eco_traits.specs.Search.{noted_all}
 use Rattle.eco_traits.proofs.Search.{IsSearch, search_starts, search_ends, turn_goes_on, turn_pays}
 use Rattle.eco_traits.proofs.least.is_in_least_set.Goals as goal
@@ -14,13 +14,14 @@ loop-goal-init g c =
 pub loop-goal-smaller : goal.loop-goal-smaller
 loop-goal-smaller g c =
     let within : c.loop-goal.asked < length c.loop-goal.members.keys = omega (arith, c.len.ensures.len, c.if-asked-len.false, c.loop-goal.invariant.within) in
-    turn_pays (g.G.Graph.leads c.args.graph.now) (g.G.Graph.nodes c.args.graph.now) c.loop-goal.members.keys c.loop-goal.asked c.ask.new.members.keys c.in_ok-ask.ensures
-    (g.met.G.Graph.within c.args.graph.now) within
+    turn_pays (g.G.Graph.leads c.args.graph.now) (g.G.Graph.nodes c.args.graph.now) c.loop-goal.members.keys c.loop-goal.asked c.ask.new.members.keys
+    c.in_ok-ask.ensures within
 
 pub loop-goal-preserved : goal.loop-goal-preserved
 loop-goal-preserved g c =
     let within : c.loop-goal.asked < length c.loop-goal.members.keys = omega (arith, c.len.ensures.len, c.if-asked-len.false, c.loop-goal.invariant.within) in
-    turn_goes_on (g.G.Graph.leads c.args.graph.now) c.args.roots.now c.loop-goal.members.keys c.loop-goal.asked c.ask.new.members.keys c.in_ok-ask.ensures
+    turn_goes_on (g.G.Graph.leads c.args.graph.now) (g.G.Graph.nodes c.args.graph.now) c.args.roots.now c.loop-goal.members.keys c.loop-goal.asked
+    c.ask.new.members.keys c.in_ok-ask.ensures
     within c.loop-goal.invariant
 
 pub returns-then-asked-len : goal.returns-then-asked-len

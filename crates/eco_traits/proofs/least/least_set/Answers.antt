@@ -13,14 +13,16 @@ loop-asked-init g c =
 pub loop-asked-smaller : goal.loop-asked-smaller
 loop-asked-smaller g c =
     let within : c.loop-asked.asked < length c.loop-asked.members.keys = omega (arith, c.len.ensures.len, c.loop-asked-test.true) in
-    turn_pays (g.G.Graph.leads c.args.graph.now) (g.G.Graph.nodes c.args.graph.now) c.loop-asked.members.keys c.loop-asked.asked c.ask.new.members.keys c.in_ok-ask.ensures
-    (g.met.G.Graph.within c.args.graph.now) within
+    turn_pays (g.G.Graph.leads c.args.graph.now) (g.G.Graph.nodes c.args.graph.now) c.loop-asked.members.keys c.loop-asked.asked c.ask.new.members.keys
+    c.in_ok-ask.ensures within
 
 pub loop-asked-preserved : goal.loop-asked-preserved
 loop-asked-preserved g c =
     let within : c.loop-asked.asked < length c.loop-asked.members.keys = omega (arith, c.len.ensures.len, c.loop-asked-test.true) in
-    turn_goes_on (g.G.Graph.leads c.args.graph.now) c.args.roots.now c.loop-asked.members.keys c.loop-asked.asked c.ask.new.members.keys c.in_ok-ask.ensures
+    turn_goes_on (g.G.Graph.leads c.args.graph.now) (g.G.Graph.nodes c.args.graph.now) c.args.roots.now c.loop-asked.members.keys c.loop-asked.asked
+    c.ask.new.members.keys c.in_ok-ask.ensures
     within c.loop-asked.invariant
 
 pub returns : goal.returns
-returns g c = search_ends (g.G.Graph.leads c.args.graph.now) c.args.roots.now c.loop-asked.members.keys c.loop-asked.asked c.loop-asked.invariant (omega (arith, c.len.ensures.len, c.loop-asked-test.false))
+returns g c = search_ends (g.G.Graph.leads c.args.graph.now) c.args.roots.now c.loop-asked.members.keys c.loop-asked.asked c.loop-asked.invariant
+    (omega (arith, c.len.ensures.len, c.loop-asked-test.false))

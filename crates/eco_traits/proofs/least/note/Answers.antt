@@ -1,5 +1,5 @@
 use Rattle.std.proofs.Common.{ap, ◌∙◌, cond, ◌++◌, ◌∷◌, []}
-use Rattle.eco_traits.specs.Same.{list_any-derived}
+use Rattle.eco_traits.proofs.Members.{list_any-derived}
 use Rattle.eco_traits.proofs.least.note.Goals as goal
 
 pub returns : goal.returns

@@ -1,5 +1,5 @@
 use Rattle.std.proofs.Common.{false, sym, ◌∙◌, true≢false}
-use Rattle.eco_traits.specs.Same.{same_truth}
+use Rattle.eco_traits.proofs.Members.{same_truth}
 use Rattle.eco_traits.proofs.Plain.{comes_alone}
 use Rattle.eco_traits.proofs.target.closed_type.Goals as goal
 

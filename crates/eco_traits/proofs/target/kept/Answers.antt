@@ -1,10 +1,10 @@
-use Rattle.std.proofs.Common.{◌≡◌, ◌<◌, not, List, length, take, get_or, arith, sym, ap, ◌∙◌, subst, IsTrue, unwrap_or}
+use Rattle.std.proofs.Common.{◌≡◌, ◌<◌, List, length, get_or, arith, sym, ap, ◌∙◌, subst, unwrap_or, if◌then◌else◌, fold, take}
 use Rattle.std.proofs.Math.Seq.{take-length}
 use Rattle.eco_ids.specs.declared.id.Id.{Id}
 use Rattle.eco_ids.specs.declared.id.Id.TheVariants.{One}
-use Rattle.eco_ids.specs.Order.{id_cmp, has_item, without_item}
+use Rattle.eco_ids.specs.Order.{id_cmp, without_item}
 use Rattle.eco_ids.specs.Step.{is_displaced}
-use Rattle.eco_traits.proofs.Joined.{all_left, behind_either, kept_seen, stays_left, goes_left}
+use Rattle.eco_traits.proofs.Joined.{without_each, each_out, all_out, behind_either, fold_more}
 use Rattle.eco_traits.proofs.target.kept.Goals as goal
 use Rattle.eco_traits.proofs.target.kept.Goals.{then-is_displaced+in_ok-without, else-is_displaced}
 
@@ -12,34 +12,31 @@ use Rattle.eco_traits.proofs.target.kept.Goals.{then-is_displaced+in_ok-without,
 abbrev least_id : Id
 least_id = One (record { index = 0; generation = 0 })
 
-pub loop-id-init : goal.loop-id-init
-loop-id-init g c = all_left (λ i. not (is_displaced (g.H.Holdings.world c.args.holdings.now) c.args.coming.now i)) c.args.own.now
-
 pub loop-id-preserved : goal.loop-id-preserved
 loop-id-preserved g c =
-    let w = g.H.Holdings.world c.args.holdings.now in
-    let own = c.as_slice-id-items.ensures.ids in
+    let goes : Id → _ = is_displaced (g.H.Holdings.world c.args.holdings.now) c.args.coming.now in
+    let own = c.args.own.now in
+    let slice_is = c.as_slice-id-items.ensures.ids in
     let k = c.loop-id.id-index in
-    let within : k < length c.args.own.now = subst (λ (xs : List Id). k < length xs) own c.loop-id-test.true in
-    elim c.if-is_displaced.branch [
+    let ids : List Id = unwrap_or c.loop-id.kept own in
+    let item : Id = get_or own k least_id in
+    let read : get_or c.as_slice-id-items.result.now k least_id ≡ item = ap (λ xs. get_or xs k least_id) slice_is in
+    let asked : c.is_displaced.result ≡ goes item = c.is_displaced.ensures ∙ ap goes read in
+    let within : k < length own = subst (λ (xs : List Id). k < length xs) slice_is c.loop-id-test.true in
+    fold_more (without_each goes) own ids (unwrap_or c.if-is_displaced.kept own) own k least_id within c.loop-id.invariant
+    (elim c.if-is_displaced.branch [
       | then-is_displaced+in_ok-without v ↦
-          goes_left (λ i. not (is_displaced w c.args.coming.now i)) c.args.own.now k least_id (unwrap_or c.loop-id.kept c.args.own.now) (unwrap_or c.if-is_displaced.kept c.args.own.now) within
-          (ap not (ap (λ xs. is_displaced w c.args.coming.now (get_or xs k least_id)) (sym own) ∙ sym c.is_displaced.ensures ∙ v.if-is_displaced.true))
-          c.loop-id.invariant
-          (ap (λ o. unwrap_or o c.args.own.now) v.kept-is ∙ v.in_ok-without.ensures.is
-          ∙ ap (λ xs. without_item id_cmp xs (get_or c.as_slice-id-items.result.now k least_id)) (ap (λ b. b.now) v.unwrap_or.ensures ∙ behind_either v.as_ref.result c.args.own c.loop-id.kept v.as_ref.ensures.value)
-          ∙ ap (λ xs. without_item id_cmp (unwrap_or c.loop-id.kept c.args.own.now) (get_or xs k least_id)) own)
+          let before = ap (λ b. b.now) v.unwrap_or.ensures ∙ behind_either v.as_ref.result c.args.own c.loop-id.kept v.as_ref.ensures.value in
+          ap (λ o. unwrap_or o own) v.kept-is ∙ v.in_ok-without.ensures.is ∙ (λ t. without_item id_cmp (before t) (read t))
+          ∙ ap (λ b. if b then without_item id_cmp ids item else ids) (sym v.if-is_displaced.true ∙ asked)
       | else-is_displaced v ↦
-          ap (λ o. unwrap_or o c.args.own.now) v.kept-is ∙ stays_left (λ i. not (is_displaced w c.args.coming.now i)) c.args.own.now k least_id (unwrap_or c.loop-id.kept c.args.own.now) within
-          (ap not (ap (λ xs. is_displaced w c.args.coming.now (get_or xs k least_id)) (sym own) ∙ sym c.is_displaced.ensures ∙ v.if-is_displaced.false))
-          c.loop-id.invariant
-    ]
+          ap (λ o. unwrap_or o own) v.kept-is ∙ ap (λ b. if b then without_item id_cmp ids item else ids) (sym v.if-is_displaced.false ∙ asked)
+    ])
 
 pub returns-clause-kept : goal.returns-clause-kept
 returns-clause-kept g c =
-    let w = g.H.Holdings.world c.args.holdings.now in
-    let own = c.as_slice-id-items.ensures.ids in
-    let all : c.loop-id.id-index ≡ length c.as_slice-id-items.result.now = omega arith in
-    let whole : take c.loop-id.id-index c.args.own.now ≡ c.args.own.now = ap (λ n. take n c.args.own.now) (all ∙ ap length own) ∙ take-length c.args.own.now in
-    c.loop-id.invariant
-    ∙ kept_seen (λ i. not (is_displaced w c.args.coming.now i)) c.args.own.now (take c.loop-id.id-index c.args.own.now) (λ y h. subst (λ xs. IsTrue (has_item id_cmp xs y)) (sym whole) h)
+    let goes : Id → _ = is_displaced (g.H.Holdings.world c.args.holdings.now) c.args.coming.now in
+    let own = c.args.own.now in
+    let all : c.loop-id.id-index ≡ length own = omega arith ∙ ap length c.as_slice-id-items.ensures.ids in
+    c.loop-id.invariant ∙ ap (λ xs. fold (without_each goes) own xs) (ap (λ n. take n own) all ∙ take-length own) ∙ each_out goes own own
+    ∙ all_out goes own own (λ y h. h)

@@ -12,7 +12,8 @@ least_id = One (record { index = 0; generation = 0 })
 pub returns-in-Some : goal.returns-in-Some
 unfolding least_id
 returns-in-Some g c =
-    first_found (g.H.Holdings.world c.args.holdings.now) c.args.entity c.args.ids.now c.loop-id.id-index least_id c.in-Some.relationship c.requires c.loop-id-test.true c.loop-id.invariant
+    first_found (g.H.Holdings.world c.args.holdings.now) c.args.entity c.args.ids.now c.loop-id.id-index least_id c.in-Some.relationship c.requires
+    c.loop-id-test.true c.loop-id.invariant
     c.in_ok-relationship.field-0 c.in_ok-relationship.ensures c.in-Some.is
 
 pub loop-id-preserved : goal.loop-id-preserved

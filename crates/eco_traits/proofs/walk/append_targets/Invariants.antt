@@ -6,4 +6,5 @@ use Rattle.eco_traits.proofs.walk.append_targets.Given as goal
 
 abbrev pub invariant-loop-id : goal.invariant-loop-id
 invariant-loop-id l =
-    (b : Entity) → has_item entity_cmp l.found.items b ≡ (has_item entity_cmp l.initial.found.items b || has_item id_cmp (take l.id-index l.ids) (Two l.relationship b))
+    (b : Entity) → has_item entity_cmp l.found.items b ≡
+    (has_item entity_cmp l.initial.found.items b || has_item id_cmp (take l.id-index l.ids) (Two l.relationship b))

@@ -1,6 +1,7 @@
-use Rattle.eco_traits.proofs.Walks.{if_ok, from_one}
+use Rattle.std.proofs.lemmas.Result.{IfOk-weaker}
+use Rattle.eco_traits.proofs.Walks.{from_one}
 use Rattle.eco_traits.proofs.walk.reached.Goals as goal
 
 pub returns : goal.returns
-returns g c = if_ok c.least_set.result (λ set exact b. let f = from_one (g.H.Holdings.world c.args.holdings.now) c.args.relationship c.args.from b in
+returns g c = IfOk-weaker c.least_set.result _ _ (λ set exact b. let f = from_one (g.H.Holdings.world c.args.holdings.now) c.args.relationship c.args.from b in
     (λ h. f.0 ((exact b).0 h), λ h. (exact b).1 (f.1 h))) c.least_set.ensures

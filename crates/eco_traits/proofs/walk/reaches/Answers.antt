@@ -1,6 +1,7 @@
 use Rattle.std.proofs.Common.{refl, sym}
+use Rattle.std.proofs.lemmas.Result.{IfOk-weaker}
 use Rattle.eco_ids.specs.Least.{root}
-use Rattle.eco_traits.proofs.Walks.{if_ok, from_one}
+use Rattle.eco_traits.proofs.Walks.{from_one}
 use Rattle.eco_traits.proofs.walk.reaches.Goals as goal
 
 pub returns-then-is : goal.returns-then-is
@@ -9,4 +10,4 @@ returns-then-is g c = (λ h. root (sym (c.if-is.ensures.exact.0 refl)), λ h. re
 pub returns : goal.returns
 returns g c =
     let one = from_one (g.H.Holdings.world c.args.holdings.now) c.args.relationship c.args.from c.args.goal in
-    if_ok c.is_in_least_set.result (λ b is. (λ h. one.0 (is.0 h), λ h. is.1 (one.1 h))) c.is_in_least_set.ensures
+    IfOk-weaker c.is_in_least_set.result _ _ (λ b is. (λ h. one.0 (is.0 h), λ h. is.1 (one.1 h))) c.is_in_least_set.ensures

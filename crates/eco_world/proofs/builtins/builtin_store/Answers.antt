@@ -1,8 +1,8 @@
 use Rattle.std.proofs.Common.{Some, refl}
 use Rattle.std.proofs.lemmas.Result.{err_from_is_err_and}
 use Rattle.eco_ids.specs.Births.{may_make}
-use Rattle.eco_store.specs.Store.{kept_name}
-use Rattle.eco_world.specs.Builtins.{store_of_builtins}
+use Rattle.eco_store.specs.Store.{record_name}
+use Rattle.eco_world.specs.Builtins.{first_entities}
 use Rattle.eco_world.proofs.Starting.{builtin_made, builtin_refused}
 use Rattle.eco_world.proofs.builtins.builtin_store.Goals as goal
 
@@ -10,11 +10,19 @@ pub returns-in_err-create-clause-err : goal.returns-in_err-create-clause-err
 returns-in_err-create-clause-err c =
     let p = err_from_is_err_and c.from_residual-in_err-create.result c.from_residual-in_err-create.ensures.1 in
     rw (p.1, p.2)
-    (builtin_refused c.args.limit c.loop-number.number (Some c.builtin_name.result.now) c.in_ok-type_list.type_list c.requires.at_least c.loop-number-test.true c.builtin_name.ensures c.in_ok-type_list.ensures c.in_err-create.field-0.0 c.create.new.self.kept (may_make kept_name (store_of_builtins c.args.limit c.loop-number.number) (Some c.builtin_name.result.now)) (rw c.loop-number.invariant at c.in_err-create.ensures.step))
+    (builtin_refused c.args.limit c.loop-number.number (Some c.builtin_name.result.now) c.in_ok-type_list.type_list
+    c.requires.at_least c.loop-number-test.true c.builtin_name.ensures c.in_ok-type_list.ensures
+    c.in_err-create.field-0.0 c.create.new.self.entities
+    (may_make record_name (first_entities c.args.limit c.loop-number.number) (Some c.builtin_name.result.now))
+    (rw c.loop-number.invariant at c.in_err-create.ensures.step))
 
 pub loop-number-preserved : goal.loop-number-preserved
 loop-number-preserved c =
-    builtin_made c.args.limit c.loop-number.number (Some c.builtin_name.result.now) c.in_ok-type_list.type_list c.requires.at_least c.loop-number-test.true c.builtin_name.ensures c.in_ok-type_list.ensures c.in_ok-create.field-0 c.create.new.self.kept (may_make kept_name (store_of_builtins c.args.limit c.loop-number.number) (Some c.builtin_name.result.now)) (rw c.loop-number.invariant at c.in_ok-create.ensures.step)
+    builtin_made c.args.limit c.loop-number.number (Some c.builtin_name.result.now) c.in_ok-type_list.type_list
+    c.requires.at_least c.loop-number-test.true c.builtin_name.ensures c.in_ok-type_list.ensures
+    c.in_ok-create.field-0 c.create.new.self.entities
+    (may_make record_name (first_entities c.args.limit c.loop-number.number) (Some c.builtin_name.result.now))
+    (rw c.loop-number.invariant at c.in_ok-create.ensures.step)
 
 pub returns-in_err-type_list-clause-err : goal.returns-in_err-type_list-clause-err
 returns-in_err-type_list-clause-err c =

@@ -9,4 +9,4 @@ returns-in_err-check_name c =
     let why : unfit_name name_of c.args.self.now (option_copied c.args.name) ≡ Some c.in_err-check_name.field-0.0 =
     checked _ c.check_name.result c.in_err-check_name.field-0.0 c.check_name.ensures c.in_err-check_name.was in
     let is : c.from_residual.result ≡ Err c.in_err-check_name.field-0.0 = search rules in
-    rw is (makes_refused c.args.self.now (option_copied c.args.name) _ c.in_err-check_name.field-0.0 why)
+    rw is (makes_refused c.args.self.now (option_copied c.args.name) c.args.arity _ c.in_err-check_name.field-0.0 why)

@@ -1,17 +1,20 @@
 use Rattle.std.proofs.Common.{◌≡◌, refl, ap, ◌∙◌, true, None}
 use Rattle.eco_ids.specs.Indices.{Indexed, is_alive, with_death}
-use Rattle.eco_entities.specs.Registration.{Registration, own_name, renamed}
+use Rattle.eco_ids.specs.Renaming.{own_name}
+use Rattle.eco_entities.specs.Registration.{Registration, name_of, renamed}
 use Rattle.eco_entities.proofs.Owners.{own-died, own-renamed, death_of_renamed, alive_changed}
 use Rattle.eco_entities.proofs.Registers.{registry_nameless}
 use Rattle.eco_entities.proofs.entity_index.EntityIndex.kill.Goals as goal
 
 pub invariant_of-self : goal.invariant_of-self
 invariant_of-self c =
-    let nameless : own_name c.self.inside.slots c.args.entity ≡ None =
-    ap (λ (w : Indexed Registration). own_name w c.args.entity) (c.self.view_is ∙ c.unname.ensures) ∙ (own-renamed c.args.self.now c.args.entity None c.requires).here
+    let nameless : own_name name_of c.self.inside.slots c.args.entity ≡ None =
+    ap (λ (w : Indexed Registration). own_name name_of w c.args.entity) (c.self.view_is ∙ c.unname.ensures)
+    ∙ (own-renamed c.args.self.now c.args.entity None c.requires).here
     in
     let alive : is_alive c.self.inside.slots c.args.entity ≡ true =
-    ap (λ (w : Indexed Registration). is_alive w c.args.entity) (c.self.view_is ∙ c.unname.ensures) ∙ alive_changed c.args.self.now c.args.entity (renamed None) c.requires
+    ap (λ (w : Indexed Registration). is_alive w c.args.entity) (c.self.view_is ∙ c.unname.ensures)
+    ∙ alive_changed c.args.self.now c.args.entity (renamed None) c.requires
     in
     rw c.kill.ensures
     (registry_nameless c.args.entity c.self.invariant nameless (record { all = λ k. refl }) (own-died c.self.inside.slots c.args.entity alive))

@@ -10,7 +10,8 @@ lowest_bit-group-requires-clause-first c = first_word_or_none c.self.inside.grou
 
 pub lowest_bit-group-requires-clause-fits : goal.lowest_bit-group-requires-clause-fits
 lowest_bit-group-requires-clause-fits c =
-    let first : IsFirstWord c.self.inside.groups c.in_ok-first_word.field-0 = first_word_or_none c.self.inside.groups (Some c.in_ok-first_word.field-0) c.in_ok-first_word.ensures in
+    let first : IsFirstWord c.self.inside.groups c.in_ok-first_word.field-0 =
+    first_word_or_none c.self.inside.groups (Some c.in_ok-first_word.field-0) c.in_ok-first_word.ensures in
     omega (arith, within_of_word c.self.inside.groups c.in_ok-first_word.field-0 first.marked)
 
 pub returns-in_err-first_word : goal.returns-in_err-first_word

@@ -61,6 +61,8 @@ pub returns-else-clear : goal.returns-else-clear
 returns-else-clear c =
     let l : c.args.index < c.self.inside.len = in_flags _ _ _ _ c.self.view_is c.requires in
     elim c.else-clear.branch [
-      | else-clear-via-then-clear+else-clear-2 w ↦ w.self-is ∙ rw c.clear.ensures.words (flags-without_bit _ _ c.args.index l (omega arith) ∙ ap (λ xs. slice_set xs c.args.index false) c.self.view_is)
-      | else-clear-via-else-clear w ↦ w.self-is ∙ rw c.clear.ensures.words (flags-without_bit _ _ c.args.index l (omega arith) ∙ ap (λ xs. slice_set xs c.args.index false) c.self.view_is)
+      | else-clear-via-then-clear+else-clear-2 w ↦ w.self-is ∙ rw c.clear.ensures.words
+          (flags-without_bit _ _ c.args.index l (omega arith) ∙ ap (λ xs. slice_set xs c.args.index false) c.self.view_is)
+      | else-clear-via-else-clear w ↦ w.self-is ∙ rw c.clear.ensures.words
+          (flags-without_bit _ _ c.args.index l (omega arith) ∙ ap (λ xs. slice_set xs c.args.index false) c.self.view_is)
     ]

@@ -1,10 +1,13 @@
 use Rattle.std.proofs.Common.{Some}
-use Rattle.std.proofs.lemmas.Map.Text.{hash_map_updates_text}
+use Rattle.std.proofs.lemmas.Map.Text.{btree_map_updates_text}
 use Rattle.std.specs.Prelude.{string_bytes}
-use Rattle.eco_entities.proofs.Texts.{changes_text, on_ok}
+use Rattle.eco_entities.proofs.Texts.{changes_text}
 use Rattle.eco_entities.proofs.names.Names.insert.Goals as goal
 
-pub returns : goal.returns
-returns c =
-    changes_text (string_bytes c.args.name) c.args.self.now.entities c.insert.new.self (Some c.args.entity)
-    (hash_map_updates_text (string_bytes c.args.name) c.args.self.now.entities c.insert.new.self (Some c.args.entity) (on_ok c.insert.result (c.insert.ensures.succeeds c.requires) c.insert.ensures.updates))
+pub returns-clause-ok : goal.returns-clause-ok
+returns-clause-ok c =
+    let m = c.args.self.now.entities in
+    let n = c.insert.new.self in
+    let bs = string_bytes c.in_ok-listed.listed in
+    let e = Some c.args.entity in
+    rw c.in_ok-listed.ensures.ok at (changes_text bs m n e (btree_map_updates_text bs m n e c.in_ok-insert.ensures.updates))

@@ -12,4 +12,5 @@ settle_last-requires c = next_room c.args.self.now c.args.entity c.requires (ome
 
 pub returns-clause-ok : goal.returns-clause-ok
 returns-clause-ok c =
-    rw (new_last c.args.self.now c.args.entity (newcomer (option_map string_bytes c.args.name)) c.requires (omega arith)) at c.settle_last.ensures.ok
+    rw (new_last c.args.self.now c.args.entity (newcomer (option_map string_bytes c.args.name) c.args.arity) c.requires
+    (omega arith)) at c.settle_last.ensures.ok

@@ -20,7 +20,8 @@ loop-change-preserved c =
           subst (λ ts. IsPlan s' ts (take (i + 1) c.args.changes.now)) (sym items)
           (subst (IsPlan s' (c.loop-change.transfers.items ++ c.in_ok-transfer.transfer ∷ [])) (sym changes)
           (plan_more s' c.loop-change.transfers.items (take i c.args.changes.now) c.in_ok-transfer.transfer change
-          (plan_kept c.loop-change.self s' c.loop-change.transfers.items (take i c.args.changes.now) c.in_ok-transfer.ensures.types c.loop-change.invariant.plan)
+          (plan_kept c.loop-change.self s' c.loop-change.transfers.items
+          (take i c.args.changes.now) c.in_ok-transfer.ensures.types c.loop-change.invariant.plan)
           c.in_ok-transfer.ensures.from c.in_ok-transfer.ensures.to));
       rowless = λ slots was.
           let t = c.in_ok-transfer.transfer in
@@ -28,6 +29,7 @@ loop-change-preserved c =
           let parts : ends c.push_reserved.new.self.items ++ slots ≡ ends ts ++ (t.from ∷ t.to ∷ slots) =
           ap (λ us. ends us ++ slots) items ∙ ends_more ts t slots in
           subst (RowlessIn s') (sym parts)
-          (rowless_swapped s' (t.from ∷ t.to ∷ []) (ends ts) slots (c.in_ok-transfer.ensures.rowless (ends ts ++ slots) (c.loop-change.invariant.rowless slots was)));
+          (rowless_swapped s' (t.from ∷ t.to ∷ []) (ends ts) slots
+          (c.in_ok-transfer.ensures.rowless (ends ts ++ slots) (c.loop-change.invariant.rowless slots was)));
       rows = λ n k. c.tables_of.ensures.rows n k ∙ c.loop-change.invariant.rows n k;
     }

@@ -16,14 +16,16 @@ loop-slot-preserved c =
     elim c.if-is_found.branch [
       | then-is_found+in_ok-push w ↦ record {
         listed = λ n. rw (w.found-is, w.in_ok-push.ensures.items)
-            (below_pushed (λ k. is_found c.args.pattern (slot_of c.args.self.now k)) c.loop-slot.found.items c.loop-slot.slot (sym c.is_found.ensures ∙ w.if-is_found.true) c.loop-slot.invariant.listed n);
+            (below_pushed (λ k. is_found c.args.pattern (slot_of c.args.self.now k)) c.loop-slot.found.items c.loop-slot.slot
+            (sym c.is_found.ensures ∙ w.if-is_found.true) c.loop-slot.invariant.listed n);
         distinct = rw (w.found-is, w.in_ok-push.ensures.items)
             (distinct_pushed c.loop-slot.found.items c.loop-slot.slot c.loop-slot.invariant.distinct
             (not_yet (λ k. is_found c.args.pattern (slot_of c.args.self.now k)) c.loop-slot.found.items c.loop-slot.slot c.loop-slot.invariant.listed));
       }
       | else-is_found w ↦ record {
         listed = λ n. rw w.found-is
-            (below_passed (λ k. is_found c.args.pattern (slot_of c.args.self.now k)) c.loop-slot.found.items c.loop-slot.slot (sym c.is_found.ensures ∙ w.if-is_found.false) c.loop-slot.invariant.listed n);
+            (below_passed (λ k. is_found c.args.pattern (slot_of c.args.self.now k)) c.loop-slot.found.items c.loop-slot.slot
+            (sym c.is_found.ensures ∙ w.if-is_found.false) c.loop-slot.invariant.listed n);
         distinct = rw w.found-is c.loop-slot.invariant.distinct;
       }
     ]

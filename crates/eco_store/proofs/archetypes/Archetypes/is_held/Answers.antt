@@ -11,10 +11,12 @@ returns-in-Some c =
     let covers : Covers c.args.pattern c.args.self.now c.slots.result.now =
     λ n found.
     c.slots.ensures.listed n ∙ c.self.invariant.names c.in-Some.entity n
-    ∙ found_named c.args.pattern c.in-Some.entity (names_named c.args.pattern c.in-Some.entity (sym c.in-Some.ensures)) (slot_of c.self.inside.tables n) (rw (← c.self.view_is) at found) in (
+    ∙ found_named c.args.pattern c.in-Some.entity (names_named c.args.pattern c.in-Some.entity (sym c.in-Some.ensures)) (slot_of c.self.inside.tables n)
+    (rw (← c.self.view_is) at found) in (
       λ h. let some = any_is (λ n. is_found c.args.pattern (slot_of c.args.self.now n)) c.slots.result.now (sym c.finds_among.ensures ∙ h) in (some.0, some.1),
       λ x.
           c.finds_among.ensures
           ∙ any_weaker (nat_eq x.0) (λ n. is_found c.args.pattern (slot_of c.args.self.now n))
-          (λ n same. ap (λ k. is_found c.args.pattern (slot_of c.args.self.now k)) (sym ((Decides-eqb x.0 n).0 same)) ∙ x.1) c.slots.result.now (covers x.0 x.1),
+          (λ n same. ap (λ k. is_found c.args.pattern (slot_of c.args.self.now k)) (sym ((Decides-eqb x.0 n).0 same)) ∙ x.1) c.slots.result.now
+          (covers x.0 x.1),
     )

@@ -11,8 +11,10 @@ returns-in-Some-clause-listed c =
     let covers : Covers c.args.pattern c.args.self.now c.slots.result.now =
     λ n found.
     c.slots.ensures.listed n ∙ c.self.invariant.names c.in-Some.entity n
-    ∙ found_named c.args.pattern c.in-Some.entity (names_named c.args.pattern c.in-Some.entity (sym c.in-Some.ensures)) (slot_of c.self.inside.tables n) (rw (← c.self.view_is) at found) in
-    IfOk-weaker c.found_among.result _ _ (λ v is n. ap (list_any (nat_eq n)) is ∙ covered c.args.self.now c.args.pattern c.slots.result.now covers n) c.found_among.ensures
+    ∙ found_named c.args.pattern c.in-Some.entity (names_named c.args.pattern c.in-Some.entity (sym c.in-Some.ensures)) (slot_of c.self.inside.tables n)
+    (rw (← c.self.view_is) at found) in
+    IfOk-weaker c.found_among.result _ _ (λ v is n. ap (list_any (nat_eq n)) is
+    ∙ covered c.args.self.now c.args.pattern c.slots.result.now covers n) c.found_among.ensures
 
 pub returns-in-Some-clause-distinct : goal.returns-in-Some-clause-distinct
 returns-in-Some-clause-distinct c =
@@ -24,5 +26,5 @@ returns-in-None-clause-listed c =
     (λ v listed n.
     listed n
     ∙ below_all (λ k. is_found c.args.pattern (slot_of c.args.self.now k)) c.slot_bound.result n
-    (λ found. c.slot_bound.ensures n (found_there c.args.pattern (slot_of c.self.inside.tables n) (rw (← c.self.view_is) at found))))
+    (λ found. c.slot_bound.ensures.above n (found_there c.args.pattern (slot_of c.self.inside.tables n) (rw (← c.self.view_is) at found))))
     c.found_below.ensures.listed

@@ -10,7 +10,8 @@ returns-then-not-is_target-clause-ready c =
     let p = c.args.self.now in
     let free : list_any (nat_eq c.args.slot) p.targets ≡ false = sym c.is_target.ensures ∙ c.if-not-is_target.true in
     ready_spared s c.drop_empty.new.self p
-    (spares_dropped s c.drop_empty.new.self p c.args.slot (rowless_type (slot_of s c.args.slot)) c.requires.ready free c.drop_empty.ensures.dropped c.drop_empty.ensures.kept)
+    (spares_dropped s c.drop_empty.new.self p c.args.slot
+    (rowless_type (slot_of s c.args.slot)) c.requires.ready free c.drop_empty.ensures.dropped c.drop_empty.ensures.kept)
     c.requires.ready
 
 pub returns-then-not-is_target-clause-left : goal.returns-then-not-is_target-clause-left
@@ -19,4 +20,5 @@ returns-then-not-is_target-clause-left c =
     let p = c.args.self.now in
     let free : list_any (nat_eq c.args.slot) p.targets ≡ false = sym c.is_target.ensures ∙ c.if-not-is_target.true in
     moves_spared s c.drop_empty.new.self p
-    (spares_dropped s c.drop_empty.new.self p c.args.slot (rowless_type (slot_of s c.args.slot)) c.requires.ready free c.drop_empty.ensures.dropped c.drop_empty.ensures.kept)
+    (spares_dropped s c.drop_empty.new.self p c.args.slot
+    (rowless_type (slot_of s c.args.slot)) c.requires.ready free c.drop_empty.ensures.dropped c.drop_empty.ensures.kept)

@@ -1,8 +1,9 @@
 use Rattle.std.proofs.Common.{sym, ◌∙◌, ◌∷◌, nat_eq}
 use Rattle.std.specs.List.{list_any}
-use Rattle.eco_store.proofs.Readiness.{ready_spared, moves_spared, spares_both, spares_kept, spares_other, targeted, not_true}
+use Rattle.eco_store.proofs.Readiness.{ready_spared, moves_spared, spares_both, spares_kept, spares_other, targeted}
 use Rattle.eco_store.proofs.Rowless.{rowless_same, rowless_targeted}
 use Rattle.eco_store.proofs.prepared.Prepared.target.Goals as goal
+use Rattle.eco_ids.proofs.Facts.{not_true}
 
 pub returns-in-Ok-true-clause-ready : goal.returns-in-Ok-true-clause-ready
 returns-in-Ok-true-clause-ready c =
@@ -51,4 +52,5 @@ returns-in-Ok-true-clause-tidy c =
     let n = c.in_ok-slot.slot in
     rw c.in-Ok-true.ensures.ok
     (rowless_targeted c.waive.new.self p n
-    (rowless_same c.room_for.new.self c.waive.new.self (n ∷ p.targets) c.waive.ensures.rows c.waive.ensures.types (c.in_ok-slot.ensures.rowless p.targets c.requires.tidy)))
+    (rowless_same c.room_for.new.self c.waive.new.self (n ∷ p.targets) c.waive.ensures.rows c.waive.ensures.types
+    (c.in_ok-slot.ensures.rowless p.targets c.requires.tidy)))

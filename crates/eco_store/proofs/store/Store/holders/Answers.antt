@@ -1,19 +1,27 @@
-use Rattle.std.proofs.Common.{Result, Ok, Err, IfOk}
-use Rattle.eco_store.proofs.Holders.{holders_ascend, standing_apart, standing_holders}
-use Rattle.eco_store.proofs.Sorting.{sorted_is}
+use Rattle.std.proofs.Common.{Bool, List, sym, ◌∙◌}
+use Rattle.eco_ids.specs.declared.id.Id.{Id}
+use Rattle.eco_tables.specs.Tables.{slot_of}
+use Rattle.eco_store.specs.IdIndex.{names_any}
+use Rattle.eco_store.specs.Store.{read}
+use Rattle.eco_store.proofs.Holders.{found_naming, named_there, standing_apart, standing_whose, whose_ascend}
+use Rattle.eco_store.proofs.Sorting.{both_ok, sorted_is}
+use Rattle.eco_store.proofs.Values.{shows}
 use Rattle.eco_store.proofs.store.Store.holders.Goals as goal
-
-both_ok : {T E : Type 0} (P Q S : T → Type 0) → ((x : T) → P x → Q x → S x) → (r : Result T E) → IfOk r P → IfOk r Q → IfOk r S
-both_ok P Q S make (Ok x) p q = make x p q
-both_ok P Q S make (Err e) p q = tt
 
 pub returns : goal.returns
 returns c =
-    let found = c.in_ok-found.found in
-    both_ok _ _ _
+    let test : List Id → Bool = λ ids. names_any ids c.args.e in
+    let s = c.self.inside.archetypes in
+    let w = read c.self.inside.entities s in
+    let slots = c.tables_naming.result.now in
+    let listed = c.tables_naming.ensures.listed in
+    let shown = shows c.self.inside.entities s c.self.invariant.places (rw c.tables-tables.ensures.same at c.rows_have_ids.ensures) in
+    rw (← c.self.view_is)
+    (both_ok _ _ _
     (λ v all sorted.
     sorted_is c.handles_are_ordered.ensures.total c.handles_are_ordered.ensures.ties c.ascending_lists_are_sets.ensures.handles _ v.items _ all sorted
-    (standing_apart c.args.self.now.kept found.tables.now c.args.pattern c.in_ok-found.ensures.shown found.slots.items c.in_ok-found.ensures.distinct)
-    (holders_ascend c.args.self.now.kept c.args.pattern)
-    (standing_holders c.args.self.now.kept found.tables.now c.args.pattern c.in_ok-found.ensures.shown found.slots.items c.in_ok-found.ensures.listed))
-    c.entities.result c.entities.ensures.all c.entities.ensures.sorted
+    (standing_apart w s test shown slots c.tables_naming.ensures.distinct)
+    (whose_ascend w test)
+    (standing_whose w s test shown slots (λ n h. named_there c.args.e (slot_of s n) (sym (listed n) ∙ h))
+    (λ n h. listed n ∙ found_naming c.args.e (slot_of s n) h)))
+    c.entities_in.result (rw c.tables-tables.ensures.same at c.entities_in.ensures.all) c.entities_in.ensures.sorted)

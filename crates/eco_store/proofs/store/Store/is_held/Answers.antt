@@ -1,3 +1,5 @@
+use Rattle.std.specs.List.{list_any}
+use Rattle.eco_ids.specs.Matching.{pattern_matches}
 use Rattle.eco_store.proofs.Holders.{held_is}
 use Rattle.eco_store.proofs.Values.{shows}
 use Rattle.eco_store.proofs.store.Store.is_held.Goals as goal
@@ -5,5 +7,6 @@ use Rattle.eco_store.proofs.store.Store.is_held.Goals as goal
 pub returns : goal.returns
 returns c =
     rw (← c.self.view_is)
-    (held_is _ c.self.inside.archetypes c.args.pattern
-    (shows c.self.inside.entities c.self.inside.archetypes c.self.invariant.places (rw c.tables.ensures.same at c.rows_have_ids.ensures)) c.is_held.result c.is_held.ensures)
+    (held_is _ c.self.inside.archetypes (list_any (pattern_matches c.args.pattern))
+    (shows c.self.inside.entities c.self.inside.archetypes c.self.invariant.places
+    (rw c.tables.ensures.same at c.rows_have_ids.ensures)) c.is_held.result c.is_held.ensures)

@@ -1,9 +1,9 @@
 use Rattle.std.proofs.Common.{◌≡◌, ◌∷◌, IfSome, IsTrue, refl, sym, ap, subst, ◌∙◌}
-use Rattle.eco_tables.specs.Column.{retyped}
+use Rattle.eco_ids.specs.Indices.{changed}
 use Rattle.eco_tables.specs.Tables.{table_in, AllHaveIds}
 use Rattle.eco_store.specs.Archetypes.{RowlessIn}
 use Rattle.eco_store.specs.Preparing.{moves_of, is_next}
-use Rattle.eco_store.specs.Store.{StoreState, read, with_holding, held_by}
+use Rattle.eco_store.specs.Store.{StoreState, read, with_type}
 use Rattle.eco_store.proofs.ArchetypeLemmas.{there_by_row}
 use Rattle.eco_store.proofs.NextMoves.{next_type, next_left, rest_ready, rest_left, rest_ready_after, stays_there}
 use Rattle.eco_store.proofs.Rowless.{rowless_beside}
@@ -44,8 +44,8 @@ finish-requires c =
       })
     ]
 
-pub returns-clause-kept : goal.returns-clause-kept
-returns-clause-kept c =
+pub returns-clause-entities : goal.returns-clause-entities
+returns-clause-entities c =
     let s = c.self.inside.archetypes in
     let p = c.self.inside.prepared in
     let p' = c.take_next.new.self in
@@ -65,7 +65,7 @@ returns-clause-kept c =
           rw w.self-inside-is
           (same_read w.move_entity.new.entities w.move_entity.new.archetypes w.release.new.archetypes w.release.ensures.rows
           ∙ w.move_entity.ensures.read
-          ∙ (λ t. with_holding (read c.self.inside.entities s) e (retyped (typed t) (held_by (read c.self.inside.entities s) e))))
+          ∙ (λ t. changed (read c.self.inside.entities s) e (with_type (typed t))))
       | else-place-to w ↦
           rw w.self-inside-is
           (stays_there c.self.inside.entities s e place ids c.self.invariant.places own (subst AllHaveIds c.tables.ensures.same c.rows_have_ids.ensures)

@@ -1,14 +1,15 @@
-use Rattle.std.proofs.Common.{[], sym, ap, ◌∙◌, option_map}
+use Rattle.std.proofs.Common.{[], true≢false, sym, ap, ◌∙◌, option_map}
 use Rattle.std.specs.Option.{option_copied}
-use Rattle.eco_tables.specs.Column.{retyped}
+use Rattle.eco_ids.specs.Indices.{changed}
 use Rattle.eco_tables.specs.Table.{TableState}
 use Rattle.eco_tables.specs.Tables.{slot_of}
-use Rattle.eco_store.specs.Store.{with_holding, held_by}
+use Rattle.eco_store.specs.Store.{type_of, with_type}
 use Rattle.eco_store.proofs.ArchetypeLemmas.{there_by_row}
 use Rattle.eco_store.proofs.Forgetting.{still_seen}
-use Rattle.eco_store.proofs.Ids.{same_ids-Decides}
+use Rattle.eco_ids.proofs.SameIds.{same_ids-Decides}
 use Rattle.eco_store.proofs.Rowless.{sound_unprepared}
 use Rattle.eco_store.proofs.StoreChanges as changes
+use Rattle.eco_store.proofs.Values.{own_type_list}
 use Rattle.eco_store.proofs.store.Store.retype_at_once.Goals as goal
 
 pub unwrap-table-requires : goal.unwrap-table-requires
@@ -35,7 +36,8 @@ pub move_entity-requires-clause-apart : goal.move_entity-requires-clause-apart
 move_entity-requires-clause-apart c =
     let s = c.forget.new.archetypes in
     changes.other_slot s c.room_for.new.self c.unwrap-place.result.table c.in_ok-to.to c.unwrap-table.result.now.ids c.args.type_list.now
-    (ap (option_map (λ (t : TableState). t.ids)) (sym (c.get.ensures ∙ ap (λ x. slot_of x c.unwrap-place.result.table) c.tables.ensures.same) ∙ ap option_copied c.unwrap-table.ensures))
+    (ap (option_map (λ (t : TableState). t.ids)) (sym (c.get.ensures ∙ ap (λ x. slot_of x c.unwrap-place.result.table) c.tables.ensures.same)
+    ∙ ap option_copied c.unwrap-table.ensures))
     c.room_for.ensures.types c.in_ok-to.ensures.typed
     (rw (c.as_slice.ensures.ids ∙ c.type_list.ensures.ids, c.as_slice-2.ensures.ids) at (sym c.eq.ensures ∙ c.if-eq.false))
 
@@ -50,7 +52,7 @@ returns-clause-ok c =
     ∙ c.move_entity.ensures.read
     ∙ (λ t.
     let before = changes.same_read w s s1 c.room_for.ensures.rows t in
-    with_holding before c.args.e (retyped (changes.typed_table s1 c.in_ok-to.to c.args.type_list.now c.in_ok-to.ensures.typed t) (held_by before c.args.e))))
+    changed before c.args.e (with_type (changes.typed_table s1 c.in_ok-to.to c.args.type_list.now c.in_ok-to.ensures.typed t))))
 
 pub invariant_of-self-2 : goal.invariant_of-self-2
 invariant_of-self-2 c =
@@ -58,3 +60,16 @@ invariant_of-self-2 c =
     (changes.same_store c.move_entity.new.entities c.move_entity.new.archetypes c.drop_empty.new.self c.drop_empty.ensures.rows c.move_entity.ensures.store)
     c.forget.ensures.nothing
     (c.drop_empty.ensures.rowless [] (c.move_entity.ensures.rowless [] (c.in_ok-to.ensures.rowless [] c.forget.ensures.tidy)))
+
+pub returns-in_err-to-clause-own : goal.returns-in_err-to-clause-own
+returns-in_err-to-clause-own c = λ h.
+    let w = c.self.inside.entities in
+    let s = c.forget.new.archetypes in
+    let store = changes.same_store w c.self.inside.archetypes s c.forget.ensures.rows c.self.invariant.places in
+    let seen = still_seen w c.self.inside.archetypes s _ c.args.self.now c.forget.ensures.rows c.self.view_is in
+    let same =
+    own_type_list w s c.args.e c.unwrap-place.result c.unwrap-table.result.now c.args.type_list.now store (sym c.place_of.ensures ∙ c.unwrap-place.ensures)
+    (sym (c.get.ensures ∙ ap (λ x. slot_of x c.unwrap-place.result.table) c.tables.ensures.same) ∙ ap option_copied c.unwrap-table.ensures)
+    c.type_list.ensures.rows (ap (λ v. type_of v c.args.e) seen ∙ h) in
+    let differ = rw (c.as_slice.ensures.ids ∙ c.type_list.ensures.ids, c.as_slice-2.ensures.ids) at (sym c.eq.ensures ∙ c.if-eq.false) in
+    absurd (true≢false (sym ((same_ids-Decides _ _).1 same) ∙ differ))

@@ -13,30 +13,55 @@ use Rattle.eco_store.proofs.store.Store.set_value.Goals as goal
 
 pub set_value-requires : goal.set_value-requires
 set_value-requires c =
-    row_within c.self.inside.entities c.forget.new.archetypes c.args.e c.unwrap-place.result (same_store c.self.inside.entities c.self.inside.archetypes c.forget.new.archetypes c.forget.ensures.rows c.self.invariant.places) (sym c.place_of.ensures ∙ c.unwrap-place.ensures)
+    let w = c.self.inside.entities in
+    let place = c.unwrap-place.result in
+    let s = c.forget.new.archetypes in
+    let own = sym c.place_of.ensures ∙ c.unwrap-place.ensures in
+    let store = same_store w c.self.inside.archetypes s c.forget.ensures.rows c.self.invariant.places in
+    row_within w s c.args.e place store own
 
 pub invariant_of-self : goal.invariant_of-self
 invariant_of-self c =
+    let w = c.self.inside.entities in
+    let place = c.unwrap-place.result in
+    let s = c.forget.new.archetypes in
+    let s1 = c.set_value.new.self in
+    let own = sym c.place_of.ensures ∙ c.unwrap-place.ensures in
+    let store = same_store w c.self.inside.archetypes s c.forget.ensures.rows c.self.invariant.places in
     sound_unprepared _ _ _
-    (written_store c.self.inside.entities c.forget.new.archetypes c.set_value.new.self c.args.e c.unwrap-place.result c.args.id c.args.value (same_store c.self.inside.entities c.self.inside.archetypes c.forget.new.archetypes c.forget.ensures.rows c.self.invariant.places)
-    (sym c.place_of.ensures ∙ c.unwrap-place.ensures) c.set_value.ensures.written)
+    (written_store w s s1 c.args.e place c.args.id c.args.value store
+    own c.set_value.ensures.written)
     c.forget.ensures.nothing
-    (rowless_rewritten c.forget.new.archetypes c.set_value.new.self c.unwrap-place.result.table [] _ c.set_value.ensures.written
+    (rowless_rewritten s s1 place.table [] _ c.set_value.ensures.written
     (ap (λ o. length (unwrap_or o no_table).rows) c.set_value.ensures.written.changed ∙ length-set _ _ _)
-    (there_by_row c.forget.new.archetypes c.unwrap-place.result.table c.unwrap-place.result.row
-    (row_within c.self.inside.entities c.forget.new.archetypes c.args.e c.unwrap-place.result (same_store c.self.inside.entities c.self.inside.archetypes c.forget.new.archetypes c.forget.ensures.rows c.self.invariant.places) (sym c.place_of.ensures ∙ c.unwrap-place.ensures)))
+    (there_by_row s place.table place.row
+    (row_within w s c.args.e place store own))
     c.forget.ensures.tidy)
 
 pub returns-clause-written : goal.returns-clause-written
 returns-clause-written c =
-    rw (← (still_seen c.self.inside.entities c.self.inside.archetypes c.forget.new.archetypes _ c.args.self.now c.forget.ensures.rows c.self.view_is))
-    (written_read c.self.inside.entities c.forget.new.archetypes c.set_value.new.self c.args.e c.unwrap-place.result c.args.id c.args.value (same_store c.self.inside.entities c.self.inside.archetypes c.forget.new.archetypes c.forget.ensures.rows c.self.invariant.places)
-    (sym c.place_of.ensures ∙ c.unwrap-place.ensures) c.set_value.ensures.written)
+    let w = c.self.inside.entities in
+    let place = c.unwrap-place.result in
+    let s = c.forget.new.archetypes in
+    let s1 = c.set_value.new.self in
+    let own = sym c.place_of.ensures ∙ c.unwrap-place.ensures in
+    let store = same_store w c.self.inside.archetypes s c.forget.ensures.rows c.self.invariant.places in
+    let seen = still_seen w c.self.inside.archetypes s _ c.args.self.now c.forget.ensures.rows c.self.view_is in
+    rw (← seen)
+    (written_read w s s1 c.args.e place c.args.id c.args.value store
+    own c.set_value.ensures.written)
 
 pub returns-clause-had : goal.returns-clause-had
 returns-clause-had c =
-    rw (← (still_seen c.self.inside.entities c.self.inside.archetypes c.forget.new.archetypes _ c.args.self.now c.forget.ensures.rows c.self.view_is))
+    let w = c.self.inside.entities in
+    let place = c.unwrap-place.result in
+    let s = c.forget.new.archetypes in
+    let s1 = c.set_value.new.self in
+    let own = sym c.place_of.ensures ∙ c.unwrap-place.ensures in
+    let store = same_store w c.self.inside.archetypes s c.forget.ensures.rows c.self.invariant.places in
+    let seen = still_seen w c.self.inside.archetypes s _ c.args.self.now c.forget.ensures.rows c.self.view_is in
+    rw (← seen)
     (c.set_value.ensures.had
     ∙ sym (ap (λ held. is_some (find id_cmp c.args.id held))
-    (held_read c.self.inside.entities c.forget.new.archetypes c.set_value.new.self c.args.e c.unwrap-place.result c.args.id c.args.value (same_store c.self.inside.entities c.self.inside.archetypes c.forget.new.archetypes c.forget.ensures.rows c.self.invariant.places)
-    (sym c.place_of.ensures ∙ c.unwrap-place.ensures) c.set_value.ensures.written)))
+    (held_read w s s1 c.args.e place c.args.id c.args.value store
+    own c.set_value.ensures.written)))

@@ -11,7 +11,8 @@ unwrap-table-requires c =
     some_from_copied c.get.result (slot_of c.self.inside.archetypes c.in_ok-place.place.table)
     (c.get.ensures ∙ ap (λ s. slot_of s c.in_ok-place.place.table) c.tables.ensures.same)
     (there_by_row c.self.inside.archetypes c.in_ok-place.place.table c.in_ok-place.place.row
-    (row_within c.self.inside.entities c.self.inside.archetypes c.args.e c.in_ok-place.place c.self.invariant.places (sym c.place_of.ensures ∙ c.in_ok-place.was)))
+    (row_within c.self.inside.entities c.self.inside.archetypes c.args.e c.in_ok-place.place c.self.invariant.places
+    (sym c.place_of.ensures ∙ c.in_ok-place.was)))
 
 pub returns : goal.returns
 returns c =

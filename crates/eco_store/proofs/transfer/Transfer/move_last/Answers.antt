@@ -12,10 +12,13 @@ set_place-requires c =
     let es = c.rows-entities_there.result.now in
     let d : Entity = record { index = 0; generation = 0 } in
     let table : table_in s c.args.self.from ≡ c.unwrap.result.now =
-    ap (λ o. unwrap_or o no_table) (sym (c.get.ensures ∙ ap (λ x. slot_of x c.args.self.from) c.tables-tables.ensures.same) ∙ ap option_copied c.unwrap.ensures) in
+    ap (λ o. unwrap_or o no_table) (sym (c.get.ensures ∙ ap (λ x. slot_of x c.args.self.from) c.tables-tables.ensures.same)
+    ∙ ap option_copied c.unwrap.ensures) in
     let there : es ≡ entities_of (table_in s c.args.self.from).rows = c.rows-entities_there.ensures ∙ ap (λ (t : TableState). entities_of t.rows) (sym table) in
-    last_alive c.args.entities.now s c.move_row.new.self c.args.self.from c.args.self.to (length es - 1) c.row_count-end.result es (get_or es (length es - 1) d) d
-    c.requires.store c.requires.apart c.requires.row c.requires.room there refl refl (c.row_count-end.ensures ∙ ap (λ x. length (table_in x c.args.self.to).rows) c.tables-tables.ensures.same)
+    last_alive c.args.entities.now s c.move_row.new.self c.args.self.from c.args.self.to (length es - 1) c.row_count-end.result es
+    (get_or es (length es - 1) d) d
+    c.requires.store c.requires.apart c.requires.row c.requires.room there refl refl
+    (c.row_count-end.ensures ∙ ap (λ x. length (table_in x c.args.self.to).rows) c.tables-tables.ensures.same)
 
 pub returns-clause-store : goal.returns-clause-store
 returns-clause-store c =
@@ -23,11 +26,14 @@ returns-clause-store c =
     let es = c.rows-entities_there.result.now in
     let d : Entity = record { index = 0; generation = 0 } in
     let table : table_in s c.args.self.from ≡ c.unwrap.result.now =
-    ap (λ o. unwrap_or o no_table) (sym (c.get.ensures ∙ ap (λ x. slot_of x c.args.self.from) c.tables-tables.ensures.same) ∙ ap option_copied c.unwrap.ensures) in
+    ap (λ o. unwrap_or o no_table) (sym (c.get.ensures ∙ ap (λ x. slot_of x c.args.self.from) c.tables-tables.ensures.same)
+    ∙ ap option_copied c.unwrap.ensures) in
     let there : es ≡ entities_of (table_in s c.args.self.from).rows = c.rows-entities_there.ensures ∙ ap (λ (t : TableState). entities_of t.rows) (sym table) in
     rw c.set_place.ensures
-    (last_store c.args.entities.now s c.move_row.new.self c.args.self.from c.args.self.to (length es - 1) c.row_count-end.result es (get_or es (length es - 1) d) d
-    c.requires.store c.requires.apart c.requires.row c.requires.room there refl refl (c.row_count-end.ensures ∙ ap (λ x. length (table_in x c.args.self.to).rows) c.tables-tables.ensures.same)
+    (last_store c.args.entities.now s c.move_row.new.self c.args.self.from c.args.self.to (length es - 1) c.row_count-end.result es
+    (get_or es (length es - 1) d) d
+    c.requires.store c.requires.apart c.requires.row c.requires.room there refl refl
+    (c.row_count-end.ensures ∙ ap (λ x. length (table_in x c.args.self.to).rows) c.tables-tables.ensures.same)
     c.move_row.ensures.moves)
 
 pub returns-clause-ends : goal.returns-clause-ends
@@ -36,9 +42,12 @@ returns-clause-ends c =
     let es = c.rows-entities_there.result.now in
     let d : Entity = record { index = 0; generation = 0 } in
     let table : table_in s c.args.self.from ≡ c.unwrap.result.now =
-    ap (λ o. unwrap_or o no_table) (sym (c.get.ensures ∙ ap (λ x. slot_of x c.args.self.from) c.tables-tables.ensures.same) ∙ ap option_copied c.unwrap.ensures) in
+    ap (λ o. unwrap_or o no_table) (sym (c.get.ensures ∙ ap (λ x. slot_of x c.args.self.from) c.tables-tables.ensures.same)
+    ∙ ap option_copied c.unwrap.ensures) in
     let there : es ≡ entities_of (table_in s c.args.self.from).rows = c.rows-entities_there.ensures ∙ ap (λ (t : TableState). entities_of t.rows) (sym table) in
     rw c.set_place.ensures
-    (last_ends c.args.entities.now s c.move_row.new.self c.args.self.from c.args.self.to (length es - 1) c.row_count-end.result es (get_or es (length es - 1) d) d
-    c.requires.store c.requires.apart c.requires.row c.requires.room there refl refl (c.row_count-end.ensures ∙ ap (λ x. length (table_in x c.args.self.to).rows) c.tables-tables.ensures.same)
+    (last_ends c.args.entities.now s c.move_row.new.self c.args.self.from c.args.self.to (length es - 1) c.row_count-end.result es
+    (get_or es (length es - 1) d) d
+    c.requires.store c.requires.apart c.requires.row c.requires.room there refl refl
+    (c.row_count-end.ensures ∙ ap (λ x. length (table_in x c.args.self.to).rows) c.tables-tables.ensures.same)
     c.move_row.ensures.moves (rw c.tables-tables.ensures.same at c.rows_have_ids.ensures) c.tables-tables.ensures.kinds)

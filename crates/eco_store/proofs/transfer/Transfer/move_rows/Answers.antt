@@ -1,6 +1,6 @@
 use Rattle.std.proofs.Common.{◌≡◌, ◌-◌, sym, ap, ◌∙◌, arith, unwrap_or, length, subst, ◌<◌}
 use Rattle.eco_tables.specs.Tables.{table_in, no_table, no_row, AllHaveIds}
-use Rattle.eco_tables.proofs.Lists.{length-swap_remove}
+use Rattle.eco_ids.proofs.Lists.{length-swap_remove}
 use Rattle.eco_store.specs.Retyping.{after_change}
 use Rattle.eco_store.specs.Store.{read}
 use Rattle.eco_store.specs.Transfers.{change_of}
@@ -27,12 +27,14 @@ loop-moved-preserved c =
     let to = c.args.self.to in
     let was = c.loop-moved.invariant in
     let moves = c.move_last.ensures.moves in
-    let rows : c.row_count-rows.result ≡ length (table_in s0 from).rows = c.row_count-rows.ensures ∙ ap (λ x. length (table_in x from).rows) c.tables.ensures.same in
+    let rows : c.row_count-rows.result ≡ length (table_in s0 from).rows = c.row_count-rows.ensures
+    ∙ ap (λ x. length (table_in x from).rows) c.tables.ensures.same in
     let left : length (table_in s1 from).rows ≡ length (table_in s from).rows - 1 =
     ap (λ o. length (unwrap_or o no_table).rows) moves.source ∙ length-swap_remove (table_in s from).rows (length (table_in s from).rows - 1) no_row in
     let room : (table_in s1 to).room ≡ (table_in s to).room - 1 = ap (λ o. (unwrap_or o no_table).room) moves.target in
     let some : 0 < (table_in s to).room = omega (arith, rows, c.requires.room, was.room, c.loop-moved-test.true) in
-    let types = moves_types s s1 from (length (table_in s from).rows - 1) to moves (still_there s0 s from (was.types from) c.requires.there) (there_by_room s to some) in
+    let types = moves_types s s1 from (length (table_in s from).rows - 1) to moves (still_there s0 s from (was.types from) c.requires.there)
+    (there_by_room s to some) in
     let same = change_kept s0 s c.args.self (was.types from) (was.types to) in
     record {
       store = c.move_last.ensures.store;
@@ -60,7 +62,8 @@ pub returns-clause-read : goal.returns-clause-read
 returns-clause-read c =
     let s0 = c.args.archetypes.now in
     let s = c.loop-moved.archetypes in
-    sym (nobody_left c.loop-moved.entities s c.args.self.from (change_of s0 c.args.self) c.loop-moved.invariant.store (subst AllHaveIds c.tables-2.ensures.same c.rows_have_ids.ensures) c.tables-2.ensures.kinds
+    sym (nobody_left c.loop-moved.entities s c.args.self.from (change_of s0 c.args.self) c.loop-moved.invariant.store
+    (subst AllHaveIds c.tables-2.ensures.same c.rows_have_ids.ensures) c.tables-2.ensures.kinds
     (c.loop-moved.invariant.types c.args.self.from ∙ type_there s0 c.args.self.from c.requires.there)
     (omega (arith, c.loop-moved.invariant.rows, c.loop-moved-test.false)))
     ∙ c.loop-moved.invariant.ends

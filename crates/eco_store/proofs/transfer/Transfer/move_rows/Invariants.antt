@@ -12,5 +12,6 @@ invariant-loop-moved l = record {
   rows : length (table_in l.archetypes l.self.from).rows + l._moved ≡ l.rows;
   room : (table_in l.initial.archetypes l.self.to).room ≤ (table_in l.archetypes l.self.to).room + l._moved;
   others : (n : ℕ) → n ≢ l.self.from → n ≢ l.self.to → slot_of l.archetypes n ≡ slot_of l.initial.archetypes n;
-  ends : after_change (read l.entities l.archetypes) (change_of l.initial.archetypes l.self) ≡ after_change (read l.initial.entities l.initial.archetypes) (change_of l.initial.archetypes l.self);
+  ends : after_change (read l.entities l.archetypes) (change_of l.initial.archetypes l.self)
+      ≡ after_change (read l.initial.entities l.initial.archetypes) (change_of l.initial.archetypes l.self);
 }

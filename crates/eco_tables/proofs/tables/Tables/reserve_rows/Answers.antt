@@ -1,10 +1,9 @@
-use Rattle.std.proofs.Common.{sym, ap, subst, is_some}
+use Rattle.std.proofs.Common.{sym, subst}
 use Rattle.eco_tables.specs.Table.{RowsHaveIds}
-use Rattle.eco_tables.proofs.RowIds.{changed_have, there_has}
+use Rattle.eco_tables.proofs.RowIds.{still_have}
 use Rattle.eco_tables.proofs.tables.Tables.reserve_rows.Goals as goal
 
 pub invariant_of-self : goal.invariant_of-self
 invariant_of-self c =
-    changed_have c.self.inside.slots c.args.slot c.reserve.new.self (ap is_some c.index_mut-table.ensures.value)
-    (subst RowsHaveIds (sym c.reserve.ensures.same) (there_has c.self.inside.slots.slots c.args.slot c.index_mut-table.result.now c.index_mut-table.ensures.value c.self.invariant))
-    c.self.invariant
+    still_have c.self.inside.slots c.args.slot _ c.reserve.new.self c.index_mut-table.ensures.value
+    (λ has. subst RowsHaveIds (sym c.reserve.ensures.same) has) c.self.invariant

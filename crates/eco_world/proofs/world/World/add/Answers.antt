@@ -14,4 +14,5 @@ returns-in_err-check_actor c =
     let e = c.args.entity in
     let p = err_from_is_err_and c.from_residual.result c.from_residual.ensures.1 in
     rw (p.1, p.2)
-    (refused w e _ ((not (names_living w c.args.id), DeadId) ∷ []) (λ r new. MatchBool (has w e c.args.id) (Answers tt w r new) (Extends w e c.args.id unchanged r new)) _ c.in_err-check_actor.ensures.err)
+    (refused w e _ c.in_err-check_actor.ensures.err ((not (names_living w c.args.id), DeadId) ∷ [])
+    (λ r new. MatchBool (has w e c.args.id) (Answers tt w r new) (Extends w e c.args.id unchanged r new)) _)

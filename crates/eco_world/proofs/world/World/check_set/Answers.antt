@@ -8,4 +8,9 @@ use Rattle.eco_world.proofs.world.World.check_set.Goals as goal
 pub returns-in_err-check_actor-clause-err : goal.returns-in_err-check_actor-clause-err
 returns-in_err-check_actor-clause-err c =
     let p = err_from_is_err_and c.from_residual.result c.from_residual.ensures.1 in
-    rw (p.1, p.2) (record { first = c.in_err-check_actor.ensures.err.first ((not (names_living c.args.self.now c.args.id), DeadId) ∷ (not (is_some (arity c.args.self.now c.args.id)), NotData) ∷ (not (fits c.args.self.now c.args.id c.args.value), TooWide) ∷ []); other = c.in_err-check_actor.ensures.err.other })
+    rw (p.1, p.2) (record {
+      first = c.in_err-check_actor.ensures.err.first
+          ((not (names_living c.args.self.now c.args.id), DeadId) ∷ (not (is_some (arity c.args.self.now c.args.id)), NotData) ∷
+          (not (fits c.args.self.now c.args.id c.args.value), TooWide) ∷ []);
+      other = c.in_err-check_actor.ensures.err.other;
+    })

@@ -1,27 +1,38 @@
-use Rattle.std.proofs.Common.{not, ◌&&◌, ◌∷◌, []}
+use Rattle.std.proofs.Common.{Bool, ap, ◌∙◌, sym, subst}
 use Rattle.std.proofs.lemmas.Result.{err_from_is_err_and}
 use Rattle.std.specs.Option.{option_copied}
-use Rattle.eco_ids.specs.declared.refusal.Refusal.TheVariants.{BadName, NameTaken}
-use Rattle.eco_ids.specs.Names.{is_proper, is_same_name, is_taken}
-use Rattle.eco_ids.specs.Outcome.{Answers}
-use Rattle.eco_ids.specs.Step.{own_name, changed, with_name}
-use Rattle.eco_world.proofs.Steps.{meets_renames, lawful_renamed, refused}
+use Rattle.eco_ids.specs.Builtin.{is_builtin}
+use Rattle.eco_ids.specs.Outcome.{Meets}
+use Rattle.eco_ids.specs.Renaming.{RenamesWith, may_rename}
+use Rattle.eco_ids.specs.Step.{with_name}
+use Rattle.eco_ids.specs.World.{WorldState}
+use Rattle.eco_store.specs.Store.{record_name}
+use Rattle.eco_world.proofs.Steps.{lawful_lifted, lifted, rename_refused}
+use Rattle.eco_world.specs.Worlds.{world_of}
 use Rattle.eco_world.proofs.world.World.rename.Goals as goal
 
 pub returns-in_err-check_actor : goal.returns-in_err-check_actor
 returns-in_err-check_actor c =
-    let w = c.args.self.now in
-    let e = c.args.entity in
-    let name = option_copied c.args.name in
     let p = err_from_is_err_and c.from_residual.result c.from_residual.ensures.1 in
-    rw (p.1, p.2)
-    (refused w e _ ((not (is_proper name), BadName) ∷ (not (is_same_name (own_name w e) name) && is_taken w name, NameTaken) ∷ []) (λ r new. Answers tt (changed w e (with_name name)) r new) _ c.in_err-check_actor.ensures.err)
+    rw (p.1, p.2) (rename_refused c.args.self.now c.args.entity _ c.in_err-check_actor.ensures.err (option_copied c.args.name))
 
 pub invariant_of-self : goal.invariant_of-self
 invariant_of-self c =
-    lawful_renamed c.self.inside.store.kept c.self.inside.arities.items c.args.entity c.in_ok-check_actor.ensures.ok.1 (option_copied c.args.name) c.rename.result c.rename.new.self.kept c.self.invariant (c.steps_keep_lawful.ensures.rename c.args.entity (option_copied c.args.name)) c.rename.ensures.step
+    let e = c.args.entity in
+    let name = option_copied c.args.name in
+    let old = c.self.inside.store.entities in
+    let new = c.rename.new.self.entities in
+    let step = subst (λ (b : Bool). Meets (RenamesWith record_name with_name old e b name) (may_rename record_name old e b name) old c.rename.result new)
+    (sym (ap (λ (x : WorldState). is_builtin x e) c.self.view_is ∙ c.in_ok-check_actor.ensures.ok.1)) c.rename.ensures.step in
+    lawful_lifted (λ v. RenamesWith record_name with_name v e (is_builtin (world_of old) e) name) _ old new c.rename.result c.self.invariant
+    (c.steps_keep_lawful.ensures.rename e name _ _ _ c.self.invariant) step
 
 pub returns : goal.returns
 returns c =
-    rw (← c.self.view_is)
-    (meets_renames c.self.inside.store.kept c.self.inside.arities.items c.args.entity c.in_ok-check_actor.ensures.ok.1 (option_copied c.args.name) c.rename.result c.rename.new.self.kept c.rename.ensures.step)
+    let e = c.args.entity in
+    let name = option_copied c.args.name in
+    let old = c.self.inside.store.entities in
+    let new = c.rename.new.self.entities in
+    let step = subst (λ (b : Bool). Meets (RenamesWith record_name with_name old e b name) (may_rename record_name old e b name) old c.rename.result new)
+    (sym (ap (λ (x : WorldState). is_builtin x e) c.self.view_is ∙ c.in_ok-check_actor.ensures.ok.1)) c.rename.ensures.step in
+    rw (← c.self.view_is) (lifted (λ v. RenamesWith record_name with_name v e (is_builtin (world_of old) e) name) _ old new c.rename.result step)

@@ -2,40 +2,48 @@ use Rattle.std.proofs.Common.{◌≡◌, true, sym, ◌∙◌, Ok, Err, MatchBoo
 use Rattle.std.proofs.lemmas.Result.{err_from_is_err_and}
 use Rattle.eco_ids.specs.Outcome.{Meets}
 use Rattle.eco_ids.specs.Step.{Extends, Sets, changed, unchanged, with_value}
-use Rattle.eco_world.proofs.Types.{lawful_there, there_after, alive_after, lawful_after, refused_after, sets_after}
+use Rattle.eco_world.proofs.Extending.{lawful_there, there_after, alive_after, lawful_after, refused_after, sets_after}
 use Rattle.eco_world.proofs.world.World.set.Goals as goal
 
 pub write-requires-clause-lawful : goal.write-requires-clause-lawful
 write-requires-clause-lawful c =
-    lawful_there c.args.self.now c.args.entity c.args.id c.args.value c.in_ok-check_set.ensures.ok c.is_lawful.ensures (c.steps_keep_lawful.ensures.set c.args.entity c.args.id c.args.value)
+    lawful_there c.args.self.now c.args.entity c.args.id c.args.value c.in_ok-check_set.ensures.ok c.is_lawful.ensures
+    (c.steps_keep_lawful.ensures.set c.args.entity c.args.id c.args.value)
 
 pub returns-in_err-extend : goal.returns-in_err-extend
 returns-in_err-extend c =
     let p = err_from_is_err_and c.from_residual-in_err-extend.result c.from_residual-in_err-extend.ensures.1 in
     rw (p.1, p.2)
-    (refused_after c.args.self.now c.args.entity c.args.id c.args.value c.in_ok-check_set.ensures.ok c.is_lawful.ensures (c.steps_keep_lawful.ensures.set c.args.entity c.args.id c.args.value)
+    (refused_after c.args.self.now c.args.entity c.args.id c.args.value c.in_ok-check_set.ensures.ok c.is_lawful.ensures
+    (c.steps_keep_lawful.ensures.set c.args.entity c.args.id c.args.value)
     (sym c.if-write.ensures.had) c.in_err-extend.field-0.0 c.extend.new.self
-    (subst (λ w. Meets (Extends w c.args.entity c.args.id unchanged) true w (Err c.in_err-extend.field-0.0) c.extend.new.self) c.if-write.ensures.written c.in_err-extend.ensures))
+    (subst (λ w. Meets (Extends w c.args.entity c.args.id unchanged) true w
+    (Err c.in_err-extend.field-0.0) c.extend.new.self) c.if-write.ensures.written c.in_err-extend.ensures))
 
 pub write-requires-2-clause-alive : goal.write-requires-2-clause-alive
 write-requires-2-clause-alive c =
     let extends = subst (λ w. Extends w c.args.entity c.args.id unchanged (Ok tt) c.extend.new.self) c.if-write.ensures.written c.in_ok-extend.ensures in
-    alive_after c.args.self.now c.args.entity c.args.id c.args.value c.in_ok-check_set.ensures.ok c.is_lawful.ensures (c.steps_keep_lawful.ensures.set c.args.entity c.args.id c.args.value)
+    alive_after c.args.self.now c.args.entity c.args.id c.args.value c.in_ok-check_set.ensures.ok c.is_lawful.ensures
+    (c.steps_keep_lawful.ensures.set c.args.entity c.args.id c.args.value)
     (sym c.if-write.ensures.had) c.add_adds_once.ensures c.extend.new.self extends
 
 pub write-requires-2-clause-lawful : goal.write-requires-2-clause-lawful
 write-requires-2-clause-lawful c = λ there.
     let extends = subst (λ w. Extends w c.args.entity c.args.id unchanged (Ok tt) c.extend.new.self) c.if-write.ensures.written c.in_ok-extend.ensures in
-    lawful_after c.args.self.now c.args.entity c.args.id c.args.value c.in_ok-check_set.ensures.ok c.is_lawful.ensures (c.steps_keep_lawful.ensures.set c.args.entity c.args.id c.args.value)
+    lawful_after c.args.self.now c.args.entity c.args.id c.args.value c.in_ok-check_set.ensures.ok c.is_lawful.ensures
+    (c.steps_keep_lawful.ensures.set c.args.entity c.args.id c.args.value)
     (sym c.if-write.ensures.had) c.add_adds_once.ensures c.extend.new.self extends
 
 pub returns : goal.returns
 returns c =
     let extends = subst (λ w. Extends w c.args.entity c.args.id unchanged (Ok tt) c.extend.new.self) c.if-write.ensures.written c.in_ok-extend.ensures in
-    let there = there_after c.args.self.now c.args.entity c.args.id c.args.value c.in_ok-check_set.ensures.ok c.is_lawful.ensures (c.steps_keep_lawful.ensures.set c.args.entity c.args.id c.args.value)
+    let there = there_after c.args.self.now c.args.entity c.args.id c.args.value c.in_ok-check_set.ensures.ok c.is_lawful.ensures
+    (c.steps_keep_lawful.ensures.set c.args.entity c.args.id c.args.value)
     (sym c.if-write.ensures.had) c.add_adds_once.ensures c.extend.new.self extends in
     let is : c.write-2.new.self ≡ changed c.extend.new.self c.args.entity (with_value c.args.id c.args.value) =
-    subst (λ b. MatchBool b (c.write-2.new.self ≡ changed c.extend.new.self c.args.entity (with_value c.args.id c.args.value)) (c.write-2.new.self ≡ c.extend.new.self)) (c.write-2.ensures.had ∙ there) c.write-2.ensures.written in
+    subst (λ b. MatchBool b (c.write-2.new.self ≡ changed c.extend.new.self c.args.entity (with_value c.args.id c.args.value))
+    (c.write-2.new.self ≡ c.extend.new.self)) (c.write-2.ensures.had ∙ there) c.write-2.ensures.written in
     subst (λ w. Sets c.args.self.now c.args.entity c.args.id c.args.value (Ok tt) w) (sym is)
-    (sets_after c.args.self.now c.args.entity c.args.id c.args.value c.in_ok-check_set.ensures.ok c.is_lawful.ensures (c.steps_keep_lawful.ensures.set c.args.entity c.args.id c.args.value)
+    (sets_after c.args.self.now c.args.entity c.args.id c.args.value c.in_ok-check_set.ensures.ok c.is_lawful.ensures
+    (c.steps_keep_lawful.ensures.set c.args.entity c.args.id c.args.value)
     (sym c.if-write.ensures.had) c.add_adds_once.ensures c.extend.new.self extends)

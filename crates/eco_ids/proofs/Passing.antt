@@ -1,0 +1,167 @@
+-- The living entities that pass a test, in a list of what is known of each index.
+use Rattle.std.proofs.Common.{◌≡◌, ℕ, zero, suc, ◌+◌, ◌<◌, Bool, true, false, true≢false, cond, ◌⊎◌, inl, inr, IsTrue, is_lt, List, [], ◌∷◌, map, filter, slice_get, Some, refl, sym, ap, ◌∙◌, subst, arith, Less}
+use Rattle.std.specs.List.{list_any, list_all}
+use Rattle.std.specs.Ordering.{ordering_then, nat_cmp}
+use Rattle.std.proofs.lemmas.Bool.Decides.{nat_tests}
+use Rattle.eco_ids.specs.declared.entity.Entity.{Entity}
+use Rattle.eco_ids.specs.Indices.{Indexed, IndexState, Retired, Free, Living, record_of, living, living_from}
+use Rattle.eco_ids.specs.Order.{entity_cmp, entity_eq, has_item, is_ascending}
+use Rattle.eco_ids.proofs.Ascending.{both}
+use Rattle.eco_ids.proofs.Facts.{or_parts, or_right, or_left}
+use Rattle.eco_ids.proofs.Overlaps.{entity_eq_is, entity_eq_itself}
+use Rattle.eco_ids.proofs.States.{living_at, record_at}
+
+module _ {A : Type 0} (test : A → Bool) where
+  -- the index and what is kept of one that passes
+  abbrev pub Passes : List (IndexState A) → Type 0
+  Passes xs = (k : ℕ) × (g : ℕ) × (a : A) × (slice_get xs k ≡ Some (Living g a)) × (test a ≡ true)
+
+  later : (x : IndexState A) (xs : List (IndexState A)) → Passes xs → Passes (x ∷ xs)
+  later x xs p = (suc p.0, p.1, p.2, p.3, p.4)
+
+  -- where some living one passes, it is at an index
+  pub passes : (n : ℕ) (xs : List (IndexState A)) → list_any (λ (p : Entity × A). test p.1) (living_from n xs) ≡ true → Passes xs
+  passes n [] h = absurd (true≢false (sym h))
+  passes n (Retired ∷ xs) h = later Retired xs (passes (n + 1) xs h)
+  passes n (Free g ∷ xs) h = later (Free g) xs (passes (n + 1) xs h)
+  passes n (Living g a ∷ xs) h =
+      elim (or_parts (test a) (list_any (λ (p : Entity × A). test p.1) (living_from (n + 1) xs)) h) as (λ _. Passes (Living g a ∷ xs)) [
+        | inl is ↦ (0, g, a, refl, is)
+        | inr more ↦ later (Living g a) xs (passes (n + 1) xs more)
+      ]
+
+  -- where one at an index passes, some living one does
+  pub passing : (n : ℕ) (xs : List (IndexState A)) (k g : ℕ) (a : A) → slice_get xs k ≡ Some (Living g a) → test a ≡ true →
+      list_any (λ (p : Entity × A). test p.1) (living_from n xs) ≡ true
+  passing n [] k g a at h = absurd (cc)
+  passing n (Retired ∷ xs) zero g a at h = absurd (cc)
+  passing n (Retired ∷ xs) (suc k) g a at h = passing (n + 1) xs k g a at h
+  passing n (Free f ∷ xs) zero g a at h = absurd (cc)
+  passing n (Free f ∷ xs) (suc k) g a at h = passing (n + 1) xs k g a at h
+  passing n (Living f b ∷ xs) zero g a at h = let same : b ≡ a = cc in or_left (test b) _ (ap test same ∙ h)
+  passing n (Living f b ∷ xs) (suc k) g a at h = or_right (test b) _ (passing (n + 1) xs k g a at h)
+
+  -- those who pass, ascending
+  abbrev pub passed_from : ℕ → List (IndexState A) → List Entity
+  passed_from n xs = map (λ (p : Entity × A). p.0) (filter (λ (p : Entity × A). test p.1) (living_from n xs))
+
+  here_or_later : (n g : ℕ) (a : A) (xs : List (IndexState A)) (e : Entity) (b : Bool) → test a ≡ b
+      → IsTrue (has_item entity_cmp
+      (map (λ (p : Entity × A). p.0)
+      (cond b ((record { index = n; generation = g }, a) ∷ filter (λ (p : Entity × A). test p.1) (living_from (n + 1) xs))
+      (filter (λ (p : Entity × A). test p.1) (living_from (n + 1) xs)))) e)
+      → ((record { index = n; generation = g } ≡ e) × (test a ≡ true)) ⊎ IsTrue (has_item entity_cmp (passed_from (n + 1) xs) e)
+  here_or_later n g a xs e true is h =
+      elim (or_parts (entity_eq (record { index = n; generation = g }) e) (has_item entity_cmp (passed_from (n + 1) xs) e) h) as
+      (λ _. ((record { index = n; generation = g } ≡ e) × (test a ≡ true)) ⊎ IsTrue (has_item entity_cmp (passed_from (n + 1) xs) e)) [
+        | inl same ↦ inl (entity_eq_is (record { index = n; generation = g }) e same, is)
+        | inr more ↦ inr more
+      ]
+  here_or_later n g a xs e false is h = inr h
+
+  -- who is among them stands at its index, and passes
+  abbrev pub PassesAt : List (IndexState A) → ℕ → Entity → Type 0
+  PassesAt xs n e = (k : ℕ) × (a : A) × (e.index ≡ n + k) × (slice_get xs k ≡ Some (Living e.generation a)) × (test a ≡ true)
+
+  one_more : (x : IndexState A) (xs : List (IndexState A)) (n : ℕ) (e : Entity) → PassesAt xs (n + 1) e → PassesAt (x ∷ xs) n e
+  one_more x xs n e p = (suc p.0, p.1, omega (arith, p.2), p.3, p.4)
+
+  pub among_passed : (n : ℕ) (xs : List (IndexState A)) (e : Entity) → IsTrue (has_item entity_cmp (passed_from n xs) e) → PassesAt xs n e
+  among_passed n [] e h = absurd (true≢false (sym h))
+  among_passed n (Retired ∷ xs) e h = one_more Retired xs n e (among_passed (n + 1) xs e h)
+  among_passed n (Free g ∷ xs) e h = one_more (Free g) xs n e (among_passed (n + 1) xs e h)
+  among_passed n (Living g a ∷ xs) e h =
+      elim (here_or_later n g a xs e (test a) refl h) as (λ _. PassesAt (Living g a ∷ xs) n e) [
+        | inl p ↦ (
+          0,
+          a,
+          let at : n ≡ e.index = ap (λ (x : Entity). x.index) p.0 in omega (arith, at),
+          ap (λ (x : Entity). Some (Living x.generation a)) p.0,
+          p.1,
+        )
+        | inr more ↦ one_more (Living g a) xs n e (among_passed (n + 1) xs e more)
+      ]
+
+  pub passed_among : (n : ℕ) (xs : List (IndexState A)) (k g : ℕ) (a : A) → slice_get xs k ≡ Some (Living g a) → test a ≡ true
+      → (e : Entity) → e.index ≡ n + k → e.generation ≡ g → IsTrue (has_item entity_cmp (passed_from n xs) e)
+  passed_among n [] k g a at h e i s = absurd (cc)
+  passed_among n (Retired ∷ xs) zero g a at h e i s = absurd (cc)
+  passed_among n (Retired ∷ xs) (suc k) g a at h e i s = passed_among (n + 1) xs k g a at h e (omega (arith, i)) s
+  passed_among n (Free f ∷ xs) zero g a at h e i s = absurd (cc)
+  passed_among n (Free f ∷ xs) (suc k) g a at h e i s = passed_among (n + 1) xs k g a at h e (omega (arith, i)) s
+  passed_among n (Living f b ∷ xs) zero g a at h e i s =
+      let kind : b ≡ a = cc in
+      let age : f ≡ g = cc in
+      let place : n ≡ e.index = omega (arith, i) in
+      let is : test b ≡ true = ap test kind ∙ h in
+      let own : record { index = n; generation = f } ≡ e = (λ t. record { index = place t; generation = (age ∙ sym s) t }) in
+      subst (λ c. IsTrue (has_item entity_cmp
+      (map (λ (p : Entity × A). p.0)
+      (cond c ((record { index = n; generation = f }, b) ∷ filter (λ (p : Entity × A). test p.1) (living_from (n + 1) xs))
+      (filter (λ (p : Entity × A). test p.1) (living_from (n + 1) xs)))) e)) (sym is)
+      (or_left (entity_eq (record { index = n; generation = f }) e) _ (subst (λ x. IsTrue (entity_eq x e)) (sym own) (entity_eq_itself e)))
+  passed_among n (Living f b ∷ xs) (suc k) g a at h e i s = by (passed_among (n + 1) xs k g a at h e (omega (arith, i)) s) (test b)
+    where
+      by : IsTrue (has_item entity_cmp (passed_from (n + 1) xs) e) → (c : Bool) →
+          IsTrue (has_item entity_cmp
+          (map (λ (p : Entity × A). p.0)
+          (cond c ((record { index = n; generation = f }, b) ∷ filter (λ (p : Entity × A). test p.1) (living_from (n + 1) xs))
+          (filter (λ (p : Entity × A). test p.1) (living_from (n + 1) xs)))) e)
+      by rest true = or_right (entity_eq (record { index = n; generation = f }) e) _ rest
+      by rest false = rest
+
+  index_below : (i j g h : ℕ) → i < j → is_lt (entity_cmp (record { index = i; generation = g }) (record { index = j; generation = h })) ≡ true
+  index_below i j g h below = let first : nat_cmp i j ≡ Less = grind (arith, nat_tests) in ap (λ r. is_lt (ordering_then r (nat_cmp g h))) first
+
+  above_all : (n m g : ℕ) (xs : List (IndexState A)) → n < m →
+      IsTrue (list_all (λ y. is_lt (entity_cmp (record { index = n; generation = g }) y)) (passed_from m xs))
+  above_all n m g [] below = refl
+  above_all n m g (Retired ∷ xs) below = above_all n (m + 1) g xs (omega arith)
+  above_all n m g (Free f ∷ xs) below = above_all n (m + 1) g xs (omega arith)
+  above_all n m g (Living f a ∷ xs) below = by (above_all n (m + 1) g xs (omega arith)) (test a)
+    where
+      by : IsTrue (list_all (λ y. is_lt (entity_cmp (record { index = n; generation = g }) y)) (passed_from (m + 1) xs)) → (c : Bool) →
+          IsTrue (list_all (λ y. is_lt (entity_cmp (record { index = n; generation = g }) y))
+          (map (λ (p : Entity × A). p.0)
+          (cond c ((record { index = m; generation = f }, a) ∷ filter (λ (p : Entity × A). test p.1) (living_from (m + 1) xs))
+          (filter (λ (p : Entity × A). test p.1) (living_from (m + 1) xs)))))
+      by rest true = both _ _ (index_below n m g f below) rest
+      by rest false = rest
+
+  pub passed_ascend : (n : ℕ) (xs : List (IndexState A)) → IsTrue (is_ascending entity_cmp (passed_from n xs))
+  passed_ascend n [] = refl
+  passed_ascend n (Retired ∷ xs) = passed_ascend (n + 1) xs
+  passed_ascend n (Free f ∷ xs) = passed_ascend (n + 1) xs
+  passed_ascend n (Living f a ∷ xs) = by (passed_ascend (n + 1) xs) (test a)
+    where
+      by : IsTrue (is_ascending entity_cmp (passed_from (n + 1) xs)) → (c : Bool) →
+          IsTrue (is_ascending entity_cmp
+          (map (λ (p : Entity × A). p.0)
+          (cond c ((record { index = n; generation = f }, a) ∷ filter (λ (p : Entity × A). test p.1) (living_from (n + 1) xs))
+          (filter (λ (p : Entity × A). test p.1) (living_from (n + 1) xs)))))
+      by rest true = both _ _ (above_all n (n + 1) f xs (omega arith)) rest
+      by rest false = rest
+
+  -- ---- by handle
+
+  -- the entity lives, and passes
+  abbrev pub PassesOwn : Indexed A → Entity → Type 0
+  PassesOwn w e = (a : A) × (record_of w e ≡ Some a) × (test a ≡ true)
+
+  pub some_passes : (w : Indexed A) → list_any (λ (p : Entity × A). test p.1) (living w) ≡ true → (e : Entity) × PassesOwn w e
+  some_passes w h =
+      let p = passes 0 w.indices h in
+      let e : Entity = record { index = p.0; generation = p.1 } in
+      (e, (p.2, record_at w e p.2 p.3, p.4))
+
+  pub passes_some : (w : Indexed A) (e : Entity) → PassesOwn w e → list_any (λ (p : Entity × A). test p.1) (living w) ≡ true
+  passes_some w e p = passing 0 w.indices e.index e.generation p.0 (living_at w e p.0 p.1) p.2
+
+  pub own_from_passed : (w : Indexed A) (e : Entity) → IsTrue (has_item entity_cmp (passed_from 0 w.indices) e) → PassesOwn w e
+  own_from_passed w e h =
+      let p = among_passed 0 w.indices e h in
+      let same : p.0 ≡ e.index = omega (arith, p.2) in
+      (p.1, record_at w e p.1 (ap (slice_get w.indices) (sym same) ∙ p.3), p.4)
+
+  pub passed_from_own : (w : Indexed A) (e : Entity) → PassesOwn w e → IsTrue (has_item entity_cmp (passed_from 0 w.indices) e)
+  passed_from_own w e p = passed_among 0 w.indices e.index e.generation p.0 (living_at w e p.0 p.1) p.2 e (omega arith) refl

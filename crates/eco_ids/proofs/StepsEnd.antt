@@ -1,0 +1,81 @@
+-- Each step has an end: some answer, and some world after it.
+use Rattle.std.proofs.Common.{◌≡◌, ℕ, Bool, not, List, cond, sym, subst, IsTrue, Option, Some, None, MatchOption, nat_le, length, ◌+◌}
+use Rattle.eco_ids.specs.declared.entity.Entity.{Entity}
+use Rattle.eco_ids.specs.declared.id.Id.{Id}
+use Rattle.eco_ids.specs.declared.refusal.Refusal.{Refusal}
+use Rattle.eco_ids.specs.declared.refusal.Refusal.TheVariants.{NotAlive, DeadId, Reserved, NoMoreIds, Taken}
+use Rattle.eco_ids.specs.declared.value.Value.{Value}
+use Rattle.eco_ids.specs.Births.{Admits, Makes, RevivesWith, Revives, bare, unfit_name}
+use Rattle.eco_ids.specs.Builtin.{is_builtin, is_builtins}
+use Rattle.eco_ids.specs.Delete.{DeletesOne, DeletesWith}
+use Rattle.eco_ids.specs.Indices.{Indexed, admitted, is_free_at, next_entity, with_new, with_record}
+use Rattle.eco_ids.specs.Lawful.{IsLawful}
+use Rattle.eco_ids.specs.Losses.{nobody, without}
+use Rattle.eco_ids.specs.Outcome.{Answers, Refuses}
+use Rattle.eco_ids.specs.Renaming.{RenamesWith, unfit_rename}
+use Rattle.eco_ids.specs.Step.{Adds, Loses, RemovesAll, Renames, Sets, changed, unchanged, unfit, unfit_actor, unfit_set, with_name, with_value}
+use Rattle.eco_ids.specs.World.{OnEntities, Record, WorldState, entities, has, is_alive, names_living}
+use Rattle.eco_ids.proofs.AddsEnd.{extends_end}
+use Rattle.eco_ids.proofs.DeletesEnd.{deletes_end}
+use Rattle.eco_ids.proofs.Endings.{End, done, either, in_world, refused, unless}
+use Rattle.eco_ids.proofs.Facts.{same_or_apart}
+use Rattle.eco_ids.proofs.Listable.{decide_bool}
+use Rattle.eco_ids.proofs.LivingLists.{has_alive}
+use Rattle.eco_ids.proofs.Steps.{passed, was_true}
+
+-- what is fit is named by the living, whatever is tested after that
+fit_names : (w : WorldState) (e : Entity) (i : Id) (rest : Option Refusal)
+    → cond (not (is_alive w e)) (Some NotAlive) (cond (is_builtin w e) (Some Reserved) (cond (not (names_living w i)) (Some DeadId) rest)) ≡ None
+    → IsTrue (names_living w i)
+fit_names w e i rest h =
+    let may_act = passed (is_builtin w e) Reserved _ (passed (not (is_alive w e)) NotAlive _ h).1 in
+    was_true (names_living w i) (passed (not (names_living w i)) DeadId rest may_act.1).0
+
+pub makes_end : (w : WorldState) (d : Record) → End (OnEntities (λ v. Makes (λ r. r.name) v d) w)
+makes_end w d =
+    let v = entities w in
+    in_world w (λ v. Makes (λ r. r.name) v d) (unless v (unfit_name (λ r. r.name) v d.name) _ (λ _. next v (next_entity v)))
+  where
+    next : (v : Indexed Record) (o : Option Entity) → End (λ r new. MatchOption o (Refuses NoMoreIds v r new) (λ e. Answers e (with_new v e d) r new))
+    next v None = refused NoMoreIds v
+    next v (Some e) = done e (with_new v e d)
+
+pub revives_end : (w : WorldState) (e : Entity) → End (Revives w e)
+revives_end w e =
+    let v = entities w in
+    in_world w (λ v. RevivesWith v e (bare None)) (either (is_free_at v e) _ _ (done tt (with_record v e (bare None))) (refused Taken v))
+
+pub admits_end : (w : WorldState) (n : ℕ) → End (OnEntities (λ v. Admits v n) w)
+admits_end w n =
+    let v = entities w in
+    in_world w (λ v. Admits v n) (either (nat_le (length w.indices + n) w.limit) _ _ (done tt (admitted n v)) (refused NoMoreIds v))
+
+pub loses_end : (w : WorldState) (o : Option Refusal) (goes : Entity → Id → Bool) → End (λ r new. MatchOption o (Loses w goes r new) (λ y. Refuses y w r new))
+loses_end w o goes = unless w o _ (λ _. done tt (without w nobody goes))
+
+pub renames_end : (w : WorldState) (e : Entity) (name : Option (List ℕ)) → End (Renames w e name)
+renames_end w e name =
+    let v = entities w in
+    in_world w (λ v. RenamesWith (λ r. r.name) with_name v e (is_builtin w e) name)
+    (unless v (unfit_rename (λ r. r.name) v e (is_builtin w e) name) _ (λ _. done tt _))
+
+pub removes_all_end : (w : WorldState) (i : Id) → End (RemovesAll w i)
+removes_all_end w i = either (is_builtins w i) _ _ (refused Reserved w) (done tt _)
+
+pub adds_end : (w : WorldState) (l : IsLawful w) (e : Entity) (i : Id) → End (Adds w e i)
+adds_end w l e i = unless w (unfit w e i) _ (λ fit. either (has w e i) _ _ (done tt w) (extends_end w l e i unchanged (fit_names w e i None fit)))
+
+pub sets_end : (w : WorldState) (l : IsLawful w) (e : Entity) (i : Id) (v : Value) → End (Sets w e i v)
+sets_end w l e i v =
+    unless w (unfit_set w e i v) _
+    (λ fit. either (has w e i) _ _ (done tt (changed w e (with_value i v))) (extends_end w l e i (with_value i v) (fit_names w e i _ fit)))
+
+pub deletes_one_end : (w : WorldState) (e : Entity) → End (DeletesOne w e)
+deletes_one_end w e = unless w (unfit_actor w e) _ (λ fit. deletes_end w (λ x. x ≡ e) (λ x. same_or_apart x e) (root_lives fit))
+  where
+    root_lives : unfit_actor w e ≡ None → (x : Entity) → x ≡ e → IsTrue (is_alive w x)
+    root_lives fit x is = subst (λ y. IsTrue (is_alive w y)) (sym is) (was_true (is_alive w e) (passed (not (is_alive w e)) NotAlive _ fit).0)
+
+pub deletes_with_end : (w : WorldState) (i : Id) → End (DeletesWith w i)
+deletes_with_end w i =
+    either (is_builtins w i) _ _ (refused Reserved w) (deletes_end w (λ x. IsTrue (has w x i)) (λ x. decide_bool (has w x i)) (λ x. has_alive w x i))

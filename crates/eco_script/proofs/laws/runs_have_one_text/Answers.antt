@@ -1,0 +1,19 @@
+use Rattle.eco_script.proofs.Determined.{text_once, text_may_be}
+use Rattle.eco_script.proofs.laws.runs_have_one_text.Goals as goal
+
+pub returns-clause-one : goal.returns-clause-one
+returns-clause-one c = text_once (record {
+  refs = c.texts_read_once.ensures.reference;
+  ids = c.texts_read_once.ensures.id;
+  create = c.steps_have_one_end.ensures.create;
+  component = c.steps_have_one_end.ensures.component;
+  add = c.steps_have_one_end.ensures.add;
+  set = c.steps_have_one_end.ensures.set;
+  remove = c.steps_have_one_end.ensures.remove;
+  clear = c.steps_have_one_end.ensures.clear;
+  rename = c.steps_have_one_end.ensures.rename;
+  remove_all = c.steps_have_one_end.ensures.remove_all;
+})
+
+pub returns-clause-may_be : goal.returns-clause-may_be
+returns-clause-may_be c = text_may_be

@@ -1,0 +1,22 @@
+use Rattle.std.proofs.Common.{sym, ◌∙◌}
+use Rattle.std.specs.List.{list_any}
+use Rattle.eco_ids.specs.Matching.{pattern_matches}
+use Rattle.eco_tables.specs.Tables.{slot_of}
+use Rattle.eco_store.proofs.Holders.{found_matches, standing_apart, standing_whose, whose_ascend}
+use Rattle.eco_store.proofs.Sorting.{both_ok, sorted_is}
+use Rattle.eco_store.proofs.store.Store.entities_with.Goals as goal
+
+pub returns : goal.returns
+returns c =
+    let found = c.in_ok-found.found in
+    let test = list_any (pattern_matches c.args.pattern) in
+    let shown = c.in_ok-found.ensures.shown in
+    let listed = c.in_ok-found.ensures.listed in
+    both_ok _ _ _
+    (λ v all sorted.
+    sorted_is c.handles_are_ordered.ensures.total c.handles_are_ordered.ensures.ties c.ascending_lists_are_sets.ensures.handles _ v.items _ all sorted
+    (standing_apart c.args.self.now.entities found.tables.now test shown found.slots.items c.in_ok-found.ensures.distinct)
+    (whose_ascend c.args.self.now.entities test)
+    (standing_whose c.args.self.now.entities found.tables.now test shown found.slots.items
+    (λ n h. found_matches test (slot_of found.tables.now n) (sym (listed n) ∙ h)) (λ n h. listed n ∙ h)))
+    c.entities_in.result (rw c.deref.ensures.value at c.entities_in.ensures.all) c.entities_in.ensures.sorted

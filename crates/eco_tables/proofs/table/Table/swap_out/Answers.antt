@@ -1,0 +1,37 @@
+use Rattle.std.proofs.Common.{◌≡◌, ◌++◌, ◌+◌, ap, ◌∙◌, length, take, drop}
+use Rattle.std.specs.List.{swap_remove, slice_get}
+use Rattle.eco_tables.specs.Column.{with_removed}
+use Rattle.eco_tables.specs.Table.{rows_from}
+use Rattle.eco_tables.specs.Tables.{no_row}
+use Rattle.eco_tables.proofs.Rows.{swapped_rows, rewritten, row_within, row_in_columns, shape_removed, entities_of-rows}
+use Rattle.eco_tables.proofs.table.Table.swap_out.Goals as goal
+
+pub swap_remove-requires : goal.swap_remove-requires
+swap_remove-requires c =
+    rw c.self.inside.entities.ok.0 (row_within _ _ _ _ _ c.self.invariant c.args.row (rw (← c.self.view_is) at c.requires))
+
+pub swap_out_row-requires : goal.swap_out_row-requires
+swap_out_row-requires c =
+    rw c.as_mut_slice.ensures.value (row_in_columns _ _ _ _ _ c.self.invariant c.args.row (rw (← c.self.view_is) at c.requires))
+
+pub invariant_of-self : goal.invariant_of-self
+invariant_of-self c =
+    let columns = rewritten (λ x. with_removed x c.args.row) c.self.inside.columns.len c.swap_out_row.new.columns c.as_mut_slice.result.now
+    c.self.inside.columns.items c.swap_out_row.ensures c.as_mut_slice.ensures.value c.self.inside.columns.ok.0 in
+    rw (columns, c.swap_remove.ensures.items, c.swap_remove.ensures.capacity)
+    (shape_removed _ _ _ _ _ c.self.invariant c.args.row c.swap_remove.result
+    (row_within _ _ _ _ _ c.self.invariant c.args.row (rw (← c.self.view_is) at c.requires)))
+
+pub returns-clause-rows : goal.returns-clause-rows
+returns-clause-rows c =
+    let columns = rewritten (λ x. with_removed x c.args.row) c.self.inside.columns.len c.swap_out_row.new.columns c.as_mut_slice.result.now
+    c.self.inside.columns.items c.swap_out_row.ensures c.as_mut_slice.ensures.value c.self.inside.columns.ok.0 in
+    let there = row_within _ _ _ _ _ c.self.invariant c.args.row (rw (← c.self.view_is) at c.requires) in
+    let rows : rows_from (take c.self.inside.columns.len (c.swap_out_row.new.columns ++ drop (length c.swap_out_row.new.columns) c.self.inside.columns.items)) 0
+    c.swap_remove.new.self.items ≡ swap_remove (rows_from c.self.inside.columns.items 0 c.self.inside.entities.items) c.args.row no_row =
+    (λ t. rows_from (columns t) 0 (c.swap_remove.ensures.items t))
+    ∙ swapped_rows c.self.inside.columns.items c.self.inside.entities.items c.args.row c.swap_remove.result no_row c.self.invariant.even there in
+    rw (← c.self.view_is) (λ t. record { ids = c.self.inside.type_list.value; rows = rows t; room = c.self.inside.room + 1 })
+
+pub returns-clause-moved : goal.returns-clause-moved
+returns-clause-moved c = rw entities_of-rows (c.entity_at.ensures ∙ ap (λ xs. slice_get xs c.args.row) c.as_slice.ensures.value)

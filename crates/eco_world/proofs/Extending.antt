@@ -1,0 +1,259 @@
+-- An add is the type that it leads to, and a set is an add and a write.
+use Rattle.std.proofs.Common.{◌≡◌, Bool, true, false, cond, not, ◌&&◌, List, [], Option, Some, None, option_map, unwrap_or, refl, sym, ap, ◌∙◌, subst, is_some, true≢false, IsTrue, MatchOption, MatchBool, Result, Ok, Err, OnOk}
+use Rattle.std.specs.List.{list_any}
+use Rattle.std.specs.Option.{option_or}
+use Rattle.std.proofs.lemmas.Option.{same_Some, none-some}
+use Rattle.std.specs.FinMap.Entries.{find}
+use Rattle.eco_ids.specs.declared.entity.Entity.{Entity}
+use Rattle.eco_ids.specs.declared.id.Id.{Id}
+use Rattle.eco_ids.specs.declared.id.Id.TheVariants.{One, Two}
+use Rattle.eco_ids.specs.declared.refusal.Refusal.{Refusal}
+use Rattle.eco_ids.specs.declared.refusal.Refusal.TheVariants.{DeadId}
+use Rattle.eco_ids.specs.declared.value.Value.{Value}
+use Rattle.eco_ids.specs.Builtin.{is_builtin}
+use Rattle.eco_ids.specs.Losses.{without, nobody}
+use Rattle.eco_ids.specs.Laws.{Keeps, AddsExactly, AddsOnce}
+use Rattle.eco_ids.specs.Lawful.{IsLawful}
+use Rattle.eco_ids.specs.Order.{id_cmp, has_item}
+use Rattle.eco_ids.specs.Outcome.{Meets, Answers, Refuses, is_out_of_memory}
+use Rattle.eco_ids.specs.Step as step
+use Rattle.eco_ids.specs.Step.{changed, grown, with_value, with_closure, is_displaced, is_pair_of, IsClosure, Judges, Loses, Extends, Adds, unfit, unchanged, Sets, unfit_set, unfit_actor}
+use Rattle.eco_ids.specs.World.{WorldState, Record, zeros, has, names_living, is_exclusive, record_of, with_record, is_alive}
+use Rattle.eco_ids.proofs.Keeps.{some_of}
+use Rattle.eco_ids.proofs.Records.{changed_is, write_change}
+use Rattle.eco_ids.proofs.Steps.{grown_unchanged}
+use Rattle.eco_ids.proofs.Ascending.{second}
+use Rattle.eco_ids.proofs.Facts.{not_true}
+use Rattle.eco_store.specs.Store.{with_type}
+use Rattle.eco_traits.specs.Target.{ExtendsTo, FindsType, IsOwnType, IsTypeWith, LeadsTo, type_of_record}
+use Rattle.eco_tables.specs.Column.{value_in}
+use Rattle.eco_world.specs.Actor.{MaySet}
+use Rattle.eco_world.proofs.Changes.{held_at, sorted_at}
+use Rattle.eco_world.proofs.Held.{retyped_is}
+
+-- ---- a closure more
+
+displaced_absent : (w : WorldState) (s : List Id) (j : Id) → is_displaced w s j ≡ true → has_item id_cmp s j ≡ false
+displaced_absent w s (One e) h = absurd (true≢false (sym h))
+displaced_absent w s (Two r t) h =
+    not_true (has_item id_cmp s (Two r t))
+    (second (list_any (is_pair_of r) s) (not (has_item id_cmp s (Two r t)))
+    (second (is_exclusive w r) (list_any (is_pair_of r) s && not (has_item id_cmp s (Two r t))) h))
+
+left_value : (old : Option Value) (displaced there : Bool) (v : Value) → (displaced ≡ true → there ≡ false) →
+    option_or (cond (not displaced) old None) (cond there (Some zeros) None) ≡ Some v → unwrap_or old zeros ≡ v
+left_value (Some u) false there v absent e = same_Some u v e
+left_value None false true v absent e = same_Some zeros v e
+left_value None false false v absent e = absurd (none-some v e)
+left_value old true true v absent e = absurd (true≢false (absent refl))
+left_value old true false v absent e = absurd (none-some v e)
+
+-- an add that is done: that it keeps the world lawful, and that the entity's new ids say it all
+pub record IsExtended (w : WorldState) (e : Entity) (s : List Id) (d : Record) : Type 0 where
+  pub lawful : IsLawful (grown w e s)
+  pub typed : changed w e (with_type (type_of_record (with_closure w s d))) ≡ grown w e s
+
+module _ (w : WorldState) (e : Entity) (i : Id) (alive : is_alive w e ≡ true) (ordinary : is_builtin w e ≡ false) (living : names_living w i ≡ true) where
+  fit : unfit w e i ≡ None
+  fit = rw (alive, ordinary, living) refl
+
+  module _ (absent : has w e i ≡ false) where
+    -- an add is the extension of what the entity has
+    pub adds_by : (r : Result (Unit {0}) Refusal) (new : WorldState) → Extends w e i unchanged r new → Adds w e i r new
+    adds_by r new x =
+        subst (λ o. MatchOption o (MatchBool (has w e i) (Answers tt w r new) (Extends w e i unchanged r new)) (λ why. Refuses why w r new)) (sym fit)
+        (subst (λ b. MatchBool b (Answers tt w r new) (Extends w e i unchanged r new)) (sym absent) x)
+
+    module _ (s : List Id) (d : Record) (at : record_of w e ≡ Some d) (lawful : IsLawful w) (keeps : Keeps (λ v. Adds v e i)) (exactly : AddsExactly)
+        (closure : IsClosure w i s) (judges : Judges w e s None) where
+      done : Adds w e i (Ok tt) (grown w e s)
+      done = adds_by (Ok tt) (grown w e s) (s, closure, None, judges, (refl, sym (grown_unchanged w e s d at)))
+
+      kept : IsLawful (grown w e s)
+      kept = keeps w (Ok tt) (grown w e s) lawful done
+
+      written : record_of (grown w e s) e ≡ Some (with_closure w s d)
+      written = (write_change w e (with_closure w s) d at).at
+
+      values : (j : Id) (v : Value) → find id_cmp j (with_closure w s d).held ≡ Some v → value_in d.held j ≡ v
+      values j v found =
+          let leaves = exactly w e i (grown w e s) absent done in
+          left_value (find id_cmp j d.held) (is_displaced w leaves.closure j) (has_item id_cmp leaves.closure j) v (displaced_absent w leaves.closure j)
+          (ap (λ held. option_or (cond (not (is_displaced w leaves.closure j)) (find id_cmp j held) None)
+          (cond (has_item id_cmp leaves.closure j) (Some zeros) None)) (sym (held_at w e d at))
+          ∙ sym (leaves.values j)
+          ∙ ap (find id_cmp j) (held_at (grown w e s) e (with_closure w s d) written)
+          ∙ found)
+
+      pub extended : IsExtended w e s d
+      extended = record {
+        lawful = kept;
+        typed =
+            changed_is w e (with_type (type_of_record (with_closure w s d))) d at
+            ∙ ap (λ held. with_record w e (record d { held = held }))
+            (retyped_is (with_closure w s d).held d.held (sorted_at (grown w e s) e kept (with_closure w s d) written) values)
+            ∙ sym (changed_is w e (with_closure w s) d at);
+      }
+
+-- ---- an add, from the type that it leads to
+
+record IsFound (w : WorldState) (e : Entity) (i : Id) (ids : List Id) : Type 0 where
+  pub closure : List Id
+  pub is_closure : IsClosure w i closure
+  pub judges : Judges w e closure None
+  pub of : Record
+  pub at : record_of w e ≡ Some of
+  pub ids_are : ids ≡ type_of_record (with_closure w closure of)
+
+same_ok : (x y : List Id) → (let r : Result (List Id) Refusal = Ok x in r ≡ Ok y) → x ≡ y
+same_ok x y h = cc
+
+not_refused : (x : List Id) (why : Refusal) → Ok x ≡ Err why → ⊥
+not_refused x why h = cc
+
+is_done : (why : Refusal) → (let r : Result (Unit {0}) Refusal = Ok tt in r ≡ Err why) → ⊥
+is_done why h = cc
+
+found : (w : WorldState) (e : Entity) (i : Id) (ids : List Id) → names_living w i ≡ true → has w e i ≡ false → FindsType w e i (Ok ids) → IsFound w e i ids
+found w e i ids living absent finds = by_verdict extends.0 extends.1 extends.2 extends.3 extends.4
+  where
+    extends : ExtendsTo w e i (Ok ids)
+    extends =
+        subst (λ b. MatchBool b (IsOwnType w e (Ok ids)) (ExtendsTo w e i (Ok ids))) absent
+        (subst (λ b. MatchBool b (MatchBool (has w e i) (IsOwnType w e (Ok ids)) (ExtendsTo w e i (Ok ids))) (Ok ids ≡ Err DeadId)) living finds)
+
+    by_verdict : (s : List Id) → IsClosure w i s → (v : Option Refusal) → Judges w e s v → MatchOption v (IsTypeWith w e s (Ok ids)) (λ why. Ok ids ≡ Err why) →
+        IsFound w e i ids
+    by_verdict s closure None judges m = record { closure = s; is_closure = closure; judges = judges; of = m.0; at = m.1; ids_are = same_ok ids _ m.2 }
+    by_verdict s closure (Some why) judges m = absurd (not_refused ids why m)
+
+-- what stands against the type stands against the extension
+pub opposed : (w : WorldState) (e : Entity) (i : Id) (why : Refusal) → names_living w i ≡ true → has w e i ≡ false → FindsType w e i (Err why) →
+    Meets (Extends w e i unchanged) true w (Err why) w
+opposed w e i why living absent =
+    elim (is_out_of_memory {A = Unit {0}} (Err why)) as (λ b. MatchBool b (IsTrue (names_living w i)) (LeadsTo w e i (Err why)) →
+    MatchBool b (IsTrue true × (w ≡ w)) (Extends w e i unchanged (Err why) w)) [
+      | true ↦ λ m. (refl, refl)
+      | false ↦ λ m.
+          let x : ExtendsTo w e i (Err why) =
+          subst (λ b. MatchBool b (IsOwnType w e (Err why)) (ExtendsTo w e i (Err why))) absent
+          (subst (λ b. MatchBool b (MatchBool (has w e i) (IsOwnType w e (Err why)) (ExtendsTo w e i (Err why)))
+          (let r : Result (List Id) Refusal = Err why in r ≡ Err DeadId)) living m) in
+          by_verdict x.0 x.1 x.2 x.3 x.4
+    ]
+  where
+    not_found : (ids : List Id) → (let r : Result (List Id) Refusal = Err why in r ≡ Ok ids) → ⊥
+    not_found ids h = cc
+
+    by_verdict : (s : List Id) → IsClosure w i s → (v : Option Refusal) → Judges w e s v →
+        MatchOption v (IsTypeWith w e s (Err why)) (λ y. (let r : Result (List Id) Refusal = Err why in r ≡ Err y)) → Extends w e i unchanged (Err why) w
+    by_verdict s closure None judges m = absurd (not_found _ m.2)
+    by_verdict s closure (Some y) judges m = (s, closure, Some y, judges, (let same : why ≡ y = cc in ap Err same, refl))
+
+-- the entity with that type: the world is lawful, and it is the extension
+pub record IsTyped (w : WorldState) (e : Entity) (i : Id) (ids : List Id) : Type 0 where
+  pub lawful : IsLawful (changed w e (with_type ids))
+  pub extends : Extends w e i unchanged (Ok tt) (changed w e (with_type ids))
+
+pub typed : (w : WorldState) (e : Entity) (i : Id) (ids : List Id) → is_alive w e ≡ true → is_builtin w e ≡ false → names_living w i ≡ true →
+    has w e i ≡ false →
+    IsLawful w → Keeps (λ v. Adds v e i) → AddsExactly → FindsType w e i (Ok ids) → IsTyped w e i ids
+typed w e i ids alive ordinary living absent lawful keeps exactly finds =
+    let f = found w e i ids living absent finds in
+    let x = extended w e i alive ordinary living absent f.closure f.of f.at lawful keeps exactly f.is_closure f.judges in
+    let same : changed w e (with_type ids) ≡ grown w e f.closure = ap (λ js. changed w e (with_type js)) f.ids_are ∙ x.typed in
+    record {
+      lawful = subst IsLawful (sym same) x.lawful;
+      extends = (f.closure, f.is_closure, None, f.judges, (refl, same ∙ sym (grown_unchanged w e f.closure f.of f.at)));
+    }
+
+-- ---- a set
+
+module _ (w : WorldState) (e : Entity) (i : Id) (v : Value) (may_set : MaySet w e i v) (lawful : IsLawful w) (keeps : Keeps (λ x. Sets x e i v)) where
+  fit_set : unfit_set w e i v ≡ None
+  fit_set = rw (may_set.alive, may_set.ordinary, may_set.living, may_set.data_id, may_set.narrow) refl
+
+  -- where the id is there
+  sets_there : has w e i ≡ true → Sets w e i v (Ok tt) (changed w e (with_value i v))
+  sets_there there =
+      subst (λ o. MatchOption o
+      (MatchBool (has w e i) (Answers tt (changed w e (with_value i v)) (Ok tt) (changed w e (with_value i v)))
+      (Extends w e i (with_value i v) (Ok tt) (changed w e (with_value i v)))) (λ why. Refuses why w (Ok tt) (changed w e (with_value i v)))) (sym fit_set)
+      (subst (λ b. MatchBool b (Answers tt (changed w e (with_value i v)) (Ok tt) (changed w e (with_value i v)))
+      (Extends w e i (with_value i v) (Ok tt) (changed w e (with_value i v)))) (sym there) (refl, refl))
+
+  pub lawful_there : has w e i ≡ true → IsLawful (changed w e (with_value i v))
+  lawful_there there = keeps w (Ok tt) (changed w e (with_value i v)) lawful (sets_there there)
+
+  -- what stands against the closure stands against the set, and where memory is wanting neither changes anything
+  pub refused_after : has w e i ≡ false → (why : Refusal) (new : WorldState) → Meets (Extends w e i unchanged) true w (Err why) new
+      → Meets (Sets w e i v) (step.may_set w e i v) w (Err why) new
+  refused_after absent why new =
+      elim (is_out_of_memory {A = Unit {0}} (Err why)) as (λ b.
+      MatchBool b (IsTrue true × (new ≡ w)) (Extends w e i unchanged (Err why) new)
+      → MatchBool b (IsTrue (step.may_set w e i v) × (new ≡ w)) (Sets w e i v (Err why) new)) [
+        | true ↦ λ m. (ap (λ o. not (is_some o) && not (has w e i)) fit_set ∙ ap not absent, m.1)
+        | false ↦ λ x.
+            subst (λ o. MatchOption o
+            (MatchBool (has w e i) (Answers tt (changed w e (with_value i v)) (Err why) new) (Extends w e i (with_value i v) (Err why) new))
+            (λ y. Refuses {A = Unit {0}} y w (Err why) new)) (sym fit_set)
+            (subst (λ b. MatchBool b (Answers tt (changed w e (with_value i v)) (Err why) new) (Extends w e i (with_value i v) (Err why) new)) (sym absent)
+            (refused x.0 x.1 x.2 x.3 x.4))
+      ]
+    where
+      refused : (s : List Id) → IsClosure w i s → (verdict : Option Refusal) → Judges w e s verdict →
+          MatchOption verdict (Answers {A = Unit {0}} tt (changed (grown w e s) e unchanged) (Err why) new) (λ y. Refuses {A = Unit {0}} y w (Err why) new) →
+          Extends w e i (with_value i v) (Err why) new
+      refused s closure None judges m = absurd (is_done why (sym m.0))
+      refused s closure (Some y) judges m = (s, closure, Some y, judges, m)
+
+  -- after the id was added
+  module _ (absent : has w e i ≡ false) (once : AddsOnce) (mid : WorldState) (extends : Extends w e i unchanged (Ok tt) mid) where
+    pub there_after : has mid e i ≡ true
+    there_after = (once w e i mid (adds_by w e i may_set.alive may_set.ordinary may_set.living absent (Ok tt) mid extends)).0
+
+    pub alive_after : is_alive mid e ≡ true
+    alive_after = lives (record_of mid e) there_after
+      where
+        lives : (o : Option Record) → is_some (find id_cmp i (unwrap_or (option_map (λ (r : Record). r.held) o) [])) ≡ true → is_some o ≡ true
+        lives None h = absurd (true≢false (sym h))
+        lives (Some d) h = refl
+
+    here : (d : Record) × (record_of w e ≡ Some d)
+    here = some_of (record_of w e) may_set.alive
+
+    both_done : (s : List Id) → IsClosure w i s → (verdict : Option Refusal) → Judges w e s verdict →
+        MatchOption verdict (Answers {A = Unit {0}} tt (changed (grown w e s) e unchanged) (Ok tt) mid) (λ why. Refuses {A = Unit {0}} why w (Ok tt) mid) →
+        Extends w e i (with_value i v) (Ok tt) (changed mid e (with_value i v))
+    both_done s closure None judges m = (s, closure, None, judges, (refl, ap (λ x. changed x e (with_value i v)) (m.1 ∙ grown_unchanged w e s here.0 here.1)))
+    both_done s closure (Some why) judges m = absurd (is_done why m.0)
+
+    pub sets_after : Sets w e i v (Ok tt) (changed mid e (with_value i v))
+    sets_after =
+        subst (λ o. MatchOption o
+        (MatchBool (has w e i) (Answers tt (changed w e (with_value i v)) (Ok tt) (changed mid e (with_value i v)))
+        (Extends w e i (with_value i v) (Ok tt) (changed mid e (with_value i v)))) (λ why. Refuses why w (Ok tt) (changed mid e (with_value i v))))
+        (sym fit_set)
+        (subst (λ b. MatchBool b (Answers tt (changed w e (with_value i v)) (Ok tt) (changed mid e (with_value i v)))
+        (Extends w e i (with_value i v) (Ok tt) (changed mid e (with_value i v)))) (sym absent)
+        (both_done extends.0 extends.1 extends.2 extends.3 extends.4))
+
+    pub lawful_after : IsLawful (changed mid e (with_value i v))
+    lawful_after = keeps w (Ok tt) (changed mid e (with_value i v)) lawful sets_after
+
+-- ---- a remove, and a clear
+
+module _ (w : WorldState) (e : Entity) (alive : is_alive w e ≡ true) (ordinary : is_builtin w e ≡ false) where
+  -- the ids that go from one who may act
+  pub loses : (goes : Entity → Id → Bool) → MatchOption (unfit_actor w e) (Loses w goes (Ok tt) (without w nobody goes))
+      (λ why. Refuses {A = Unit {0}} why w (Ok tt) (without w nobody goes))
+  loses goes = subst (λ o. MatchOption o (Loses w goes (Ok tt) (without w nobody goes)) (λ why. Refuses {A = Unit {0}} why w (Ok tt) (without w nobody goes)))
+      (sym fit_actor) (refl, refl)
+    where
+      fit_actor : unfit_actor w e ≡ None
+      fit_actor = rw (alive, ordinary) refl
+
+-- a call that leads to a state leads to what that state is
+pub same_ok_state : {A B S : Type 0} (r : Result A B) (new x y : S) → x ≡ y → OnOk r (new ≡ x) → OnOk r (new ≡ y)
+same_ok_state (Ok a) new x y same h = h ∙ same
+same_ok_state (Err b) new x y same h = h

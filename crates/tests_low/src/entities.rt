@@ -1,0 +1,75 @@
+//! Entities come and go.
+use eco_entities::EntityIndex;
+use eco_ids::Entity;
+use std::alloc::Global;
+
+// The entity at an index, at a generation.
+fn at(index: u32, generation: u16) -> Entity {
+    Entity { index, generation }
+}
+
+// Who is made next; nobody, where that is refused.
+fn next(index: &mut EntityIndex, name: Option<&str>) -> Option<Entity> {
+    index.create(name, None).ok()
+}
+
+// Kills an entity that is living.
+fn kill(index: &mut EntityIndex, entity: Entity) {
+    if index.is_alive(entity) {
+        index.kill(entity);
+    }
+}
+
+// Whether indices are admitted and made living, and names are given.
+fn are_made(index: &mut EntityIndex) -> bool {
+    index.admit(2).is_ok()
+        && index.revive(at(1, 0)).is_ok()
+        && index.rename(at(1, 0), Some("b")).is_ok()
+        && next(index, Some("a")) == Some(at(0, 0))
+}
+
+#[test]
+fn each_call_succeeds(rt: HostRuntime) {
+    let mut index = EntityIndex::new(rt.alloc(), 3);
+    assert!(rt; are_made(&mut index));
+    kill(&mut index, at(0, 0));
+    assert_eq!(rt; next(&mut index, None), Some(at(0, 1)));
+}
+
+// Whether the entities made next are those of one generation at these indices.
+fn come_next(index: &mut EntityIndex, indices: &[u32], generation: u16) -> bool {
+    indices.iter().all(|expected| next(index, None) == Some(at(*expected, generation)))
+}
+
+// Whether the lowest of many free indices is used first.
+fn lowest_comes_first(alloc: Global) -> bool {
+    let mut index = EntityIndex::new(alloc, 5000);
+    let is_admitted = index.admit(4096).is_ok();
+    let are_made = (0..5000).all(|expected| come_next(&mut index, &[expected], 0));
+    for killed in [4999, 4096, 63, 4095] {
+        kill(&mut index, at(killed, 0));
+    }
+    is_admitted && are_made && come_next(&mut index, &[63, 4095, 4096, 4999], 1)
+}
+
+#[test]
+fn the_lowest_of_many_free_indices_comes_first(rt: HostRuntime) {
+    assert!(rt; lowest_comes_first(rt.alloc()));
+}
+
+// Whether an index is used at each generation, and not again.
+fn retires(alloc: Global) -> bool {
+    let mut index = EntityIndex::new(alloc, 1);
+    for generation in 0..=u16::MAX {
+        if next(&mut index, None) != Some(at(0, generation)) {
+            return false;
+        }
+        kill(&mut index, at(0, generation));
+    }
+    next(&mut index, None).is_none()
+}
+
+#[test]
+fn the_last_generation_retires_its_index(rt: HostRuntime) {
+    assert!(rt; retires(rt.alloc()));
+}

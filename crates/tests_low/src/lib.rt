@@ -1,0 +1,11 @@
+//! Tests of what lies below a world: printed texts, and each call that may want memory, where there is enough of it.
+#![tactic(auto)]
+
+#[cfg(test)]
+mod entities;
+#[cfg(test)]
+mod printed;
+#[cfg(test)]
+mod rows;
+#[cfg(test)]
+mod types;

@@ -1,0 +1,68 @@
+//! Tables get room, and rows move between them.
+use eco_ids::{Entity, Id, TypeList, Value};
+use eco_tables::{Table, Tables};
+use std::alloc::{AllocError, Global};
+
+const FIRST: Entity = Entity {
+    index: 20,
+    generation: 0,
+};
+
+const SECOND: Entity = Entity {
+    index: 21,
+    generation: 3,
+};
+
+const POSITION: Id = Id::One(Entity {
+    index: 9,
+    generation: 0,
+});
+
+const WRITTEN: Value = Value([1, 2, 0, 0]);
+
+// The type of who has a position.
+fn positioned(alloc: Global) -> Result<TypeList, AllocError> {
+    TypeList::empty(alloc).with(POSITION)
+}
+
+// How many rows a table has that gets room twice and a row each time.
+fn fill(table: &mut Table) -> Result<usize, AllocError> {
+    table.reserve(1)?;
+    table.push_row(FIRST);
+    table.waive();
+    table.reserve_more(1)?;
+    table.push_row(SECOND);
+    Ok(table.row_count())
+}
+
+// How many rows there are in a table of positions that is filled so.
+fn filled(alloc: Global) -> Result<usize, AllocError> {
+    let mut table = Table::new(alloc, positioned(alloc)?)?;
+    fill(&mut table)
+}
+
+// Moves a row with a written value to another table of the same type, which gets room for it. It tells the value there.
+fn moved(alloc: Global, tables: &mut Tables) -> Result<Option<Value>, AllocError> {
+    let from = tables.insert(positioned(alloc)?)?;
+    let to = tables.insert(positioned(alloc)?)?;
+    tables.reserve_rows(from, 1)?;
+    tables.push_row(from, FIRST);
+    tables.set_value(from, 0, POSITION, WRITTEN);
+    tables.waive(to);
+    tables.reserve_more(to, 1)?;
+    tables.move_row(from, 0, to);
+    Ok(
+        tables
+            .get(to)
+            .and_then(|table| table.find_value(0, POSITION)),
+    )
+}
+
+#[test]
+fn tables_get_room(rt: HostRuntime) {
+    assert_eq!(rt; filled(rt.alloc()), Ok(2));
+    assert_eq!(rt;
+        moved(rt.alloc(), &mut Tables::new(rt.alloc())),
+        Ok(Some(WRITTEN))
+    );
+}

@@ -1,0 +1,187 @@
+//! Devices that give or take little at a time, fail at some call, or are full.
+use eco_script::{Counted, DeviceFailed, ScriptReader, ScriptWriter, Status, run_script};
+use std::alloc::Global;
+use std::io;
+
+const SCRIPT: &str =
+    r#"[1, 16, [["create", "a"], ["component", "P", 2], ["add", "a", "(a, a)"], ["set", "a", "P", [3, -4]], ["get", "a", "P"], ["query", "(a, a)"], ["show", "a"], ["clear", "a"], ["has", "a", "b"]]]"#;
+
+const TEXT: &str = "ok #9.0\n\
+    ok #10.0\n\
+    ok\n\
+    ok\n\
+    ok 3 -4\n\
+    ok 1\n\
+    row #9.0 [(#9.0, #9.0)]\n\
+    ok #9.0 a - [#10.0=3 -4, (#9.0, #9.0)]\n\
+    ok\n\
+    refused 21 UnknownName 0\n";
+
+// A reader that gives seven bytes at most a call, and fails at its k-th.
+#[derive(Drop)]
+struct Slow<'a> {
+    rest: &'a [u8],
+    calls: u64,
+    fails_at: u64,
+    failures: u64,
+}
+
+impl ScriptReader for Slow<'_> {
+    ghost use Rattle.std.specs.Prelude.{Some};
+
+    ghost remaining = { λ s. Some s.rest.now };
+
+    ghost calls = { λ s. s.calls };
+
+    ghost failures = { λ s. s.failures };
+
+    fn read(&mut self, buffer: &mut [u8]) -> Result<usize, DeviceFailed> {
+        let call = self.calls;
+        self.calls += 1;
+        if call == self.fails_at {
+            self.failures += 1;
+            return Err(DeviceFailed);
+        }
+        let n = self.rest.len().min(buffer.len()).min(7);
+        let rest = self.rest;
+        buffer[..n].copy_from_slice(&rest[..n]);
+        self.rest = &rest[n..];
+        Ok(n)
+    }
+}
+
+// A writer that takes three bytes at most a call, and fails at its k-th.
+#[derive(Drop)]
+struct Narrow {
+    bytes: Vec<u8>,
+    calls: u32,
+    fails_at: u32,
+    failures: u64,
+}
+
+impl ScriptWriter for Narrow {
+    ghost use Rattle.std.specs.Prelude.{Some};
+
+    ghost held = { λ s. Some s.bytes.items };
+
+    ghost failures = { λ s. s.failures };
+
+    fn write(&mut self, rest: &[u8]) -> Result<usize, DeviceFailed> {
+        let n = rest.len().min(3);
+        if self.calls == self.fails_at || self.bytes.extend_from_slice(&rest[..n]).is_err() {
+            self.failures += 1;
+            return Err(DeviceFailed);
+        }
+        self.calls = self.calls.saturating_add(1);
+        Ok(n)
+    }
+}
+
+// A writer of std that takes three bytes at most a call, and none once it is full.
+#[derive(Drop)]
+struct Full {
+    bytes: Vec<u8>,
+    room: usize,
+}
+
+impl io::Write for Full {
+    ghost use Rattle.std.specs.Prelude.{Some};
+
+    ghost contents = { λ s. Some s.bytes.items };
+
+    fn write(&mut self, rest: &[u8]) -> io::Result<usize> {
+        let n = rest.len().min(self.room).min(3);
+        self.bytes.extend_from_slice(&rest[..n])?;
+        self.room -= n;
+        Ok(n)
+    }
+
+    fn flush(&mut self) -> io::Result<()> {
+        Ok(())
+    }
+}
+
+// Runs the script over a writer with room for so many bytes. It gives the status, and whether so many bytes of the front of
+// the text were written.
+fn run_into(alloc: Global, room: usize) -> (Status, bool) {
+    let mut reader = Counted::new(SCRIPT.as_bytes());
+    let mut writer = Counted::new(Full {
+        bytes: Vec::new(alloc),
+        room,
+    });
+    let status = run_script(alloc, &mut reader, &mut writer, 1);
+    let written = writer.inner().bytes.as_slice();
+    (
+        status,
+        written.len() == room && TEXT.as_bytes().starts_with(written),
+    )
+}
+
+// Runs the script over devices that fail at these calls, and gives the status and what was written.
+fn run_over(alloc: Global, read_fails_at: u64, write_fails_at: u32) -> (Status, Vec<u8>) {
+    let mut reader = Slow {
+        rest: SCRIPT.as_bytes(),
+        calls: 0,
+        fails_at: read_fails_at,
+        failures: 0,
+    };
+    let mut writer = Narrow {
+        bytes: Vec::new(alloc),
+        calls: 0,
+        fails_at: write_fails_at,
+        failures: 0,
+    };
+    let status = run_script(alloc, &mut reader, &mut writer, 1);
+    (status, writer.bytes)
+}
+
+#[test]
+fn writes_in_small_parts(rt: HostRuntime) {
+    let (status, bytes) = run_over(rt.alloc(), u64::MAX, u32::MAX);
+    assert_eq!(rt; status, Status::Ran);
+    assert!(rt; bytes.as_slice() == TEXT.as_bytes());
+}
+
+#[test]
+fn stops_where_a_read_fails(rt: HostRuntime) {
+    for call in 0..29u64 {
+        let (status, bytes) = run_over(rt.alloc(), call, u32::MAX);
+        assert_eq!(rt; status, Status::Stopped, "at {call}");
+        assert!(rt; bytes.is_empty(), "at {call}");
+    }
+}
+
+#[test]
+fn stops_where_a_write_fails(rt: HostRuntime) {
+    for call in 0..43u32 {
+        let (status, bytes) = run_over(rt.alloc(), u64::MAX, call);
+        assert_eq!(rt; status, Status::Stopped, "at {call}");
+        assert!(rt; TEXT.as_bytes().starts_with(bytes.as_slice()), "at {call}");
+    }
+}
+
+#[test]
+fn stops_where_a_writer_is_full(rt: HostRuntime) {
+    for room in 0..TEXT.len() {
+        let (status, is_front) = run_into(rt.alloc(), room);
+        assert_eq!(rt; status, Status::Stopped, "at {room}");
+        assert!(rt; is_front, "at {room}");
+    }
+    let (status, is_whole) = run_into(rt.alloc(), TEXT.len());
+    assert_eq!(rt; status, Status::Ran);
+    assert!(rt; is_whole);
+}
+
+// The status of a run of some bytes, and whether it wrote nothing.
+fn run(alloc: Global, bytes: &[u8]) -> (Status, bool) {
+    let mut reader = Counted::new(bytes);
+    let mut writer = Counted::new(Vec::new(alloc));
+    let status = run_script(alloc, &mut reader, &mut writer, 1);
+    (status, writer.inner().as_slice().is_empty())
+}
+
+#[test]
+fn other_bytes_than_a_text_are_not_read(rt: HostRuntime) {
+    let run = run(rt.alloc(), b"[1, 64, [[\"create\", \"\xff\"]]]");
+    assert_eq!(rt; run, (Status::NotRead, true));
+}

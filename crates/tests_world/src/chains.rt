@@ -1,0 +1,56 @@
+//! A chain of parents is walked to its end, whether a cycle closes there or none does.
+use eco_ids::entity::CHILD_OF;
+use eco_ids::{Entity, Id, Refusal};
+use eco_world::World;
+use std::alloc::Global;
+
+// The entity of generation 0 at the index.
+fn at(index: u32) -> Entity {
+    Entity {
+        index,
+        generation: 0,
+    }
+}
+
+// Makes so many entities without ids.
+fn create(world: &mut World, count: u32) -> Result<(), Refusal> {
+    for _ in 0..count {
+        world.create(None)?;
+    }
+    Ok(())
+}
+
+// Makes the first entity the child of the second.
+fn give_parent(world: &mut World, child: u32, parent: u32) -> Result<(), Refusal> {
+    world.add(at(child), Id::Two(CHILD_OF, at(parent)))
+}
+
+// Each from 9 on is the child of the next, up to 20,009.
+fn link(world: &mut World) -> Result<(), Refusal> {
+    for index in 9..20_009 {
+        give_parent(world, index, index + 1)?;
+    }
+    Ok(())
+}
+
+// What stands against a child that is all others' parent, once one with a child of its own has become the chain's first.
+fn closed(world: &mut World) -> Result<Option<Refusal>, Refusal> {
+    create(world, 20_003)?;
+    link(world)?;
+    give_parent(world, 20_011, 20_010)?;
+    give_parent(world, 20_010, 9)?;
+    Ok(give_parent(world, 20_009, 20_011).err())
+}
+
+// Whether a cycle of 20,003 is refused as one.
+fn is_cycle_refused(alloc: Global) -> bool {
+    let Ok(mut world) = World::new(alloc, 65_536) else {
+        return false;
+    };
+    matches!(closed(&mut world), Ok(Some(Refusal::Cycle { .. })))
+}
+
+#[test]
+fn a_long_chain_is_walked(rt: HostRuntime) {
+    assert!(rt; is_cycle_refused(rt.alloc()));
+}

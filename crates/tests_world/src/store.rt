@@ -1,0 +1,69 @@
+//! Each call of a store that may want memory and that a world does not make.
+use eco_ids::{Entity, Id, Pattern, Refusal, TypeList};
+use eco_store::{Move, Store};
+use std::alloc::{AllocError, Global};
+
+const TAG: Entity = Entity {
+    index: 0,
+    generation: 0,
+};
+
+const HOLDER: Entity = Entity {
+    index: 1,
+    generation: 0,
+};
+
+// The type of who has the tag.
+fn tagged(alloc: Global) -> Result<TypeList, AllocError> {
+    TypeList::empty(alloc).with(Id::One(TAG))
+}
+
+// Makes two entities without ids, admits an index, and makes the entity living that is there.
+fn fill(store: &mut Store, nothing: &TypeList) -> Result<(), Refusal> {
+    store.create(None, None, nothing)?;
+    store.create(None, None, nothing)?;
+    store.admit(1)?;
+    store.revive(Entity {
+        index: 2,
+        generation: 0,
+    })?;
+    store.rename(TAG, Some("Tag"))
+}
+
+// How many tables there are once a move to the tag is prepared, and how many once it is made.
+fn moved(store: &mut Store, tagged: TypeList) -> Result<[usize; 2], AllocError> {
+    let moves = [Move {
+        entity: HOLDER,
+        type_list: tagged,
+    }];
+    store.prepare(&moves)?;
+    let prepared = store.tables().len();
+    if store.is_alive(HOLDER) {
+        store.retype(HOLDER, &moves[0].type_list)?;
+    }
+    Ok([prepared, store.tables().len()])
+}
+
+// How many tables, entities and types have the tag.
+fn found(store: &Store) -> Result<[usize; 3], AllocError> {
+    let tables = store.tables_with(Pattern::One(TAG))?.slots.len();
+    let holders = store.entities_with(Pattern::One(TAG))?.len();
+    Ok([tables, holders, store.types_with(Pattern::One(TAG))?.len()])
+}
+
+// What is made of a new store, and what is found in it.
+fn used(alloc: Global, store: &mut Store) -> Result<([usize; 2], [usize; 3]), Refusal> {
+    fill(store, &TypeList::empty(alloc))?;
+    let tables = moved(store, tagged(alloc)?)?;
+    Ok((tables, found(store)?))
+}
+
+// Whether all is made and found in a new store.
+fn is_used(alloc: Global) -> bool {
+    used(alloc, &mut Store::new(alloc, 16)) == Ok(([2, 2], [1, 1, 1]))
+}
+
+#[test]
+fn each_call_succeeds(rt: HostRuntime) {
+    assert!(rt; is_used(rt.alloc()));
+}

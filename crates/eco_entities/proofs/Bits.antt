@@ -11,10 +11,6 @@ use Rattle.std.specs.Int.{bit_at, w64, trailing_zeros}
 use Rattle.eco_entities.specs.Words.{has_bit, with_bit, without_bit, range_mask, FillsBits, IsFirstWord, IsLowestBit, Summarizes}
 
 -- a bit is set where the number's bit is 1
-pub has_bit_is : (ws : List ℕ) (k : ℕ) → has_bit ws k ≡ (bit_at (get_or ws (k / 64) 0) (k % 64) == 1)
-unfolding has_bit
-has_bit_is ws k = refl
-
 -- equal words have equal bits
 pub has_bit_same : (us ws : List ℕ) (k : ℕ) → bit_at (get_or us (k / 64) 0) (k % 64) ≡ bit_at (get_or ws (k / 64) 0) (k % 64) → has_bit us k ≡ has_bit ws k
 unfolding has_bit
@@ -267,13 +263,6 @@ summarizes-appended_below n lower lower' upper s a = record {
 -- one level down
 
 -- the lowest bit above names the first word below that has a bit
-pub first_of_lowest : (lower upper : List ℕ) (w : ℕ) → Summarizes lower upper → IsLowestBit upper w → IsFirstWord lower w
-first_of_lowest lower upper w s l =
-    record {
-      marked = ltb-true _ _ (sym (s.exact w) ∙ l.set);
-      before = λ k b. let none : get_or lower k 0 ≤ 0 = ltb-false 0 _ (sym (s.exact k) ∙ l.below k b) in omega arith;
-    }
-
 -- what has no bit above has none below
 pub none_of_none : (lower upper : List ℕ) (k : ℕ) → Summarizes lower upper → ((w : ℕ) → has_bit upper w ≡ false) → has_bit lower k ≡ false
 none_of_none lower upper k s none =

@@ -145,21 +145,3 @@ record-new {A} w e r h =
 
 pub record_of_next : {A : Type 0} (w : Indexed A) (e : Entity) → next_entity w ≡ Some e → record_of w e ≡ None
 record_of_next w e h = let room : IsRoom w e = next_has_room w e h in sym (room.keeps.all e) ∙ record_of_free (with_room w e) e room.free
-
--- the next entity is free where its index is known, and else comes at the end
-
-pub next_is_free : {A : Type 0} (w : Indexed A) (e : Entity) → next_entity w ≡ Some e → e.index < length w.indices → is_free_at w e ≡ true
-next_is_free {A} w e h within =
-    let room : IsRoom w e = next_has_room w e h in
-    ap (λ (v : Indexed A). is_free_at v e) (sym (room_known w e within)) ∙ room.free
-
-pub new_last : {A : Type 0} (w : Indexed A) (e : Entity) (r : A) → next_entity w ≡ Some e → length w.indices ≤ e.index →
-    record w { indices = w.indices ++ Living 0 r ∷ [] } ≡ with_new w e r
-new_last {A} w e r h past =
-    elim (next_is w e h) [
-      | inl free ↦ absurd (let within : e.index < length w.indices = slice_get_within w.indices e.index (Free e.generation) free in omega arith)
-      | inr fresh ↦
-          let generation : 0 ≡ e.generation = ap (λ (x : Entity). x.generation) fresh.1 in
-          ap (λ g. record w { indices = w.indices ++ Living g r ∷ [] }) generation
-          ∙ sym (cond-false (nat_lt e.index (length w.indices)) (with_record w e r) _ (le-ltb _ _ past))
-    ]

@@ -1,4 +1,4 @@
-pub mod Bearers
+pub mod NamedEntities
 pub mod Bits
 pub mod Kept
 pub mod Levels
@@ -7,5 +7,6 @@ pub mod Marks
 pub mod Owners
 pub mod Registers
 pub mod Renaming
+pub mod Shown
 pub mod States
 pub mod Texts

@@ -10,7 +10,7 @@ use Rattle.eco_ids.specs.Indices.{Indexed, IndexState, Retired, Free, Living, re
 use Rattle.eco_ids.specs.Outcome.{Refuses, Answers, is_out_of_memory}
 use Rattle.eco_ids.specs.Renaming.{unfit_rename, may_rename}
 use Rattle.eco_entities.specs.Registration.{Registration, newcomer, name_of, placed, renamed}
-use Rattle.eco_entities.specs.Runs.{Call, Create, Admit, Revive, Kill, Rename, SetPlace, LeadsTo, RunsTo, NobodyLivesTwice}
+use Rattle.eco_entities.specs.Runs.{Call, Create, Admit, MakeAlive, Kill, Rename, SetPlace, LeadsTo, RunsTo, NobodyLivesTwice}
 use Rattle.eco_ids.proofs.Lists.{slice_get-set_same, slice_get-set_other}
 use Rattle.eco_ids.proofs.States.{living_at}
 use Rattle.eco_entities.proofs.States.{free_known, alive_known, next_is}
@@ -155,7 +155,7 @@ past_call (Admit n) w new e h p =
             | inr full ↦ let refused : (h.0 ≡ Err NoMoreIds) × (new ≡ w) = MatchBool-at_false _ _ full admits in rw refused.1 p
           ]
     ]
-past_call (Revive x) w new e h p =
+past_call (MakeAlive x) w new e h p =
     elim (cases_Bool (is_free_at w x)) [
       | inl free ↦ let done : (h.0 ≡ Ok tt) × (new ≡ with_record w x (newcomer None None)) = MatchBool-at_true _ _ free h.1 in
           rw done.1 (past_settled w e x (newcomer None None) free p)

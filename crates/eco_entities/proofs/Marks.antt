@@ -1,18 +1,19 @@
 -- The marks of the free indices: they follow each change of a state.
-use Rattle.std.proofs.Common.{◌≡◌, ℕ, zero, suc, ◌+◌, ◌-◌, ◌<◌, ◌≤◌, Bool, true, false, List, [], ◌∷◌, ◌++◌, length, set, take, get_or, slice_get, slice_set, replicate, map, refl, sym, ap, ◌∙◌, Option, Some, None, MatchOption, option_map, inl, inr, arith, nat_lt, if◌then◌else◌}
+use Rattle.std.proofs.Common.{◌≡◌, ℕ, zero, suc, ◌+◌, ◌-◌, ◌<◌, ◌≤◌, Bool, true, false, List, [], ◌∷◌, ◌++◌, length, set, take, get_or, slice_get, slice_set, replicate, map, refl, sym, ap, ◌∙◌, Option, Some, None, MatchOption, option_map, ◌⊎◌, inl, inr, arith, nat_lt, if◌then◌else◌}
 use Rattle.std.specs.List.{position_from}
 use Rattle.std.specs.Option.{option_or}
-use Rattle.std.proofs.lemmas.Bool.{cases_eq, ltb-true, lt-ltb, le-ltb, cond-true, cond-false}
+use Rattle.std.proofs.lemmas.Bool.{cases_Bool, cases_eq, ltb-true, ltb-false, lt-ltb, le-ltb, cond-true, cond-false}
 use Rattle.std.proofs.lemmas.List.{length-append, length-replicate, take_at, length-map, get_or-map, length-set, map-set, set-get_or, map-append}
-use Rattle.std.proofs.lemmas.Option.{slice_get_within, slice_get_past, slice_get-map, slice_get_read, get_or_from_slice_get}
+use Rattle.std.proofs.lemmas.Option.{same_Some, slice_get_within, slice_get_past, slice_get_read, get_or_from_slice_get}
 use Rattle.eco_ids.specs.declared.entity.Entity.{Entity}
-use Rattle.eco_ids.specs.Indices.{Indexed, IndexState, Retired, Free, Living, lowest_free, next_entity, admitted, is_alive, is_free_at, map_state, raised, with_death, changed}
-use Rattle.eco_entities.specs.Registration.{Registration}
-use Rattle.eco_entities.specs.Slots.{IsMarked, Fits, is_free, next_generation, state_of}
+use Rattle.eco_ids.specs.Indices.{Indexed, IndexState, Retired, Free, Living, lowest_free, next_entity, admitted, is_alive, is_free_at, map_state, raised, with_death, with_new, with_record, changed}
+use Rattle.eco_entities.specs.Registration.{Registration, renamed}
+use Rattle.eco_entities.specs.Slots.{IsMarked, Fits, is_free, is_named, next_generation, put_at, state_of, states, IsNextSlot}
 use Rattle.eco_entities.specs.declared.slot.Slot.{Slot}
-use Rattle.eco_entities.specs.declared.slot.Slot.TheVariants as slot
+use Rattle.eco_entities.specs.declared.slots.Slots.TheInside.{Inside}
 use Rattle.eco_ids.proofs.Lists.{slice_get-set_same, slice_get-set_other, map-replicate}
-use Rattle.eco_entities.proofs.States.{alive_known, free_known, changed_states}
+use Rattle.eco_entities.proofs.Shown.{AgreeBeside, Names, Shows, View, items, labels, free_slot, length-states, nameless_kept, slice_get-states, state_shown, states-copies, states-push, states-set, states_beside}
+use Rattle.eco_entities.proofs.States.{alive_known, free_known, changed_states, next_is}
 
 -- one state changes, and its mark with it
 pub marked-set : (limit : ℕ) (xs : List (IndexState Registration)) (marks marks' : List Bool) (i : ℕ) (x : IndexState Registration) → IsMarked limit xs marks →
@@ -71,72 +72,8 @@ is_free-map_state change Retired = refl
 is_free-map_state change (Free g) = refl
 is_free-map_state change (Living g r) = refl
 
--- the slots
-
--- what a slot shows where it was read
-pub state_read : (slots : List Slot) (i : ℕ) (x : Slot) → i < length slots → x ≡ get_or slots i x → slice_get (map state_of slots) i ≡ Some (state_of x)
-state_read slots i x l read = slice_get-map state_of slots i ∙ ap (option_map state_of) (slice_get_read slots (length slots) i x refl l read)
-
-pub alive_within : (limit : ℕ) (slots : List Slot) (w : Indexed Registration) (e : Entity) →
-    ◌≡◌ {A = Indexed Registration} (record { limit = limit; indices = map state_of slots }) w → is_alive w e ≡ true → e.index < length slots
-alive_within limit slots w e view alive =
-    let living : (r : Registration) × (slice_get w.indices e.index ≡ Some (Living e.generation r)) = alive_known w e alive in
-    let known : slice_get (map state_of slots) e.index ≡ Some (Living e.generation living.0) =
-    ap (λ (v : Indexed Registration). slice_get v.indices e.index) view ∙ living.1 in
-    rw length-map at (slice_get_within (map state_of slots) e.index (Living e.generation living.0) known)
-
-pub slot_changed : (limit : ℕ) (slots : List Slot) (marks : List Bool) (w : Indexed Registration) (e : Entity) (old new : Slot)
-    (change : Registration → Registration) → IsMarked limit (map state_of slots) marks →
-    ◌≡◌ {A = Indexed Registration} (record { limit = limit; indices = map state_of slots }) w → is_alive w e ≡ true → old ≡ get_or slots e.index old →
-    state_of new ≡ map_state change (state_of old) → IsMarked limit (map state_of (set slots e.index new)) marks
-    × (◌≡◌ {A = Indexed Registration} (record { limit = limit; indices = map state_of (set slots e.index new) }) (changed w e change))
-slot_changed limit slots marks w e old new change m view alive read is =
-    let within : e.index < length slots = alive_within limit slots w e view alive in
-    let here : slice_get (map state_of slots) e.index ≡ Some (state_of old) = state_read slots e.index old within read in
-    let known : is_alive (record { limit = limit; indices = map state_of slots }) e ≡ true = ap (λ (v : Indexed Registration). is_alive v e) view ∙ alive in (
-      rw (map-set, is)
-          (marked_kept limit (map state_of slots) marks e.index (map_state change (state_of old)) (state_of old) m here
-          (is_free-map_state change (state_of old))
-          (fits-map_state change (state_of old) (fits_at limit (map state_of slots) marks e.index (state_of old) m here))),
-      rw map-set
-          (changed_states limit (map state_of slots) e (state_of new) (state_of old) change known here is
-          ∙ ap (λ (v : Indexed Registration). changed v e change) view),
-    )
-
-pub free_within : (limit : ℕ) (slots : List Slot) (w : Indexed Registration) (e : Entity) →
-    ◌≡◌ {A = Indexed Registration} (record { limit = limit; indices = map state_of slots }) w → is_free_at w e ≡ true → e.index < length slots
-free_within limit slots w e view free =
-    let known : slice_get (map state_of slots) e.index ≡ Some (Free e.generation) = ap (λ (v : Indexed Registration). slice_get v.indices e.index) view
-    ∙ free_known w e free in
-    rw length-map at (slice_get_within (map state_of slots) e.index (Free e.generation) known)
-
 abbrev with_state : ℕ → IndexState Registration → Indexed Registration → Indexed Registration
 with_state i x v = record v { indices = slice_set v.indices i x }
-
--- another state at a known index
-pub slot_put : (limit : ℕ) (slots : List Slot) (marks marks' : List Bool) (w : Indexed Registration) (i : ℕ) (new : Slot) (x : IndexState Registration) →
-    IsMarked limit (map state_of slots) marks → ◌≡◌ {A = Indexed Registration} (record { limit = limit; indices = map state_of slots }) w → i < length slots →
-    state_of new ≡ x → Fits (Some x) → marks' ≡ set marks i (is_free x) →
-    IsMarked limit (map state_of (set slots i new)) marks'
-    × (◌≡◌ {A = Indexed Registration} (record { limit = limit; indices = map state_of (set slots i new) }) (record w { indices = slice_set w.indices i x }))
-slot_put limit slots marks marks' w i new x m view l is fits mark = (
-  rw (map-set, is) (marked-set limit (map state_of slots) marks marks' i x m (rw length-map l) fits mark),
-  rw (map-set, is) (ap (with_state i x) view),
-)
-
--- who lives isn't marked
-pub living_unmarked : (limit : ℕ) (slots : List Slot) (marks : List Bool) (w : Indexed Registration) (e : Entity) → IsMarked limit (map state_of slots) marks →
-    ◌≡◌ {A = Indexed Registration} (record { limit = limit; indices = map state_of slots }) w → is_alive w e ≡ true → marks ≡ set marks e.index false
-living_unmarked limit slots marks w e m view alive =
-    let living : (r : Registration) × (slice_get w.indices e.index ≡ Some (Living e.generation r)) = alive_known w e alive in
-    let known : slice_get (map state_of slots) e.index ≡ Some (Living e.generation living.0) =
-    ap (λ (v : Indexed Registration). slice_get v.indices e.index) view ∙ living.1 in
-    let within : e.index < length (map state_of slots) = slice_get_within (map state_of slots) e.index (Living e.generation living.0) known in
-    let mark : get_or marks e.index false ≡ false =
-    ap (λ ms. get_or ms e.index false) m.marked
-    ∙ (get_or-map is_free (map state_of slots) e.index (Living e.generation living.0) false within
-    ∙ ap is_free (get_or_from_slice_get (map state_of slots) e.index (Living e.generation living.0) (Living e.generation living.0) known)) in
-    sym (ap (λ b. set marks e.index b) (sym mark) ∙ set-get_or marks e.index false)
 
 fits_if : (A : Type 0) (g : ℕ) (b : Bool) → nat_lt g 65535 ≡ b → Fits {A = A} (Some (if b then Free (g + 1) else Retired))
 fits_if A g true e = let below : g < 65535 = ltb-true g 65535 e in omega arith
@@ -144,17 +81,6 @@ fits_if A g false e = tt
 
 pub fits-raised : (A : Type 0) (g : ℕ) → Fits {A = A} (Some (raised g))
 fits-raised A g = fits_if A g (nat_lt g 65535) refl
-
--- the state that a death leaves
-pub slot_died : (limit : ℕ) (slots : List Slot) (marks marks' : List Bool) (w : Indexed Registration) (e : Entity) (new : Slot) →
-    IsMarked limit (map state_of slots) marks → ◌≡◌ {A = Indexed Registration} (record { limit = limit; indices = map state_of slots }) w →
-    is_alive w e ≡ true → state_of new ≡ raised e.generation → marks' ≡ set marks e.index (is_free (state_of new)) →
-    IsMarked limit (map state_of (set slots e.index new)) marks'
-    × (◌≡◌ {A = Indexed Registration} (record { limit = limit; indices = map state_of (set slots e.index new) }) (with_death w e))
-slot_died limit slots marks marks' w e new m view alive is mark =
-    slot_put limit slots marks marks' w e.index new (raised e.generation) m view (alive_within limit slots w e view alive) is
-    (fits-raised Registration e.generation)
-    (mark ∙ ap (λ x. set marks e.index (is_free x)) is)
 
 -- who is made next
 
@@ -188,35 +114,6 @@ next_unknown : (limit : ℕ) (xs : List (IndexState Registration)) → lowest_fr
     next_entity {A = Registration} (record { limit = limit; indices = xs }) ≡ first_unknown limit (length xs)
 next_unknown limit xs low = ap (λ o. option_or o (first_unknown limit (length xs))) low
 
-pub next_marked : (limit : ℕ) (slots : List Slot) (marks : List Bool) (w : Indexed Registration) (k g : ℕ) → IsMarked limit (map state_of slots) marks →
-    ◌≡◌ {A = Indexed Registration} (record { limit = limit; indices = map state_of slots }) w → Some k ≡ position_from (λ b. b) 0 marks →
-    g ≡ next_generation (slice_get w.indices k) → Some (record { index = k; generation = g }) ≡ next_entity w
-next_marked limit slots marks w k g m view some is =
-    let same : g ≡ next_generation (slice_get (map state_of slots) k) = is
-    ∙ ap (λ (v : Indexed Registration). next_generation (slice_get v.indices k)) (sym view) in
-    ap (λ n. Some (record { index = k; generation = n })) same
-    ∙ (sym (next_free limit (map state_of slots) _ (lowest_mark limit (map state_of slots) marks k m some).1) ∙ ap next_entity view)
-
-pub next_fresh : (limit : ℕ) (slots : List Slot) (marks : List Bool) (w : Indexed Registration) (k g : ℕ) → IsMarked limit (map state_of slots) marks →
-    ◌≡◌ {A = Indexed Registration} (record { limit = limit; indices = map state_of slots }) w → None ≡ position_from (λ b. b) 0 marks → k ≡ length slots →
-    k < limit → g ≡ next_generation (slice_get w.indices k) → Some (record { index = k; generation = g }) ≡ next_entity w
-next_fresh limit slots marks w k g m view none known below is =
-    let whole : length (map state_of slots) ≡ k = length-map slots state_of ∙ sym known in
-    let past : slice_get (map state_of slots) k ≡ None = slice_get_past (map state_of slots) k (omega arith) in
-    let zero_is : g ≡ 0 = is ∙ (ap (λ (v : Indexed Registration). next_generation (slice_get v.indices k)) (sym view) ∙ ap next_generation past) in
-    ap (λ n. Some (record { index = k; generation = n })) zero_is
-    ∙ (sym (ap (first_unknown limit) whole ∙ cond-true (nat_lt k limit) (Some (record { index = k; generation = 0 })) None (lt-ltb k limit below))
-    ∙ (sym (next_unknown limit (map state_of slots) (lowest_unmarked limit (map state_of slots) marks m none)) ∙ ap next_entity view))
-
-pub next_over : (limit : ℕ) (slots : List Slot) (marks : List Bool) (w : Indexed Registration) → IsMarked limit (map state_of slots) marks →
-    ◌≡◌ {A = Indexed Registration} (record { limit = limit; indices = map state_of slots }) w → None ≡ position_from (λ b. b) 0 marks → limit ≤ length slots →
-    None ≡ next_entity w
-next_over limit slots marks w m view none over =
-    let whole : length (map state_of slots) ≡ length slots = length-map slots state_of in
-    sym (ap (first_unknown limit) whole ∙ cond-false (nat_lt (length slots) limit) (Some (record { index = length slots; generation = 0 })) None
-    (le-ltb (length slots) limit over))
-    ∙ (sym (next_unknown limit (map state_of slots) (lowest_unmarked limit (map state_of slots) marks m none)) ∙ ap next_entity view)
-
 -- more free indices at the end
 
 pub fits-append : {A : Type 0} (xs ys : List (IndexState A)) → ((i : ℕ) → Fits (slice_get xs i)) → ((i : ℕ) → Fits (slice_get ys i)) → (i : ℕ) →
@@ -230,63 +127,250 @@ fits-fresh A zero i = tt
 fits-fresh A (suc n) zero = omega arith
 fits-fresh A (suc n) (suc i) = fits-fresh A n i
 
-pub slots_admitted : (limit : ℕ) (slots slots' : List Slot) (marks grown marks' : List Bool) (w : Indexed Registration) (n : ℕ) →
-    IsMarked limit (map state_of slots) marks → ◌≡◌ {A = Indexed Registration} (record { limit = limit; indices = map state_of slots }) w →
-    length slots + n ≤ limit → slots' ≡ slots ++ replicate n (slot.Free 0) → grown ≡ marks ++ replicate n false →
-    marks' ≡ take (length slots) grown ++ replicate (length grown - length slots) true →
-    IsMarked limit (map state_of slots') marks' × (◌≡◌ {A = Indexed Registration} (record { limit = limit; indices = map state_of slots' }) (admitted n w))
-slots_admitted limit slots slots' marks grown marks' w n m view room more zeros filled =
-    let known : length marks ≡ length slots = ap length m.marked ∙ (length-map (map state_of slots) is_free ∙ length-map slots state_of) in
-    let whole : length grown - length slots ≡ n = let grown_by : length grown ≡ length marks + n = ap length zeros
-    ∙ (length-append marks (replicate n false) ∙ rw length-replicate refl) in omega arith in
-    let front : take (length slots) grown ≡ marks = ap (take (length slots)) zeros ∙ take_at marks (replicate n false) (length slots) known in
-    let states : map state_of slots' ≡ map state_of slots ++ replicate n (Free 0) = ap (map state_of) more
-    ∙ (map-append state_of slots (replicate n (slot.Free 0)) ∙ ap (λ ys. map state_of slots ++ ys) (map-replicate state_of n (slot.Free 0))) in
-    let marks_are : marks' ≡ map is_free (map state_of slots ++ replicate n (Free 0)) =
-    filled ∙ (rw (front, whole) refl
-    ∙ (ap (λ ms. ms ++ replicate n true) m.marked
-    ∙ sym (map-append is_free (map state_of slots) (replicate n (Free 0))
-    ∙ ap (λ ys. map is_free (map state_of slots) ++ ys) (map-replicate is_free n (Free 0))))) in (
-      rw states (record {
-        limited = m.limited;
-        within = rw (length-append, length-replicate, length-map) room;
-        marked = marks_are;
-        fit = fits-append (map state_of slots) (replicate n (Free 0)) m.fit (fits-fresh Registration n);
-      }),
-      rw states (ap (admitted n) view),
-    )
-
-pub room_inside : (limit : ℕ) (slots : List Slot) (w : Indexed Registration) (n : ℕ) →
-    ◌≡◌ {A = Indexed Registration} (record { limit = limit; indices = map state_of slots }) w → length w.indices + n ≤ w.limit → length slots + n ≤ limit
-room_inside limit slots w n view room =
-    let known : length w.indices ≡ length slots = ap (λ (v : Indexed Registration). length v.indices) (sym view) ∙ length-map slots state_of in
-    let bound : limit ≡ w.limit = ap (λ (v : Indexed Registration). v.limit) view in
-    omega arith
-
--- a living one at the end, who isn't marked
-
 fits-one : (g : ℕ) (r : Registration) → g ≤ 65535 → (i : ℕ) → Fits (slice_get (Living g r ∷ []) i)
 fits-one g r l zero = l
 fits-one g r l (suc i) = tt
 
-abbrev with_last : Registration → Indexed Registration → Indexed Registration
-with_last r v = record v { indices = v.indices ++ Living 0 r ∷ [] }
+abbrev with_last : ℕ → Registration → Indexed Registration → Indexed Registration
+with_last g r v = record v { indices = v.indices ++ Living g r ∷ [] }
 
-pub slot_appended : (limit : ℕ) (slots slots' : List Slot) (marks marks' : List Bool) (w : Indexed Registration) (new : Slot) (r : Registration) →
-    IsMarked limit (map state_of slots) marks → ◌≡◌ {A = Indexed Registration} (record { limit = limit; indices = map state_of slots }) w →
-    length slots + 1 ≤ limit → state_of new ≡ Living 0 r → slots' ≡ slots ++ new ∷ [] → marks' ≡ marks ++ false ∷ [] →
-    IsMarked limit (map state_of slots') marks'
-    × (◌≡◌ {A = Indexed Registration} (record { limit = limit; indices = map state_of slots' }) (record w { indices = w.indices ++ Living 0 r ∷ [] }))
-slot_appended limit slots slots' marks marks' w new r m view room is more unmarked =
-    let states : map state_of slots' ≡ map state_of slots ++ Living 0 r ∷ [] = ap (map state_of) more
-    ∙ (map-append state_of slots (new ∷ []) ∙ ap (λ x. map state_of slots ++ x ∷ []) is) in
-    let marks_are : marks' ≡ map is_free (map state_of slots ++ Living 0 r ∷ []) = unmarked
-    ∙ (ap (λ ms. ms ++ false ∷ []) m.marked ∙ sym (map-append is_free (map state_of slots) (Living 0 r ∷ []))) in (
-      rw states (record {
-        limited = m.limited;
-        within = rw (length-append, length-map) room;
-        marked = marks_are;
-        fit = fits-append (map state_of slots) (Living 0 r ∷ []) m.fit (fits-one 0 r (omega arith));
-      }),
-      rw states (ap (with_last r) view),
-    )
+cases_lt : (a b : ℕ) → (a < b) ⊎ (b ≤ a)
+cases_lt a b =
+    elim (cases_Bool (nat_lt a b)) [
+      | inl t ↦ inl (ltb-true a b t)
+      | inr f ↦ inr (ltb-false a b f)
+    ]
+
+-- the (items kept)
+
+module _ (kept : Inside) (w : Indexed Registration) (m : IsMarked kept.limit (states (labels kept) (items kept)) kept.free) (view : View kept w) where
+  pub length_shown : length w.indices ≡ length (items kept)
+  length_shown = ap (λ (v : Indexed Registration). length v.indices) (sym view) ∙ length-states (labels kept) (items kept)
+
+  pub marks_as_slots : length kept.free ≡ length (items kept)
+  marks_as_slots = ap length m.marked ∙ (length-map (states (labels kept) (items kept)) is_free ∙ length-states (labels kept) (items kept))
+
+  -- what a slot shows where it was read
+  state_read : (i : ℕ) (x : Slot) → i < length (items kept) → x ≡ get_or (items kept) i x → slice_get (states (labels kept) (items kept)) i ≡ Some (state_of ((labels kept) i) x)
+  state_read i x l read = slice_get-states (labels kept) (items kept) i ∙ ap (option_map (state_of ((labels kept) i))) (slice_get_read (items kept) (length (items kept)) i x refl l read)
+
+  living_there : (e : Entity) → is_alive w e ≡ true →
+      (r : Registration) × (slice_get (states (labels kept) (items kept)) e.index ≡ Some (Living e.generation r))
+  living_there e alive =
+      let living : (r : Registration) × (slice_get w.indices e.index ≡ Some (Living e.generation r)) = alive_known w e alive in
+      (living.0, ap (λ (v : Indexed Registration). slice_get v.indices e.index) view ∙ living.1)
+
+  within_by : (i : ℕ) (x : IndexState Registration) → slice_get (states (labels kept) (items kept)) i ≡ Some x → i < length (items kept)
+  within_by i x known = let l : i < length (states (labels kept) (items kept)) = slice_get_within (states (labels kept) (items kept)) i x known in
+      let same : length (states (labels kept) (items kept)) ≡ length (items kept) = length-states (labels kept) (items kept) in omega arith
+
+  pub alive_within : (e : Entity) → is_alive w e ≡ true → e.index < length (items kept)
+  alive_within e alive =
+      let living : (r : Registration) × (slice_get (states (labels kept) (items kept)) e.index ≡ Some (Living e.generation r)) = living_there e alive in
+      within_by e.index (Living e.generation living.0) living.1
+
+  pub free_within : (e : Entity) → is_free_at w e ≡ true → e.index < length (items kept)
+  free_within e free =
+      within_by e.index (Free e.generation) (ap (λ (v : Indexed Registration). slice_get v.indices e.index) view ∙ free_known w e free)
+
+  -- a change of what is kept of a living entity, with its (labels kept)
+  pub slot_changed : (label' : Names) (e : Entity) (old new : Slot) (change : Registration → Registration) →
+      AgreeBeside e.index (labels kept) label' → is_alive w e ≡ true →
+      old ≡ get_or (items kept) e.index old → state_of (label' e.index) new ≡ map_state change (state_of ((labels kept) e.index) old) →
+      IsMarked kept.limit (states label' (set (items kept) e.index new)) kept.free × Shows kept.limit label' (set (items kept) e.index new) (changed w e change)
+  slot_changed label' e old new change apart alive read is =
+      let within : e.index < length (items kept) = alive_within e alive in
+      let here : slice_get (states (labels kept) (items kept)) e.index ≡ Some (state_of ((labels kept) e.index) old) = state_read e.index old within read in
+      let known : is_alive (record { limit = kept.limit; indices = states (labels kept) (items kept) }) e ≡ true = ap (λ (v : Indexed Registration). is_alive v e) view ∙ alive in
+      let shown : states label' (set (items kept) e.index new) ≡ set (states (labels kept) (items kept)) e.index (state_of (label' e.index) new) =
+      states-set (labels kept) label' (items kept) e.index new apart in (
+        rw (shown, is)
+            (marked_kept kept.limit (states (labels kept) (items kept)) kept.free e.index (map_state change (state_of ((labels kept) e.index) old)) (state_of ((labels kept) e.index) old) m here
+            (is_free-map_state change (state_of ((labels kept) e.index) old))
+            (fits-map_state change (state_of ((labels kept) e.index) old) (fits_at kept.limit (states (labels kept) (items kept)) kept.free e.index (state_of ((labels kept) e.index) old) m here))),
+        rw shown
+            (changed_states kept.limit (states (labels kept) (items kept)) e (state_of (label' e.index) new) (state_of ((labels kept) e.index) old) change known here is
+            ∙ ap (λ (v : Indexed Registration). changed v e change) view),
+      )
+
+  -- who has no name loses none
+  pub unnamed_same : (e : Entity) (old : Slot) → is_alive w e ≡ true → old ≡ get_or (items kept) e.index old → is_named old.state ≡ false → w ≡ changed w e (renamed None)
+  unnamed_same e old alive read nameless =
+      let same : (items kept) ≡ set (items kept) e.index old = sym (ap (set (items kept) e.index) read ∙ set-get_or (items kept) e.index old) in
+      sym view ∙ (ap (λ ss. record { limit = kept.limit; indices = states (labels kept) ss }) same
+      ∙ (slot_changed (labels kept) e old old (renamed None) (λ k n. refl) alive read (nameless_kept ((labels kept) e.index) old nameless)).1)
+
+  -- another state at a known index
+  pub slot_put : (marks' : List Bool) (i : ℕ) (new : Slot) (x : IndexState Registration) →
+      i < length (items kept) →
+      state_of ((labels kept) i) new ≡ x → Fits (Some x) → marks' ≡ set kept.free i (is_free x) →
+      IsMarked kept.limit (states (labels kept) (set (items kept) i new)) marks'
+      × Shows kept.limit (labels kept) (set (items kept) i new) (record w { indices = slice_set w.indices i x })
+  slot_put marks' i new x l is fits mark =
+      let shown : states (labels kept) (set (items kept) i new) ≡ set (states (labels kept) (items kept)) i x =
+      states-set (labels kept) (labels kept) (items kept) i new (λ k n. refl) ∙ ap (set (states (labels kept) (items kept)) i) is in
+      let within : i < length (states (labels kept) (items kept)) = rw (length-states (labels kept) (items kept)) l in (
+        rw shown (marked-set kept.limit (states (labels kept) (items kept)) kept.free marks' i x m within fits mark),
+        rw shown (ap (with_state i x) view),
+      )
+
+  -- who lives isn't marked
+  pub living_unmarked : (e : Entity) → is_alive w e ≡ true → kept.free ≡ set kept.free e.index false
+  living_unmarked e alive =
+      let living : (r : Registration) × (slice_get (states (labels kept) (items kept)) e.index ≡ Some (Living e.generation r)) = living_there e alive in
+      let within : e.index < length (states (labels kept) (items kept)) = slice_get_within (states (labels kept) (items kept)) e.index (Living e.generation living.0) living.1 in
+      let mark : get_or kept.free e.index false ≡ false =
+      ap (λ ms. get_or ms e.index false) m.marked
+      ∙ (get_or-map is_free (states (labels kept) (items kept)) e.index (Living e.generation living.0) false within
+      ∙ ap is_free (get_or_from_slice_get (states (labels kept) (items kept)) e.index (Living e.generation living.0) (Living e.generation living.0) living.1)) in
+      sym (ap (λ b. set kept.free e.index b) (sym mark) ∙ set-get_or kept.free e.index false)
+
+  -- the state that a death leaves
+  pub slot_died : (marks' : List Bool) (e : Entity) (new : Slot) →
+      is_alive w e ≡ true → state_of ((labels kept) e.index) new ≡ raised e.generation → marks' ≡ set kept.free e.index (is_free (state_of ((labels kept) e.index) new)) →
+      IsMarked kept.limit (states (labels kept) (set (items kept) e.index new)) marks' × Shows kept.limit (labels kept) (set (items kept) e.index new) (with_death w e)
+  slot_died marks' e new alive is mark =
+      slot_put marks' e.index new (raised e.generation) (alive_within e alive) is
+      (fits-raised Registration e.generation)
+      (mark ∙ ap (λ x. set kept.free e.index (is_free x)) is)
+
+  pub next_marked : (k g : ℕ) → Some k ≡ position_from (λ b. b) 0 kept.free →
+      g ≡ next_generation (slice_get w.indices k) → Some (record { index = k; generation = g }) ≡ next_entity w
+  next_marked k g some is =
+      let same : g ≡ next_generation (slice_get (states (labels kept) (items kept)) k) = is
+      ∙ ap (λ (v : Indexed Registration). next_generation (slice_get v.indices k)) (sym view) in
+      ap (λ n. Some (record { index = k; generation = n })) same
+      ∙ (sym (next_free kept.limit (states (labels kept) (items kept)) _ (lowest_mark kept.limit (states (labels kept) (items kept)) kept.free k m some).1) ∙ ap next_entity view)
+
+  pub next_fresh : (k g : ℕ) → None ≡ position_from (λ b. b) 0 kept.free → k ≡ length (items kept) →
+      k < kept.limit → g ≡ next_generation (slice_get w.indices k) → Some (record { index = k; generation = g }) ≡ next_entity w
+  next_fresh k g none known below is =
+      let whole : length (states (labels kept) (items kept)) ≡ k = length-states (labels kept) (items kept) ∙ sym known in
+      let past : slice_get (states (labels kept) (items kept)) k ≡ None = slice_get_past (states (labels kept) (items kept)) k (omega arith) in
+      let zero_is : g ≡ 0 = is ∙ (ap (λ (v : Indexed Registration). next_generation (slice_get v.indices k)) (sym view) ∙ ap next_generation past) in
+      ap (λ n. Some (record { index = k; generation = n })) zero_is
+      ∙ (sym (ap (first_unknown kept.limit) whole ∙ cond-true (nat_lt k kept.limit) (Some (record { index = k; generation = 0 })) None (lt-ltb k kept.limit below))
+      ∙ (sym (next_unknown kept.limit (states (labels kept) (items kept)) (lowest_unmarked kept.limit (states (labels kept) (items kept)) kept.free m none)) ∙ ap next_entity view))
+
+  pub next_over : None ≡ position_from (λ b. b) 0 kept.free → kept.limit ≤ length (items kept) →
+      None ≡ next_entity w
+  next_over none over =
+      let whole : length (states (labels kept) (items kept)) ≡ length (items kept) = length-states (labels kept) (items kept) in
+      sym (ap (first_unknown kept.limit) whole ∙ cond-false (nat_lt (length (items kept)) kept.limit) (Some (record { index = length (items kept); generation = 0 })) None
+      (le-ltb (length (items kept)) kept.limit over))
+      ∙ (sym (next_unknown kept.limit (states (labels kept) (items kept)) (lowest_unmarked kept.limit (states (labels kept) (items kept)) kept.free m none)) ∙ ap next_entity view)
+
+  pub slots_admitted : (slots' : List Slot) (grown marks' : List Bool) (n : ℕ) (new : Slot) →
+      length (items kept) + n ≤ kept.limit → slots' ≡ (items kept) ++ replicate n new → ((l : Option (List ℕ)) → state_of l new ≡ Free 0) → grown ≡ kept.free ++ replicate n false →
+      marks' ≡ take (length (items kept)) grown ++ replicate (length grown - length (items kept)) true →
+      IsMarked kept.limit (states (labels kept) slots') marks' × Shows kept.limit (labels kept) slots' (admitted n w)
+  slots_admitted slots' grown marks' n new room more fresh zeros filled =
+      let same : length (states (labels kept) (items kept)) ≡ length (items kept) = length-states (labels kept) (items kept) in
+      let known : length kept.free ≡ length (items kept) = ap length m.marked ∙ (length-map (states (labels kept) (items kept)) is_free ∙ same) in
+      let whole : length grown - length (items kept) ≡ n = let grown_by : length grown ≡ length kept.free + n = ap length zeros
+      ∙ (length-append kept.free (replicate n false) ∙ rw length-replicate refl) in omega arith in
+      let front : take (length (items kept)) grown ≡ kept.free = ap (take (length (items kept))) zeros ∙ take_at kept.free (replicate n false) (length (items kept)) known in
+      let shown : states (labels kept) slots' ≡ states (labels kept) (items kept) ++ replicate n (Free 0) = ap (states (labels kept)) more ∙ states-copies (labels kept) (items kept) n new fresh in
+      let marks_are : marks' ≡ map is_free (states (labels kept) (items kept) ++ replicate n (Free 0)) =
+      filled ∙ (rw (front, whole) refl
+      ∙ (ap (λ ms. ms ++ replicate n true) m.marked
+      ∙ sym (map-append is_free (states (labels kept) (items kept)) (replicate n (Free 0))
+      ∙ ap (λ ys. map is_free (states (labels kept) (items kept)) ++ ys) (map-replicate is_free n (Free 0))))) in (
+        rw shown (record {
+          limited = m.limited;
+          within = rw (length-append, length-replicate, same) room;
+          marked = marks_are;
+          fit = fits-append (states (labels kept) (items kept)) (replicate n (Free 0)) m.fit (fits-fresh Registration n);
+        }),
+        rw shown (ap (admitted n) view),
+      )
+
+  pub room_inside : (n : ℕ) →
+      length w.indices + n ≤ w.limit → length (items kept) + n ≤ kept.limit
+  room_inside n room =
+      let known : length w.indices ≡ length (items kept) = length_shown in
+      let bound : kept.limit ≡ w.limit = ap (λ (v : Indexed Registration). v.limit) view in
+      omega arith
+
+  -- ---- the next entity's slot, at its index or after the last one
+  next_within : (e : Entity) → next_entity w ≡ Some e → (e.index ≤ length (items kept)) × (length (items kept) ≤ e.index → length (items kept) + 1 ≤ kept.limit)
+  next_within e next =
+      let known : length w.indices ≡ length (items kept) = length_shown in
+      let bound : kept.limit ≡ w.limit = ap (λ (v : Indexed Registration). v.limit) view in
+      elim (next_is w e next) [
+        | inl free ↦
+            let there : e.index < length w.indices = slice_get_within w.indices e.index (Free e.generation) free in
+            (omega arith, λ past. absurd (omega arith))
+        | inr fresh ↦
+            let below : length w.indices < w.limit = fresh.0 in
+            let index : length w.indices ≡ e.index = ap (λ (x : Entity). x.index) fresh.1 in
+            (omega arith, λ past. omega arith)
+      ]
+
+  pub next_slot : (e : Entity) → next_entity w ≡ Some e →
+      IsNextSlot e.index (length (items kept)) (length kept.free)
+  next_slot e next =
+      let same : length (states (labels kept) (items kept)) ≡ length (items kept) = length-states (labels kept) (items kept) in
+      record {
+        within = (next_within e next).0;
+        marked = marks_as_slots;
+        room = omega (arith, m.limited, m.within);
+      }
+
+  -- another (labels kept) there, and still nobody
+  pub next_unlabelled : (e : Entity) (label' : Names) → AgreeBeside e.index (labels kept) label' → next_entity w ≡ Some e →
+      states label' (items kept) ≡ states (labels kept) (items kept)
+  next_unlabelled e label' apart next =
+      states_beside (labels kept) label' (items kept) e.index apart (λ s there. elim (next_is w e next) [
+        | inl free ↦
+            let shown : Some (state_of ((labels kept) e.index) s) ≡ Some (Free e.generation) =
+            sym (state_shown kept w view e.index (Some s) (sym there)) ∙ free in
+            let is : is_free (state_of ((labels kept) e.index) s) ≡ true = ap is_free (same_Some _ _ shown) in
+            free_slot ((labels kept) e.index) (label' e.index) s is ∙ sym (free_slot ((labels kept) e.index) ((labels kept) e.index) s is)
+        | inr fresh ↦
+            let within : e.index < length (items kept) = slice_get_within (items kept) e.index s there in
+            let known : length w.indices ≡ length (items kept) = length_shown in
+            let index : length w.indices ≡ e.index = ap (λ (x : Entity). x.index) fresh.1 in
+            absurd (omega arith)
+      ])
+
+  -- it lives with this kept of it, and isn't marked
+  pub slot_settled : (e : Entity) (label' : Names) (slots' : List Slot) (marks' : List Bool) (new : Slot) (r : Registration) →
+      AgreeBeside e.index (labels kept) label' → next_entity w ≡ Some e →
+      e.generation ≤ 65535 → state_of (label' e.index) new ≡ Living e.generation r → slots' ≡ put_at e.index new (items kept) → marks' ≡ put_at e.index false kept.free →
+      IsMarked kept.limit (states label' slots') marks' × Shows kept.limit label' slots' (with_new w e r)
+  slot_settled e label' slots' marks' new r apart next small is put unmarked =
+      let at : (e.index ≤ length (items kept)) × (length (items kept) ≤ e.index → length (items kept) + 1 ≤ kept.limit) = next_within e next in
+      let same : length (states (labels kept) (items kept)) ≡ length (items kept) = length-states (labels kept) (items kept) in
+      let known : length w.indices ≡ length (items kept) = length_shown in
+      let marked : length kept.free ≡ length (items kept) = marks_as_slots in
+      elim (cases_lt e.index (length (items kept))) [
+        | inl l ↦
+            let slots_are : slots' ≡ set (items kept) e.index new = put ∙ cond-true (nat_lt e.index (length (items kept))) _ _ (lt-ltb _ _ l) in
+            let marks_are : marks' ≡ set kept.free e.index false = unmarked ∙ cond-true (nat_lt e.index (length kept.free)) _ _ (lt-ltb _ _ (omega arith)) in
+            let shown : states label' slots' ≡ set (states (labels kept) (items kept)) e.index (Living e.generation r) =
+            ap (states label') slots_are ∙ (states-set (labels kept) label' (items kept) e.index new apart ∙ ap (set (states (labels kept) (items kept)) e.index) is) in (
+              rw shown (marked-set kept.limit (states (labels kept) (items kept)) kept.free marks' e.index (Living e.generation r) m (omega arith) small marks_are),
+              rw shown (ap (with_state e.index (Living e.generation r)) view
+                  ∙ sym (cond-true (nat_lt e.index (length w.indices)) (with_record w e r) _ (lt-ltb _ _ (omega arith)))),
+            )
+        | inr past ↦
+            let there : e.index ≡ length (items kept) = let within : e.index ≤ length (items kept) = at.0 in omega arith in
+            let room : length (items kept) + 1 ≤ kept.limit = at.1 past in
+            let slots_are : slots' ≡ (items kept) ++ new ∷ [] = put ∙ cond-false (nat_lt e.index (length (items kept))) _ _ (le-ltb _ _ past) in
+            let marks_are : marks' ≡ kept.free ++ false ∷ [] = unmarked ∙ cond-false (nat_lt e.index (length kept.free)) _ _ (le-ltb _ _ (omega arith)) in
+            let shown : states label' slots' ≡ states (labels kept) (items kept) ++ Living e.generation r ∷ [] =
+            ap (states label') slots_are
+            ∙ (states-push (labels kept) label' (items kept) new (λ k ne. apart k (λ e. ne (e ∙ there)))
+            ∙ ap (λ x. states (labels kept) (items kept) ++ x ∷ []) (ap (λ i. state_of (label' i) new) (sym there) ∙ is)) in (
+              rw shown (record {
+                limited = m.limited;
+                within = rw (length-append, same) room;
+                marked = marks_are ∙ (ap (λ ms. ms ++ false ∷ []) m.marked
+                    ∙ sym (map-append is_free (states (labels kept) (items kept)) (Living e.generation r ∷ [])));
+                fit = fits-append (states (labels kept) (items kept)) (Living e.generation r ∷ []) m.fit (fits-one e.generation r small);
+              }),
+              rw shown (ap (with_last e.generation r) view
+                  ∙ sym (cond-false (nat_lt e.index (length w.indices)) (with_record w e r) _ (le-ltb _ _ (omega arith)))),
+            )
+      ]

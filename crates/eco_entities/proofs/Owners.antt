@@ -5,7 +5,7 @@ use Rattle.std.proofs.lemmas.Bool.{MatchBool-at_true, MatchBool-at_false}
 use Rattle.std.proofs.lemmas.List.{set-set}
 use Rattle.eco_ids.specs.declared.refusal.Refusal.{Refusal}
 use Rattle.eco_ids.specs.declared.refusal.Refusal.TheVariants.{Taken, NoMoreIds}
-use Rattle.eco_ids.specs.Births.{Admits, RevivesWith}
+use Rattle.eco_ids.specs.Births.{Admits, MakesAliveWith}
 use Rattle.eco_ids.specs.Outcome.{Meets, is_out_of_memory}
 use Rattle.eco_entities.specs.declared.place.Place.{Place}
 use Rattle.eco_entities.proofs.Registers.{cases_entity, registry_same, registry_nameless}
@@ -96,10 +96,10 @@ death_of_renamed w e change alive =
     ∙ ap (λ xs. record w { indices = xs }) (set-set w.indices e.index (Living e.generation (change living.0)) (raised e.generation))
 
 module _ {found : List ℕ → Option Entity} where
-  -- a call that revives keeps the registry
-  pub registry_revived : (w new : Indexed Registration) (e : Entity) (r : Result (Unit {0}) Refusal) → IsRegistry found (own_name name_of w) →
-      RevivesWith w e (newcomer None None) r new → IsRegistry found (own_name name_of new)
-  registry_revived w new e r g h =
+  -- a call that makes an entity alive keeps the registry
+  pub registry_made_alive : (w new : Indexed Registration) (e : Entity) (r : Result (Unit {0}) Refusal) → IsRegistry found (own_name name_of w) →
+      MakesAliveWith w e (newcomer None None) r new → IsRegistry found (own_name name_of new)
+  registry_made_alive w new e r g h =
       elim (cases_Bool (is_free_at w e)) [
         | inl free ↦
             let done : (r ≡ Ok tt) × (new ≡ with_record w e (newcomer None None)) = MatchBool-at_true _ _ free h in

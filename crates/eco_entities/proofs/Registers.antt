@@ -43,8 +43,8 @@ module _ {found found' : List ℕ → Option Entity} {own own' : Entity → Opti
   registry_gain name e r nameless free good f o = record {
     lives = λ n x h. elim (cases_text n name) [
       | inl same ↦
-          let bearer : x ≡ e = same_Some x e (sym h ∙ (ap found' same ∙ f.here)) in
-          ap own' bearer ∙ (o.here ∙ ap Some (sym same))
+          let named_entity : x ≡ e = same_Some x e (sym h ∙ (ap found' same ∙ f.here)) in
+          ap own' named_entity ∙ (o.here ∙ ap Some (sym same))
       | inr apart ↦
           let lived : own x ≡ Some n = r.lives n x (sym (f.others n apart) ∙ h) in
           o.others x (λ is. none-some n (sym nameless ∙ (ap own (sym is) ∙ lived))) ∙ lived
@@ -118,8 +118,8 @@ registry_exchange {found} {found'} {found''} {own} {own'} old name e r named fre
         | inl same ↦ absurd (none-some x (sym g.here ∙ (ap found'' (sym same) ∙ h)))
         | inr kept ↦ elim (cases_text n name) [
           | inl new ↦
-              let bearer : x ≡ e = same_Some x e (sym h ∙ (g.others n kept ∙ (ap found' new ∙ f.here))) in
-              ap own' bearer ∙ (o.here ∙ ap Some (sym new))
+              let named_entity : x ≡ e = same_Some x e (sym h ∙ (g.others n kept ∙ (ap found' new ∙ f.here))) in
+              ap own' named_entity ∙ (o.here ∙ ap Some (sym new))
           | inr apart ↦
               let lived : own x ≡ Some n = r.lives n x (sym (f.others n apart) ∙ (sym (g.others n kept) ∙ h)) in
               o.others x (λ is. kept (same_Some n old (sym lived ∙ (ap own is ∙ named)))) ∙ lived

@@ -7,11 +7,11 @@ use Rattle.eco_ids.specs.declared.refusal.Refusal.{Refusal}
 use Rattle.eco_ids.specs.declared.refusal.Refusal.TheVariants.{BadName, NameTaken}
 use Rattle.eco_ids.specs.Births.{unfit_name, Makes}
 use Rattle.eco_ids.specs.Indices.{Indexed, Living, is_alive, with_record, changed, change_kept}
-use Rattle.eco_ids.specs.Names.{is_name, is_called, bearer}
+use Rattle.eco_ids.specs.Names.{is_name, is_called, named_entity}
 use Rattle.eco_ids.specs.Outcome.{Meets, first_refusal, is_out_of_memory}
 use Rattle.eco_ids.specs.Renaming.{own_name, RenamesWith, may_rename}
 use Rattle.eco_entities.specs.Registration.{Registration, newcomer, name_of, renamed}
-use Rattle.eco_entities.proofs.Bearers.{text_refl, called_same}
+use Rattle.eco_entities.proofs.NamedEntities.{text_refl, called_same}
 use Rattle.eco_ids.proofs.States.{record_at}
 use Rattle.eco_ids.proofs.Lists.{set_own}
 use Rattle.eco_entities.proofs.States.{alive_known}
@@ -26,12 +26,12 @@ uncalled w e name ne =
 
 -- another has it
 pub rename_taken : (w : Indexed Registration) (e x : Entity) (name : List ℕ) → is_alive w e ≡ true → is_name name ≡ true →
-    is_called name (own_name name_of w e) ≡ false → bearer name_of w name ≡ Some x → RenamesWith name_of renamed w e false (Some name) (Err NameTaken) w
+    is_called name (own_name name_of w e) ≡ false → named_entity name_of w name ≡ Some x → RenamesWith name_of renamed w e false (Some name) (Err NameTaken) w
 rename_taken w e x name alive good other found = rw (alive, good, other, found) (refl, refl)
 
 -- nobody has it, so there is nothing against it
 pub rename_may : (w : Indexed Registration) (e : Entity) (name : List ℕ) → is_alive w e ≡ true → is_name name ≡ true →
-    is_called name (own_name name_of w e) ≡ false → bearer name_of w name ≡ None → may_rename name_of w e false (Some name) ≡ true
+    is_called name (own_name name_of w e) ≡ false → named_entity name_of w name ≡ None → may_rename name_of w e false (Some name) ≡ true
 rename_may w e name alive good other free = rw (alive, good, other, free) refl
 
 -- a state set again
@@ -90,5 +90,5 @@ fit_parts true None h = (refl, refl)
 fit_parts true (Some e) h = absurd (none-some NameTaken (sym h))
 fit_parts false o h = absurd (none-some BadName (sym h))
 
-pub name_fit : (w : Indexed Registration) (name : List ℕ) → unfit_name name_of w (Some name) ≡ None → (is_name name ≡ true) × (bearer name_of w name ≡ None)
-name_fit w name h = fit_parts (is_name name) (bearer name_of w name) h
+pub name_fit : (w : Indexed Registration) (name : List ℕ) → unfit_name name_of w (Some name) ≡ None → (is_name name ≡ true) × (named_entity name_of w name ≡ None)
+name_fit w name h = fit_parts (is_name name) (named_entity name_of w name) h

@@ -1,8 +1,8 @@
 -- Lists of states: who lives or is free at an index, and what a change leaves of it.
-use Rattle.std.proofs.Common.{◌≡◌, ◌≢◌, ℕ, suc, ◌+◌, ◌-◌, ◌<◌, ◌≤◌, true, cond, List, [], ◌∷◌, length, set, slice_get, refl, sym, ap, ◌∙◌, Option, Some, None, is_some, ◌⊎◌, inl, inr, nat_lt, if◌then◌else◌, arith, eqb-true}
+use Rattle.std.proofs.Common.{◌≡◌, ℕ, suc, ◌+◌, ◌-◌, ◌<◌, ◌≤◌, true, cond, List, [], ◌∷◌, length, set, slice_get, refl, sym, ap, ◌∙◌, Option, Some, None, is_some, ◌⊎◌, inl, inr, nat_lt, if◌then◌else◌, arith, eqb-true}
 use Rattle.std.specs.Option.{option_or}
 use Rattle.std.proofs.lemmas.Bool.{cases_eq, ltb-true, false≢true, ne_eqb}
-use Rattle.std.proofs.lemmas.Option.{none-some, cond_some, same_Some, slice_get_within}
+use Rattle.std.proofs.lemmas.Option.{none-some, cond_some, same_Some}
 use Rattle.eco_ids.specs.declared.entity.Entity.{Entity}
 use Rattle.eco_ids.specs.Indices.{Indexed, IndexState, Retired, Free, Living, record_in, is_alive, is_free_in, is_free_at, map_state, lowest_free, next_entity, change_kept, changed}
 use Rattle.eco_ids.proofs.States.{record_at}
@@ -78,11 +78,3 @@ next_or w e (Some x) low h =
 pub next_is : {A : Type 0} (w : Indexed A) (e : Entity) → next_entity w ≡ Some e →
     (slice_get w.indices e.index ≡ Some (Free e.generation)) ⊎ ((length w.indices < w.limit) × (record { index = length w.indices; generation = 0 } ≡ e))
 next_is w e h = next_or w e (lowest_free 0 w.indices) refl h
-
--- where its index isn't known, there is room for it
-pub next_room : {A : Type 0} (w : Indexed A) (e : Entity) → next_entity w ≡ Some e → length w.indices ≤ e.index → length w.indices + 1 ≤ w.limit
-next_room w e h past =
-    elim (next_is w e h) [
-      | inl free ↦ let within : e.index < length w.indices = slice_get_within w.indices e.index (Free e.generation) free in omega arith
-      | inr fresh ↦ let below : length w.indices < w.limit = fresh.0 in omega arith
-    ]

@@ -1,5 +1,6 @@
 pub mod Changes
 pub mod FreeBits
+pub mod Labels
 pub mod Registration
 pub mod Registry
 pub mod Rules

@@ -2,7 +2,7 @@
 use Rattle.std.specs.Prelude.{◌≡◌, ◌≢◌, ℕ, false, List, [], ◌∷◌, Option, None, Result, Ok, IsTrue}
 use Rattle.eco_ids.specs.declared.entity.Entity.{Entity}
 use Rattle.eco_ids.specs.declared.refusal.Refusal.{Refusal}
-use Rattle.eco_ids.specs.Births.{Makes, Admits, may_admit, RevivesWith}
+use Rattle.eco_ids.specs.Births.{Makes, Admits, may_admit, MakesAliveWith}
 use Rattle.eco_ids.specs.Indices.{Indexed, is_alive, with_death, changed}
 use Rattle.eco_ids.specs.Outcome.{Meets}
 use Rattle.eco_entities.specs.Registration.{Creates, Registration, Renames, newcomer, name_of, placed}
@@ -12,7 +12,7 @@ use Rattle.eco_entities.specs.declared.place.Place.{Place}
 pub data Call : Type 0 where
   Create : Option (List ℕ) → Option ℕ → Call
   Admit : ℕ → Call
-  Revive : Entity → Call
+  MakeAlive : Entity → Call
   Kill : Entity → Call
   Rename : Entity → Option (List ℕ) → Call
   SetPlace : Entity → Place → Call
@@ -21,7 +21,7 @@ pub data Call : Type 0 where
 abbrev pub LeadsTo : Call → Indexed Registration → Indexed Registration → Type 0
 LeadsTo (Create name arity) old new = (r : Result Entity Refusal) × Creates old name arity r new
 LeadsTo (Admit n) old new = (r : Result (Unit {0}) Refusal) × Meets (Admits old n) (may_admit old n) old r new
-LeadsTo (Revive e) old new = (r : Result (Unit {0}) Refusal) × RevivesWith old e (newcomer None None) r new
+LeadsTo (MakeAlive e) old new = (r : Result (Unit {0}) Refusal) × MakesAliveWith old e (newcomer None None) r new
 LeadsTo (Kill e) old new = IsTrue (is_alive old e) × (new ≡ with_death old e)
 LeadsTo (Rename e name) old new = (r : Result (Unit {0}) Refusal) × Renames old e name r new
 LeadsTo (SetPlace e p) old new = IsTrue (is_alive old e) × (new ≡ changed old e (placed p))

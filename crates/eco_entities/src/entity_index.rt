@@ -2,12 +2,12 @@
 //!
 //! An entity is named by a handle: an index, and how often that index was used before. A handle that outlives its entity
 //! is never taken for the one who lives at its index now (Flecs manual, Entities and Components).
-ghost use Rattle.std.specs.Prelude.{◌≡◌, ◌↔◌, ◌≤◌, ◌&&◌, nat_lt, true, [], length, Option, Some, None, IsTrue, OnOk, OnErr, MatchOption};
+ghost use Rattle.std.specs.Prelude.{◌≡◌, ◌↔◌, ◌≤◌, ◌<◌, ◌&&◌, nat_lt, true, [], length, Option, Some, None, IsTrue, OnOk, OnErr, MatchOption};
 ghost use Rattle.std.specs.Option.{option_copied};
-ghost use Rattle.eco_ids.specs.Births.{Admits, may_admit, Makes, RevivesWith, unfit_name};
+ghost use Rattle.eco_ids.specs.Births.{Admits, may_admit, Makes, MakesAliveWith, unfit_name};
 ghost use Rattle.eco_ids.specs.declared.entity.Entity.{Entity};
 ghost use Rattle.eco_ids.specs.Indices.{changed, is_alive, is_free_at, next_entity, with_new, with_death};
-ghost use Rattle.eco_ids.specs.Names.{bearer, is_name};
+ghost use Rattle.eco_ids.specs.Names.{named_entity, is_name};
 ghost use Rattle.eco_ids.specs.Outcome.{Meets};
 ghost use Rattle.eco_ids.specs.Renaming.{own_name};
 ghost use Rattle.eco_entities.specs.Registration.{Creates, Renames, newcomer, name_of, own_arity, own_place, entity_at, placed, renamed};
@@ -83,17 +83,19 @@ impl EntityIndex {
     }
 
     /// Whether the entity lives: its index is in use at just this generation. Takes no memory.
+    #[inline]
     pub fn is_alive(&self, entity: Entity) -> bool
         ensures { result ≡ is_alive self.now entity }
     {
-        self.slots.get(entity).is_some()
+        self.slots.is_alive(entity)
     }
 
     /// Where a living entity is kept, once [`set_place`](EntityIndex::set_place) said so.
+    #[inline]
     pub fn place_of(&self, entity: Entity) -> Option<Place>
         ensures { result ≡ own_place self.now entity }
     {
-        self.slots.get(entity)?.place
+        self.slots.place(entity)
     }
 
     /// The name of a living entity, if it has one.
@@ -105,7 +107,7 @@ impl EntityIndex {
 
     /// The living entity of this name. No two have the same. Takes no memory.
     pub fn lookup(&self, name: &str) -> Option<Entity>
-        ensures bearer { result ≡ bearer name_of self.now name.now }
+        ensures named_entity { result ≡ named_entity name_of self.now name.now }
         ensures exact { (e : Entity) → (result ≡ Some e) ↔ (own_name name_of self.now e ≡ Some name.now) }
     {
         self.names.get(name)
@@ -119,6 +121,7 @@ impl EntityIndex {
     }
 
     /// The arity of a living entity, if it has one.
+    #[inline]
     pub fn arity_of(&self, entity: Entity) -> Option<u8>
         ensures { result ≡ own_arity self.now entity }
     {
@@ -199,11 +202,11 @@ impl EntityIndex {
         ensures err { OnErr result (self.new ≡ self.old) }
     {
         let Some(text) = name else {
-            self.slots.settle_next(entity, None, arity)?;
+            self.slots.settle_nameless(entity, arity)?;
             return Ok(());
         };
         let own = self.names.insert(text, entity)?;
-        match self.slots.settle_next(entity, Some(own), arity) {
+        match self.slots.settle_named(entity, own, arity) {
             Ok(()) => Ok(()),
             Err(refused) => {
                 self.names.remove(text);
@@ -226,15 +229,19 @@ impl EntityIndex {
     /// Takes no memory.
     ///
     /// Refused with `Taken` unless its index is known, free and at its generation. A refused call changes nothing.
-    pub fn revive(&mut self, entity: Entity) -> Result<(), Refusal>
-        ensures { RevivesWith self.old entity (newcomer None None) result self.new }
+    pub fn make_alive(&mut self, entity: Entity) -> Result<(), Refusal>
+        ensures { MakesAliveWith self.old entity (newcomer None None) result self.new }
     {
-        self.slots.revive(entity)
+        self.slots.make_alive(entity)
     }
 
     /// The living entity is kept there from now on.
+    ///
+    /// A row lies below 4,294,967,295.
+    #[inline]
     pub fn set_place(&mut self, entity: Entity, place: Place)
-        requires { IsTrue (is_alive self.old entity) }
+        requires fits { place.row < 4294967295 }
+        requires alive { IsTrue (is_alive self.old entity) }
         ensures { self.new ≡ changed self.old entity (placed place) }
     {
         self.slots.set_place(entity, place);
@@ -269,7 +276,7 @@ impl EntityIndex {
             return Err(Refusal::BadName);
         }
         match self.lookup(text) {
-            Some(bearer) if bearer == entity => Ok(()),
+            Some(named_entity) if named_entity == entity => Ok(()),
             Some(_) => Err(Refusal::NameTaken),
             None => Ok(self.give_name(entity, text)?),
         }
@@ -279,16 +286,22 @@ impl EntityIndex {
     fn give_name(&mut self, entity: Entity, name: &str) -> Result<(), AllocError>
         requires alive { IsTrue (is_alive self.old entity) }
         requires proper { IsTrue (is_name name.now) }
-        requires free { bearer name_of self.old name.now ≡ None }
+        requires free { named_entity name_of self.old name.now ≡ None }
         ensures ok { OnOk result (self.new ≡ changed self.old entity (renamed (Some name.now))) }
         ensures err { OnErr result (self.new ≡ self.old) }
     {
         let own = self.names.insert(name, entity)?;
-        if let Some(old) = self.slots.name(entity) {
-            self.names.remove(old);
+        match self.slots.give_name(entity, own) {
+            Ok(Some(old)) => {
+                self.names.remove(old.as_str());
+                Ok(())
+            }
+            Ok(None) => Ok(()),
+            Err(refused) => {
+                self.names.remove(name);
+                Err(refused)
+            }
         }
-        self.slots.set_name(entity, Some(own));
-        Ok(())
     }
 
     // The living entity has no name any more.
@@ -296,9 +309,8 @@ impl EntityIndex {
         requires { IsTrue (is_alive self.old entity) }
         ensures { self.new ≡ changed self.old entity (renamed None) }
     {
-        if let Some(name) = self.slots.name(entity) {
-            self.names.remove(name);
+        if let Some(name) = self.slots.take_name(entity) {
+            self.names.remove(name.as_str());
         }
-        self.slots.set_name(entity, None);
     }
 }

@@ -96,6 +96,11 @@ impl FreeSet {
     {
         let len = self.len + count;
         let indices = len.div_ceil(WORD_BITS);
+        // Mostly the last word has bits left.
+        if indices <= self.indices.len() {
+            self.len = len;
+            return Ok(());
+        }
         let words = indices.div_ceil(WORD_BITS);
         self.groups.grow_to(words.div_ceil(WORD_BITS))?;
         self.words.grow_to(words)?;

@@ -14,7 +14,7 @@ pub fn nobody_lives_twice()
 /// Each change is one of what is kept of one entity, and of no other.
 pub fn changes_touch_one_entity()
     ensures new { (w : Indexed Registration) (e : Entity) (r : Registration) → next_entity w ≡ Some e → ChangesAt (record_of w) (record_of (with_new w e r)) e (Some r) }
-    ensures revived { (w : Indexed Registration) (e : Entity) (r : Registration) → IsTrue (is_free_at w e) → ChangesAt (record_of w) (record_of (with_record w e r)) e (Some r) }
+    ensures made_alive { (w : Indexed Registration) (e : Entity) (r : Registration) → IsTrue (is_free_at w e) → ChangesAt (record_of w) (record_of (with_record w e r)) e (Some r) }
     ensures changed { (w : Indexed Registration) (e : Entity) (r : Registration) (change : Registration → Registration) → record_of w e ≡ Some r → ChangesAt (record_of w) (record_of (changed w e change)) e (Some (change r)) }
     ensures dead { (w : Indexed Registration) (e : Entity) → IsTrue (is_alive w e) → ChangesAt (record_of w) (record_of (with_death w e)) e None }
     ensures admitted { (w : Indexed Registration) (n : ℕ) → Keeps (record_of w) (record_of (admitted n w)) }

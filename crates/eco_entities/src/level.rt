@@ -33,6 +33,14 @@ impl Level {
         }
     }
 
+    /// How many words it has.
+    #[inline]
+    pub(crate) fn len(&self) -> usize
+        ensures { result ≡ length self.now }
+    {
+        self.words.len()
+    }
+
     /// Sets the bit at `place`.
     pub(crate) fn set(&mut self, place: usize)
         requires { place / 64 < length self.old }

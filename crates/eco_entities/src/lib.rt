@@ -3,6 +3,7 @@
 
 mod entity_index;
 mod free_set;
+mod labels;
 pub mod laws;
 mod level;
 mod names;

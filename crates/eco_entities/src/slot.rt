@@ -1,63 +1,190 @@
-//! What the index keeps of one index.
-ghost use Rattle.std.specs.Prelude.{◌≡◌, option_map, string_bytes, Some};
-ghost use Rattle.eco_ids.specs.Indices.{map_state, raised};
-ghost use Rattle.eco_entities.specs.Registration.{placed, renamed};
-ghost use Rattle.eco_entities.specs.Slots.{is_free, state_of};
+//! What the index keeps of one index, in 16 bytes.
+ghost use Rattle.std.specs.Prelude.{◌≡◌, ◌<◌, ℕ, true, List, Option, None, if◌then◌else◌};
+ghost use Rattle.eco_ids.specs.Indices.{Free, Living, map_state, raised};
+ghost use Rattle.eco_entities.specs.Registration.{newcomer, placed, renamed};
+ghost use Rattle.eco_entities.specs.Slots.{arity_in, has_arity, is_free, is_living, is_named, place_in, state_of};
 
 use crate::place::Place;
-use std::mem;
 
-/// What is kept of a living entity.
-#[derive(Drop)]
-pub(crate) struct Registered {
-    pub(crate) name: Option<String>,
-    pub(crate) arity: Option<u8>,
-    pub(crate) place: Option<Place>,
+/// Whether an index is in use, and what its entity has besides.
+#[derive(Clone, Copy)]
+pub(crate) enum State {
+    /// It was used at every generation.
+    Retired,
+    Free,
+    /// An entity without name and arity lives there.
+    Plain,
+    /// An entity with a name and no arity lives there.
+    Named,
+    /// An entity with an arity and no name lives there.
+    Component,
+    /// An entity with a name and an arity lives there.
+    NamedComponent,
 }
 
-/// A known index: an entity lives there, or it is free, or it was used at every generation. Living and free come with
-/// the generation.
-#[derive(Drop)]
-pub(crate) enum Slot {
-    Living(u16, Registered),
-    Free(u16),
-    Retired,
+impl State {
+    // An entity lives there.
+    #[inline]
+    fn is_living(self) -> bool
+        ensures { result ≡ is_living self }
+    {
+        !matches!(self, State::Retired | State::Free)
+    }
+
+    // The entity there has an arity.
+    #[inline]
+    fn has_arity(self) -> bool
+        ensures { result ≡ has_arity self }
+    {
+        matches!(self, State::Component | State::NamedComponent)
+    }
+
+    // The state of a living entity.
+    #[inline]
+    fn living(named: bool, component: bool) -> State
+        ensures living { is_living result ≡ true }
+        ensures named { is_named result ≡ named }
+        ensures component { has_arity result ≡ component }
+    {
+        match (named, component) {
+            (false, false) => State::Plain,
+            (true, false) => State::Named,
+            (false, true) => State::Component,
+            (true, true) => State::NamedComponent,
+        }
+    }
+}
+
+// No row has this number: it stands in the slot of an entity that has no place.
+const NO_ROW: u32 = u32::MAX;
+
+/// A known index. Where nobody lives, only the state counts, and the generation of a free one.
+#[derive(Clone, Copy)]
+pub(crate) struct Slot {
+    table: usize,
+    row: u32,
+    generation: u16,
+    arity: u8,
+    state: State,
 }
 
 impl Slot {
+    // A slot without place.
+    #[inline]
+    fn unplaced(generation: u16, arity: u8, state: State) -> Slot
+        ensures { result ≡ record { table = 0; row = 4294967295; generation = generation; arity = arity; state = state } }
+    {
+        Slot {
+            table: 0,
+            row: NO_ROW,
+            generation,
+            arity,
+            state,
+        }
+    }
+
+    /// Free at this generation.
+    #[inline]
+    pub(crate) fn free(generation: u16) -> Slot
+        ensures { (label : Option (List ℕ)) → state_of label result ≡ Free generation }
+    {
+        Slot::unplaced(generation, 0, State::Free)
+    }
+
     /// What is left of an index whose entity died at this generation: after the last one nobody lives there again.
     pub(crate) fn raised(generation: u16) -> Slot
-        ensures { state_of result ≡ raised generation }
+        ensures { (label : Option (List ℕ)) → state_of label result ≡ raised generation }
     {
         if generation < u16::MAX {
-            Slot::Free(generation + 1)
+            Slot::free(generation + 1)
         } else {
-            Slot::Retired
+            Slot::unplaced(0, 0, State::Retired)
         }
+    }
+
+    /// A new entity, which has a name or none and an arity or none, and no place.
+    #[inline]
+    pub(crate) fn newcomer(generation: u16, named: bool, arity: Option<u8>) -> Slot
+        ensures { (label : Option (List ℕ)) → state_of label result ≡ Living generation (newcomer (if named then label else None) arity) }
+    {
+        let state = State::living(named, arity.is_some());
+        Slot::unplaced(generation, arity.unwrap_or(0), state)
+    }
+
+    /// An entity lives there.
+    #[inline]
+    pub(crate) fn is_living(&self) -> bool
+        ensures { result ≡ is_living self.now.state }
+    {
+        self.state.is_living()
     }
 
     /// Nobody lives there, and somebody may.
+    #[inline]
     pub(crate) fn is_free(&self) -> bool
-        ensures { result ≡ is_free (state_of self.now) }
+        ensures { (label : Option (List ℕ)) → result ≡ is_free (state_of label self.now) }
     {
-        matches!(self, Slot::Free(_))
+        matches!(self.state, State::Free)
     }
 
-    /// Changes the place of who lives there.
-    pub(crate) fn set_place(&mut self, place: Place)
-        ensures { state_of self.new ≡ map_state (placed place) (state_of self.old) }
+    /// The entity there has a name.
+    #[inline]
+    pub(crate) fn is_named(&self) -> bool
+        ensures { result ≡ is_named self.now.state }
     {
-        if let Slot::Living(_, registered) = self {
-            registered.place = Some(place);
+        matches!(self.state, State::Named | State::NamedComponent)
+    }
+
+    /// The generation of the entity there, or of the next one.
+    #[inline]
+    pub(crate) fn generation(&self) -> u16
+        ensures { result ≡ self.now.generation }
+    {
+        self.generation
+    }
+
+    /// The arity of who lives there, if it has one.
+    #[inline]
+    pub(crate) fn arity(&self) -> Option<u8>
+        ensures { result ≡ arity_in self.now }
+    {
+        if self.state.has_arity() {
+            Some(self.arity)
+        } else {
+            None
         }
     }
 
-    /// Changes the name of who lives there.
-    pub(crate) fn set_name(&mut self, name: Option<String>)
-        ensures { state_of self.new ≡ map_state (renamed (option_map string_bytes name)) (state_of self.old) }
+    /// The place of who lives there, if it has one.
+    #[inline]
+    pub(crate) fn place(&self) -> Option<Place>
+        ensures { result ≡ place_in self.now }
     {
-        if let Slot::Living(_, registered) = self {
-            registered.name = name;
+        if self.row == NO_ROW {
+            return None;
+        }
+        Some(Place {
+            table: self.table,
+            row: self.row as usize,
+        })
+    }
+
+    /// Changes the place of who lives there.
+    #[inline]
+    pub(crate) fn set_place(&mut self, place: Place)
+        requires { place.row < 4294967295 }
+        ensures { (label : Option (List ℕ)) → state_of label self.new ≡ map_state (placed place) (state_of label self.old) }
+    {
+        self.table = place.table;
+        self.row = place.row as u32;
+    }
+
+    /// Who lives there has a name from now on, or none.
+    pub(crate) fn set_named(&mut self, named: bool)
+        ensures { (old label : Option (List ℕ)) → state_of label self.new ≡ map_state (renamed (if named then label else None)) (state_of old self.old) }
+    {
+        if self.state.is_living() {
+            self.state = State::living(named, self.state.has_arity());
         }
     }
 }

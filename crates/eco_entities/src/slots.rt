@@ -1,16 +1,17 @@
 //! The known indices: which of them live, are free or retired, and what is kept of the living.
-ghost use Rattle.std.specs.Prelude.{◌≡◌, ℕ, ◌+◌, ◌≤◌, ◌<◌, ◌&&◌, nat_lt, [], ◌∷◌, ◌++◌, replicate, vec_len, vec_capacity, length, slice_get, IsTrue, OnOk, OnErr, Some, None, option_map, string_bytes};
-ghost use Rattle.eco_ids.specs.Births.{Admits, may_admit, RevivesWith};
-ghost use Rattle.eco_ids.specs.Indices.{changed, record_of, is_alive, is_free_at, next_entity, admitted, with_new, with_record, with_death, Living};
+ghost use Rattle.std.specs.Prelude.{◌≡◌, ℕ, ◌+◌, ◌≤◌, ◌<◌, ◌&&◌, false, nat_lt, [], ◌++◌, replicate, vec_len, vec_capacity, length, slice_get, IsTrue, OnOk, OnErr, IfOk, Some, None, option_map, string_bytes};
+ghost use Rattle.eco_ids.specs.Births.{Admits, may_admit, MakesAliveWith};
+ghost use Rattle.eco_ids.specs.Indices.{changed, record_of, is_alive, is_free_at, next_entity, admitted, with_new, with_record, with_death};
 ghost use Rattle.eco_ids.specs.Outcome.{Meets};
 ghost use Rattle.std.specs.Option.{option_copied};
 ghost use Rattle.eco_ids.specs.Renaming.{own_name};
-ghost use Rattle.eco_entities.specs.Registration.{name_of, newcomer, own_arity, entity_at, placed, renamed};
-ghost use Rattle.eco_entities.specs.Slots.{registration_of, next_generation, Fits};
+ghost use Rattle.eco_entities.specs.Registration.{name_of, newcomer, own_arity, own_place, entity_at, placed, renamed};
+ghost use Rattle.eco_entities.specs.Slots.{living_slot, next_generation, put_at, Fits, IsNextSlot};
 
 use crate::free_set::FreeSet;
+use crate::labels::Labels;
 use crate::place::Place;
-use crate::slot::{Registered, Slot};
+use crate::slot::Slot;
 use eco_ids::{Entity, Refusal};
 use std::alloc::{AllocError, Global};
 use std::marker::Model;
@@ -23,19 +24,21 @@ pub(crate) struct Slots {
     slots: Vec<Slot>,
     // The indices whose slots are free.
     free: FreeSet,
+    // The names of those who have one.
+    labels: Labels,
 }
 
 impl Model for Slots {
-    ghost use Rattle.std.specs.Prelude.{map};
     ghost use Rattle.eco_ids.specs.Indices.{Indexed};
     ghost use Rattle.eco_entities.specs.Registration.{Registration};
-    ghost use Rattle.eco_entities.specs.Slots.{state_of, IsMarked};
+    ghost use Rattle.eco_entities.specs.Slots.{states, IsMarked};
+    ghost use Rattle.eco_entities.specs.Labels.{label_of};
 
     ghost Value = { Indexed Registration };
 
-    ghost view = { λ s. record { limit = s.limit; indices = map state_of s.slots.items } };
+    ghost view = { λ s. record { limit = s.limit; indices = states (label_of s.labels) s.slots.items } };
 
-    ghost invariant = { λ s. IsMarked s.limit (map state_of s.slots.items) s.free };
+    ghost invariant = { λ s. IsMarked s.limit (states (label_of s.labels) s.slots.items) s.free };
 }
 
 impl Slots {
@@ -48,6 +51,7 @@ impl Slots {
             limit,
             slots: Vec::new(alloc),
             free: FreeSet::new(alloc),
+            labels: Labels::new(alloc),
         }
     }
 
@@ -75,42 +79,53 @@ impl Slots {
         let _ = &self.limit;
     }
 
-    /// What is kept of an entity, if it lives.
-    pub(crate) fn get(&self, entity: Entity) -> Option<&Registered>
-        ensures { option_map (λ r. registration_of r.now) result ≡ record_of self.now entity }
+    /// Whether the entity lives.
+    #[inline]
+    pub(crate) fn is_alive(&self, entity: Entity) -> bool
+        ensures { result ≡ is_alive self.now entity }
     {
-        match self.slots.get(entity.index as usize)? {
-            Slot::Living(generation, registered) if *generation == entity.generation => Some(
-                registered,
-            ),
-            _ => None,
-        }
+        living(self.slots.as_slice(), entity).is_some()
+    }
+
+    /// The place of a living entity, if it has one.
+    #[inline]
+    pub(crate) fn place(&self, entity: Entity) -> Option<Place>
+        ensures { result ≡ own_place self.now entity }
+    {
+        living(self.slots.as_slice(), entity)?.place()
+    }
+
+    /// The arity of a living entity, if it has one.
+    #[inline]
+    pub(crate) fn arity(&self, entity: Entity) -> Option<u8>
+        ensures { result ≡ own_arity self.now entity }
+    {
+        living(self.slots.as_slice(), entity)?.arity()
     }
 
     /// The name of a living entity, if it has one.
     pub(crate) fn name(&self, entity: Entity) -> Option<&str>
         ensures { option_copied result ≡ own_name name_of self.now entity }
     {
-        self.get(entity)?.name.as_deref()
-    }
-
-    /// The arity of a living entity, if it has one.
-    pub(crate) fn arity(&self, entity: Entity) -> Option<u8>
-        ensures { result ≡ own_arity self.now entity }
-    {
-        self.get(entity)?.arity
+        if living(self.slots.as_slice(), entity)?.is_named() {
+            self.labels.get(entity.index)
+        } else {
+            None
+        }
     }
 
     /// Who lives at the index.
     pub(crate) fn entity_at(&self, index: u32) -> Option<Entity>
         ensures { result ≡ entity_at self.now index }
     {
-        match self.slots.get(index as usize)? {
-            Slot::Living(generation, _) => Some(Entity {
+        let slot = slot_at(self.slots.as_slice(), index as usize)?;
+        if slot.is_living() {
+            Some(Entity {
                 index,
-                generation: *generation,
-            }),
-            _ => None,
+                generation: slot.generation(),
+            })
+        } else {
+            None
         }
     }
 
@@ -118,9 +133,9 @@ impl Slots {
     pub(crate) fn is_free_at(&self, entity: Entity) -> bool
         ensures { result ≡ is_free_at self.now entity }
     {
-        match self.slots.get(entity.index as usize) {
-            Some(Slot::Free(generation)) => *generation == entity.generation,
-            _ => false,
+        match slot_at(self.slots.as_slice(), entity.index as usize) {
+            Some(slot) => slot.is_free() && slot.generation() == entity.generation,
+            None => false,
         }
     }
 
@@ -128,8 +143,8 @@ impl Slots {
     fn next_generation(&self, index: usize) -> u16
         ensures { result ≡ next_generation (slice_get self.now.indices index) }
     {
-        match self.slots.get(index) {
-            Some(Slot::Free(generation)) => *generation,
+        match slot_at(self.slots.as_slice(), index) {
+            Some(slot) if slot.is_free() => slot.generation(),
             _ => 0,
         }
     }
@@ -172,73 +187,66 @@ impl Slots {
         self.slots.reserve(count)?;
         self.free.grow(count)?;
         self.free.insert_from(known);
-        push_fresh(&mut self.slots, count);
+        push_copies(&mut self.slots, Slot::free(0), count);
         Ok(())
     }
 
-    /// A handle that is free lives, with this name and this arity.
-    pub(crate) fn settle(&mut self, entity: Entity, name: Option<String>, arity: Option<u8>)
+    // A handle that is free lives, without name and arity.
+    fn settle(&mut self, entity: Entity)
         requires { IsTrue (is_free_at self.old entity) }
-        ensures { self.new ≡ with_record self.old entity (newcomer (option_map string_bytes name) arity) }
+        ensures { self.new ≡ with_record self.old entity (newcomer None None) }
     {
         let index = entity.index as usize;
         self.free.remove(index);
-        self.slots[index] = Slot::Living(
-            entity.generation,
-            Registered {
-                name,
-                arity,
-                place: None,
-            },
-        );
+        self.slots[index] = Slot::newcomer(entity.generation, false, None);
     }
 
-    /// The next entity lives, with this name and this arity. An `Err` leaves everything.
-    pub(crate) fn settle_next(
+    /// The next entity lives, with this arity and no name. An `Err` leaves everything.
+    #[inline]
+    pub(crate) fn settle_nameless(
         &mut self,
         entity: Entity,
-        name: Option<String>,
         arity: Option<u8>,
     ) -> Result<(), AllocError>
         requires { next_entity self.old ≡ Some entity }
-        ensures ok { OnOk result (self.new ≡ with_new self.old entity (newcomer (option_map string_bytes name) arity)) }
+        ensures ok { OnOk result (self.new ≡ with_new self.old entity (newcomer None arity)) }
         ensures err { OnErr result (self.new ≡ self.old) }
     {
-        if entity.index < self.high() {
-            self.settle(entity, name, arity);
-            return Ok(());
-        }
-        self.settle_last(name, arity)
-    }
-
-    // The first unknown index, which lies below the limit, is known from now on, and an entity lives there, with this name and
-    // this arity. It was never free, so no mark is set and cleared. An `Err` leaves everything.
-    fn settle_last(&mut self, name: Option<String>, arity: Option<u8>) -> Result<(), AllocError>
-        requires { length self.old.indices + 1 ≤ self.old.limit }
-        ensures ok { OnOk result (self.new ≡ record self.old { indices = self.old.indices ++ Living 0 (newcomer (option_map string_bytes name) arity) ∷ [] }) }
-        ensures err { OnErr result (self.new ≡ self.old) }
-    {
-        self.slots.reserve(1)?;
-        self.free.grow(1)?;
-        self.slots.push_reserved(Slot::Living(
-            0,
-            Registered {
-                name,
-                arity,
-                place: None,
-            },
-        ));
+        let slot = Slot::newcomer(entity.generation, false, arity);
+        put(&mut self.slots, &mut self.free, entity.index as usize, slot)?;
         Ok(())
     }
 
+    /// The next entity lives, with this name and this arity. An `Err` leaves everything.
+    pub(crate) fn settle_named(
+        &mut self,
+        entity: Entity,
+        name: String,
+        arity: Option<u8>,
+    ) -> Result<(), AllocError>
+        requires { next_entity self.old ≡ Some entity }
+        ensures ok { OnOk result (self.new ≡ with_new self.old entity (newcomer (Some (string_bytes name)) arity)) }
+        ensures err { OnErr result (self.new ≡ self.old) }
+    {
+        let slot = Slot::newcomer(entity.generation, true, arity);
+        let _ = self.labels.insert(entity.index, name)?;
+        match put(&mut self.slots, &mut self.free, entity.index as usize, slot) {
+            Ok(()) => Ok(()),
+            Err(refused) => {
+                let _ = self.labels.remove(entity.index);
+                Err(refused)
+            }
+        }
+    }
+
     /// A handle that is free lives, without name and arity.
-    pub(crate) fn revive(&mut self, entity: Entity) -> Result<(), Refusal>
-        ensures { RevivesWith self.old entity (newcomer None None) result self.new }
+    pub(crate) fn make_alive(&mut self, entity: Entity) -> Result<(), Refusal>
+        ensures { MakesAliveWith self.old entity (newcomer None None) result self.new }
     {
         if !self.is_free_at(entity) {
             return Err(Refusal::Taken);
         }
-        self.settle(entity, None, None);
+        self.settle(entity);
         Ok(())
     }
 
@@ -255,27 +263,99 @@ impl Slots {
         self.slots[index] = left;
     }
 
+    #[inline]
     pub(crate) fn set_place(&mut self, entity: Entity, place: Place)
-        requires { IsTrue (is_alive self.old entity) }
+        requires fits { place.row < 4294967295 }
+        requires alive { IsTrue (is_alive self.old entity) }
         ensures { self.new ≡ changed self.old entity (placed place) }
     {
         self.slots[entity.index as usize].set_place(place);
     }
 
-    pub(crate) fn set_name(&mut self, entity: Entity, name: Option<String>)
+    /// The living entity has this name from now on. The answer is the one that it had. An `Err` leaves everything.
+    pub(crate) fn give_name(
+        &mut self,
+        entity: Entity,
+        name: String,
+    ) -> Result<Option<String>, AllocError>
         requires { IsTrue (is_alive self.old entity) }
-        ensures { self.new ≡ changed self.old entity (renamed (option_map string_bytes name)) }
+        ensures ok { OnOk result (self.new ≡ changed self.old entity (renamed (Some (string_bytes name)))) }
+        ensures was { IfOk result (λ was. option_map string_bytes was ≡ own_name name_of self.old entity) }
+        ensures err { OnErr result (self.new ≡ self.old) }
     {
-        self.slots[entity.index as usize].set_name(name);
+        let label = self.labels.insert(entity.index, name)?;
+        let slot = &mut self.slots[entity.index as usize];
+        let was = if slot.is_named() { label } else { None };
+        slot.set_named(true);
+        Ok(was)
+    }
+
+    /// The living entity has no name from now on. The answer is the one that it had.
+    pub(crate) fn take_name(&mut self, entity: Entity) -> Option<String>
+        requires { IsTrue (is_alive self.old entity) }
+        ensures renamed { self.new ≡ changed self.old entity (renamed None) }
+        ensures was { option_map string_bytes result ≡ own_name name_of self.old entity }
+    {
+        let index = entity.index as usize;
+        if !self.slots[index].is_named() {
+            return None;
+        }
+        self.slots[index].set_named(false);
+        self.labels.remove(entity.index)
     }
 }
 
-// Appends free slots, for which there is room.
-fn push_fresh(slots: &mut Vec<Slot>, count: usize)
+// The slot of a known index.
+#[inline]
+fn slot_at(slots: &[Slot], index: usize) -> Option<Slot>
+    ensures { result ≡ slice_get slots.now index }
+{
+    slots.get(index).copied()
+}
+
+// The slot of an entity, if it lives.
+#[inline]
+fn living(slots: &[Slot], entity: Entity) -> Option<Slot>
+    ensures { result ≡ living_slot slots.now entity }
+{
+    match slot_at(slots, entity.index as usize) {
+        Some(slot) if slot.is_living() && entity.generation == slot.generation() => Some(slot),
+        _ => None,
+    }
+}
+
+// The slot is at the index from now on, which is known or the first unknown one, and the index isn't free. An `Err` leaves
+// both.
+#[inline]
+fn put(
+    slots: &mut Vec<Slot>,
+    free: &mut FreeSet,
+    index: usize,
+    slot: Slot,
+) -> Result<(), AllocError>
+    requires { IsNextSlot index (length slots.old.items) (length free.old) }
+    ensures slots { OnOk result (slots.new.items ≡ put_at index slot slots.old.items) }
+    ensures free { OnOk result (free.new ≡ put_at index false free.old) }
+    ensures err_slots { OnErr result (slots.new.items ≡ slots.old.items) }
+    ensures err_free { OnErr result (free.new ≡ free.old) }
+{
+    if index < slots.len() {
+        free.remove(index);
+        slots[index] = slot;
+        return Ok(());
+    }
+    slots.reserve(1)?;
+    free.grow(1)?;
+    slots.push_reserved(slot);
+    Ok(())
+}
+
+// Appends copies of a slot, for which there is room.
+fn push_copies(slots: &mut Vec<Slot>, slot: Slot, count: usize)
     requires { vec_len slots.old + count ≤ vec_capacity slots.old }
-    ensures { slots.new.items ≡ slots.old.items ++ replicate count (Slot.Free 0) }
+    ensures { slots.new.items ≡ slots.old.items ++ replicate count slot }
 {
     for _ in 0..count {
-        slots.push_reserved(Slot::Free(0));
+        slots.push_reserved(slot);
     }
 }

@@ -1,5 +1,6 @@
 -- An add has an end: the closure can be listed, and what stands against it can be found.
-use Rattle.std.proofs.Common.{◌≡◌, Bool, true, false, List, [], ◌∷◌, ◌++◌, map, refl, sym, subst, IsTrue, inl, inr, ⊎_elim, Option, Some, None, option_map, MatchBool}
+use Rattle.std.proofs.Common.{◌≡◌, Bool, true, false, List, [], ◌∷◌, ◌++◌, map, refl, sym, subst, IsTrue, inl, inr, ⊎_elim, Option, Some, None, option_map}
+use Rattle.std.proofs.Common.{MatchBool}
 use Rattle.std.specs.List.{list_any}
 use Rattle.eco_ids.specs.declared.entity.Entity.{Entity}
 use Rattle.eco_ids.specs.declared.entity.TheConstants.{WITH, ACYCLIC}

@@ -6,10 +6,11 @@ use Rattle.eco_ids.specs.declared.id.Id.{Id}
 use Rattle.eco_ids.specs.declared.id.Id.TheVariants.{One, Two}
 use Rattle.eco_ids.specs.Cleanup.{Doomed, Forbids, HoldsOn, Names, after_delete}
 use Rattle.eco_ids.specs.Indices.{Free}
-use Rattle.eco_ids.specs.Least.{root, next}
+use Rattle.eco_ids.specs.Least.{root}
 use Rattle.eco_ids.specs.Order.{id_eq}
 use Rattle.eco_ids.specs.World.{WorldState, has, zeros}
 use Rattle.eco_ids.proofs.Facts.{id_eq_is}
+use Rattle.eco_ids.proofs.Meaning.{doomed_closed}
 use Rattle.eco_ids.proofs.Worlds.{e, having, world}
 
 -- a tree: r 9 with children g 10 and s 11, p 12 a child of g, k 13 of p
@@ -18,7 +19,8 @@ tree = world (having [] ∷ having (Two CHILD_OF (e 9) ∷ []) ∷ having (Two C
     (Two CHILD_OF (e 12) ∷ []) ∷ [])
 
 grandchild : Doomed tree (λ x. x ≡ e 10) (e 13)
-grandchild = next (next (root refl) (Two CHILD_OF (e 10), refl, inr (refl, refl))) (Two CHILD_OF (e 12), refl, inr (refl, refl))
+grandchild = doomed_closed tree _ (e 12) (e 13) (doomed_closed tree _ (e 10) (e 12) (root refl) (Two CHILD_OF (e 10), refl, inr (refl, refl)))
+    (Two CHILD_OF (e 12), refl, inr (refl, refl))
 
 subtree : after_delete tree (e 10 ∷ e 12 ∷ e 13 ∷ []) ≡ world (having [] ∷ Free 1 ∷ having (Two CHILD_OF (e 9) ∷ []) ∷ Free 1 ∷ Free 1 ∷ [])
 subtree = refl
@@ -28,7 +30,7 @@ abbrev mixed : WorldState
 mixed = world (having (Two ON_DELETE DELETE ∷ []) ∷ having [] ∷ having (One (e 9) ∷ []) ∷ having (Two (e 10) (e 11) ∷ Two (e 10) (e 12) ∷ []) ∷ [])
 
 holder : Doomed mixed (λ x. x ≡ e 9) (e 11)
-holder = next (root refl) (One (e 9), refl, (refl, refl))
+holder = doomed_closed mixed _ (e 9) (e 11) (root refl) (One (e 9), refl, (refl, refl))
 
 stripped : after_delete mixed (e 9 ∷ e 11 ∷ []) ≡ world (Free 1 ∷ having [] ∷ Free 1 ∷ having (Two (e 10) (e 12) ∷ []) ∷ [])
 stripped = refl
@@ -69,4 +71,4 @@ abbrev relation : WorldState
 relation = world (having (Two ON_DELETE DELETE ∷ []) ∷ having [] ∷ having (Two (e 9) (e 10) ∷ []) ∷ [])
 
 by_relationship : Doomed relation (λ x. x ≡ e 9) (e 11)
-by_relationship = next (root refl) (Two (e 9) (e 10), refl, inl (refl, refl))
+by_relationship = doomed_closed relation _ (e 9) (e 11) (root refl) (Two (e 9) (e 10), refl, inl (refl, refl))

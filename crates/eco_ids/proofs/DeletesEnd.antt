@@ -12,7 +12,8 @@ use Rattle.eco_ids.specs.World.{WorldState, is_alive}
 use Rattle.eco_ids.proofs.Endings.{End}
 use Rattle.eco_ids.proofs.Facts.{same_or_apart}
 use Rattle.eco_ids.proofs.IdOrder.{entity_cmp_total, same_entity}
-use Rattle.eco_ids.proofs.Listable.{In, Decided, IsLeastOf, decide_as, decide_bool, decide_false, decide_both, decide_either, item_in, least_of, listed, some_of, sorted}
+use Rattle.eco_ids.proofs.Listable.{In, Decided, IsLeastOf, decide_as, decide_bool, decide_false, decide_both, decide_either, item_in, least_of, listed}
+use Rattle.eco_ids.proofs.Listable.{some_of, sorted}
 use Rattle.eco_ids.proofs.LivingLists.{has_alive, living_in, some_held, the_living}
 
 decide_names : (w : WorldState) (action : Entity) (i : Id) (member : Entity) → Decided (Names w action i member)

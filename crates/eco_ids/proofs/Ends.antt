@@ -5,14 +5,15 @@ use Rattle.eco_ids.specs.declared.id.Id.{Id}
 use Rattle.eco_ids.specs.declared.refusal.Refusal.{Refusal}
 use Rattle.eco_ids.specs.declared.refusal.Refusal.TheVariants.{NoMoreIds, Reserved, Taken}
 use Rattle.eco_ids.specs.declared.value.Value.{Value}
-use Rattle.eco_ids.specs.Births.{Makes, RevivesWith, Admits, unfit_name}
+use Rattle.eco_ids.specs.Births.{Makes, MakesAliveWith, Admits, unfit_name}
 use Rattle.eco_ids.specs.Builtin.{is_builtin, is_builtins}
 use Rattle.eco_ids.specs.Cleanup.{Deletes}
 use Rattle.eco_ids.specs.Delete.{DeletesOne, DeletesWith}
 use Rattle.eco_ids.specs.Indices.{Indexed, next_entity}
 use Rattle.eco_ids.specs.Outcome.{Answers, Refuses}
 use Rattle.eco_ids.specs.Renaming.{RenamesWith, unfit_rename}
-use Rattle.eco_ids.specs.Step.{Adds, Sets, Removes, Clears, Renames, RemovesAll, Extends, unfit, unfit_set, unfit_actor, unchanged, changed, grown, with_name, with_value}
+use Rattle.eco_ids.specs.Step.{Adds, Sets, Removes, Clears, Renames, RemovesAll, Extends, unfit, unfit_set, unfit_actor, unchanged, changed, grown, with_name}
+use Rattle.eco_ids.specs.Step.{with_value}
 use Rattle.eco_ids.specs.World.{WorldState, Record, has, entities, with_entities, OnEntities}
 use Rattle.eco_ids.proofs.Exact.{deletes_unique}
 use Rattle.eco_ids.proofs.Facts.{not_ok}
@@ -61,8 +62,8 @@ makes_settled name_of w d =
     (by_option (entities w) (next_entity (entities w)) _ _ (refuses (entities w) NoMoreIds) (λ e. answers (entities w) e _))
     (λ why. refuses (entities w) why))
 
-pub revives_settled : (w : WorldState) (e : Entity) (d : Record) → IsSettled w (OnEntities (λ v. RevivesWith v e d) w)
-revives_settled w e d = lifted w (λ v. RevivesWith v e d) (by_bool (entities w) _ _ _ (answers (entities w) tt _) (refuses (entities w) Taken))
+pub makes_alive_settled : (w : WorldState) (e : Entity) (d : Record) → IsSettled w (OnEntities (λ v. MakesAliveWith v e d) w)
+makes_alive_settled w e d = lifted w (λ v. MakesAliveWith v e d) (by_bool (entities w) _ _ _ (answers (entities w) tt _) (refuses (entities w) Taken))
 
 pub admits_settled : (w : WorldState) (n : ℕ) → IsSettled w (OnEntities (λ v. Admits v n) w)
 admits_settled w n = lifted w (λ v. Admits v n) (by_bool (entities w) _ _ _ (answers (entities w) tt _) (refuses (entities w) NoMoreIds))

@@ -1,5 +1,6 @@
 -- Exactly which ids and values an add and a delete leave.
-use Rattle.std.proofs.Common.{◌≡◌, Bool, true, false, cond, not, List, [], refl, sym, ap, ◌∙◌, subst, IsTrue, IsFalse, is_some, inl, inr, Option, Some, None, option_map, unwrap_or, MatchOption, MatchBool, Ok}
+use Rattle.std.proofs.Common.{◌≡◌, Bool, true, false, cond, not, List, [], refl, sym, ap, ◌∙◌, subst, IsTrue, IsFalse, is_some, inl, inr, Option, Some, None}
+use Rattle.std.proofs.Common.{option_map, unwrap_or, MatchOption, MatchBool, Ok}
 use Rattle.std.specs.Option.{option_or, option_and_then}
 use Rattle.std.specs.FinMap.Entries.{find}
 use Rattle.eco_ids.specs.declared.entity.Entity.{Entity}
@@ -14,7 +15,7 @@ use Rattle.eco_ids.specs.Laws.{AddLeaves, DeleteLeaves}
 use Rattle.eco_ids.specs.Losses.{keeping}
 use Rattle.eco_ids.specs.Order.{id_cmp, entity_cmp, has_item}
 use Rattle.eco_ids.specs.Outcome.{Answers, Refuses}
-use Rattle.eco_ids.specs.Step.{Adds, Extends, changed, IsClosure, is_displaced, unchanged, unfit, unfit_actor, with_closure, grown}
+use Rattle.eco_ids.specs.Step.{Adds, Extends, changed, IsClosure, is_replaced, unchanged, unfit, unfit_actor, with_closure, grown}
 use Rattle.eco_ids.specs.World.{WorldState, Record, has, zeros, record_of, is_alive}
 use Rattle.eco_ids.proofs.Adds.{closure_write}
 use Rattle.eco_ids.proofs.Closures.{find_kept}
@@ -36,7 +37,7 @@ leaves_closure w e i s d at closure = record {
   values = λ j.
       ap (λ o. find id_cmp j (held_in o)) write.at
       ∙ closure_find w s d j
-      ∙ ap (λ o. option_or (cond (not (is_displaced w s j)) (find id_cmp j (held_in o)) None) (cond (has_item id_cmp s j) (Some zeros) None)) (sym at);
+      ∙ ap (λ o. option_or (cond (not (is_replaced w s j)) (find id_cmp j (held_in o)) None) (cond (has_item id_cmp s j) (Some zeros) None)) (sym at);
   others = λ x n. ap held_in (write.apart x n);
   name = each (λ o. option_and_then (λ (r : Record). r.name) o) refl;
   arity = each (λ o. option_and_then (λ (r : Record). r.arity) o) refl;

@@ -1,5 +1,6 @@
 -- Whatever a test decides on a list can be searched there, and a least set of its items can be listed.
-use Rattle.std.proofs.Common.{◌≡◌, ℕ, zero, suc, Bool, true, false, ◌||◌, ◌↔◌, List, [], ◌∷◌, length, refl, sym, ap, ◌∙◌, subst, arith, true≢false, IsTrue, IsFalse, ◌⊎◌, inl, inr, ⊎_elim, Ordering, Less, Equal, Greater, is_eq}
+use Rattle.std.proofs.Common.{◌≡◌, ℕ, zero, suc, Bool, true, false, ◌||◌, ◌↔◌, List, [], ◌∷◌, length, refl, sym, ap, ◌∙◌, subst, arith, true≢false, IsTrue}
+use Rattle.std.proofs.Common.{IsFalse, ◌⊎◌, inl, inr, ⊎_elim, Ordering, Less, Equal, Greater, is_eq}
 use Rattle.std.specs.Cmp.{IsTotalOrder, tied_itself}
 use Rattle.std.specs.FinMap.{IsAntisymmetric}
 use Rattle.std.specs.Ordering.{is_le, ordering_reverse}

@@ -1,5 +1,6 @@
 -- What lists have at their places once they changed.
-use Rattle.std.proofs.Common.{◌≡◌, ◌≢◌, ℕ, zero, suc, ◌-◌, ◌<◌, ◌==◌, Bool, true, false, cond, List, [], ◌∷◌, ◌++◌, map, replicate, length, get_or, slice_get, set, Some, refl, sym, ap, ◌∙◌, arith, le_of_suc-le-suc, inl, inr}
+use Rattle.std.proofs.Common.{◌≡◌, ◌≢◌, ℕ, zero, suc, ◌-◌, ◌<◌, ◌==◌, Bool, true, false, cond, List, [], ◌∷◌, ◌++◌, map, replicate, length, get_or, slice_get}
+use Rattle.std.proofs.Common.{set, Some, refl, sym, ap, ◌∙◌, arith, le_of_suc-le-suc, inl, inr}
 use Rattle.std.specs.List.{swap_remove}
 use Rattle.std.proofs.lemmas.List.{get_or-take, get_or-set_same, get_or-set_other, get_or_default, length-set, length-take-le}
 use Rattle.std.proofs.lemmas.Bool.{cases_eq}

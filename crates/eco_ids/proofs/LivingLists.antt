@@ -1,5 +1,6 @@
 -- The living entities and what each of them has, as lists to search.
-use Rattle.std.proofs.Common.{◌≡◌, ℕ, zero, suc, ◌+◌, true, false, cond, ◌==◌, List, [], ◌∷◌, map, refl, sym, subst, arith, true≢false, IsTrue, inl, inr, Option, Some, None, is_some, option_map, unwrap_or, slice_get, eqb-true}
+use Rattle.std.proofs.Common.{◌≡◌, ℕ, zero, suc, ◌+◌, true, false, cond, ◌==◌, List, [], ◌∷◌, map, refl, sym, subst, arith, true≢false, IsTrue, inl, inr}
+use Rattle.std.proofs.Common.{Option, Some, None, is_some, option_map, unwrap_or, slice_get, eqb-true}
 use Rattle.std.specs.FinMap.Entries.{find}
 use Rattle.eco_ids.specs.declared.entity.Entity.{Entity}
 use Rattle.eco_ids.specs.declared.id.Id.{Id}

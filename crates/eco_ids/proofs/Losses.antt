@@ -1,5 +1,7 @@
 -- What a loss leaves, and that remove, clear and remove_all keep a lawful world lawful.
-use Rattle.std.proofs.Common.{◌≡◌, ℕ, zero, suc, ◌+◌, ◌<◌, ◌≤◌, Bool, true, false, cond, not, ◌&&◌, ◌||◌, ◌==◌, List, [], ◌∷◌, map, length, refl, sym, ap, ◌∙◌, subst, IsTrue, IsFalse, Option, Some, None, is_some, option_map, MatchOption, MatchBool, Result, slice_get, arith, nat_lt, nat_le, eqb-true, eq-eqb, ltb-true, le-leb}
+use Rattle.std.proofs.Common.{◌≡◌, ℕ, zero, suc, ◌+◌, ◌<◌, ◌≤◌, Bool, true, false, cond, not, ◌&&◌, ◌||◌, ◌==◌, List, [], ◌∷◌, map, length, refl, sym, ap, ◌∙◌}
+use Rattle.std.proofs.Common.{subst, IsTrue, IsFalse, Option, Some, None, is_some, option_map, MatchOption, MatchBool, Result, slice_get, arith, nat_lt, nat_le}
+use Rattle.std.proofs.Common.{eqb-true, eq-eqb, ltb-true, le-leb}
 use Rattle.std.specs.List.{list_all, list_any, range_with_len}
 use Rattle.std.proofs.lemmas.Option.{same_Some, none-some}
 use Rattle.std.specs.FinMap.Entries.{find, where_key, is_sorted-where_key}

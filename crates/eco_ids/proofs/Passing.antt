@@ -1,5 +1,6 @@
 -- The living entities that pass a test, in a list of what is known of each index.
-use Rattle.std.proofs.Common.{◌≡◌, ℕ, zero, suc, ◌+◌, ◌<◌, Bool, true, false, true≢false, cond, ◌⊎◌, inl, inr, IsTrue, is_lt, List, [], ◌∷◌, map, filter, slice_get, Some, refl, sym, ap, ◌∙◌, subst, arith, Less}
+use Rattle.std.proofs.Common.{◌≡◌, ℕ, zero, suc, ◌+◌, ◌<◌, Bool, true, false, true≢false, cond, ◌⊎◌, inl, inr, IsTrue, is_lt, List, [], ◌∷◌, map, filter}
+use Rattle.std.proofs.Common.{slice_get, Some, refl, sym, ap, ◌∙◌, subst, arith, Less}
 use Rattle.std.specs.List.{list_any, list_all}
 use Rattle.std.specs.Ordering.{ordering_then, nat_cmp}
 use Rattle.std.proofs.lemmas.Bool.Decides.{nat_tests}

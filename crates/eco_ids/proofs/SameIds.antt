@@ -17,7 +17,7 @@ entity_eq-Decides a b = (
   λ e. both _ _ ((Decides-eqb a.index b.index).1 (ap (λ x. x.index) e)) ((Decides-eqb a.generation b.generation).1 (ap (λ x. x.generation) e)),
 )
 
-id_eq-Decides : (a b : Id) → Decides ((id_eq.eq-value).it a b) (a ≡ b)
+pub id_eq-Decides : (a b : Id) → Decides ((id_eq.eq-value).it a b) (a ≡ b)
 id_eq-Decides (One a) (One b) = (λ e. ap One ((entity_eq-Decides a b).0 e), λ e. (entity_eq-Decides a b).1 (let same : a ≡ b = cc in same))
 id_eq-Decides (One a) (Two r t) = (λ e. cc, λ e. cc)
 id_eq-Decides (Two r t) (One a) = (λ e. cc, λ e. cc)

@@ -5,7 +5,7 @@ use Rattle.eco_ids.specs.declared.id.Id.{Id}
 use Rattle.eco_ids.specs.declared.refusal.Refusal.{Refusal}
 use Rattle.eco_ids.specs.declared.refusal.Refusal.TheVariants.{NotAlive, DeadId, Reserved, NoMoreIds, Taken}
 use Rattle.eco_ids.specs.declared.value.Value.{Value}
-use Rattle.eco_ids.specs.Births.{Admits, Makes, RevivesWith, Revives, bare, unfit_name}
+use Rattle.eco_ids.specs.Births.{Admits, Makes, MakesAliveWith, MakesAlive, bare, unfit_name}
 use Rattle.eco_ids.specs.Builtin.{is_builtin, is_builtins}
 use Rattle.eco_ids.specs.Delete.{DeletesOne, DeletesWith}
 use Rattle.eco_ids.specs.Indices.{Indexed, admitted, is_free_at, next_entity, with_new, with_record}
@@ -40,10 +40,10 @@ makes_end w d =
     next v None = refused NoMoreIds v
     next v (Some e) = done e (with_new v e d)
 
-pub revives_end : (w : WorldState) (e : Entity) → End (Revives w e)
-revives_end w e =
+pub makes_alive_end : (w : WorldState) (e : Entity) → End (MakesAlive w e)
+makes_alive_end w e =
     let v = entities w in
-    in_world w (λ v. RevivesWith v e (bare None)) (either (is_free_at v e) _ _ (done tt (with_record v e (bare None))) (refused Taken v))
+    in_world w (λ v. MakesAliveWith v e (bare None)) (either (is_free_at v e) _ _ (done tt (with_record v e (bare None))) (refused Taken v))
 
 pub admits_end : (w : WorldState) (n : ℕ) → End (OnEntities (λ v. Admits v n) w)
 admits_end w n =

@@ -2,8 +2,8 @@
 use Rattle.std.proofs.Common.{◌≡◌, ℕ, zero, suc, ◌+◌, ◌<◌, ◌≤◌, get_or, drop, drop-cons, add-one, arith, Bool, true, false, ◌&&◌, ◌||◌, if◌then◌else◌, List, [], ◌∷◌, ◌++◌, length, Option, Some, None, Result, Ok, Err, refl, ap, ◌∙◌, sym, subst, append_assoc}
 use Rattle.std.specs.List.{list_any}
 use Rattle.std.proofs.lemmas.List.{append-nil}
-use Rattle.eco_ids.specs.Slots.{Asked}
-use Rattle.eco_ids.specs.Slots as ask
+use Rattle.eco_ids.specs.Terms.{QueryTerm}
+use Rattle.eco_ids.specs.Terms as terms
 use Rattle.eco_ids.specs.declared.entity.Entity.{Entity}
 use Rattle.eco_ids.specs.declared.id.Id.{Id}
 use Rattle.eco_ids.specs.declared.refusal.Refusal.{Refusal}
@@ -11,15 +11,15 @@ use Rattle.eco_query.specs.Grammar.{WrittenAtom, alternatives, WrittenSlot, IsPr
 use Rattle.eco_query.specs.Reader.Machine.{body_of}
 use Rattle.eco_query.specs.Reader.Points.{atom_view, is_bare_head}
 use Rattle.eco_query.specs.Queries.{QuerySlot}
-use Rattle.eco_query.specs.Readings.{ok_map, ok_both, id_of, ids_of, pattern_of, asked_of, slots_of, has_wildcard, misplaces_wildcard, is_positive}
+use Rattle.eco_query.specs.Readings.{ok_map, ok_both, id_of, ids_of, pattern_of, term_of_body, slots_of, has_wildcard, misplaces_wildcard, is_positive}
 use Rattle.eco_query.specs.Reader.Marks.{asks, slots_from, grouping, AreWhole, AreProperMarks}
-use Rattle.eco_query.specs.Reader.LastTerms.{last_of, misplaces_last, asked_by, left_over}
+use Rattle.eco_query.specs.Reader.LastTerms.{last_of, misplaces_last, term_with, left_over}
 use Rattle.eco_query.specs.declared.written.WrittenAtom as written
 use Rattle.eco_query.specs.declared.access.Access.{Access}
 use Rattle.eco_query.specs.declared.point.Mark.{Mark}
 use Rattle.eco_query.specs.declared.point.Mark.TheVariants as marks
 use Rattle.eco_query.specs.declared.point.Head.{Head}
-use Rattle.eco_query.specs.declared.point.Head.TheVariants.{Plain, Without, Optional, Alone}
+use Rattle.eco_query.specs.declared.point.Head.TheVariants.{Plain, Not, Optional, Alone}
 use Rattle.eco_query.specs.declared.last_term.LastTerm.{LastTerm}
 use Rattle.eco_query.specs.declared.last_term.LastTerm.TheVariants as last
 use Rattle.eco_query.proofs.Stored.{some_of, some_of-more}
@@ -59,7 +59,7 @@ pending_wildcard xs (marks.Other a x ∷ ms) s w g =
     pending_wildcard (xs ++ atom_view x ∷ []) ms (some_of-more xs (atom_view x)) (any-append has_wildcard xs (atom_view x) ∙ rw w refl) g
 pending_wildcard [] (marks.Slot a Plain x ∷ ms) s w g = cc
 pending_wildcard (y ∷ ys) (marks.Slot a Plain x ∷ ms) s w g = rw (group_wildcards a y ys (atom_view x), w) refl
-pending_wildcard xs (marks.Slot a Without x ∷ ms) s w g = cc
+pending_wildcard xs (marks.Slot a Not x ∷ ms) s w g = cc
 pending_wildcard xs (marks.Slot a Optional x ∷ ms) s w g = cc
 pending_wildcard xs (marks.Slot a Alone x ∷ ms) s w g = cc
 
@@ -67,7 +67,7 @@ last_wildcard : (a : Access) (h : Head) (xs : List WrittenAtom) (x : WrittenAtom
     → misplaces_last h (some_of xs) x ≡ misplaces_wildcard (record { access = a; body = body_of h xs x })
 last_wildcard a Plain [] x w e = refl
 last_wildcard a Plain (y ∷ ys) x w e = sym (group_wildcards a y ys x ∙ rw w refl)
-last_wildcard a Without xs x w e = refl
+last_wildcard a Not xs x w e = refl
 last_wildcard a Optional xs x w e = refl
 last_wildcard a Alone [] x w e = refl
 last_wildcard a Alone (y ∷ ys) x w e = cc
@@ -113,7 +113,7 @@ asks_is xs (marks.Same ∷ ms) = asks_is xs ms
 asks_is xs (marks.Begin ∷ ms) = asks_is [] ms
 asks_is xs (marks.Other a x ∷ ms) = asks_is (xs ++ atom_view x ∷ []) ms
 asks_is xs (marks.Slot a Plain x ∷ ms) = refl
-asks_is xs (marks.Slot a Without x ∷ ms) = asks_is [] ms
+asks_is xs (marks.Slot a Not x ∷ ms) = asks_is [] ms
 asks_is xs (marks.Slot a Optional x ∷ ms) = asks_is [] ms
 asks_is xs (marks.Slot a Alone x ∷ ms) = refl
 
@@ -148,35 +148,35 @@ module _ (entity_named : List ℕ → Option Entity) where
             ] refl e
       ] e
 
-  asked_two : (y : WrittenAtom) (ys : List WrittenAtom) (x : WrittenAtom)
-      → asked_of entity_named (alternatives ((y ∷ ys) ++ x ∷ [])) ≡ ok_map (λ is. ask.OneOf is) (ids_of entity_named ((y ∷ ys) ++ x ∷ []))
-  asked_two y [] x = refl
-  asked_two y (z ∷ ys) x = refl
+  term_two : (y : WrittenAtom) (ys : List WrittenAtom) (x : WrittenAtom)
+      → term_of_body entity_named (alternatives ((y ∷ ys) ++ x ∷ [])) ≡ ok_map (λ is. terms.Or is) (ids_of entity_named ((y ∷ ys) ++ x ∷ []))
+  term_two y [] x = refl
+  term_two y (z ∷ ys) x = refl
 
-  asked_group : (y : WrittenAtom) (ys : List WrittenAtom) (group : List Id) (x : WrittenAtom) → ids_of entity_named (y ∷ ys) ≡ Ok group
-      → asked_of entity_named (alternatives ((y ∷ ys) ++ x ∷ [])) ≡ ok_map (asked_by group) (ok_map (λ i. last.Alternative i) (id_of entity_named x))
-  asked_group y ys group x d =
-      asked_two y ys x ∙ ap (λ r. ok_map (λ is. ask.OneOf is) r) (ids_more (y ∷ ys) group x d)
+  term_group : (y : WrittenAtom) (ys : List WrittenAtom) (group : List Id) (x : WrittenAtom) → ids_of entity_named (y ∷ ys) ≡ Ok group
+      → term_of_body entity_named (alternatives ((y ∷ ys) ++ x ∷ [])) ≡ ok_map (term_with group) (ok_map (λ i. last.Alternative i) (id_of entity_named x))
+  term_group y ys group x d =
+      term_two y ys x ∙ ap (λ r. ok_map (λ is. terms.Or is) r) (ids_more (y ∷ ys) group x d)
       ∙ elim (id_of entity_named x) as
-      (λ r. ok_map (λ is. ask.OneOf is) (ok_map (λ i. group ++ i ∷ []) r) ≡ ok_map (asked_by group) (ok_map (λ i. last.Alternative i) r)) [
+      (λ r. ok_map (λ is. terms.Or is) (ok_map (λ i. group ++ i ∷ []) r) ≡ ok_map (term_with group) (ok_map (λ i. last.Alternative i) r)) [
         | Err f ↦ refl
         | Ok i ↦ refl
       ]
 
   -- what a slot asks comes from its last atom and the alternatives before
-  asked_last : (h : Head) (xs : List WrittenAtom) (group : List Id) (x : WrittenAtom) → ids_of entity_named xs ≡ Ok group
+  term_last : (h : Head) (xs : List WrittenAtom) (group : List Id) (x : WrittenAtom) → ids_of entity_named xs ≡ Ok group
       → (some_of xs && is_bare_head h) ≡ false
-      → asked_of entity_named (body_of h xs x) ≡ ok_map (asked_by group) (last_of entity_named h (some_of xs) x)
-  asked_last Plain [] group x d e = elim (pattern_of entity_named x) as
-      (λ r. ok_map (λ p. ask.Plain p) r ≡ ok_map (asked_by group) (ok_map (λ p. last.Plain p) r)) [ Err f ↦ refl | Ok p ↦ refl ]
-  asked_last Plain (y ∷ ys) group x d e = asked_group y ys group x d
-  asked_last Without xs group x d e = elim (pattern_of entity_named x) as
-      (λ r. ok_map (λ p. ask.Without p) r ≡ ok_map (asked_by group) (ok_map (λ p. last.Without p) r)) [ Err f ↦ refl | Ok p ↦ refl ]
-  asked_last Optional xs group x d e = elim (id_of entity_named x) as
-      (λ r. ok_map (λ p. ask.Optional p) r ≡ ok_map (asked_by group) (ok_map (λ p. last.Optional p) r)) [ Err f ↦ refl | Ok p ↦ refl ]
-  asked_last Alone [] group x d e = elim (pattern_of entity_named x) as
-      (λ r. ok_map (λ p. ask.Plain p) r ≡ ok_map (asked_by group) (ok_map (λ p. last.Plain p) r)) [ Err f ↦ refl | Ok p ↦ refl ]
-  asked_last Alone (y ∷ ys) group x d e = cc
+      → term_of_body entity_named (body_of h xs x) ≡ ok_map (term_with group) (last_of entity_named h (some_of xs) x)
+  term_last Plain [] group x d e = elim (pattern_of entity_named x) as
+      (λ r. ok_map (λ p. terms.And p) r ≡ ok_map (term_with group) (ok_map (λ p. last.And p) r)) [ Err f ↦ refl | Ok p ↦ refl ]
+  term_last Plain (y ∷ ys) group x d e = term_group y ys group x d
+  term_last Not xs group x d e = elim (pattern_of entity_named x) as
+      (λ r. ok_map (λ p. terms.Not p) r ≡ ok_map (term_with group) (ok_map (λ p. last.Not p) r)) [ Err f ↦ refl | Ok p ↦ refl ]
+  term_last Optional xs group x d e = elim (id_of entity_named x) as
+      (λ r. ok_map (λ p. terms.Optional p) r ≡ ok_map (term_with group) (ok_map (λ p. last.Optional p) r)) [ Err f ↦ refl | Ok p ↦ refl ]
+  term_last Alone [] group x d e = elim (pattern_of entity_named x) as
+      (λ r. ok_map (λ p. terms.And p) r ≡ ok_map (term_with group) (ok_map (λ p. last.And p) r)) [ Err f ↦ refl | Ok p ↦ refl ]
+  term_last Alone (y ∷ ys) group x d e = cc
 
   ids_unknown : (xs : List WrittenAtom) (f : Refusal) (x : WrittenAtom) → ids_of entity_named xs ≡ Err f → ids_of entity_named (xs ++ x ∷ []) ≡ Err f
   ids_unknown [] f x e = cc
@@ -192,9 +192,9 @@ module _ (entity_named : List ℕ → Option Entity) where
             ] refl e
       ] e
 
-  slot_unknown : (s : WrittenSlot) (ss : List WrittenSlot) (f : Refusal) → asked_of entity_named s.body ≡ Err f → slots_of entity_named (s ∷ ss) ≡ Err f
+  slot_unknown : (s : WrittenSlot) (ss : List WrittenSlot) (f : Refusal) → term_of_body entity_named s.body ≡ Err f → slots_of entity_named (s ∷ ss) ≡ Err f
   slot_unknown s ss f e =
-      ap (λ r. ok_both (λ t ts. t ∷ ts) (ok_map (λ a. let q : QuerySlot = record { access = s.access; asked = a } in q) r) (slots_of entity_named ss)) e
+      ap (λ r. ok_both (λ t ts. t ∷ ts) (ok_map (λ a. let q : QuerySlot = record { access = s.access; term = a } in q) r) (slots_of entity_named ss)) e
 
   -- an unknown name in a pending alternative is that of the slots
   pending_unknown : (xs : List WrittenAtom) (ms : List Mark) (f : Refusal) → some_of xs ≡ true → ids_of entity_named xs ≡ Err f → grouping true ms ≡ Some false
@@ -207,8 +207,8 @@ module _ (entity_named : List ℕ → Option Entity) where
   pending_unknown [] (marks.Slot a Plain x ∷ ms) f s d g = cc
   pending_unknown (y ∷ ys) (marks.Slot a Plain x ∷ ms) f s d g =
       slot_unknown (record { access = a; body = alternatives ((y ∷ ys) ++ atom_view x ∷ []) }) (slots_from [] ms) f
-      (asked_two y ys (atom_view x) ∙ ap (λ r. ok_map (λ is. ask.OneOf is) r) (ids_unknown (y ∷ ys) f (atom_view x) d))
-  pending_unknown xs (marks.Slot a Without x ∷ ms) f s d g = cc
+      (term_two y ys (atom_view x) ∙ ap (λ r. ok_map (λ is. terms.Or is) r) (ids_unknown (y ∷ ys) f (atom_view x) d))
+  pending_unknown xs (marks.Slot a Not x ∷ ms) f s d g = cc
   pending_unknown xs (marks.Slot a Optional x ∷ ms) f s d g = cc
   pending_unknown xs (marks.Slot a Alone x ∷ ms) f s d g = cc
 
@@ -251,27 +251,27 @@ module _ (entity_named : List ℕ → Option Entity) (all : List Mark) where
     last_unknown a h x f ms s e =
         let (bare, rest) = slot_grouped xs a h ms s.groups in
         s.whole ∙ ap (joined entity_named ys) (slot_unknown entity_named (record { access = a; body = body_of h xs (atom_view x) }) (slots_from [] ms) f
-        (asked_last entity_named h xs group (atom_view x) s.known bare ∙ ap (ok_map (asked_by group)) e))
+        (term_last entity_named h xs group (atom_view x) s.known bare ∙ ap (ok_map (term_with group)) e))
 
     pub last_known : (a : Access) (h : Head) (x : written.WrittenAtom) (l : LastTerm) (ms : List Mark)
         → Standing entity_named all xs ys group (marks.Slot a h x ∷ ms)
         → last_of entity_named h (some_of xs) (atom_view x) ≡ Ok l
-        → Standing entity_named all [] (ys ++ (record { access = a; asked = asked_by group l }) ∷ []) [] ms
+        → Standing entity_named all [] (ys ++ (record { access = a; term = term_with group l }) ∷ []) [] ms
     last_known a h x l ms s e =
         let (bare, rest) = slot_grouped xs a h ms s.groups in
-        let asked : asked_of entity_named (body_of h xs (atom_view x)) ≡ Ok (asked_by group l) =
-        asked_last entity_named h xs group (atom_view x) s.known bare ∙ ap (ok_map (asked_by group)) e in
+        let asked : term_of_body entity_named (body_of h xs (atom_view x)) ≡ Ok (term_with group l) =
+        term_last entity_named h xs group (atom_view x) s.known bare ∙ ap (ok_map (term_with group)) e in
         record {
           known = refl;
           whole = s.whole
               ∙ ap (λ r. joined entity_named ys
-              (ok_both (λ t ts. t ∷ ts) (ok_map (λ k. let q : QuerySlot = record { access = a; asked = k } in q) r)
+              (ok_both (λ t ts. t ∷ ts) (ok_map (λ k. let q : QuerySlot = record { access = a; term = k } in q) r)
               (slots_of entity_named (slots_from [] ms)))) asked
               ∙ elim (slots_of entity_named (slots_from [] ms)) as
-              (λ r. joined entity_named ys (ok_both (λ t ts. t ∷ ts) (Ok (let q : QuerySlot = record { access = a; asked = asked_by group l } in q)) r)
-              ≡ joined entity_named (ys ++ (record { access = a; asked = asked_by group l }) ∷ []) r) [
+              (λ r. joined entity_named ys (ok_both (λ t ts. t ∷ ts) (Ok (let q : QuerySlot = record { access = a; term = term_with group l } in q)) r)
+              ≡ joined entity_named (ys ++ (record { access = a; term = term_with group l }) ∷ []) r) [
                 | Err f ↦ refl
-                | Ok zs ↦ ap (λ qs. Ok qs) (sym (append_assoc ys ((record { access = a; asked = asked_by group l }) ∷ []) zs))
+                | Ok zs ↦ ap (λ qs. Ok qs) (sym (append_assoc ys ((record { access = a; term = term_with group l }) ∷ []) zs))
               ];
           groups = rest;
           proper = s.proper.1;
@@ -302,14 +302,14 @@ no_other (Ok i) l none e = none i cc
 pub none_left : (entity_named : List ℕ → Option Entity) (h : Head) (xs : List WrittenAtom) (group : List Id) (x : WrittenAtom) (l : LastTerm)
     → ids_of entity_named xs ≡ Ok group
     → (some_of xs && is_bare_head h) ≡ false → last_of entity_named h (some_of xs) x ≡ Ok l → left_over group l ≡ []
-none_left entity_named h [] group x (last.Plain p) d b e = cc
-none_left entity_named h [] group x (last.Without p) d b e = cc
+none_left entity_named h [] group x (last.And p) d b e = cc
+none_left entity_named h [] group x (last.Not p) d b e = cc
 none_left entity_named h [] group x (last.Optional i) d b e = cc
 none_left entity_named h xs group x (last.Alternative i) d b e = refl
-none_left entity_named Plain (y ∷ ys) group x (last.Plain p) d b e = no_other (id_of entity_named x) (last.Plain p) (λ i f. cc) e
-none_left entity_named Plain (y ∷ ys) group x (last.Without p) d b e = no_other (id_of entity_named x) (last.Without p) (λ i f. cc) e
+none_left entity_named Plain (y ∷ ys) group x (last.And p) d b e = no_other (id_of entity_named x) (last.And p) (λ i f. cc) e
+none_left entity_named Plain (y ∷ ys) group x (last.Not p) d b e = no_other (id_of entity_named x) (last.Not p) (λ i f. cc) e
 none_left entity_named Plain (y ∷ ys) group x (last.Optional p) d b e = no_other (id_of entity_named x) (last.Optional p) (λ i f. cc) e
-none_left entity_named Without (y ∷ ys) group x l d b e = cc
+none_left entity_named Not (y ∷ ys) group x l d b e = cc
 none_left entity_named Optional (y ∷ ys) group x l d b e = cc
 none_left entity_named Alone (y ∷ ys) group x l d b e = cc
 

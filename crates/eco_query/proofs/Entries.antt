@@ -7,13 +7,13 @@ use Rattle.std.specs.declared.cmp.Ordering.{Ordering}
 use Rattle.std.specs.declared.cmp.Ordering.TheVariants.{Less, Equal, Greater}
 use Rattle.eco_ids.specs.declared.id.Id.{Id}
 use Rattle.eco_ids.specs.declared.pattern.Pattern.{Pattern}
-use Rattle.eco_ids.specs.Slots as ask
+use Rattle.eco_ids.specs.Terms as terms
 use Rattle.eco_ids.specs.Answer.{is_least_match, same_filling}
 use Rattle.eco_ids.specs.Matching.{pattern_matches}
 use Rattle.eco_ids.specs.Order.{has_item, id_cmp}
 use Rattle.eco_query.specs.Queries.{has_any, holds}
 use Rattle.eco_query.proofs.ByteTests.{and_left, and_right, and_both}
-use Rattle.eco_query.proofs.Matched.{is_some-find}
+use Rattle.eco_query.proofs.Matched.{is_some_find}
 
 or_right : (a b : Bool) → b ≡ true → (a || b) ≡ true
 or_right true b e = refl
@@ -115,8 +115,8 @@ module _ (order : IsTotalOrder id_cmp) where
       l.among (is_least_match p ids) (rw (l.is_so, none) refl))
 
   -- a pattern holds where an id matches it
-  pub plain_holds : (p : Pattern) (ids : List Id) → holds ids (ask.Plain p) ≡ list_any (pattern_matches p) ids
-  plain_holds p ids = any-filter Some (is_least_match p ids) ids ∙ any-least p ids
+  pub and_holds : (p : Pattern) (ids : List Id) → holds ids (terms.And p) ≡ list_any (pattern_matches p) ids
+  and_holds p ids = any-filter Some (is_least_match p ids) ids ∙ any-least p ids
 
-pub one_of_holds : (is ids : List Id) → holds ids (ask.OneOf is) ≡ list_any (has_item id_cmp ids) is
-one_of_holds is ids = any-found Some (find (has_item id_cmp ids) is) ∙ is_some-find (has_item id_cmp ids) is
+pub or_holds : (is ids : List Id) → holds ids (terms.Or is) ≡ list_any (has_item id_cmp ids) is
+or_holds is ids = any-found Some (find (has_item id_cmp ids) is) ∙ is_some_find (has_item id_cmp ids) is

@@ -11,7 +11,7 @@ use Rattle.eco_query.specs.Grammar.{WrittenPart, named, each, any, WrittenAtom, 
 use Rattle.eco_query.specs.declared.access.Access.{Access}
 use Rattle.eco_query.specs.declared.access.Access.TheVariants.{Out, InOut, InOutNone}
 use Rattle.eco_query.specs.declared.point.Head.{Head}
-use Rattle.eco_query.specs.declared.point.Head.TheVariants.{Plain, Without, Optional, Alone}
+use Rattle.eco_query.specs.declared.point.Head.TheVariants.{Plain, Not, Optional, Alone}
 use Rattle.eco_query.specs.Reader.Machine.{Before, Role, whole, first, second, sole, takes_wildcard, Spot, slot, word, shut, body, atom, part, behind, after, Point, at, letters, bar, name_of, hash, index, dot, generation, slots_with, others_with, begun, part_of, is_prefix, is_front, access_of, part_or, atom_or, body_or, behind_atom, enter, move_at, move, advance, runs}
 use Rattle.eco_query.proofs.ByteTests.{and_left, and_right, if_some_cond}
 use Rattle.eco_query.proofs.Tokens.{Sat}
@@ -84,7 +84,7 @@ fits_body n ss a b y h = fits_atom n (begun ss a Plain) b _ (fits_if (b == 33) _
 
 fits_after : (h : Head) (c : Before) (x : WrittenAtom) (b : ℕ) → IfSome (behind_atom h c x b) Fits
 fits_after Plain c x b = fits_if (b == 124) _ _ tt (fits_if (b == 44) _ _ tt tt)
-fits_after Without c x b = fits_if (b == 44) _ _ tt tt
+fits_after Not c x b = fits_if (b == 44) _ _ tt tt
 fits_after Optional c x b = fits_if (b == 44) _ _ tt tt
 fits_after Alone c x b = tt
 
@@ -144,7 +144,7 @@ live_by n p b q e (size, r, u, place, h) =
 
 live_atom_end : (h : Head) (n : ℕ) (c : Before) (x : WrittenAtom) → (r : List WrittenSlot) × After n r h c x []
 live_atom_end Plain n c x = (slots_with Plain c x, ([], [], [], refl, refl, refl))
-live_atom_end Without n c x = (slots_with Without c x, ([], refl, refl))
+live_atom_end Not n c x = (slots_with Not c x, ([], refl, refl))
 live_atom_end Optional n c x = (slots_with Optional c x, ([], refl, refl))
 live_atom_end Alone n c x = (slots_with Alone c x, (refl, refl))
 

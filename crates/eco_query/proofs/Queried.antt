@@ -14,7 +14,7 @@ use Rattle.eco_query.specs.Reader.Marks.{slots_from, grouping, HoldsSlots, ArePr
 use Rattle.eco_query.specs.declared.point.Mark.{Mark}
 use Rattle.eco_query.specs.declared.point.Mark.TheVariants as marks
 use Rattle.eco_query.specs.declared.point.Head.{Head}
-use Rattle.eco_query.specs.declared.point.Head.TheVariants.{Plain, Without, Optional, Alone}
+use Rattle.eco_query.specs.declared.point.Head.TheVariants.{Plain, Not, Optional, Alone}
 use Rattle.eco_query.proofs.Built.{slot_grouped}
 use Rattle.eco_query.proofs.Spelled.{part_proper}
 use Rattle.eco_query.proofs.Stored.{some_of, some_of-more}
@@ -60,8 +60,8 @@ atoms_apart (y ∷ xs) x s = let (rest, last) = atoms_apart xs x s.1 in ((s.0, r
 last_proper : (h : Head) (xs : List WrittenAtom) (x : WrittenAtom) → AreProperAtoms (atoms_of (body_of h xs x)) → (some_of xs && is_bare_head h) ≡ false
     → AreProperAtoms xs × IsProperAtom x
 last_proper Plain xs x s e = atoms_apart xs x s
-last_proper Without [] x s e = (tt, s.0)
-last_proper Without (y ∷ xs) x s e = cc
+last_proper Not [] x s e = (tt, s.0)
+last_proper Not (y ∷ xs) x s e = cc
 last_proper Optional [] x s e = (tt, s.0)
 last_proper Optional (y ∷ xs) x s e = cc
 last_proper Alone xs x s e = atoms_apart xs x s

@@ -12,7 +12,7 @@ use Rattle.eco_query.specs.Grammar.{WrittenPart, named, each, any, WrittenAtom, 
 use Rattle.eco_query.specs.declared.access.Access.{Access}
 use Rattle.eco_query.specs.declared.access.Access.TheVariants.{In, Out, InOut, InOutNone}
 use Rattle.eco_query.specs.declared.point.Head.{Head}
-use Rattle.eco_query.specs.declared.point.Head.TheVariants.{Plain, Without, Optional, Alone}
+use Rattle.eco_query.specs.declared.point.Head.TheVariants.{Plain, Not, Optional, Alone}
 use Rattle.eco_query.specs.Reader.Machine.{Before, Role, whole, first, second, sole, takes_wildcard, Spot, slot, word, shut, body, atom, part, behind, after, Point, at, letters, bar, name_of, hash, index, dot, generation, body_of, slots_with, others_with, begun, part_of, is_front, access_of, part_or, atom_or, body_or, comma, behind_atom, enter, move_at, move}
 use Rattle.eco_query.proofs.Tokens.{Sat, sat_if, if_sat, else_sat, same_byte, tok_cons, tok_uncons, enter_white, word_stops, digit_word, none_sat, four, word_ends, front_of, access_of_word, word_of_access, then_out, some_out, digits, digits_in, digits_out, number_front, number_back}
 
@@ -28,7 +28,7 @@ module _ (size : ℕ) (r : List WrittenSlot) where
   abbrev pub After : Head → Before → WrittenAtom → List ℕ → Type 0
   After Plain c x u = (ys : List WrittenAtom) × (v : List ℕ) × (ss : List WrittenSlot) × AreMore size u v ys × AreSlots size v ss
       × (r ≡ c.slots ++ (record { access = c.access; body = alternatives (c.others ++ x ∷ ys) }) ∷ ss)
-  After Without c x u = (ss : List WrittenSlot) × AreSlots size u ss × (r ≡ c.slots ++ (record { access = c.access; body = absent x }) ∷ ss)
+  After Not c x u = (ss : List WrittenSlot) × AreSlots size u ss × (r ≡ c.slots ++ (record { access = c.access; body = absent x }) ∷ ss)
   After Optional c x u = (ss : List WrittenSlot) × AreSlots size u ss × (r ≡ c.slots ++ (record { access = c.access; body = optional x }) ∷ ss)
   After Alone c x u = (u ≡ []) × (r ≡ slots_with Alone c x)
 
@@ -49,7 +49,7 @@ module _ (size : ℕ) (r : List WrittenSlot) where
 
   abbrev pub BodyThen : List WrittenSlot → Access → List ℕ → Type 0
   BodyThen ss a u = AtomThen (begun ss a Plain) u
-      ⊎ (((v : List ℕ) × IsTok (codes "!") u v × AtomThen (begun ss a Without) v)
+      ⊎ (((v : List ℕ) × IsTok (codes "!") u v × AtomThen (begun ss a Not) v)
       ⊎ ((v : List ℕ) × IsTok (codes "?") u v × AtomThen (begun ss a Optional) v))
 
   abbrev pub ShutThen : List WrittenSlot → Access → List ℕ → Type 0
@@ -97,7 +97,7 @@ module _ (size : ℕ) (r : List WrittenSlot) where
 
   body_split : (ss : List WrittenSlot) (a : Access) (k : WrittenBody) (more : List WrittenSlot) (u v : List ℕ) → IsBody size u v k → AreSlots size v more
       → r ≡ ss ++ (record { access = a; body = k }) ∷ more → BodyThen ss a u
-  body_split ss a (absent x) more u v (w, tok, s) slots e = inr (inl (w, tok, atom_split (begun ss a Without) x w v s (more, slots, e)))
+  body_split ss a (absent x) more u v (w, tok, s) slots e = inr (inl (w, tok, atom_split (begun ss a Not) x w v s (more, slots, e)))
   body_split ss a (optional x) more u v (w, tok, s) slots e = inr (inr (w, tok, atom_split (begun ss a Optional) x w v s (more, slots, e)))
   body_split ss a (alternatives []) more u v s slots e = absurd s
   body_split ss a (alternatives (x ∷ xs)) more u v (w, s, others) slots e =
@@ -110,7 +110,7 @@ module _ (size : ℕ) (r : List WrittenSlot) where
       let (x, w, isx, (xs, v, more, others, slots, e)) = atom_join (begun ss a Plain) u s in
       (alternatives (x ∷ xs), v, more, (w, isx, others), slots, e)
   body_join ss a u (inr (inl (w, tok, s))) =
-      let (x, v, isx, (more, slots, e)) = atom_join (begun ss a Without) w s in (absent x, v, more, (w, tok, isx), slots, e)
+      let (x, v, isx, (more, slots, e)) = atom_join (begun ss a Not) w s in (absent x, v, more, (w, tok, isx), slots, e)
   body_join ss a u (inr (inr (w, tok, s))) =
       let (x, v, isx, (more, slots, e)) = atom_join (begun ss a Optional) w s in (optional x, v, more, (w, tok, isx), slots, e)
 
@@ -178,7 +178,7 @@ module _ (size : ℕ) (r : List WrittenSlot) where
           e ∙ ap (λ zs. c.slots ++ (record { access = c.access; body = alternatives zs }) ∷ ss) (sym (append_assoc c.others (x ∷ []) (y ∷ ys))),
         ),
       )
-  after_in Without c x b u (ss, slots, e) = comma_in Without c x b u ss slots e
+  after_in Not c x b u (ss, slots, e) = comma_in Not c x b u ss slots e
   after_in Optional c x b u (ss, slots, e) = comma_in Optional c x b u ss slots e
   after_in Alone c x b u (none, e) = cc
 
@@ -195,7 +195,7 @@ module _ (size : ℕ) (r : List WrittenSlot) where
         f ∙ ap (λ zs. c.slots ++ (record { access = c.access; body = alternatives zs }) ∷ ss) (append_assoc c.others (x ∷ []) (y ∷ ys)),
       ))
       (λ _ t. let (ss, slots, e) = comma_out Plain c x b u t in ([], b ∷ u, ss, refl, slots, e)) s
-  after_out Without c x b u s = comma_out Without c x b u s
+  after_out Not c x b u s = comma_out Not c x b u s
   after_out Optional c x b u s = comma_out Optional c x b u s
   after_out Alone c x b u s = absurd s
 

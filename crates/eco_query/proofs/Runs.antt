@@ -6,7 +6,7 @@ use Rattle.eco_query.specs.Grammar.{WrittenPart, named, each, any, WrittenAtom, 
 use Rattle.eco_query.specs.declared.access.Access.{Access}
 use Rattle.eco_query.specs.declared.access.Access.TheVariants.{In, Out, InOut, InOutNone}
 use Rattle.eco_query.specs.declared.point.Head.{Head}
-use Rattle.eco_query.specs.declared.point.Head.TheVariants.{Plain, Without, Optional, Alone}
+use Rattle.eco_query.specs.declared.point.Head.TheVariants.{Plain, Not, Optional, Alone}
 use Rattle.eco_query.specs.Reader.Machine.{Before, whole, first, second, sole, Spot, slot, word, shut, body, atom, part, behind, after, Point, at, letters, bar, name_of, hash, index, dot, generation, slots_with, begun, part_of, move, end_at, end, advance, runs}
 use Rattle.eco_query.proofs.Tokens.{Sat, tok_nil, number_front}
 use Rattle.eco_query.proofs.Rest.{After, Follow, AtomThen, BodyThen, Then, Rest, move_in, move_out}
@@ -52,13 +52,13 @@ module _ (size : ℕ) (r : List WrittenSlot) where
   after_end : (h : Head) (c : Before) (x : WrittenAtom) → After size r h c x [] → r ≡ slots_with h c x
   after_end Plain c x ([], v, ss, same, slots, e) = slots_end c.slots ss _ (subst (λ v. AreSlots size v ss) (sym same) slots) e
   after_end Plain c x (y ∷ ys, v, ss, (a, d, tok, isy, more), slots, e) = absurd (tok_nil 124 (codes "|") a tok)
-  after_end Without c x (ss, slots, e) = slots_end c.slots ss _ slots e
+  after_end Not c x (ss, slots, e) = slots_end c.slots ss _ slots e
   after_end Optional c x (ss, slots, e) = slots_end c.slots ss _ slots e
   after_end Alone c x (none, e) = e
 
   end_after : (h : Head) (c : Before) (x : WrittenAtom) → r ≡ slots_with h c x → After size r h c x []
   end_after Plain c x e = ([], [], [], refl, refl, e)
-  end_after Without c x e = ([], refl, e)
+  end_after Not c x e = ([], refl, e)
   end_after Optional c x e = ([], refl, e)
   end_after Alone c x e = (refl, e)
 

@@ -7,7 +7,7 @@ use Rattle.eco_ids.specs.Names.{may_follow}
 use Rattle.eco_query.specs.Tokens.{is_digit, is_white}
 use Rattle.eco_query.specs.Reader.Machine.{Point, Role, Spot, at, dot, generation, hash, index, name_of, grown, Reached}
 use Rattle.eco_query.proofs.Loops.{reached_more}
-use Rattle.eco_query.proofs.Stuck.{slice_range-more}
+use Rattle.eco_query.proofs.Stuck.{slice_range_more}
 
 module _ (text : List ℕ) (n : ℕ) (start : Point) where
   pub white_more : (s : Spot) → n < length text → is_white (slice_index text n) ≡ true → Reached start text n (at s) → Reached start text (n + 1) (at s)
@@ -18,7 +18,7 @@ module _ (text : List ℕ) (n : ℕ) (start : Point) where
   name_more o from le lt is short run =
       let count : length (slice_range text from n) ≡ n - from = length-take-le (n - from) (drop from text) (omega (arith, length-drop from text)) in
       let fits : nat_lt (length (slice_range text from n)) 63 ≡ true = grind (arith, nat_tests) in
-      rw (slice_range-more text from n le lt)
+      rw (slice_range_more text from n le lt)
       (reached_more start text n (name_of o from (slice_range text from n)) _ lt run (rw (is, fits) refl))
 
   pub index_more : (o : Role) (from i j : ℕ) → n < length text → is_digit (slice_index text n) ≡ true → grown 4294967295 i (slice_index text n) ≡ Some j

@@ -9,7 +9,7 @@ use Rattle.eco_query.specs.Faults.{IsSpelled, IsFault}
 use Rattle.eco_query.specs.Reader.Machine.{Point, Before, end, advance, runs, slots_with, body_of, id_start, ref_start, begun, EndsWith, Stops}
 use Rattle.eco_query.specs.declared.access.Access.TheVariants.{InOut}
 use Rattle.eco_query.specs.declared.point.Head.{Head}
-use Rattle.eco_query.specs.declared.point.Head.TheVariants.{Plain, Without, Optional, Alone}
+use Rattle.eco_query.specs.declared.point.Head.TheVariants.{Plain, Not, Optional, Alone}
 use Rattle.eco_query.specs.Readings.{Reads, SpellsOnce, ReadsOnce, entity_at, entity_of_part}
 use Rattle.eco_query.proofs.Rest.{Rest}
 use Rattle.eco_query.specs.Grammar.{SpellsSlots, SpellsQuery, IsAtom}
@@ -62,7 +62,7 @@ last_is (z ∷ w ∷ xs) x y e = cc
 
 body_is : (h : Head) (xs : List WrittenAtom) (x y : WrittenAtom) → body_of h xs x ≡ alternatives (y ∷ []) → x ≡ y
 body_is Plain xs x y e = last_is xs x y cc
-body_is Without xs x y e = cc
+body_is Not xs x y e = cc
 body_is Optional xs x y e = cc
 body_is Alone xs x y e = last_is xs x y cc
 

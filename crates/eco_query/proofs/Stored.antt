@@ -13,7 +13,7 @@ use Rattle.eco_query.specs.declared.access.Access.{Access}
 use Rattle.eco_query.specs.declared.point.Mark.{Mark}
 use Rattle.eco_query.specs.declared.point.Mark.TheVariants as marks
 use Rattle.eco_query.specs.declared.point.Head.{Head}
-use Rattle.eco_query.specs.declared.point.Head.TheVariants.{Plain, Without, Optional, Alone}
+use Rattle.eco_query.specs.declared.point.Head.TheVariants.{Plain, Not, Optional, Alone}
 
 -- ---- the store
 
@@ -82,8 +82,8 @@ count_atoms-append (s ∷ ss) ts = let e = count_atoms-append ss ts in omega ari
 atoms_of-body : (h : Head) (xs : List WrittenAtom) (x : WrittenAtom) → (some_of xs && is_bare_head h) ≡ false
     → length (atoms_of (body_of h xs x)) ≡ length xs + 1
 atoms_of-body Plain xs x e = length-append xs (x ∷ [])
-atoms_of-body Without [] x e = refl
-atoms_of-body Without (y ∷ xs) x e = cc
+atoms_of-body Not [] x e = refl
+atoms_of-body Not (y ∷ xs) x e = cc
 atoms_of-body Optional [] x e = refl
 atoms_of-body Optional (y ∷ xs) x e = cc
 atoms_of-body Alone xs x e = length-append xs (x ∷ [])

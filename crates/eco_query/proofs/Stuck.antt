@@ -39,8 +39,8 @@ stuck_at step s q text n lt e stuck more =
     ap (λ t. t ++ more) parts ∙ append_assoc (take n text) (get_or text n 0 ∷ drop (suc n) text) more in
     ap (λ t. runs step s t) whole ∙ runs-stuck step s q (take n text) (drop (suc n) text ++ more) (get_or text n 0) e stuck
 
-pub slice_range-more : (xs : List ℕ) (a b : ℕ) → a ≤ b → b < length xs → slice_range xs a (b + 1) ≡ slice_range xs a b ++ slice_index xs b ∷ []
-slice_range-more xs a b le lt =
+pub slice_range_more : (xs : List ℕ) (a b : ℕ) → a ≤ b → b < length xs → slice_range xs a (b + 1) ≡ slice_range xs a b ++ slice_index xs b ∷ []
+slice_range_more xs a b le lt =
     let e : (b + 1) - a ≡ (b - a) + 1 = omega arith in
     let f : a + (b - a) ≡ b = omega arith in
     let g : get_or (drop a xs) (b - a) 0 ≡ get_or xs b 0 = get_or-drop a xs (b - a) 0 ∙ ap (λ k. get_or xs k 0) f in

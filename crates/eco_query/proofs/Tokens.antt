@@ -16,7 +16,7 @@ use Rattle.eco_query.specs.Grammar.{WrittenPart, WrittenAtom, single, IsTok, acc
 use Rattle.eco_query.specs.declared.access.Access.{Access}
 use Rattle.eco_query.specs.declared.access.Access.TheVariants.{In, Out, InOut, InOutNone}
 use Rattle.eco_query.specs.declared.point.Head.{Head}
-use Rattle.eco_query.specs.declared.point.Head.TheVariants.{Plain, Without, Optional, Alone}
+use Rattle.eco_query.specs.declared.point.Head.TheVariants.{Plain, Not, Optional, Alone}
 use Rattle.eco_query.specs.Reader.Machine.{Before, Role, whole, first, second, sole, Spot, slot, word, shut, body, atom, part, behind, after, is_front, access_of, behind_atom, enter, move_at}
 
 abbrev pub Sat : {X : Type 0} → Option X → (X → Type 0) → Type 0
@@ -83,13 +83,13 @@ word_not b k w f =
 
 pub behind_white : (h : Head) (c : Before) (x : WrittenAtom) (b : ℕ) → is_white b ≡ true → behind_atom h c x b ≡ None
 behind_white Plain c x b w = white_elim (λ b. behind_atom Plain c x b ≡ None) refl refl refl refl b w
-behind_white Without c x b w = white_elim (λ b. behind_atom Without c x b ≡ None) refl refl refl refl b w
+behind_white Not c x b w = white_elim (λ b. behind_atom Not c x b ≡ None) refl refl refl refl b w
 behind_white Optional c x b w = white_elim (λ b. behind_atom Optional c x b ≡ None) refl refl refl refl b w
 behind_white Alone c x b w = refl
 
 pub behind_word : (h : Head) (c : Before) (x : WrittenAtom) (b : ℕ) → may_follow b ≡ true → behind_atom h c x b ≡ None
 behind_word Plain c x b w = cond-false (b == 124) _ _ (word_not b 124 w refl) ∙ cond-false (b == 44) _ _ (word_not b 44 w refl)
-behind_word Without c x b w = cond-false (b == 44) _ _ (word_not b 44 w refl)
+behind_word Not c x b w = cond-false (b == 44) _ _ (word_not b 44 w refl)
 behind_word Optional c x b w = cond-false (b == 44) _ _ (word_not b 44 w refl)
 behind_word Alone c x b w = refl
 

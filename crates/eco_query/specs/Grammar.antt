@@ -1,4 +1,5 @@
--- The grammar of references, ids and queries, by cases. A relation of u and v says what stands in the text from where u is left up to where v is left.
+-- The grammar of references, ids and queries, by cases. A relation of u and v says what stands in the text
+-- from where u is left up to where v is left.
 use Rattle.std.specs.Prelude.{◌≡◌, ◌⊎◌, ℕ, ◌+◌, List, [], ◌∷◌, ◌++◌, codes, length}
 use Rattle.eco_query.specs.Tokens.{Reference, IsWhite, IsToken}
 use Rattle.eco_query.specs.declared.access.Access.{Access}
@@ -15,7 +16,8 @@ pub data WrittenAtom : Type 0 where
   single : WrittenPart → WrittenAtom
   pair : WrittenPart → WrittenPart → WrittenAtom
 
--- what a slot asks as it is written: that an atom is absent, that it may be there, or that one of some alternatives is there
+-- what a slot asks as it is written: that an atom is absent, that it may be there, or that one of some
+-- alternatives is there
 pub data WrittenBody : Type 0 where
   absent : WrittenAtom → WrittenBody
   optional : WrittenAtom → WrittenBody
@@ -38,12 +40,14 @@ IsPart size u v any = IsTok (codes "_") u v
 abbrev pub IsAtom : ℕ → List ℕ → List ℕ → WrittenAtom → Type 0
 IsAtom size u v (single p) = IsPart size u v p
 IsAtom size u v (pair p q) = (a : List ℕ) × (b : List ℕ) × (c : List ℕ) × (d : List ℕ)
-    × IsTok (codes "(") u a × IsPart size a b p × IsTok (codes ",") b c × IsPart size c d q × IsTok (codes ")") d v
+    × IsTok (codes "(") u a × IsPart size a b p
+    × IsTok (codes ",") b c × IsPart size c d q × IsTok (codes ")") d v
 
 -- more atoms, each behind `||`
 abbrev pub AreMore : ℕ → List ℕ → List ℕ → List WrittenAtom → Type 0
 AreMore size u v [] = u ≡ v
-AreMore size u v (x ∷ xs) = (a : List ℕ) × (b : List ℕ) × IsTok (codes "||") u a × IsAtom size a b x × AreMore size b v xs
+AreMore size u v (x ∷ xs) = (a : List ℕ) × (b : List ℕ)
+    × IsTok (codes "||") u a × IsAtom size a b x × AreMore size b v xs
 
 -- `!` and an atom, `?` and an atom, or one atom and more
 abbrev pub IsBody : ℕ → List ℕ → List ℕ → WrittenBody → Type 0
@@ -62,7 +66,8 @@ access_word InOutNone = codes "none"
 abbrev pub IsAccess : List ℕ → List ℕ → Access → Type 0
 IsAccess u v access =
     ((u ≡ v) × (access ≡ InOut))
-    ⊎ ((a : List ℕ) × (b : List ℕ) × IsTok (codes "[") u a × IsTok (access_word access) a b × IsTok (codes "]") b v)
+    ⊎ ((a : List ℕ) × (b : List ℕ)
+    × IsTok (codes "[") u a × IsTok (access_word access) a b × IsTok (codes "]") b v)
 
 abbrev pub IsSlot : ℕ → List ℕ → List ℕ → WrittenSlot → Type 0
 IsSlot size u v slot = (a : List ℕ) × IsAccess u a slot.access × IsBody size a v slot.body
@@ -70,12 +75,14 @@ IsSlot size u v slot = (a : List ℕ) × IsAccess u a slot.access × IsBody size
 -- more slots, each behind a comma, up to the end
 abbrev pub AreSlots : ℕ → List ℕ → List WrittenSlot → Type 0
 AreSlots size u [] = u ≡ []
-AreSlots size u (s ∷ ss) = (a : List ℕ) × (b : List ℕ) × IsTok (codes ",") u a × IsSlot size a b s × AreSlots size b ss
+AreSlots size u (s ∷ ss) = (a : List ℕ) × (b : List ℕ)
+    × IsTok (codes ",") u a × IsSlot size a b s × AreSlots size b ss
 
 -- white space, then a slot, then more
 abbrev pub SpellsSlots : ℕ → List ℕ → List WrittenSlot → Type 0
 SpellsSlots size text [] = ⊥
-SpellsSlots size text (s ∷ ss) = (a : List ℕ) × (b : List ℕ) × IsTok [] text a × IsSlot size a b s × AreSlots size b ss
+SpellsSlots size text (s ∷ ss) = (a : List ℕ) × (b : List ℕ)
+    × IsTok [] text a × IsSlot size a b s × AreSlots size b ss
 
 -- the text spells these slots
 abbrev pub SpellsQuery : List ℕ → List WrittenSlot → Type 0

@@ -1,4 +1,5 @@
--- The reader's own machine. Contracts of private functions alone speak of it: that it reads exactly the grammar is proved.
+-- The reader's own machine. Contracts of private functions alone speak of it: that it reads exactly the
+-- grammar is proved.
 pub mod LastTerms
 pub mod Machine
 pub mod Marks

@@ -1,8 +1,8 @@
 -- What the readers of texts answer.
 use Rattle.std.specs.Prelude.{◌≡◌, ◌⊎◌, ℕ, ◌+◌, Bool, true, false, not, ◌||◌, nat_lt, List, [], ◌∷◌, length, IsOk, Option, Some, None, Result, Ok, Err, if◌then◌else◌}
 use Rattle.std.specs.List.{list_any}
-use Rattle.eco_ids.specs.Slots.{Asked}
-use Rattle.eco_ids.specs.Slots as ask
+use Rattle.eco_ids.specs.Terms.{QueryTerm}
+use Rattle.eco_ids.specs.Terms as terms
 use Rattle.eco_ids.specs.declared.entity.Entity.{Entity}
 use Rattle.eco_ids.specs.declared.id.Id.{Id}
 use Rattle.eco_ids.specs.declared.id.Id.TheVariants.{One, Two}
@@ -18,7 +18,8 @@ use Rattle.eco_query.specs.Queries.{QuerySlot}
 use Rattle.eco_query.specs.Faults.{IsSpelled, IsFault}
 
 -- what a text spells is answered as `meaning` says; a text that spells nothing is refused at its first fault
-abbrev pub Reads : {X T : Type 0} → (List ℕ → X → Type 0) → (X → Result T Refusal) → List ℕ → Result T Refusal → Type 0
+abbrev pub Reads : {X T : Type 0} → (List ℕ → X → Type 0) → (X → Result T Refusal)
+    → List ℕ → Result T Refusal → Type 0
 Reads {X} Spells meaning text r =
     ((x : X) × Spells text x × (r ≡ meaning x))
     ⊎ ((at : ℕ) × IsFault (IsSpelled Spells) text at × (r ≡ Err (Syntax at)))
@@ -29,7 +30,8 @@ SpellsOnce {X} Spells = (text : List ℕ) (a b : X) → Spells text a → Spells
 
 -- a text is answered in one way at most
 abbrev pub ReadsOnce : {X T : Type 0} → (List ℕ → X → Type 0) → (X → Result T Refusal) → Type 0
-ReadsOnce {X} {T} Spells meaning = (text : List ℕ) (r s : Result T Refusal) → Reads Spells meaning text r → Reads Spells meaning text s → r ≡ s
+ReadsOnce {X} {T} Spells meaning = (text : List ℕ) (r s : Result T Refusal)
+    → Reads Spells meaning text r → Reads Spells meaning text s → r ≡ s
 
 -- each text is answered in some way
 abbrev pub ReadsAll : {X T : Type 0} → (List ℕ → X → Type 0) → (X → Result T Refusal) → Type 0
@@ -95,7 +97,8 @@ part_of entity_named any = Ok Any
 -- the pattern of an atom: wildcards stand in pairs alone
 abbrev pub pattern_of : (List ℕ → Option Entity) → WrittenAtom → Result Pattern Refusal
 pattern_of entity_named (single p) = ok_map (λ e. pattern.One e) (entity_of_part entity_named p)
-pattern_of entity_named (pair p q) = ok_both (λ r t. pattern.Two r t) (part_of entity_named p) (part_of entity_named q)
+pattern_of entity_named (pair p q) =
+    ok_both (λ r t. pattern.Two r t) (part_of entity_named p) (part_of entity_named q)
 
 -- ---- queries
 
@@ -136,21 +139,23 @@ ids_of entity_named [] = Ok []
 ids_of entity_named (x ∷ xs) = ok_both (λ i is. i ∷ is) (id_of entity_named x) (ids_of entity_named xs)
 
 -- what a body asks
-abbrev pub asked_of : (List ℕ → Option Entity) → WrittenBody → Result Asked Refusal
-asked_of entity_named (absent x) = ok_map (λ p. ask.Without p) (pattern_of entity_named x)
-asked_of entity_named (optional x) = ok_map (λ i. ask.Optional i) (id_of entity_named x)
-asked_of entity_named (alternatives []) = Ok (ask.OneOf [])
-asked_of entity_named (alternatives (x ∷ [])) = ok_map (λ p. ask.Plain p) (pattern_of entity_named x)
-asked_of entity_named (alternatives (x ∷ y ∷ xs)) = ok_map (λ is. ask.OneOf is) (ids_of entity_named (x ∷ y ∷ xs))
+abbrev pub term_of_body : (List ℕ → Option Entity) → WrittenBody → Result QueryTerm Refusal
+term_of_body entity_named (absent x) = ok_map (λ p. terms.Not p) (pattern_of entity_named x)
+term_of_body entity_named (optional x) = ok_map (λ i. terms.Optional i) (id_of entity_named x)
+term_of_body entity_named (alternatives []) = Ok (terms.Or [])
+term_of_body entity_named (alternatives (x ∷ [])) = ok_map (λ p. terms.And p) (pattern_of entity_named x)
+term_of_body entity_named (alternatives (x ∷ y ∷ xs)) =
+    ok_map (λ is. terms.Or is) (ids_of entity_named (x ∷ y ∷ xs))
 
 abbrev pub slot_of : (List ℕ → Option Entity) → WrittenSlot → Result QuerySlot Refusal
-slot_of entity_named s = ok_map (λ a. record { access = s.access; asked = a }) (asked_of entity_named s.body)
+slot_of entity_named s = ok_map (λ a. record { access = s.access; term = a }) (term_of_body entity_named s.body)
 
 abbrev pub slots_of : (List ℕ → Option Entity) → List WrittenSlot → Result (List QuerySlot) Refusal
 slots_of entity_named [] = Ok []
 slots_of entity_named (s ∷ ss) = ok_both (λ t ts. t ∷ ts) (slot_of entity_named s) (slots_of entity_named ss)
 
--- the query of some slots, or the first that holds: too many atoms, a wildcard where none may stand, nothing asked for, an unknown name
+-- the query of some slots, or the first that holds: too many atoms, a wildcard where none may stand, nothing
+-- asked for, an unknown name
 abbrev pub query_of : (List ℕ → Option Entity) → List WrittenSlot → Result (List QuerySlot) Refusal
 query_of entity_named slots =
     if nat_lt 32 (count_atoms slots) then Err TooManyTerms
@@ -159,7 +164,8 @@ query_of entity_named slots =
     else slots_of entity_named slots))
 
 -- a text is answered likewise; memory may be wanting for what would be answered else
-abbrev pub ReadsInMemory : {X T : Type 0} → (List ℕ → X → Type 0) → (X → Result T Refusal) → List ℕ → Result T Refusal → Type 0
+abbrev pub ReadsInMemory : {X T : Type 0} → (List ℕ → X → Type 0) → (X → Result T Refusal)
+    → List ℕ → Result T Refusal → Type 0
 ReadsInMemory {X} Spells meaning text r =
     Reads Spells meaning text r
     ⊎ ((x : X) × Spells text x × IsOk (meaning x) × (r ≡ Err OutOfMemory))

@@ -22,4 +22,5 @@ pub data Reference : Type 0 where
 -- the token of a name is the name, that of a handle its text
 abbrev pub IsToken : List ℕ → Reference → Type 0
 IsToken t (name n) = (t ≡ n) × (is_name n ≡ true)
-IsToken t (handle i g) = (t ≡ entity_text (record { index = i; generation = g })) × (i < 2 ^ 32) × (g < 2 ^ 16)
+IsToken t (handle i g) =
+    (t ≡ entity_text (record { index = i; generation = g })) × (i < 2 ^ 32) × (g < 2 ^ 16)

@@ -14,7 +14,8 @@ pub fn begin_part<'a>(text: &'a [u8], at: usize, role: Role<'a>) -> Option<Point
     requires within { at < length text.now }
     ensures begun { IfSome result (λ p. IsBegunAt (at + 1) p) }
     ensures slots { IfSome result (λ p. is_bare p ≡ is_bare_role role.entry) }
-    ensures step { (d : Draft) (y : Option machine.Point) → or_point text.now (at + 1) d result y ≡ part_or at (role_view d role.entry) (slice_index text.now at) y }
+    ensures step { (d : Draft) (y : Option machine.Point) → or_point text.now (at + 1) d result y
+        ≡ part_or at (role_view d role.entry) (slice_index text.now at) y }
 {
     let byte = text[at];
     if is_name_start(byte) {
@@ -40,15 +41,13 @@ pub fn behind_atom<'a>(
     ensures begun { IfSome result (λ s. IsBegunAt (at + 1) s.point) }
     ensures slots { IfSome result (KeepsSlots (is_bare_head head)) }
     ensures step { (d : Draft) → option_map (step_view text.now (at + 1) d) result
-        ≡ machine.behind_atom head (before_view d access head) (atom_view atom.entry) (slice_index text.now at) }
+        ≡ machine.behind_atom head (before_view d access head) (atom_view atom.entry)
+        (slice_index text.now at) }
 {
     let byte = text[at];
     match head {
         Head::Alone => None,
-        Head::Plain if byte == b'|' => Some(Step {
-            point: Point::Bar(access, atom),
-            mark: Mark::Same,
-        }),
+        Head::Plain if byte == b'|' => Some(Step::to(Point::Bar(access, atom))),
         _ if byte == b',' => Some(Step {
             point: Point::At(Spot::Slot),
             mark: Mark::Slot(access, head, atom),
@@ -73,14 +72,15 @@ pub fn begin_atom<'a>(text: &'a [u8], at: usize, access: Access, head: Head) -> 
 }
 
 /// Begins a body.
-pub fn begin_body<'a>(text: &'a [u8], at: usize, access: Access) -> Option<Point<'a>>
+fn begin_body<'a>(text: &'a [u8], at: usize, access: Access) -> Option<Point<'a>>
     requires within { at < length text.now }
     ensures begun { IfSome result (λ p. IsBegunAt (at + 1) p) }
-    ensures step { (d : Draft) (y : Option machine.Point) → or_point text.now (at + 1) (marked Mark.Begin d) result y
+    ensures step { (d : Draft) (y : Option machine.Point)
+        → or_point text.now (at + 1) (marked Mark.Begin d) result y
         ≡ machine.body_or at d.slots access (slice_index text.now at) y }
 {
     match text[at] {
-        b'!' => Some(Point::At(Spot::Atom(access, Head::Without))),
+        b'!' => Some(Point::At(Spot::Atom(access, Head::Not))),
         b'?' => Some(Point::At(Spot::Atom(access, Head::Optional))),
         _ => begin_atom(text, at, access, Head::Plain),
     }
@@ -102,14 +102,14 @@ pub fn behind_part<'a>(
     let byte = text[at];
     match role {
         Role::Whole(access, head) => behind_atom(text, at, access, head, WrittenAtom::Single(part)),
-        Role::First(access, head) if byte == b',' => Some(Step {
-            point: Point::At(Spot::Part(Role::Second(access, head, part))),
-            mark: Mark::Same,
-        }),
-        Role::Second(access, head, left) if byte == b')' => Some(Step {
-            point: Point::At(Spot::After(access, head, WrittenAtom::Pair(left, part))),
-            mark: Mark::Same,
-        }),
+        Role::First(access, head) if byte == b',' => Some(Step::to(Point::At(Spot::Part(
+            Role::Second(access, head, part),
+        )))),
+        Role::Second(access, head, left) if byte == b')' => Some(Step::to(Point::At(Spot::After(
+            access,
+            head,
+            WrittenAtom::Pair(left, part),
+        )))),
         _ => None,
     }
 }
@@ -118,10 +118,10 @@ pub fn behind_part<'a>(
 fn step_to<'a>(point: Option<Point<'a>>, mark: Mark<'a>) -> Option<Step<'a>>
     ensures { result ≡ option_map (λ p. record { point = p; mark = mark.entry }) point.entry }
 {
-    match point {
-        Some(point) => Some(Step { point, mark }),
-        None => None,
-    }
+    Some(Step {
+        point: point?,
+        mark,
+    })
 }
 
 /// What a byte does between tokens that is no white space.
@@ -129,18 +129,15 @@ pub fn enter<'a>(text: &'a [u8], at: usize, spot: Spot<'a>) -> Option<Step<'a>>
     requires within { at < length text.now }
     ensures begun { IfSome result (λ s. IsBegunAt (at + 1) s.point) }
     ensures slots { IfSome result (KeepsSlots (is_bare_spot spot.entry)) }
-    ensures step { (d : Draft) → option_map (step_view text.now (at + 1) d) result ≡ machine.enter at (spot_view d spot.entry) (slice_index text.now at) }
+    ensures step { (d : Draft) → option_map (step_view text.now (at + 1) d) result
+        ≡ machine.enter at (spot_view d spot.entry) (slice_index text.now at) }
 {
     let byte = text[at];
     match spot {
-        Spot::Slot if byte == b'[' => step_to(Some(Point::At(Spot::Word)), Mark::Same),
+        Spot::Slot if byte == b'[' => Some(Step::to(Point::At(Spot::Word))),
         Spot::Slot => step_to(begin_body(text, at, Access::InOut), Mark::Begin),
-        Spot::Word if matches!(byte, b'i' | b'o' | b'n') => {
-            step_to(Some(Point::Letters(at)), Mark::Same)
-        }
-        Spot::Shut(access) if byte == b']' => {
-            step_to(Some(Point::At(Spot::Body(access))), Mark::Same)
-        }
+        Spot::Word if matches!(byte, b'i' | b'o' | b'n') => Some(Step::to(Point::Letters(at))),
+        Spot::Shut(access) if byte == b']' => Some(Step::to(Point::At(Spot::Body(access)))),
         Spot::Body(access) => step_to(begin_body(text, at, access), Mark::Begin),
         Spot::Atom(access, head) => step_to(begin_atom(text, at, access, head), Mark::Same),
         Spot::Part(role) => step_to(begin_part(text, at, role), Mark::Same),
@@ -155,13 +152,11 @@ pub fn move_at<'a>(text: &'a [u8], at: usize, spot: Spot<'a>) -> Option<Step<'a>
     requires within { at < length text.now }
     ensures begun { IfSome result (λ s. IsBegunAt (at + 1) s.point) }
     ensures slots { IfSome result (KeepsSlots (is_bare_spot spot.entry)) }
-    ensures step { (d : Draft) → option_map (step_view text.now (at + 1) d) result ≡ machine.move_at at (spot_view d spot.entry) (slice_index text.now at) }
+    ensures step { (d : Draft) → option_map (step_view text.now (at + 1) d) result
+        ≡ machine.move_at at (spot_view d spot.entry) (slice_index text.now at) }
 {
     if is_white_space(text[at]) {
-        Some(Step {
-            point: Point::At(spot),
-            mark: Mark::Same,
-        })
+        Some(Step::to(Point::At(spot)))
     } else {
         enter(text, at, spot)
     }

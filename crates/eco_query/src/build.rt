@@ -47,13 +47,14 @@ fn asks(mark: Mark<'_>) -> bool
     match mark {
         Mark::Slot(_, head, _) => match head {
             Head::Plain | Head::Alone => true,
-            Head::Without | Head::Optional => false,
+            Head::Not | Head::Optional => false,
         },
         _ => false,
     }
 }
 
 /// Whether some slot asks for something that is there.
+#[tactic(auto, using(crate::proofs::Built::positive_found, crate::proofs::Built::positive_none))]
 pub fn has_positive(marks: &[Mark<'_>]) -> bool
     ensures { result ≡ list_any (λ s. is_positive s.body) (slots_from [] marks.now) }
 {
@@ -70,7 +71,8 @@ pub fn check_names<N: Names>(marks: &[Mark<'_>], names: &N) -> Result<(), Refusa
     requires whole { AreWhole marks.now }
     requires proper { AreProperMarks marks.now }
     ensures known { OnOk result (IsOk (slots_of (N.entity_named names.now) (slots_from [] marks.now))) }
-    ensures unknown { IfErr result (λ e. slots_of (N.entity_named names.now) (slots_from [] marks.now) ≡ Err e) }
+    ensures unknown { IfErr result (λ e. slots_of (N.entity_named names.now) (slots_from [] marks.now)
+        ≡ Err e) }
 {
     let mut grouped = false;
     for mark in marks {
@@ -94,7 +96,8 @@ pub fn check_names<N: Names>(marks: &[Mark<'_>], names: &N) -> Result<(), Refusa
 pub fn build_query<N: Names>(alloc: Global, marks: &[Mark<'_>], names: &N) -> Result<Query, Refusal>
     requires whole { AreWhole marks.now }
     requires proper { AreProperMarks marks.now }
-    ensures { (result ≡ Err Refusal.OutOfMemory) ⊎ (result ≡ slots_of (N.entity_named names.now) (slots_from [] marks.now)) }
+    ensures { (result ≡ Err Refusal.OutOfMemory)
+        ⊎ (result ≡ slots_of (N.entity_named names.now) (slots_from [] marks.now)) }
 {
     let mut slots = Vec::new(alloc);
     let mut group = Vec::new(alloc);

@@ -1,5 +1,5 @@
 //! The bytes of tokens.
-ghost use Rattle.std.specs.Prelude.{◌≡◌, true, Option};
+ghost use Rattle.std.specs.Prelude.{◌≡◌, ◌-◌, true, Option, None, Some, if◌then◌else◌};
 ghost use Rattle.eco_ids.specs.Names.{may_begin, may_follow};
 ghost use Rattle.eco_query.specs.Tokens.{is_white, is_digit};
 ghost use Rattle.eco_query.specs.Reader.Machine.{grown};
@@ -26,6 +26,17 @@ pub fn is_decimal_digit(byte: u8) -> bool
     ensures { result ≡ is_digit byte }
 {
     byte.is_ascii_digit()
+}
+
+/// What a decimal digit counts.
+pub fn digit(byte: u8) -> Option<u8>
+    ensures { result ≡ if is_digit byte then Some (byte - 48) else None }
+{
+    if is_decimal_digit(byte) {
+        Some(byte - b'0')
+    } else {
+        None
+    }
 }
 
 /// A number with one more digit, if that is no digit behind a lone 0 and the number stays within a bound.

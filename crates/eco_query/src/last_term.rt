@@ -3,9 +3,9 @@ ghost use Rattle.std.specs.Prelude.{◌≡◌, IfOk, IfErr};
 ghost use Rattle.eco_ids.specs.declared.refusal.Refusal.TheVariants.{OutOfMemory};
 ghost use Rattle.eco_query.specs.Grammar.{IsProperAtom};
 ghost use Rattle.eco_query.specs.Reader.LastTerms as last;
-ghost use Rattle.eco_query.specs.Reader.LastTerms.{asked_by, last_of, left_over};
+ghost use Rattle.eco_query.specs.Reader.LastTerms.{term_with, last_of, left_over};
 ghost use Rattle.eco_query.specs.Reader.Points.{atom_view};
-ghost use Rattle.eco_query.specs.Queries.{asked_view};
+ghost use Rattle.eco_query.specs.Queries.{term_view};
 
 use crate::names::Names;
 use crate::point::Head;
@@ -16,10 +16,10 @@ use std::alloc::Global;
 use std::mem;
 
 /// The whole of what a slot asks, or its last alternative.
-#[derive(Clone, Copy, Debug)]
+#[derive(Clone, Copy)]
 pub enum LastTerm {
-    Plain(Pattern),
-    Without(Pattern),
+    And(Pattern),
+    Not(Pattern),
     Optional(Id),
     Alternative(Id),
 }
@@ -35,10 +35,10 @@ pub fn last_term<N: Names>(
     ensures { result ≡ last_of (N.entity_named names.now) head grouped (atom_view atom.entry) }
 {
     match head {
-        Head::Without => Ok(LastTerm::Without(atom.pattern(names)?)),
+        Head::Not => Ok(LastTerm::Not(atom.pattern(names)?)),
         Head::Optional => Ok(LastTerm::Optional(atom.id(names)?)),
         Head::Plain | Head::Alone if grouped => Ok(LastTerm::Alternative(atom.id(names)?)),
-        Head::Plain | Head::Alone => Ok(LastTerm::Plain(atom.pattern(names)?)),
+        Head::Plain | Head::Alone => Ok(LastTerm::And(atom.pattern(names)?)),
     }
 }
 
@@ -49,24 +49,24 @@ pub fn misplaces_last(head: Head, grouped: bool, atom: WrittenAtom<'_>) -> bool
     match head {
         Head::Optional => atom.has_wildcard(),
         Head::Plain | Head::Alone if grouped => atom.has_wildcard(),
-        Head::Plain | Head::Alone | Head::Without => atom.is_lone_wildcard(),
+        Head::Plain | Head::Alone | Head::Not => atom.is_lone_wildcard(),
     }
 }
 
 impl LastTerm {
     /// The term of the slot. It takes the alternatives before, if it is one more.
     pub fn into_term(self, alloc: Global, group: &mut Vec<Id>) -> Result<Term, Refusal>
-        ensures term { IfOk result (λ t. asked_view t ≡ asked_by group.old.items self) }
+        ensures term { IfOk result (λ t. term_view t ≡ term_with group.old.items self) }
         ensures left { IfOk result (λ t. group.new.items ≡ left_over group.old.items self) }
         ensures memory { IfErr result (λ e. e ≡ OutOfMemory) }
     {
         Ok(match self {
-            LastTerm::Plain(pattern) => Term::Plain(pattern),
-            LastTerm::Without(pattern) => Term::Without(pattern),
+            LastTerm::And(pattern) => Term::And(pattern),
+            LastTerm::Not(pattern) => Term::Not(pattern),
             LastTerm::Optional(id) => Term::Optional(id),
             LastTerm::Alternative(id) => {
                 group.push(id)?;
-                Term::OneOf(mem::replace(group, Vec::new(alloc)))
+                Term::Or(mem::replace(group, Vec::new(alloc)))
             }
         })
     }

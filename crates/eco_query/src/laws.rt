@@ -13,14 +13,16 @@ pub fn texts_spell_once()
 
 /// Under any names a text is answered in one way at most: as what it spells, or as one refusal with one place.
 pub fn texts_read_once()
-    ensures reference { (entity_named : List ℕ → Option Entity) → ReadsOnce SpellsRef (entity_at entity_named) }
+    ensures reference { (entity_named : List ℕ → Option Entity)
+        → ReadsOnce SpellsRef (entity_at entity_named) }
     ensures id { (entity_named : List ℕ → Option Entity) → ReadsOnce SpellsId (id_of entity_named) }
     ensures query { (entity_named : List ℕ → Option Entity) → ReadsOnce SpellsQuery (query_of entity_named) }
 {}
 
 /// Under any names each text is answered in some way: as what it spells, or as a refusal with a place.
 pub fn texts_are_read()
-    ensures reference { (entity_named : List ℕ → Option Entity) → ReadsAll SpellsRef (entity_at entity_named) }
+    ensures reference { (entity_named : List ℕ → Option Entity)
+        → ReadsAll SpellsRef (entity_at entity_named) }
     ensures id { (entity_named : List ℕ → Option Entity) → ReadsAll SpellsId (id_of entity_named) }
     ensures query { (entity_named : List ℕ → Option Entity) → ReadsAll SpellsQuery (query_of entity_named) }
 {}

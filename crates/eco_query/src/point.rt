@@ -2,21 +2,22 @@
 ghost use Rattle.std.specs.Prelude.{◌≡◌};
 ghost use Rattle.eco_query.specs.Reader.Machine.{takes_wildcard};
 ghost use Rattle.eco_query.specs.Reader.Points.{Draft, role_view};
+ghost use Rattle.eco_query.specs.declared.point.Mark.TheVariants as Mark;
 
 use crate::access::Access;
 use crate::written::{WrittenAtom, WrittenPart};
 
 /// What stands before an atom: nothing or `||`, `!`, `?`; or nothing, and nothing may come behind it.
-#[derive(Clone, Copy, Debug)]
+#[derive(Clone, Copy)]
 pub enum Head {
     Plain,
-    Without,
+    Not,
     Optional,
     Alone,
 }
 
 /// Which part it is: an atom of its own, the first or the second of a pair, or a reference that is all of the text.
-#[derive(Clone, Copy, Debug)]
+#[derive(Clone, Copy)]
 pub enum Role<'a> {
     Whole(Access, Head),
     First(Access, Head),
@@ -25,7 +26,7 @@ pub enum Role<'a> {
 }
 
 /// What is wanted between tokens.
-#[derive(Clone, Copy, Debug)]
+#[derive(Clone, Copy)]
 pub enum Spot<'a> {
     Slot,
     Word,
@@ -39,7 +40,7 @@ pub enum Spot<'a> {
 
 /// Between tokens, or inside of one: some of an access word, one bar, some of a name or of a handle, with the place where
 /// it begins.
-#[derive(Clone, Copy, Debug)]
+#[derive(Clone, Copy)]
 pub enum Point<'a> {
     At(Spot<'a>),
     Letters(usize),
@@ -52,7 +53,7 @@ pub enum Point<'a> {
 }
 
 /// What a byte puts down: nothing, a slot's beginning, an alternative, or the last atom of a slot.
-#[derive(Clone, Copy, Debug)]
+#[derive(Clone, Copy)]
 pub enum Mark<'a> {
     Same,
     Begin,
@@ -61,10 +62,22 @@ pub enum Mark<'a> {
 }
 
 /// What a byte does.
-#[derive(Clone, Copy, Debug)]
+#[derive(Clone, Copy)]
 pub struct Step<'a> {
     pub point: Point<'a>,
     pub mark: Mark<'a>,
+}
+
+impl<'a> Step<'a> {
+    /// To a point, with nothing put down.
+    pub fn to(point: Point<'a>) -> Step<'a>
+        ensures { result ≡ record { point = point.entry; mark = Mark.Same } }
+    {
+        Step {
+            point,
+            mark: Mark::Same,
+        }
+    }
 }
 
 impl Role<'_> {

@@ -4,7 +4,7 @@ ghost use Rattle.std.specs.List.{list_all, list_any};
 ghost use Rattle.eco_ids.specs.Matching.{pattern_matches};
 ghost use Rattle.eco_ids.specs.Order.{has_item, id_cmp};
 ghost use Rattle.eco_query.specs.Queries as queries;
-ghost use Rattle.eco_query.specs.Queries.{asked_view, holds, patterns_of};
+ghost use Rattle.eco_query.specs.Queries.{term_view, holds, patterns_of};
 
 use crate::access::Access;
 use eco_ids::{Id, Part, Pattern, TypeList};
@@ -15,13 +15,13 @@ use std::marker::Model;
 #[derive(Debug, Drop)]
 pub enum Term {
     /// It has an id that matches.
-    Plain(Pattern),
+    And(Pattern),
     /// It has no id that matches: `!`.
-    Without(Pattern),
+    Not(Pattern),
     /// It may have the id: `?`.
     Optional(Id),
     /// It has one of these ids: `||`. The first that it has counts.
-    OneOf(Vec<Id>),
+    Or(Vec<Id>),
 }
 
 /// A slot of a query: what it asks, and what a system may do with its entries.
@@ -55,6 +55,7 @@ pub fn exactly(id: Id) -> Pattern
 }
 
 /// Whether one of a type's ids matches.
+#[tactic(auto, using(crate::proofs::Matched::is_some_find))]
 fn has_match(ids: &TypeList, pattern: Pattern) -> bool
     ensures { result ≡ list_any (pattern_matches pattern) ids.now }
 {
@@ -80,26 +81,28 @@ fn add_exactly(patterns: &mut Vec<Pattern>, ids: &[Id]) -> Result<(), AllocError
 
 impl Slot {
     /// Whether it holds on an entity of this type.
+    #[tactic(auto, using(crate::proofs::Entries::and_holds, crate::proofs::Entries::or_holds))]
     pub fn holds(&self, ids: &TypeList) -> bool
-        ensures { result ≡ holds ids.now (asked_view self.now.term) }
+        ensures { result ≡ holds ids.now (term_view self.now.term) }
     {
         eco_ids::order::ids_are_ordered();
         match &self.term {
-            Term::Plain(pattern) => has_match(ids, *pattern),
-            Term::Without(pattern) => !has_match(ids, *pattern),
+            Term::And(pattern) => has_match(ids, *pattern),
+            Term::Not(pattern) => !has_match(ids, *pattern),
             Term::Optional(_) => true,
-            Term::OneOf(alternatives) => has_one(ids, alternatives),
+            Term::Or(alternatives) => has_one(ids, alternatives),
         }
     }
 
     // Puts the patterns that it reads behind others.
     fn add_patterns(&self, patterns: &mut Vec<Pattern>) -> Result<(), AllocError>
-        ensures { OnOk result (patterns.new.items ≡ patterns.old.items ++ patterns_of (asked_view self.now.term)) }
+        ensures { OnOk result (patterns.new.items
+            ≡ patterns.old.items ++ patterns_of (term_view self.now.term)) }
     {
         match &self.term {
-            Term::Plain(pattern) | Term::Without(pattern) => patterns.push(*pattern)?,
+            Term::And(pattern) | Term::Not(pattern) => patterns.push(*pattern)?,
             Term::Optional(id) => patterns.push(exactly(*id))?,
-            Term::OneOf(alternatives) => add_exactly(patterns, alternatives)?,
+            Term::Or(alternatives) => add_exactly(patterns, alternatives)?,
         }
         Ok(())
     }
@@ -107,14 +110,15 @@ impl Slot {
 
 /// Whether each of some slots holds on an entity of this type.
 fn all_hold(slots: &[Slot], ids: &TypeList) -> bool
-    ensures { result ≡ list_all (λ s. holds ids.now (asked_view s.term)) slots.now }
+    ensures { result ≡ list_all (λ s. holds ids.now (term_view s.term)) slots.now }
 {
     slots.iter().all(|slot| slot.holds(ids))
 }
 
 /// The patterns that some slots read.
 fn patterns_read(slots: &[Slot], alloc: Global) -> Result<Vec<Pattern>, AllocError>
-    ensures { IfOk result (λ patterns. patterns.items ≡ flat_map (λ s. patterns_of (asked_view s.term)) slots.now) }
+    ensures { IfOk result (λ patterns. patterns.items
+        ≡ flat_map (λ s. patterns_of (term_view s.term)) slots.now) }
 {
     let mut patterns = Vec::new(alloc);
     for slot in slots {
@@ -150,6 +154,7 @@ impl Query {
     }
 
     /// Whether each of its slots holds on an entity of this type: whether such an entity answers it.
+    #[tactic(auto, using(crate::proofs::Matched::list_all_map))]
     pub fn matches_type(&self, ids: &TypeList) -> bool
         ensures { result ≡ matches_type ids.now self.now }
     {
@@ -157,6 +162,7 @@ impl Query {
     }
 
     /// The patterns of its slots, in written order and whatever their access: what a system that runs on it reads.
+    #[tactic(auto, using(crate::proofs::Matched::flat_map_map))]
     pub fn reads(&self, alloc: Global) -> Result<Vec<Pattern>, AllocError>
         ensures { IfOk result (λ patterns. patterns.items ≡ reads self.now) }
     {

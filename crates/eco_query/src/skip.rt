@@ -45,6 +45,7 @@ fn name_end(text: &[u8], at: usize, from: usize) -> usize
 }
 
 // Where an index ends, or may grow no longer, and the index so far.
+#[tactic(auto, using(crate::proofs::Skipped::index_more))]
 fn index_end(text: &[u8], at: usize, index: u32) -> (usize, u32)
     requires within { at ≤ length text.now }
     ensures behind { at ≤ result.0 }

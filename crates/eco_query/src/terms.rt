@@ -9,7 +9,7 @@ use std::marker::Model;
 pub const MOST_TERMS: usize = 32;
 
 /// The atoms so far, each as what its text put down. A contract sees the list of them, or none where they are too many.
-#[derive(Debug, Drop)]
+#[derive(Drop)]
 pub struct Terms<'a> {
     marks: [Mark<'a>; MOST_TERMS],
     len: usize,
@@ -48,6 +48,7 @@ impl<'a> Terms<'a> {
         }
     }
 
+    #[tactic(auto, using(crate::proofs::Stored::stored_within, crate::proofs::Stored::stored_past))]
     fn push(&mut self, mark: Mark<'a>)
         ensures { self.new ≡ option_and_then (λ marks. with_mark marks mark.entry) self.old }
     {

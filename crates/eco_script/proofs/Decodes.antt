@@ -1,5 +1,6 @@
 -- What is found in a value is exactly the script that it is.
-use Rattle.std.proofs.Common.{◌≡◌, ◌≤◌, ◌^◌, ◌<◌, ◌-◌, ℕ, ℤ, pos, negsuc, Bool, true, false, List, [], ◌∷◌, ◌++◌, length, take, drop, replicate, map, nat_lt, nat_le, ◌&&◌, Option, Some, None, option_map, option_and_then, if◌then◌else◌, refl, ap, sym, ◌∙◌, codes, arith}
+use Rattle.std.proofs.Common.{◌≡◌, ◌≤◌, ◌^◌, ◌<◌, ◌-◌, ℕ, ℤ, pos, negsuc, Bool, true, false, List, [], ◌∷◌, ◌++◌, length, take, drop, replicate, map, nat_lt}
+use Rattle.std.proofs.Common.{nat_le, ◌&&◌, Option, Some, None, option_map, option_and_then, if◌then◌else◌, refl, ap, sym, ◌∙◌, codes, arith}
 use Rattle.std.specs.List.{AllZip}
 use Rattle.std.specs.Str.{bytes_eq}
 use Rattle.std.proofs.lemmas.List.{append-nil, drop_all, length-map, take-append-drop}
@@ -9,10 +10,12 @@ use Rattle.serde_json.specs.Data.{Data, null, boolean, number, string, array, ob
 use Rattle.serde_json.specs.Find.{as_str}
 use Rattle.eco_ids.specs.declared.value.TheConstants.{FIELD_COUNT, LARGEST_ARITY}
 use Rattle.eco_ids.specs.declared.value.Value.{Value}
-use Rattle.eco_script.specs.Decode.{items_list, list_in, each_in, name_in, number_in, integer_in, value_of_items, value_in, step_of_none, step_of_one, step_of_two, step_of_three, step_of_words, step_in, script_of_parts, script_in}
+use Rattle.eco_script.specs.Decode.{items_list, list_in, each_in, name_in, number_in, integer_in, value_of_items, value_in, step_of_none, step_of_one}
+use Rattle.eco_script.specs.Decode.{step_of_two, step_of_three, step_of_words, step_in, script_of_parts, script_in}
 use Rattle.eco_script.specs.Script.{Script, IsScriptData, IsScript}
 use Rattle.serde_json.specs.Read.{read}
-use Rattle.eco_script.specs.Steps.{Step, create, component, add, remove, set, clear, remove_all, rename, has, get, show, list, query, IsIntegerData, IsValueData, IsStepData, value_with, written, list_data, name_data}
+use Rattle.eco_script.specs.Steps.{Step, create, component, add, remove, set, clear, remove_all, rename, has, get, show, list, query, IsIntegerData}
+use Rattle.eco_script.specs.Steps.{IsValueData, IsStepData, value_with, written, list_data, name_data}
 use Rattle.eco_script.proofs.Values.{items_list-items_of, items_of-items_list, each_found, each_is}
 
 -- ---- what is written is found

@@ -13,7 +13,8 @@ use Rattle.eco_ids.specs.Indices as indexed
 use Rattle.eco_ids.specs.Losses.{without, nobody}
 use Rattle.eco_ids.specs.Order.{entity_eq, id_eq}
 use Rattle.eco_ids.specs.Outcome.{first_refusal, is_out_of_memory, Refuses, Answers, Meets}
-use Rattle.eco_ids.specs.Step.{Adds, may_add, Sets, may_set, Removes, may_remove, Clears, may_clear, RemovesAll, may_remove_all, Renames, may_rename, unfit, unfit_set, unfit_actor, unfit_rename, changed, with_value, with_name, own_name}
+use Rattle.eco_ids.specs.Step.{Adds, may_add, Sets, may_set, Removes, may_remove, Clears, may_clear, RemovesAll, may_remove_all, Renames, may_rename, unfit}
+use Rattle.eco_ids.specs.Step.{unfit_set, unfit_actor, unfit_rename, changed, with_value, with_name, own_name}
 use Rattle.eco_ids.specs.Builtin.{is_builtin, is_builtins}
 use Rattle.eco_ids.specs.Data.{arity, fits}
 use Rattle.eco_ids.specs.declared.value.Value.{Value}

@@ -35,7 +35,8 @@ abbrev pub Calls : {A : Type 0} → (Result A Refusal → WorldState → Type 0)
 Calls {A} Call reply r new = (x : Result A Refusal) × Call x new × (r ≡ replied reply x)
 
 -- the text names something, and the step goes on with it; or the text is refused, and with it the step
-abbrev pub On : {A : Type 0} → (Result A Refusal → Type 0) → WorldState → (A → Result Reply Refusal → WorldState → Type 0) → Result Reply Refusal → WorldState → Type 0
+abbrev pub On : {A : Type 0} → (Result A Refusal → Type 0) → WorldState → (A → Result Reply Refusal → WorldState → Type 0)
+    → Result Reply Refusal → WorldState → Type 0
 On {A} Reads w Goes r new = (named : Result A Refusal) × Reads named × MatchResult named (λ x. Goes x r new) (λ why. Refuses why w r new)
 
 -- the text names an entity

@@ -24,7 +24,8 @@ pub trait ScriptReader {
         requires countable { failures self.old + 1 < 2 ^ 64 }
         ensures called { calls self.new ≡ calls self.old + 1 }
         ensures within { IfOk result (λ n. n ≤ length buffer.new) }
-        ensures consumes { IfOk result (λ n. Consumes (remaining self.old) (remaining self.new) (take n buffer.new)) }
+        ensures consumes { IfOk result (λ n.
+            Consumes (remaining self.old) (remaining self.new) (take n buffer.new)) }
         ensures ended { IfOk result (λ n. n ≡ 0 → 0 < length buffer.new → IsAtEnd (remaining self.new)) }
         ensures ok { OnOk result (failures self.new ≡ failures self.old) }
         ensures err { OnErr result (failures self.new ≡ failures self.old + 1) };

@@ -45,7 +45,8 @@ impl Ids<'_> {
     // One of the ids.
     fn held(&self, id: Id) -> Held
         ensures id { result.id ≡ id }
-        ensures value { option_map shown_view result.value ≡ shown_value self.now.world.now self.now.entity id }
+        ensures value { option_map shown_view result.value
+            ≡ shown_value self.now.world.now self.now.entity id }
     {
         let value = ShownValue::of(self.world, self.entity, id);
         Held { id, value }
@@ -53,7 +54,8 @@ impl Ids<'_> {
 }
 
 impl fmt::Display for Ids<'_> {
-    ghost output = { λ ids. Some (joined (λ i. held_text i (shown_value ids.world.now ids.entity i)) ids.ids.now) };
+    ghost output = { λ ids. Some (joined
+        (λ i. held_text i (shown_value ids.world.now ids.entity i)) ids.ids.now) };
 
     fn fmt<W: fmt::Write>(&self, f: &mut fmt::Formatter<W>) -> fmt::Result {
         if let Some((first, rest)) = self.ids.split_first() {

@@ -32,7 +32,8 @@ fn read_id(text: &str, world: &World) -> Result<Id, Refusal>
 }
 
 fn create(world: &mut World, name: Option<&str>) -> Result<Reply, Refusal>
-    ensures { Replies world.old (steps.create (option_map (λ s. s.now) name.entry)) (answer_view result) world.new }
+    ensures { Replies world.old (steps.create (option_map (λ s. s.now) name.entry))
+        (answer_view result) world.new }
 {
     Ok(Reply::Made(world.create(name)?))
 }
@@ -87,7 +88,8 @@ fn remove_all(world: &mut World, id: &str) -> Result<Reply, Refusal>
 }
 
 fn rename(world: &mut World, entity: &str, name: Option<&str>) -> Result<Reply, Refusal>
-    ensures { Replies world.old (steps.rename entity.now (option_map (λ s. s.now) name.entry)) (answer_view result) world.new }
+    ensures { Replies world.old (steps.rename entity.now (option_map (λ s. s.now) name.entry))
+        (answer_view result) world.new }
 {
     let entity = read_entity(entity, world)?;
     world.rename(entity, name)?;

@@ -37,7 +37,8 @@ fn push_entity_lines(
     world: &World,
     entities: &[Entity],
 ) -> Result<(), AllocError>
-    ensures { OnOk result (string_bytes text.new ≡ string_bytes text.old ++ flat_map (line_of world.now) entities.now) }
+    ensures { OnOk result (string_bytes text.new
+        ≡ string_bytes text.old ++ flat_map (line_of world.now) entities.now) }
 {
     for entity in entities {
         let line = EntityLine {

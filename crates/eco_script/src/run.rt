@@ -57,7 +57,8 @@ fn run_steps<W: ScriptWriter>(
     requires countable { W.failures writer.old + 1 < 2 ^ 64 }
     ensures ok { OnOk result ((text : List ℕ) × Text world.old (map step_view steps.now) text world.new
         × Appends (W.held writer.old) (W.held writer.new) text) }
-    ensures err { OnErr result ((part : List ℕ) × (text : List ℕ) × (end : WorldState) × Text world.old (map step_view steps.now) text end
+    ensures err { OnErr result ((part : List ℕ) × (text : List ℕ) × (end : WorldState)
+        × Text world.old (map step_view steps.now) text end
         × IsBeginning part text × Appends (W.held writer.old) (W.held writer.new) part) }
     ensures device { IsErrOf result Fault.Device → W.failures writer.new ≡ W.failures writer.old + 1 }
     ensures read { IsErrOf result Fault.NotRead → ⊥ }
@@ -82,7 +83,8 @@ fn run_steps<W: ScriptWriter>(
 fn run_bytes<W: ScriptWriter>(alloc: Global, bytes: &[u8], writer: &mut W) -> Result<(), Fault>
     requires countable { W.failures writer.old + 1 < 2 ^ 64 }
     ensures ok { OnOk result (Ran (Some bytes.now) (W.held writer.old) (W.held writer.new)) }
-    ensures not_read { IsErrOf result Fault.NotRead → WasNotRead (Some bytes.now) (W.held writer.old) (W.held writer.new) }
+    ensures not_read { IsErrOf result Fault.NotRead
+        → WasNotRead (Some bytes.now) (W.held writer.old) (W.held writer.new) }
     ensures err { OnErr result (WasStopped (Some bytes.now) (W.held writer.old) (W.held writer.new)) }
     ensures device { IsErrOf result Fault.Device → W.failures writer.new ≡ W.failures writer.old + 1 }
 {
@@ -115,9 +117,11 @@ pub fn run_script<R: ScriptReader, W: ScriptWriter>(
     // The bytes are a script, and the text of a run of it was written.
     ensures ran { result ≡ Status.Ran → Ran (R.remaining reader.old) (W.held writer.old) (W.held writer.new) }
     // The bytes are no script, and nothing was written.
-    ensures not_read { result ≡ Status.NotRead → WasNotRead (R.remaining reader.old) (W.held writer.old) (W.held writer.new) }
+    ensures not_read { result ≡ Status.NotRead
+        → WasNotRead (R.remaining reader.old) (W.held writer.old) (W.held writer.new) }
     // Nothing was written, or a beginning of such a text.
-    ensures stopped { result ≡ Status.Stopped → WasStopped (R.remaining reader.old) (W.held writer.old) (W.held writer.new) }
+    ensures stopped { result ≡ Status.Stopped
+        → WasStopped (R.remaining reader.old) (W.held writer.old) (W.held writer.new) }
     ensures no_other { result ≢ Status.BadArguments }
     ensures reads { R.calls reader.new ≤ R.calls reader.old + 16777216 }
 {

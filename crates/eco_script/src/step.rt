@@ -121,7 +121,8 @@ impl<'a> Step<'a> {
 
     // A step with two texts and another argument.
     fn of_three(word: &str, entity: &'a str, id: &'a str, argument: &'a Value) -> Option<Step<'a>>
-        ensures { option_map step_view result ≡ step_of_three word.now entity.entry.now id.entry.now (view argument.now) }
+        ensures { option_map step_view result
+            ≡ step_of_three word.now entity.entry.now id.entry.now (view argument.now) }
     {
         match word {
             "set" => Some(Step::Set {

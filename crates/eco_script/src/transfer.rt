@@ -43,7 +43,8 @@ pub fn write_all<W: ScriptWriter>(writer: &mut W, bytes: &[u8]) -> Result<(), De
     requires countable { W.failures writer.old + 1 < 2 ^ 64 }
     ensures ok { OnOk result (Appends (W.held writer.old) (W.held writer.new) bytes.now) }
     ensures counts_none { OnOk result (W.failures writer.new ≡ W.failures writer.old) }
-    ensures err { OnErr result ((part : List ℕ) × IsBeginning part bytes.now × Appends (W.held writer.old) (W.held writer.new) part) }
+    ensures err { OnErr result ((part : List ℕ) × IsBeginning part bytes.now
+        × Appends (W.held writer.old) (W.held writer.new) part) }
     ensures counts_one { OnErr result (W.failures writer.new ≡ W.failures writer.old + 1) }
 {
     let mut done = 0;

@@ -1,18 +1,21 @@
 -- Tables are found exactly after a table was made, dropped or its rows changed.
-use Rattle.std.proofs.Common.{◌≡◌, ◌≢◌, ℕ, ◌<◌, Bool, true, false, cond, ◌&&◌, List, [], ◌∷◌, length, slice_get, Option, Some, None, option_map, unwrap_or, IsSome, nat_eq, refl, sym, ap, ◌∙◌, arith, inl, inr}
+use Rattle.std.proofs.Common.{◌≡◌, ◌≢◌, ℕ, ◌<◌, Bool, true, false, cond, ◌&&◌, List, [], ◌∷◌, length, slice_get, Option, Some, None, option_map, unwrap_or}
+use Rattle.std.proofs.Common.{IsSome, nat_eq, refl, sym, ap, ◌∙◌, arith, inl, inr}
 use Rattle.std.specs.HashMap.{HashMap, get}
-use Rattle.std.specs.HashSet.{HashSet}
 use Rattle.std.proofs.lemmas.Bool.{cases_eq}
 use Rattle.std.proofs.lemmas.Bool.Decides.{Decides-eqb}
-use Rattle.eco_ids.specs.declared.entity.Entity.{Entity}
+use Rattle.eco_ids.specs.declared.pattern.Pattern.{Pattern}
 use Rattle.eco_ids.specs.declared.id.Id.{Id}
 use Rattle.eco_tables.specs.Table.{TableState, Row}
 use Rattle.eco_tables.specs.Tables.{slot_of, table_in, no_table, Sets, Moves, rowless, rowless_type}
 use Rattle.eco_store.specs.TypeMap.{IsTypeMap, same_ids}
-use Rattle.eco_store.specs.IdIndex.{is_listed, names_any, Turns}
-use Rattle.eco_store.specs.Archetypes.{type_at, type_names, IsArchetypes, SameSlots}
+use Rattle.eco_store.specs.IdIndex.{Lists, any_matches, Turns}
+use Rattle.eco_store.specs.Archetypes.{type_at, type_matches, IsArchetypes, IsFull, AreFull, SameSlots}
+use Rattle.eco_store.specs.Edges.{toggled, Cuts, Links, SameEdges}
 use Rattle.eco_store.specs.Seats.{SameRows}
+use Rattle.eco_store.proofs.Graphs.{graph_made, graph_cut, graph_linked}
 use Rattle.eco_store.proofs.TypeMaps.{type_map-insert, type_map-remove}
+use Rattle.eco_store.proofs.Widths.{sets_full}
 
 -- a slot whose table has a row, or room, has a table
 pub there_by_row : (s : List (Option TableState)) (n row : ℕ) → row < length (table_in s n).rows → IsSome (slot_of s n)
@@ -62,75 +65,103 @@ module _ (s s' : List (Option TableState)) where
         ]
       ]
 
-module _ {S S' T : Type 0} (s s' : List (Option TableState)) (m m' : HashMap (List Id) ℕ S) (l l' : HashMap Entity (HashSet ℕ T) S') where
+module _ {S E : Type 0} (s s' : List (Option TableState)) (m m' : HashMap (List Id) ℕ S) (l l' : Lists) (g g' : List (HashMap Id ℕ E)) where
   -- the same types are found by the same maps
-  pub found_same : IsArchetypes s m l → ((k : ℕ) → type_at s' k ≡ type_at s k) → IsArchetypes s' m l
-  found_same found same = record {
+  pub found_same : IsArchetypes s m l g → ((k : ℕ) → type_at s' k ≡ type_at s k) → AreFull s' → IsArchetypes s' m l g
+  found_same found same full = record {
     types = record {
       found = λ t n e. same n ∙ found.types.found t n e;
       there = λ t n e. found.types.there t n (sym (same n) ∙ e);
     };
-    names = λ f n. found.names f n ∙ ap (λ o. type_names o f) (sym (same n));
+    matches = λ f n. found.matches f n ∙ ap (λ o. type_matches o f) (sym (same n));
+    graph = λ n k i e. let was = found.graph n k i e in (was.0, same n ∙ was.1, same k ∙ was.2);
+    full = full;
+  }
+
+  -- two tables are joined by an id, of whose types one has it alone besides what the other has
+  pub found_linked : (a b : ℕ) (i : Id) (ids : List Id) → IsArchetypes s m l g → Links g g' a i b → type_at s a ≡ Some ids → type_at s b ≡ Some (toggled ids i)
+      → toggled (toggled ids i) i ≡ ids
+      → IsArchetypes s m l g'
+  found_linked a b i ids found links from to twice = record {
+    types = found.types;
+    matches = found.matches;
+    graph = graph_linked (type_at s) g g' a b i ids found.graph links from to twice;
+    full = found.full;
+  }
+
+  -- the same edges lead on
+  pub found_unlinked : IsArchetypes s m l g → SameEdges g g' → IsArchetypes s m l g'
+  found_unlinked found same = record {
+    types = found.types;
+    matches = found.matches;
+    graph = λ n k i e. found.graph n k i (sym (same n i) ∙ e);
+    full = found.full;
   }
 
   -- a new table is found
-  pub found_made : (n : ℕ) (t : TableState) → IsArchetypes s m l → Sets s s' n (Some t) → slot_of s n ≡ None
-      → ((k : ℕ) → type_at s k ≢ Some t.ids)
+  pub found_made : (n : ℕ) (t : TableState) → IsArchetypes s m l g → Sets s s' n (Some t) → slot_of s n ≡ None
+      → IsFull t → ((k : ℕ) → type_at s k ≢ Some t.ids)
       → ((q : List Id) → get same_ids m' q ≡ cond (same_ids t.ids q) (Some n) (get same_ids m q))
-      → Turns true (names_any t.ids) l l' n
-      → IsArchetypes s' m' l'
-  found_made n t found sets vacant absent gets turns = record {
+      → Turns true (any_matches t.ids) l l' n
+      → IsArchetypes s' m' l' g
+  found_made n t found sets vacant own absent gets turns = record {
     types =
         type_map-insert (type_at s) (type_at s') m m' t.ids n (λ k other. ap (option_map (λ (x : TableState). x.ids)) (sets.others k other))
         found.types (ap (option_map (λ (x : TableState). x.ids)) sets.changed) (ap (option_map (λ (x : TableState). x.ids)) vacant) absent gets;
-    names = λ f k. turns f k ∙ by f k (nat_eq n k) refl;
+    matches = λ f k. turns f k ∙ by f k (nat_eq n k) refl;
+    graph = graph_made (type_at s) (type_at s') g n found.graph (ap (option_map (λ (x : TableState). x.ids)) vacant)
+        (λ k other. ap (option_map (λ (x : TableState). x.ids)) (sets.others k other));
+    full = sets_full s s' found.full n (Some t) sets own;
   }
     where
-      by : (f : Entity) (k : ℕ) (b : Bool) → nat_eq n k ≡ b → cond (names_any t.ids f && b) true (is_listed l f k) ≡ type_names (type_at s' k) f
+      by : (f : Pattern) (k : ℕ) (b : Bool) → nat_eq n k ≡ b → cond (any_matches t.ids f && b) true (l f k) ≡ type_matches (type_at s' k) f
       by f k true e =
           let here : n ≡ k = (Decides-eqb n k).0 e in
-          let was : is_listed l f k ≡ false = found.names f k ∙ ap (λ j. type_names (type_at s j) f) (sym here)
-          ∙ ap (λ o. type_names (option_map (λ (x : TableState). x.ids) o) f) vacant in
-          either (names_any t.ids f) (is_listed l f k) was ∙ sym (ap (λ j. type_names (type_at s' j) f) (sym here)
-          ∙ ap (λ o. type_names (option_map (λ (x : TableState). x.ids) o) f) sets.changed)
+          let was : l f k ≡ false = found.matches f k ∙ ap (λ j. type_matches (type_at s j) f) (sym here)
+          ∙ ap (λ o. type_matches (option_map (λ (x : TableState). x.ids) o) f) vacant in
+          either (any_matches t.ids f) (l f k) was ∙ sym (ap (λ j. type_matches (type_at s' j) f) (sym here)
+          ∙ ap (λ o. type_matches (option_map (λ (x : TableState). x.ids) o) f) sets.changed)
         where
           either : (c x : Bool) → x ≡ false → cond (c && true) true x ≡ c
           either true x h = refl
           either false x h = h
       by f k false e =
           let apart : k ≢ n = λ h. let same : nat_eq n k ≡ true = (Decides-eqb n k).1 (sym h) in cc in
-          neither (names_any t.ids f) (is_listed l f k) ∙ found.names f k
-          ∙ ap (λ o. type_names (option_map (λ (x : TableState). x.ids) o) f) (sym (sets.others k apart))
+          neither (any_matches t.ids f) (l f k) ∙ found.matches f k
+          ∙ ap (λ o. type_matches (option_map (λ (x : TableState). x.ids) o) f) (sym (sets.others k apart))
         where
           neither : (c x : Bool) → cond (c && false) true x ≡ x
           neither true x = refl
           neither false x = refl
 
   -- a table that was dropped is found no more
-  pub found_dropped : (n : ℕ) (ids : List Id) → IsArchetypes s m l → Sets s s' n None → type_at s n ≡ Some ids
+  pub found_dropped : (n : ℕ) (ids : List Id) → IsArchetypes s m l g → Sets s s' n None → type_at s n ≡ Some ids
       → ((q : List Id) → get same_ids m' q ≡ cond (same_ids ids q) None (get same_ids m q))
-      → Turns false (names_any ids) l l' n
-      → IsArchetypes s' m' l'
-  found_dropped n ids found sets had gets turns = record {
+      → Turns false (any_matches ids) l l' n
+      → Cuts g g' n
+      → IsArchetypes s' m' l' g'
+  found_dropped n ids found sets had gets turns cuts = record {
     types =
         type_map-remove (type_at s) (type_at s') m m' ids n (λ k other. ap (option_map (λ (x : TableState). x.ids)) (sets.others k other))
         found.types (ap (option_map (λ (x : TableState). x.ids)) sets.changed) had gets;
-    names = λ f k. turns f k ∙ by f k (nat_eq n k) refl;
+    matches = λ f k. turns f k ∙ by f k (nat_eq n k) refl;
+    graph = graph_cut (type_at s) (type_at s') g g' n found.graph cuts (λ k other. ap (option_map (λ (x : TableState). x.ids)) (sets.others k other));
+    full = sets_full s s' found.full n None sets refl;
   }
     where
-      by : (f : Entity) (k : ℕ) (b : Bool) → nat_eq n k ≡ b → cond (names_any ids f && b) false (is_listed l f k) ≡ type_names (type_at s' k) f
+      by : (f : Pattern) (k : ℕ) (b : Bool) → nat_eq n k ≡ b → cond (any_matches ids f && b) false (l f k) ≡ type_matches (type_at s' k) f
       by f k true e =
           let here : n ≡ k = (Decides-eqb n k).0 e in
-          let was : is_listed l f k ≡ names_any ids f = found.names f k ∙ ap (λ j. type_names (type_at s j) f) (sym here) ∙ ap (λ o. type_names o f) had in
-          either (names_any ids f) (is_listed l f k) was ∙ sym (ap (λ j. type_names (type_at s' j) f) (sym here)
-          ∙ ap (λ o. type_names (option_map (λ (x : TableState). x.ids) o) f) sets.changed)
+          let was : l f k ≡ any_matches ids f = found.matches f k ∙ ap (λ j. type_matches (type_at s j) f) (sym here) ∙ ap (λ o. type_matches o f) had in
+          either (any_matches ids f) (l f k) was ∙ sym (ap (λ j. type_matches (type_at s' j) f) (sym here)
+          ∙ ap (λ o. type_matches (option_map (λ (x : TableState). x.ids) o) f) sets.changed)
         where
           either : (c x : Bool) → x ≡ c → cond (c && true) false x ≡ false
           either true x h = refl
           either false x h = h
       by f k false e =
           let apart : k ≢ n = λ h. let same : nat_eq n k ≡ true = (Decides-eqb n k).1 (sym h) in cc in
-          neither (names_any ids f) (is_listed l f k) ∙ found.names f k ∙ ap (λ o. type_names (option_map (λ (x : TableState). x.ids) o) f)
+          neither (any_matches ids f) (l f k) ∙ found.matches f k ∙ ap (λ o. type_matches (option_map (λ (x : TableState). x.ids) o) f)
           (sym (sets.others k apart))
         where
           neither : (c x : Bool) → cond (c && false) false x ≡ x

@@ -1,5 +1,6 @@
 -- Who goes to which slot, as a map keeps it, the next one last.
-use Rattle.std.proofs.Common.{◌≡◌, ℕ, Bool, not, ◌||◌, IsTrue, List, [], ◌∷◌, reverse, length, ◌-◌, ◌<◌, get_or, slice_get, Option, Some, None, is_some, refl, sym, ap, ◌∙◌, arith}
+use Rattle.std.proofs.Common.{◌≡◌, ℕ, Bool, not, ◌||◌, IsTrue, List, [], ◌∷◌, reverse, length, ◌-◌, ◌<◌, get_or, slice_get, Option, Some, None, is_some, refl}
+use Rattle.std.proofs.Common.{sym, ap, ◌∙◌, arith}
 use Rattle.std.specs.List.{list_any}
 use Rattle.std.specs.Map.{keys_of, lookup}
 use Rattle.std.proofs.lemmas.List.{reverse-append, reverse-reverse, get_or-reverse}

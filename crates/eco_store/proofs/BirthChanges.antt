@@ -1,5 +1,6 @@
 -- The store after an entity came to live in a row of its own.
-use Rattle.std.proofs.Common.{◌≡◌, ◌≢◌, ℕ, ◌≤◌, List, [], ◌∷◌, ◌++◌, map, length, slice_get, Option, Some, None, option_map, is_some, IsTrue, replicate, Bool, true, false, ◌&&◌, nat_le, MatchBool, Result, Ok, Err, MatchOption, zero, suc, ◌+◌, refl, sym, ap, subst, ◌∙◌, inl, inr}
+use Rattle.std.proofs.Common.{◌≡◌, ◌≢◌, ℕ, ◌≤◌, List, [], ◌∷◌, ◌++◌, map, length, slice_get, Option, Some, None, option_map, is_some, IsTrue, replicate, Bool}
+use Rattle.std.proofs.Common.{true, false, ◌&&◌, nat_le, MatchBool, Result, Ok, Err, MatchOption, zero, suc, ◌+◌, refl, sym, ap, subst, ◌∙◌, inl, inr}
 use Rattle.std.proofs.lemmas.Bool.{cases_eq}
 use Rattle.std.proofs.lemmas.List.{length-map}
 use Rattle.eco_ids.specs.World.{Record}
@@ -9,22 +10,22 @@ use Rattle.eco_ids.specs.declared.refusal.Refusal.{Refusal}
 use Rattle.eco_ids.specs.declared.refusal.Refusal.TheVariants.{NoMoreIds}
 use Rattle.eco_ids.specs.Births.{Admits, may_admit, unfit_name}
 use Rattle.eco_ids.specs.Outcome.{Meets, is_out_of_memory, Answers, Refuses}
-use Rattle.eco_ids.specs.Indices.{changed, change_kept, Indexed, IndexState, Retired, Free, Living, with_record, with_new, next_entity, is_alive, is_free_at, is_free_in, map_state, admitted}
+use Rattle.eco_ids.specs.Indices.{changed, change_kept, Indexed, IndexState, Retired, Free, Living, with_record, with_new, next_entity, is_alive, is_free_at}
+use Rattle.eco_ids.specs.Indices.{is_free_in, map_state, admitted}
 use Rattle.eco_tables.specs.Column.{retyped}
 use Rattle.eco_tables.specs.Table.{TableState}
-use Rattle.eco_tables.specs.Tables.{table_in, Sets, with_row}
 use Rattle.eco_entities.specs.declared.place.Place.{Place}
 use Rattle.eco_entities.specs.Registration.{Registration, name_of, newcomer, placed}
+use Rattle.eco_store.specs.Layout.{rows_in, PutsRow}
 use Rattle.eco_store.specs.Placing.{Opposes}
-use Rattle.eco_store.specs.Seats.{IsSeated, seat_of, row_at, seen, held_of, SameRows}
-use Rattle.eco_store.specs.Store.{record_name, record_for, read, seat_in, seat_at, HasPlace, IsStore, all_zeros, newborn}
+use Rattle.eco_store.specs.Seats.{IsSeated, seat_of, row_at, seen, held_of}
+use Rattle.eco_store.specs.Store.{Creates, record_name, record_for, read, seat_in, seat_at, HasPlace, IsStore, all_zeros, newborn}
 use Rattle.std.proofs.lemmas.Option.{slice_get-map}
 use Rattle.eco_store.proofs.Moves.{push_seated, push_others_seen, push_held}
 use Rattle.eco_ids.proofs.Lists.{slice_get-set_there, slice_get-set_other, map-replicate}
 use Rattle.eco_ids.proofs.States.{record_at}
 use Rattle.eco_store.proofs.Views.{ext_slice_get, bare, seen_alike}
-use Rattle.eco_store.proofs.Newborn.{unfit_name-map, next_entity-map, Vacant, born_here, born_other, born_limit, next_is}
-use Rattle.eco_store.proofs.StoreChanges.{same_store}
+use Rattle.eco_store.proofs.Newborn.{unfit_name-map, next_entity-map, opposed, refused, Vacant, born_here, born_other, born_limit, next_is}
 
 no_seat : (o : Option (IndexState Registration)) → Vacant o → seat_in o ≡ None
 no_seat None v = refl
@@ -32,17 +33,13 @@ no_seat (Some Retired) v = refl
 no_seat (Some (Free g)) v = refl
 no_seat (Some (Living g r)) v = absurd v
 
-module _ (w w1 : Indexed Registration) (s s0 s1 : List (Option TableState)) (e : Entity) (slot end : ℕ) (ids : List Id) (name : Option (List ℕ))
-    (arity : Option ℕ)
-    (store : IsStore w s) (alike : SameRows s s0) (typed : (table_in s0 slot).ids ≡ ids)
+module _ (w w1 : Indexed Registration) (s s1 : List (Option TableState)) (e : Entity) (place : Place) (ids : List Id) (name : Option (List ℕ))
+    (arity : Option ℕ) (store : IsStore w s)
     (vacant : Vacant (slice_get w.indices e.index))
     (here1 : slice_get w1.indices e.index ≡ Some (Living e.generation (newcomer name arity)))
     (others1 : (j : ℕ) → j ≢ e.index → slice_get w1.indices j ≡ slice_get w.indices j)
     (limit1 : w1.limit ≡ w.limit)
-    (sets : Sets s0 s1 slot (Some (with_row (table_in s0 slot) (record { entity = e; held = [] })))) (end_is : end ≡ length (table_in s0 slot).rows) where
-  abbrev place : Place
-  place = record { table = slot; row = end }
-
+    (puts : PutsRow (rows_in s) (rows_in s1) place e ids) where
   abbrev settled : Registration
   settled = placed place (newcomer name arity)
 
@@ -61,21 +58,15 @@ module _ (w w1 : Indexed Registration) (s s0 s1 : List (Option TableState)) (e :
   w2_others : (j : ℕ) → j ≢ e.index → slice_get w2'.indices j ≡ slice_get w.indices j
   w2_others j other = slice_get-set_other w1.indices e.index j (Living e.generation settled) other ∙ others1 j other
 
-  ready : IsStore w s0
-  ready = same_store w s s0 alike store
-
-  seat_now : seat_at w2' e.index ≡ Some (seat_of e slot end)
+  seat_now : seat_at w2' e.index ≡ Some (seat_of e place.table place.row)
   seat_now = ap seat_in w2_here
 
   seats_kept : (j : ℕ) → j ≢ e.index → seat_at w2' j ≡ seat_at w j
   seats_kept j other = ap seat_in (w2_others j other)
 
-  rows_s : row_at s0 ≡ row_at s
-  rows_s = λ t n k. alike n k t
-
   pub born_store : IsStore w2 s1
   born_store = subst (λ v. IsStore v s1) (sym w2_is) (record {
-    seated = push_seated (seat_at w) (seat_at w2') s0 s1 e slot end ready.seated (no_seat _ vacant) sets end_is seat_now seats_kept;
+    seated = push_seated (seat_at w) (seat_at w2') s s1 e place ids store.seated (no_seat _ vacant) puts seat_now seats_kept;
     placed = λ j. elim (cases_eq j e.index) [
       | inl h ↦ subst HasPlace (sym (ap (slice_get w2'.indices) h ∙ w2_here)) refl
       | inr other ↦ subst HasPlace (sym (w2_others j other)) (store.placed j)
@@ -85,11 +76,11 @@ module _ (w w1 : Indexed Registration) (s s0 s1 : List (Option TableState)) (e :
   abbrev child : Record
   child = newborn name arity ids
 
-  held_now : held_of (row_at s1 slot end) ≡ all_zeros ids
+  held_now : held_of (row_at s1 place.table place.row) ≡ all_zeros ids
   held_now =
-      let seen_now = push_held (seat_at w) (seat_at w2') s0 s1 e slot end ready.seated (no_seat _ vacant) sets end_is seat_now seats_kept in
+      let seen_now = push_held (seat_at w) (seat_at w2') s s1 e place ids store.seated (no_seat _ vacant) puts seat_now seats_kept in
       let at = sym (ap (option_map (seen (row_at s1))) seat_now) ∙ seen_now in
-      (let same : held_of (row_at s1 slot end) ≡ retyped (table_in s0 slot).ids [] = cc in same) ∙ ap (λ is. retyped is []) typed
+      let same : held_of (row_at s1 place.table place.row) ≡ retyped ids [] = cc in same
 
   seen_here : slice_get (read w2' s1).indices e.index ≡ Some (Living e.generation child)
   seen_here =
@@ -99,8 +90,7 @@ module _ (w w1 : Indexed Registration) (s s0 s1 : List (Option TableState)) (e :
   seen_others : (j : ℕ) → j ≢ e.index → slice_get (read w2' s1).indices j ≡ slice_get (read w s).indices j
   seen_others j other =
       seen_alike w w2' s s1 j (ap (option_map (map_state bare)) (w2_others j other))
-      (push_others_seen (seat_at w) (seat_at w2') s0 s1 e slot end ready.seated (no_seat _ vacant) sets end_is seat_now seats_kept j other
-      ∙ ap (λ E. option_map (seen E) (seat_at w j)) rows_s)
+      (push_others_seen (seat_at w) (seat_at w2') s s1 e place ids store.seated (no_seat _ vacant) puts seat_now seats_kept j other)
 
   -- where it is a new one
   pub born_read : e.index ≤ length w.indices → read w2 s1 ≡ with_new (read w s) e child
@@ -117,8 +107,8 @@ module _ (w w1 : Indexed Registration) (s s0 s1 : List (Option TableState)) (e :
       ap (λ v. read v s1) w2_is ∙ (λ t. record { limit = limits t; indices = indices t })
 
   -- where its index was known
-  pub revived_read : (x : IndexState Registration) → slice_get w.indices e.index ≡ Some x → read w2 s1 ≡ with_record (read w s) e child
-  revived_read x was =
+  pub made_alive_read : (x : IndexState Registration) → slice_get w.indices e.index ≡ Some x → read w2 s1 ≡ with_record (read w s) e child
+  made_alive_read x was =
       let old : slice_get (read w s).indices e.index ≡ Some (map_state (record_for (row_at s)) x) =
       slice_get-map (map_state (record_for (row_at s))) w.indices e.index ∙ ap (option_map (map_state (record_for (row_at s)))) was in
       let indices : (read w2' s1).indices ≡ (with_record (read w s) e child).indices =
@@ -186,10 +176,9 @@ admitted_read w s n =
     }
 
 -- ---- a created entity
-module _ (w w1 : Indexed Registration) (s s0 s1 : List (Option TableState)) (e : Entity) (slot : ℕ) (ids : List Id) (name : Option (List ℕ)) (arity : Option ℕ)
-    (store : IsStore w s) (alike : SameRows s s0) (typed : (table_in s0 slot).ids ≡ ids)
-    (next : next_entity w ≡ Some e) (is : w1 ≡ with_new w e (newcomer name arity))
-    (sets : Sets s0 s1 slot (Some (with_row (table_in s0 slot) (record { entity = e; held = [] })))) where
+module _ (w w1 : Indexed Registration) (s s1 : List (Option TableState)) (e : Entity) (place : Place) (ids : List Id) (name : Option (List ℕ))
+    (arity : Option ℕ) (store : IsStore w s) (puts : PutsRow (rows_in s) (rows_in s1) place e ids)
+    (next : next_entity w ≡ Some e) (is : w1 ≡ with_new w e (newcomer name arity)) where
   near_end : e.index ≤ length w.indices
   near_end = (next_is w e next).0
 
@@ -202,18 +191,13 @@ module _ (w w1 : Indexed Registration) (s s0 s1 : List (Option TableState)) (e :
   created_limit : w1.limit ≡ w.limit
   created_limit = ap (λ (v : Indexed Registration). v.limit) is ∙ born_limit w e (newcomer name arity) near_end
 
-  abbrev created_place : Place
-  created_place = record { table = slot; row = length (table_in s0 slot).rows }
-
-  pub created_store : IsStore (changed w1 e (placed created_place)) s1
+  pub created_store : IsStore (changed w1 e (placed place)) s1
   created_store =
-      born_store w w1 s s0 s1 e slot (length (table_in s0 slot).rows) ids name arity store alike typed
-      (next_is w e next).1 created_here created_others created_limit sets refl
+      born_store w w1 s s1 e place ids name arity store (next_is w e next).1 created_here created_others created_limit puts
 
-  pub created_read : read (changed w1 e (placed created_place)) s1 ≡ with_new (read w s) e (newborn name arity ids)
+  pub created_read : read (changed w1 e (placed place)) s1 ≡ with_new (read w s) e (newborn name arity ids)
   created_read =
-      born_read w w1 s s0 s1 e slot (length (table_in s0 slot).rows) ids name arity store alike typed
-      (next_is w e next).1 created_here created_others created_limit sets refl near_end
+      born_read w w1 s s1 e place ids name arity store (next_is w e next).1 created_here created_others created_limit puts near_end
 
 pub created_alive : (w w1 : Indexed Registration) (e : Entity) (name : Option (List ℕ)) (arity : Option ℕ) → next_entity w ≡ Some e →
     w1 ≡ with_new w e (newcomer name arity) → IsTrue (is_alive w1 e)
@@ -221,45 +205,38 @@ created_alive w w1 e name arity next is =
     ap is_some (record_at w1 e (newcomer name arity) (ap (λ (v : Indexed Registration). slice_get v.indices e.index) is
     ∙ born_here w e (newcomer name arity) (next_is w e next).0))
 
--- ---- a revived entity
-module _ (w w1 : Indexed Registration) (s s0 s1 : List (Option TableState)) (e : Entity) (slot : ℕ) (ids : List Id) (name : Option (List ℕ)) (arity : Option ℕ)
-    (store : IsStore w s) (alike : SameRows s s0) (typed : (table_in s0 slot).ids ≡ ids)
-    (free : IsTrue (is_free_at w e)) (is : w1 ≡ with_record w e (newcomer name arity))
-    (sets : Sets s0 s1 slot (Some (with_row (table_in s0 slot) (record { entity = e; held = [] })))) where
+-- ---- an entity that is made alive
+module _ (w w1 : Indexed Registration) (s s1 : List (Option TableState)) (e : Entity) (place : Place) (ids : List Id) (name : Option (List ℕ))
+    (arity : Option ℕ) (store : IsStore w s) (puts : PutsRow (rows_in s) (rows_in s1) place e ids)
+    (free : IsTrue (is_free_at w e)) (is : w1 ≡ with_record w e (newcomer name arity)) where
   found : (g : ℕ) × (slice_get w.indices e.index ≡ Some (Free g))
   found = free_is w e free
 
-  revived_vacant : Vacant (slice_get w.indices e.index)
-  revived_vacant = subst Vacant (sym found.1) tt
+  made_alive_vacant : Vacant (slice_get w.indices e.index)
+  made_alive_vacant = subst Vacant (sym found.1) tt
 
-  revived_here : slice_get w1.indices e.index ≡ Some (Living e.generation (newcomer name arity))
-  revived_here = ap (λ (v : Indexed Registration). slice_get v.indices e.index) is
+  made_alive_here : slice_get w1.indices e.index ≡ Some (Living e.generation (newcomer name arity))
+  made_alive_here = ap (λ (v : Indexed Registration). slice_get v.indices e.index) is
       ∙ slice_get-set_there w.indices e.index (Living e.generation (newcomer name arity)) (Free found.0) found.1
 
-  revived_others : (j : ℕ) → j ≢ e.index → slice_get w1.indices j ≡ slice_get w.indices j
-  revived_others j other = ap (λ (v : Indexed Registration). slice_get v.indices j) is
+  made_alive_others : (j : ℕ) → j ≢ e.index → slice_get w1.indices j ≡ slice_get w.indices j
+  made_alive_others j other = ap (λ (v : Indexed Registration). slice_get v.indices j) is
       ∙ slice_get-set_other w.indices e.index j (Living e.generation (newcomer name arity)) other
 
-  revived_limit : w1.limit ≡ w.limit
-  revived_limit = ap (λ (v : Indexed Registration). v.limit) is
+  made_alive_limit : w1.limit ≡ w.limit
+  made_alive_limit = ap (λ (v : Indexed Registration). v.limit) is
 
-  abbrev revived_place : Place
-  revived_place = record { table = slot; row = length (table_in s0 slot).rows }
+  pub made_alive_store : IsStore (changed w1 e (placed place)) s1
+  made_alive_store =
+      born_store w w1 s s1 e place ids name arity store made_alive_vacant made_alive_here made_alive_others made_alive_limit puts
 
-  pub revived_store : IsStore (changed w1 e (placed revived_place)) s1
-  revived_store =
-      born_store w w1 s s0 s1 e slot
-      (length (table_in s0 slot).rows) ids name arity store alike typed revived_vacant revived_here revived_others revived_limit sets refl
+  pub made_alive_seen : read (changed w1 e (placed place)) s1 ≡ with_record (read w s) e (newborn name arity ids)
+  made_alive_seen =
+      made_alive_read w w1 s s1 e place ids name arity store made_alive_vacant made_alive_here made_alive_others made_alive_limit puts (Free found.0) found.1
 
-  pub revived_seen : read (changed w1 e (placed revived_place)) s1 ≡ with_record (read w s) e (newborn name arity ids)
-  revived_seen =
-      revived_read w w1 s s0 s1 e slot
-      (length (table_in s0 slot).rows) ids name arity store alike typed revived_vacant revived_here revived_others revived_limit sets refl
-      (Free found.0) found.1
-
-pub revived_alive : (w w1 : Indexed Registration) (e : Entity) (name : Option (List ℕ)) (arity : Option ℕ) → IsTrue (is_free_at w e) →
+pub made_alive_alive : (w w1 : Indexed Registration) (e : Entity) (name : Option (List ℕ)) (arity : Option ℕ) → IsTrue (is_free_at w e) →
     w1 ≡ with_record w e (newcomer name arity) → IsTrue (is_alive w1 e)
-revived_alive w w1 e name arity free is =
+made_alive_alive w w1 e name arity free is =
     let was = free_is w e free in
     ap is_some (record_at w1 e (newcomer name arity) (ap (λ (v : Indexed Registration). slice_get v.indices e.index) is
     ∙ slice_get-set_there w.indices e.index (Living e.generation (newcomer name arity)) (Free was.0) was.1))
@@ -270,6 +247,14 @@ pub name_opposes : (unfit : Option Refusal) (next : Option Entity) (why : Refusa
     Opposes unfit next (Err why)
 name_opposes None next why h = absurd (cc)
 name_opposes (Some x) next why h = h
+
+-- where it is fit and nobody can be made next, that does
+pub end_opposes : (unfit : Option Refusal) (next : Option Entity)
+    → MatchOption unfit (◌≡◌ {A = Result (Unit {0}) Refusal} (Ok tt) (Ok tt)) (λ x. ◌≡◌ {A = Result (Unit {0}) Refusal} (Ok tt) (Err x))
+    → next ≡ None → Opposes unfit next (Err NoMoreIds)
+end_opposes None None h none = refl
+end_opposes None (Some e) h none = absurd (cc)
+end_opposes (Some x) next h none = absurd (cc)
 
 pub admit_lifts : (w w1 : Indexed Registration) (s : List (Option TableState)) (n : ℕ) (some : Bool) (r : Result (Unit {0}) Refusal)
     → Meets (Admits w n) (may_admit w n && some) w r w1
@@ -297,3 +282,18 @@ pub opposes_seen : (w : Indexed Registration) (s : List (Option TableState)) (na
 opposes_seen w s name r h =
     subst (λ u. Opposes u (next_entity (read w s)) r) (sym (unfit_name-map (record_for (row_at s)) name_of record_name (λ a. refl) w name))
     (subst (λ n. Opposes (unfit_name name_of w name) n r) (sym (next_entity-map (record_for (row_at s)) name_of record_name (λ a. refl) w)) h)
+
+-- who is refused leaves what was seen
+pub still_refused : (old seen new : Indexed Record) (name : Option (List ℕ)) (arity : Option ℕ) (ids : List Id) (r : Result Entity Refusal) → old ≡ seen
+    → new ≡ old → Creates old name arity ids r old → Creates seen name arity ids r new
+still_refused old seen new name arity ids r is same h =
+    subst (λ v. Creates v name arity ids r new) is (subst (Creates old name arity ids r) (sym same) h)
+
+-- what stands against the entity is the refusal, also where tables went since
+pub still_opposed : (w : Indexed Registration) (s s1 : List (Option TableState)) (seen : Indexed Record) (name : Option (List ℕ)) (arity : Option ℕ)
+    (ids : List Id) (why : Refusal)
+    → read w s ≡ seen → read w s1 ≡ read w s → Opposes (unfit_name name_of w name) (next_entity w) (Err why)
+    → Creates seen name arity ids (refused why) (read w s1)
+still_opposed w s s1 seen name arity ids why is same h =
+    still_refused (read w s) seen _ name arity ids (refused why) is same
+    (opposed (record_for (row_at s)) name_of record_name (λ a. refl) w (newborn name arity ids) name refl why h)

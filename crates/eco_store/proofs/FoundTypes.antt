@@ -1,5 +1,6 @@
 -- The types of the tables that a pattern finds.
-use Rattle.std.proofs.Common.{◌≡◌, ◌≢◌, ℕ, zero, suc, ◌<◌, true, ◌||◌, IsSome, ◌↔◌, nat_eq, List, [], ◌∷◌, map, length, get_or, Option, Some, option_map, refl, sym, ap, ◌∙◌, arith}
+use Rattle.std.proofs.Common.{◌≡◌, ◌≢◌, ℕ, zero, suc, ◌<◌, true, ◌||◌, IsSome, ◌↔◌, nat_eq, List, [], ◌∷◌, map, length, get_or, Option, Some, option_map, refl}
+use Rattle.std.proofs.Common.{sym, ap, ◌∙◌, arith}
 use Rattle.std.specs.List.{All, AllPairs, Contains, IsDistinct, list_any}
 use Rattle.std.proofs.lemmas.Bool.Decides.{Decides-eqb}
 use Rattle.std.proofs.lemmas.List.{get_or-map, length-map}
@@ -12,7 +13,7 @@ use Rattle.eco_ids.specs.declared.pattern.Pattern.{Pattern}
 use Rattle.eco_ids.specs.Indices.{Indexed, record_of}
 use Rattle.eco_ids.specs.Matching.{pattern_matches}
 use Rattle.eco_ids.proofs.Facts.{or_right}
-use Rattle.eco_store.proofs.Listings.{found_there}
+use Rattle.eco_store.proofs.Searching.{found_there}
 use Rattle.eco_tables.specs.Table.{TableState}
 use Rattle.eco_tables.specs.Tables.{slot_of, table_in}
 use Rattle.eco_store.specs.Archetypes.{is_found, type_at}

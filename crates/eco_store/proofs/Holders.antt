@@ -1,5 +1,6 @@
 -- Who has ids that pass a test stands in a table whose type does.
-use Rattle.std.proofs.Common.{◌≡◌, ◌≢◌, ℕ, zero, suc, ◌<◌, Bool, true, false, true≢false, ◌&&◌, ◌||◌, IsTrue, ◌↔◌, nat_eq, nat_lt, List, [], ◌∷◌, map, length, get_or, slice_get, Option, Some, None, option_map, unwrap_or, refl, sym, ap, ◌∙◌, subst, arith, inl, inr}
+use Rattle.std.proofs.Common.{◌≡◌, ◌≢◌, ℕ, zero, suc, ◌<◌, Bool, true, false, true≢false, ◌&&◌, ◌||◌, IsTrue, ◌↔◌, nat_eq, nat_lt, List, [], ◌∷◌, map, length}
+use Rattle.std.proofs.Common.{get_or, slice_get, Option, Some, None, option_map, unwrap_or, refl, sym, ap, ◌∙◌, subst, arith, inl, inr}
 use Rattle.std.specs.List.{AllByRecursion, Contains, IsDistinct, list_any}
 use Rattle.std.proofs.lemmas.Bool.Decides.{Decides-eqb, nat_tests}
 use Rattle.std.proofs.lemmas.List.{get_or-map, length-map}
@@ -12,9 +13,8 @@ use Rattle.eco_ids.specs.Indices.{Indexed, living, record_of}
 use Rattle.eco_ids.specs.Order.{entity_cmp, has_item, is_ascending}
 use Rattle.eco_tables.specs.Table.{Row, TableState, entities_of}
 use Rattle.eco_tables.specs.Tables.{no_table, slot_of, table_in}
-use Rattle.eco_store.specs.Archetypes.{is_found_by, type_names}
+use Rattle.eco_store.specs.Archetypes.{is_found_by, FindsSome}
 use Rattle.eco_store.specs.Holders.{passes, entities_whose, standing_in}
-use Rattle.eco_store.specs.IdIndex.{names_any}
 use Rattle.eco_store.specs.Seats.{row_at}
 use Rattle.eco_store.specs.Store.{IsShown}
 use Rattle.eco_ids.proofs.Passing.{PassesOwn, own_from_passed, passed_ascend, passed_from_own, passes_some, some_passes}
@@ -83,19 +83,28 @@ module _ (w : Indexed Record) (s : List (Option TableState)) (test : List Id →
       let matches = ap test (sym kept.2) ∙ ap (passes test) same ∙ own.2 in
       (there.0, there.1, there.2, there.3, there.4, is_found_there test (slot_of s there.0) (omega (arith, within)) matches)
 
-  -- some table is found exactly where some living entity has a match
-  pub held_is : (b : Bool) → IsTrue b ↔ ((n : ℕ) × IsTrue (is_found_by test (slot_of s n))) → b ≡ list_any (λ (x : Entity × Record). passes test x.1) (living w)
-  held_is b finds =
-      same_truth b (list_any (λ (x : Entity × Record). passes test x.1) (living w))
-      (λ h.
-      let found = finds.0 h in
+  -- where a table is found, some living entity passes
+  pub some_held : FindsSome test s → list_any (λ (x : Entity × Record). passes test x.1) (living w) ≡ true
+  some_held found =
       let rows = found_rows test (slot_of s found.0) found.1 in
       let at = first_row (table_in s found.0).rows rows in
-      passes_some (passes test) w at.0.entity (found_has found.0 0 at.0 at.1 (found_matches test (slot_of s found.0) found.1)))
+      passes_some (passes test) w at.0.entity (found_has found.0 0 at.0 at.1 (found_matches test (slot_of s found.0) found.1))
+
+  -- some table is found exactly where some living entity has a match
+  pub held_is : (b : Bool) → IsTrue b ↔ FindsSome test s → b ≡ list_any (λ (x : Entity × Record). passes test x.1) (living w)
+  held_is b finds =
+      same_truth b (list_any (λ (x : Entity × Record). passes test x.1) (living w))
+      (λ h. some_held (finds.0 h))
       (λ h.
       let some = some_passes (passes test) w h in
       let there = has_found some.0 some.1 in
       finds.1 (there.0, there.5))
+
+  -- where a list of all that is found is not empty, some living entity passes
+  pub some_listed : (ns : List ℕ) → ((n : ℕ) → list_any (nat_eq n) ns ≡ is_found_by test (slot_of s n)) → 0 < length ns
+      → list_any (λ (x : Entity × Record). passes test x.1) (living w) ≡ true
+  some_listed [] listed h = absurd (omega (arith, h))
+  some_listed (n ∷ ns) listed h = some_held (n, sym (listed n) ∙ ap (λ b. b || list_any (nat_eq n) ns) ((Decides-eqb n n).1 refl))
 
   -- ---- all of them
 
@@ -185,15 +194,3 @@ module _ (w : Indexed Record) (s : List (Option TableState)) (test : List Id →
 
 pub whose_ascend : (w : Indexed Record) (test : List Id → Bool) → IsTrue (is_ascending entity_cmp (entities_whose w test))
 whose_ascend w test = passed_ascend (passes test) 0 w.indices
-
--- ---- tables whose types name an entity
-
-pub named_there : (e : Entity) (o : Option TableState) → type_names (option_map (λ (t : TableState). t.ids) o) e ≡ true →
-    names_any (unwrap_or o no_table).ids e ≡ true
-named_there e None h = absurd (true≢false (sym h))
-named_there e (Some t) h = h
-
-pub found_naming : (e : Entity) (o : Option TableState) → is_found_by (λ ids. names_any ids e) o ≡ true →
-    type_names (option_map (λ (t : TableState). t.ids) o) e ≡ true
-found_naming e None h = absurd (true≢false (sym h))
-found_naming e (Some t) h = second (nat_lt 0 (length t.rows)) (names_any t.ids e) h

@@ -1,5 +1,6 @@
 -- The last row of a table moved to the end of another.
-use Rattle.std.proofs.Common.{◌≡◌, ◌≢◌, ℕ, ◌-◌, ◌<◌, List, [], ◌∷◌, length, slice_get, get_or, Option, Some, None, option_map, option_and_then, unwrap_or, is_some, IsTrue, zero-le, refl, sym, ap, subst, ◌∙◌, arith}
+use Rattle.std.proofs.Common.{◌≡◌, ◌≢◌, ℕ, ◌-◌, ◌<◌, List, [], ◌∷◌, length, slice_get, get_or, Option, Some, None, option_map, option_and_then, unwrap_or}
+use Rattle.std.proofs.Common.{is_some, IsTrue, zero-le, refl, sym, ap, subst, ◌∙◌, arith}
 use Rattle.std.proofs.lemmas.Option.{slice_get-get_or, slice_get_past}
 use Rattle.std.proofs.lemmas.List.{get_or-map, length-map}
 use Rattle.eco_ids.specs.World.{Record}
@@ -12,11 +13,13 @@ use Rattle.eco_tables.specs.Table.{TableState, Row, entities_of}
 use Rattle.eco_tables.specs.Tables.{table_in, row_in, no_row, no_table, Moves, AllHaveIds}
 use Rattle.eco_store.specs.declared.type_change.TypeChange.{TypeChange}
 use Rattle.eco_store.specs.Archetypes.{type_at}
+use Rattle.eco_store.specs.Layout.{rows_in, MovesRow}
 use Rattle.eco_store.specs.Retyping.{after_change}
 use Rattle.eco_store.specs.Seats.{row_at, seat_of}
 use Rattle.eco_store.specs.Store.{record_ids, record_for, read, seat_at, HasPlace, IsStore}
 use Rattle.eco_store.specs.Transfers.{change_of}
 use Rattle.eco_store.proofs.ArchetypeLemmas.{there_by_row, there_by_room, type_there}
+use Rattle.eco_store.proofs.LaidRows.{row_moves}
 use Rattle.eco_store.proofs.Moves.{moved_none}
 use Rattle.eco_store.proofs.Retyping.{one_before, none_changes}
 use Rattle.eco_store.proofs.SeatChanges.{no_some, one_some}
@@ -97,13 +100,14 @@ module _ (w : Indexed Registration) (s s1 : List (Option TableState)) (from to r
   last_alive = ap is_some (placed_record w e place own).1
 
   module _ (moves : Moves s s1 from row to) where
-    nobody_moved : None ≡ slice_get (entities_of (table_in s1 from).rows) row
-    nobody_moved =
-        sym (moved_none (seat_at w) s s1 e.index (seat_of e from row) (slice_get (entities_of (table_in s1 from).rows) row) store.seated seat
-        (ap (λ o. unwrap_or o no_table) moves.source) refl (sym at_last))
+    moves_row : MovesRow (rows_in s) (rows_in s1) place (record { table = to; row = end }) (table_in s to).ids None
+    moves_row =
+        row_moves s s1 place (record { table = to; row = end }) to (table_in s to).ids None apart refl (λ t. record { table = to; row = end_is t }) moves
+        (sym (moved_none (seat_at w) s s1 e.index (seat_of e from row) _ store.seated seat (ap (λ o. (unwrap_or o no_table).rows) moves.source) refl
+        (sym at_last)))
 
     pub last_store : IsStore (changed w e (placed (record { table = to; row = end }))) s1
-    last_store = to_store w s s s1 s1 e place to end (table_in s to).ids None store own (λ n k. refl) apart refl moves nobody_moved end_is (λ n k. refl)
+    last_store = to_store w s s1 e place (record { table = to; row = end }) (table_in s to).ids None store own moves_row
 
     pub last_ends : AllHaveIds s → ((m k : ℕ) (ids : List Id) → type_at s m ≡ Some ids → type_at s k ≡ Some ids → m ≡ k)
         → after_change (read (changed w e (placed (record { table = to; row = end }))) s1) (change_of s (record { from = from; to = to }))
@@ -114,7 +118,7 @@ module _ (w : Indexed Registration) (s s1 : List (Option TableState)) (from to r
         let at : record_of (read w s) e ≡ Some (record_for (row_at s) own_record.0) = read_record w s e own_record.0 own_record.1 in
         let ids = own_ids w s e place (record_for (row_at s) own_record.0) store have own at in
         ap (λ v. after_change v c)
-        (to_read w s s s1 s1 e place to end (table_in s to).ids None store own (λ n k. refl) apart refl moves nobody_moved end_is (λ n k. refl))
+        (to_read w s s1 e place (record { table = to; row = end }) (table_in s to).ids None store own moves_row)
         ∙ one_before (read w s) e (record_for (row_at s) own_record.0) c at ids.1
         (λ same. apart (kinds from to (table_in s from).ids (type_there s from (there_by_row s from row row_there))
         (type_there s to (there_by_room s to room) ∙ ap Some same)))

@@ -1,5 +1,7 @@
 -- A new entity: what is known of the indices, and what a store shows of them.
-use Rattle.std.proofs.Common.{◌≡◌, ◌≢◌, ℕ, zero, suc, ◌<◌, ◌≤◌, ◌+◌, Bool, true, false, not, ◌&&◌, nat_lt, List, [], ◌∷◌, ◌++◌, map, length, slice_get, Option, Some, None, option_map, is_some, IsTrue, if◌then◌else◌, find, Result, Ok, Err, MatchBool, MatchOption, refl, sym, ap, subst, ◌∙◌, arith}
+use Rattle.std.proofs.Common.{◌≡◌, ◌≢◌, ℕ, zero, suc, ◌<◌, ◌≤◌, ◌+◌, Bool, true, false, not, ◌&&◌, nat_lt, List, [], ◌∷◌, ◌++◌, map, length, slice_get, Option}
+use Rattle.std.proofs.Common.{Some, None, option_map, is_some, IsTrue, if◌then◌else◌, find, Result, Ok, Err, MatchBool, MatchOption, refl, sym, ap, subst, ◌∙◌}
+use Rattle.std.proofs.Common.{arith}
 use Rattle.std.specs.Option.{option_or}
 use Rattle.std.proofs.lemmas.List.{length-map}
 use Rattle.std.proofs.lemmas.Bool.Decides.{nat_tests}
@@ -8,7 +10,7 @@ use Rattle.eco_ids.specs.declared.refusal.Refusal.{Refusal}
 use Rattle.eco_ids.specs.Births.{unfit_name, Makes, may_make}
 use Rattle.eco_ids.specs.Indices.{Indexed, IndexState, Retired, Free, Living, with_record, with_new, next_entity, lowest_free, living_from, map_state}
 use Rattle.eco_ids.specs.declared.refusal.Refusal.TheVariants.{BadName, NameTaken, NoMoreIds}
-use Rattle.eco_ids.specs.Names.{is_called, bearer, is_borne, is_proper}
+use Rattle.eco_ids.specs.Names.{is_called, named_entity, is_borne, is_proper}
 use Rattle.eco_ids.specs.Outcome.{first_refusal, Meets, is_out_of_memory, Refuses, Answers}
 use Rattle.eco_store.specs.Placing.{Opposes}
 use Rattle.eco_ids.proofs.Lists.{slice_get-push_last, slice_get-push_other, slice_get-set_there, slice_get-set_other}
@@ -131,13 +133,13 @@ module _ {A B : Type 0} (f : A → B) (name_a : A → Option (List ℕ)) (name_b
       by true rest = refl
       by false rest = rest
 
-  pub bearer-map : (w : Indexed A) (name : List ℕ) → bearer name_b (mapped w) name ≡ bearer name_a w name
-  bearer-map w name = ap (λ ys. option_map (λ p. p.0) (find (λ p. is_called name (name_b p.1)) ys)) (living-map 0 w.indices)
+  pub named_entity-map : (w : Indexed A) (name : List ℕ) → named_entity name_b (mapped w) name ≡ named_entity name_a w name
+  named_entity-map w name = ap (λ ys. option_map (λ p. p.0) (find (λ p. is_called name (name_b p.1)) ys)) (living-map 0 w.indices)
       ∙ find-map name (living_from 0 w.indices)
 
   pub is_borne-map : (w : Indexed A) (name : Option (List ℕ)) → is_borne name_b (mapped w) name ≡ is_borne name_a w name
   is_borne-map w None = refl
-  is_borne-map w (Some name) = ap is_some (bearer-map w name)
+  is_borne-map w (Some name) = ap is_some (named_entity-map w name)
 
   pub unfit_name-map : (w : Indexed A) (name : Option (List ℕ)) → unfit_name name_b (mapped w) name ≡ unfit_name name_a w name
   unfit_name-map w name = ap (λ b. first_refusal ((not (is_proper name), BadName) ∷ (b, NameTaken) ∷ [])) (is_borne-map w name)

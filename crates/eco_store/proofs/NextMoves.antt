@@ -1,27 +1,23 @@
 -- The first of the prepared moves is made.
-use Rattle.std.proofs.Common.{◌≡◌, ℕ, ◌+◌, ◌-◌, ◌≤◌, ◌<◌, ◌==◌, IsTrue, if◌then◌else◌, List, [], ◌∷◌, map, get_or, Option, Some, None, unwrap_or, IsSome, nat_eq, refl, sym, ap, subst, ◌∙◌, arith, inl, inr}
+use Rattle.std.proofs.Common.{◌≡◌, ℕ, ◌+◌, ◌-◌, ◌≤◌, ◌<◌, ◌==◌, IsTrue, if◌then◌else◌, List, [], ◌∷◌, map, get_or, Option, unwrap_or, IsSome, nat_eq, refl, sym}
+use Rattle.std.proofs.Common.{ap, subst, ◌∙◌, arith, inl, inr}
 use Rattle.std.specs.List.{list_any}
 use Rattle.std.proofs.lemmas.Bool.{cases_eq}
 use Rattle.std.proofs.lemmas.List.Elements.{All-head, All-tail}
 use Rattle.eco_ids.proofs.Ascending.{second}
 use Rattle.eco_ids.specs.declared.entity.Entity.{Entity}
 use Rattle.eco_ids.specs.declared.id.Id.{Id}
-use Rattle.eco_ids.specs.Order.{entity_eq, id_cmp, is_ascending}
-use Rattle.eco_ids.specs.Indices.{Indexed, changed}
+use Rattle.eco_ids.specs.Order.{entity_eq}
 use Rattle.eco_tables.specs.Table.{TableState}
-use Rattle.eco_tables.specs.Tables.{slot_of, table_in, no_table, Moves, AllHaveIds}
-use Rattle.eco_entities.specs.declared.place.Place.{Place}
-use Rattle.eco_entities.specs.Registration.{Registration, own_place}
+use Rattle.eco_tables.specs.Tables.{slot_of, table_in, no_table, Moves}
 use Rattle.eco_store.specs.Archetypes.{type_at}
 use Rattle.eco_store.specs.Preparing.{PreparedState, move_to, moves_of, is_next, moves_left, arriving, IsReady}
-use Rattle.eco_store.specs.Store.{IsStore, read, with_type}
 use Rattle.eco_store.specs.TypeMap.{same_ids}
-use Rattle.eco_store.proofs.ArchetypeLemmas.{there_by_row, moves_types}
+use Rattle.eco_store.proofs.ArchetypeLemmas.{moves_types}
 use Rattle.eco_ids.proofs.SameIds.{same_ids-Decides}
 use Rattle.eco_store.proofs.Pouring.{still_there}
 use Rattle.eco_store.proofs.Readiness.{moves_alike}
 use Rattle.eco_store.proofs.RowChanges.{is_equal}
-use Rattle.eco_store.proofs.StoreChanges.{row_within, same_type}
 
 module _ (s : List (Option TableState)) (p p' : PreparedState) (a : Entity × ℕ) (e : Entity) (ids : List Id) (first_is : p.arrivals ≡ a ∷ p'.arrivals)
     (next : IsTrue (is_next (moves_of s p) e ids)) where
@@ -95,17 +91,3 @@ module _ (s : List (Option TableState)) (p p' : PreparedState) (a : Entity × �
         ]
       ];
     }
-
--- a move to the table in which the entity stands changes nothing
-pub stays_there : (w : Indexed Registration) (s : List (Option TableState)) (e : Entity) (p : Place) (ids : List Id) → IsStore w s → own_place w e ≡ Some p →
-    AllHaveIds s
-    → IsTrue (is_ascending id_cmp ids) → (table_in s p.table).ids ≡ ids
-    → read w s ≡ changed (read w s) e (with_type ids)
-stays_there w s e p ids store own have up is =
-    let there = row_within w s e p store own in
-    same_type w s e p (table_in s p.table) ids store own (slot_is (slot_of s p.table) (there_by_row s p.table p.row there)) (have p.table)
-    (subst (λ xs. IsTrue (is_ascending id_cmp xs)) (sym is) up) is
-  where
-    slot_is : (o : Option TableState) → IsSome o → o ≡ Some (unwrap_or o no_table)
-    slot_is None h = absurd (cc)
-    slot_is (Some t) h = refl

@@ -1,5 +1,7 @@
 -- Moves to come keep their tables and their room.
-use Rattle.std.proofs.Common.{◌≡◌, ◌≢◌, ◌⊎◌, ℕ, ◌+◌, ◌≤◌, ◌<◌, ◌==◌, Bool, true, false, true≢false, not, ◌||◌, IsTrue, if◌then◌else◌, List, [], ◌∷◌, ◌++◌, map, length, get_or, drop, Option, Some, None, option_map, unwrap_or, IsSome, OnSome, IfNone, nat_eq, refl, sym, ap, subst, ◌∙◌, arith, inl, inr}
+use Rattle.std.proofs.Common.{◌≡◌, ◌≢◌, ◌⊎◌, ℕ, ◌+◌, ◌≤◌, ◌<◌, ◌==◌, Bool, true, false, true≢false, not, ◌||◌, IsTrue, if◌then◌else◌, List, [], ◌∷◌, ◌++◌, map}
+use Rattle.std.proofs.Common.{length, get_or, drop, Option, Some, None, option_map, unwrap_or, IsSome, OnSome, IfNone, nat_eq, refl, sym, ap, subst, ◌∙◌, arith}
+use Rattle.std.proofs.Common.{inl, inr}
 use Rattle.std.specs.List.{All, list_any}
 use Rattle.std.proofs.lemmas.Bool.{cases_eq}
 use Rattle.std.proofs.lemmas.List.Kept.{AllPairs-cons}
@@ -12,7 +14,8 @@ use Rattle.eco_tables.specs.Tables.{slot_of, table_in, no_table, Sets, without_r
 use Rattle.eco_ids.proofs.Lists.{not_equal}
 use Rattle.eco_store.specs.declared.moving.Move.{Move}
 use Rattle.eco_store.specs.Archetypes.{type_at, KeepsTypes, KeepsRoom, SameSlots}
-use Rattle.eco_store.specs.Preparing.{PreparedState, nothing_prepared, with_arrival, with_target, move_to, moves_of, has_move, AreOfDifferent, arriving, IsReady}
+use Rattle.eco_store.specs.Preparing.{PreparedState, nothing_prepared, with_arrival, with_target, move_to, moves_of, has_move, AreOfDifferent, arriving}
+use Rattle.eco_store.specs.Preparing.{IsReady}
 use Rattle.eco_store.specs.Transfers.{SameTypes}
 use Rattle.eco_store.proofs.ArchetypeLemmas.{sets_types}
 use Rattle.eco_store.proofs.Pouring.{same_ids_in, still_there, kept_type}

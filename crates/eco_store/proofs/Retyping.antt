@@ -1,5 +1,6 @@
 -- All entities of a type get another: one of them first, and then the others.
-use Rattle.std.proofs.Common.{◌≡◌, ◌≢◌, ℕ, zero, suc, ◌<◌, Bool, true, false, true≢false, not, if◌then◌else◌, List, [], ◌∷◌, map, length, slice_get, set, get_or, Option, Some, None, option_map, refl, sym, ap, ◌∙◌, arith}
+use Rattle.std.proofs.Common.{◌≡◌, ◌≢◌, ℕ, zero, suc, ◌<◌, Bool, true, false, true≢false, not, if◌then◌else◌, List, [], ◌∷◌, map, length, slice_get, set}
+use Rattle.std.proofs.Common.{get_or, Option, Some, None, option_map, refl, sym, ap, ◌∙◌, arith}
 use Rattle.std.specs.List.{list_all}
 use Rattle.eco_ids.specs.World.{Record}
 use Rattle.eco_ids.proofs.Ascending.{first, second}

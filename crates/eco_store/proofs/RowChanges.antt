@@ -1,11 +1,16 @@
 -- A moved row is a row taken out of one table and put at the end of another.
-use Rattle.std.proofs.Common.{◌≡◌, ◌≢◌, ℕ, ◌-◌, ◌<◌, ◌==◌, Bool, true, false, cond, List, length, slice_get, Option, Some, None, unwrap_or, refl, sym, ap, ◌∙◌, arith, inl, inr}
+use Rattle.std.proofs.Common.{◌≡◌, ◌≢◌, ℕ, ◌-◌, ◌<◌, ◌==◌, Bool, true, false, cond, List, [], ◌∷◌, ◌++◌, length, slice_get, Option, Some, None, refl, sym, ap}
+use Rattle.std.proofs.Common.{◌∙◌, arith, inl, inr}
 use Rattle.std.specs.List.{swap_remove}
 use Rattle.std.proofs.lemmas.Bool.{cases_eq, cases_lt}
 use Rattle.std.proofs.lemmas.Bool.Decides.{Decides-eqb}
 use Rattle.std.proofs.lemmas.Option.{slice_get_past, slice_get-get_or}
 use Rattle.eco_tables.specs.Table.{TableState, Row, retyped_row}
-use Rattle.eco_tables.specs.Tables.{table_in, row_in, no_row, no_table, Moves, with_row, without_row}
+use Rattle.eco_tables.specs.Tables.{row_in, no_row}
+use Rattle.eco_ids.specs.declared.entity.Entity.{Entity}
+use Rattle.eco_ids.specs.declared.id.Id.{Id}
+use Rattle.eco_entities.specs.declared.place.Place.{Place}
+use Rattle.eco_store.specs.Layout.{rows_in, MovesRow}
 use Rattle.eco_ids.proofs.Lists.{slice_get-push_last, slice_get-push_other, get_or-swap_remove, length-swap_remove, before, not_equal}
 use Rattle.eco_store.specs.Seats.{row_at}
 use Rattle.eco_store.proofs.SeatChanges.{Removed, Pushed}
@@ -39,42 +44,50 @@ module _ (xs : List Row) (row : ℕ) (there : row < length xs) where
             slice_get_past (swap_remove xs row no_row) k (rw (length-swap_remove xs row no_row) above) ∙ sym (slice_get_past xs k (omega arith))
       ]
 
-module _ (s s' : List (Option TableState)) (f row to : ℕ) (apart : f ≢ to) (there : row < length (table_in s f).rows) (moves : Moves s s' f row to) where
+-- a row went from a table, and nothing else did
+pub rows_removed : (s : List (Option TableState)) (E : ℕ → ℕ → Option Row) (f row : ℕ) → row < length (rows_in s f)
+    → ((k : ℕ) → E f k ≡ slice_get (swap_remove (rows_in s f) row no_row) k) → ((n k : ℕ) → n ≢ f → E n k ≡ row_at s n k)
+    → Removed (row_at s) E f row (length (rows_in s f) - 1)
+rows_removed s E f row there here elsewhere = record {
+  at_row = λ d. here row ∙ swap_at_row (rows_in s f) row there d;
+  at_last = here (length (rows_in s f) - 1) ∙ swap_at_last (rows_in s f) row there;
+  others_here = λ k a b. here k ∙ swap_others (rows_in s f) row there k a b;
+  others = elsewhere;
+}
+
+-- a row came to the end of a table, and nothing else did
+pub rows_pushed : (E E' : ℕ → ℕ → Option Row) (t end : ℕ) (xs : List Row) (r : Row) → end ≡ length xs → ((k : ℕ) → E t k ≡ slice_get xs k)
+    → ((k : ℕ) → E' t k ≡ slice_get (xs ++ r ∷ []) k) → ((n k : ℕ) → n ≢ t → E' n k ≡ E n k) → Pushed E E' t end r
+rows_pushed E E' t end xs r end_is before after elsewhere = rw end_is (record {
+  free = before (length xs) ∙ slice_get_past xs (length xs) (omega arith);
+  at_end = after (length xs) ∙ slice_get-push_last xs r;
+  others_here = λ k o. after k ∙ slice_get-push_other xs r k o ∙ sym (before k);
+  others = elsewhere;
+})
+
+module _ (s s' : List (Option TableState)) (from to : Place) (ids : List Id) (moved : Option Entity) (there : from.row < length (rows_in s from.table))
+    (moves : MovesRow (rows_in s) (rows_in s') from to ids moved) where
+  abbrev left : List Row
+  left = swap_remove (rows_in s from.table) from.row no_row
+
   -- the rows when one was taken out
   abbrev pub between_rows : ℕ → ℕ → Option Row
-  between_rows n k = cond (n == f) (slice_get (without_row (table_in s f) row).rows k) (row_at s n k)
+  between_rows n k = cond (n == from.table) (slice_get left k) (row_at s n k)
 
-  between_here : (k : ℕ) → between_rows f k ≡ slice_get (without_row (table_in s f) row).rows k
-  between_here k = ap (λ b. cond b (slice_get (without_row (table_in s f) row).rows k) (row_at s f k)) (is_equal f f refl)
+  between_here : (k : ℕ) → between_rows from.table k ≡ slice_get left k
+  between_here k = ap (λ b. cond b (slice_get left k) (row_at s from.table k)) (is_equal from.table from.table refl)
 
-  between_there : (n k : ℕ) → n ≢ f → between_rows n k ≡ row_at s n k
-  between_there n k other = ap (λ b. cond b (slice_get (without_row (table_in s f) row).rows k) (row_at s n k)) (not_equal n f other)
+  between_there : (n k : ℕ) → n ≢ from.table → between_rows n k ≡ row_at s n k
+  between_there n k other = ap (λ b. cond b (slice_get left k) (row_at s n k)) (not_equal n from.table other)
 
-  pub moves_removes : Removed (row_at s) between_rows f row (length (table_in s f).rows - 1)
-  moves_removes = record {
-    at_row = λ d. between_here row ∙ swap_at_row (table_in s f).rows row there d;
-    at_last = between_here (length (table_in s f).rows - 1) ∙ swap_at_last (table_in s f).rows row there;
-    others_here = λ k a b. between_here k ∙ swap_others (table_in s f).rows row there k a b;
-    others = λ n k o. between_there n k o;
-  }
+  pub moves_removes : Removed (row_at s) between_rows from.table from.row (length (rows_in s from.table) - 1)
+  moves_removes = rows_removed s between_rows from.table from.row there between_here between_there
 
-  pub moves_pushes : Pushed between_rows (row_at s') to (length (table_in s to).rows) (retyped_row (table_in s to).ids (row_in s f row))
+  pub moves_pushes : Pushed between_rows (row_at s') to.table to.row (retyped_row ids (row_in s from.table from.row))
   moves_pushes =
-      let back : to ≢ f = λ e. apart (sym e) in
-      let target : table_in s' to ≡ with_row (table_in s to) (row_in s f row) = ap (λ o. unwrap_or o no_table) moves.target in
-      let source : table_in s' f ≡ without_row (table_in s f) row = ap (λ o. unwrap_or o no_table) moves.source in
-      record {
-        free = between_there to (length (table_in s to).rows) back ∙ slice_get_past (table_in s to).rows (length (table_in s to).rows) (omega arith);
-        at_end = ap (λ (t : TableState). slice_get t.rows (length (table_in s to).rows)) target
-            ∙ slice_get-push_last (table_in s to).rows (retyped_row (table_in s to).ids (row_in s f row));
-        others_here = λ k o.
-            ap (λ (t : TableState). slice_get t.rows k) target
-            ∙ slice_get-push_other (table_in s to).rows (retyped_row (table_in s to).ids (row_in s f row)) k o
-            ∙ sym (between_there to k back);
-        others = λ n k o.
-            elim (cases_eq n f) [
-              | inl same ↦ ap (λ z. row_at s' z k) same ∙ ap (λ (t : TableState). slice_get t.rows k) source
-                  ∙ sym (ap (λ z. between_rows z k) same ∙ between_here k)
-              | inr other ↦ ap (λ o. slice_get (unwrap_or o no_table).rows k) (moves.others n other o) ∙ sym (between_there n k other)
-            ];
-      }
+      rows_pushed between_rows (row_at s') to.table to.row (rows_in s to.table) (retyped_row ids (row_in s from.table from.row)) moves.end
+      (λ k. between_there to.table k (λ e. moves.apart (sym e))) (λ k. ap (λ xs. slice_get xs k) moves.target)
+      (λ n k o. elim (cases_eq n from.table) [
+        | inl same ↦ ap (λ z. row_at s' z k) same ∙ ap (λ xs. slice_get xs k) moves.source ∙ sym (ap (λ z. between_rows z k) same ∙ between_here k)
+        | inr other ↦ ap (λ xs. slice_get xs k) (moves.others n other o) ∙ sym (between_there n k other)
+      ])

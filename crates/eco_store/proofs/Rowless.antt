@@ -1,5 +1,6 @@
 -- Which tables are without rows, after rows came and went.
-use Rattle.std.proofs.Common.{◌≡◌, ◌≢◌, ℕ, Bool, true, false, ◌||◌, IsTrue, if◌then◌else◌, List, [], ◌∷◌, ◌++◌, length, Option, Some, None, unwrap_or, IsSome, is_some, nat_eq, refl, sym, ap, subst, ◌∙◌, arith, inl, inr}
+use Rattle.std.proofs.Common.{◌≡◌, ◌≢◌, ℕ, Bool, true, false, ◌||◌, IsTrue, if◌then◌else◌, List, [], ◌∷◌, ◌++◌, length, Option, Some, None, unwrap_or, IsSome}
+use Rattle.std.proofs.Common.{is_some, nat_eq, refl, sym, ap, subst, ◌∙◌, arith, inl, inr}
 use Rattle.std.specs.List.{list_any}
 use Rattle.std.proofs.lemmas.Bool.{cases_eq}
 use Rattle.std.proofs.lemmas.Bool.Decides.{Decides-eqb}
@@ -9,15 +10,11 @@ use Rattle.eco_tables.specs.Tables.{slot_of, table_in, no_table, rowless, rowles
 use Rattle.eco_ids.proofs.Lists.{not_equal}
 use Rattle.eco_store.specs.Archetypes.{is_rowless, RowlessIn}
 use Rattle.eco_store.specs.Seats.{SameRows}
-use Rattle.eco_store.specs.Transfers.{SameTypes}
-use Rattle.eco_store.specs.Preparing.{PreparedState, nothing_prepared, with_target}
-use Rattle.eco_ids.specs.Indices.{Indexed}
+use Rattle.eco_store.specs.Transfers.{SameTypes, Pours}
+use Rattle.eco_store.specs.Preparing.{PreparedState, with_target}
 use Rattle.eco_ids.proofs.Facts.{or_right}
 use Rattle.eco_store.proofs.ArchetypeLemmas.{type_there}
-use Rattle.eco_entities.specs.Registration.{Registration}
-use Rattle.eco_store.specs.Sound.{IsSound}
-use Rattle.eco_store.specs.Store.{IsStore}
-use Rattle.eco_store.proofs.Readiness.{is_targeted, ready_nothing}
+use Rattle.eco_store.proofs.Readiness.{is_targeted}
 use Rattle.std.proofs.lemmas.List.Folds.{list_any-append}
 use Rattle.eco_store.proofs.Pouring.{rows_same, there_as_typed}
 
@@ -136,16 +133,18 @@ rowless_targeted s p n =
     stays m true h = h
     stays m false h = list_any-append (nat_eq m) p.targets (n ∷ []) ∙ ap (λ b. b || list_any (nat_eq m) (n ∷ [])) h
 
--- a store is sound where nothing is prepared and no table is without rows
-pub sound_unprepared : (w : Indexed Registration) (s : List (Option TableState)) (p : PreparedState) → IsStore w s → p ≡ nothing_prepared → RowlessIn s [] →
-    IsSound w s p
-sound_unprepared w s p places nothing none = record {
-  places = places;
-  moves = ready_nothing s p nothing;
-  tidy = subst (λ (q : PreparedState). RowlessIn s q.targets) (sym nothing) none;
-  done = λ none_left. ap (λ (q : PreparedState). q.targets) nothing;
-}
-
 -- one more slot may be without rows
 pub rowless_beside : (s : List (Option TableState)) (n : ℕ) (slots : List ℕ) → RowlessIn s slots → RowlessIn s (n ∷ slots)
 rowless_beside s n slots = rowless_more s slots (n ∷ slots) (λ m there. or_right (nat_eq m n) (list_any (nat_eq m) slots) there)
+
+-- where all rows of a slot went to another, no table but those two is newly without rows
+pub rowless_poured : (s s' : List (Option TableState)) (from to : ℕ) → Pours s s' from to → (slots : List ℕ) → IsTrue (list_any (nat_eq from) slots)
+    → IsTrue (list_any (nat_eq to) slots) → RowlessIn s slots → RowlessIn s' slots
+rowless_poured s s' from to pours slots has_from has_to was n without =
+    elim (cases_eq n from) [
+      | inl here ↦ ap (λ m. list_any (nat_eq m) slots) here ∙ has_from
+      | inr not_from ↦ elim (cases_eq n to) [
+        | inl here ↦ ap (λ m. list_any (nat_eq m) slots) here ∙ has_to
+        | inr not_to ↦ was n (sym (ap (λ o. is_some (rowless_type o)) (pours.others n not_from not_to)) ∙ without)
+      ]
+    ]

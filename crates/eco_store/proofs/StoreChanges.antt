@@ -1,18 +1,21 @@
 -- The store after an entity's row went, and the entity that took its place was placed anew.
-use Rattle.std.proofs.Common.{◌≡◌, ◌≢◌, ℕ, ◌<◌, ◌-◌, Bool, true, false, true≢false, cond, Bor, Ordering, Less, Equal, Greater, is_eq, is_lt, List, [], ◌∷◌, map, length, slice_get, set, get_or, ◌+◌, nat_lt, if◌then◌else◌, Option, Some, None, option_map, option_and_then, unwrap_or, is_some, IsSome, IfSome, IsTrue, refl, sym, ap, subst, ◌∙◌, inl, inr}
+use Rattle.std.proofs.Common.{◌≡◌, ◌≢◌, ℕ, ◌<◌, ◌-◌, Bool, true, false, true≢false, cond, Bor, Ordering, Less, Equal, Greater, is_eq, is_lt, List, [], ◌∷◌, map}
+use Rattle.std.proofs.Common.{length, slice_get, set, ◌+◌, nat_lt, if◌then◌else◌, Option, Some, None, option_map, option_and_then, unwrap_or, is_some, IsSome}
+use Rattle.std.proofs.Common.{IfSome, IsTrue, refl, sym, ap, subst, ◌∙◌, inl, inr}
 use Rattle.std.proofs.lemmas.Bool.{cases_eq}
 use Rattle.eco_ids.specs.declared.entity.Entity.{Entity}
 use Rattle.eco_ids.specs.declared.id.Id.{Id}
 use Rattle.eco_ids.specs.declared.value.Value.{Value}
-use Rattle.eco_ids.specs.Indices.{changed, change_kept, with_record, Indexed, IndexState, Retired, Free, Living, record_of, with_death, raised, is_alive, map_state}
+use Rattle.eco_ids.specs.Indices.{changed, change_kept, with_record, Indexed, IndexState, Retired, Free, Living, record_of, with_death, raised, is_alive}
+use Rattle.eco_ids.specs.Indices.{map_state}
 use Rattle.eco_tables.specs.Column.{retyped}
-use Rattle.eco_tables.specs.Table.{TableState, Row, entities_of}
-use Rattle.eco_tables.specs.Tables.{slot_of, table_in, Sets, Moves, without_row, no_table}
-use Rattle.std.specs.List.{All, list_all}
+use Rattle.eco_tables.specs.Table.{TableState, Row}
+use Rattle.eco_tables.specs.Tables.{slot_of, table_in, row_in, no_row, no_table}
+use Rattle.std.specs.List.{list_all}
 use Rattle.std.specs.Option.{option_copied}
 use Rattle.std.specs.Ordering.{ordering_reverse}
 use Rattle.std.specs.FinMap.Entries.{find}
-use Rattle.std.proofs.lemmas.Option.{slice_get_within, slice_get-get_or}
+use Rattle.std.proofs.lemmas.Option.{slice_get-get_or}
 use Rattle.eco_ids.specs.Order.{id_cmp, id_eq, is_ascending}
 use Rattle.eco_ids.specs.World.{Record, zeros}
 use Rattle.eco_ids.proofs.Ascending.{first, second, less}
@@ -24,9 +27,10 @@ use Rattle.eco_store.specs.TypeMap.{same_ids}
 use Rattle.eco_ids.proofs.SameIds.{same_ids-Decides}
 use Rattle.eco_entities.specs.declared.place.Place.{Place}
 use Rattle.eco_entities.specs.Registration.{Registration, placed, own_place}
+use Rattle.eco_store.specs.Layout.{rows_in, TakesRow, MovesRow}
 use Rattle.eco_store.specs.Placing.{fixed}
 use Rattle.eco_store.specs.Seats.{IsSeated, seat_of, row_at, seen, held_of, SameRows}
-use Rattle.eco_store.specs.Store.{record_for, held_at, read, seat_in, seat_at, seat_of_place, HasPlace, IsStore, with_type}
+use Rattle.eco_store.specs.Store.{record_for, held_at, read, seat_in, seat_at, seat_of_place, HasPlace, IsStore, with_type, record_ids, type_of}
 use Rattle.eco_store.proofs.SeatChanges.{one_some}
 use Rattle.std.proofs.lemmas.Option.{slice_get-map}
 use Rattle.eco_store.proofs.Moves.{row_there, mover, take_seated, take_others, move_seated, move_others, move_new_held}
@@ -180,19 +184,18 @@ module _ (w : Indexed Registration) (e : Entity) (p : Place) (moved : Option Ent
       λ t. record { limit = fixed_limit w moved p t; indices = indices t }
 
 -- ---- an entity taken out
-module _ (w : Indexed Registration) (s s1 s2 : List (Option TableState)) (e : Entity) (p : Place) (moved : Option Entity)
-    (store : IsStore w s) (own : own_place w e ≡ Some p) (sets : Sets s s1 p.table (Some (without_row (table_in s p.table) p.row)))
-    (moved_is : moved ≡ slice_get (entities_of (table_in s1 p.table).rows) p.row) (dropped : SameRows s1 s2) where
+module _ (w : Indexed Registration) (s s1 : List (Option TableState)) (e : Entity) (p : Place) (moved : Option Entity)
+    (store : IsStore w s) (own : own_place w e ≡ Some p) (takes : TakesRow (rows_in s) (rows_in s1) p moved) where
   out_record : (r : Registration) × (record_of w e ≡ Some r) × (r.place ≡ Some p)
   out_record = placed_record w e p own
 
   out_was : slice_get w.indices e.index ≡ Some (Living e.generation out_record.0)
   out_was = living_at w e out_record.0 out_record.1
 
-  out_movers : (m : Entity) → moved ≡ Some m → (seat_at w m.index ≡ Some (seat_of m p.table (length (table_in s p.table).rows - 1))) × (m.index ≢ e.index)
+  out_movers : (m : Entity) → moved ≡ Some m → (seat_at w m.index ≡ Some (seat_of m p.table (length (rows_in s p.table) - 1))) × (m.index ≢ e.index)
   out_movers m is =
       mover (seat_at w) s s1 e.index (seat_of e p.table p.row) moved store.seated (seat_there w e p own)
-      (ap (λ o. unwrap_or o no_table) sets.changed) moved_is m is
+      takes.rows.changed takes.filled m is
 
   pub out_movers_live : IfSome moved (λ m. IsTrue (is_alive w m))
   out_movers_live = by moved refl
@@ -237,25 +240,23 @@ module _ (w : Indexed Registration) (s s1 s2 : List (Option TableState)) (e : En
 
   out_seated : IsSeated (seat_at out_after) (row_at s1)
   out_seated =
-      take_seated (seat_at w) (seat_at out_after) s s1 e.index (seat_of e p.table p.row) moved store.seated (seat_there w e p own) sets moved_is out_gone
+      take_seated (seat_at w) (seat_at out_after) s s1 e.index (seat_of e p.table p.row) moved store.seated (seat_there w e p own) takes out_gone
       (after_m w e p moved out_record.0 _ (raised e.generation) out_was out_movers)
       (after_others w e p moved out_record.0 _ (raised e.generation) out_was out_movers)
 
-  pub out_store : IsStore out_after s2
+  pub out_store : IsStore out_after s1
   out_store = record {
-    seated = subst (IsSeated (seat_at out_after)) (sym (rows_as s1 s2 dropped)) out_seated;
+    seated = out_seated;
     placed = after_placed w e p moved out_record.0 _ (raised e.generation) out_was out_movers store.placed (raised_place e.generation);
   }
 
-  pub out_read : read out_after s2 ≡ with_death (read w s) e
+  pub out_read : read out_after s1 ≡ with_death (read w s) e
   out_read =
-      after_read w e p moved out_record.0 _ (raised e.generation) out_was out_movers s s2 (raised e.generation)
-      (λ j other.
-      ap (λ E. option_map (seen E) (seat_at out_after j)) (rows_as s1 s2 dropped)
-      ∙ take_others (seat_at w) (seat_at out_after) s s1 e.index (seat_of e p.table p.row) moved store.seated (seat_there w e p own) sets moved_is out_gone
+      after_read w e p moved out_record.0 _ (raised e.generation) out_was out_movers s s1 (raised e.generation)
+      (take_others (seat_at w) (seat_at out_after) s s1 e.index (seat_of e p.table p.row) moved store.seated (seat_there w e p own) takes out_gone
       (after_m w e p moved out_record.0 _ (raised e.generation) out_was out_movers)
-      (after_others w e p moved out_record.0 _ (raised e.generation) out_was out_movers) j other)
-      (ap Some (raised_kept (row_at s2) e.generation))
+      (after_others w e p moved out_record.0 _ (raised e.generation) out_was out_movers))
+      (ap Some (raised_kept (row_at s1) e.generation))
 
 -- what a store shows of a living entity
 pub read_record : (w : Indexed Registration) (s : List (Option TableState)) (e : Entity) (r : Registration) → record_of w e ≡ Some r
@@ -279,23 +280,17 @@ pub row_within : (w : Indexed Registration) (s : List (Option TableState)) (e : 
 row_within w s e p store own = row_there (seat_at w) s e.index (seat_of e p.table p.row) store.seated (seat_there w e p own)
 
 -- ---- an entity moved to another table
-module _ (w : Indexed Registration) (s s0 s1 s2 : List (Option TableState)) (e : Entity) (p : Place) (to end : ℕ) (ids : List Id) (moved : Option Entity)
-    (store : IsStore w s) (own : own_place w e ≡ Some p) (alike : SameRows s s0) (apart : p.table ≢ to) (typed : (table_in s0 to).ids ≡ ids)
-    (moves : Moves s0 s1 p.table p.row to) (moved_is : moved ≡ slice_get (entities_of (table_in s1 p.table).rows) p.row)
-    (end_is : end ≡ length (table_in s0 to).rows) (dropped : SameRows s1 s2) where
+module _ (w : Indexed Registration) (s s1 : List (Option TableState)) (e : Entity) (p to : Place) (ids : List Id) (moved : Option Entity)
+    (store : IsStore w s) (own : own_place w e ≡ Some p) (moves : MovesRow (rows_in s) (rows_in s1) p to ids moved) where
   to_record : (r : Registration) × (record_of w e ≡ Some r) × (r.place ≡ Some p)
   to_record = placed_record w e p own
 
   to_was : slice_get w.indices e.index ≡ Some (Living e.generation to_record.0)
   to_was = living_at w e to_record.0 to_record.1
 
-  to_ready : IsStore w s0
-  to_ready = same_store w s s0 alike store
-
-  to_movers : (m : Entity) → moved ≡ Some m → (seat_at w m.index ≡ Some (seat_of m p.table (length (table_in s0 p.table).rows - 1))) × (m.index ≢ e.index)
+  to_movers : (m : Entity) → moved ≡ Some m → (seat_at w m.index ≡ Some (seat_of m p.table (length (rows_in s p.table) - 1))) × (m.index ≢ e.index)
   to_movers m is =
-      mover (seat_at w) s0 s1 e.index (seat_of e p.table p.row) moved to_ready.seated (seat_there w e p own)
-      (ap (λ o. unwrap_or o no_table) moves.source) moved_is m is
+      mover (seat_at w) s s1 e.index (seat_of e p.table p.row) moved store.seated (seat_there w e p own) moves.source moves.filled m is
 
   pub to_movers_live : IfSome moved (λ m. IsTrue (is_alive w m))
   to_movers_live = by moved refl
@@ -306,11 +301,8 @@ module _ (w : Indexed Registration) (s s0 s1 s2 : List (Option TableState)) (e :
           let found = living_from_seat (slice_get w.indices m.index) m p.table _ (to_movers m is).0 in
           ap is_some (record_at w m found.0 found.1)
 
-  abbrev new_place : Place
-  new_place = record { table = to; row = end }
-
   abbrev new_state : IndexState Registration
-  new_state = Living e.generation (placed new_place to_record.0)
+  new_state = Living e.generation (placed to to_record.0)
 
   to_fixed : record_of (fixed w moved p) e ≡ Some to_record.0
   to_fixed = record_at (fixed w moved p) e to_record.0 (fixed_e w e p moved to_record.0 _ new_state to_was to_movers)
@@ -321,49 +313,42 @@ module _ (w : Indexed Registration) (s s0 s1 s2 : List (Option TableState)) (e :
   abbrev to_after : Indexed Registration
   to_after = after w e p moved to_record.0 _ new_state to_was to_movers
 
-  to_is : changed (fixed w moved p) e (placed new_place) ≡ to_after
-  to_is = ap (change_kept (fixed w moved p) e (placed new_place)) to_fixed
+  to_is : changed (fixed w moved p) e (placed to) ≡ to_after
+  to_is = ap (change_kept (fixed w moved p) e (placed to)) to_fixed
 
-  to_now : seat_at to_after e.index ≡ Some (seat_of e to end)
+  to_now : seat_at to_after e.index ≡ Some (seat_of e to.table to.row)
   to_now = ap seat_in (after_e w e p moved to_record.0 _ new_state to_was to_movers)
 
   to_seated : IsSeated (seat_at to_after) (row_at s1)
   to_seated =
-      move_seated (seat_at w) (seat_at to_after) s0 s1 e.index to end (seat_of e p.table p.row) moved to_ready.seated
-      (seat_there w e p own) apart moves moved_is end_is to_now
+      move_seated (seat_at w) (seat_at to_after) s s1 e.index to ids (seat_of e p.table p.row) moved store.seated (seat_there w e p own) moves to_now
       (after_m w e p moved to_record.0 _ new_state to_was to_movers) (after_others w e p moved to_record.0 _ new_state to_was to_movers)
 
-  to_others : (j : ℕ) → j ≢ e.index → option_map (seen (row_at s2)) (seat_at to_after j) ≡ option_map (seen (row_at s)) (seat_at w j)
-  to_others j other =
-      ap (λ E. option_map (seen E) (seat_at to_after j)) (rows_as s1 s2 dropped)
-      ∙ move_others (seat_at w) (seat_at to_after) s0 s1 e.index to end (seat_of e p.table p.row) moved to_ready.seated
-      (seat_there w e p own) apart moves moved_is end_is to_now
-      (after_m w e p moved to_record.0 _ new_state to_was to_movers) (after_others w e p moved to_record.0 _ new_state to_was to_movers) j other
-      ∙ ap (λ E. option_map (seen E) (seat_at w j)) (rows_as s s0 alike)
+  to_others : (j : ℕ) → j ≢ e.index → option_map (seen (row_at s1)) (seat_at to_after j) ≡ option_map (seen (row_at s)) (seat_at w j)
+  to_others =
+      move_others (seat_at w) (seat_at to_after) s s1 e.index to ids (seat_of e p.table p.row) moved store.seated (seat_there w e p own) moves to_now
+      (after_m w e p moved to_record.0 _ new_state to_was to_movers) (after_others w e p moved to_record.0 _ new_state to_was to_movers)
 
-  to_held : held_of (row_at s2 to end) ≡ retyped ids (held_of (row_at s p.table p.row))
+  to_held : held_of (row_at s1 to.table to.row) ≡ retyped ids (held_of (row_at s p.table p.row))
   to_held =
-      ap held_of (dropped to end)
-      ∙ move_new_held (seat_at w) (seat_at to_after) s0 s1 e.index to end (seat_of e p.table p.row) moved to_ready.seated
-      (seat_there w e p own) apart moves moved_is end_is to_now
+      move_new_held (seat_at w) (seat_at to_after) s s1 e.index to ids (seat_of e p.table p.row) moved store.seated (seat_there w e p own) moves to_now
       (after_m w e p moved to_record.0 _ new_state to_was to_movers) (after_others w e p moved to_record.0 _ new_state to_was to_movers)
-      ∙ (λ t. retyped (typed t) (held_of (alike p.table p.row t)))
 
-  pub to_store : IsStore (changed (fixed w moved p) e (placed new_place)) s2
-  to_store = subst (λ v. IsStore v s2) (sym to_is) (record {
-    seated = subst (IsSeated (seat_at to_after)) (sym (rows_as s1 s2 dropped)) to_seated;
+  pub to_store : IsStore (changed (fixed w moved p) e (placed to)) s1
+  to_store = subst (λ v. IsStore v s1) (sym to_is) (record {
+    seated = to_seated;
     placed = after_placed w e p moved to_record.0 _ new_state to_was to_movers store.placed refl;
   })
 
   abbrev new_kept : IndexState Record
   new_kept = Living e.generation (record { name = to_record.0.name; arity = to_record.0.arity; held = retyped ids (held_of (row_at s p.table p.row)) })
 
-  pub to_read : read (changed (fixed w moved p) e (placed new_place)) s2 ≡ changed (read w s) e (with_type ids)
+  pub to_read : read (changed (fixed w moved p) e (placed to)) s1 ≡ changed (read w s) e (with_type ids)
   to_read =
       let old : record_of (read w s) e ≡ Some (record_for (row_at s) to_record.0) = read_record w s e to_record.0 to_record.1 in
       let held : held_at (row_at s) to_record.0.place ≡ held_of (row_at s p.table p.row) = ap (held_at (row_at s)) to_record.2 in
-      ap (λ v. read v s2) to_is
-      ∙ after_read w e p moved to_record.0 _ new_state to_was to_movers s s2 new_kept to_others
+      ap (λ v. read v s1) to_is
+      ∙ after_read w e p moved to_record.0 _ new_state to_was to_movers s s1 new_kept to_others
       (λ t. Some (Living e.generation (record { name = to_record.0.name; arity = to_record.0.arity; held = to_held t })))
       ∙ sym (ap (change_kept (read w s) e (with_type ids)) old
       ∙ (λ t. with_record (read w s) e (record { name = to_record.0.name; arity = to_record.0.arity; held = retyped ids (held t) })))
@@ -405,29 +390,33 @@ retyped-own (p ∷ rest) up =
     let tail = retyped-own rest (second _ _ up) in
     λ t. (p.0, here t) ∷ (there ∙ tail) t
 
-pub same_type : (w : Indexed Registration) (s : List (Option TableState)) (e : Entity) (p : Place) (table : TableState) (ids : List Id)
-    → IsStore w s → own_place w e ≡ Some p → slot_of s p.table ≡ Some table → All (HasIds table.ids) table.rows
-    → IsTrue (is_ascending id_cmp table.ids) → table.ids ≡ ids
-    → read w s ≡ changed (read w s) e (with_type ids)
-same_type w s e p table ids store own at typed up is =
+-- what an entity holds, its row does
+pub held_there : (w : Indexed Registration) (s : List (Option TableState)) (e : Entity) (p : Place) → IsStore w s → own_place w e ≡ Some p
+    → (r : Registration) × (record_of w e ≡ Some r) × (held_at (row_at s) r.place ≡ (row_in s p.table p.row).held)
+held_there w s e p store own =
     let r = placed_record w e p own in
-    let seat = store.seated.there e.index (seat_of e p.table p.row) (seat_there w e p own) in
-    let in_table : slice_get table.rows p.row ≡ Some seat.0 = sym (ap (λ o. slice_get (unwrap_or o no_table).rows p.row) at) ∙ seat.1 in
-    let within : p.row < length table.rows = slice_get_within table.rows p.row seat.0 in_table in
-    let row_is : get_or table.rows p.row seat.0 ≡ seat.0 = one_some (slice_get table.rows p.row) _ _
-    (slice_get-get_or table.rows p.row seat.0 within) in_table in
-    let ids_are : map (λ q. q.0) seat.0.held ≡ table.ids = ap (λ (x : Row). map (λ q. q.0) x.held) (sym row_is) ∙ typed p.row seat.0 within in
+    (r.0, r.1, ap (held_at (row_at s)) r.2 ∙ ap held_of (slice_get-get_or (rows_in s p.table) p.row no_row (row_within w s e p store own)))
+
+pub same_type : (w : Indexed Registration) (s : List (Option TableState)) (e : Entity) (p : Place) (ids : List Id) → IsStore w s → own_place w e ≡ Some p
+    → HasIds ids (row_in s p.table p.row) → IsTrue (is_ascending id_cmp ids) → read w s ≡ changed (read w s) e (with_type ids)
+same_type w s e p ids store own is up =
+    let row = row_in s p.table p.row in
+    let r = held_there w s e p store own in
     let old : record_of (read w s) e ≡ Some (record_for (row_at s) r.0) = read_record w s e r.0 r.1 in
-    let held : held_at (row_at s) r.0.place ≡ seat.0.held = ap (held_at (row_at s)) r.2 ∙ ap held_of seat.1 in
     let own_held : retyped ids (held_at (row_at s) r.0.place) ≡ held_at (row_at s) r.0.place =
-    (λ t. retyped ((sym is ∙ sym ids_are) t) (held t))
-    ∙ retyped-own seat.0.held (subst (λ xs. IsTrue (is_ascending id_cmp xs)) (sym ids_are) up)
-    ∙ sym held in
+    (λ t. retyped (sym is t) (r.2 t)) ∙ retyped-own row.held (subst (λ xs. IsTrue (is_ascending id_cmp xs)) (sym is) up) ∙ sym r.2 in
     let same : set (read w s).indices e.index (Living e.generation (record_for (row_at s) r.0)) ≡ (read w s).indices =
     set_own (read w s).indices e.index (Living e.generation (record_for (row_at s) r.0)) (living_at (read w s) e (record_for (row_at s) r.0) old) in
     sym (ap (change_kept (read w s) e (with_type ids)) old
     ∙ (λ t. with_record (read w s) e (record { name = r.0.name; arity = r.0.arity; held = own_held t }))
     ∙ (λ t. record { limit = w.limit; indices = same t }))
+
+-- an entity's ids are those of its row
+pub ids_there : (w : Indexed Registration) (s : List (Option TableState)) (e : Entity) (p : Place) (ids : List Id) → IsStore w s → own_place w e ≡ Some p
+    → type_of (read w s) e ≡ Some ids → HasIds ids (row_in s p.table p.row)
+ids_there w s e p ids store own is =
+    let r = held_there w s e p store own in
+    one_some (type_of (read w s) e) _ ids (ap (option_map record_ids) (read_record w s e r.0 r.1) ∙ ap (λ held. Some (map (λ q. q.0) held)) r.2) is
 
 -- the type that an entity gets is not in the slot that it has
 pub other_slot : (s s0 : List (Option TableState)) (n to : ℕ) (own ids : List Id) → type_at s n ≡ Some own → KeepsTypes s s0 → type_at s0 to ≡ Some ids

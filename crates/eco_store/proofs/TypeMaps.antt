@@ -1,5 +1,5 @@
 -- The map from types to slots after a table was put in or taken out.
-use Rattle.std.proofs.Common.{◌≡◌, ◌≢◌, ℕ, ◌==◌, Bool, true, false, cond, List, Option, Some, None, refl, ap, ◌∙◌, sym}
+use Rattle.std.proofs.Common.{◌≡◌, ◌≢◌, ℕ, ◌==◌, Bool, true, false, cond, List, Option, Some, None, IsTrue, refl, ap, ◌∙◌, sym}
 use Rattle.std.specs.HashMap.{HashMap, get}
 use Rattle.std.proofs.lemmas.Bool.Decides.{Decides-eqb}
 use Rattle.eco_ids.specs.declared.id.Id.{Id}
@@ -13,6 +13,17 @@ way false P f g = g refl
 
 not_same : (t q : List Id) → same_ids t q ≡ false → t ≢ q
 not_same t q e h = let same : same_ids t q ≡ true = (same_ids-Decides t q).1 h in cc
+
+-- whether a slot has a type is whether its own ids are the same
+pub type_decided : (o : Option (List Id)) (own asked a b : List Id) (r : Bool) → o ≡ Some own → a ≡ own → b ≡ asked → r ≡ same_ids a b
+    → (IsTrue r → o ≡ Some asked) × (o ≡ Some asked → IsTrue r)
+type_decided o own asked a b r at is_a is_b is = (
+  λ h. at ∙ ap Some (sym is_a ∙ (same_ids-Decides a b).0 (sym is ∙ h) ∙ is_b),
+  λ e. let same : own ≡ asked = one (sym at ∙ e) in is ∙ (same_ids-Decides a b).1 (is_a ∙ same ∙ sym is_b),
+)
+  where
+    one : Some own ≡ Some asked → own ≡ asked
+    one e = cc
 
 module _ {S : Type 0} (types types' : ℕ → Option (List Id)) (m m' : HashMap (List Id) ℕ S) (t : List Id) (n : ℕ)
     (others : (k : ℕ) → k ≢ n → types' k ≡ types k) where

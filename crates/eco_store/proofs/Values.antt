@@ -1,5 +1,7 @@
 -- What a store answers of one entity, and the store after a value or a name was written.
-use Rattle.std.proofs.Common.{◌≡◌, ◌≢◌, ℕ, zero, suc, ◌<◌, Bool, true, false, not, ◌&&◌, List, [], ◌∷◌, map, length, slice_get, set, get_or, Option, Some, None, option_map, option_and_then, unwrap_or, is_some, IsSome, IsTrue, if◌then◌else◌, ◌==◌, Result, MatchBool, MatchOption, refl, sym, ap, subst, ◌∙◌, inl, inr}
+use Rattle.std.proofs.Common.{◌≡◌, ◌≢◌, ℕ, zero, suc, ◌<◌, Bool, true, false, not, ◌&&◌, List, [], ◌∷◌, map, length, slice_get, set, get_or, Option, Some, None}
+use Rattle.std.proofs.Common.{option_map, option_and_then, unwrap_or, is_some, IsSome, IsTrue, if◌then◌else◌, ◌==◌, Result, MatchBool, MatchOption, refl, sym}
+use Rattle.std.proofs.Common.{ap, subst, ◌∙◌, inl, inr}
 use Rattle.std.specs.List.{All}
 use Rattle.std.specs.FinMap.Entries.{find}
 use Rattle.std.proofs.lemmas.Bool.{cases_eq}
@@ -16,17 +18,19 @@ use Rattle.eco_ids.specs.Order.{id_cmp}
 use Rattle.eco_ids.specs.Outcome.{Meets, is_out_of_memory, first_refusal, Answers, Refuses}
 use Rattle.eco_tables.specs.Column.{with_held}
 use Rattle.eco_tables.specs.Table.{TableState, Row, HasIds}
-use Rattle.eco_tables.specs.Tables.{AllHaveIds, slot_of, table_in, row_in, no_row, no_table, Sets}
+use Rattle.eco_tables.specs.Tables.{AllHaveIds, slot_of, table_in, row_in, no_row, no_table}
+use Rattle.eco_store.specs.Layout.{rows_in, WritesRow}
 use Rattle.eco_entities.specs.declared.place.Place.{Place}
 use Rattle.eco_ids.specs.Renaming.{own_name, unfit_rename, RenamesWith, may_rename}
 use Rattle.eco_ids.specs.Step.{with_name}
 use Rattle.eco_entities.specs.Registration.{Registration, name_of, own_place, renamed}
 use Rattle.eco_store.specs.Seats.{Seat, IsSeated, seat_of, row_at, seen, held_of}
-use Rattle.eco_store.specs.Store.{record_for, type_of, record_name, held_at, held_by, read, seat_in, seat_at, HasPlace, IsStore, Stands, IsShown, seat_of_place, with_written}
+use Rattle.eco_store.specs.Store.{record_for, record_name, held_at, held_by, read, seat_in, seat_at, HasPlace, IsStore, Stands, IsShown, seat_of_place}
+use Rattle.eco_store.specs.Store.{with_written}
 use Rattle.eco_store.proofs.SeatChanges.{no_some, one_some}
 use Rattle.std.proofs.lemmas.Option.{slice_get-map}
 use Rattle.eco_store.proofs.Newborn.{is_borne-map}
-use Rattle.eco_store.proofs.StoreChanges.{placed_record, seat_there, read_record, row_within}
+use Rattle.eco_store.proofs.StoreChanges.{placed_record, seat_there, read_record, row_within, held_there}
 use Rattle.eco_ids.proofs.Lists.{slice_get-set_there, slice_get-set_other}
 use Rattle.eco_ids.proofs.States.{living_at, record_at}
 use Rattle.eco_store.proofs.Views.{ext_slice_get, seen_alike}
@@ -54,12 +58,6 @@ stands_type None t row h typed = absurd h
 stands_type (Some k) t row h typed =
     sym (ap Some (ap (λ xs. map (λ p. p.0) xs) (h.held no_row) ∙ typed row no_row h.within))
 
--- the ids that a store shows of an entity are those of the table in which it stands
-pub own_type_list : (w : Indexed Registration) (s : List (Option TableState)) (e : Entity) (p : Place) (t : TableState) (ids : List Id)
-    → IsStore w s → own_place w e ≡ Some p → slot_of s p.table ≡ Some t → All (HasIds t.ids) t.rows → type_of (read w s) e ≡ Some ids → t.ids ≡ ids
-own_type_list w s e p t ids store own at typed h =
-    one_some (Some t.ids) t.ids ids refl (stands_type (record_of (read w s) e) t p.row (stands_there w s e p t store own at) typed ∙ h)
-
 -- what a search of an entity's row finds, the entity has
 pub value_found : (o : Option Record) (t : TableState) (row : ℕ) (i : Id) (v : Option Value) → Stands o t row
     → ((r : Row) → v ≡ find id_cmp i (get_or t.rows row r).held)
@@ -70,11 +68,7 @@ value_found (Some k) t row i v h is = is no_row ∙ ap (find id_cmp i) (sym (h.h
 -- ---- a value written
 module _ (w : Indexed Registration) (s s1 : List (Option TableState)) (e : Entity) (p : Place) (i : Id) (v : Value)
     (store : IsStore w s) (own : own_place w e ≡ Some p)
-    (sets : Sets s s1 p.table
-    (Some (record (table_in s p.table) {
-      rows = set (table_in s p.table).rows p.row
-          (record { entity = (row_in s p.table p.row).entity; held = with_held (row_in s p.table p.row).held i v });
-    }))) where
+    (sets : WritesRow (rows_in s) (rows_in s1) p i v) where
   abbrev rows : List Row
   rows = (table_in s p.table).rows
 
@@ -88,15 +82,15 @@ module _ (w : Indexed Registration) (s s1 : List (Option TableState)) (e : Entit
   old_there = slice_get-get_or rows p.row no_row (row_within w s e p store own)
 
   new_there : row_at s1 p.table p.row ≡ Some new_row
-  new_there = ap (λ o. slice_get (unwrap_or o no_table).rows p.row) sets.changed ∙ slice_get-set_there rows p.row new_row old_row old_there
+  new_there = ap (λ xs. slice_get xs p.row) sets.changed ∙ slice_get-set_there rows p.row new_row old_row old_there
 
   elsewhere : (n k : ℕ) → (n ≡ p.table → k ≡ p.row → ⊥) → row_at s1 n k ≡ row_at s n k
   elsewhere n k apart =
       elim (cases_eq n p.table) [
         | inl here ↦
-            ap (λ m. row_at s1 m k) here ∙ ap (λ o. slice_get (unwrap_or o no_table).rows k) sets.changed
+            ap (λ m. row_at s1 m k) here ∙ ap (λ xs. slice_get xs k) sets.changed
             ∙ slice_get-set_other rows p.row k new_row (apart here) ∙ sym (ap (λ m. row_at s m k) here)
-        | inr other ↦ ap (λ o. slice_get (unwrap_or o no_table).rows k) (sets.others n other)
+        | inr other ↦ ap (λ xs. slice_get xs k) (sets.others n other)
       ]
 
   seat : seat_at w e.index ≡ Some (seat_of e p.table p.row)
@@ -157,8 +151,8 @@ module _ (w : Indexed Registration) (s s1 : List (Option TableState)) (e : Entit
   -- what the entity holds, its row does
   pub held_read : held_by (read w s) e ≡ old_row.held
   held_read =
-      let r = placed_record w e p own in
-      ap (λ o. unwrap_or (option_map (λ (k : Record). k.held) o) []) (read_record w s e r.0 r.1) ∙ ap (held_at (row_at s)) r.2 ∙ ap held_of old_there
+      let r = held_there w s e p store own in
+      ap (λ o. unwrap_or (option_map (λ (k : Record). k.held) o) []) (read_record w s e r.0 r.1) ∙ r.2
 
   pub written_read : read w s1 ≡ changed (read w s) e (with_written i v)
   written_read =

@@ -1,42 +1,55 @@
--- Tables in slots, each found by its type and by the entities that its type names.
-use Rattle.std.specs.Prelude.{◌≡◌, ℕ, ◌<◌, ◌≤◌, Bool, true, false, IsTrue, ◌&&◌, nat_lt, nat_eq, length, List, [], Option, None, Some, option_map, is_some}
+-- Tables in slots, each found by its type and by the patterns that match its ids.
+use Rattle.std.specs.Prelude.{◌≡◌, ℕ, ◌≤◌, Bool, false, IsTrue, ◌&&◌, not, nat_lt, nat_eq, length, replicate, List, [], ◌∷◌}
+use Rattle.std.specs.Prelude.{Option, None, Some, option_map, is_some, Result, MatchResult}
 use Rattle.std.specs.HashMap.{HashMap}
-use Rattle.std.specs.List.{list_any}
-use Rattle.std.specs.HashSet.{HashSet}
-use Rattle.eco_ids.specs.declared.entity.Entity.{Entity}
+use Rattle.std.specs.List.{list_any, IsDistinct}
 use Rattle.eco_ids.specs.declared.id.Id.{Id}
 use Rattle.eco_ids.specs.declared.pattern.Pattern.{Pattern}
-use Rattle.eco_ids.specs.declared.pattern.Pattern.TheVariants.{One, Two}
-use Rattle.eco_ids.specs.declared.pattern.Part.{Part}
-use Rattle.eco_ids.specs.declared.pattern.Part.TheVariants.{Is, Each, Any}
+use Rattle.eco_ids.specs.declared.value.TheConstants.{FIELD_COUNT}
 use Rattle.eco_ids.specs.Matching.{pattern_matches}
-use Rattle.std.specs.Option.{option_or}
 use Rattle.eco_tables.specs.Table.{TableState}
 use Rattle.eco_tables.specs.Tables.{slot_of, table_in, rowless_type}
+use Rattle.eco_store.specs.Edges.{IsGraph}
 use Rattle.eco_store.specs.TypeMap.{IsTypeMap}
-use Rattle.eco_store.specs.IdIndex.{is_listed, names_any}
+use Rattle.eco_store.specs.IdIndex.{Lists, any_matches}
 
 -- the type of the table in a slot, if there is one
 abbrev pub type_at : List (Option TableState) → ℕ → Option (List Id)
 type_at slots n = option_map (λ (t : TableState). t.ids) (slot_of slots n)
 
--- there is a type, and an id of it names the entity
-abbrev pub type_names : Option (List Id) → Entity → Bool
-type_names None f = false
-type_names (Some ids) f = names_any ids f
+-- there is a type, and one of its ids matches
+abbrev pub type_matches : Option (List Id) → Pattern → Bool
+type_matches None p = false
+type_matches (Some ids) p = any_matches ids p
 
--- the id index lists, under each entity, exactly the slots of the tables whose types name it
-abbrev pub IsIdIndex : {S T : Type 0} → (ℕ → Option (List Id)) → HashMap Entity (HashSet ℕ T) S → Type 0
-IsIdIndex types lists = (f : Entity) (n : ℕ) → is_listed lists f n ≡ type_names (types n) f
+-- the index lists, under each pattern, exactly the slots of the tables whose types have an id that it matches
+abbrev pub IsIdIndex : (ℕ → Option (List Id)) → Lists → Type 0
+IsIdIndex types lists = (p : Pattern) (n : ℕ) → lists p n ≡ type_matches (types n) p
 
--- each table is found by its type and by what its type names, and nothing else is found
-pub record IsArchetypes {S S' T : Type 0} (slots : List (Option TableState)) (by_type : HashMap (List Id) ℕ S) (by_id : HashMap Entity (HashSet ℕ T) S') : Type 0 where
+-- the widths of so many ids, each of which may use all fields
+abbrev pub full_widths : List Id → List ℕ
+full_widths ids = replicate (length ids) FIELD_COUNT
+
+-- the table keeps all fields of the values of its ids
+abbrev pub IsFull : TableState → Type 0
+IsFull t = t.widths ≡ full_widths t.ids
+
+-- each table does
+abbrev pub AreFull : List (Option TableState) → Type 0
+AreFull slots = (n : ℕ) → IsFull (table_in slots n)
+
+-- each table is found by its type and by what its type's ids match, nothing else is found, and edges lead
+-- from table to table
+pub record IsArchetypes {S E : Type 0} (slots : List (Option TableState)) (by_type : HashMap (List Id) ℕ S)
+    (by_id : Lists) (edges : List (HashMap Id ℕ E)) : Type 0 where
   pub types : IsTypeMap (type_at slots) by_type
-  pub names : IsIdIndex (type_at slots) by_id
+  pub matches : IsIdIndex (type_at slots) by_id
+  pub graph : IsGraph (type_at slots) edges
+  pub full : AreFull slots
 
 -- a table of the type, without rows and room
 abbrev pub new_table : List Id → TableState
-new_table ids = record { ids = ids; rows = []; room = 0 }
+new_table ids = record { ids = ids; widths = full_widths ids; rows = []; room = 0 }
 
 -- each slot has what it had
 abbrev pub SameSlots : List (Option TableState) → List (Option TableState) → Type 0
@@ -54,6 +67,12 @@ is_rowless slots n = is_some (rowless_type (slot_of slots n))
 abbrev pub RowlessIn : List (Option TableState) → List ℕ → Type 0
 RowlessIn slots allowed = (n : ℕ) → IsTrue (is_rowless slots n) → IsTrue (list_any (nat_eq n) allowed)
 
+-- a table without rows is one that was so before, or the one in the slot that comes out
+abbrev pub RowlessBut : {E : Type 0} →
+    List (Option TableState) → List (Option TableState) → Result ℕ E → Type 0
+RowlessBut old new r = (slots : List ℕ) → RowlessIn old slots →
+    MatchResult r (λ n. RowlessIn new (n ∷ slots)) (λ e. RowlessIn new slots)
+
 -- no table has less room than it had
 abbrev pub KeepsRoom : List (Option TableState) → List (Option TableState) → Type 0
 KeepsRoom old new = (n : ℕ) → (table_in old n).room ≤ (table_in new n).room
@@ -67,25 +86,24 @@ is_found_by test (Some t) = nat_lt 0 (length t.rows) && test t.ids
 abbrev pub is_found : Pattern → Option TableState → Bool
 is_found p = is_found_by (list_any (pattern_matches p))
 
+-- one of the ids matches one of the patterns
+abbrev pub matches_one : List Pattern → List Id → Bool
+matches_one ps ids = list_any (any_matches ids) ps
+
 -- some table is found
-abbrev pub FindsSome : Pattern → List (Option TableState) → Type 0
-FindsSome p slots = (n : ℕ) × IsTrue (is_found p (slot_of slots n))
+abbrev pub FindsSome : (List Id → Bool) → List (Option TableState) → Type 0
+FindsSome test slots = (n : ℕ) × IsTrue (is_found_by test (slot_of slots n))
 
--- some table in a slot below the bound is found
-abbrev pub FindsBelow : Pattern → List (Option TableState) → ℕ → Type 0
-FindsBelow p slots bound = (n : ℕ) × (n < bound) × IsTrue (is_found p (slot_of slots n))
+-- the slots of all tables that are found, each once
+pub record IsAllFound (test : List Id → Bool) (slots : List (Option TableState)) (found : List ℕ)
+    : Type 0 where
+  pub listed : (n : ℕ) → list_any (nat_eq n) found ≡ is_found_by test (slot_of slots n)
+  pub distinct : IsDistinct nat_eq found
 
--- each slot that is found is among these
-abbrev pub Covers : Pattern → List (Option TableState) → List ℕ → Type 0
-Covers p slots among = (n : ℕ) → is_found p (slot_of slots n) ≡ true → list_any (nat_eq n) among ≡ true
+-- the table has rows, and its type no id that one of these patterns matches
+abbrev pub is_next : List Pattern → Option TableState → Bool
+is_next earlier = is_found_by (λ ids. not (matches_one earlier ids))
 
--- the entity that a part of a pattern names
-abbrev pub named_part : Part → Option Entity
-named_part (Is e) = Some e
-named_part Each = None
-named_part Any = None
-
--- an entity that each id names which the pattern matches: of a pair the target, if it is given
-abbrev pub named_by : Pattern → Option Entity
-named_by (One e) = Some e
-named_by (Two p q) = option_or (named_part q) (named_part p)
+-- the table in the slot has rows, and none of the patterns finds it
+abbrev pub is_next_in : List (Option TableState) → List Pattern → ℕ → Bool
+is_next_in slots earlier n = is_next earlier (slot_of slots n)

@@ -1,5 +1,6 @@
 pub mod IdIndex
 pub mod TypeMap
+pub mod Edges
 pub mod Archetypes
 pub mod Seats
 pub mod Placing
@@ -8,4 +9,4 @@ pub mod Holders
 pub mod Retyping
 pub mod Transfers
 pub mod Preparing
-pub mod Sound
+pub mod Layout

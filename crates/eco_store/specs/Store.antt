@@ -1,10 +1,11 @@
 -- A store: a record of each living entity, as the world has it, with no table in it.
-use Rattle.std.specs.Prelude.{◌≡◌, ℕ, ◌<◌, nat_lt, ◌&&◌, false, Result, length, slice_index_or, List, [], map, slice_get, Option, None, Some, IsSome, option_map, option_and_then, unwrap_or}
+use Rattle.std.specs.Prelude.{◌≡◌, ℕ, ◌<◌, nat_lt, ◌&&◌, false, Result, length, slice_index_or, List, [], map, slice_get, Option, None, Some, IsSome}
+use Rattle.std.specs.Prelude.{option_map, option_and_then, unwrap_or}
 use Rattle.eco_ids.specs.declared.entity.Entity.{Entity}
 use Rattle.eco_ids.specs.declared.id.Id.{Id}
 use Rattle.eco_ids.specs.declared.value.Value.{Value}
 use Rattle.eco_ids.specs.declared.refusal.Refusal.{Refusal}
-use Rattle.eco_ids.specs.Births.{Makes, may_make, Admits, may_admit, RevivesWith}
+use Rattle.eco_ids.specs.Births.{Makes, may_make, Admits, may_admit, MakesAliveWith}
 use Rattle.eco_ids.specs.Indices.{is_free_at, Indexed, IndexState, Retired, Free, Living, record_of, map_state}
 use Rattle.eco_ids.specs.Outcome.{Meets}
 use Rattle.eco_ids.specs.Renaming.{RenamesWith, may_rename}
@@ -16,6 +17,7 @@ use Rattle.eco_entities.specs.declared.place.Place.{Place}
 use Rattle.eco_entities.specs.Registration.{Registration}
 use Rattle.eco_tables.specs.Tables.{table_in}
 use Rattle.eco_store.specs.declared.moving.Move.{Move}
+use Rattle.eco_store.specs.Edges.{toggled}
 use Rattle.eco_store.specs.Seats.{Seat, IsSeated, row_at, held_of}
 
 -- a store: a record of each living entity by its index, and the moves that were prepared and are not yet made, the next
@@ -56,6 +58,10 @@ type_of w e = option_map record_ids (record_of w e)
 abbrev pub with_type : List Id → Record → Record
 with_type ids r = record r { held = retyped ids r.held }
 
+-- the id comes, with zeros, where it isn't there, and goes where it is; the other values stay
+abbrev pub with_toggled : Id → Record → Record
+with_toggled i r = with_type (toggled (record_ids r) i) r
+
 -- this value at the id, where it is there
 abbrev pub with_written : Id → Value → Record → Record
 with_written i v r = record r { held = with_held r.held i v }
@@ -71,8 +77,8 @@ abbrev pub Admission : Indexed Record → ℕ → Result (Unit {0}) Refusal → 
 Admission w n = Meets (Admits w n) (may_admit w n && nat_lt 0 n) w
 
 -- a handle that is free lives, without name, arity and ids
-abbrev pub Revives : Indexed Record → Entity → Result (Unit {0}) Refusal → Indexed Record → Type 0
-Revives w e = Meets (RevivesWith w e (newborn None None [])) (is_free_at w e) w
+abbrev pub MakesAlive : Indexed Record → Entity → Result (Unit {0}) Refusal → Indexed Record → Type 0
+MakesAlive w e = Meets (MakesAliveWith w e (newborn None None [])) (is_free_at w e) w
 
 -- the entity has this name, or none, from then on
 abbrev pub Renames : Indexed Record → Entity → Option (List ℕ) → Result (Unit {0}) Refusal → Indexed Record → Type 0

@@ -1,6 +1,6 @@
 -- All rows of a table go to another.
-use Rattle.std.specs.Prelude.{◌≡◌, ◌≢◌, ℕ, ◌+◌, ◌≤◌, ◌==◌, List, [], ◌∷◌, map, length, Option, IsSome, if◌then◌else◌}
-use Rattle.std.specs.List.{All}
+use Rattle.std.specs.Prelude.{◌≡◌, ◌≢◌, ℕ, ◌+◌, ◌≤◌, ◌==◌, List, [], ◌∷◌, map, length, nat_eq, Option, IsSome, IsTrue, if◌then◌else◌}
+use Rattle.std.specs.List.{All, list_any}
 use Rattle.eco_tables.specs.Table.{TableState}
 use Rattle.eco_tables.specs.Tables.{slot_of, table_in}
 use Rattle.eco_store.specs.declared.transfer.Transfer.{Transfer}
@@ -11,10 +11,9 @@ use Rattle.eco_store.specs.Archetypes.{type_at}
 abbrev pub change_of : List (Option TableState) → Transfer → TypeChange
 change_of slots t = record { from = (table_in slots t.from).ids; to = (table_in slots t.to).ids }
 
--- the slots that the transfers name, both of each
-abbrev pub ends : List Transfer → List ℕ
-ends [] = []
-ends (t ∷ ts) = t.from ∷ t.to ∷ ends ts
+-- both tables of each transfer are in these slots
+abbrev pub AreNamed : List ℕ → List Transfer → Type 0
+AreNamed slots ts = All (λ t. IsTrue (list_any (nat_eq t.from) slots) × IsTrue (list_any (nat_eq t.to) slots)) ts
 
 -- the tables of each transfer are there, and the changes of type are these
 pub record IsPlan (slots : List (Option TableState)) (transfers : List Transfer) (changes : List TypeChange) : Type 0 where

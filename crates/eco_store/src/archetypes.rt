@@ -1,5 +1,6 @@
-//! The tables of a store, one for each type, found by type and by the entities that types name.
-ghost use Rattle.std.specs.Prelude.{◌≡◌, ◌≢◌, ◌↔◌, ◌&&◌, nat_lt, nat_eq, filter, List, ℕ, ◌<◌, ◌≤◌, ◌∷◌, [], length, slice_get, slice_set, Some, None, IsSome, IsTrue, IfOk, IfSome, IfNone, MatchResult, ◌++◌, OnOk, OnErr, OnSome, is_some};
+//! The tables of a store, one for each type, found by type and by the patterns that match its ids.
+ghost use Rattle.std.specs.Prelude.{◌≡◌, ◌≢◌, ◌↔◌, ◌&&◌, nat_lt, nat_eq, filter, List, ℕ, ◌<◌, ◌≤◌, ◌∷◌, [], length, ◌++◌};
+ghost use Rattle.std.specs.Prelude.{slice_get, slice_set, Some, None, IsSome, IsTrue, IfOk, IfSome, IfNone, OnOk, OnErr, OnSome, is_some};
 ghost use Rattle.std.specs.List.{list_any, IsDistinct};
 ghost use Rattle.std.specs.FinMap.Entries.{find};
 ghost use Rattle.eco_ids.specs.declared.id.Id.{Id as Ids};
@@ -7,24 +8,32 @@ ghost use Rattle.eco_ids.specs.Order.{id_cmp};
 ghost use Rattle.eco_tables.specs.Column.{with_held};
 ghost use Rattle.eco_tables.specs.Table.{TableState, entities_of};
 ghost use Rattle.eco_tables.specs.Tables.{slot_of, table_in, row_in, Sets, Moves, with_row, without_row, rowless_type};
-ghost use Rattle.eco_store.specs.Archetypes.{type_at, new_table, SameSlots, KeepsTypes, KeepsRoom, RowlessIn, is_found, FindsSome, FindsBelow, named_by, named_part, type_names};
+ghost use Rattle.eco_store.specs.Archetypes.{type_at, new_table, SameSlots, KeepsTypes, KeepsRoom, RowlessIn, RowlessBut};
 ghost use Rattle.eco_store.specs.Seats.{SameRows};
 
+use crate::archetypes::widths::{all_fields, insert_full};
+use crate::edges::Edges;
 use crate::id_index::IdIndex;
 use crate::type_map::TypeMap;
-use eco_ids::{Entity, Id, Part, Pattern, TypeList, Value};
-use eco_tables::{Table, Tables};
+use eco_ids::{Entity, Id, TypeList, Value};
+use eco_tables::Tables;
 use std::alloc::{AllocError, Global};
 use std::marker::Model;
 
 mod preparing;
+mod searching;
+mod stepping;
+mod widths;
 
 /// A contract sees the tables in their slots. No two tables have the same type.
 pub struct Archetypes {
     alloc: Global,
     tables: Tables,
     by_type: TypeMap,
+    // The slot of the type that was asked for last.
+    last: usize,
     by_id: IdIndex,
+    edges: Edges,
 }
 
 // By hand, so that dropping it is one call: a derived drop is proved anew at each early return of whoever holds it.
@@ -34,7 +43,9 @@ impl Drop for Archetypes {
             alloc: _,
             tables: _,
             by_type: _,
+            last: _,
             by_id: _,
+            edges: _,
         } = self;
     }
 }
@@ -43,12 +54,13 @@ impl Model for Archetypes {
     ghost use Rattle.std.specs.Prelude.{List, Option};
     ghost use Rattle.eco_tables.specs.Table.{TableState};
     ghost use Rattle.eco_store.specs.Archetypes.{IsArchetypes};
+    ghost use Rattle.eco_store.specs.IdIndex.{lists_of};
 
     ghost Value = { List (Option TableState) };
 
     ghost view = { λ a. a.tables };
 
-    ghost invariant = { λ a. IsArchetypes a.tables a.by_type.slots a.by_id.slots };
+    ghost invariant = { λ a. IsArchetypes a.tables a.by_type.slots (lists_of a.by_id.slots) a.edges.lists.items };
 }
 
 impl Archetypes {
@@ -60,7 +72,9 @@ impl Archetypes {
             alloc,
             tables: Tables::new(alloc),
             by_type: TypeMap::new(alloc),
+            last: 0,
             by_id: IdIndex::new(alloc),
+            edges: Edges::new(alloc),
         }
     }
 
@@ -72,12 +86,29 @@ impl Archetypes {
         &self.tables
     }
 
-    /// The slot of the table with a type.
-    pub fn find(&self, type_list: &TypeList) -> Option<usize>
-        ensures found { IfSome result (λ n. type_at self.now n ≡ Some type_list.now) }
-        ensures none { IfNone result ((n : ℕ) → type_at self.now n ≢ Some type_list.now) }
+    // The slot of the table with a type. The type that was asked for last is compared before any is searched for, since many
+    // entities of one type are often made one after another.
+    fn find(&mut self, type_list: &TypeList) -> Option<usize>
+        ensures found { IfSome result (λ n. type_at self.old n ≡ Some type_list.now) }
+        ensures none { IfNone result ((n : ℕ) → type_at self.old n ≢ Some type_list.now) }
+        ensures same { self.new ≡ self.old }
     {
-        self.by_type.find(type_list)
+        if self.has_type(self.last, type_list) {
+            return Some(self.last);
+        }
+        let slot = self.by_type.find(type_list)?;
+        self.last = slot;
+        Some(slot)
+    }
+
+    // Whether there is a table in the slot, of this type.
+    fn has_type(&self, slot: usize, type_list: &TypeList) -> bool
+        ensures { IsTrue result ↔ (type_at self.now slot ≡ Some type_list.now) }
+    {
+        match self.tables.get(slot) {
+            Some(table) => table.type_list().as_slice() == type_list.as_slice(),
+            None => false,
+        }
     }
 
     /// The slot of the table with a type, with room for so many more rows. Where there is no table of the type, one without
@@ -86,7 +117,7 @@ impl Archetypes {
         ensures typed { IfOk result (λ n. type_at self.new n ≡ Some type_list.now) }
         ensures room { IfOk result (λ n. more ≤ (table_in self.new n).room) }
         ensures kept { OnOk result (KeepsRoom self.old self.new) }
-        ensures rowless { (slots : List ℕ) → RowlessIn self.old slots → MatchResult result (λ n. RowlessIn self.new (n ∷ slots)) (λ e. RowlessIn self.new slots) }
+        ensures rowless { RowlessBut self.old self.new result }
         ensures rows { SameRows self.old self.new }
         ensures types { KeepsTypes self.old self.new }
     {
@@ -94,6 +125,21 @@ impl Archetypes {
             self.reserve_rows(slot, more)?;
             return Ok(slot);
         }
+        self.make_with_room(type_list, more)
+    }
+
+    // What `room_for` does where there is no table of the type. Rare beside finds.
+    #[cold]
+    #[inline(never)]
+    fn make_with_room(&mut self, type_list: &TypeList, more: usize) -> Result<usize, AllocError>
+        requires { (n : ℕ) → type_at self.old n ≢ Some type_list.now }
+        ensures typed { IfOk result (λ n. type_at self.new n ≡ Some type_list.now) }
+        ensures room { IfOk result (λ n. more ≤ (table_in self.new n).room) }
+        ensures kept { OnOk result (KeepsRoom self.old self.new) }
+        ensures rowless { RowlessBut self.old self.new result }
+        ensures rows { SameRows self.old self.new }
+        ensures types { KeepsTypes self.old self.new }
+    {
         let slot = self.make(type_list)?;
         match self.reserve_rows(slot, more) {
             Ok(()) => Ok(slot),
@@ -104,9 +150,7 @@ impl Archetypes {
         }
     }
 
-    // A table without rows of a type that has none, in a slot that was empty. Rare beside finds.
-    #[cold]
-    #[inline(never)]
+    // A table without rows of a type that has none, in a slot that was empty.
     fn make(&mut self, type_list: &TypeList) -> Result<usize, AllocError>
         requires { (n : ℕ) → type_at self.old n ≢ Some type_list.now }
         ensures vacant { IfOk result (λ n. slot_of self.old n ≡ None) }
@@ -116,7 +160,7 @@ impl Archetypes {
         let key = type_list.try_copy()?;
         let kept = type_list.try_copy()?;
         self.by_type.reserve_one()?;
-        let slot = self.tables.insert(kept)?;
+        let slot = insert_full(&mut self.tables, self.alloc, kept)?;
         match self.by_id.add_all(self.alloc, type_list.as_slice(), slot) {
             Ok(()) => {
                 self.by_type.insert_reserved(key, slot);
@@ -152,6 +196,7 @@ impl Archetypes {
         if let Some(type_list) = self.tables.drop_empty(slot) {
             self.by_type.remove(&type_list);
             self.by_id.take_all(type_list.as_slice(), slot);
+            self.edges.cut(slot);
         }
     }
 
@@ -183,6 +228,7 @@ impl Archetypes {
         ensures written { Sets self.old self.new slot (Some (record (table_in self.old slot) { rows = slice_set (table_in self.old slot).rows row (record { entity = (row_in self.old slot row).entity; held = with_held (row_in self.old slot row).held id value }) })) }
         ensures had { result ≡ is_some (find id_cmp id (row_in self.old slot row).held) }
     {
+        all_fields(value);
         self.tables.set_value(slot, row, id, value)
     }
 
@@ -212,122 +258,5 @@ impl Archetypes {
         ensures moved { result ≡ slice_get (entities_of (table_in self.new from).rows) row }
     {
         self.tables.move_row(from, row, to)
-    }
-
-    /// The slots of the tables that have rows and a type with an id that the pattern matches, each once, in any order.
-    /// Where the pattern names an entity, it looks alone at tables whose types name that entity.
-    pub fn tables_with(&self, pattern: Pattern) -> Result<Vec<usize>, AllocError>
-        ensures listed { IfOk result (λ v. (n : ℕ) → list_any (nat_eq n) v.items ≡ is_found pattern (slot_of self.now n)) }
-        ensures distinct { IfOk result (λ v. IsDistinct nat_eq v.items) }
-    {
-        match named_by(pattern) {
-            Some(entity) => self.found_among(self.by_id.slots(entity), pattern),
-            None => self.found_below(self.tables.slot_bound(), pattern),
-        }
-    }
-
-    /// The slots of the tables whose types name the entity, each once, in any order.
-    pub fn tables_naming(&self, entity: Entity) -> &[usize]
-        ensures listed { (n : ℕ) → list_any (nat_eq n) result.now ≡ type_names (type_at self.now n) entity }
-        ensures distinct { IsDistinct nat_eq result.now }
-    {
-        self.by_id.slots(entity)
-    }
-
-    /// Whether some table has rows and a type with an id that the pattern matches. Where the pattern names an entity, it
-    /// looks alone at tables whose types name that entity.
-    pub fn is_held(&self, pattern: Pattern) -> bool
-        ensures { IsTrue result ↔ FindsSome pattern self.now }
-    {
-        match named_by(pattern) {
-            Some(entity) => self.finds_among(self.by_id.slots(entity), pattern),
-            None => self.finds_below(self.tables.slot_bound(), pattern),
-        }
-    }
-
-    // Whether one of the slots is found.
-    fn finds_among(&self, slots: &[usize], pattern: Pattern) -> bool
-        ensures { result ≡ list_any (λ n. is_found pattern (slot_of self.now n)) slots.now }
-    {
-        slots.iter().any(|slot| self.is_found(*slot, pattern))
-    }
-
-    // Whether a slot below the bound is found.
-    fn finds_below(&self, bound: usize, pattern: Pattern) -> bool
-        ensures { IsTrue result ↔ FindsBelow pattern self.now bound }
-    {
-        for candidate in 0..bound {
-            if self.is_found(candidate, pattern) {
-                return true;
-            }
-        }
-        false
-    }
-
-    // The table in the slot is one of those.
-    fn is_found(&self, slot: usize, pattern: Pattern) -> bool
-        ensures { result ≡ is_found pattern (slot_of self.now slot) }
-    {
-        match self.tables.get(slot) {
-            Some(table) => has_match(table, pattern),
-            None => false,
-        }
-    }
-
-    // Those of the slots that are found.
-    fn found_among(&self, slots: &[usize], pattern: Pattern) -> Result<Vec<usize>, AllocError>
-        ensures { IfOk result (λ v. v.items ≡ filter (λ n. is_found pattern (slot_of self.now n)) slots.now) }
-    {
-        let mut found = Vec::new(self.alloc);
-        for slot in slots {
-            if self.is_found(*slot, pattern) {
-                found.push(*slot)?;
-            }
-        }
-        Ok(found)
-    }
-
-    // The slots below the bound that are found.
-    fn found_below(&self, bound: usize, pattern: Pattern) -> Result<Vec<usize>, AllocError>
-        ensures listed { IfOk result (λ v. (n : ℕ) → list_any (nat_eq n) v.items ≡ (nat_lt n bound && is_found pattern (slot_of self.now n))) }
-        ensures distinct { IfOk result (λ v. IsDistinct nat_eq v.items) }
-    {
-        let mut found = Vec::new(self.alloc);
-        for slot in 0..bound {
-            if self.is_found(slot, pattern) {
-                found.push(slot)?;
-            }
-        }
-        Ok(found)
-    }
-}
-
-// The table has rows, and its type an id that the pattern matches.
-fn has_match(table: &Table, pattern: Pattern) -> bool
-    ensures { result ≡ is_found pattern (Some table.now) }
-{
-    table.row_count() > 0 && table.type_list().first_match(pattern).is_some()
-}
-
-// An entity that each id names which the pattern matches: of a pair the target, which fewer types name, if it is given.
-fn named_by(pattern: Pattern) -> Option<Entity>
-    ensures { result ≡ named_by pattern }
-{
-    match pattern {
-        Pattern::One(entity) => Some(entity),
-        Pattern::Two(relationship, target) => match named_part(target) {
-            Some(entity) => Some(entity),
-            None => named_part(relationship),
-        },
-    }
-}
-
-// The entity that a part of a pattern names.
-fn named_part(part: Part) -> Option<Entity>
-    ensures { result ≡ named_part part }
-{
-    match part {
-        Part::Is(entity) => Some(entity),
-        Part::Each | Part::Any => None,
     }
 }

@@ -1,5 +1,5 @@
 //! The tables that a pattern finds, and who stands in them.
-ghost use Rattle.std.specs.Prelude.{◌≡◌, IfOk};
+ghost use Rattle.std.specs.Prelude.{◌≡◌, ◌<◌, IfOk, OnErr, length};
 ghost use Rattle.std.specs.List.Sorted.{IsPermutation, IsSorted};
 ghost use Rattle.eco_ids.specs.Order.{entity_cmp};
 ghost use Rattle.eco_tables.specs.Table.{entities_of};
@@ -17,7 +17,8 @@ pub struct Found<'a> {
     pub slots: Vec<usize>,
 }
 
-/// The entities that stand in the tables in these slots, in their order. An `Err` comes where memory is refused.
+/// The entities that stand in the tables in these slots, in their order. An `Err` comes where memory is refused, and never
+/// where there are no slots.
 pub fn entities_in(
     alloc: Global,
     tables: &Tables,
@@ -25,6 +26,7 @@ pub fn entities_in(
 ) -> Result<Vec<Entity>, AllocError>
     ensures all { IfOk result (λ v. IsPermutation (standing_in tables.now slots.now) v.items) }
     ensures sorted { IfOk result (λ v. IsSorted entity_cmp v.items) }
+    ensures some { OnErr result (0 < length slots.now) }
 {
     let mut entities = gather(alloc, tables, slots)?;
     entities.sort_unstable();
@@ -33,7 +35,8 @@ pub fn entities_in(
 
 // The entities that stand in the tables in these slots, table by table.
 fn gather(alloc: Global, tables: &Tables, slots: &[usize]) -> Result<Vec<Entity>, AllocError>
-    ensures { IfOk result (λ v. v.items ≡ standing_in tables.now slots.now) }
+    ensures all { IfOk result (λ v. v.items ≡ standing_in tables.now slots.now) }
+    ensures some { OnErr result (0 < length slots.now) }
 {
     let mut entities = Vec::new(alloc);
     for slot in slots {

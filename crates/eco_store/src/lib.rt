@@ -2,15 +2,17 @@
 //! same components stand together in an archetype table).
 //!
 //! A [`Store`] is seen as a map from entities to their names, ids and values. Inside, each living entity stands in one row
-//! of the table of its type; a type finds its table through a map, and an entity the tables whose types name it through an
-//! index. A table that has lost its last row is dropped, and its slot may be used again.
+//! of the table of its type; a type finds its table through a map, and a pattern the tables whose types have an id that it
+//! matches through an index. A table that has lost its last row is dropped, and its slot may be used again.
 //!
 //! Which ids are data, and how many fields their values have, is not known here: each id has a value, zeros when new.
 #![tactic(auto)]
 
 mod archetypes;
+mod edges;
 mod found;
 mod id_index;
+mod layout;
 mod moving;
 mod placing;
 mod prepared;

@@ -16,6 +16,7 @@ mod planning;
 /// rows.
 #[derive(Drop)]
 pub struct Prepared {
+    alloc: Global,
     // The next one is the last.
     arrivals: IndexMap<Entity, usize>,
     targets: IndexSet<usize>,
@@ -36,6 +37,7 @@ impl Prepared {
         ensures { result ≡ nothing_prepared }
     {
         Prepared {
+            alloc,
             arrivals: IndexMap::new(alloc),
             targets: IndexSet::new(alloc),
         }

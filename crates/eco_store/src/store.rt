@@ -1,10 +1,10 @@
 //! The store of a world: each living entity with its name, its ids and their values.
-ghost use Rattle.std.specs.Prelude.{◌≡◌, ◌≤◌, ◌<◌, nat_eq, List, ℕ, [], length, None, Some, is_some, IsTrue, IfOk, MatchOption, map};
+ghost use Rattle.std.specs.Prelude.{◌≡◌, ◌≤◌, ◌<◌, nat_eq, List, ℕ, [], length, None, Some, is_some, IsTrue, IfOk, OnErr, MatchOption, map};
 ghost use Rattle.std.specs.Option.{option_copied};
 ghost use Rattle.std.specs.FinMap.Entries.{find};
 ghost use Rattle.eco_ids.specs.Births.{unfit_name, Makes};
 ghost use Rattle.eco_ids.specs.Indices.{changed, is_alive, is_free_at, living, next_entity, record_of};
-ghost use Rattle.eco_ids.specs.Names.{bearer};
+ghost use Rattle.eco_ids.specs.Names.{named_entity};
 ghost use Rattle.eco_ids.specs.Order.{id_cmp, is_ascending};
 ghost use Rattle.eco_ids.specs.Renaming.{own_name};
 ghost use Rattle.eco_tables.specs.Tables.{slot_of};
@@ -14,13 +14,11 @@ ghost use Rattle.eco_ids.specs.declared.id.Id.{Id as Ids};
 ghost use Rattle.eco_entities.specs.Registration.{entity_at, name_of};
 ghost use Rattle.eco_store.specs.Holders.{has_match, entities_with, holders};
 ghost use Rattle.eco_store.specs.Placing.{Opposes};
-ghost use Rattle.eco_store.specs.Store.{Admission, Creates, Renames, Revives, held_by, own_arity, record_name, type_of, with_written, Stands, IsShown};
+ghost use Rattle.eco_store.specs.Store.{Admission, Creates, Renames, MakesAlive, held_by, own_arity, record_name, type_of, with_written, Stands, IsShown};
 
-use crate::archetypes::Archetypes;
 use crate::found::{Found, entities_in};
-use crate::placing::settle;
-use crate::prepared::Prepared;
-use eco_entities::{EntityIndex, Place};
+use crate::layout::Layout;
+use eco_entities::EntityIndex;
 use eco_ids::{Entity, Id, Pattern, Refusal, TypeList, Value};
 use eco_tables::{Table, Tables};
 use std::alloc::{AllocError, Global};
@@ -28,6 +26,7 @@ use std::marker::Model;
 
 mod moves;
 mod retyping;
+mod stepping;
 
 /// A contract sees what is known of each index, of each living entity its name and its ids with their values, and the moves
 /// that were prepared and are not yet made. No table is seen.
@@ -37,20 +36,17 @@ mod retyping;
 pub struct Store {
     alloc: Global,
     entities: EntityIndex,
-    archetypes: Archetypes,
-    prepared: Prepared,
+    layout: Layout,
 }
 
 impl Model for Store {
-    ghost use Rattle.eco_store.specs.Preparing.{moves_of};
-    ghost use Rattle.eco_store.specs.Sound.{IsSound};
-    ghost use Rattle.eco_store.specs.Store.{StoreState, read};
+    ghost use Rattle.eco_store.specs.Store.{StoreState, IsStore, read};
 
     ghost Value = { StoreState };
 
-    ghost view = { λ s. record { entities = read s.entities s.archetypes; prepared = moves_of s.archetypes s.prepared } };
+    ghost view = { λ s. record { entities = read s.entities s.layout.tables; prepared = s.layout.moves } };
 
-    ghost invariant = { λ s. IsSound s.entities s.archetypes s.prepared };
+    ghost invariant = { λ s. IsStore s.entities s.layout.tables };
 }
 
 // By hand, so that dropping it is one call: a derived drop is proved anew at each early return of whoever holds it.
@@ -59,8 +55,7 @@ impl Drop for Store {
         let Store {
             alloc: _,
             entities: _,
-            archetypes: _,
-            prepared: _,
+            layout: _,
         } = self;
     }
 }
@@ -85,8 +80,7 @@ impl Store {
         Store {
             alloc,
             entities: EntityIndex::new(alloc, limit),
-            archetypes: Archetypes::new(alloc),
-            prepared: Prepared::new(alloc),
+            layout: Layout::new(alloc),
         }
     }
 
@@ -136,7 +130,7 @@ impl Store {
 
     /// The living entity of this name.
     pub fn lookup(&self, name: &str) -> Option<Entity>
-        ensures { result ≡ bearer record_name self.now.entities name.now }
+        ensures { result ≡ named_entity record_name self.now.entities name.now }
     {
         self.entities.lookup(name)
     }
@@ -146,7 +140,7 @@ impl Store {
         ensures { MatchOption result (record_of self.now.entities e ≡ None) (λ x. Stands (record_of self.now.entities e) x.0.now x.1) }
     {
         let place = self.entities.place_of(e)?;
-        let table = self.archetypes.tables().get(place.table).unwrap();
+        let table = self.layout.tables().get(place.table).unwrap();
         Some((table, place.row))
     }
 
@@ -183,37 +177,41 @@ impl Store {
         ensures shown { IsShown self.now.entities result.now }
         ensures kinds { (n m : ℕ) (ids : List Ids) → type_at result.now n ≡ Some ids → type_at result.now m ≡ Some ids → n ≡ m }
     {
-        let tables = self.archetypes.tables();
+        let tables = self.layout.tables();
         tables.rows_have_ids();
         tables
     }
 
-    /// The tables that have rows and a type with an id that the pattern matches. An `Err` comes where memory is refused.
+    /// The tables that have rows and a type with an id that the pattern matches. An `Err` comes where memory is refused, and
+    /// never where no living entity has such an id.
     pub fn tables_with(&self, pattern: Pattern) -> Result<Found<'_>, AllocError>
         ensures shown { IfOk result (λ f. IsShown self.now.entities f.tables.now) }
         ensures listed { IfOk result (λ f. (n : ℕ) → list_any (nat_eq n) f.slots.items ≡ is_found pattern (slot_of f.tables.now n)) }
         ensures distinct { IfOk result (λ f. IsDistinct nat_eq f.slots.items) }
+        ensures some { OnErr result (IsTrue (list_any (λ p. has_match pattern p.1) (living self.now.entities))) }
         ensures kinds { IfOk result (λ f. (n m : ℕ) (ids : List Ids) → type_at f.tables.now n ≡ Some ids → type_at f.tables.now m ≡ Some ids → n ≡ m) }
     {
-        let slots = self.archetypes.tables_with(pattern)?;
-        let tables = self.archetypes.tables();
+        let tables = self.layout.tables();
         tables.rows_have_ids();
+        let slots = self.layout.archetypes().tables_with(pattern)?;
         Ok(Found { tables, slots })
     }
 
-    /// Whether some living entity has an id that the pattern matches. Where the pattern names an entity, it looks alone at
-    /// tables whose types name that entity, and it stops at the first that is found. It takes no memory.
+    /// Whether some living entity has an id that the pattern matches. It looks at one table that has rows, and at tables
+    /// without rows before it. It takes no memory.
     pub fn is_held(&self, pattern: Pattern) -> bool
         ensures { result ≡ list_any (λ p. has_match pattern p.1) (living self.now.entities) }
     {
-        self.archetypes.tables().rows_have_ids();
-        self.archetypes.is_held(pattern)
+        self.layout.tables().rows_have_ids();
+        self.layout.archetypes().is_held(pattern)
     }
 
     /// The living entities that have an id which the pattern matches, ascending. Its time grows with how many they are,
-    /// and with the tables whose types name the pattern's entity. An `Err` comes where memory is refused.
+    /// and with the tables whose types have such an id. An `Err` comes where memory is refused, and never where nobody has
+    /// such an id.
     pub fn entities_with(&self, pattern: Pattern) -> Result<Vec<Entity>, AllocError>
-        ensures { IfOk result (λ v. v.items ≡ entities_with self.now.entities pattern) }
+        ensures all { IfOk result (λ v. v.items ≡ entities_with self.now.entities pattern) }
+        ensures some { OnErr result (IsTrue (list_any (λ p. has_match pattern p.1) (living self.now.entities))) }
     {
         eco_ids::order::handles_are_ordered();
         eco_ids::order::ascending_lists_are_sets();
@@ -228,9 +226,10 @@ impl Store {
     {
         eco_ids::order::handles_are_ordered();
         eco_ids::order::ascending_lists_are_sets();
-        let tables = self.archetypes.tables();
+        let tables = self.layout.tables();
         tables.rows_have_ids();
-        entities_in(self.alloc, tables, self.archetypes.tables_naming(e))
+        let slots = self.layout.archetypes().tables_naming(e)?;
+        entities_in(self.alloc, tables, &slots)
     }
 
     /// What stands against a new entity of this name, or none: `BadName` where it is no name, `NameTaken` where a living
@@ -256,9 +255,15 @@ impl Store {
         ensures step { Creates self.old.entities (option_copied name.entry) arity type_list.now result self.new.entities }
         ensures unprepared { self.new.prepared ≡ [] }
     {
-        self.prepared.forget(&mut self.archetypes);
-        let slot = match self.archetypes.room_for(type_list, 1) {
-            Ok(slot) => slot,
+        // A place's row fits, as a table has no more rows than there are indices.
+        self.entities.rules();
+        let Some(entity) = self.entities.next() else {
+            self.layout.forget();
+            self.entities.check_name(name)?;
+            return Err(Refusal::NoMoreIds);
+        };
+        let place = match self.layout.push_row(type_list, entity) {
+            Ok(place) => place,
             Err(refused) => {
                 // What stands against the entity is told before the want of memory.
                 check_new(&self.entities, name)?;
@@ -266,12 +271,12 @@ impl Store {
             }
         };
         match self.entities.create(name, arity) {
-            Ok(entity) => {
-                settle(&mut self.entities, &mut self.archetypes, slot, entity);
-                Ok(entity)
+            Ok(created) => {
+                self.entities.set_place(created, place);
+                Ok(created)
             }
             Err(refused) => {
-                self.archetypes.drop_empty(slot);
+                self.layout.take_row(entity, place);
                 Err(refused)
             }
         }
@@ -284,7 +289,7 @@ impl Store {
         ensures step { Admission self.old.entities count result self.new.entities }
         ensures unprepared { self.new.prepared ≡ [] }
     {
-        self.prepared.forget(&mut self.archetypes);
+        self.layout.forget();
         self.entities.admit(count)
     }
 
@@ -292,17 +297,18 @@ impl Store {
     ///
     /// Refused with `Taken` unless its index is known, free and at its generation, else with `OutOfMemory` where memory is
     /// refused. A refusal changes nothing.
-    pub fn revive(&mut self, e: Entity) -> Result<(), Refusal>
-        ensures step { Revives self.old.entities e result self.new.entities }
+    pub fn make_alive(&mut self, e: Entity) -> Result<(), Refusal>
+        ensures step { MakesAlive self.old.entities e result self.new.entities }
         ensures unprepared { self.new.prepared ≡ [] }
     {
-        self.prepared.forget(&mut self.archetypes);
+        self.entities.rules();
         if !self.entities.is_free_at(e) {
+            self.layout.forget();
             return Err(Refusal::Taken);
         }
-        let slot = self.archetypes.room_for(&TypeList::empty(self.alloc), 1)?;
-        self.entities.revive(e)?;
-        settle(&mut self.entities, &mut self.archetypes, slot, e);
+        let place = self.layout.push_row(&TypeList::empty(self.alloc), e)?;
+        self.entities.make_alive(e)?;
+        self.entities.set_place(e, place);
         Ok(())
     }
 
@@ -314,7 +320,7 @@ impl Store {
         ensures step { Renames self.old.entities e (option_copied name.entry) result self.new.entities }
         ensures unprepared { self.new.prepared ≡ [] }
     {
-        self.prepared.forget(&mut self.archetypes);
+        self.layout.forget();
         self.entities.rename(e, name)
     }
 
@@ -326,8 +332,7 @@ impl Store {
         ensures had { result ≡ is_some (find id_cmp id (held_by self.old.entities e)) }
         ensures unprepared { self.new.prepared ≡ [] }
     {
-        self.prepared.forget(&mut self.archetypes);
         let place = self.entities.place_of(e).unwrap();
-        self.archetypes.set_value(place.table, place.row, id, value)
+        self.layout.set_value(place, id, value)
     }
 }

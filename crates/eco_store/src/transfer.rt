@@ -1,10 +1,10 @@
 //! All rows of a table go to another, and their entities with them.
-ghost use Rattle.std.specs.Prelude.{◌≡◌, ◌≢◌, ◌<◌, ◌≤◌, ◌-◌, ◌++◌, List, ℕ, length, map, IsSome};
+ghost use Rattle.std.specs.Prelude.{◌≡◌, ◌≢◌, ◌<◌, ◌≤◌, ◌-◌, List, ℕ, length, map, IsSome};
 ghost use Rattle.eco_tables.specs.Tables.{slot_of, table_in, Moves};
 ghost use Rattle.eco_store.specs.Archetypes.{RowlessIn};
 ghost use Rattle.eco_store.specs.Retyping.{after_change, after_changes, IsOneWay};
 ghost use Rattle.eco_store.specs.Store.{IsStore, read};
-ghost use Rattle.eco_store.specs.Transfers.{change_of, IsPlan, HasRoom, Pours, ends};
+ghost use Rattle.eco_store.specs.Transfers.{change_of, IsPlan, HasRoom, Pours, AreNamed};
 
 use crate::archetypes::Archetypes;
 use eco_entities::{EntityIndex, Place};
@@ -27,6 +27,8 @@ impl Transfer {
         ensures moves { Moves archetypes.old archetypes.new self.from (length (table_in archetypes.old self.from).rows - 1) self.to }
         ensures ends { after_change (read entities.new archetypes.new) (change_of archetypes.old self) ≡ after_change (read entities.old archetypes.old) (change_of archetypes.old self) }
     {
+        // A place's row fits, as a table has no more rows than there are indices.
+        entities.rules();
         let tables = archetypes.tables();
         tables.rows_have_ids();
         let end = tables.row_count(self.to);
@@ -69,7 +71,7 @@ pub fn move_all(entities: &mut EntityIndex, archetypes: &mut Archetypes, transfe
     requires room { HasRoom archetypes.old transfers.now }
     ensures store { IsStore entities.new archetypes.new }
     ensures read { read entities.new archetypes.new ≡ after_changes (read entities.old archetypes.old) (map (change_of archetypes.old) transfers.now) }
-    ensures rowless { (slots : List ℕ) → RowlessIn archetypes.old (ends transfers.now ++ slots) → RowlessIn archetypes.new (ends transfers.now ++ slots) }
+    ensures rowless { (slots : List ℕ) → AreNamed slots transfers.now → RowlessIn archetypes.old slots → RowlessIn archetypes.new slots }
 {
     for transfer in transfers {
         transfer.move_rows(entities, archetypes);

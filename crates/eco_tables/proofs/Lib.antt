@@ -1,4 +1,6 @@
-pub mod Columns
+pub mod Held
+pub mod Packing
 pub mod RowIds
 pub mod Rows
 pub mod Slots
+pub mod Widths

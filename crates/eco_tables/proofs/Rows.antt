@@ -1,17 +1,21 @@
 -- Rows, as columns keep them.
-use Rattle.std.proofs.Common.{◌≡◌, ◌≢◌, ℕ, zero, suc, ◌+◌, ◌-◌, ◌<◌, ◌≤◌, Bool, true, false, if◌then◌else◌, List, [], ◌∷◌, ◌++◌, map, length, get_or, set, take, drop, refl, sym, ap, ◌∙◌, arith, inl, inr}
+use Rattle.std.proofs.Common.{◌≡◌, ◌≢◌, ℕ, zero, suc, ◌+◌, ◌-◌, ◌<◌, ◌≤◌, Bool, true, false, if◌then◌else◌, List, [], ◌∷◌, ◌++◌, map, length, get_or, set, take, drop, slice_get, replicate, Option, Some, None, unwrap_or, is_some, IsTrue, refl, sym, ap, ◌∙◌, arith, inl, inr, true≢false}
 use Rattle.std.specs.List.{All, swap_remove}
-use Rattle.std.proofs.lemmas.List.{ext_get_or, get_or-set_same, get_or-set_other, get_or_append_left, get_or_push, length-map, length-set, get_or-map, length-append, take_all, drop_all, append-nil}
+use Rattle.std.proofs.lemmas.List.{ext_get_or, get_or-set_same, get_or-set_other, get_or_append_left, get_or-append_right, get_or-replicate, length-replicate, length-map, length-set, get_or-map, length-append, map-append, map-set, take_all, drop_all, append-nil}
 use Rattle.std.proofs.lemmas.List.Elements.{All-head, All-tail, All-map}
 use Rattle.std.proofs.lemmas.Bool.{cases_eq}
 use Rattle.eco_ids.specs.declared.entity.Entity.{Entity}
 use Rattle.eco_ids.specs.declared.id.Id.{Id}
 use Rattle.eco_ids.specs.declared.value.Value.{Value}
 use Rattle.eco_ids.specs.World.{zeros}
-use Rattle.eco_ids.specs.Order.{id_eq}
-use Rattle.eco_ids.proofs.Lists.{before, before_within, get_or-swap_remove, length-swap_remove}
-use Rattle.eco_tables.specs.Column.{ColumnState, held_in, contents, pushed, with_removed, with_value, with_held, written}
-use Rattle.eco_tables.specs.Table.{Row, rows_from, HasShape, entities_of, HasIds}
+use Rattle.std.specs.FinMap.Entries.{find}
+use Rattle.eco_ids.specs.Order.{id_cmp, id_eq, has_item, is_ascending}
+use Rattle.eco_ids.proofs.Lists.{before, before_within, get_or-swap_remove, keys_paired, length-swap_remove}
+use Rattle.eco_tables.specs.Column.{ColumnState, Fits, held_in, value_in, contents, kind_of, joined, emptied, with_removed, with_value, with_held, written, retyped}
+use Rattle.eco_tables.specs.Table.{Row, rows_from, rows_of, retyped_row, paired, width_among, AreKinds, HasShape, ColumnsAgree, entities_of, HasIds}
+use Rattle.eco_tables.proofs.Held.{found_at, find-absent, place_within, has_place}
+use Rattle.eco_tables.proofs.Widths.{find-each, value-retyped, same_within, retyped-written, value-written, value-other, width-each, width-none}
+use Rattle.eco_tables.proofs.Packing.{map_swap_remove}
 
 -- a Vec's elements, after all of them were written through a slice
 pub refilled : {X : Type 0} (n : ℕ) (ws xs : List X) → length ws ≡ length xs → length xs ≡ n → take n (ws ++ drop (length ws) xs) ≡ ws
@@ -91,44 +95,87 @@ swapped_rows cs es row d r even there =
     ∙ ap (λ m. get_or (rows_from cs 0 es) (before row m j) r) (sym n)
     ∙ sym (get_or-swap_remove (rows_from cs 0 es) row j r r (rw n there) (rw n inside)))
 
--- a push
-pub rows_append : (cs : List ColumnState) (k : ℕ) (es : List Entity) (e : Entity)
-    → rows_from cs k (es ++ e ∷ []) ≡ rows_from cs k es ++ row_of e cs (k + length es) ∷ []
-rows_append cs k [] e = ap (λ n. row_of e cs n ∷ []) (let h : k ≡ k + 0 = omega arith in h)
-rows_append cs k (f ∷ es) e =
-    ap (λ xs. row_of f cs k ∷ xs) (rows_append cs (suc k) es e
-    ∙ ap (λ n. rows_from cs (suc k) es ++ row_of e cs n ∷ []) (let h : suc k + length es ≡ k + suc (length es) = omega arith in h))
+-- more rows
+rows_append : (cs : List ColumnState) (k : ℕ) (es fs : List Entity) → rows_from cs k (es ++ fs) ≡ rows_from cs k es ++ rows_from cs (k + length es) fs
+rows_append cs k [] fs = ap (λ n. rows_from cs n fs) (let h : k ≡ k + 0 = omega arith in h)
+rows_append cs k (e ∷ es) fs =
+    ap (λ xs. row_of e cs k ∷ xs) (rows_append cs (suc k) es fs
+    ∙ ap (λ n. rows_from cs (suc k) es ++ rows_from cs n fs) (let h : suc k + length es ≡ k + suc (length es) = omega arith in h))
 
-pub last_pushed : (g : Id → Value) (cs : List ColumnState) (ids : List Id) (n : ℕ) → All (λ c. length c.values ≡ n) cs → map (λ c. c.id) cs ≡ ids
-    → held_in (map (λ c. pushed c (g c.id)) cs) n ≡ map (λ i. (i, g i)) ids
-last_pushed g cs ids n even kinds =
-    by_column cs even ∙ ap (λ is. map (λ i. (i, g i)) is) kinds
-  where
-    by_column : (ds : List ColumnState) → All (λ c. length c.values ≡ n) ds
-        → held_in (map (λ c. pushed c (g c.id)) ds) n ≡ map (λ i. (i, g i)) (map (λ c. c.id) ds)
-    by_column [] even = refl
-    by_column (d ∷ ds) even =
-        let here = get_or_push d.values (g d.id) zeros n (All-head (λ c. length c.values ≡ n) d ds even) in
-        let there = by_column ds (All-tail (λ c. length c.values ≡ n) d ds even) in
-        λ t. (d.id, here t) ∷ there t
+-- the values that rows hold for an id
+abbrev pub values_held : List Row → Id → List Value
+values_held rows i = map (λ r. value_in r.held i) rows
 
-pub pushed_rows : (g : Id → Value) (cs : List ColumnState) (ids : List Id) (es : List Entity) (e : Entity)
-    → All (λ c. length c.values ≡ length es) cs → map (λ c. c.id) cs ≡ ids
-    → rows_from (map (λ c. pushed c (g c.id)) cs) 0 (es ++ e ∷ []) ≡ rows_from cs 0 es ++ record { entity = e; held = map (λ i. (i, g i)) ids } ∷ []
-pushed_rows g cs ids es e even kinds =
-    let ds = map (λ c. pushed c (g c.id)) cs in
+last_joined : (rows : List Row) (cs : List ColumnState) (n m : ℕ) (r : Row) → m < length rows → All (λ c. length c.values ≡ n) cs
+    → held_in (map (λ c. joined c (values_held rows c.id)) cs) (n + m) ≡ retyped (map (λ c. c.id) cs) (get_or rows m r).held
+last_joined rows [] n m r there even = refl
+last_joined rows (c ∷ cs) n m r there even =
+    let here : get_or (c.values ++ values_held rows c.id) (n + m) zeros ≡ value_in (get_or rows m r).held c.id =
+    get_or-append_right c.values (values_held rows c.id) n (n + m) zeros (All-head (λ x. length x.values ≡ n) c cs even) (omega arith)
+    ∙ ap (λ k. get_or (values_held rows c.id) k zeros) (let h : n + m - n ≡ m = omega arith in h)
+    ∙ get_or-map (λ (x : Row). value_in x.held c.id) rows m r zeros there in
+    let rest = last_joined rows cs n m r there (All-tail (λ x. length x.values ≡ n) c cs even) in
+    λ t. (c.id, here t) ∷ rest t
+
+pub joined_rows : (cs : List ColumnState) (es : List Entity) (rows : List Row) → All (λ c. length c.values ≡ length es) cs
+    → rows_from (map (λ c. joined c (values_held rows c.id)) cs) 0 (es ++ entities_of rows)
+    ≡ rows_from cs 0 es ++ map (retyped_row (map (λ c. c.id) cs)) rows
+joined_rows cs es rows even =
+    let ds = map (λ c. joined c (values_held rows c.id)) cs in
+    let nobody : Entity = record { index = 0; generation = 0 } in
+    let nothing : Row = record { entity = nobody; held = [] } in
     let old : rows_from ds 0 es ≡ rows_from cs 0 es =
-    rows_ext ds cs es es (rows_from cs 0 es) e (row_of e cs 0) (length-rows cs 0 es)
+    rows_ext ds cs es es (rows_from cs 0 es) nobody nothing (length-rows cs 0 es)
     (λ j within.
     (λ t. record {
-      entity = get_or es j e;
-      held = held_same (λ c. pushed c (g c.id)) cs j j (λ k d in_cs.
-          (refl, get_or_append_left (get_or cs k d).values (g (get_or cs k d).id ∷ []) zeros j (rw (even k d in_cs) within))) t;
+      entity = get_or es j nobody;
+      held = held_same (λ c. joined c (values_held rows c.id)) cs j j (λ k d in_cs.
+          (refl, get_or_append_left (get_or cs k d).values (values_held rows (get_or cs k d).id) zeros j (rw (even k d in_cs) within))) t;
     })
-    ∙ sym (get_or-rows cs es j e (row_of e cs 0) within)) in
-    let new = last_pushed g cs ids (length es) even kinds in
-    rows_append ds 0 es e
-    ∙ (λ t. old t ++ record { entity = e; held = (ap (λ n. held_in ds n) (let h : 0 + length es ≡ length es = omega arith in h) ∙ new) t } ∷ [])
+    ∙ sym (get_or-rows cs es j nobody nothing within)) in
+    let start : 0 + length es ≡ length es = omega arith in
+    let new : rows_from ds (length es) (entities_of rows) ≡ map (retyped_row (map (λ c. c.id) cs)) rows =
+    ext_get_or nothing (rows_from ds (length es) (entities_of rows)) (map (retyped_row (map (λ c. c.id) cs)) rows)
+    (length-rows ds (length es) (entities_of rows) ∙ length-map rows (λ r. r.entity) ∙ sym (length-map rows (retyped_row (map (λ c. c.id) cs))))
+    (λ m within.
+    let in_entities : m < length (entities_of rows) = rw (length-rows ds (length es) (entities_of rows)) at within in
+    let in_rows : m < length rows = rw (length-map rows (λ (r : Row). r.entity)) at in_entities in
+    let r = get_or rows m nothing in
+    get_or-rows_from ds (length es) (entities_of rows) m nobody nothing in_entities
+    ∙ (λ t. record {
+      entity = get_or-map (λ (x : Row). x.entity) rows m nothing nobody in_rows t;
+      held = last_joined rows cs (length es) m nothing in_rows even t;
+    })
+    ∙ sym (get_or-map (retyped_row (map (λ c. c.id) cs)) rows m nothing nothing in_rows)) in
+    rows_append ds 0 es (entities_of rows) ∙ ap (λ n. rows_from ds 0 es ++ rows_from ds n (entities_of rows)) start ∙ (λ t. old t ++ new t)
+
+-- the values of a column are what its rows hold
+values_ext : (cs : List ColumnState) (es : List Entity) (i : Id) (vs : List Value) → length vs ≡ length es
+    → ((k : ℕ) → k < length es → get_or vs k zeros ≡ value_in (held_in cs k) i) → vs ≡ values_held (rows_from cs 0 es) i
+values_ext cs es i vs long each =
+    let nobody : Entity = record { index = 0; generation = 0 } in
+    let nothing : Row = record { entity = nobody; held = [] } in
+    let n : length (values_held (rows_from cs 0 es) i) ≡ length es = length-map (rows_from cs 0 es) (λ r. value_in r.held i) ∙ length-rows cs 0 es in
+    ext_get_or zeros vs (values_held (rows_from cs 0 es) i) (long ∙ sym n)
+    (λ k within.
+    let in_es : k < length es = rw long at within in
+    each k in_es
+    ∙ sym (get_or-map (λ (x : Row). value_in x.held i) (rows_from cs 0 es) k nothing zeros (rw (length-rows cs 0 es) in_es)
+    ∙ ap (λ (x : Row). value_in x.held i) (get_or-rows cs es k nobody nothing in_es)))
+
+pub values_at : (cs : List ColumnState) (es : List Entity) (p : ℕ) (i : Id) (d : ColumnState) → slice_get (map (λ c. c.id) cs) p ≡ Some i
+    → IsTrue (is_ascending id_cmp (map (λ c. c.id) cs)) → All (λ c. length c.values ≡ length es) cs
+    → (get_or cs p d).values ≡ values_held (rows_from cs 0 es) i
+values_at cs es p i d at up even =
+    values_ext cs es i (get_or cs p d).values (even p d (place_within cs p i at))
+    (λ k within. sym (ap (λ o. unwrap_or o zeros) (found_at cs p i at (λ c. get_or c.values k zeros) d up)))
+
+pub values_absent : (cs : List ColumnState) (es : List Entity) (i : Id) → has_item id_cmp (map (λ c. c.id) cs) i ≡ false
+    → replicate (length es) zeros ≡ values_held (rows_from cs 0 es) i
+values_absent cs es i none =
+    values_ext cs es i (replicate (length es) zeros) (length-replicate (length es) zeros)
+    (λ k within. get_or-replicate (length es) k zeros zeros within
+    ∙ sym (ap (λ o. unwrap_or o zeros) (find-absent (λ c. get_or c.values k zeros) cs i none)))
 
 -- a write
 pub written_rows : (cs : List ColumnState) (es : List Entity) (row : ℕ) (i : Id) (v : Value) (r : Row)
@@ -179,55 +226,300 @@ written_rows cs es row i v r even there =
         by true h = ap (λ x. (d.id, x)) (get_or-set_same d.values row v zeros h)
         by false h = refl
 
-pub ids_kept : (f : ColumnState → ColumnState) → ((c : ColumnState) → (f c).id ≡ c.id) → (cs : List ColumnState)
-    → map (λ c. c.id) (map f cs) ≡ map (λ c. c.id) cs
-ids_kept f same [] = refl
-ids_kept f same (c ∷ cs) = λ t. same c t ∷ ids_kept f same cs t
-
 -- the rows under columns that have only more room
 pub contents_rows : (cs ds : List ColumnState) (k : ℕ) (es : List Entity) → map contents ds ≡ map contents cs → rows_from ds k es ≡ rows_from cs k es
 contents_rows cs ds k [] same = refl
 contents_rows cs ds k (e ∷ es) same =
-    let held : held_in ds k ≡ held_in cs k = held_of ds k ∙ ap (λ xs. map (λ p. (p.0, get_or p.1 k zeros)) xs) same ∙ sym (held_of cs k) in
+    let held : held_in ds k ≡ held_in cs k = held_of ds k ∙ ap (λ xs. map (λ p. (p.0.0, get_or p.1 k zeros)) xs) same ∙ sym (held_of cs k) in
     let rest = contents_rows cs ds (suc k) es same in
     λ t. record { entity = e; held = held t } ∷ rest t
   where
-    held_of : (xs : List ColumnState) (k : ℕ) → held_in xs k ≡ map (λ p. (p.0, get_or p.1 k zeros)) (map contents xs)
+    held_of : (xs : List ColumnState) (k : ℕ) → held_in xs k ≡ map (λ p. (p.0.0, get_or p.1 k zeros)) (map contents xs)
     held_of [] k = refl
     held_of (x ∷ xs) k = ap (λ ys. (x.id, get_or x.values k zeros) ∷ ys) (held_of xs k)
 
 pub length-contents : (cs ds : List ColumnState) → map contents ds ≡ map contents cs → length ds ≡ length cs
 length-contents cs ds same = sym (length-map ds contents) ∙ ap length same ∙ length-map cs contents
 
+pub contents_kinds : (cs ds : List ColumnState) → map contents ds ≡ map contents cs → map kind_of ds ≡ map kind_of cs
+contents_kinds cs ds same = firsts ds ∙ ap (map (λ p. p.0)) same ∙ sym (firsts cs)
+  where
+    firsts : (xs : List ColumnState) → map kind_of xs ≡ map (λ p. p.0) (map contents xs)
+    firsts [] = refl
+    firsts (x ∷ xs) = ap (λ ys. kind_of x ∷ ys) (firsts xs)
+
+pub kinds_same : (f : ColumnState → ColumnState) → ((c : ColumnState) → kind_of (f c) ≡ kind_of c) → (cs : List ColumnState)
+    → map kind_of (map f cs) ≡ map kind_of cs
+kinds_same f same [] = refl
+kinds_same f same (c ∷ cs) = λ t. same c t ∷ kinds_same f same cs t
+
+pub written_kind : (row : ℕ) (i : Id) (v : Value) (c : ColumnState) → kind_of (written c row i v) ≡ kind_of c
+written_kind row i v c = by (id_eq c.id i)
+  where
+    by : (b : Bool) → kind_of (if b then with_value c row v else c) ≡ kind_of c
+    by true = refl
+    by false = refl
+
+ids_of_kinds : (cs : List ColumnState) → map (λ k. k.0) (map kind_of cs) ≡ map (λ c. c.id) cs
+ids_of_kinds [] = refl
+ids_of_kinds (c ∷ cs) = ap (λ is. c.id ∷ is) (ids_of_kinds cs)
+
+ids_held : (cs : List ColumnState) (k : ℕ) → map (λ p. p.0) (held_in cs k) ≡ map (λ c. c.id) cs
+ids_held [] k = refl
+ids_held (c ∷ cs) k = ap (λ is. c.id ∷ is) (ids_held cs k)
+
+-- a write of an id that isn't held
+unwritten : (held : List (Id × Value)) (i : Id) (v : Value) → has_item id_cmp (map (λ p. p.0) held) i ≡ false → with_held held i v ≡ held
+unwritten [] i v none = refl
+unwritten (p ∷ held) i v none = by (id_eq p.0 i) refl (unwritten held i v)
+  where
+    by : (b : Bool) → id_eq p.0 i ≡ b → (has_item id_cmp (map (λ q. q.0) held) i ≡ false → with_held held i v ≡ held) → with_held (p ∷ held) i v ≡ p ∷ held
+    by true e rest = let bad = rw e at none in cc
+    by false e rest = let later = rw e at none in rw e (ap (λ xs. p ∷ xs) (rest later))
+
+-- what the columns say of the type
+module _ (ids : List Id) (cs : List ColumnState) (kinds : AreKinds ids (map kind_of cs)) where
+  pub ascends : IsTrue (is_ascending id_cmp (map (λ c. c.id) cs))
+  ascends = rw (← ids_of_kinds cs) kinds.ascending
+
+  pub within_ids : (i : Id) → has_item id_cmp (map (λ c. c.id) cs) i ≡ true → has_item id_cmp ids i ≡ true
+  within_ids i has = kinds.within i (rw (ids_of_kinds cs) has)
+
+  -- an id that is none of the type's has no column
+  pub outside : (i : Id) → has_item id_cmp ids i ≡ false → has_item id_cmp (map (λ c. c.id) cs) i ≡ false
+  outside i none = by (has_item id_cmp (map (λ c. c.id) cs) i) refl
+    where
+      by : (b : Bool) → has_item id_cmp (map (λ c. c.id) cs) i ≡ b → b ≡ false
+      by false e = refl
+      by true e = sym (within_ids i e) ∙ none
+
+  -- nor has one without a width
+  pub widthless : (i : Id) → width_among (map kind_of cs) i ≡ 0 → has_item id_cmp (map (λ c. c.id) cs) i ≡ false
+  widthless i none = by (has_item id_cmp (map (λ c. c.id) cs) i) refl
+    where
+      by : (b : Bool) → has_item id_cmp (map (λ c. c.id) cs) i ≡ b → b ≡ false
+      by false e = refl
+      by true e = let some : 1 ≤ width_among (map kind_of cs) i = kinds.wide i (rw (ids_of_kinds cs) e) in absurd (omega (arith, none, some))
+
+  pub no_column : (i : Id) → has_item id_cmp (map (λ c. c.id) cs) i ≡ false → width_among (map kind_of cs) i ≡ 0
+  no_column i none = width-none (map kind_of cs) i (rw (ids_of_kinds cs) none)
+
+  -- the width of a column is its id's
+  pub column_width : (p : ℕ) (i : Id) (d : ColumnState) → slice_get (map (λ c. c.id) cs) p ≡ Some i
+      → find id_cmp i (paired ids (map (width_among (map kind_of cs)) ids)) ≡ Some (get_or cs p d).width
+  column_width p i d at =
+      let there = within_ids i (has_place cs p i at) in
+      width-each ids (map kind_of cs) i
+      ∙ ap (λ b. if b then Some (width_among (map kind_of cs) i) else None) there
+      ∙ ap (λ o. Some (unwrap_or o 0)) (found_at cs p i at (λ c. c.width) d ascends)
+
+  -- an id of the type without a column
+  pub widthless_in : (i : Id) → has_item id_cmp ids i ≡ true → has_item id_cmp (map (λ c. c.id) cs) i ≡ false
+      → find id_cmp i (paired ids (map (width_among (map kind_of cs)) ids)) ≡ Some 0
+  widthless_in i there none =
+      width-each ids (map kind_of cs) i
+      ∙ ap (λ b. if b then Some (width_among (map kind_of cs) i) else None) there
+      ∙ ap Some (no_column i none)
+
+  pub no_width : (i : Id) → has_item id_cmp ids i ≡ false → find id_cmp i (paired ids (map (width_among (map kind_of cs)) ids)) ≡ None
+  no_width i none =
+      width-each ids (map kind_of cs) i ∙ ap (λ b. if b then Some (width_among (map kind_of cs) i) else None) none
+
+  -- the id at a place
+  id_at : (p : ℕ) (d : ColumnState) → p < length cs → slice_get (map (λ c. c.id) cs) p ≡ Some (get_or cs p d).id
+  id_at p d there = by cs p there
+    where
+      by : (xs : List ColumnState) (k : ℕ) → k < length xs → slice_get (map (λ c. c.id) xs) k ≡ Some (get_or xs k d).id
+      by [] k h = absurd (omega arith)
+      by (x ∷ xs) zero h = refl
+      by (x ∷ xs) (suc k) h = by xs k (omega arith)
+
+  pub width_at : (p : ℕ) (d : ColumnState) → p < length cs
+      → find id_cmp (get_or cs p d).id (paired ids (map (width_among (map kind_of cs)) ids)) ≡ Some (get_or cs p d).width
+  width_at p d there = column_width p (get_or cs p d).id d (id_at p d there)
+
+  -- a value that fits the id fits its column
+  pub fits_columns : (i : Id) (v : Value) → ((n : ℕ) → find id_cmp i (paired ids (map (width_among (map kind_of cs)) ids)) ≡ Some n → Fits n v)
+      → All (λ c. c.id ≡ i → Fits c.width v) cs
+  fits_columns i v fits p d there is =
+      fits (get_or cs p d).width (ap (λ x. find id_cmp x (paired ids (map (width_among (map kind_of cs)) ids))) (sym is) ∙ width_at p d there)
+
+  -- what a row of the columns holds for an id that has none
+  pub zeros_held : (k : ℕ) (i : Id) → has_item id_cmp (map (λ c. c.id) cs) i ≡ false → value_in (held_in cs k) i ≡ zeros
+  zeros_held k i none = ap (λ o. unwrap_or o zeros) (find-absent (λ c. get_or c.values k zeros) cs i none)
+
+  -- a table's row holds what the columns hold
+  pub held_value : (k : ℕ) (i : Id) → value_in (retyped ids (held_in cs k)) i ≡ value_in (held_in cs k) i
+  held_value k i = value-retyped ids (held_in cs k) i ∙ by (has_item id_cmp ids i) refl
+    where
+      by : (b : Bool) → has_item id_cmp ids i ≡ b → (if b then value_in (held_in cs k) i else zeros) ≡ value_in (held_in cs k) i
+      by true e = refl
+      by false e = sym (zeros_held k i (outside i e))
+
+  -- a value that is written in a row
+  pub written_held : (k : ℕ) (i : Id) (v : Value) → ((n : ℕ) → find id_cmp i (paired ids (map (width_among (map kind_of cs)) ids)) ≡ Some n → Fits n v)
+      → retyped ids (with_held (held_in cs k) i v) ≡ with_held (retyped ids (held_in cs k)) i v
+  written_held k i v fits =
+      retyped-written ids (held_in cs k) (with_held (held_in cs k) i v) i v
+      (λ there. by (has_item id_cmp (map (λ c. c.id) cs) i) refl there)
+      (λ j other. value-other (held_in cs k) i j v other)
+    where
+      by : (b : Bool) → has_item id_cmp (map (λ c. c.id) cs) i ≡ b → has_item id_cmp ids i ≡ true → value_in (with_held (held_in cs k) i v) i ≡ v
+      by true e there = value-written (held_in cs k) i v (rw (ids_held cs k) e)
+      by false e there =
+          let none : has_item id_cmp (map (λ p. p.0) (held_in cs k)) i ≡ false = rw (ids_held cs k) e in
+          ap (λ held. value_in held i) (unwritten (held_in cs k) i v none) ∙ zeros_held k i e ∙ sym (fits 0 (widthless_in i there e))
+
+  -- what is read row by row
+  pub shown_rows : (k : ℕ) (es : List Entity) (i : Id) → values_held (map (retyped_row ids) (rows_from cs k es)) i ≡ values_held (rows_from cs k es) i
+  shown_rows k [] i = refl
+  shown_rows k (e ∷ es) i =
+      let there = shown_rows (suc k) es i in
+      λ t. held_value k i t ∷ there t
+
+  pub narrow : (i : Id) → has_item id_cmp (map (λ c. c.id) cs) i ≡ false → unwrap_or (find id_cmp i (paired ids (map (width_among (map kind_of cs)) ids))) 0 ≡ 0
+  narrow i none = ap (λ o. unwrap_or o 0) (width-each ids (map kind_of cs) i) ∙ by (has_item id_cmp ids i)
+    where
+      by : (b : Bool) → unwrap_or (if b then Some (width_among (map kind_of cs) i) else None) 0 ≡ 0
+      by true = no_column i none
+      by false = refl
+
+-- rows that get the values of rows elsewhere: of ids in both types, which are as wide in both
+module _ (ids sids : List Id) (cs ds : List ColumnState) (own : AreKinds ids (map kind_of cs)) (others : AreKinds sids (map kind_of ds))
+    (agree : (i : Id) (m n : ℕ) → find id_cmp i (paired ids (map (width_among (map kind_of cs)) ids)) ≡ Some m
+    → find id_cmp i (paired sids (map (width_among (map kind_of ds)) sids)) ≡ Some n → m ≡ n) where
+  pub same_held : (k : ℕ) → retyped ids (retyped (map (λ c. c.id) cs) (held_in ds k)) ≡ retyped ids (retyped sids (held_in ds k))
+  same_held k =
+      same_within ids (value_in (retyped (map (λ c. c.id) cs) (held_in ds k))) (value_in (retyped sids (held_in ds k)))
+      (λ i there. value-retyped (map (λ c. c.id) cs) (held_in ds k) i
+      ∙ by i there (has_item id_cmp (map (λ c. c.id) cs) i) refl (has_item id_cmp sids i) refl
+      ∙ sym (value-retyped sids (held_in ds k) i))
+    where
+      by : (i : Id) → has_item id_cmp ids i ≡ true → (b : Bool) → has_item id_cmp (map (λ c. c.id) cs) i ≡ b → (b2 : Bool) → has_item id_cmp sids i ≡ b2
+          → (if b then value_in (held_in ds k) i else zeros) ≡ (if b2 then value_in (held_in ds k) i else zeros)
+      by i there true e true e2 = refl
+      by i there true e false e2 = zeros_held sids ds others k i (outside sids ds others i e2)
+      by i there false e false e2 = refl
+      by i there false e true e2 =
+          let width : 0 ≡ width_among (map kind_of ds) i =
+          agree i 0 (width_among (map kind_of ds) i) (widthless_in ids cs own i there e)
+          (width-each sids (map kind_of ds) i ∙ ap (λ b. if b then Some (width_among (map kind_of ds) i) else None) e2) in
+          sym (zeros_held sids ds others k i (widthless sids ds others i (sym width)))
+
+  -- columns of one id are as wide
+  pub columns_agree : ColumnsAgree cs ds
+  columns_agree p c there q d there2 same =
+      agree (get_or cs p c).id (get_or cs p c).width (get_or ds q d).width (width_at ids cs own p c there)
+      (ap (λ x. find id_cmp x (paired sids (map (width_among (map kind_of ds)) sids))) same ∙ width_at sids ds others q d there2)
+
+-- a row of zeros
+pub zeros_added : (ids : List Id) (cs : List ColumnState) → AreKinds ids (map kind_of cs)
+    → retyped ids (retyped (map (λ c. c.id) cs) []) ≡ retyped ids []
+zeros_added ids cs kinds =
+    same_held ids [] cs [] kinds
+    (record { ascending = refl; within = λ i has. has; wide = λ i has. absurd (true≢false (sym has)) })
+    (λ i m n own none. let bad : ◌≡◌ {A = Option ℕ} None (Some n) = none in cc) 0
+
+-- rows from a table, under its type
+pub same_rows : (ids sids : List Id) (cs ds : List ColumnState) → ((k : ℕ) → retyped ids (retyped (map (λ c. c.id) cs) (held_in ds k)) ≡ retyped ids (retyped sids (held_in ds k)))
+    → (k : ℕ) (es : List Entity)
+    → map (retyped_row ids) (map (retyped_row (map (λ c. c.id) cs)) (rows_from ds k es)) ≡ map (retyped_row ids) (map (retyped_row sids) (rows_from ds k es))
+same_rows ids sids cs ds same k [] = refl
+same_rows ids sids cs ds same k (e ∷ es) =
+    let there = same_rows ids sids cs ds same (suc k) es in
+    λ t. record { entity = e; held = same k t } ∷ there t
+
+-- ---- rows of the table
+
+pub entities_of_all : (ids : List Id) (cs : List ColumnState) (es : List Entity) → entities_of (rows_of ids cs es) ≡ es
+entities_of_all ids cs es = same (rows_from cs 0 es) ∙ entities_of-rows cs 0 es
+  where
+    same : (rows : List Row) → entities_of (map (retyped_row ids) rows) ≡ entities_of rows
+    same [] = refl
+    same (r ∷ rows) = ap (λ xs. r.entity ∷ xs) (same rows)
+
+-- a removal
+pub removed_rows : (ids : List Id) (cs : List ColumnState) (es : List Entity) (row : ℕ) (d : Entity) (r : Row)
+    → All (λ c. length c.values ≡ length es) cs → row < length es
+    → rows_of ids (map (λ c. with_removed c row) cs) (swap_remove es row d) ≡ swap_remove (rows_of ids cs es) row r
+removed_rows ids cs es row d r even there =
+    ap (map (retyped_row ids)) (swapped_rows cs es row d r even there)
+    ∙ map_swap_remove (retyped_row ids) (rows_from cs 0 es) row r r (rw (length-rows cs 0 es) there)
+
+-- rows from elsewhere
+pub added_rows : (ids : List Id) (cs : List ColumnState) (es : List Entity) (rows : List Row) (to : Row → Row)
+    → All (λ c. length c.values ≡ length es) cs
+    → map (retyped_row ids) (map (retyped_row (map (λ c. c.id) cs)) rows) ≡ map (retyped_row ids) (map to rows)
+    → rows_of ids (map (λ c. joined c (values_held rows c.id)) cs) (es ++ entities_of rows) ≡ rows_of ids cs es ++ map (retyped_row ids) (map to rows)
+added_rows ids cs es rows to even same =
+    ap (map (retyped_row ids)) (joined_rows cs es rows even)
+    ∙ map-append (retyped_row ids) (rows_from cs 0 es) (map (retyped_row (map (λ c. c.id) cs)) rows)
+    ∙ ap (λ xs. rows_of ids cs es ++ xs) same
+
+-- a write
+pub set_rows : (ids : List Id) (cs : List ColumnState) (es : List Entity) (row : ℕ) (i : Id) (v : Value) (r : Row)
+    → All (λ c. length c.values ≡ length es) cs → row < length es
+    → retyped ids (with_held (held_in cs row) i v) ≡ with_held (retyped ids (held_in cs row)) i v
+    → rows_of ids (map (λ c. written c row i v) cs) es
+    ≡ set (rows_of ids cs es) row (record { entity = (get_or (rows_of ids cs es) row r).entity; held = with_held (get_or (rows_of ids cs es) row r).held i v })
+set_rows ids cs es row i v r even there same =
+    let within : row < length (rows_from cs 0 es) = rw (length-rows cs 0 es) there in
+    let was : get_or (rows_from cs 0 es) row r ≡ row_of (get_or es row r.entity) cs row = get_or-rows cs es row r.entity r there in
+    let is : get_or (rows_of ids cs es) row r ≡ retyped_row ids (row_of (get_or es row r.entity) cs row) =
+    get_or-map (retyped_row ids) (rows_from cs 0 es) row r r within ∙ ap (retyped_row ids) was in
+    ap (map (retyped_row ids)) (written_rows cs es row i v r even there)
+    ∙ map-set (retyped_row ids) (rows_from cs 0 es) row _
+    ∙ ap (set (rows_of ids cs es) row)
+    ((λ t. record { entity = (was t).entity; held = retyped ids (with_held (was t).held i v) })
+    ∙ (λ t. record { entity = get_or es row r.entity; held = same t })
+    ∙ sym (λ t. record { entity = (is t).entity; held = with_held (is t).held i v }))
+
 -- what each change leaves of the shape
 module _ (ids : List Id) (es : List Entity) (capacity : ℕ) (cs : List ColumnState) (room : ℕ) (shape : HasShape ids es capacity cs room) where
-  pub row_within : (row : ℕ) → row < length (rows_from cs 0 es) → row < length es
-  row_within row h = rw (length-rows cs 0 es) at h
+  pub length-rows_of : length (rows_of ids cs es) ≡ length es
+  length-rows_of = length-map (rows_from cs 0 es) (retyped_row ids) ∙ length-rows cs 0 es
 
-  pub row_in_columns : (row : ℕ) → row < length (rows_from cs 0 es) → All (λ c. row < length c.values) cs
+  pub row_within : (row : ℕ) → row < length (rows_of ids cs es) → row < length es
+  row_within row h = rw length-rows_of at h
+
+  pub row_in_columns : (row : ℕ) → row < length (rows_of ids cs es) → All (λ c. row < length c.values) cs
   row_in_columns row h = λ k d in_cs. rw (shape.even k d in_cs) (row_within row h)
 
-  pub shape_pushed : (g : Id → Value) (e : Entity) → 0 < room → HasShape ids (es ++ e ∷ []) capacity (map (λ c. pushed c (g c.id)) cs) (room - 1)
-  shape_pushed g e some = record {
-    kinds = ids_kept (λ c. pushed c (g c.id)) (λ c. refl) cs ∙ shape.kinds;
-    even = All-map (λ c. length c.values ≡ length (es ++ e ∷ [])) (λ c. pushed c (g c.id)) cs
-        (λ k d in_cs. omega (arith, shape.even k d in_cs, length-append (get_or cs k d).values (g (get_or cs k d).id ∷ []), length-append es (e ∷ [])));
-    roomy = All-map (λ c. room - 1 ≤ c.room) (λ c. pushed c (g c.id)) cs (λ k d in_cs. omega (arith, shape.roomy k d in_cs));
-    rows_room = omega (arith, shape.rows_room, length-append es (e ∷ []));
+  -- a row of the table
+  pub row_at : (row : ℕ) (e : Entity) (r : Row) → row < length es → get_or (rows_of ids cs es) row r ≡ retyped_row ids (row_of (get_or es row e) cs row)
+  row_at row e r there =
+      get_or-map (retyped_row ids) (rows_from cs 0 es) row r r (rw (length-rows cs 0 es) there) ∙ ap (retyped_row ids) (get_or-rows cs es row e r there)
+
+  pub shape_joined : (g : Id → List Value) (fs : List Entity) → length fs ≤ room → ((i : Id) → length (g i) ≡ length fs)
+      → HasShape ids (es ++ fs) capacity (map (λ c. joined c (g c.id)) cs) (room - length fs)
+  shape_joined g fs some long = record {
+    kinds = rw (kinds_same (λ c. joined c (g c.id)) (λ c. refl) cs) shape.kinds;
+    even = All-map (λ c. length c.values ≡ length (es ++ fs)) (λ c. joined c (g c.id)) cs
+        (λ k d in_cs. omega (arith, shape.even k d in_cs, long (get_or cs k d).id, length-append (get_or cs k d).values (g (get_or cs k d).id), length-append es fs));
+    roomy = All-map (λ c. room - length fs ≤ c.room) (λ c. joined c (g c.id)) cs (λ k d in_cs. omega (arith, long (get_or cs k d).id, shape.roomy k d in_cs));
+    rows_room = omega (arith, shape.rows_room, length-append es fs);
   }
 
   pub shape_removed : (row : ℕ) (e : Entity) → row < length es → HasShape ids (swap_remove es row e) capacity (map (λ c. with_removed c row) cs) (room + 1)
   shape_removed row e there = record {
-    kinds = ids_kept (λ c. with_removed c row) (λ c. refl) cs ∙ shape.kinds;
+    kinds = rw (kinds_same (λ c. with_removed c row) (λ c. refl) cs) shape.kinds;
     even = All-map (λ c. length c.values ≡ length (swap_remove es row e)) (λ c. with_removed c row) cs
         (λ k d in_cs. length-swap_remove (get_or cs k d).values row zeros ∙ ap (λ n. n - 1) (shape.even k d in_cs) ∙ sym (length-swap_remove es row e));
     roomy = All-map (λ c. room + 1 ≤ c.room) (λ c. with_removed c row) cs (λ k d in_cs. omega (arith, shape.roomy k d in_cs));
     rows_room = omega (arith, shape.rows_room, length-swap_remove es row e);
   }
 
+  pub shape_emptied : HasShape ids [] capacity (map emptied cs) (room + length es)
+  shape_emptied = record {
+    kinds = rw (kinds_same emptied (λ c. refl) cs) shape.kinds;
+    even = All-map (λ c. length c.values ≡ 0) emptied cs (λ k d in_cs. refl);
+    roomy = All-map (λ c. room + length es ≤ c.room) emptied cs (λ k d in_cs. omega (arith, shape.even k d in_cs, shape.roomy k d in_cs));
+    rows_room = omega (arith, shape.rows_room);
+  }
+
   pub shape_written : (row : ℕ) (i : Id) (v : Value) → HasShape ids es capacity (map (λ c. written c row i v) cs) room
   shape_written row i v = record {
-    kinds = ids_kept (λ c. written c row i v) (λ c. by_id (id_eq c.id i) c) cs ∙ shape.kinds;
+    kinds = rw (kinds_same (λ c. written c row i v) (written_kind row i v) cs) shape.kinds;
     even = All-map (λ c. length c.values ≡ length es) (λ c. written c row i v) cs
         (λ k d in_cs. by_length (id_eq (get_or cs k d).id i) (get_or cs k d) ∙ shape.even k d in_cs);
     roomy = All-map (λ c. room ≤ c.room) (λ c. written c row i v) cs
@@ -235,10 +527,6 @@ module _ (ids : List Id) (es : List Entity) (capacity : ℕ) (cs : List ColumnSt
     rows_room = shape.rows_room;
   }
     where
-      by_id : (b : Bool) (c : ColumnState) → (if b then with_value c row v else c).id ≡ c.id
-      by_id true c = refl
-      by_id false c = refl
-
       by_length : (b : Bool) (c : ColumnState) → length (if b then with_value c row v else c).values ≡ length c.values
       by_length true c = length-set c.values row v
       by_length false c = refl
@@ -250,16 +538,12 @@ module _ (ids : List Id) (es : List Entity) (capacity : ℕ) (cs : List ColumnSt
   pub shape_reserved : (ds : List ColumnState) (capacity' room' : ℕ) → map contents ds ≡ map contents cs → All (λ c. room' ≤ c.room) ds
       → length es + room' ≤ capacity' → HasShape ids es capacity' ds room'
   shape_reserved ds capacity' room' same roomy fits = record {
-    kinds = ids_of ds ∙ ap (λ xs. map (λ p. p.0) xs) same ∙ sym (ids_of cs) ∙ shape.kinds;
+    kinds = rw (contents_kinds cs ds same) shape.kinds;
     even = evens;
     roomy = roomy;
     rows_room = fits;
   }
     where
-      ids_of : (xs : List ColumnState) → map (λ c. c.id) xs ≡ map (λ p. p.0) (map contents xs)
-      ids_of [] = refl
-      ids_of (x ∷ xs) = ap (λ is. x.id ∷ is) (ids_of xs)
-
       evens : All (λ c. length c.values ≡ length es) ds
       evens k d in_ds =
           let in_cs : k < length cs = rw (length-contents cs ds same) at in_ds in
@@ -268,12 +552,40 @@ module _ (ids : List Id) (es : List Entity) (capacity : ℕ) (cs : List ColumnSt
           ∙ ap (λ p. length p.1) (get_or-map contents cs k d (contents d) in_cs)
           ∙ shape.even k d in_cs
 
-  -- each row has a value for each id
-  pub rows_have_ids : All (HasIds ids) (rows_from cs 0 es)
-  rows_have_ids k r in_rows =
-      let in_es : k < length es = row_within k in_rows in
-      ap (λ (x : Row). map (λ p. p.0) x.held) (get_or-rows cs es k r.entity r in_es) ∙ ids_held cs k ∙ shape.kinds
+  -- a value that is read
+  pub value_read : (row : ℕ) (i : Id) (r : Row) → row < length es → value_in (get_or (rows_of ids cs es) row r).held i ≡ value_in (held_in cs row) i
+  value_read row i r there = ap (λ (x : Row). value_in x.held i) (row_at row r.entity r there) ∙ held_value ids cs shape.kinds row i
+
+  find_read : (row : ℕ) (i : Id) (r : Row) → row < length es
+      → find id_cmp i (get_or (rows_of ids cs es) row r).held ≡ (if has_item id_cmp ids i then Some (value_in (held_in cs row) i) else None)
+  find_read row i r there = ap (λ (x : Row). find id_cmp i x.held) (row_at row r.entity r there) ∙ find-each (value_in (held_in cs row)) ids i
+
+  pub has_read : (row : ℕ) (i : Id) (r : Row) → row < length es → is_some (find id_cmp i (get_or (rows_of ids cs es) row r).held) ≡ has_item id_cmp ids i
+  has_read row i r there = ap is_some (find_read row i r there) ∙ by (has_item id_cmp ids i)
     where
-      ids_held : (xs : List ColumnState) (k : ℕ) → map (λ p. p.0) (held_in xs k) ≡ map (λ c. c.id) xs
-      ids_held [] k = refl
-      ids_held (x ∷ xs) k = ap (λ is. x.id ∷ is) (ids_held xs k)
+      by : (b : Bool) → is_some (if b then Some (value_in (held_in cs row) i) else None) ≡ b
+      by true = refl
+      by false = refl
+
+  pub zeros_read : (row : ℕ) (i : Id) (r : Row) → row < length es → find id_cmp i (held_in cs row) ≡ None → has_item id_cmp ids i ≡ true
+      → find id_cmp i (get_or (rows_of ids cs es) row r).held ≡ Some zeros
+  zeros_read row i r there none has =
+      find_read row i r there ∙ ap (λ b. if b then Some (value_in (held_in cs row) i) else None) has ∙ ap (λ o. Some (unwrap_or o zeros)) none
+
+  pub none_read : (row : ℕ) (i : Id) (r : Row) → row < length es → has_item id_cmp ids i ≡ false → find id_cmp i (get_or (rows_of ids cs es) row r).held ≡ None
+  none_read row i r there none = find_read row i r there ∙ ap (λ b. if b then Some (value_in (held_in cs row) i) else None) none
+
+  pub found_read : (row : ℕ) (i : Id) (r : Row) (v : Value) → row < length es → find id_cmp i (held_in cs row) ≡ Some v
+      → find id_cmp i (get_or (rows_of ids cs es) row r).held ≡ Some v
+  found_read row i r v there found =
+      find_read row i r there
+      ∙ ap (λ b. if b then Some (value_in (held_in cs row) i) else None) (within_ids ids cs shape.kinds i (has (has_item id_cmp (map (λ c. c.id) cs) i) refl))
+      ∙ ap (λ o. Some (unwrap_or o zeros)) found
+    where
+      has : (b : Bool) → has_item id_cmp (map (λ c. c.id) cs) i ≡ b → has_item id_cmp (map (λ c. c.id) cs) i ≡ true
+      has true e = e
+      has false e = let bad : ◌≡◌ {A = Option Value} None (Some v) = sym (find-absent (λ c. get_or c.values row zeros) cs i e) ∙ found in cc
+
+  -- each row has a value for each id
+  pub rows_have_ids : All (HasIds ids) (rows_of ids cs es)
+  rows_have_ids = All-map (HasIds ids) (retyped_row ids) (rows_from cs 0 es) (λ k r there. keys_paired (value_in (get_or (rows_from cs 0 es) k r).held) ids)

@@ -1,30 +1,47 @@
 -- The values of one id, a place for each row.
-use Rattle.std.specs.Prelude.{ℕ, ◌+◌, ◌-◌, List, [], ◌∷◌, ◌++◌, map, slice_index_or, slice_set, unwrap_or, drop, if◌then◌else◌}
-use Rattle.std.specs.List.{swap_remove, position_from}
-use Rattle.std.specs.Ordering.{is_ge}
+use Rattle.std.specs.Prelude.{◌≡◌, ℕ, ℤ, pos, ◌+◌, ◌-◌, List, [], ◌∷◌, ◌++◌, map, length, take, replicate, slice_index_or, slice_set, unwrap_or, if◌then◌else◌}
+use Rattle.std.specs.List.{swap_remove}
 use Rattle.std.specs.FinMap.Entries.{find}
 use Rattle.eco_ids.specs.declared.id.Id.{Id}
 use Rattle.eco_ids.specs.declared.value.Value.{Value}
+use Rattle.eco_ids.specs.declared.value.TheConstants.{FIELD_COUNT}
 use Rattle.eco_ids.specs.World.{zeros}
 use Rattle.eco_ids.specs.Order.{id_cmp, id_eq}
 
--- room: so many more values fit with no allocation
+-- width: so many fields are kept of each value; room: so many more values fit with no allocation
 pub record ColumnState : Type 0 where
   pub id : Id
+  pub width : ℕ
   pub values : List Value
   pub room : ℕ
 
+-- the value of these fields: those past them are 0
+abbrev pub widened : List ℤ → Value
+widened fields = record { 0 = fields ++ replicate (FIELD_COUNT - length fields) (pos 0) }
+
+-- the fields of the value past so many are 0
+abbrev pub Fits : ℕ → Value → Type 0
+Fits width v = v ≡ widened (take width v.0)
+
+-- the id, and how wide its values are
+abbrev pub kind_of : ColumnState → Id × ℕ
+kind_of c = (c.id, c.width)
+
 -- all but the room
-abbrev pub contents : ColumnState → Id × List Value
-contents c = (c.id, c.values)
+abbrev pub contents : ColumnState → (Id × ℕ) × List Value
+contents c = ((c.id, c.width), c.values)
+
+-- the column with these values behind its own, in room that was reserved
+abbrev pub joined : ColumnState → List Value → ColumnState
+joined c vs = record { id = c.id; width = c.width; values = c.values ++ vs; room = c.room - length vs }
 
 -- the column with one more value, in room that was reserved
 abbrev pub pushed : ColumnState → Value → ColumnState
-pushed c v = record { id = c.id; values = c.values ++ v ∷ []; room = c.room - 1 }
+pushed c v = joined c (v ∷ [])
 
 -- the column with this value in the row
 abbrev pub with_value : ColumnState → ℕ → Value → ColumnState
-with_value c row v = record c { values = slice_set c.values row v }
+with_value c row v = record { id = c.id; width = c.width; values = slice_set c.values row v; room = c.room }
 
 -- the column with a value in the row, where it is the id's
 abbrev pub written : ColumnState → ℕ → Id → Value → ColumnState
@@ -32,9 +49,13 @@ written c row i v = if id_eq c.id i then with_value c row v else c
 
 -- the last value in the place of the row's
 abbrev pub with_removed : ColumnState → ℕ → ColumnState
-with_removed c row = record { id = c.id; values = swap_remove c.values row zeros; room = c.room + 1 }
+with_removed c row = record { id = c.id; width = c.width; values = swap_remove c.values row zeros; room = c.room + 1 }
 
--- what a row holds: each id with its value
+-- no value, and the room of those that there were
+abbrev pub emptied : ColumnState → ColumnState
+emptied c = record { id = c.id; width = c.width; values = []; room = c.room + length c.values }
+
+-- what the columns hold in a row: each id with its value
 abbrev pub held_in : List ColumnState → ℕ → List (Id × Value)
 held_in columns row = map (λ c. (c.id, slice_index_or c.values row zeros)) columns
 
@@ -49,7 +70,3 @@ retyped ids held = map (λ i. (i, value_in held i)) ids
 -- what is held, with v as the value of the id, where it is held
 abbrev pub with_held : List (Id × Value) → Id → Value → List (Id × Value)
 with_held held i v = map (λ p. if id_eq p.0 i then (p.0, v) else p) held
-
--- from a place on, the place of the first column whose id isn't below; the same place where there is none
-abbrev pub place_from : List ColumnState → ℕ → Id → ℕ
-place_from columns from i = unwrap_or (position_from (λ c. is_ge (id_cmp c.id i)) from (drop from columns)) from

@@ -1,6 +1,6 @@
 -- Tables in slots.
-use Rattle.std.specs.Prelude.{◌≡◌, ◌≢◌, ℕ, ◌-◌, ◌+◌, List, [], ◌∷◌, ◌++◌, Option, None, Some, slice_index_or, slice_set, unwrap_or}
-use Rattle.std.specs.List.{swap_remove}
+use Rattle.std.specs.Prelude.{◌≡◌, ◌≢◌, ℕ, ◌-◌, ◌+◌, ◌≤◌, ◌<◌, List, [], ◌∷◌, ◌++◌, Option, None, Some, length, map, count_by, is_some, slice_index_or, slice_set, unwrap_or}
+use Rattle.std.specs.List.{swap_remove, All}
 use Rattle.eco_ids.specs.declared.entity.Entity.{Entity}
 use Rattle.eco_ids.specs.declared.id.Id.{Id}
 use Rattle.eco_ids.specs.declared.value.Value.{Value}
@@ -13,7 +13,7 @@ slot_of slots n = slice_index_or slots n None
 
 -- what stands for a table where there is none
 abbrev pub no_table : TableState
-no_table = record { ids = []; rows = []; room = 0 }
+no_table = record { ids = []; widths = []; rows = []; room = 0 }
 
 -- what stands for a row where there is none
 abbrev pub no_row : Row
@@ -52,13 +52,21 @@ with_written t row i v = record t { rows = slice_set t.rows row (row_with (slice
 abbrev pub new_row : Entity → Row
 new_row e = record { entity = e; held = [] }
 
+-- the table with the rows at its end, under its own type
+abbrev pub with_rows : TableState → List Row → TableState
+with_rows t rs = record t { rows = t.rows ++ map (retyped_row t.ids) rs; room = t.room - length rs }
+
 -- the table with the row at its end, under its own type
 abbrev pub with_row : TableState → Row → TableState
-with_row t r = record { ids = t.ids; rows = t.rows ++ retyped_row t.ids r ∷ []; room = t.room - 1 }
+with_row t r = with_rows t (r ∷ [])
 
 -- the table without the row, whose place the last one takes; the room of one row is won
 abbrev pub without_row : TableState → ℕ → TableState
 without_row t row = record t { rows = swap_remove t.rows row no_row; room = t.room + 1 }
+
+-- the table without rows; their room is won
+abbrev pub without_rows : TableState → TableState
+without_rows t = record t { rows = []; room = t.room + length t.rows }
 
 -- the type, where these rows are none
 abbrev pub rowless : TableState → List Row → Option (List Id)
@@ -76,6 +84,20 @@ pub record Moves (old new : List (Option TableState)) (from row to : ℕ) : Type
   pub target : slot_of new to ≡ Some (with_row (table_in old to) (row_in old from row))
   pub others : (n : ℕ) → n ≢ from → n ≢ to → slot_of new n ≡ slot_of old n
 
+-- all rows of one table went to the end of another
+pub record MovesAll (old new : List (Option TableState)) (from to : ℕ) : Type 0 where
+  pub source : slot_of new from ≡ Some (without_rows (table_in old from))
+  pub target : slot_of new to ≡ Some (with_rows (table_in old to) (table_in old from).rows)
+  pub others : (n : ℕ) → n ≢ from → n ≢ to → slot_of new n ≡ slot_of old n
+
 -- each row of each table has a value for each id of the table's type
 abbrev pub AllHaveIds : List (Option TableState) → Type 0
 AllHaveIds slots = (n : ℕ) → RowsHaveIds (table_in slots n)
+
+-- the slots without a table are kept, each once, with room for the slots of all tables that may be dropped
+pub record AreSlots (slots : List (Option TableState)) (vacant : List ℕ) (capacity : ℕ) : Type 0 where
+  pub empty : All (λ n. (n < length slots) × (slot_of slots n ≡ None)) vacant
+  pub once : (j k d : ℕ) → j < length vacant → k < length vacant → slice_index_or vacant j d ≡ slice_index_or vacant k d → j ≡ k
+  pub counted : length vacant + count_by is_some slots ≡ length slots
+  pub ready : length slots ≤ capacity
+  pub have_ids : AllHaveIds slots

@@ -1,41 +1,109 @@
-//! The values of one id, a place for each row; and what is done to all columns of a table.
-ghost use Rattle.std.specs.Prelude.{◌≡◌, ℕ, ◌<◌, ◌≤◌, ◌+◌, ◌-◌, [], length, map, slice_index_or, slice_set, is_some, unwrap_or, OnOk, IfOk};
-ghost use Rattle.std.specs.List.{swap_remove, All};
-ghost use Rattle.std.specs.FinMap.Entries.{find};
+//! The values of one id, a place for each row, in as many fields as the id has.
+ghost use Rattle.std.specs.Prelude.{◌≡◌, ◌<◌, ◌≤◌, ◌+◌, ◌-◌, ◌++◌, [], length, map, take, replicate, vec_len, vec_capacity, slice_index_or, OnOk};
+ghost use Rattle.std.specs.List.{swap_remove};
 ghost use Rattle.eco_ids.specs.World.{zeros};
-ghost use Rattle.eco_ids.specs.Order.{id_cmp};
-ghost use Rattle.eco_tables.specs.Column.{ColumnState, pushed, with_removed, with_value, written, held_in, value_in, contents, place_from};
+ghost use Rattle.eco_tables.specs.Column.{ColumnState, Fits, pushed, joined, widened, with_removed, with_value, emptied};
+ghost use Rattle.eco_tables.specs.Values.{shown};
 
-use eco_ids::{Id, TypeList, Value};
+use crate::values::Values;
+use eco_ids::value::FIELD_COUNT;
+use eco_ids::{Id, Value};
 use std::alloc::{AllocError, Global};
 use std::marker::Model;
 
-/// A contract sees the id, the values, and how many more values fit with no allocation (`room`).
+/// What is kept of values: so many fields of each.
+#[derive(Drop)]
+pub enum Fields {
+    One(Vec<[i64; 1]>),
+    Two(Vec<[i64; 2]>),
+    Three(Vec<[i64; 3]>),
+    Four(Vec<[i64; 4]>),
+}
+
+/// A contract sees the id, how many fields are kept (`width`), the whole values, and how many more fit with no allocation
+/// (`room`).
 #[derive(Drop)]
 pub struct Column {
     id: Id,
-    values: Vec<Value>,
+    fields: Fields,
 }
 
 impl Model for Column {
-    ghost use Rattle.std.specs.Prelude.{◌-◌, vec_capacity, vec_len};
     ghost use Rattle.eco_tables.specs.Column.{ColumnState};
+    ghost use Rattle.eco_tables.specs.Fields.{width_of, values_of, room_of};
 
     ghost Value = { ColumnState };
 
-    ghost view = { λ c. record { id = c.id; values = c.values.items; room = vec_capacity c.values - vec_len c.values } };
+    ghost view = { λ c. record { id = c.id; width = width_of c.fields; values = values_of c.fields; room = room_of c.fields } };
+}
+
+// The first fields of a value.
+fn narrowed<const N: usize>(value: Value) -> [i64; N]
+    requires { N ≤ FIELD_COUNT }
+    ensures { result ≡ take N value.0 }
+{
+    let mut fields = [0; N];
+    fields.copy_from_slice(&value.0[..N]);
+    fields
+}
+
+// The value of these fields.
+#[tactic(auto, using(crate::proofs::Packing::fits_widened))]
+fn widened<const N: usize>(fields: [i64; N]) -> Value
+    requires { N ≤ FIELD_COUNT }
+    ensures value { result ≡ widened fields.entry }
+    ensures fits { Fits N result }
+{
+    let mut all = [0; FIELD_COUNT];
+    all[..N].copy_from_slice(&fields);
+    Value(all)
+}
+
+// The row's fields go, and the last ones take their place.
+#[tactic(auto, using(crate::proofs::Packing::map_swap_remove))]
+fn take_out<const N: usize>(rows: &mut Vec<[i64; N]>, row: usize)
+    requires { row < vec_len rows.old }
+    ensures values { map widened rows.new.items ≡ swap_remove (map widened rows.old.items) row zeros }
+    ensures room { vec_capacity rows.new - vec_len rows.new ≡ vec_capacity rows.old - vec_len rows.old + 1 }
+{
+    rows.swap_remove(row);
+}
+
+// The fields of all rows of another column behind the own, in reserved room.
+fn join<const N: usize>(rows: &mut Vec<[i64; N]>, source: &Vec<[i64; N]>)
+    requires { vec_len rows.old + vec_len source.now ≤ vec_capacity rows.old }
+    ensures values { map widened rows.new.items ≡ map widened rows.old.items ++ map widened source.now.items }
+    ensures room { vec_capacity rows.old - vec_len rows.old - vec_len source.now ≤ vec_capacity rows.new - vec_len rows.new }
+{
+    let _room = rows.extend_from_slice(source.as_slice());
+}
+
+// As many zeros behind the own fields, in reserved room.
+fn join_zeros<const N: usize>(rows: &mut Vec<[i64; N]>, count: usize)
+    requires few { N ≤ FIELD_COUNT }
+    requires room { vec_len rows.old + count ≤ vec_capacity rows.old }
+    ensures values { map widened rows.new.items ≡ map widened rows.old.items ++ replicate count zeros }
+    ensures room { vec_capacity rows.old - vec_len rows.old - count ≤ vec_capacity rows.new - vec_len rows.new }
+{
+    let _room = rows.resize(rows.len() + count, [0; N]);
 }
 
 impl Column {
-    /// A column without values.
-    pub fn new(alloc: Global, id: Id) -> Column
+    /// A column without values, of 1 to 4 fields each.
+    pub fn new(alloc: Global, id: Id, width: u8) -> Column
+        requires at_least { 1 ≤ width }
+        requires at_most { width ≤ FIELD_COUNT }
         ensures id { result.id ≡ id }
+        ensures width { result.width ≡ width }
         ensures empty { result.values ≡ [] }
     {
-        Column {
-            id,
-            values: Vec::new(alloc),
-        }
+        let fields = match width {
+            1 => Fields::One(Vec::new(alloc)),
+            2 => Fields::Two(Vec::new(alloc)),
+            3 => Fields::Three(Vec::new(alloc)),
+            _ => Fields::Four(Vec::new(alloc)),
+        };
+        Column { id, fields }
     }
 
     /// Whose values these are.
@@ -45,37 +113,130 @@ impl Column {
         self.id
     }
 
+    /// How many fields are kept of each value.
+    pub fn width(&self) -> u8
+        ensures { result ≡ self.now.width }
+    {
+        match &self.fields {
+            Fields::One(_) => 1,
+            Fields::Two(_) => 2,
+            Fields::Three(_) => 3,
+            Fields::Four(_) => 4,
+        }
+    }
+
+    /// The values, to read in a row.
+    pub fn values(&self) -> Values<'_>
+        ensures { shown result ≡ self.now.values }
+    {
+        match &self.fields {
+            Fields::One(values) => Values::One(values.as_slice()),
+            Fields::Two(values) => Values::Two(values.as_slice()),
+            Fields::Three(values) => Values::Three(values.as_slice()),
+            Fields::Four(values) => Values::Four(values.as_slice()),
+        }
+    }
+
     /// Room for more values. An `Err` keeps what is there.
     pub fn reserve(&mut self, more: usize) -> Result<(), AllocError>
         ensures same { self.new ≡ record self.old { room = self.new.room } }
         ensures kept { self.old.room ≤ self.new.room }
         ensures room { OnOk result (more ≤ self.new.room) }
     {
-        self.values.reserve(more)
+        match &mut self.fields {
+            Fields::One(values) => values.reserve(more),
+            Fields::Two(values) => values.reserve(more),
+            Fields::Three(values) => values.reserve(more),
+            Fields::Four(values) => values.reserve(more),
+        }
     }
 
-    /// A value for one more row, in reserved room.
-    pub fn push(&mut self, value: Value)
+    /// Zeros for one more row, in reserved room.
+    pub fn push_zeros(&mut self)
         requires { 0 < self.old.room }
-        ensures { self.new ≡ pushed self.old value }
+        ensures { self.new ≡ pushed self.old zeros }
     {
-        self.values.push_reserved(value);
+        match &mut self.fields {
+            Fields::One(values) => values.push_reserved([0; 1]),
+            Fields::Two(values) => values.push_reserved([0; 2]),
+            Fields::Three(values) => values.push_reserved([0; 3]),
+            Fields::Four(values) => values.push_reserved([0; 4]),
+        }
+    }
+
+    /// A value for one more row, in reserved room: that of a row of another column of as many fields.
+    pub fn push_from(&mut self, source: &Column, row: usize)
+        requires room { 0 < self.old.room }
+        requires row { row < length source.now.values }
+        requires width { self.old.width ≡ source.now.width }
+        ensures { self.new ≡ pushed self.old (slice_index_or source.now.values row zeros) }
+    {
+        match (&mut self.fields, &source.fields) {
+            (Fields::One(values), Fields::One(from)) => values.push_reserved(from[row]),
+            (Fields::Two(values), Fields::Two(from)) => values.push_reserved(from[row]),
+            (Fields::Three(values), Fields::Three(from)) => values.push_reserved(from[row]),
+            (Fields::Four(values), Fields::Four(from)) => values.push_reserved(from[row]),
+            _ => unreachable!(),
+        }
+    }
+
+    /// Zeros for more rows, in reserved room.
+    pub fn join_zeros(&mut self, count: usize)
+        requires { count ≤ self.old.room }
+        ensures values { self.new ≡ record (joined self.old (replicate count zeros)) { room = self.new.room } }
+        ensures room { self.old.room ≤ self.new.room + count }
+    {
+        match &mut self.fields {
+            Fields::One(values) => join_zeros(values, count),
+            Fields::Two(values) => join_zeros(values, count),
+            Fields::Three(values) => join_zeros(values, count),
+            Fields::Four(values) => join_zeros(values, count),
+        }
+    }
+
+    /// All values of another column of as many fields, for more rows, in reserved room.
+    pub fn join(&mut self, source: &Column)
+        requires room { length source.now.values ≤ self.old.room }
+        requires width { self.old.width ≡ source.now.width }
+        ensures values { self.new ≡ record (joined self.old source.now.values) { room = self.new.room } }
+        ensures room { self.old.room ≤ self.new.room + length source.now.values }
+    {
+        match (&mut self.fields, &source.fields) {
+            (Fields::One(values), Fields::One(from)) => join(values, from),
+            (Fields::Two(values), Fields::Two(from)) => join(values, from),
+            (Fields::Three(values), Fields::Three(from)) => join(values, from),
+            (Fields::Four(values), Fields::Four(from)) => join(values, from),
+            _ => unreachable!(),
+        }
     }
 
     /// The value in a row.
     pub fn value(&self, row: usize) -> Value
         requires { row < length self.now.values }
-        ensures { result ≡ slice_index_or self.now.values row zeros }
+        ensures value { result ≡ slice_index_or self.now.values row zeros }
+        ensures fits { Fits self.now.width result }
     {
-        self.values[row]
+        match &self.fields {
+            Fields::One(values) => widened(values[row]),
+            Fields::Two(values) => widened(values[row]),
+            Fields::Three(values) => widened(values[row]),
+            Fields::Four(values) => widened(values[row]),
+        }
     }
 
     /// Writes the value in a row.
+    #[tactic(auto, using(crate::proofs::Packing::map_put))]
     pub fn write(&mut self, row: usize, value: Value)
-        requires { row < length self.old.values }
+        requires row { row < length self.old.values }
+        requires fits { Fits self.old.width value }
         ensures { self.new ≡ with_value self.old row value }
     {
-        self.values[row] = value;
+        match &mut self.fields {
+            Fields::One(values) => values[row] = narrowed(value),
+            Fields::Two(values) => values[row] = narrowed(value),
+            Fields::Three(values) => values[row] = narrowed(value),
+            Fields::Four(values) => values[row] = narrowed(value),
+        }
     }
 
     /// The row's value goes, and the last one takes its place.
@@ -83,130 +244,23 @@ impl Column {
         requires { row < length self.old.values }
         ensures { self.new ≡ with_removed self.old row }
     {
-        self.values.swap_remove(row);
-    }
-}
-
-/// A place for one more row in each, with zeros.
-pub fn push_zeros(columns: &mut [Column])
-    requires { All (λ c. 0 < c.room) columns.old }
-    ensures { columns.new ≡ map (λ c. pushed c zeros) columns.old }
-{
-    for column in columns.iter_mut() {
-        column.push(Value::ZERO);
-    }
-}
-
-/// The row's values go, and the last row's take their place.
-pub fn swap_out_row(columns: &mut [Column], row: usize)
-    requires { All (λ c. row < length c.values) columns.old }
-    ensures { columns.new ≡ map (λ c. with_removed c row) columns.old }
-{
-    for column in columns.iter_mut() {
-        column.swap_out(row);
-    }
-}
-
-/// The value of an id in a row, if one of the columns, which are those of the type, has the id.
-pub fn find_value(columns: &[Column], type_list: &TypeList, row: usize, id: Id) -> Option<Value>
-    requires kinds { map (λ c. c.id) columns.now ≡ type_list.now }
-    requires row { All (λ c. row < length c.values) columns.now }
-    ensures { result ≡ find id_cmp id (held_in columns.now row) }
-{
-    // Its ids ascend, and so do the ids of the columns.
-    let _ids = type_list.as_slice();
-    let place = type_list.find(id)?;
-    Some(columns[place].value(row))
-}
-
-/// Writes the value of an id in a row. The answer is whether one of the columns, which are those of the type, has the id;
-/// where none has it nothing is written.
-pub fn write_value(
-    columns: &mut [Column],
-    type_list: &TypeList,
-    row: usize,
-    id: Id,
-    value: Value,
-) -> bool
-    requires kinds { map (λ c. c.id) columns.old ≡ type_list.now }
-    requires row { All (λ c. row < length c.values) columns.old }
-    ensures written { columns.new ≡ map (λ c. written c row id value) columns.old }
-    ensures had { result ≡ is_some (find id_cmp id (held_in columns.old row)) }
-{
-    // Its ids ascend, and so do the ids of the columns.
-    let _ids = type_list.as_slice();
-    let Some(place) = type_list.find(id) else {
-        return false;
-    };
-    columns[place].write(row, value);
-    true
-}
-
-/// One column for each id, without a row.
-pub fn columns_of(alloc: Global, ids: &[Id]) -> Result<Vec<Column>, AllocError>
-    ensures ids { IfOk result (λ v. map (λ c. c.id) v.items ≡ ids.now) }
-    ensures empty { IfOk result (λ v. All (λ c. c.values ≡ []) v.items) }
-{
-    let mut columns = Vec::new(alloc);
-    for id in ids {
-        columns.push(Column::new(alloc, *id))?;
-    }
-    Ok(columns)
-}
-
-/// Room for more rows in each. An `Err` keeps what is there.
-pub fn reserve(columns: &mut [Column], more: usize) -> Result<(), AllocError>
-    ensures same { map contents columns.new ≡ map contents columns.old }
-    ensures kept { (b : ℕ) → All (λ c. b ≤ c.room) columns.old → All (λ c. b ≤ c.room) columns.new }
-    ensures room { OnOk result (All (λ c. more ≤ c.room) columns.new) }
-{
-    for column in columns.iter_mut() {
-        column.reserve(more)?;
-    }
-    Ok(())
-}
-
-/// A place for one more row in each, with the values of a row elsewhere, where the columns are those of the type: zeros
-/// for an id that has no column there.
-///
-/// Both lists ascend by their ids, so one walk along the source finds all that is there.
-pub fn push_from(columns: &mut [Column], source: &[Column], type_list: &TypeList, row: usize)
-    requires room { All (λ c. 0 < c.room) columns.old }
-    requires kinds { map (λ c. c.id) source.now ≡ type_list.now }
-    requires row { All (λ c. row < length c.values) source.now }
-    ensures { columns.new ≡ map (λ c. pushed c (value_in (held_in source.now row) c.id)) columns.old }
-{
-    let mut near = 0;
-    for column in columns.iter_mut() {
-        let id = column.id();
-        near = next_place(source, near, id);
-        let value = value_near(source, near, type_list, row, id);
-        column.push(value);
-    }
-}
-
-// From a place on, the place of the first column whose id isn't below; the same place where there is none.
-fn next_place(columns: &[Column], from: usize, id: Id) -> usize
-    ensures { result ≡ place_from columns.now from id }
-{
-    for place in from..columns.len() {
-        if columns[place].id() >= id {
-            return place;
+        match &mut self.fields {
+            Fields::One(values) => take_out(values, row),
+            Fields::Two(values) => take_out(values, row),
+            Fields::Three(values) => take_out(values, row),
+            Fields::Four(values) => take_out(values, row),
         }
     }
-    from
-}
 
-// The value of an id in a row, zeros where no column has the id. Its column is looked for at this place first.
-fn value_near(columns: &[Column], place: usize, type_list: &TypeList, row: usize, id: Id) -> Value
-    requires kinds { map (λ c. c.id) columns.now ≡ type_list.now }
-    requires row { All (λ c. row < length c.values) columns.now }
-    ensures { result ≡ value_in (held_in columns.now row) id }
-{
-    // Its ids ascend, and so do the ids of the columns.
-    let _ids = type_list.as_slice();
-    if place < columns.len() && id.is(columns[place].id()) {
-        return columns[place].value(row);
+    /// All values go; the memory stays.
+    pub fn clear(&mut self)
+        ensures { self.new ≡ emptied self.old }
+    {
+        match &mut self.fields {
+            Fields::One(values) => values.clear(),
+            Fields::Two(values) => values.clear(),
+            Fields::Three(values) => values.clear(),
+            Fields::Four(values) => values.clear(),
+        }
     }
-    find_value(columns, type_list, row, id).unwrap_or(Value::ZERO)
 }

@@ -1,16 +1,20 @@
-//! A table: the entities of one type, and a column of values for each id.
-ghost use Rattle.std.specs.Prelude.{◌≡◌, ◌<◌, ◌≤◌, ◌+◌, ◌-◌, ◌^◌, ◌++◌, [], ◌∷◌, length, slice_index_or, slice_set, is_some, OnOk, IsOk, IfOk, slice_get};
+//! A table: the entities of one type, and a column of values for each id that is data.
+ghost use Rattle.std.specs.Prelude.{◌≡◌, ℕ, ◌<◌, ◌≤◌, ◌+◌, ◌-◌, ◌^◌, ◌++◌, [], ◌∷◌, length, map, slice_index_or, slice_set, is_some, unwrap_or, OnOk, IsOk, IfOk, IfSome, IfNone, slice_get};
 ghost use Rattle.std.specs.List.{swap_remove, All};
 ghost use Rattle.std.specs.FinMap.Entries.{find};
 ghost use Rattle.eco_ids.specs.Order.{id_cmp};
 ghost use Rattle.eco_ids.specs.World.{zeros};
 ghost use Rattle.eco_tables.specs.Column.{value_in, with_held, retyped};
-ghost use Rattle.eco_tables.specs.Table.{TableState, Row, entities_of, HasIds, empty_table};
-ghost use Rattle.eco_tables.specs.Tables.{new_row, no_row, with_room, with_row, with_written, without_row};
+ghost use Rattle.eco_tables.specs.Table.{TableState, Row, entities_of, HasIds, Agree, FitsId, width_in, empty_table};
+ghost use Rattle.eco_tables.specs.Tables.{new_row, no_row, with_room, with_row, with_rows, with_written, without_row, without_rows};
+ghost use Rattle.eco_tables.specs.Values.{shown};
 
-use crate::column::{
-    Column, columns_of, find_value, push_from, push_zeros, reserve, swap_out_row, write_value,
+use crate::column::Column;
+use crate::columns::{
+    clear, columns_of, find_column, find_value, join_all, push_from, push_zeros, reserve,
+    swap_out_row, write_value,
 };
+use crate::values::Values;
 use eco_ids::{Entity, Id, TypeList, Value};
 use std::alloc::{AllocError, Global};
 use std::marker::Model;
@@ -18,36 +22,39 @@ use std::marker::Model;
 /// The entities of one type (Flecs manual, "Component Traits": an archetype table). Rows have no order of their own: a
 /// removal puts the last row in the place of the one that goes.
 ///
-/// A contract sees a type, a list of rows, each an entity and every id of the type with its value, and `room`: so many
-/// more rows fit with no allocation.
+/// A contract sees a type, how wide the values of each id are, a list of rows, each an entity and every id of the type with
+/// its value, and `room`: so many more rows fit with no allocation.
 #[derive(Drop)]
 pub struct Table {
-    // In a box, since the table leaves its slot and comes back with each row that it gets from another.
-    type_list: Box<TypeList>,
+    type_list: TypeList,
     entities: Vec<Entity>,
     columns: Vec<Column>,
     room: usize,
 }
 
 impl Model for Table {
-    ghost use Rattle.std.specs.Prelude.{vec_capacity};
-    ghost use Rattle.eco_tables.specs.Table.{TableState, rows_from, HasShape};
+    ghost use Rattle.std.specs.Prelude.{map, vec_capacity};
+    ghost use Rattle.eco_tables.specs.Column.{kind_of};
+    ghost use Rattle.eco_tables.specs.Table.{TableState, rows_of, width_among, HasShape};
 
     ghost Value = { TableState };
 
-    ghost view = { λ t. record { ids = t.type_list.value; rows = rows_from t.columns.items 0 t.entities.items; room = t.room } };
+    ghost view = { λ t. record { ids = t.type_list; widths = map (width_among (map kind_of t.columns.items)) t.type_list; rows = rows_of t.type_list t.columns.items t.entities.items; room = t.room } };
 
-    ghost invariant = { λ t. HasShape t.type_list.value t.entities.items (vec_capacity t.entities) t.columns.items t.room };
+    ghost invariant = { λ t. HasShape t.type_list t.entities.items (vec_capacity t.entities) t.columns.items t.room };
 }
 
 impl Table {
-    /// A table without rows, with a column for each id of the type. An `Err` comes where memory for it is refused.
-    pub fn new(alloc: Global, type_list: TypeList) -> Result<Table, AllocError>
-        ensures { IfOk result (λ t. t ≡ empty_table type_list) }
+    /// A table without rows, with a column for each id of the type that has a width. An `Err` comes where memory for it is
+    /// refused.
+    pub fn new(alloc: Global, type_list: TypeList, widths: &[u8]) -> Result<Table, AllocError>
+        requires lengths { length type_list ≡ length widths.now }
+        requires widths { All (λ w. w ≤ 4) widths.now }
+        ensures { IfOk result (λ t. t ≡ empty_table type_list widths.now) }
     {
-        let columns = columns_of(alloc, type_list.as_slice())?;
+        let columns = columns_of(alloc, type_list.as_slice(), widths)?;
         Ok(Table {
-            type_list: Box::new(alloc, type_list)?,
+            type_list,
             entities: Vec::new(alloc),
             columns,
             room: 0,
@@ -60,6 +67,17 @@ impl Table {
         ensures rows { All (HasIds self.now.ids) self.now.rows }
     {
         &self.type_list
+    }
+
+    /// How many fields the values of an id may use, if the type has the id.
+    pub fn width(&self, id: Id) -> Option<u8>
+        ensures { result ≡ width_in self.now id }
+    {
+        match find_column(self.columns.as_slice(), id) {
+            Some(place) => Some(self.columns[place].width()),
+            None if self.type_list.has(id) => Some(0),
+            None => None,
+        }
     }
 
     /// The entities of the rows, in their order.
@@ -76,12 +94,22 @@ impl Table {
         self.entities.len()
     }
 
+    /// The values of an id, row by row. None where the id has no column: then its value is zeros in each row whose type has
+    /// the id.
+    pub fn values(&self, id: Id) -> Option<Values<'_>>
+        ensures shown { IfSome result (λ v. shown v ≡ map (λ r. value_in r.held id) self.now.rows) }
+        ensures none { IfNone result (unwrap_or (width_in self.now id) 0 ≡ 0) }
+    {
+        let place = find_column(self.columns.as_slice(), id)?;
+        Some(self.columns[place].values())
+    }
+
     /// The value of an id in a row, zeros where the type lacks the id.
     pub fn value(&self, row: usize, id: Id) -> Value
         requires { row < length self.now.rows }
         ensures { (r : Row) → result ≡ value_in (slice_index_or self.now.rows row r).held id }
     {
-        self.find_value(row, id).unwrap_or(Value::ZERO)
+        find_value(self.columns.as_slice(), row, id).unwrap_or(Value::ZERO)
     }
 
     /// The value of an id in a row, if the type has the id.
@@ -89,17 +117,23 @@ impl Table {
         requires { row < length self.now.rows }
         ensures { (r : Row) → result ≡ find id_cmp id (slice_index_or self.now.rows row r).held }
     {
-        find_value(self.columns.as_slice(), &self.type_list, row, id)
+        match find_value(self.columns.as_slice(), row, id) {
+            Some(value) => Some(value),
+            None if self.type_list.has(id) => Some(Value::ZERO),
+            None => None,
+        }
     }
 
-    /// Writes that one value and takes no memory. The answer is whether the type has the id; where it lacks it nothing is
-    /// written.
+    /// Writes that one value, which is no wider than the id's, and takes no memory. The answer is whether the type has the
+    /// id; where it lacks it nothing is written.
     pub fn set_value(&mut self, row: usize, id: Id, value: Value) -> bool
-        requires { row < length self.old.rows }
+        requires row { row < length self.old.rows }
+        requires fits { FitsId self.old id value }
         ensures written { self.new ≡ with_written self.old row id value }
         ensures had { result ≡ is_some (find id_cmp id (slice_index_or self.old.rows row no_row).held) }
     {
-        write_value(self.columns.as_mut_slice(), &self.type_list, row, id, value)
+        // An id without a column has zeros, and gets none but those.
+        write_value(self.columns.as_mut_slice(), row, id, value) || self.type_list.has(id)
     }
 
     /// Room for more rows. An `Err` keeps all rows and the room that was there.
@@ -113,6 +147,19 @@ impl Table {
         if more <= self.room {
             return Ok(());
         }
+        self.grow(more)
+    }
+
+    // What `reserve` does where there is less room.
+    #[cold]
+    #[inline(never)]
+    fn grow(&mut self, more: usize) -> Result<(), AllocError>
+        requires { self.old.room < more }
+        ensures same { self.new ≡ with_room self.old self.new.room }
+        ensures kept { self.old.room ≤ self.new.room }
+        ensures room { OnOk result (more ≤ self.new.room) }
+        ensures bounded { self.new.room < 2 ^ 63 }
+    {
         self.entities.reserve(more)?;
         // The columns follow as far as the list of entities grew, so that the next rows find their room taken.
         let room = self.entities.capacity() - self.entities.len();
@@ -139,21 +186,55 @@ impl Table {
         self.room = 0;
     }
 
-    /// A row for the entity, with the values of a row elsewhere: of ids that both types have; new ids hold zeros.
+    /// A row for the entity, with the values of a row elsewhere: of ids that both types have, which are as wide in both; new
+    /// ids hold zeros.
     pub fn push_row_from(&mut self, source: &Table, row: usize)
         requires room { 0 < self.old.room }
         requires row { row < length source.now.rows }
+        requires widths { Agree self.old source.now }
         ensures { self.new ≡ with_row self.old (slice_index_or source.now.rows row no_row) }
     {
         let entity = source.entities[row];
         self.entities.push_reserved(entity);
-        push_from(
+        push_from(self.columns.as_mut_slice(), source.columns.as_slice(), row);
+        self.room -= 1;
+    }
+
+    /// All rows of another table go to the end of this one, with the values of ids that both types have, which are as wide in
+    /// both; new ids hold zeros. It takes no memory.
+    pub fn take_rows(&mut self, source: &mut Table)
+        requires room { length source.old.rows ≤ self.old.room }
+        requires widths { Agree self.old source.old }
+        ensures taken { self.new ≡ with_rows self.old source.old.rows }
+        ensures left { source.new ≡ without_rows source.old }
+    {
+        self.join(source);
+        source.empty();
+    }
+
+    // The rows of another table once more, at the end of this one.
+    fn join(&mut self, source: &Table)
+        requires room { length source.now.rows ≤ self.old.room }
+        requires widths { Agree self.old source.now }
+        ensures { self.new ≡ with_rows self.old source.now.rows }
+    {
+        let entities = source.entities.as_slice();
+        let _room = self.entities.extend_from_slice(entities);
+        join_all(
             self.columns.as_mut_slice(),
             source.columns.as_slice(),
-            &source.type_list,
-            row,
+            entities,
         );
-        self.room -= 1;
+        self.room -= entities.len();
+    }
+
+    // All rows go, and their room is won.
+    fn empty(&mut self)
+        ensures { self.new ≡ without_rows self.old }
+    {
+        self.room += self.entities.len();
+        self.entities.clear();
+        clear(self.columns.as_mut_slice());
     }
 
     /// A row for a new entity, with zeros, in reserved room.
@@ -189,7 +270,7 @@ impl Table {
             columns: _,
             room: _,
         } = self;
-        Box::into_inner(type_list)
+        type_list
     }
 }
 

@@ -1,42 +1,49 @@
 //! Tables, each in a slot of its own.
-ghost use Rattle.std.specs.Prelude.{◌≡◌, ◌≢◌, ℕ, ◌<◌, ◌≤◌, ◌+◌, ◌-◌, [], ◌∷◌, length, slice_get, slice_index_or, slice_set, None, Some, IsSome, is_some, OnSome, IfNone, count_by, OnOk, OnErr, IsOk, IfOk, option_copied};
+ghost use Rattle.std.specs.Prelude.{◌≡◌, ◌≢◌, ℕ, ◌<◌, ◌≤◌, ◌+◌, ◌-◌, [], ◌∷◌, length, slice_get, slice_index_or, slice_set, None, Some, IsSome, is_some, OnSome, IfNone, count_by, OnOk, OnErr, IsOk, IfOk, option_copied, unwrap_or};
 ghost use Rattle.std.specs.FinMap.Entries.{find};
 ghost use Rattle.eco_ids.specs.Order.{id_cmp};
 ghost use Rattle.eco_tables.specs.Column.{value_in, with_held};
-ghost use Rattle.eco_tables.specs.Table.{TableState, Row, entities_of, empty_table};
-ghost use Rattle.eco_tables.specs.Tables.{slot_of, table_in, row_in, no_row, Sets, SetsRoom, Moves, new_row, with_room, with_row, with_written, without_row, rowless_type, AllHaveIds};
-ghost use Rattle.slab.specs.Slab.{entries_from};
+ghost use Rattle.std.specs.List.{All};
+ghost use Rattle.std.specs.Slice.Iter.{iter_rest};
+ghost use Rattle.eco_tables.specs.Table.{TableState, Row, entities_of, empty_table, Agree, FitsId, RowsHaveIds};
+ghost use Rattle.eco_tables.specs.Tables.{slot_of, table_in, row_in, no_row, Sets, SetsRoom, Moves, MovesAll, new_row, with_room, with_row, with_rows, with_written, without_row, without_rows, no_table, rowless_type, AllHaveIds};
 
 use crate::table::Table;
 use eco_ids::{Entity, Id, TypeList, Value};
-use slab::Slab;
 use std::alloc::{AllocError, Global};
 use std::marker::Model;
+use std::slice;
 
 /// A contract sees a list of slots, each with a table or nothing. A slot keeps its number as long as its table lives; a
 /// slot whose table was dropped may be used again.
 pub struct Tables {
     alloc: Global,
-    slots: Slab<Table>,
+    slots: Vec<Option<Table>>,
+    // The slots without a table, with room for all of them, so that a table is dropped without memory.
+    vacant: Vec<usize>,
 }
 
 // By hand, so that dropping it is one call: a derived drop is proved anew at each early return of whoever holds it.
 impl Drop for Tables {
     fn drop(self) {
-        let Tables { alloc: _, slots: _ } = self;
+        let Tables {
+            alloc: _,
+            slots: _,
+            vacant: _,
+        } = self;
     }
 }
 
 impl Model for Tables {
-    ghost use Rattle.std.specs.Prelude.{List, Option};
+    ghost use Rattle.std.specs.Prelude.{List, Option, vec_capacity};
     ghost use Rattle.eco_tables.specs.Table.{TableState};
-    ghost use Rattle.eco_tables.specs.Tables.{AllHaveIds};
+    ghost use Rattle.eco_tables.specs.Tables.{AreSlots};
 
     ghost Value = { List (Option TableState) };
 
-    ghost view = { λ t. t.slots.slots };
+    ghost view = { λ t. t.slots.items };
 
-    ghost invariant = { λ t. AllHaveIds t.slots.slots };
+    ghost invariant = { λ t. AreSlots t.slots.items t.vacant.items (vec_capacity t.vacant) };
 }
 
 impl Tables {
@@ -46,7 +53,8 @@ impl Tables {
     {
         Tables {
             alloc,
-            slots: Slab::new(alloc),
+            slots: Vec::new(alloc),
+            vacant: Vec::new(alloc),
         }
     }
 
@@ -59,35 +67,60 @@ impl Tables {
 
     /// A new table without rows, in a slot that was empty; the answer is the slot. An `Err` comes where memory is refused
     /// and changes nothing.
-    pub fn insert(&mut self, type_list: TypeList) -> Result<usize, AllocError>
+    pub fn insert(&mut self, type_list: TypeList, widths: &[u8]) -> Result<usize, AllocError>
+        requires lengths { length type_list ≡ length widths.now }
+        requires widths { All (λ w. w ≤ 4) widths.now }
         ensures vacant { IfOk result (λ n. slot_of self.old n ≡ None) }
-        ensures sets { IfOk result (λ n. Sets self.old self.new n (Some (empty_table type_list))) }
+        ensures sets { IfOk result (λ n. Sets self.old self.new n (Some (empty_table type_list widths.now))) }
         ensures err { OnErr result (self.new ≡ self.old) }
     {
-        let table = Table::new(self.alloc, type_list)?;
+        let table = Table::new(self.alloc, type_list, widths)?;
+        match self.vacant.pop() {
+            Some(slot) => {
+                self.slots[slot] = Some(table);
+                Ok(slot)
+            }
+            None => self.insert_last(table),
+        }
+    }
+
+    // The table in a slot of its own, where none is vacant.
+    fn insert_last(&mut self, table: Table) -> Result<usize, AllocError>
+        requires full { count_by is_some self.old ≡ length self.old }
+        requires rows { RowsHaveIds table }
+        ensures vacant { IfOk result (λ n. slot_of self.old n ≡ None) }
+        ensures sets { IfOk result (λ n. Sets self.old self.new n (Some table)) }
+        ensures err { OnErr result (self.new ≡ self.old) }
+    {
+        let slot = self.slots.len();
         self.slots.reserve(1)?;
-        Ok(self.slots.insert_reserved(table))
+        self.vacant.reserve(slot + 1)?;
+        self.slots.push_reserved(Some(table));
+        Ok(slot)
     }
 
     /// The table in a slot, if there is one.
     pub fn get(&self, slot: usize) -> Option<&Table>
         ensures { option_copied result ≡ slot_of self.now slot }
     {
-        self.slots.get(slot)
+        match self.slots.get(slot) {
+            Some(Some(table)) => Some(table),
+            _ => None,
+        }
     }
 
     /// The slot has a table.
     pub fn contains(&self, slot: usize) -> bool
         ensures { result ≡ is_some (slot_of self.now slot) }
     {
-        self.slots.contains(slot)
+        self.get(slot).is_some()
     }
 
     /// How many rows a table has, 0 where the slot is empty.
     pub fn row_count(&self, slot: usize) -> usize
         ensures { result ≡ length (table_in self.now slot).rows }
     {
-        match self.slots.get(slot) {
+        match self.get(slot) {
             Some(table) => table.row_count(),
             None => 0,
         }
@@ -97,7 +130,7 @@ impl Tables {
     pub fn is_rowless(&self, slot: usize) -> bool
         ensures { result ≡ is_some (rowless_type (slot_of self.now slot)) }
     {
-        match self.slots.get(slot) {
+        match self.get(slot) {
             Some(table) => is_rowless(table),
             None => false,
         }
@@ -109,17 +142,19 @@ impl Tables {
         ensures dropped { OnSome result (Sets self.old self.new slot None) }
         ensures kept { IfNone result (self.new ≡ self.old) }
     {
-        if self.slots.get(slot)?.row_count() > 0 {
+        if !self.is_rowless(slot) {
             return None;
         }
-        Some(self.slots.remove(slot).into_type_list())
+        let table = self.slots[slot].take()?;
+        self.vacant.push_reserved(slot);
+        Some(table.into_type_list())
     }
 
     /// How many tables there are.
     pub fn len(&self) -> usize
         ensures { result ≡ count_by is_some self.now }
     {
-        self.slots.len()
+        self.slots.len() - self.vacant.len()
     }
 
     /// One past the last slot that has a table, 0 where there is none.
@@ -127,16 +162,16 @@ impl Tables {
         ensures above { (n : ℕ) → IsSome (slot_of self.now n) → n < result }
         ensures least { 0 < result → IsSome (slot_of self.now (result - 1)) }
     {
-        let mut bound = self.slots.capacity();
-        while bound > 0 && !self.slots.contains(bound - 1) {
+        let mut bound = self.slots.len();
+        while bound > 0 && self.slots[bound - 1].is_none() {
             bound -= 1;
         }
         bound
     }
 
-    /// The tables with their slots, slots ascending.
-    pub fn iter(&self) -> slab::Iter<'_, Table>
-        ensures { result ≡ entries_from 0 self.now }
+    /// The slots in their order, each with its table if there is one.
+    pub fn iter(&self) -> slice::Iter<'_, Option<Table>>
+        ensures { iter_rest result ≡ self.now }
     {
         self.slots.iter()
     }
@@ -149,7 +184,9 @@ impl Tables {
         ensures room { OnOk result (more ≤ (table_in self.new slot).room) }
         ensures ready { more ≤ (table_in self.old slot).room → IsOk result }
     {
-        let table = &mut self.slots[slot];
+        let Some(table) = &mut self.slots[slot] else {
+            unreachable!()
+        };
         table.reserve(more)
     }
 
@@ -161,7 +198,9 @@ impl Tables {
         ensures room { OnOk result ((table_in self.old slot).room + more ≤ (table_in self.new slot).room) }
         ensures ready { more ≡ 0 → IsOk result }
     {
-        let table = &mut self.slots[slot];
+        let Some(table) = &mut self.slots[slot] else {
+            unreachable!()
+        };
         table.reserve_more(more)
     }
 
@@ -170,18 +209,23 @@ impl Tables {
         requires { IsSome (slot_of self.old slot) }
         ensures { Sets self.old self.new slot (Some (with_room (table_in self.old slot) 0)) }
     {
-        let table = &mut self.slots[slot];
+        let Some(table) = &mut self.slots[slot] else {
+            unreachable!()
+        };
         table.waive();
     }
 
     /// Writes the value of an id in a row, and takes no memory. The answer is whether the table's type has the id; where it
     /// lacks it nothing is written.
     pub fn set_value(&mut self, slot: usize, row: usize, id: Id, value: Value) -> bool
-        requires { row < length (table_in self.old slot).rows }
+        requires row { row < length (table_in self.old slot).rows }
+        requires fits { FitsId (table_in self.old slot) id value }
         ensures written { Sets self.old self.new slot (Some (with_written (table_in self.old slot) row id value)) }
         ensures had { result ≡ is_some (find id_cmp id (row_in self.old slot row).held) }
     {
-        let table = &mut self.slots[slot];
+        let Some(table) = &mut self.slots[slot] else {
+            unreachable!()
+        };
         table.set_value(row, id, value)
     }
 
@@ -190,7 +234,9 @@ impl Tables {
         requires { 0 < (table_in self.old slot).room }
         ensures { Sets self.old self.new slot (Some (with_row (table_in self.old slot) (new_row entity))) }
     {
-        let table = &mut self.slots[slot];
+        let Some(table) = &mut self.slots[slot] else {
+            unreachable!()
+        };
         table.push_row(entity);
     }
 
@@ -201,26 +247,37 @@ impl Tables {
         ensures rows { Sets self.old self.new slot (Some (without_row (table_in self.old slot) row)) }
         ensures moved { result ≡ slice_get (entities_of (table_in self.new slot).rows) row }
     {
-        let table = &mut self.slots[slot];
+        let Some(table) = &mut self.slots[slot] else {
+            unreachable!()
+        };
         table.swap_out(row)
     }
 
     /// Moves a row into room that was reserved in another table, where it is the last row. Values of ids that both types
-    /// have stay, and new ids hold zeros. It takes no memory and cannot fail. The answer is the entity that stands in the
-    /// hole now: none where the row was the last.
+    /// have, which are as wide in both, stay, and new ids hold zeros. It takes no memory and cannot fail. The answer is the
+    /// entity that stands in the hole now: none where the row was the last.
     pub fn move_row(&mut self, from: usize, row: usize, to: usize) -> Option<Entity>
         requires apart { from ≢ to }
         requires row { row < length (table_in self.old from).rows }
         requires room { 0 < (table_in self.old to).room }
+        requires widths { Agree (table_in self.old to) (table_in self.old from) }
         ensures moves { Moves self.old self.new from row to }
         ensures moved { result ≡ slice_get (entities_of (table_in self.new from).rows) row }
     {
-        let mut target = self.slots.remove(to);
-        let source = &mut self.slots[from];
-        target.push_row_from(source, row);
-        let moved = source.swap_out(row);
-        self.slots.insert_reserved(target);
-        moved
+        move_in(self.slots.as_mut_slice(), from, row, to)
+    }
+
+    /// Moves all rows of a table, in their order, to the end of another, into room that was reserved. Values of ids that both
+    /// types have, which are as wide in both, stay, and new ids hold zeros. It takes no memory and cannot fail.
+    pub fn move_rows(&mut self, from: usize, to: usize)
+        requires apart { from ≢ to }
+        requires source { IsSome (slot_of self.old from) }
+        requires target { IsSome (slot_of self.old to) }
+        requires room { length (table_in self.old from).rows ≤ (table_in self.old to).room }
+        requires widths { Agree (table_in self.old to) (table_in self.old from) }
+        ensures { MovesAll self.old self.new from to }
+    {
+        move_all_in(self.slots.as_mut_slice(), from, to);
     }
 }
 
@@ -229,4 +286,76 @@ fn is_rowless(table: &Table) -> bool
     ensures { result ≡ is_some (rowless_type (Some table.now)) }
 {
     table.rows().is_empty()
+}
+
+// What `move_row` does to the slots.
+fn move_in(slots: &mut [Option<Table>], from: usize, row: usize, to: usize) -> Option<Entity>
+    requires apart { from ≢ to }
+    requires row { row < length (table_in slots.old from).rows }
+    requires room { 0 < (table_in slots.old to).room }
+    requires widths { Agree (table_in slots.old to) (table_in slots.old from) }
+    ensures slots { slots.new ≡ slice_set (slice_set slots.old from (Some (without_row (table_in slots.old from) row))) to (Some (with_row (table_in slots.old to) (row_in slots.old from row))) }
+    ensures moved { result ≡ slice_get (entities_of (without_row (table_in slots.old from) row).rows) row }
+{
+    if from < to {
+        let (low, high) = slots.split_at_mut(to);
+        return move_between(&mut low[from], row, &mut high[0]);
+    }
+    let (low, high) = slots.split_at_mut(from);
+    move_between(&mut high[0], row, &mut low[to])
+}
+
+// A row goes from the table of one slot to that of another.
+fn move_between(
+    source: &mut Option<Table>,
+    row: usize,
+    target: &mut Option<Table>,
+) -> Option<Entity>
+    requires row { row < length (unwrap_or source.old no_table).rows }
+    requires room { 0 < (unwrap_or target.old no_table).room }
+    requires widths { Agree (unwrap_or target.old no_table) (unwrap_or source.old no_table) }
+    ensures source { source.new ≡ Some (without_row (unwrap_or source.old no_table) row) }
+    ensures target { target.new ≡ Some (with_row (unwrap_or target.old no_table) (slice_index_or (unwrap_or source.old no_table).rows row no_row)) }
+    ensures moved { result ≡ slice_get (entities_of (without_row (unwrap_or source.old no_table) row).rows) row }
+{
+    match (source, target) {
+        (Some(source), Some(target)) => {
+            target.push_row_from(source, row);
+            source.swap_out(row)
+        }
+        _ => unreachable!(),
+    }
+}
+
+// What `move_rows` does to the slots.
+fn move_all_in(slots: &mut [Option<Table>], from: usize, to: usize)
+    requires apart { from ≢ to }
+    requires source { IsSome (slot_of slots.old from) }
+    requires target { IsSome (slot_of slots.old to) }
+    requires room { length (table_in slots.old from).rows ≤ (table_in slots.old to).room }
+    requires widths { Agree (table_in slots.old to) (table_in slots.old from) }
+    ensures { slots.new ≡ slice_set (slice_set slots.old from (Some (without_rows (table_in slots.old from)))) to (Some (with_rows (table_in slots.old to) (table_in slots.old from).rows)) }
+{
+    if from < to {
+        let (low, high) = slots.split_at_mut(to);
+        move_all_between(&mut low[from], &mut high[0]);
+    } else {
+        let (low, high) = slots.split_at_mut(from);
+        move_all_between(&mut high[0], &mut low[to]);
+    }
+}
+
+// All rows go from the table of one slot to that of another.
+fn move_all_between(source: &mut Option<Table>, target: &mut Option<Table>)
+    requires source { IsSome source.old }
+    requires target { IsSome target.old }
+    requires room { length (unwrap_or source.old no_table).rows ≤ (unwrap_or target.old no_table).room }
+    requires widths { Agree (unwrap_or target.old no_table) (unwrap_or source.old no_table) }
+    ensures source { source.new ≡ Some (without_rows (unwrap_or source.old no_table)) }
+    ensures target { target.new ≡ Some (with_rows (unwrap_or target.old no_table) (unwrap_or source.old no_table).rows) }
+{
+    match (source, target) {
+        (Some(source), Some(target)) => target.take_rows(source),
+        _ => unreachable!(),
+    }
 }

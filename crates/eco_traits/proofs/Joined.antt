@@ -11,7 +11,7 @@ use Rattle.eco_ids.specs.declared.value.Value.{Value}
 use Rattle.eco_ids.specs.declared.refusal.Refusal.{Refusal}
 use Rattle.eco_ids.specs.declared.refusal.Refusal.TheVariants.{DeadId}
 use Rattle.eco_ids.specs.Order.{id_cmp, id_eq, has_item, is_ascending, with_item, without_item}
-use Rattle.eco_ids.specs.Step.{IsClosure, Judges, is_displaced, with_closure}
+use Rattle.eco_ids.specs.Step.{IsClosure, Judges, is_replaced, with_closure}
 use Rattle.eco_ids.specs.World.{WorldState, Record, has, names_living, record_of}
 use Rattle.std.proofs.lemmas.Bool.{and_right, or_left}
 use Rattle.eco_ids.proofs.Exact.{id_eq_sym, keys, keys_kept, keys_zeros}
@@ -29,11 +29,11 @@ sorted_is : (es : List (Id × Value)) → is_sorted id_cmp es ≡ is_ascending i
 sorted_is [] = refl
 sorted_is (e ∷ es) = λ t. below_is e.0 es t && sorted_is es t
 
--- what isn't displaced, and each id of the closure put in its place
+-- what isn't replaced, and each id of the closure put in its place
 type_with : (w : WorldState) (s : List Id) (d : Record) → IsTrue (is_ascending id_cmp (type_of_record d))
-    → fold (with_item id_cmp) (filter (λ i. not (is_displaced w s i)) (type_of_record d)) s ≡ type_of_record (with_closure w s d)
+    → fold (with_item id_cmp) (filter (λ i. not (is_replaced w s i)) (type_of_record d)) s ≡ type_of_record (with_closure w s d)
 type_with w s d up =
-    let stays : Id → Bool = λ i. not (is_displaced w s i) in
+    let stays : Id → Bool = λ i. not (is_replaced w s i) in
     let sorted = is_sorted-where_key id_cmp stays d.held (to_T _ (sorted_is d.held ∙ up)) in
     sym (keys_zeros s (where_key id_cmp stays d.held) sorted ∙ ap (λ ks. fold (with_item id_cmp) ks s) (keys_kept stays d.held))
 
@@ -139,10 +139,10 @@ lacked w e i r lives absent extends =
 
 pub leads_to : (w : WorldState) (e : Entity) (i : Id) (s own kept all : List Id) (verdict : Option Refusal) → names_living w i ≡ true → has w e i ≡ false
     → IsClosure w i s → Judges w e s verdict → verdict ≡ None → Some own ≡ option_map type_of_record (record_of w e) → IsTrue (is_ascending id_cmp own)
-    → kept ≡ filter (λ j. not (is_displaced w s j)) own → all ≡ fold (with_item id_cmp) kept s → LeadsTo w e i (Ok all)
+    → kept ≡ filter (λ j. not (is_replaced w s j)) own → all ≡ fold (with_item id_cmp) kept s → LeadsTo w e i (Ok all)
 leads_to w e i s own kept all verdict lives absent closure judges none owns up is_kept is_all =
     let d = some_record (record_of w e) own owns in
     let type_is : all ≡ type_of_record (with_closure w s d.0) =
-    is_all ∙ ap (λ xs. fold (with_item id_cmp) xs s) (is_kept ∙ ap (filter (λ j. not (is_displaced w s j))) d.2)
+    is_all ∙ ap (λ xs. fold (with_item id_cmp) xs s) (is_kept ∙ ap (filter (λ j. not (is_replaced w s j))) d.2)
     ∙ type_with w s d.0 (subst (λ xs. IsTrue (is_ascending id_cmp xs)) d.2 up) in
     lacked w e i (Ok all) lives absent (s, closure, None, subst (Judges w e s) none judges, (d.0, d.1, ap Ok type_is))

@@ -7,3 +7,4 @@ pub mod Rows
 pub mod Search
 pub mod Verdicts
 pub mod Walks
+pub mod Targets

@@ -1,4 +1,4 @@
--- An id that comes alone, displaces nothing, and against which nothing stands.
+-- An id that comes alone, replaces nothing, and against which nothing stands.
 use Rattle.std.proofs.Common.{◌≡◌, true, false, cond, not, ◌||◌, ◌&&◌, inl, inr, List, [], ◌∷◌, filter, refl, sym, ap, ◌∙◌, subst, true≢false, IsTrue, Some, None, Ok, option_map}
 use Rattle.std.proofs.lemmas.Bool.{and_right}
 use Rattle.eco_ids.proofs.Gains.{same_relationship}
@@ -8,7 +8,7 @@ use Rattle.eco_ids.specs.declared.entity.TheConstants.{ACYCLIC, EXCLUSIVE, WITH}
 use Rattle.eco_ids.specs.declared.id.Id.{Id}
 use Rattle.eco_ids.specs.declared.id.Id.TheVariants.{One, Two}
 use Rattle.eco_ids.specs.Order.{id_cmp, is_ascending, with_item}
-use Rattle.eco_ids.specs.Step.{IsClosure, Judges, is_displaced, is_pair_of, is_used}
+use Rattle.eco_ids.specs.Step.{IsClosure, Judges, is_replaced, is_pair_of, is_used}
 use Rattle.eco_ids.specs.World.{WorldState, has, is_acyclic, is_exclusive, names_living, record_of}
 use Rattle.eco_traits.specs.Closure.{head_of}
 use Rattle.eco_ids.proofs.Ascending.{first, second}
@@ -29,25 +29,25 @@ AreTraitsOf w i ids = Some ids ≡ option_map type_of_record (record_of w (head_
 pub comes_alone : (w : WorldState) (i : Id) (ids : List Id) → AreTraitsOf w i ids → BringsNone ids → IsClosure w i (i ∷ [])
 comes_alone w i ids own none = closure_alone w i (λ x h. true≢false (sym h ∙ has_listed w (head_of i) (Two WITH x) ids own ∙ none x))
 
--- nothing is displaced
-displaces_none : (w : WorldState) (i : Id) (ids : List Id) → AreTraitsOf w i ids → IsPlain i ids → (j : Id) → is_displaced w (i ∷ []) j ≡ false
-displaces_none w (One c) ids own plain (One e) = refl
-displaces_none w (One c) ids own plain (Two q u) = and_right (is_exclusive w q) false refl
-displaces_none w (Two r t) ids own plain (One e) = refl
-displaces_none w (Two r t) ids own plain (Two q u) =
-    same_truth (is_displaced w (Two r t ∷ []) (Two q u)) false
+-- nothing is replaced
+replaces_none : (w : WorldState) (i : Id) (ids : List Id) → AreTraitsOf w i ids → IsPlain i ids → (j : Id) → is_replaced w (i ∷ []) j ≡ false
+replaces_none w (One c) ids own plain (One e) = refl
+replaces_none w (One c) ids own plain (Two q u) = and_right (is_exclusive w q) false refl
+replaces_none w (Two r t) ids own plain (One e) = refl
+replaces_none w (Two r t) ids own plain (Two q u) =
+    same_truth (is_replaced w (Two r t ∷ []) (Two q u)) false
     (λ h.
     let same : q ≡ r = elim (or_parts (is_pair_of q (Two r t)) false
     (first _ _ (second (is_exclusive w q) _ h))) as (λ _. q ≡ r) [ inl k ↦ entity_eq_is q r k | inr k ↦ absurd (true≢false (sym k)) ] in
     absurd (true≢false (sym (subst (λ p. IsTrue (is_exclusive w p)) same (first _ _ h)) ∙ has_listed w r (One EXCLUSIVE) ids own ∙ plain.1.0)))
     (λ h. absurd (true≢false (sym h)))
 
-keeps_all : (w : WorldState) (i : Id) → ((j : Id) → is_displaced w (i ∷ []) j ≡ false) → (own : List Id)
-    → own ≡ filter (λ j. not (is_displaced w (i ∷ []) j)) own
+keeps_all : (w : WorldState) (i : Id) → ((j : Id) → is_replaced w (i ∷ []) j ≡ false) → (own : List Id)
+    → own ≡ filter (λ j. not (is_replaced w (i ∷ []) j)) own
 keeps_all w i none [] = refl
 keeps_all w i none (x ∷ xs) =
     ap (λ ys. x ∷ ys) (keeps_all w i none xs)
-    ∙ sym (ap (λ b. cond (not b) (x ∷ filter (λ j. not (is_displaced w (i ∷ []) j)) xs) (filter (λ j. not (is_displaced w (i ∷ []) j)) xs)) (none x))
+    ∙ sym (ap (λ b. cond (not b) (x ∷ filter (λ j. not (is_replaced w (i ∷ []) j)) xs) (filter (λ j. not (is_replaced w (i ∷ []) j)) xs)) (none x))
 
 -- nothing stands against it
 unopposed : (w : WorldState) (e : Entity) (i : Id) (ids : List Id) → AreTraitsOf w i ids → IsPlain i ids → Judges w e (i ∷ []) None
@@ -75,4 +75,4 @@ pub plain_leads_to : (w : WorldState) (e : Entity) (i : Id) (ids own all : List 
     → LeadsTo w e i (Ok all)
 plain_leads_to w e i ids own all lives absent traits plain owns up is_all =
     leads_to w e i (i ∷ []) own own all None lives absent (plain_alone w i ids traits plain) (unopposed w e i ids traits plain) refl owns up
-    (keeps_all w i (displaces_none w i ids traits plain) own) is_all
+    (keeps_all w i (replaces_none w i ids traits plain) own) is_all

@@ -1,5 +1,5 @@
 -- The type that an add leads to.
-use Rattle.std.specs.Prelude.{◌≡◌, ◌↔◌, ◌||◌, not, List, map, filter, fold, option_map, Option, Some, None, Result, Ok, Err, IsTrue, IsFalse, false, MatchBool, MatchOption, if◌then◌else◌}
+use Rattle.std.specs.Prelude.{Bool, true, [], unwrap_or, ◌≡◌, ◌↔◌, ◌||◌, not, List, map, filter, fold, option_map, Option, Some, None, Result, Ok, Err, IsTrue, IsFalse, false, MatchBool, MatchOption, if◌then◌else◌}
 use Rattle.eco_ids.specs.declared.entity.Entity.{Entity}
 use Rattle.eco_ids.specs.declared.entity.TheConstants.{ACYCLIC, EXCLUSIVE, WITH}
 use Rattle.eco_ids.specs.declared.id.Id.{Id}
@@ -8,8 +8,10 @@ use Rattle.eco_ids.specs.declared.refusal.Refusal.{Refusal}
 use Rattle.eco_ids.specs.declared.refusal.Refusal.TheVariants.{DeadId}
 use Rattle.eco_ids.specs.Order.{entity_cmp, entity_eq, has_item, id_cmp, with_item}
 use Rattle.eco_ids.specs.Outcome.{is_out_of_memory}
-use Rattle.eco_ids.specs.Step.{IsClosure, Judges, is_displaced, is_wrong_policy, with_closure}
+use Rattle.eco_ids.specs.Step.{IsClosure, Judges, is_replaced, is_wrong_policy, with_closure}
 use Rattle.eco_ids.specs.Traits.{Reaches}
+use Rattle.eco_traits.specs.declared.target.Target.{Target}
+use Rattle.eco_traits.specs.declared.target.Target.TheVariants.{Own, With, Other}
 use Rattle.eco_ids.specs.World.{Record, WorldState, has, is_acyclic, names_living, record_of}
 
 -- the ids of a record
@@ -28,9 +30,9 @@ IsReach w r from members = (b : Entity) → IsTrue (has_item entity_cmp members 
 abbrev pub AppendsTargets : Entity → List Id → List Entity → List Entity → Type 0
 AppendsTargets r ids old new = (b : Entity) → has_item entity_cmp new b ≡ (has_item entity_cmp old b || has_item id_cmp ids (Two r b))
 
--- what the closure s does not displace
+-- what the closure s does not replace
 abbrev pub left_by : WorldState → List Id → List Id → List Id
-left_by w s ids = filter (λ i. not (is_displaced w s i)) ids
+left_by w s ids = filter (λ i. not (is_replaced w s i)) ids
 
 -- that, and the closure
 abbrev pub extended_by : WorldState → List Id → List Id → List Id
@@ -54,11 +56,11 @@ IsClosedBy w e i (Some r) = ClosesBy w e i r
 abbrev pub BringsNone : List Id → Type 0
 BringsNone ids = (x : Entity) → IsFalse (has_item id_cmp ids (Two WITH x))
 
--- no id says what pairs of the relationship bring along, displace or close
+-- no id says what pairs of the relationship bring along, replace or close
 abbrev pub LacksTraits : List Id → Type 0
 LacksTraits ids = (has_item id_cmp ids (One EXCLUSIVE) ≡ false) × (has_item id_cmp ids (One ACYCLIC) ≡ false) × BringsNone ids
 
--- an id that brings nothing along and displaces nothing, and nothing stands against it, where its entity or its
+-- an id that brings nothing along and replaces nothing, and nothing stands against it, where its entity or its
 -- relationship has these ids: a single id that is no trait which may come too late, or a pair of a relationship that is
 -- neither exclusive nor acyclic, and no wrong cleanup pair
 abbrev pub IsPlain : Id → List Id → Type 0
@@ -87,3 +89,24 @@ LeadsTo w e i r = MatchBool (names_living w i) (MatchBool (has w e i) (IsOwnType
 -- the answer is that type or that refusal, or memory was wanting, which is asked for only once each entity in the id lives
 abbrev pub FindsType : WorldState → Entity → Id → Result (List Id) Refusal → Type 0
 FindsType w e i r = MatchBool (is_out_of_memory r) (IsTrue (names_living w i)) (LeadsTo w e i r)
+
+-- the type that a target stands for, where an id comes to these
+abbrev pub type_meant : List Id → Id → Target → List Id
+type_meant own i Own = own
+type_meant own i With = with_item id_cmp own i
+type_meant own i (Other ids) = ids
+
+-- the target is the entity's own type
+abbrev pub is_own : Target → Bool
+is_own Own = true
+is_own With = false
+is_own (Other ids) = false
+
+-- the type that an answer stands for, or the refusal
+abbrev pub type_answered : List Id → Id → Result Target Refusal → Result (List Id) Refusal
+type_answered own i (Ok t) = Ok (type_meant own i t)
+type_answered own i (Err why) = Err why
+
+-- the answer stands for that type, or is that refusal
+abbrev pub FindsTarget : WorldState → Entity → Id → Result Target Refusal → Type 0
+FindsTarget w e i r = FindsType w e i (type_answered (unwrap_or (type_of_entity w e) []) i r)

@@ -12,5 +12,5 @@ mod walk;
 pub use holdings::Holdings;
 pub use implied::closure;
 pub use least::{Graph, is_in_least_set, least_set};
-pub use target::target_type;
+pub use target::{Target, target_type};
 pub use walk::{has, reached, reaches};

@@ -1,12 +1,13 @@
 //! The type that an add leads to.
-ghost use Rattle.std.specs.Prelude.{◌≡◌, ◌↔◌, IfOk, IfSome, IsFalse, IsTrue, Some, filter, fold, is_some, not, option_map, unwrap_or};
+ghost use Rattle.std.specs.Prelude.{◌≡◌, ◌↔◌, false, IfOk, IfSome, IsFalse, IsTrue, Some, filter, fold, is_some, not, option_map, unwrap_or};
 ghost use Rattle.std.specs.List.{list_any};
-ghost use Rattle.eco_ids.specs.World.{is_alive as lives, record_of};
+ghost use Rattle.eco_ids.specs.Outcome.{is_out_of_memory};
+ghost use Rattle.eco_ids.specs.World.{has, is_alive as lives, record_of};
 ghost use Rattle.eco_ids.specs.Order.{id_cmp, is_ascending, with_item};
 ghost use Rattle.eco_ids.specs.Step as step;
 ghost use Rattle.eco_ids.specs.World as world;
 ghost use Rattle.eco_traits.specs.Closure.{head_of};
-ghost use Rattle.eco_traits.specs.Target.{FindsType, IsPlain, LacksTraits, extended_by, left_by, type_of_entity};
+ghost use Rattle.eco_traits.specs.Target.{FindsTarget, FindsType, is_own, IsPlain, LacksTraits, extended_by, left_by, type_of_entity};
 
 use crate::holdings::Holdings;
 use crate::implied::{brings_any, closure};
@@ -15,6 +16,17 @@ use crate::walk::has;
 use eco_ids::entity::{ACYCLIC, EXCLUSIVE};
 use eco_ids::{Entity, Id, Refusal, TypeList};
 use std::alloc::{AllocError, Global};
+
+/// The type that an add leads to. A list of ids is made only where it is none of the first two.
+#[derive(Drop)]
+pub enum Target {
+    /// The type that the entity has: the id is there already.
+    Own,
+    /// The type that the entity has, and the id alone.
+    With,
+    /// Another type.
+    Other(TypeList),
+}
 
 /// The type that a living entity has once an id was added to it: its own where it has the id already, else what it had and
 /// the closure of the id, without the other pairs of each exclusive relationship of which the closure has a pair (Flecs
@@ -29,30 +41,34 @@ use std::alloc::{AllocError, Global};
 ///   with the entity as relationship;
 /// - [`Refusal::Cycle`]: for a pair (R, T) in the closure, R is acyclic, and T is the entity or a walk of pairs of R leads
 ///   from T to it. It names the least such R;
-/// - [`Refusal::OutOfMemory`]: no memory is to be had for the closure, for a walk or for the new list.
+/// - [`Refusal::OutOfMemory`]: no memory is to be had for the closure, for a walk or for the new list. An id that is there
+///   already wants none.
 pub fn target_type<H: Holdings>(
     alloc: Global,
     holdings: &H,
     entity: Entity,
     id: Id,
-) -> Result<TypeList, Refusal>
+) -> Result<Target, Refusal>
     requires { IsTrue (lives (H.world holdings.now) entity) }
-    ensures { FindsType (H.world holdings.now) entity id result }
+    ensures target { FindsTarget (H.world holdings.now) entity id result }
+    ensures own { IfOk result (λ target. is_own target ≡ has (H.world holdings.now) entity id) }
+    ensures memory { IsTrue (is_out_of_memory result) → has (H.world holdings.now) entity id ≡ false }
 {
     let own = holdings.type_of(entity).unwrap();
     let Some(traits) = traits_of(holdings, id) else {
         return Err(Refusal::DeadId);
     };
     if own.has(id) {
-        return Ok(own.try_copy()?);
+        return Ok(Target::Own);
     }
     if is_plain(id, traits) {
-        return Ok(own.with(id)?);
+        return Ok(Target::With);
     }
-    closed_type(alloc, holdings, entity, own, id, traits)
+    Ok(Target::Other(closed_type(alloc, holdings, entity, own, id, traits)?))
 }
 
 // What `target_type` does with an id that isn't plain, apart, so that one that is needs no room for what this one keeps.
+#[cold]
 #[inline(never)]
 fn closed_type<H: Holdings>(
     alloc: Global,
@@ -115,7 +131,7 @@ fn judged_type<H: Holdings>(
     Ok(extended(holdings, own, coming)?)
 }
 
-// Whether the id comes alone, displaces nothing, and nothing stands against it, as with most tags, components and pairs.
+// Whether the id comes alone, replaces nothing, and nothing stands against it, as with most tags, components and pairs.
 fn is_plain(id: Id, traits: &TypeList) -> bool
     ensures { IsTrue result ↔ IsPlain id traits.now }
 {
@@ -132,7 +148,7 @@ fn has_trait(ids: &TypeList) -> bool
     ids.has(Id::One(EXCLUSIVE)) || ids.has(Id::One(ACYCLIC)) || brings_any(ids)
 }
 
-// What the closure does not displace, and the closure.
+// What the closure does not replace, and the closure.
 fn extended<H: Holdings>(
     holdings: &H,
     own: &TypeList,
@@ -145,7 +161,7 @@ fn extended<H: Holdings>(
     joined(kept.as_ref().unwrap_or(own), coming)
 }
 
-// What the closure does not displace; none, where that is all.
+// What the closure does not replace; none, where that is all.
 fn kept<H: Holdings>(
     holdings: &H,
     own: &TypeList,
@@ -156,7 +172,7 @@ fn kept<H: Holdings>(
 {
     let mut kept: Option<TypeList> = None;
     for id in own.as_slice() {
-        if is_displaced(holdings, coming, *id) {
+        if is_replaced(holdings, coming, *id) {
             kept = Some(kept.as_ref().unwrap_or(own).without(*id)?);
         }
     }
@@ -164,8 +180,8 @@ fn kept<H: Holdings>(
 }
 
 // The closure has a pair of the same relationship, which is exclusive, and not this one. What takes least is asked first.
-fn is_displaced<H: Holdings>(holdings: &H, coming: &[Id], id: Id) -> bool
-    ensures { result ≡ step.is_displaced (H.world holdings.now) coming.now id }
+fn is_replaced<H: Holdings>(holdings: &H, coming: &[Id], id: Id) -> bool
+    ensures { result ≡ step.is_replaced (H.world holdings.now) coming.now id }
 {
     let Id::Two(relationship, _) = id else {
         return false;

@@ -10,7 +10,7 @@ use Rattle.eco_ids.specs.declared.id.Id.TheVariants as id
 use Rattle.eco_ids.specs.declared.pattern.Pattern.{Pattern}
 use Rattle.eco_ids.specs.declared.value.Value.{Value}
 use Rattle.eco_ids.specs.Answer.{answer, is_least_match, same_filling, entries_of, choices, Row as Result}
-use Rattle.eco_ids.specs.Slots.{Plain, Asked}
+use Rattle.eco_ids.specs.Terms.{And, QueryTerm}
 use Rattle.eco_ids.specs.Matching.{pattern_matches}
 use Rattle.eco_ids.specs.Order.{id_cmp, id_eq, entity_cmp}
 use Rattle.eco_ids.specs.Indices.{IndexState, Retired, Free, Living, living, living_from, record_in}
@@ -96,7 +96,7 @@ only_one i (h ∷ held) up =
     ] refl
 
 one_entry : (i : Id) (held : List (Id × Value)) → T (is_sorted id_cmp held) →
-    entries_of (map (λ (h : Id × Value). h.0) held) (Plain (exactly i)) ≡ cond (is_some (find id_cmp i held)) (Some i ∷ []) []
+    entries_of (map (λ (h : Id × Value). h.0) held) (And (exactly i)) ≡ cond (is_some (find id_cmp i held)) (Some i ∷ []) []
 one_entry i held up =
     ap (map Some) (filter_alike _ _ (least_is (exactly i) i (map (λ (h : Id × Value). h.0) held) (matches_exactly i)) (map (λ (h : Id × Value). h.0) held)
     ∙ only_one i held up)
@@ -106,7 +106,7 @@ abbrev result : Entity → List (Option Id) → Result
 result e entries = record { entity = e; entries = entries }
 
 -- the results of one living entity
-abbrev pub results : List Asked → Entity × Record → List Result
+abbrev pub results : List QueryTerm → Entity × Record → List Result
 results slots p = map (λ es. record { entity = p.0; entries = es }) (choices (map (λ h. h.0) p.1.held) slots)
 
 pub one_result : (i : Id) (e : Entity) (r : Record) → T (is_sorted id_cmp r.held) →

@@ -1,5 +1,5 @@
 -- What the store makes of an entity's record, and what a step makes of it.
-use Rattle.std.proofs.Common.{◌≡◌, Bool, true, false, ◌&&◌, T, List, [], ◌∷◌, Option, Some, None, option_map, unwrap_or, refl, sym, ap, ◌∙◌, subst, is_some, true≢false, IsTrue, IsFalse, MatchBool}
+use Rattle.std.proofs.Common.{◌≡◌, Bool, true, false, cond, ◌&&◌, T, List, [], ◌∷◌, Option, Some, None, option_map, unwrap_or, refl, sym, ap, ◌∙◌, subst, is_some, true≢false, IsTrue, IsFalse, MatchBool}
 use Rattle.std.specs.List.{list_any}
 use Rattle.std.specs.FinMap.Entries.{find, is_sorted}
 use Rattle.eco_ids.specs.declared.entity.Entity.{Entity}
@@ -8,16 +8,17 @@ use Rattle.eco_ids.specs.declared.value.Value.{Value}
 use Rattle.eco_ids.specs.Indices.{Living, change_kept}
 use Rattle.eco_ids.specs.Lawful.{IsLawful}
 use Rattle.eco_ids.specs.Losses.{keeping, without, nobody}
-use Rattle.eco_ids.specs.Order.{id_cmp, id_eq, entity_eq, without_item}
+use Rattle.eco_ids.specs.Order.{id_cmp, id_eq, entity_eq, has_item, with_item, without_item}
 use Rattle.eco_ids.specs.Step.{changed, with_value}
 use Rattle.eco_ids.specs.World.{WorldState, Record, entities, with_entities, has, held_by, is_alive, record_of, with_record}
 use Rattle.eco_ids.proofs.Facts.{id_eq_is, not_both}
 use Rattle.eco_ids.proofs.Losses.{keeps_all, without_one}
 use Rattle.eco_ids.proofs.Records.{living_state}
 use Rattle.eco_ids.proofs.Lists.{set_own}
-use Rattle.eco_store.specs.Store.{record_ids, with_type, with_written}
+use Rattle.eco_store.specs.Store.{record_ids, with_toggled, with_type, with_written}
+use Rattle.eco_traits.specs.Target.{type_of_entity, type_of_record}
 use Rattle.eco_world.specs.Removals.{type_of}
-use Rattle.eco_world.proofs.Held.{Held, keys, none_written, retyped_without, written_is}
+use Rattle.eco_world.proofs.Held.{Held, find_keys, keys, none_written, retyped_without, written_is}
 
 module _ (w : WorldState) (e : Entity) where
   -- changes that do the same to the entity's record
@@ -52,6 +53,26 @@ module _ (w : WorldState) (e : Entity) where
       by : (d : Record) → record_of w e ≡ Some d → (j : Id) → IsTrue (is_some (find id_cmp j d.held)) → (b : Bool) → id_eq j i ≡ b → IsFalse b
       by d at j there true is = absurd (not_both (subst (λ k. IsTrue (is_some (find id_cmp k d.held))) (id_eq_is j i is) there) (has_at i d at ∙ absent))
       by d at j there false is = refl
+
+  lists_at : (i : Id) (d : Record) → record_of w e ≡ Some d → has_item id_cmp (record_ids d) i ≡ has w e i
+  lists_at i d at = sym (find_keys d.held i) ∙ has_at i d at
+
+  -- an id that isn't there comes
+  pub toggled_in : (i : Id) → has w e i ≡ false →
+      changed w e (with_toggled i) ≡ changed w e (with_type (with_item id_cmp (unwrap_or (type_of_entity w e) []) i))
+  toggled_in i absent =
+      changed_alike (with_toggled i) (with_type (with_item id_cmp (unwrap_or (type_of_entity w e) []) i)) (λ d at.
+      ap (λ ids. with_type ids d)
+      (ap (λ b. cond b (without_item id_cmp (record_ids d) i) (with_item id_cmp (record_ids d) i)) (lists_at i d at ∙ absent)
+      ∙ ap (λ o. with_item id_cmp (unwrap_or (option_map type_of_record o) []) i) (sym at)))
+
+  -- one that is there goes
+  pub toggled_out : (i : Id) → has w e i ≡ true → changed w e (with_toggled i) ≡ changed w e (with_type (without_item id_cmp (type_of w e) i))
+  toggled_out i there =
+      changed_alike (with_toggled i) (with_type (without_item id_cmp (type_of w e) i)) (λ d at.
+      ap (λ ids. with_type ids d)
+      (ap (λ b. cond b (without_item id_cmp (record_ids d) i) (with_item id_cmp (record_ids d) i)) (lists_at i d at ∙ there)
+      ∙ ap (λ held. without_item id_cmp (keys held) i) (sym (held_at d at))))
 
   module _ (lawful : IsLawful w) where
     pub sorted_at : (d : Record) → record_of w e ≡ Some d → T (is_sorted id_cmp d.held)

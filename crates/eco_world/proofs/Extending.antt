@@ -14,10 +14,10 @@ use Rattle.eco_ids.specs.Builtin.{is_builtin}
 use Rattle.eco_ids.specs.Losses.{without, nobody}
 use Rattle.eco_ids.specs.Laws.{Keeps, AddsExactly, AddsOnce}
 use Rattle.eco_ids.specs.Lawful.{IsLawful}
-use Rattle.eco_ids.specs.Order.{id_cmp, has_item}
+use Rattle.eco_ids.specs.Order.{id_cmp, has_item, with_item}
 use Rattle.eco_ids.specs.Outcome.{Meets, Answers, Refuses, is_out_of_memory}
 use Rattle.eco_ids.specs.Step as step
-use Rattle.eco_ids.specs.Step.{changed, grown, with_value, with_closure, is_displaced, is_pair_of, IsClosure, Judges, Loses, Extends, Adds, unfit, unchanged, Sets, unfit_set, unfit_actor}
+use Rattle.eco_ids.specs.Step.{changed, grown, with_value, with_closure, is_replaced, is_pair_of, IsClosure, Judges, Loses, Extends, Adds, unfit, unchanged, Sets, unfit_set, unfit_actor}
 use Rattle.eco_ids.specs.World.{WorldState, Record, zeros, has, names_living, is_exclusive, record_of, with_record, is_alive}
 use Rattle.eco_ids.proofs.Keeps.{some_of}
 use Rattle.eco_ids.proofs.Records.{changed_is, write_change}
@@ -25,7 +25,8 @@ use Rattle.eco_ids.proofs.Steps.{grown_unchanged}
 use Rattle.eco_ids.proofs.Ascending.{second}
 use Rattle.eco_ids.proofs.Facts.{not_true}
 use Rattle.eco_store.specs.Store.{with_type}
-use Rattle.eco_traits.specs.Target.{ExtendsTo, FindsType, IsOwnType, IsTypeWith, LeadsTo, type_of_record}
+use Rattle.eco_traits.specs.declared.target.Target.TheVariants.{With}
+use Rattle.eco_traits.specs.Target.{ExtendsTo, FindsTarget, FindsType, IsOwnType, IsTypeWith, LeadsTo, type_of_entity, type_of_record}
 use Rattle.eco_tables.specs.Column.{value_in}
 use Rattle.eco_world.specs.Actor.{MaySet}
 use Rattle.eco_world.proofs.Changes.{held_at, sorted_at}
@@ -33,15 +34,15 @@ use Rattle.eco_world.proofs.Held.{retyped_is}
 
 -- ---- a closure more
 
-displaced_absent : (w : WorldState) (s : List Id) (j : Id) → is_displaced w s j ≡ true → has_item id_cmp s j ≡ false
-displaced_absent w s (One e) h = absurd (true≢false (sym h))
-displaced_absent w s (Two r t) h =
+replaced_absent : (w : WorldState) (s : List Id) (j : Id) → is_replaced w s j ≡ true → has_item id_cmp s j ≡ false
+replaced_absent w s (One e) h = absurd (true≢false (sym h))
+replaced_absent w s (Two r t) h =
     not_true (has_item id_cmp s (Two r t))
     (second (list_any (is_pair_of r) s) (not (has_item id_cmp s (Two r t)))
     (second (is_exclusive w r) (list_any (is_pair_of r) s && not (has_item id_cmp s (Two r t))) h))
 
-left_value : (old : Option Value) (displaced there : Bool) (v : Value) → (displaced ≡ true → there ≡ false) →
-    option_or (cond (not displaced) old None) (cond there (Some zeros) None) ≡ Some v → unwrap_or old zeros ≡ v
+left_value : (old : Option Value) (replaced there : Bool) (v : Value) → (replaced ≡ true → there ≡ false) →
+    option_or (cond (not replaced) old None) (cond there (Some zeros) None) ≡ Some v → unwrap_or old zeros ≡ v
 left_value (Some u) false there v absent e = same_Some u v e
 left_value None false true v absent e = same_Some zeros v e
 left_value None false false v absent e = absurd (none-some v e)
@@ -78,15 +79,15 @@ module _ (w : WorldState) (e : Entity) (i : Id) (alive : is_alive w e ≡ true) 
       values : (j : Id) (v : Value) → find id_cmp j (with_closure w s d).held ≡ Some v → value_in d.held j ≡ v
       values j v found =
           let leaves = exactly w e i (grown w e s) absent done in
-          left_value (find id_cmp j d.held) (is_displaced w leaves.closure j) (has_item id_cmp leaves.closure j) v (displaced_absent w leaves.closure j)
-          (ap (λ held. option_or (cond (not (is_displaced w leaves.closure j)) (find id_cmp j held) None)
+          left_value (find id_cmp j d.held) (is_replaced w leaves.closure j) (has_item id_cmp leaves.closure j) v (replaced_absent w leaves.closure j)
+          (ap (λ held. option_or (cond (not (is_replaced w leaves.closure j)) (find id_cmp j held) None)
           (cond (has_item id_cmp leaves.closure j) (Some zeros) None)) (sym (held_at w e d at))
           ∙ sym (leaves.values j)
           ∙ ap (find id_cmp j) (held_at (grown w e s) e (with_closure w s d) written)
           ∙ found)
 
-      pub extended : IsExtended w e s d
-      extended = record {
+      extended_typed : IsExtended w e s d
+      extended_typed = record {
         lawful = kept;
         typed =
             changed_is w e (with_type (type_of_record (with_closure w s d))) d at
@@ -150,6 +151,91 @@ opposed w e i why living absent =
     by_verdict s closure None judges m = absurd (not_found _ m.2)
     by_verdict s closure (Some y) judges m = (s, closure, Some y, judges, (let same : why ≡ y = cc in ap Err same, refl))
 
+-- what was found leads to a type only where each entity in the id lives
+pub names_live : (w : WorldState) (e : Entity) (i : Id) (ids : List Id) → FindsType w e i (Ok ids) → names_living w i ≡ true
+names_live w e i ids = by (names_living w i)
+  where
+    by : (b : Bool) → MatchBool b (MatchBool (has w e i) (IsOwnType w e (Ok ids)) (ExtendsTo w e i (Ok ids))) (Ok ids ≡ Err DeadId) → b ≡ true
+    by true m = refl
+    by false m = absurd (not_refused ids DeadId m)
+
+-- ---- the whole add
+
+module _ (w : WorldState) (e : Entity) (i : Id) (alive : is_alive w e ≡ true) (ordinary : is_builtin w e ≡ false) where
+  -- it is done where the id is there
+  pub adds_there : names_living w i ≡ true → has w e i ≡ true → Adds w e i (Ok tt) w
+  adds_there living there = rw (alive, ordinary, living, there) (refl, refl)
+
+  module _ (living : names_living w i ≡ true) (absent : has w e i ≡ false) where
+    -- where it isn't, an add is an extension
+    pub adds_extends : (r : Result (Unit {0}) Refusal) (new : WorldState) → Meets (Extends w e i unchanged) true w r new →
+        Meets (Adds w e i) (step.may_add w e i) w r new
+    adds_extends r new =
+        elim (is_out_of_memory r) as (λ b. MatchBool b (IsTrue true × (new ≡ w)) (Extends w e i unchanged r new) →
+        MatchBool b (IsTrue (step.may_add w e i) × (new ≡ w)) (Adds w e i r new)) [
+          | true ↦ λ m. (ap (λ o. not (is_some o) && not (has w e i)) (fit w e i alive ordinary living) ∙ ap not absent, m.1)
+          | false ↦ λ x. adds_by w e i alive ordinary living absent r new x
+        ]
+
+    pub extends_adds : (r : Result (Unit {0}) Refusal) (new : WorldState) → Meets (Adds w e i) (step.may_add w e i) w r new →
+        Meets (Extends w e i unchanged) true w r new
+    extends_adds r new =
+        elim (is_out_of_memory r) as (λ b. MatchBool b (IsTrue (step.may_add w e i) × (new ≡ w)) (Adds w e i r new) →
+        MatchBool b (IsTrue true × (new ≡ w)) (Extends w e i unchanged r new)) [
+          | true ↦ λ m. (refl, m.1)
+          | false ↦ λ x. extends_by r new x
+        ]
+      where
+        extends_by : (r : Result (Unit {0}) Refusal) (new : WorldState) → Adds w e i r new → Extends w e i unchanged r new
+        extends_by r new x =
+            subst (λ b. MatchBool b (Answers tt w r new) (Extends w e i unchanged r new)) absent
+            (subst (λ o. MatchOption o (MatchBool (has w e i) (Answers tt w r new) (Extends w e i unchanged r new)) (λ why. Refuses why w r new))
+            (fit w e i alive ordinary living) x)
+
+  -- what stands against the type stands against the add
+  pub opposed_add : (why : Refusal) → FindsType w e i (Err why) → (IsTrue (is_out_of_memory {A = Unit {0}} (Err why)) → has w e i ≡ false) →
+      Meets (Adds w e i) (step.may_add w e i) w (Err why) w
+  opposed_add why finds memory = by_living (names_living w i) refl
+    where
+      one : (y : Refusal) → (let r : Result (List Id) Refusal = Err y in r ≡ Err DeadId) → y ≡ DeadId
+      one y h = cc
+
+      dead : names_living w i ≡ false → Meets (Adds w e i) (step.may_add w e i) w (Err why) w
+      dead lies =
+          (elim (is_out_of_memory {A = Unit {0}} (Err why)) as (λ b. MatchBool b (IsTrue (names_living w i)) (LeadsTo w e i (Err why)) →
+          MatchBool b (IsTrue (step.may_add w e i) × (w ≡ w)) (Adds w e i (Err why) w)) [
+            | true ↦ λ m. absurd (true≢false (sym m ∙ lies))
+            | false ↦ λ m.
+                let is : (let r : Result (List Id) Refusal = Err why in r ≡ Err DeadId) =
+                subst (λ b. MatchBool b (MatchBool (has w e i) (IsOwnType w e (Err why)) (ExtendsTo w e i (Err why)))
+                (let r : Result (List Id) Refusal = Err why in r ≡ Err DeadId)) lies m in
+                rw (alive, ordinary, lies) (ap Err (one why is), refl)
+          ]) finds
+
+      there : names_living w i ≡ true → has w e i ≡ true → Meets (Adds w e i) (step.may_add w e i) w (Err why) w
+      there living has_it =
+          (elim (is_out_of_memory {A = Unit {0}} (Err why)) as (λ b. (IsTrue b → has w e i ≡ false) → MatchBool b (IsTrue (names_living w i)) (LeadsTo w e i (Err why)) →
+          MatchBool b (IsTrue (step.may_add w e i) × (w ≡ w)) (Adds w e i (Err why) w)) [
+            | true ↦ λ lacks m. absurd (true≢false (sym has_it ∙ lacks refl))
+            | false ↦ λ lacks m.
+                let own : IsOwnType w e (Err why) =
+                subst (λ b. MatchBool b (IsOwnType w e (Err why)) (ExtendsTo w e i (Err why))) has_it
+                (subst (λ b. MatchBool b (MatchBool (has w e i) (IsOwnType w e (Err why)) (ExtendsTo w e i (Err why)))
+                (let r : Result (List Id) Refusal = Err why in r ≡ Err DeadId)) living m) in
+                absurd (not_found _ own.2)
+          ]) memory finds
+        where
+          not_found : (ids : List Id) → (let r : Result (List Id) Refusal = Err why in r ≡ Ok ids) → ⊥
+          not_found ids h = cc
+
+      by_has : names_living w i ≡ true → (b : Bool) → has w e i ≡ b → Meets (Adds w e i) (step.may_add w e i) w (Err why) w
+      by_has living true h = there living h
+      by_has living false h = adds_extends living h (Err why) w (opposed w e i why living h finds)
+
+      by_living : (b : Bool) → names_living w i ≡ b → Meets (Adds w e i) (step.may_add w e i) w (Err why) w
+      by_living true h = by_has h (has w e i) refl
+      by_living false h = dead h
+
 -- the entity with that type: the world is lawful, and it is the extension
 pub record IsTyped (w : WorldState) (e : Entity) (i : Id) (ids : List Id) : Type 0 where
   pub lawful : IsLawful (changed w e (with_type ids))
@@ -160,14 +246,36 @@ pub typed : (w : WorldState) (e : Entity) (i : Id) (ids : List Id) → is_alive 
     IsLawful w → Keeps (λ v. Adds v e i) → AddsExactly → FindsType w e i (Ok ids) → IsTyped w e i ids
 typed w e i ids alive ordinary living absent lawful keeps exactly finds =
     let f = found w e i ids living absent finds in
-    let x = extended w e i alive ordinary living absent f.closure f.of f.at lawful keeps exactly f.is_closure f.judges in
+    let x = extended_typed w e i alive ordinary living absent f.closure f.of f.at lawful keeps exactly f.is_closure f.judges in
     let same : changed w e (with_type ids) ≡ grown w e f.closure = ap (λ js. changed w e (with_type js)) f.ids_are ∙ x.typed in
     record {
       lawful = subst IsLawful (sym same) x.lawful;
       extends = (f.closure, f.is_closure, None, f.judges, (refl, same ∙ sym (grown_unchanged w e f.closure f.of f.at)));
     }
 
+-- the entity with what the add leads to: the world is lawful, and the add is done
+pub record IsGrown (w : WorldState) (e : Entity) (i : Id) (ids : List Id) : Type 0 where
+  pub lawful : IsLawful (changed w e (with_type ids))
+  pub adds : Adds w e i (Ok tt) (changed w e (with_type ids))
+
+pub found_other : (w : WorldState) (e : Entity) (i : Id) (ids : List Id) → is_alive w e ≡ true → is_builtin w e ≡ false → IsLawful w →
+    Keeps (λ v. Adds v e i) → AddsExactly → FindsType w e i (Ok ids) → has w e i ≡ false → IsGrown w e i ids
+found_other w e i ids alive ordinary lawful keeps exactly finds lacks =
+    let living = names_live w e i ids finds in
+    let t = typed w e i ids alive ordinary living lacks lawful keeps exactly finds in
+    record { lawful = t.lawful; adds = adds_by w e i alive ordinary living lacks (Ok tt) (changed w e (with_type ids)) t.extends }
+
+pub found_with : (w : WorldState) (e : Entity) (i : Id) → is_alive w e ≡ true → is_builtin w e ≡ false → IsLawful w →
+    Keeps (λ v. Adds v e i) → AddsExactly → FindsTarget w e i (Ok With) → has w e i ≡ false →
+    IsGrown w e i (with_item id_cmp (unwrap_or (type_of_entity w e) []) i)
+found_with w e i = found_other w e i (with_item id_cmp (unwrap_or (type_of_entity w e) []) i)
+
 -- ---- a set
+
+-- where nothing stands against a set and the id isn't there, the add that it begins with is an extension
+pub extended : (w : WorldState) (e : Entity) (i : Id) (v : Value) → MaySet w e i v → has w e i ≡ false → (r : Result (Unit {0}) Refusal) (new : WorldState) →
+    Meets (Adds w e i) (step.may_add w e i) w r new → Meets (Extends w e i unchanged) true w r new
+extended w e i v may_set = extends_adds w e i may_set.alive may_set.ordinary may_set.living
 
 module _ (w : WorldState) (e : Entity) (i : Id) (v : Value) (may_set : MaySet w e i v) (lawful : IsLawful w) (keeps : Keeps (λ x. Sets x e i v)) where
   fit_set : unfit_set w e i v ≡ None

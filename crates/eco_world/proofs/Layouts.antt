@@ -11,7 +11,7 @@ use Rattle.std.proofs.lemmas.List.Sorted.{Contains-permutation, IsPermutation-ma
 use Rattle.std.proofs.lemmas.Map.Keys.{IsDistinct-IsPermutation, IsDistinct-head, IsDistinct-tail}
 use Rattle.eco_ids.specs.declared.entity.Entity.{Entity}
 use Rattle.eco_ids.specs.declared.id.Id.{Id}
-use Rattle.eco_ids.specs.Layout.{Listed, IsLayout, is_distinct}
+use Rattle.eco_ids.specs.Layout.{ListedTable, IsLayout, is_distinct}
 use Rattle.eco_ids.specs.Order.{has_item, id_cmp, is_ascending, with_item}
 use Rattle.eco_ids.specs.World.{WorldState, is_alive}
 use Rattle.eco_ids.proofs.Ascending.{ascending_with, both, first, second, with_present}
@@ -47,16 +47,16 @@ all_of P xs each k d within = each (get_or xs k d) (Contains-get_or xs k d withi
 
 -- ---- the order of tables by type
 
-abbrev pub by_type : Listed → Listed → Ordering
+abbrev pub by_type : ListedTable → ListedTable → Ordering
 by_type a b = slice_cmp id_cmp a.ids b.ids
 
 by_type_total : IsTotalOrder by_type
-by_type_total = on_total (λ (t : Listed). t.ids) (lists_total id_cmp_total)
+by_type_total = on_total (λ (t : ListedTable). t.ids) (lists_total id_cmp_total)
 
-abbrev pub same_type : Listed → Listed → Bool
+abbrev pub same_type : ListedTable → ListedTable → Bool
 same_type = eq_by_cmp by_type
 
-same_type_flips : (a b : Listed) → same_type a b ≡ same_type b a
+same_type_flips : (a b : ListedTable) → same_type a b ≡ same_type b a
 same_type_flips a b = ap is_eq (by_type_total.antisymm a b) ∙ reversed (by_type b a)
   where
     reversed : (r : Ordering) → is_eq (ordering_reverse r) ≡ is_eq r
@@ -76,12 +76,12 @@ same_ids (x ∷ xs) (y ∷ ys) h =
       | Greater ↦ λ e k. absurd (true≢false (sym k))
     ] refl h
 
-type_ties : (a b : Listed) → a.ids ≡ b.ids → is_eq (by_type a b) ≡ true
+type_ties : (a b : ListedTable) → a.ids ≡ b.ids → is_eq (by_type a b) ≡ true
 type_ties a b same = ap (λ ids. is_eq (slice_cmp id_cmp a.ids ids)) (sym same) ∙ ap is_eq (tied_itself (lists_total id_cmp_total) a.ids)
 
 -- ---- sorted tables of different types ascend
 
-below : (a b : Listed) → is_lt (by_type b a) ≡ false → same_type a b ≡ false → is_lt (by_type a b) ≡ true
+below : (a b : ListedTable) → is_lt (by_type b a) ≡ false → same_type a b ≡ false → is_lt (by_type a b) ≡ true
 below a b not_less apart = by (by_type a b) (by_type_total.antisymm b a) apart
   where
     by : (r : Ordering) → by_type b a ≡ ordering_reverse r → is_eq r ≡ false → is_lt r ≡ true
@@ -116,8 +116,8 @@ sorted_tables old new moved sorted distinct =
 
 -- ---- a table put in its place
 
-module _ (x : Listed) where
-  put_cases : (ts : List Listed) (t : Listed) → Contains (with_item by_type ts x) t → Contains ts t ⊎ (x ≡ t)
+module _ (x : ListedTable) where
+  put_cases : (ts : List ListedTable) (t : ListedTable) → Contains (with_item by_type ts x) t → Contains ts t ⊎ (x ≡ t)
   put_cases [] t p = elim (element_cases x t [] p) as (λ _. Contains [] t ⊎ (x ≡ t)) [ inl e ↦ inr e | inr q ↦ inl q ]
   put_cases (y ∷ ys) t p =
       elim (by_type y x) as (λ r. Contains (by_order r (y ∷ with_item by_type ys x) (y ∷ ys) (x ∷ y ∷ ys)) t → Contains (y ∷ ys) t ⊎ (x ≡ t)) [
@@ -129,7 +129,7 @@ module _ (x : Listed) where
         | Greater ↦ λ q. elim (element_cases x t (y ∷ ys) q) as (λ _. Contains (y ∷ ys) t ⊎ (x ≡ t)) [ inl e ↦ inr e | inr c ↦ inl c ]
       ] p
 
-  put_keeps : (ts : List Listed) (t : Listed) → Contains ts t → Contains (with_item by_type ts x) t
+  put_keeps : (ts : List ListedTable) (t : ListedTable) → Contains ts t → Contains (with_item by_type ts x) t
   put_keeps [] t p = absurd (no_element t p)
   put_keeps (y ∷ ys) t p =
       elim (by_type y x) as (λ r. Contains (by_order r (y ∷ with_item by_type ys x) (y ∷ ys) (x ∷ y ∷ ys)) t) [
@@ -141,17 +141,17 @@ module _ (x : Listed) where
         | Greater ↦ there x t (y ∷ ys) p
       ]
 
-  put_there : (ts : List Listed) → (t : Listed) × Contains (with_item by_type ts x) t × (t.ids ≡ x.ids)
+  put_there : (ts : List ListedTable) → (t : ListedTable) × Contains (with_item by_type ts x) t × (t.ids ≡ x.ids)
   put_there [] = (x, here x [], refl)
   put_there (y ∷ ys) =
-      elim (by_type y x) as (λ r. by_type y x ≡ r → (t : Listed) × Contains (by_order r (y ∷ with_item by_type ys x) (y ∷ ys) (x ∷ y ∷ ys)) t
+      elim (by_type y x) as (λ r. by_type y x ≡ r → (t : ListedTable) × Contains (by_order r (y ∷ with_item by_type ys x) (y ∷ ys) (x ∷ y ∷ ys)) t
       × (t.ids ≡ x.ids)) [
         | Less ↦ λ e. let later = put_there ys in (later.0, there y later.0 (with_item by_type ys x) later.1, later.2)
         | Equal ↦ λ e. (y, here y ys, same_ids y.ids x.ids (ap is_eq e))
         | Greater ↦ λ e. (x, here x (y ∷ ys), refl)
       ] refl
 
-  put_filtered : (q : Listed → Bool) → q x ≡ false → (ts : List Listed) → filter q (with_item by_type ts x) ≡ filter q ts
+  put_filtered : (q : ListedTable → Bool) → q x ≡ false → (ts : List ListedTable) → filter q (with_item by_type ts x) ≡ filter q ts
   put_filtered q out [] = ap (λ b. cond b (x ∷ []) []) out
   put_filtered q out (y ∷ ys) =
       elim (by_type y x) as (λ r. filter q (by_order r (y ∷ with_item by_type ys x) (y ∷ ys) (x ∷ y ∷ ys)) ≡ filter q (y ∷ ys)) [
@@ -161,27 +161,27 @@ module _ (x : Listed) where
       ]
 
   -- where its type is there, nothing changes
-  put_again : (ts : List Listed) (t : Listed) → IsTrue (is_ascending by_type ts) → Contains ts t → t.ids ≡ x.ids → with_item by_type ts x ≡ ts
+  put_again : (ts : List ListedTable) (t : ListedTable) → IsTrue (is_ascending by_type ts) → Contains ts t → t.ids ≡ x.ids → with_item by_type ts x ≡ ts
   put_again ts t up p same = with_present by_type_total ts x up (has ts p)
     where
-      has : (ys : List Listed) → Contains ys t → has_item by_type ys x ≡ true
+      has : (ys : List ListedTable) → Contains ys t → has_item by_type ys x ≡ true
       has [] c = absurd (no_element t c)
       has (y ∷ ys) c = elim (element_cases y t ys c) as (λ _. has_item by_type (y ∷ ys) x ≡ true) [
-        | inl e ↦ or_left _ _ (type_ties y x (ap (λ (z : Listed). z.ids) e ∙ same))
+        | inl e ↦ or_left _ _ (type_ties y x (ap (λ (z : ListedTable). z.ids) e ∙ same))
         | inr d ↦ or_right (is_eq (by_type y x)) _ (has ys d)
       ]
 
 -- ---- many tables put in their places
 
-abbrev grown : List Listed → List Listed → List Listed
+abbrev grown : List ListedTable → List ListedTable → List ListedTable
 grown ts [] = ts
 grown ts (x ∷ xs) = grown (with_item by_type ts x) xs
 
-grown_ascends : (ts xs : List Listed) → IsTrue (is_ascending by_type ts) → IsTrue (is_ascending by_type (grown ts xs))
+grown_ascends : (ts xs : List ListedTable) → IsTrue (is_ascending by_type ts) → IsTrue (is_ascending by_type (grown ts xs))
 grown_ascends ts [] up = up
 grown_ascends ts (x ∷ xs) up = grown_ascends (with_item by_type ts x) xs (ascending_with by_type_total ts x up)
 
-grown_cases : (ts xs : List Listed) (t : Listed) → Contains (grown ts xs) t → Contains ts t ⊎ Contains xs t
+grown_cases : (ts xs : List ListedTable) (t : ListedTable) → Contains (grown ts xs) t → Contains ts t ⊎ Contains xs t
 grown_cases ts [] t p = inl p
 grown_cases ts (x ∷ xs) t p = elim (grown_cases (with_item by_type ts x) xs t p) as (λ _. Contains ts t ⊎ Contains (x ∷ xs) t) [
   | inl c ↦ elim (put_cases x ts t c) as (λ _. Contains ts t ⊎ Contains (x ∷ xs) t) [
@@ -192,19 +192,19 @@ grown_cases ts (x ∷ xs) t p = elim (grown_cases (with_item by_type ts x) xs t 
   | inr c ↦ inr (there x t xs c)
 ]
 
-grown_keeps : (ts xs : List Listed) (t : Listed) → Contains ts t → Contains (grown ts xs) t
+grown_keeps : (ts xs : List ListedTable) (t : ListedTable) → Contains ts t → Contains (grown ts xs) t
 grown_keeps ts [] t p = p
 grown_keeps ts (x ∷ xs) t p = grown_keeps (with_item by_type ts x) xs t (put_keeps x ts t p)
 
-grown_there : (ts xs : List Listed) (x : Listed) → Contains xs x → (t : Listed) × Contains (grown ts xs) t × (t.ids ≡ x.ids)
+grown_there : (ts xs : List ListedTable) (x : ListedTable) → Contains xs x → (t : ListedTable) × Contains (grown ts xs) t × (t.ids ≡ x.ids)
 grown_there ts [] x p = absurd (no_element x p)
-grown_there ts (y ∷ ys) x p = elim (element_cases y x ys p) as (λ _. (t : Listed) × Contains (grown (with_item by_type ts y) ys) t × (t.ids ≡ x.ids)) [
-  | inl e ↦ let put = put_there y ts in (put.0, grown_keeps (with_item by_type ts y) ys put.0 put.1, put.2 ∙ ap (λ (z : Listed). z.ids) e)
+grown_there ts (y ∷ ys) x p = elim (element_cases y x ys p) as (λ _. (t : ListedTable) × Contains (grown (with_item by_type ts y) ys) t × (t.ids ≡ x.ids)) [
+  | inl e ↦ let put = put_there y ts in (put.0, grown_keeps (with_item by_type ts y) ys put.0 put.1, put.2 ∙ ap (λ (z : ListedTable). z.ids) e)
   | inr c ↦ grown_there (with_item by_type ts y) ys x c
 ]
 
-grown_filtered : (q : Listed → Bool) (ts xs : List Listed) → IsTrue (is_ascending by_type ts)
-    → ((x : Listed) → Contains xs x → q x ≡ true → (t : Listed) × Contains ts t × (t.ids ≡ x.ids)) → filter q (grown ts xs) ≡ filter q ts
+grown_filtered : (q : ListedTable → Bool) (ts xs : List ListedTable) → IsTrue (is_ascending by_type ts)
+    → ((x : ListedTable) → Contains xs x → q x ≡ true → (t : ListedTable) × Contains ts t × (t.ids ≡ x.ids)) → filter q (grown ts xs) ≡ filter q ts
 grown_filtered q ts [] up had = refl
 grown_filtered q ts (x ∷ xs) up had =
     grown_filtered q (with_item by_type ts x) xs (ascending_with by_type_total ts x up)
@@ -218,33 +218,33 @@ grown_filtered q ts (x ∷ xs) up had =
 -- ---- tables of a world
 
 -- the table is one of the world's: not empty, and it has each who has just its ids once
-pub record IsTable (w : WorldState) (t : Listed) : Type 0 where
+pub record IsTable (w : WorldState) (t : ListedTable) : Type 0 where
   pub non_empty : t.entities ≢ []
   pub once : IsTrue (is_distinct t.entities)
   pub exact : (e : Entity) → Contains t.entities e ↔ (IsTrue (is_alive w e) × (t.ids ≡ type_of w e))
 
 -- tables of the world, among them one for each living entity whose type passes
-pub record Covers (w : WorldState) (passes : List Id → Bool) (tables : List Listed) : Type 0 where
-  pub each : (t : Listed) → Contains tables t → IsTable w t
-  pub all : (e : Entity) → IsTrue (is_alive w e) → passes (type_of w e) ≡ true → (t : Listed) × Contains tables t × (t.ids ≡ type_of w e)
+pub record Covers (w : WorldState) (passes : List Id → Bool) (tables : List ListedTable) : Type 0 where
+  pub each : (t : ListedTable) → Contains tables t → IsTable w t
+  pub all : (e : Entity) → IsTrue (is_alive w e) → passes (type_of w e) ≡ true → (t : ListedTable) × Contains tables t × (t.ids ≡ type_of w e)
 
 -- in whatever order the tables stand
-pub covers_moved : (w : WorldState) (passes : List Id → Bool) (xs ys : List Listed) → IsPermutation xs ys → Covers w passes xs → Covers w passes ys
+pub covers_moved : (w : WorldState) (passes : List Id → Bool) (xs ys : List ListedTable) → IsPermutation xs ys → Covers w passes xs → Covers w passes ys
 covers_moved w passes xs ys moved covers = record {
   each = λ t p. covers.each t (Contains-permutation ys xs t (IsPermutation-sym xs ys moved) p);
   all = λ e alive passed. let found = covers.all e alive passed in (found.0, Contains-permutation xs ys found.0 moved found.1, found.2);
 }
 
-types_ascend : (ts : List Listed) → IsTrue (is_ascending by_type ts) → IsTrue (is_ascending (slice_cmp id_cmp) (map (λ t. t.ids) ts))
+types_ascend : (ts : List ListedTable) → IsTrue (is_ascending by_type ts) → IsTrue (is_ascending (slice_cmp id_cmp) (map (λ t. t.ids) ts))
 types_ascend [] up = refl
 types_ascend (t ∷ ts) up = both _ _ (lower ts (first _ _ up)) (types_ascend ts (second _ _ up))
   where
-    lower : (us : List Listed) → IsTrue (list_all (λ u. is_lt (by_type t u)) us) →
+    lower : (us : List ListedTable) → IsTrue (list_all (λ u. is_lt (by_type t u)) us) →
         IsTrue (list_all (λ ids. is_lt (slice_cmp id_cmp t.ids ids)) (map (λ u. u.ids) us))
     lower [] h = refl
     lower (u ∷ us) h = both _ _ (first _ _ h) (lower us (second _ _ h))
 
-pub layout_of : (w : WorldState) (tables : List Listed) → IsTrue (is_ascending by_type tables) → Covers w (λ _. true) tables → IsLayout w tables
+pub layout_of : (w : WorldState) (tables : List ListedTable) → IsTrue (is_ascending by_type tables) → Covers w (λ _. true) tables → IsLayout w tables
 layout_of w tables up covers = record {
   non_empty = all_of (λ t. t.entities ≢ []) tables (λ t p. (covers.each t p).non_empty);
   ascending = types_ascend tables up;
@@ -253,7 +253,7 @@ layout_of w tables up covers = record {
   all = λ e alive. let found = covers.all e alive refl in (found.0, found.1, ((covers.each found.0 found.1).exact e).1 (alive, found.2));
 }
 
-passing_stay : (q : Listed → Bool) (ts : List Listed) → ((t : Listed) → Contains ts t → q t ≡ true) → filter q ts ≡ ts
+passing_stay : (q : ListedTable → Bool) (ts : List ListedTable) → ((t : ListedTable) → Contains ts t → q t ≡ true) → filter q ts ≡ ts
 passing_stay q [] all = refl
 passing_stay q (t ∷ ts) all =
     ap (λ b. cond b (t ∷ filter q ts) (filter q ts)) (all t (here t ts)) ∙ ap (λ us. t ∷ us) (passing_stay q ts (λ u c. all u (there t u ts c)))
@@ -263,9 +263,9 @@ someone [] some = absurd (some refl)
 someone (e ∷ es) some = (e, here e es)
 
 -- tables of the types that pass are those of a layout, if there are tables of all types
-pub layout_around : (w : WorldState) (passes : List Id → Bool) (tables others : List Listed) → IsTrue (is_ascending by_type tables)
-    → Covers w passes tables → ((t : Listed) → Contains tables t → passes t.ids ≡ true) → Covers w (λ _. true) others
-    → (layout : List Listed) × IsLayout w layout × (tables ≡ filter (λ t. passes t.ids) layout)
+pub layout_around : (w : WorldState) (passes : List Id → Bool) (tables others : List ListedTable) → IsTrue (is_ascending by_type tables)
+    → Covers w passes tables → ((t : ListedTable) → Contains tables t → passes t.ids ≡ true) → Covers w (λ _. true) others
+    → (layout : List ListedTable) × IsLayout w layout × (tables ≡ filter (λ t. passes t.ids) layout)
 layout_around w passes tables others up covers picked rest = (
   grown tables others,
   layout_of w (grown tables others) (grown_ascends tables others up) (record {
@@ -278,7 +278,7 @@ layout_around w passes tables others up covers picked rest = (
   sym (grown_filtered (λ t. passes t.ids) tables others up had ∙ passing_stay (λ t. passes t.ids) tables picked),
 )
   where
-    had : (x : Listed) → Contains others x → passes x.ids ≡ true → (t : Listed) × Contains tables t × (t.ids ≡ x.ids)
+    had : (x : ListedTable) → Contains others x → passes x.ids ≡ true → (t : ListedTable) × Contains tables t × (t.ids ≡ x.ids)
     had x p passed =
         let table = rest.each x p in
         let member = someone x.entities table.non_empty in

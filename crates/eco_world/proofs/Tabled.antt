@@ -1,5 +1,5 @@
 -- The tables of a store are those of the world that it makes.
-use Rattle.std.proofs.Common.{◌≡◌, ◌≢◌, ℕ, zero, suc, ◌+◌, ◌<◌, Bool, true, false, cond, not, nat_eq, nat_lt, List, [], ◌∷◌, map, length, slice_get, Option, Some, None, option_map, unwrap_or, is_some, is_eq, refl, sym, ap, ◌∙◌, subst, arith, IsTrue, true≢false, inl, inr, Contains}
+use Rattle.std.proofs.Common.{◌≡◌, ◌≢◌, ℕ, zero, suc, ◌<◌, Bool, true, false, cond, not, nat_eq, nat_lt, List, [], ◌∷◌, map, length, slice_get, Option, Some, None, option_map, unwrap_or, is_some, is_eq, refl, sym, ap, ◌∙◌, subst, arith, IsTrue, true≢false, inl, inr, Contains}
 use Rattle.std.specs.List.{All, AllByRecursion, IsDistinct, list_any}
 use Rattle.std.proofs.lemmas.Bool.Decides.{nat_tests, Decides-eqb}
 use Rattle.std.proofs.lemmas.Option.{none-some, same_Some, slice_get_within}
@@ -7,7 +7,7 @@ use Rattle.eco_ids.specs.World.{WorldState, entities, is_alive, record_of}
 use Rattle.eco_ids.specs.declared.entity.Entity.{Entity}
 use Rattle.eco_ids.specs.declared.id.Id.{Id}
 use Rattle.eco_ids.specs.declared.pattern.Pattern.{Pattern}
-use Rattle.eco_ids.specs.Layout.{Listed, is_distinct}
+use Rattle.eco_ids.specs.Layout.{ListedTable, is_distinct}
 use Rattle.eco_ids.specs.Matching.{pattern_matches}
 use Rattle.eco_ids.specs.Order.{entity_cmp, has_item}
 use Rattle.eco_tables.specs.Table.{TableState, Row, HasIds, entities_of}
@@ -22,7 +22,6 @@ use Rattle.eco_ids.specs.World.{Record}
 use Rattle.eco_world.specs.Layouts.{HasTable, shown_at, shown_of}
 use Rattle.eco_world.specs.Removals.{type_of}
 use Rattle.eco_world.proofs.Layouts.{or_left, Covers, IsTable, all_of, element_cases, here, no_element, same_ids, same_type, there}
-use Rattle.slab.specs.Slab.{entries_from}
 
 itself : (n : ℕ) → nat_eq n n ≡ true
 itself n = (Decides-eqb n n).1 refl
@@ -81,55 +80,61 @@ table_there (Some t) within = refl
 -- ---- all tables that have rows
 
 -- the tables that have rows, among these in their slots
-abbrev pub with_rows : List (ℕ × TableState) → List Listed
+abbrev pub with_rows : List (Option TableState) → List ListedTable
 with_rows [] = []
-with_rows (p ∷ ps) = cond (nat_lt 0 (length p.1.rows)) (shown_of p.1 ∷ with_rows ps) (with_rows ps)
+with_rows (None ∷ slots) = with_rows slots
+with_rows (Some t ∷ slots) = cond (nat_lt 0 (length t.rows)) (shown_of t ∷ with_rows slots) (with_rows slots)
+
+-- where none is left, there is no slot
+pub none_left : (slots : List (Option TableState)) → length slots ≡ 0 → slots ≡ []
+none_left [] e = refl
+none_left (o ∷ slots) e = absurd (omega (arith, e))
 
 -- the table is listed for a slot of these
-abbrev Found : List (Option TableState) → Listed → Type 0
+abbrev Found : List (Option TableState) → ListedTable → Type 0
 Found slots t = (n : ℕ) × (table : TableState) × (slot_of slots n ≡ Some table) × (0 < length table.rows) × (shown_of table ≡ t)
 
-with_rows_to : (k : ℕ) (slots : List (Option TableState)) (t : Listed) → Contains (with_rows (entries_from k slots)) t → Found slots t
-with_rows_to k [] t p = absurd (no_element t p)
-with_rows_to k (None ∷ slots) t p = let later = with_rows_to (k + 1) slots t p in (suc later.0, later.1, later.2, later.3, later.4)
-with_rows_to k (Some table ∷ slots) t p = by (nat_lt 0 (length table.rows)) refl (with_rows_to (k + 1) slots t) p
+with_rows_to : (slots : List (Option TableState)) (t : ListedTable) → Contains (with_rows slots) t → Found slots t
+with_rows_to [] t p = absurd (no_element t p)
+with_rows_to (None ∷ slots) t p = let later = with_rows_to slots t p in (suc later.0, later.1, later.2, later.3, later.4)
+with_rows_to (Some table ∷ slots) t p = by (nat_lt 0 (length table.rows)) refl (with_rows_to slots t) p
   where
     after : Found slots t → Found (Some table ∷ slots) t
     after later = (suc later.0, later.1, later.2, later.3, later.4)
 
-    by : (b : Bool) → nat_lt 0 (length table.rows) ≡ b → (Contains (with_rows (entries_from (k + 1) slots)) t → Found slots t)
-        → Contains (cond b (shown_of table ∷ with_rows (entries_from (k + 1) slots)) (with_rows (entries_from (k + 1) slots))) t → Found (Some table ∷ slots) t
-    by true some rest q = elim (element_cases (shown_of table) t (with_rows (entries_from (k + 1) slots)) q) as (λ _. Found (Some table ∷ slots) t) [
+    by : (b : Bool) → nat_lt 0 (length table.rows) ≡ b → (Contains (with_rows slots) t → Found slots t)
+        → Contains (cond b (shown_of table ∷ with_rows slots) (with_rows slots)) t → Found (Some table ∷ slots) t
+    by true some rest q = elim (element_cases (shown_of table) t (with_rows slots) q) as (λ _. Found (Some table ∷ slots) t) [
       | inl e ↦ let positive : 0 < length table.rows = grind (arith, nat_tests) in (0, table, refl, positive, e)
       | inr c ↦ after (rest c)
     ]
     by false none rest q = after (rest q)
 
-with_rows_from : (k : ℕ) (slots : List (Option TableState)) (n : ℕ) (table : TableState) → slot_of slots n ≡ Some table → 0 < length table.rows →
-    Contains (with_rows (entries_from k slots)) (shown_of table)
-with_rows_from k [] n table at some = absurd (none-some table at)
-with_rows_from k (None ∷ slots) zero table at some = absurd (none-some table at)
-with_rows_from k (None ∷ slots) (suc n) table at some = with_rows_from (k + 1) slots n table at some
-with_rows_from k (Some u ∷ slots) zero table at some =
+with_rows_from : (slots : List (Option TableState)) (n : ℕ) (table : TableState) → slot_of slots n ≡ Some table → 0 < length table.rows →
+    Contains (with_rows slots) (shown_of table)
+with_rows_from [] n table at some = absurd (none-some table at)
+with_rows_from (None ∷ slots) zero table at some = absurd (none-some table at)
+with_rows_from (None ∷ slots) (suc n) table at some = with_rows_from slots n table at some
+with_rows_from (Some u ∷ slots) zero table at some =
     let test : nat_lt 0 (length u.rows) ≡ true = ap (λ (x : TableState). nat_lt 0 (length x.rows)) (same_Some u table at) ∙ positive in
-    subst (λ b. Contains (cond b (shown_of u ∷ with_rows (entries_from (k + 1) slots)) (with_rows (entries_from (k + 1) slots))) (shown_of table)) (sym test)
-    (subst (λ (x : TableState). Contains (shown_of u ∷ with_rows (entries_from (k + 1) slots)) (shown_of x)) (same_Some u table at)
-    (here (shown_of u) (with_rows (entries_from (k + 1) slots))))
+    subst (λ b. Contains (cond b (shown_of u ∷ with_rows slots) (with_rows slots)) (shown_of table)) (sym test)
+    (subst (λ (x : TableState). Contains (shown_of u ∷ with_rows slots) (shown_of x)) (same_Some u table at)
+    (here (shown_of u) (with_rows slots)))
   where
     positive : nat_lt 0 (length table.rows) ≡ true
     positive = grind (arith, nat_tests)
-with_rows_from k (Some u ∷ slots) (suc n) table at some =
-    elim (nat_lt 0 (length u.rows)) as (λ b. Contains (cond b (shown_of u ∷ with_rows (entries_from (k + 1) slots)) (with_rows (entries_from (k + 1) slots)))
+with_rows_from (Some u ∷ slots) (suc n) table at some =
+    elim (nat_lt 0 (length u.rows)) as (λ b. Contains (cond b (shown_of u ∷ with_rows slots) (with_rows slots))
     (shown_of table)) [
-      | true ↦ there (shown_of u) (shown_of table) (with_rows (entries_from (k + 1) slots)) (with_rows_from (k + 1) slots n table at some)
-      | false ↦ with_rows_from (k + 1) slots n table at some
+      | true ↦ there (shown_of u) (shown_of table) (with_rows slots) (with_rows_from slots n table at some)
+      | false ↦ with_rows_from slots n table at some
     ]
 
 -- no two slots have tables of one type
 abbrev pub HasKinds : List (Option TableState) → Type 0
 HasKinds slots = (n m : ℕ) (ids : List Id) → type_at slots n ≡ Some ids → type_at slots m ≡ Some ids → n ≡ m
 
-no_other : (x : Listed) (ts : List Listed) → ((t : Listed) → Contains ts t → x.ids ≡ t.ids → ⊥) → AllByRecursion (λ t. same_type x t ≡ false) ts
+no_other : (x : ListedTable) (ts : List ListedTable) → ((t : ListedTable) → Contains ts t → x.ids ≡ t.ids → ⊥) → AllByRecursion (λ t. same_type x t ≡ false) ts
 no_other x [] apart = tt
 no_other x (t ∷ ts) apart = (by (same_type x t) refl, no_other x ts (λ u c. apart u (there t u ts c)))
   where
@@ -137,22 +142,22 @@ no_other x (t ∷ ts) apart = (by (same_type x t) refl, no_other x ts (λ u c. a
     by true e = absurd (apart t (here t ts) (same_ids x.ids t.ids e))
     by false e = refl
 
-pub kinds_differ : (k : ℕ) (slots : List (Option TableState)) → HasKinds slots → IsDistinct same_type (with_rows (entries_from k slots))
+pub kinds_differ : (slots : List (Option TableState)) → HasKinds slots → IsDistinct same_type (with_rows slots)
 unfolding IsDistinct
-kinds_differ k [] kinds = tt
-kinds_differ k (None ∷ slots) kinds = kinds_differ (k + 1) slots (λ n m ids p q. omega (arith, kinds (suc n) (suc m) ids p q))
-kinds_differ k (Some table ∷ slots) kinds = by (nat_lt 0 (length table.rows))
-    (kinds_differ (k + 1) slots (λ n m ids p q. omega (arith, kinds (suc n) (suc m) ids p q)))
+kinds_differ [] kinds = tt
+kinds_differ (None ∷ slots) kinds = kinds_differ slots (λ n m ids p q. omega (arith, kinds (suc n) (suc m) ids p q))
+kinds_differ (Some table ∷ slots) kinds = by (nat_lt 0 (length table.rows))
+    (kinds_differ slots (λ n m ids p q. omega (arith, kinds (suc n) (suc m) ids p q)))
   where
-    by : (b : Bool) → IsDistinct same_type (with_rows (entries_from (k + 1) slots)) →
-        IsDistinct same_type (cond b (shown_of table ∷ with_rows (entries_from (k + 1) slots)) (with_rows (entries_from (k + 1) slots)))
-    by true rest = (no_other (shown_of table) (with_rows (entries_from (k + 1) slots)) apart, rest)
+    by : (b : Bool) → IsDistinct same_type (with_rows slots) →
+        IsDistinct same_type (cond b (shown_of table ∷ with_rows slots) (with_rows slots))
+    by true rest = (no_other (shown_of table) (with_rows slots) apart, rest)
       where
-        apart : (t : Listed) → Contains (with_rows (entries_from (k + 1) slots)) t → table.ids ≡ t.ids → ⊥
+        apart : (t : ListedTable) → Contains (with_rows slots) t → table.ids ≡ t.ids → ⊥
         apart t c same =
-            let later = with_rows_to (k + 1) slots t c in
+            let later = with_rows_to slots t c in
             let again : 0 ≡ suc later.0 = kinds 0 (suc later.0) table.ids refl
-            (ap (option_map (λ (x : TableState). x.ids)) later.2 ∙ ap Some (ap (λ (x : Listed). x.ids) later.4 ∙ sym same)) in
+            (ap (option_map (λ (x : TableState). x.ids)) later.2 ∙ ap Some (ap (λ (x : ListedTable). x.ids) later.4 ∙ sym same)) in
             omega arith
     by false rest = rest
 
@@ -203,8 +208,8 @@ module _ (w : WorldState) (slots : List (Option TableState)) (shown : IsShown (e
           (subst (Contains (entities_of (table_in slots row.0).rows)) row.4 (entity_in_row (table_in slots row.0).rows row.1 row.2 row.3))
 
   -- tables of some slots, among them each whose type passes
-  pub covers_of : (passes : List Id → Bool) (tables : List Listed)
-      → ((t : Listed) → Contains tables t → (n : ℕ) × (0 < length (table_in slots n).rows) × (shown_of (table_in slots n) ≡ t))
+  pub covers_of : (passes : List Id → Bool) (tables : List ListedTable)
+      → ((t : ListedTable) → Contains tables t → (n : ℕ) × (0 < length (table_in slots n).rows) × (shown_of (table_in slots n) ≡ t))
       → ((n : ℕ) → 0 < length (table_in slots n).rows → passes (table_in slots n).ids ≡ true → Contains tables (shown_of (table_in slots n)))
       → Covers w passes tables
   covers_of passes tables from all = record {
@@ -216,17 +221,17 @@ module _ (w : WorldState) (slots : List (Option TableState)) (shown : IsShown (e
         (shown_of (table_in slots row.0), all row.0 (has_rows (table_in slots row.0).rows row.1 row.2 row.3) (ap passes kind ∙ passed), kind);
   }
 
-  pub all_covered : Covers w (λ _. true) (with_rows (entries_from 0 slots))
-  all_covered = covers_of (λ _. true) (with_rows (entries_from 0 slots))
+  pub all_covered : Covers w (λ _. true) (with_rows slots)
+  all_covered = covers_of (λ _. true) (with_rows slots)
       (λ t p.
-      let found = with_rows_to 0 slots t p in
+      let found = with_rows_to slots t p in
       let is : table_in slots found.0 ≡ found.1 = ap (λ o. unwrap_or o no_table) found.2 in
       (found.0, subst (λ (x : TableState). 0 < length x.rows) (sym is) found.3, ap shown_of is ∙ found.4))
-      (λ n some _. with_rows_from 0 slots n (table_in slots n) (table_there (slot_of slots n) some) some)
+      (λ n some _. with_rows_from slots n (table_in slots n) (table_there (slot_of slots n) some) some)
 
   -- ---- those that a pattern finds
 
-  shown_to : (ns : List ℕ) (t : Listed) → Contains (map (shown_at slots) ns) t → (n : ℕ) × (list_any (nat_eq n) ns ≡ true) × (shown_at slots n ≡ t)
+  shown_to : (ns : List ℕ) (t : ListedTable) → Contains (map (shown_at slots) ns) t → (n : ℕ) × (list_any (nat_eq n) ns ≡ true) × (shown_at slots n ≡ t)
   shown_to [] t p = absurd (no_element t p)
   shown_to (n ∷ ns) t p = elim (element_cases (shown_at slots n) t (map (shown_at slots) ns) p) as (λ _. (m : ℕ) × (list_any (nat_eq m) (n ∷ ns) ≡ true)
       × (shown_at slots m ≡ t)) [
@@ -304,8 +309,8 @@ module _ (w : WorldState) (slots : List (Option TableState)) (shown : IsShown (e
         table_in_slot None within = absurd (omega arith)
         table_in_slot (Some t) within = refl
 
-    pub found_match : (t : Listed) → Contains (map (shown_at slots) ns) t → list_any (pattern_matches pattern) t.ids ≡ true
-    found_match t p = let slot = shown_to ns t p in subst (λ (x : Listed). list_any (pattern_matches pattern) x.ids ≡ true) slot.2 (found_rows slot.0 slot.1).1
+    pub found_match : (t : ListedTable) → Contains (map (shown_at slots) ns) t → list_any (pattern_matches pattern) t.ids ≡ true
+    found_match t p = let slot = shown_to ns t p in subst (λ (x : ListedTable). list_any (pattern_matches pattern) x.ids ≡ true) slot.2 (found_rows slot.0 slot.1).1
 
     pub found_covered : Covers w (list_any (pattern_matches pattern)) (map (shown_at slots) ns)
     found_covered = covers_of (list_any (pattern_matches pattern)) (map (shown_at slots) ns)

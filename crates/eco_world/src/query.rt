@@ -14,10 +14,10 @@ pub struct Query {
 
 impl Model for Query {
     ghost use Rattle.std.specs.Prelude.{List};
-    ghost use Rattle.eco_ids.specs.Slots.{Asked};
+    ghost use Rattle.eco_ids.specs.Terms.{QueryTerm};
     ghost use Rattle.eco_world.specs.Queries.{term_of};
 
-    ghost Value = { List Asked };
+    ghost Value = { List QueryTerm };
 
     ghost view = { λ q. term_of q.id };
 }

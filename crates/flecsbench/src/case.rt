@@ -20,6 +20,10 @@ const TARGETS: [u32; 1] = [1_000];
 
 const CHAIN_SIZE: [u32; 1] = [20_000];
 
+/// Of twice the size a case makes twice the calls: where each of them takes as long as before, none of them looks at all
+/// that there is.
+const DOUBLED: [u32; 2] = [1_000, 2_000];
+
 /// What is measured. The size of a case says how many calls it makes, and mostly how many entities they are about.
 #[derive(Clone, Copy, Debug, PartialEq, Eq)]
 pub enum Case {
@@ -57,11 +61,19 @@ pub enum Case {
     ChainLeafFirst,
     /// A chain of children is linked, from its root down to its end.
     ChainRootFirst,
+    /// One entity gets tags.
+    ManyTags,
+    /// Each entity has a pair of a plain relationship with a target of its own, and gets one with a target of all.
+    AddToUsed,
+    /// An entity gets a trait of relationships and loses it, again and again; it is a target in so many tables.
+    ToggleTrait,
+    /// Each pair of a relationship is asked for. Every one stands in a table of its own.
+    QueryEachPair,
 }
 
 impl Case {
     /// All cases, in the order of their lines.
-    pub const ALL: [Case; 23] = [
+    pub const ALL: [Case; 27] = [
         Case::HashInsert,
         Case::Create,
         Case::AddTag,
@@ -85,6 +97,10 @@ impl Case {
         Case::QueryOne(1),
         Case::QueryOne(100),
         Case::QueryOne(10_000),
+        Case::ManyTags,
+        Case::AddToUsed,
+        Case::ToggleTrait,
+        Case::QueryEachPair,
     ];
 
     /// The sizes at which the case is measured.
@@ -95,6 +111,7 @@ impl Case {
             Case::AddPair(_) | Case::AddOwnPair | Case::MoveChild(_) => &PAIR_SIZES,
             Case::ManyTargets => &TARGETS,
             Case::ChainLeafFirst | Case::ChainRootFirst => &CHAIN_SIZE,
+            Case::ManyTags | Case::AddToUsed | Case::ToggleTrait | Case::QueryEachPair => &DOUBLED,
             _ => &EACH_SIZE,
         }
     }
@@ -138,6 +155,10 @@ impl Case {
             Case::ManyTargets => scene.lack_all_targets(size),
             Case::ChainLeafFirst => scene.lack_chain(size),
             Case::ChainRootFirst => scene.lack_chain_from_root(size),
+            Case::ManyTags => scene.lack_all_tags(size),
+            Case::AddToUsed => scene.have_own_pairs_and_lack_one(size),
+            Case::ToggleTrait => scene.be_target(size),
+            Case::QueryEachPair => scene.have_own_pairs(size),
         }
     }
 
@@ -156,7 +177,8 @@ impl Case {
             Case::SetThere | Case::SetAbsent => measure::sets(clock, scene),
             Case::Get => measure::gets(clock, scene, size),
             Case::RemoveAll => measure::remove_all(clock, scene),
-            Case::ToggleOne => measure::toggles(clock, scene, size / 2),
+            Case::ToggleOne | Case::ToggleTrait => measure::toggles(clock, scene, size / 2),
+            Case::QueryEachPair => measure::queries(clock, scene, size),
             Case::QueryOne(_) => measure::query(clock, scene, size),
             _ => measure::adds(clock, scene),
         }
@@ -183,6 +205,10 @@ impl fmt::Display for Case {
             Case::ManyTargets => write!(f, "rel_many_targets"),
             Case::ChainLeafFirst => write!(f, "chain_build_leaf_first"),
             Case::ChainRootFirst => write!(f, "chain_build_root_first"),
+            Case::ManyTags => write!(f, "many_tags"),
+            Case::AddToUsed => write!(f, "rel_add_to_used"),
+            Case::ToggleTrait => write!(f, "trait_toggle"),
+            Case::QueryEachPair => write!(f, "query_each_pair"),
         }
     }
 }

@@ -87,6 +87,17 @@ pub fn query<C: Clock>(clock: &C, scene: &Scene, count: u32) -> Result<Duration,
     Ok(time)
 }
 
+/// How long it takes to ask for each id, where one entity has it, of so many.
+pub fn queries<C: Clock>(clock: &C, scene: &Scene, count: u32) -> Result<Duration, Fault> {
+    let start = Instant::now(clock)?;
+    let found = scene.count_by_queries()?;
+    let time = start.elapsed(clock)?;
+    if found != count as usize {
+        return Err(Fault::WrongAnswer);
+    }
+    Ok(time)
+}
+
 /// The time of one call of so many, in tenths of a nanosecond, rounded down. No calls count as one.
 pub fn tenths_for_one(time: Duration, calls: u32) -> u64 {
     let nanos = time

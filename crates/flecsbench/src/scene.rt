@@ -1,5 +1,5 @@
 //! The worlds that cases begin with.
-use eco_ids::entity::CHILD_OF;
+use eco_ids::entity::{CHILD_OF, EXCLUSIVE};
 use eco_ids::{Entity, Id, Refusal, Value};
 use eco_world::{Query, World};
 use std::alloc::Global;
@@ -10,7 +10,7 @@ const LIMIT: u32 = 1_048_576;
 /// A world, and the entities and ids that a case is about, in the order of its calls.
 pub struct Scene {
     world: World,
-    // Those that a relationship's pairs name, taking turns.
+    // Those that pairs name beside a relationship or a target of all, and tags of one entity.
     targets: Vec<Entity>,
     entities: Vec<Entity>,
     work: Vec<(Entity, Id)>,
@@ -129,6 +129,43 @@ impl Scene {
         self.add_each(component)
     }
 
+    /// Makes so many tags, and one entity that lacks them.
+    pub fn lack_all_tags(&mut self, tag_count: u32) -> Result<(), Refusal> {
+        let entity = self.make_one()?;
+        self.make_targets(tag_count)?;
+        self.plan_all_tags(entity)
+    }
+
+    /// Makes a plain relationship, and so many entities that have its pair with a target of their own.
+    pub fn have_own_pairs(&mut self, count: u32) -> Result<(), Refusal> {
+        self.lack_pairs(count, count)?;
+        self.add()
+    }
+
+    /// Makes the same, and a target whose pair of the relationship the entities lack.
+    pub fn have_own_pairs_and_lack_one(&mut self, count: u32) -> Result<(), Refusal> {
+        let likes = self.make_one()?;
+        self.make_targets(count)?;
+        self.make(count)?;
+        self.plan_pairs(likes, 0)?;
+        self.add()?;
+        let target = self.make_one()?;
+        self.plan(Id::Two(likes, target))
+    }
+
+    /// Makes an entity that is no relationship and lacks a trait of those, and so many entities that have it as target, each
+    /// by a relationship of its own.
+    pub fn be_target(&mut self, count: u32) -> Result<(), Refusal> {
+        let target = self.make_one()?;
+        self.make_targets(count)?;
+        self.make(count)?;
+        self.plan_own_relationships(target)?;
+        self.add()?;
+        self.work.clear();
+        self.work.push((target, Id::One(EXCLUSIVE)))?;
+        Ok(())
+    }
+
     /// Makes so many entities, which no call is about.
     pub fn create(&mut self, count: u32) -> Result<(), Refusal> {
         for _ in 0..count {
@@ -198,6 +235,16 @@ impl Scene {
         Ok(rows.len())
     }
 
+    /// How many results queries for each of the ids have together.
+    pub fn count_by_queries(&self) -> Result<usize, Refusal> {
+        let mut found = 0usize;
+        for (_, id) in &self.work {
+            let rows = self.world.query(&Query::new(*id))?;
+            found = found.saturating_add(rows.len());
+        }
+        Ok(found)
+    }
+
     // A new entity, which no call is about.
     fn make_one(&mut self) -> Result<Entity, Refusal> {
         self.world.create(None)
@@ -264,6 +311,24 @@ impl Scene {
         self.work.clear();
         for target in &self.targets {
             self.work.push((entity, Id::Two(relationship, *target)))?;
+        }
+        Ok(())
+    }
+
+    // The calls are about each tag at one entity.
+    fn plan_all_tags(&mut self, entity: Entity) -> Result<(), Refusal> {
+        self.work.clear();
+        for tag in &self.targets {
+            self.work.push((entity, Id::One(*tag)))?;
+        }
+        Ok(())
+    }
+
+    // The calls are about a pair with the target at each entity, each of another relationship.
+    fn plan_own_relationships(&mut self, target: Entity) -> Result<(), Refusal> {
+        self.work.clear();
+        for (entity, relationship) in self.entities.iter().zip(self.targets.iter()) {
+            self.work.push((*entity, Id::Two(*relationship, target)))?;
         }
         Ok(())
     }

@@ -23,7 +23,7 @@ fn kill(index: &mut EntityIndex, entity: Entity) {
 // Whether indices are admitted and made living, and names are given.
 fn are_made(index: &mut EntityIndex) -> bool {
     index.admit(2).is_ok()
-        && index.revive(at(1, 0)).is_ok()
+        && index.make_alive(at(1, 0)).is_ok()
         && index.rename(at(1, 0), Some("b")).is_ok()
         && next(index, Some("a")) == Some(at(0, 0))
 }

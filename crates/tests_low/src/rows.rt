@@ -1,4 +1,6 @@
 //! Tables get room, and rows move between them.
+ghost use Rattle.std.specs.Prelude.{◌≡◌, length, IfOk};
+
 use eco_ids::{Entity, Id, TypeList, Value};
 use eco_tables::{Table, Tables};
 use std::alloc::{AllocError, Global};
@@ -21,7 +23,9 @@ const POSITION: Id = Id::One(Entity {
 const WRITTEN: Value = Value([1, 2, 0, 0]);
 
 // The type of who has a position.
-fn positioned(alloc: Global) -> Result<TypeList, AllocError> {
+fn positioned(alloc: Global) -> Result<TypeList, AllocError>
+    ensures { IfOk result (λ type_list. length type_list ≡ 1) }
+{
     TypeList::empty(alloc).with(POSITION)
 }
 
@@ -37,14 +41,14 @@ fn fill(table: &mut Table) -> Result<usize, AllocError> {
 
 // How many rows there are in a table of positions that is filled so.
 fn filled(alloc: Global) -> Result<usize, AllocError> {
-    let mut table = Table::new(alloc, positioned(alloc)?)?;
+    let mut table = Table::new(alloc, positioned(alloc)?, &[2])?;
     fill(&mut table)
 }
 
 // Moves a row with a written value to another table of the same type, which gets room for it. It tells the value there.
 fn moved(alloc: Global, tables: &mut Tables) -> Result<Option<Value>, AllocError> {
-    let from = tables.insert(positioned(alloc)?)?;
-    let to = tables.insert(positioned(alloc)?)?;
+    let from = tables.insert(positioned(alloc)?, &[2])?;
+    let to = tables.insert(positioned(alloc)?, &[2])?;
     tables.reserve_rows(from, 1)?;
     tables.push_row(from, FIRST);
     tables.set_value(from, 0, POSITION, WRITTEN);

@@ -6,8 +6,8 @@ use eco_ids::{Entity, Id, Pattern, Refusal, Value};
 use eco_world::{TableRows, World};
 use std::alloc::{AllocError, Global};
 
-// The entity of generation 0 at the index.
-fn at(index: u32) -> Entity {
+/// The entity of generation 0 at the index.
+pub fn at(index: u32) -> Entity {
     Entity {
         index,
         generation: 0,
@@ -48,8 +48,8 @@ fn are_in_order(tables: &[TableRows<'_>]) -> bool {
         })
 }
 
-// Whether the tables are what the listing entity by entity gives.
-fn agrees(alloc: Global, world: &World) -> Result<bool, AllocError> {
+/// Whether the tables are what the listing entity by entity gives.
+pub fn agrees(alloc: Global, world: &World) -> Result<bool, AllocError> {
     let tables = world.tables()?;
     let listed = flattened(alloc, &tables)?;
     let held = held_by_each(alloc, world)?;

@@ -8,4 +8,6 @@ mod layout;
 #[cfg(test)]
 mod queries;
 #[cfg(test)]
+mod rounds;
+#[cfg(test)]
 mod store;

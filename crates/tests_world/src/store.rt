@@ -23,7 +23,7 @@ fn fill(store: &mut Store, nothing: &TypeList) -> Result<(), Refusal> {
     store.create(None, None, nothing)?;
     store.create(None, None, nothing)?;
     store.admit(1)?;
-    store.revive(Entity {
+    store.make_alive(Entity {
         index: 2,
         generation: 0,
     })?;

@@ -7,7 +7,7 @@ use Rattle.eco_query.specs.Grammar.{WrittenPart, named, each, any, WrittenAtom, 
 use Rattle.eco_query.specs.declared.access.Access.{Access}
 use Rattle.eco_query.specs.declared.access.Access.TheVariants.{In, Out, InOut, InOutNone}
 use Rattle.eco_query.specs.declared.point.Head.{Head}
-use Rattle.eco_query.specs.declared.point.Head.TheVariants.{Plain, Without, Optional, Alone}
+use Rattle.eco_query.specs.declared.point.Head.TheVariants.{Plain, Not, Optional, Alone}
 
 -- a number with one more digit, if it was not 0 and stays within a bound
 abbrev pub grown : ℕ → ℕ → ℕ → Option ℕ
@@ -17,14 +17,15 @@ grown most n b = if nat_lt 0 n && nat_le (10 * n + (b - 48)) most then Some (10 
 abbrev pub is_lone : List ℕ → Bool
 is_lone n = bytes_eq n (codes "_")
 
--- what was read before an atom: the slots before, and of its slot the access, the head and the alternatives before
+-- what was read before an atom: the slots before, and of its slot the access, the head and the alternatives
 pub record Before : Type 0 where
   pub slots : List WrittenSlot
   pub access : Access
   pub head : Head
   pub others : List WrittenAtom
 
--- which part it is: an atom of its own, the first or the second of a pair, or a reference that is all of the text
+-- which part it is: an atom of its own, the first or the second of a pair, or a reference that is all of
+-- the text
 pub data Role : Type 0 where
   whole : Before → Role
   first : Before → Role
@@ -48,7 +49,8 @@ pub data Spot : Type 0 where
   behind : Role → WrittenPart → Spot
   after : Before → WrittenAtom → Spot
 
--- between tokens, or inside of one: some of an access word, one bar, some of a name that begins there, some of a handle
+-- between tokens, or inside of one: some of an access word, one bar, some of a name that begins there, some
+-- of a handle
 pub data Point : Type 0 where
   at : Spot → Point
   letters : List WrittenSlot → List ℕ → Point
@@ -61,7 +63,7 @@ pub data Point : Type 0 where
 
 abbrev pub body_of : Head → List WrittenAtom → WrittenAtom → WrittenBody
 body_of Plain xs x = alternatives (xs ++ x ∷ [])
-body_of Without xs x = absent x
+body_of Not xs x = absent x
 body_of Optional xs x = optional x
 body_of Alone xs x = alternatives (xs ++ x ∷ [])
 
@@ -98,7 +100,8 @@ access_of n =
 abbrev pub part_or : ℕ → Role → ℕ → Option Point → Option Point
 part_or n o b y =
     if may_begin b then Some (name_of o n (b ∷ []))
-    else (if b == 35 then Some (hash o n) else (if (b == 42) && takes_wildcard o then Some (at (behind o each)) else y))
+    else (if b == 35 then Some (hash o n)
+    else (if (b == 42) && takes_wildcard o then Some (at (behind o each)) else y))
 
 abbrev pub atom_or : ℕ → Before → ℕ → Option Point → Option Point
 atom_or n c b y = part_or n (whole c) b (if b == 40 then Some (at (part (first c))) else y)
@@ -106,14 +109,15 @@ atom_or n c b y = part_or n (whole c) b (if b == 40 then Some (at (part (first c
 abbrev pub body_or : ℕ → List WrittenSlot → Access → ℕ → Option Point → Option Point
 body_or n ss a b y =
     atom_or n (begun ss a Plain) b
-    (if b == 33 then Some (at (atom (begun ss a Without))) else (if b == 63 then Some (at (atom (begun ss a Optional))) else y))
+    (if b == 33 then Some (at (atom (begun ss a Not)))
+    else (if b == 63 then Some (at (atom (begun ss a Optional))) else y))
 
 abbrev pub comma : Head → Before → WrittenAtom → ℕ → Option Point
 comma h c x b = if b == 44 then Some (at (slot (slots_with h c x))) else None
 
 abbrev pub behind_atom : Head → Before → WrittenAtom → ℕ → Option Point
 behind_atom Plain c x b = if b == 124 then Some (bar c x) else comma Plain c x b
-behind_atom Without c x b = comma Without c x b
+behind_atom Not c x b = comma Not c x b
 behind_atom Optional c x b = comma Optional c x b
 behind_atom Alone c x b = None
 
@@ -204,11 +208,12 @@ ref_start = at (part (sole (begun [] InOut Alone)))
 abbrev pub Reached : Point → List ℕ → ℕ → Point → Type 0
 Reached start text n q = runs advance (0, start) (take n text) ≡ Some (n, q)
 
--- the machine goes no further than this place: it has no move at the byte there, or the text ends there too early
+-- the machine goes no further than this place: it has no move at the byte there, or the text ends too early
 abbrev pub Stops : Point → List ℕ → ℕ → Type 0
 Stops start text n = (q : Point) × (runs advance (0, start) (take n text) ≡ Some (n, q))
     × (((n < length text) × (move n q (slice_index text n) ≡ None)) ⊎ ((n ≡ length text) × (end q ≡ None)))
 
 -- the machine reads all of the text, and its end completes this atom
 abbrev pub EndsWith : Point → List ℕ → WrittenAtom → Type 0
-EndsWith start text x = (q : Point) × (c : Before) × (runs advance (0, start) text ≡ Some (length text, q)) × (end q ≡ Some (slots_with c.head c x))
+EndsWith start text x = (q : Point) × (c : Before)
+    × (runs advance (0, start) text ≡ Some (length text, q)) × (end q ≡ Some (slots_with c.head c x))

@@ -4,7 +4,7 @@ use Rattle.eco_query.specs.Grammar.{WrittenAtom, WrittenSlot, IsProperAtom}
 use Rattle.eco_query.specs.Readings.{count_atoms}
 use Rattle.eco_query.specs.Reader.Machine.{body_of}
 use Rattle.eco_query.specs.Reader.Points.{atom_view, is_bare_head}
-use Rattle.eco_query.specs.declared.point.Head.TheVariants.{Plain, Without, Optional, Alone}
+use Rattle.eco_query.specs.declared.point.Head.TheVariants.{Plain, Not, Optional, Alone}
 use Rattle.eco_query.specs.declared.point.Mark.{Mark}
 use Rattle.eco_query.specs.declared.point.Mark.TheVariants as marks
 
@@ -25,9 +25,11 @@ slots_from xs [] = []
 slots_from xs (marks.Same ∷ ms) = slots_from xs ms
 slots_from xs (marks.Begin ∷ ms) = slots_from [] ms
 slots_from xs (marks.Other a x ∷ ms) = slots_from (xs ++ atom_view x ∷ []) ms
-slots_from xs (marks.Slot a h x ∷ ms) = (record { access = a; body = body_of h xs (atom_view x) }) ∷ slots_from [] ms
+slots_from xs (marks.Slot a h x ∷ ms) =
+    (record { access = a; body = body_of h xs (atom_view x) }) ∷ slots_from [] ms
 
--- whether alternatives stand before what comes behind the atoms, if each alternative leads to a slot of alternatives
+-- whether alternatives stand before what comes behind the atoms, if each alternative leads to a slot of
+-- alternatives
 abbrev pub grouping : Bool → List Mark → Option Bool
 grouping g [] = Some g
 grouping g (marks.Same ∷ ms) = None
@@ -61,6 +63,6 @@ asks marks.Same = false
 asks marks.Begin = false
 asks (marks.Other a x) = false
 asks (marks.Slot a Plain x) = true
-asks (marks.Slot a Without x) = false
+asks (marks.Slot a Not x) = false
 asks (marks.Slot a Optional x) = false
 asks (marks.Slot a Alone x) = true

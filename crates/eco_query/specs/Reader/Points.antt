@@ -1,5 +1,5 @@
 -- The reader's points as those of the machine, for the slots and the alternatives that were read before.
-use Rattle.std.specs.Prelude.{◌≡◌, Bool, true, false, not, if◌then◌else◌, ℕ, ◌<◌, List, [], Option, Some, None, slice_range}
+use Rattle.std.specs.Prelude.{◌≡◌, Bool, true, false, not, if◌then◌else◌, ℕ, ◌<◌, List, [], ◌+◌, Option, Some, None, option_map, slice_index, slice_range}
 use Rattle.eco_query.specs.Tokens as token
 use Rattle.eco_query.specs.Grammar as grammar
 use Rattle.eco_query.specs.Reader.Machine as machine
@@ -12,7 +12,7 @@ use Rattle.eco_query.specs.declared.written.WrittenPart.TheVariants.{Named, Each
 use Rattle.eco_query.specs.declared.written.WrittenAtom.{WrittenAtom}
 use Rattle.eco_query.specs.declared.written.WrittenAtom.TheVariants.{Single, Pair}
 use Rattle.eco_query.specs.declared.point.Head.{Head}
-use Rattle.eco_query.specs.declared.point.Head.TheVariants.{Plain, Without, Optional, Alone}
+use Rattle.eco_query.specs.declared.point.Head.TheVariants.{Plain, Not, Optional, Alone}
 use Rattle.eco_query.specs.declared.point.Role.{Role}
 use Rattle.eco_query.specs.declared.point.Role.TheVariants.{Whole, First, Second, Sole}
 use Rattle.eco_query.specs.declared.point.Spot.{Spot}
@@ -60,6 +60,10 @@ spot_view d (spots.Part o) = machine.part (role_view d o)
 spot_view d (spots.Behind o p) = machine.behind (role_view d o) (part_view p)
 spot_view d (spots.After a h x) = machine.after (before_view d a h) (atom_view x)
 
+-- a spot where nothing was read before
+abbrev pub start_view : Spot → machine.Point
+start_view s = machine.at (spot_view (record { slots = []; others = [] }) s)
+
 -- the point, once the bytes before n were read
 abbrev pub point_view : List ℕ → ℕ → Draft → Point → machine.Point
 point_view text n d (points.At s) = machine.at (spot_view d s)
@@ -75,12 +79,20 @@ point_view text n d (points.Generation o from i g) = machine.generation (role_vi
 abbrev pub marked : Mark → Draft → Draft
 marked marks.Same d = d
 marked marks.Begin d = record { slots = d.slots; others = [] }
-marked (marks.Other a x) d = record { slots = d.slots; others = (machine.others_with (before_view d a Plain) (atom_view x)).others }
-marked (marks.Slot a h x) d = record { slots = machine.slots_with h (before_view d a h) (atom_view x); others = [] }
+marked (marks.Other a x) d =
+    record { slots = d.slots; others = (machine.others_with (before_view d a Plain) (atom_view x)).others }
+marked (marks.Slot a h x) d =
+    record { slots = machine.slots_with h (before_view d a h) (atom_view x); others = [] }
 
 abbrev pub step_view : List ℕ → ℕ → Draft → Step → machine.Point
 step_view text n d s = point_view text n (marked s.mark d) s.point
 
+-- the step is the machine's at the point, whatever was read before
+abbrev pub IsMove : List ℕ → ℕ → Point → Option Step → Type 0
+IsMove text n p s = (d : Draft)
+    → option_map (step_view text (n + 1) d) s ≡ machine.move n (point_view text n d p) (slice_index text n)
+
+-- a point, or something else
 abbrev pub or_point : List ℕ → ℕ → Draft → Option Point → Option machine.Point → Option machine.Point
 or_point text n d (Some p) y = Some (point_view text n d p)
 or_point text n d None y = y
@@ -96,21 +108,10 @@ IsBegunAt n (points.Index o from i) = Unit {0}
 IsBegunAt n (points.Dot o from i) = Unit {0}
 IsBegunAt n (points.Generation o from i g) = Unit {0}
 
--- inside of a handle, or behind one bar
-abbrev pub IsInHandle : Point → Type 0
-IsInHandle (points.At s) = ⊥
-IsInHandle (points.Letters from) = ⊥
-IsInHandle (points.Bar a x) = Unit {0}
-IsInHandle (points.Name o from) = ⊥
-IsInHandle (points.Hash o from) = Unit {0}
-IsInHandle (points.Index o from i) = Unit {0}
-IsInHandle (points.Dot o from i) = Unit {0}
-IsInHandle (points.Generation o from i g) = Unit {0}
-
 -- before what stands behind no `||`
 abbrev pub is_bare_head : Head → Bool
 is_bare_head Plain = false
-is_bare_head Without = true
+is_bare_head Not = true
 is_bare_head Optional = true
 is_bare_head Alone = true
 

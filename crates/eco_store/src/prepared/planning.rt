@@ -1,36 +1,29 @@
 //! The tables and the room of moves to come.
-ghost use Rattle.std.specs.Prelude.{◌≡◌, ◌∷◌, [], Some, nat_eq, not, IsTrue, IsOk, IfOk, OnOk, OnErr};
+ghost use Rattle.std.specs.Prelude.{◌≡◌, ◌∷◌, ℕ, Some, nat_eq, not, IsTrue, IfOk, OnOk};
 ghost use Rattle.std.specs.List.{list_any};
-ghost use Rattle.eco_store.specs.Archetypes.{type_at, RowlessIn};
-ghost use Rattle.eco_store.specs.Preparing.{nothing_prepared, moves_of, moves_beside, has_move, AreOfDifferent, HasNoIdleTarget, IsReady};
+ghost use Rattle.eco_store.specs.Archetypes.{type_at, KeepsTypes, RowlessIn};
+ghost use Rattle.eco_store.specs.Layout.{IsLaid};
+ghost use Rattle.eco_store.specs.Preparing.{nothing_prepared, moves_of, has_move, IsReady};
 ghost use Rattle.eco_store.specs.Seats.{SameRows};
+ghost use Rattle.eco_store.specs.Transfers.{AreNamed, IsPlan, HasRoom};
 
 use crate::archetypes::Archetypes;
 use crate::moving::Move;
 use crate::prepared::Prepared;
-use eco_ids::{Entity, TypeList};
+use crate::transfer::Transfer;
+use crate::type_change::TypeChange;
+use eco_ids::TypeList;
 use std::alloc::AllocError;
 
 impl Prepared {
     /// Nothing is prepared from then on, and of the tables that stayed for moves to come those without rows go. It takes no
     /// memory.
-    pub fn forget(&mut self, archetypes: &mut Archetypes)
-        requires { RowlessIn archetypes.old self.old.targets }
-        ensures tidy { RowlessIn archetypes.new [] }
-        ensures nothing { self.new ≡ nothing_prepared }
-        ensures rows { SameRows archetypes.old archetypes.new }
-    {
-        if !self.is_idle() {
-            self.forget_all(archetypes);
-        }
-    }
-
-    // What `forget` does where something was prepared, apart, so that a call with nothing prepared costs no more than a look.
+    // Apart, so that a call with nothing prepared costs no more than a look.
     #[cold]
     #[inline(never)]
-    fn forget_all(&mut self, archetypes: &mut Archetypes)
+    pub fn forget(&mut self, archetypes: &mut Archetypes)
         requires { RowlessIn archetypes.old self.old.targets }
-        ensures tidy { RowlessIn archetypes.new [] }
+        ensures laid { IsLaid archetypes.new self.new }
         ensures nothing { self.new ≡ nothing_prepared }
         ensures rows { SameRows archetypes.old archetypes.new }
     {
@@ -38,29 +31,11 @@ impl Prepared {
         self.clear();
     }
 
-    /// Nothing is prepared from then on, if the entity has a move to come. It takes no memory.
-    pub fn forget_awaited(&mut self, archetypes: &mut Archetypes, entity: Entity)
-        requires ready { IsReady archetypes.old self.old }
-        requires tidy { RowlessIn archetypes.old self.old.targets }
-        requires done { HasNoIdleTarget self.old }
-        ensures ready { IsReady archetypes.new self.new }
-        ensures tidy { RowlessIn archetypes.new self.new.targets }
-        ensures done { HasNoIdleTarget self.new }
-        ensures left { moves_of archetypes.new self.new ≡ moves_beside (moves_of archetypes.old self.old) entity }
-        ensures rows { SameRows archetypes.old archetypes.new }
-    {
-        if self.awaits(entity) {
-            self.forget(archetypes);
-        }
-    }
-
     /// Where no move is left, the tables that stayed for moves go, if they have no rows. It takes no memory.
     pub fn finish(&mut self, archetypes: &mut Archetypes)
         requires ready { IsReady archetypes.old self.old }
         requires tidy { RowlessIn archetypes.old self.old.targets }
-        ensures ready { IsReady archetypes.new self.new }
-        ensures tidy { RowlessIn archetypes.new self.new.targets }
-        ensures done { HasNoIdleTarget self.new }
+        ensures laid { IsLaid archetypes.new self.new }
         ensures left { moves_of archetypes.new self.new ≡ moves_of archetypes.old self.old }
         ensures rows { SameRows archetypes.old archetypes.new }
     {
@@ -83,47 +58,8 @@ impl Prepared {
         }
     }
 
-    /// The tables of these moves, and room in them for all. An `Err` comes where memory is refused, and prepares nothing.
-    pub fn prepare(&mut self, archetypes: &mut Archetypes, moves: &[Move]) -> Result<(), AllocError>
-        requires different { AreOfDifferent moves.now }
-        requires tidy { RowlessIn archetypes.old self.old.targets }
-        ensures ready { IsReady archetypes.new self.new }
-        ensures tidy { RowlessIn archetypes.new self.new.targets }
-        ensures done { HasNoIdleTarget self.new }
-        ensures ok { OnOk result (moves_of archetypes.new self.new ≡ moves.now) }
-        ensures err { OnErr result (self.new ≡ nothing_prepared) }
-        ensures nothing { moves.now ≡ [] → IsOk result }
-        ensures rows { SameRows archetypes.old archetypes.new }
-    {
-        self.forget(archetypes);
-        let planned = self.plan(archetypes, moves);
-        if planned.is_err() || moves.is_empty() {
-            self.forget(archetypes);
-        }
-        planned
-    }
-
-    // The last of the moves first, so that each comes before those that are there. An `Err` may leave tables without rows,
-    // each of which is a target.
-    fn plan(&mut self, archetypes: &mut Archetypes, moves: &[Move]) -> Result<(), AllocError>
-        requires different { AreOfDifferent moves.now }
-        requires nothing { self.old ≡ nothing_prepared }
-        requires tidy { RowlessIn archetypes.old self.old.targets }
-        ensures ready { OnOk result (IsReady archetypes.new self.new) }
-        ensures tidy { RowlessIn archetypes.new self.new.targets }
-        ensures ok { OnOk result (moves_of archetypes.new self.new ≡ moves.now) }
-        ensures nothing { moves.now ≡ [] → IsOk result }
-        ensures rows { SameRows archetypes.old archetypes.new }
-    {
-        for done in 0..moves.len() {
-            let next = &moves[moves.len() - 1 - done];
-            self.plan_move(archetypes, next)?;
-        }
-        Ok(())
-    }
-
-    // One more move, before all others.
-    fn plan_move(&mut self, archetypes: &mut Archetypes, next: &Move) -> Result<(), AllocError>
+    /// One more move, before all others. An `Err` comes where memory is refused, and may leave a target without a move.
+    pub fn plan_move(&mut self, archetypes: &mut Archetypes, next: &Move) -> Result<(), AllocError>
         requires ready { IsReady archetypes.old self.old }
         requires absent { IsTrue (not (has_move (moves_of archetypes.old self.old) next.now.entity)) }
         requires tidy { RowlessIn archetypes.old self.old.targets }
@@ -136,6 +72,48 @@ impl Prepared {
         archetypes.reserve_more(slot, 1)?;
         let entity = next.entity;
         self.add(entity, slot)
+    }
+
+    /// For each change the tables of its two types, both targets, and in the second room for all rows of the first, besides
+    /// those that other changes bring there. An `Err` comes where memory is refused. No row changes.
+    pub fn plan_changes(
+        &mut self,
+        archetypes: &mut Archetypes,
+        changes: &[TypeChange],
+    ) -> Result<Vec<Transfer>, AllocError>
+        requires nothing { self.old ≡ nothing_prepared }
+        requires tidy { RowlessIn archetypes.old self.old.targets }
+        ensures plan { IfOk result (λ transfers. IsPlan archetypes.new transfers.items changes.now) }
+        ensures room { IfOk result (λ transfers. HasRoom archetypes.new transfers.items) }
+        ensures named { IfOk result (λ transfers. AreNamed self.new.targets transfers.items) }
+        ensures tidy { RowlessIn archetypes.new self.new.targets }
+        ensures rows { SameRows archetypes.old archetypes.new }
+    {
+        let transfers = self.find_tables(archetypes, changes)?;
+        archetypes.take_room(&transfers)?;
+        Ok(transfers)
+    }
+
+    // The transfers of the changes, whose tables are targets.
+    fn find_tables(
+        &mut self,
+        archetypes: &mut Archetypes,
+        changes: &[TypeChange],
+    ) -> Result<Vec<Transfer>, AllocError>
+        requires ready { IsReady archetypes.old self.old }
+        requires tidy { RowlessIn archetypes.old self.old.targets }
+        ensures plan { IfOk result (λ transfers. IsPlan archetypes.new transfers.items changes.now) }
+        ensures named { IfOk result (λ transfers. AreNamed self.new.targets transfers.items) }
+        ensures tidy { RowlessIn archetypes.new self.new.targets }
+        ensures rows { SameRows archetypes.old archetypes.new }
+    {
+        let mut transfers = Vec::new(self.alloc);
+        for change in changes {
+            let from = self.target(archetypes, &change.from)?;
+            let to = self.target(archetypes, &change.to)?;
+            transfers.push(Transfer { from, to })?;
+        }
+        Ok(transfers)
     }
 
     // The slot of the table with a type, which is a target from then on. What room earlier calls promised in it serves the
@@ -151,6 +129,8 @@ impl Prepared {
         ensures tidy { RowlessIn archetypes.new self.new.targets }
         ensures typed { IfOk result (λ n. type_at archetypes.new n ≡ Some type_list.now) }
         ensures stays { IfOk result (λ n. IsTrue (list_any (nat_eq n) self.new.targets)) }
+        ensures kept { OnOk result (KeepsTypes archetypes.old archetypes.new) }
+        ensures grown { (n : ℕ) → IsTrue (list_any (nat_eq n) self.old.targets) → IsTrue (list_any (nat_eq n) self.new.targets) }
         ensures arrivals { self.new.arrivals ≡ self.old.arrivals }
         ensures moves { OnOk result (moves_of archetypes.new self.new ≡ moves_of archetypes.old self.old) }
         ensures rows { SameRows archetypes.old archetypes.new }

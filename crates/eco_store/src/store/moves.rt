@@ -5,7 +5,7 @@ ghost use Rattle.eco_store.specs.Preparing.{is_next, moves_left, moves_beside, A
 ghost use Rattle.eco_store.specs.Store.{type_of, with_type};
 
 use crate::moving::Move;
-use crate::placing::{fix_place, move_entity};
+use crate::placing::fix_place;
 use crate::store::Store;
 use eco_ids::{Entity, TypeList};
 use std::alloc::AllocError;
@@ -21,7 +21,7 @@ impl Store {
         ensures err { OnErr result (self.new.prepared ≡ []) }
         ensures nothing { moves.now ≡ [] → IsOk result }
     {
-        self.prepared.prepare(&mut self.archetypes, moves)
+        self.layout.prepare(moves)
     }
 
     /// Gives an entity another type: values of ids that both have stay, new ids hold zeros. It takes no memory and succeeds
@@ -35,62 +35,18 @@ impl Store {
         ensures ready { IsTrue (is_next self.old.prepared e type_list.now) → IsOk result }
         ensures own { type_of self.old.entities e ≡ Some type_list.now → IsOk result }
     {
-        if self.is_next(e, type_list) {
-            self.make_next(e, type_list);
-            return Ok(());
-        }
-        self.retype_at_once(e, type_list)
-    }
-
-    // Whether the first of the prepared moves brings the entity to this type.
-    fn is_next(&self, e: Entity, type_list: &TypeList) -> bool
-        ensures { result ≡ is_next self.now.prepared e type_list.now }
-    {
-        match self.prepared.next() {
-            Some((entity, slot)) => {
-                let table = self.archetypes.tables().get(slot).unwrap();
-                entity.is(e) && table.type_list().as_slice() == type_list.as_slice()
-            }
-            None => false,
-        }
-    }
-
-    // Makes the first of the prepared moves, which brings the entity to this type. It takes no memory.
-    fn make_next(&mut self, e: Entity, type_list: &TypeList)
-        requires living { IsTrue (is_alive self.old.entities e) }
-        requires next { IsTrue (is_next self.old.prepared e type_list.now) }
-        ensures entities { self.new.entities ≡ changed self.old.entities e (with_type type_list.now) }
-        ensures left { self.new.prepared ≡ moves_left self.old.prepared e type_list.now }
-    {
-        // Under its own type an entity holds what it held, since its row has a value for each id and the ids ascend.
-        self.archetypes.tables().rows_have_ids();
+        // A place's row fits, as a table has no more rows than there are indices.
+        self.entities.rules();
+        // Under its own type an entity holds what it held, since the ids of its row ascend.
         let _ids = type_list.as_slice();
         let place = self.entities.place_of(e).unwrap();
-        let (_, to) = self.prepared.take_next().unwrap();
-        if place.table != to {
-            move_entity(&mut self.entities, &mut self.archetypes, e, place, to);
-            self.prepared.release(&mut self.archetypes, place.table);
+        match self.layout.move_row(e, place, type_list)? {
+            Some(moved) => {
+                fix_place(&mut self.entities, moved.filler, place);
+                self.entities.set_place(e, moved.place);
+            }
+            None => {}
         }
-        self.prepared.finish(&mut self.archetypes);
-    }
-
-    // Gives an entity another type, and leaves no move prepared. An `Err` changes no entity.
-    fn retype_at_once(&mut self, e: Entity, type_list: &TypeList) -> Result<(), AllocError>
-        requires { IsTrue (is_alive self.old.entities e) }
-        ensures ok { OnOk result (self.new.entities ≡ changed self.old.entities e (with_type type_list.now)) }
-        ensures err { OnErr result (self.new.entities ≡ self.old.entities) }
-        ensures unprepared { self.new.prepared ≡ [] }
-        ensures own { type_of self.old.entities e ≡ Some type_list.now → IsOk result }
-    {
-        self.prepared.forget(&mut self.archetypes);
-        let place = self.entities.place_of(e).unwrap();
-        let table = self.archetypes.tables().get(place.table).unwrap();
-        if table.type_list().as_slice() == type_list.as_slice() {
-            return Ok(());
-        }
-        let to = self.archetypes.room_for(type_list, 1)?;
-        move_entity(&mut self.entities, &mut self.archetypes, e, place, to);
-        self.archetypes.drop_empty(place.table);
         Ok(())
     }
 
@@ -101,11 +57,10 @@ impl Store {
         ensures entities { self.new.entities ≡ with_death self.old.entities e }
         ensures left { self.new.prepared ≡ moves_beside self.old.prepared e }
     {
-        self.prepared.forget_awaited(&mut self.archetypes, e);
+        self.entities.rules();
         let place = self.entities.place_of(e).unwrap();
-        let moved = self.archetypes.swap_out(place.table, place.row);
+        let moved = self.layout.take_row(e, place);
         fix_place(&mut self.entities, moved, place);
         self.entities.kill(e);
-        self.prepared.release(&mut self.archetypes, place.table);
     }
 }

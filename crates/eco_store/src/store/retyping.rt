@@ -6,7 +6,6 @@ ghost use Rattle.eco_tables.specs.Tables.{slot_of, table_in};
 ghost use Rattle.eco_store.specs.Retyping.{after_changes, IsOneWay, IsTypeWith};
 
 use crate::store::Store;
-use crate::transfer::move_all;
 use crate::type_change::TypeChange;
 use eco_ids::{Pattern, TypeList};
 use eco_tables::Tables;
@@ -32,8 +31,8 @@ impl Store {
         ensures listed { IfOk result (λ types. (ids : List Ids) → Contains types.items ids ↔ IsTypeWith self.now.entities pattern ids) }
         ensures distinct { IfOk result (λ types. AllPairs (λ one other. one ≢ other) types.items) }
     {
-        let slots = self.archetypes.tables_with(pattern)?;
-        let tables = self.archetypes.tables();
+        let slots = self.layout.archetypes().tables_with(pattern)?;
+        let tables = self.layout.tables();
         tables.rows_have_ids();
         types_in(self.alloc, tables, &slots)
     }
@@ -49,10 +48,6 @@ impl Store {
         ensures err { OnErr result (self.new.entities ≡ self.old.entities) }
         ensures unprepared { self.new.prepared ≡ [] }
     {
-        self.prepared.forget(&mut self.archetypes);
-        let transfers = self.archetypes.prepare(changes)?;
-        move_all(&mut self.entities, &mut self.archetypes, &transfers);
-        self.archetypes.drop_emptied(&transfers);
-        Ok(())
+        self.layout.retype_all(&mut self.entities, changes)
     }
 }

@@ -13,12 +13,12 @@ ghost use Rattle.eco_ids.specs.Outcome.{Meets};
 ghost use Rattle.eco_ids.specs.Step.{Adds, may_add, Clears, may_clear, Extends, Removes, may_remove, Renames, may_rename, Sets, may_set, changed, unchanged, with_value};
 ghost use Rattle.eco_ids.specs.World.{has, names_living, is_alive, record_of};
 ghost use Rattle.eco_world.specs.Actor.{IsUnfit, MaySet, MayNotSet};
-ghost use Rattle.eco_store.specs.Store.{record_ids, with_type};
+ghost use Rattle.eco_store.specs.Store.{record_ids, with_toggled, with_type};
 
 use crate::world::World;
 use eco_ids::entity::{BUILTIN_COUNT, ON_DELETE, PANIC};
 use eco_ids::{Entity, Id, Refusal, TypeList, Value};
-use eco_traits::target_type;
+use eco_traits::{Target, target_type};
 use std::alloc::{AllocError, Global};
 
 // Whether the fields past the first `arity` are 0.
@@ -94,12 +94,6 @@ impl World {
         ensures { Meets (Adds self.old entity id) (may_add self.old entity id) self.old result self.new }
     {
         self.check_actor(entity)?;
-        if !self.names_living(id) {
-            return Err(Refusal::DeadId);
-        }
-        if self.has(entity, id) {
-            return Ok(());
-        }
         self.extend(entity, id)
     }
 
@@ -196,35 +190,45 @@ impl World {
         }
     }
 
-    // The entity gets an id that it lacks, with its closure, unless something stands against that. An `Err` leaves
+    // The entity has an id from now on, with its closure, unless something stands against that. An `Err` leaves
     // everything.
     fn extend(&mut self, entity: Entity, id: Id) -> Result<(), Refusal>
         requires alive { is_alive self.old entity ≡ true }
         requires ordinary { is_builtin self.old entity ≡ false }
-        requires living { names_living self.old id ≡ true }
-        requires absent { has self.old entity id ≡ false }
-        ensures { Meets (Extends self.old entity id unchanged) true self.old result self.new }
+        ensures { Meets (Adds self.old entity id) (may_add self.old entity id) self.old result self.new }
     {
         eco_ids::laws::steps_keep_lawful();
         eco_ids::laws::add_leaves_exactly();
         self.is_lawful();
-        let ids = target_type(self.alloc, self, entity, id)?;
-        self.retype(entity, &ids)?;
-        Ok(())
+        match target_type(self.alloc, self, entity, id)? {
+            Target::Own => Ok(()),
+            Target::With => Ok(self.step(entity, id)?),
+            Target::Other(ids) => Ok(self.retype(entity, &ids)?),
+        }
     }
 
     // The entity loses an id that it has. An `Err` leaves everything.
     fn take_away(&mut self, entity: Entity, id: Id) -> Result<(), AllocError>
         requires alive { is_alive self.old entity ≡ true }
         requires ordinary { is_builtin self.old entity ≡ false }
+        requires there { has self.old entity id ≡ true }
         ensures ok { OnOk result
             (self.new ≡ without self.old nobody (λ x own. entity_eq x entity && id_eq own id)) }
         ensures err { OnErr result (self.new ≡ self.old) }
     {
         eco_ids::laws::steps_keep_lawful();
         self.is_lawful();
-        let ids = self.own_type(entity).unwrap().without(id)?;
-        self.retype(entity, &ids)
+        self.step(entity, id)
+    }
+
+    // The entity has the id if it lacked it, with zeros, and lacks it if it had it. An `Err` leaves everything.
+    fn step(&mut self, entity: Entity, id: Id) -> Result<(), AllocError>
+        requires alive { is_alive self.old entity ≡ true }
+        requires lawful { IsLawful (changed self.old entity (with_toggled id)) }
+        ensures ok { OnOk result (self.new ≡ changed self.old entity (with_toggled id)) }
+        ensures err { OnErr result (self.new ≡ self.old) }
+    {
+        self.store.step(entity, id)
     }
 
     // The entity has these ids: those that were there keep their values, and new ones hold zeros. An `Err` leaves

@@ -19,8 +19,10 @@ impl World {
         ensures { IfOk result (λ tables. IsLayout self.now (listed tables.items)) }
     {
         let mut tables = Vec::new(self.alloc);
-        for (_, table) in self.store.tables().iter() {
-            if table.row_count() > 0 {
+        for slot in self.store.tables().iter() {
+            if let Some(table) = slot
+                && table.row_count() > 0
+            {
                 tables.push(TableRows::of(table))?;
             }
         }

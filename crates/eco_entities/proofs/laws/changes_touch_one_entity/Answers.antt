@@ -5,7 +5,7 @@ use Rattle.eco_entities.proofs.laws.changes_touch_one_entity.Goals as goal
 pub returns : goal.returns
 returns c = record {
   new = record-new;
-  revived = record-settled;
+  made_alive = record-settled;
   changed = λ w e r change h. record-changed w e change r h;
   dead = record-died;
   admitted = record-admitted;

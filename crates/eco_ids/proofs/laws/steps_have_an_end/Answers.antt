@@ -2,14 +2,15 @@ use Rattle.std.proofs.Common.{◌&&◌}
 use Rattle.eco_ids.specs.Births.{bare, component_record}
 use Rattle.eco_ids.specs.Order.{entity_eq, id_eq}
 use Rattle.eco_ids.specs.Step.{unfit_actor}
-use Rattle.eco_ids.proofs.StepsEnd.{adds_end, admits_end, deletes_one_end, deletes_with_end, loses_end, makes_end, removes_all_end, renames_end, revives_end, sets_end}
+use Rattle.eco_ids.proofs.StepsEnd.{adds_end, admits_end, deletes_one_end, deletes_with_end, loses_end, makes_end, removes_all_end, renames_end, makes_alive_end}
+use Rattle.eco_ids.proofs.StepsEnd.{sets_end}
 use Rattle.eco_ids.proofs.laws.steps_have_an_end.Goals as goal
 
 pub returns : goal.returns
 returns c = record {
   create = λ name w l. makes_end w (bare name);
   component = λ name fields w l. makes_end w (component_record name fields);
-  revive = λ e w l. revives_end w e;
+  make_alive = λ e w l. makes_alive_end w e;
   add = λ e i w l. adds_end w l e i;
   set = λ e i v w l. sets_end w l e i v;
   remove = λ e i w l. loses_end w (unfit_actor w e) (λ x j. entity_eq x e && id_eq j i);

@@ -1,7 +1,7 @@
 use Rattle.std.proofs.Common.{◌≡◌, take}
 use Rattle.std.specs.Prelude.{flat_map}
-use Rattle.eco_query.specs.Queries.{asked_view, patterns_of}
+use Rattle.eco_query.specs.Queries.{term_view, patterns_of}
 use Rattle.eco_query.proofs.query.patterns_read.Given as goal
 
 abbrev pub invariant-loop-slot : goal.invariant-loop-slot
-invariant-loop-slot l = l.patterns.items ≡ flat_map (λ s. patterns_of (asked_view s.term)) (take l.slot-index l.slots)
+invariant-loop-slot l = l.patterns.items ≡ flat_map (λ s. patterns_of (term_view s.term)) (take l.slot-index l.slots)

@@ -1,4 +1,4 @@
-use Rattle.std.proofs.Common.{◌≡◌, ◌≢◌, ℕ, ◌+◌, ◌<◌, List, ◌∷◌, [], ◌++◌, map, take, drop, get_or, length, sym, ap, ◌∙◌, subst, add-one}
+use Rattle.std.proofs.Common.{◌≡◌, ◌≢◌, ℕ, ◌+◌, ◌<◌, List, ◌∷◌, [], map, take, drop, get_or, length, sym, ap, ◌∙◌, subst, add-one}
 use Rattle.std.proofs.Math.Seq.{drop-cons}
 use Rattle.std.proofs.lemmas.List.{take_more, map-append}
 use Rattle.std.proofs.lemmas.List.Elements.{All-drop}
@@ -6,8 +6,8 @@ use Rattle.std.proofs.lemmas.List.Sums.{fold-append}
 use Rattle.eco_store.specs.declared.transfer.Transfer.{Transfer}
 use Rattle.eco_store.specs.Retyping.{after_change, after_changes}
 use Rattle.eco_store.specs.Store.{read}
-use Rattle.eco_store.specs.Transfers.{change_of, HasRoom, ends}
-use Rattle.eco_store.proofs.Ends.{from_named, to_named, rowless_poured}
+use Rattle.eco_store.specs.Transfers.{change_of, HasRoom}
+use Rattle.eco_store.proofs.Rowless.{rowless_poured}
 use Rattle.eco_store.proofs.Pouring.{apart_slots, change_kept, still_there, room_first, room_rest}
 use Rattle.eco_store.proofs.transfer.move_all.Goals as goal
 
@@ -61,7 +61,7 @@ loop-transfer-preserved c =
           ∙ (λ j. after_change (was.read j) (change_kept s0 s t (was.types t.from) (was.types t.to) j))
           ∙ sym (fold-append after_change w0 (map (change_of s0) (take i ts)) (change_of s0 t ∷ []))
           ∙ sym (ap (after_changes w0) (ap (map (change_of s0)) (take_more ts i none there) ∙ map-append (change_of s0) (take i ts) (t ∷ [])));
-      rowless = λ slots kept.
-          rowless_poured s c.move_rows.new.archetypes t.from t.to c.move_rows.ensures.pours (ends ts ++ slots)
-          (from_named ts i none slots there) (to_named ts i none slots there) (was.rowless slots kept);
+      rowless = λ slots named kept.
+          rowless_poured s c.move_rows.new.archetypes t.from t.to c.move_rows.ensures.pours slots (named i none there).0 (named i none there).1
+          (was.rowless slots named kept);
     }

@@ -1,8 +1,8 @@
-use Rattle.std.proofs.Common.{◌≡◌, ℕ, List, ◌++◌, take, drop, map}
+use Rattle.std.proofs.Common.{◌≡◌, ℕ, List, take, drop, map}
 use Rattle.eco_store.specs.Archetypes.{RowlessIn}
 use Rattle.eco_store.specs.Retyping.{after_changes}
 use Rattle.eco_store.specs.Store.{IsStore, read}
-use Rattle.eco_store.specs.Transfers.{change_of, HasRoom, SameTypes, ends}
+use Rattle.eco_store.specs.Transfers.{change_of, HasRoom, SameTypes, AreNamed}
 use Rattle.eco_store.proofs.transfer.move_all.Given as goal
 
 abbrev pub invariant-loop-transfer : goal.invariant-loop-transfer
@@ -12,5 +12,5 @@ invariant-loop-transfer l = record {
   room : HasRoom l.archetypes (drop l.transfer-index l.transfers);
   read : read l.entities l.archetypes ≡ after_changes (read l.initial.entities l.initial.archetypes)
       (map (change_of l.initial.archetypes) (take l.transfer-index l.transfers));
-  rowless : (slots : List ℕ) → RowlessIn l.initial.archetypes (ends l.transfers ++ slots) → RowlessIn l.archetypes (ends l.transfers ++ slots);
+  rowless : (slots : List ℕ) → AreNamed slots l.transfers → RowlessIn l.initial.archetypes slots → RowlessIn l.archetypes slots;
 }

@@ -13,7 +13,7 @@ returns-in_err-give_name-in-None c =
     uncalled c.args.self.now c.args.entity c.in-Some.text.now (λ own. none-some c.args.entity ((c.in-None.ensures.exact c.args.entity).1 own)) in
     let may : may_rename name_of c.args.self.now c.args.entity false (option_copied c.args.name) ≡ true =
     rw c.in-Some.is (rename_may c.args.self.now c.args.entity c.in-Some.text.now (sym c.if-not-is_alive.ensures) (sym c.if-not-is_name.ensures) other
-    (sym c.in-None.ensures.bearer)) in
+    (sym c.in-None.ensures.named_entity)) in
     grind (arith, common_steps)
 
 pub returns-in-Some-lookup : goal.returns-in-Some-lookup
@@ -24,10 +24,10 @@ returns-in-Some-lookup c =
 
 pub returns-in-Some-2 : goal.returns-in-Some-2
 returns-in-Some-2 c =
-    let same : c.in-Some-lookup.bearer ≡ c.in-Some-2.field-0 = same_Some _ _ (sym c.in-Some-lookup.is ∙ c.in-Some-2.is) in
+    let same : c.in-Some-lookup.named_entity ≡ c.in-Some-2.field-0 = same_Some _ _ (sym c.in-Some-lookup.is ∙ c.in-Some-2.is) in
     let other : is_called c.in-Some.text.now (own_name name_of c.args.self.now c.args.entity) ≡ false =
     uncalled c.args.self.now c.args.entity c.in-Some.text.now
     (λ own. other_entity _ _ c.if-eq.ensures (same ∙ same_Some _ _ ((c.in-Some-2.ensures.exact c.args.entity).1 own))) in
     rw c.in-Some.is
     (rename_taken c.args.self.now c.args.entity c.in-Some-2.field-0 c.in-Some.text.now (sym c.if-not-is_alive.ensures) (sym c.if-not-is_name.ensures) other
-    (sym c.in-Some-2.ensures.bearer))
+    (sym c.in-Some-2.ensures.named_entity))

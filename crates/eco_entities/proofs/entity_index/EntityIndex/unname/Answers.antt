@@ -1,16 +1,19 @@
-use Rattle.std.proofs.Common.{refl, sym, None}
+use Rattle.std.proofs.Common.{◌≡◌, refl, sym, ap, ◌∙◌, None, Some}
+use Rattle.eco_ids.specs.Renaming.{own_name}
+use Rattle.eco_entities.specs.Registration.{name_of}
 use Rattle.eco_entities.proofs.Owners.{own-renamed}
 use Rattle.eco_entities.proofs.Registers.{registry_lose, registry_nameless}
 use Rattle.eco_entities.proofs.entity_index.EntityIndex.unname.Goals as goal
-use Rattle.eco_entities.proofs.entity_index.EntityIndex.unname.Goals.{in-Some, in_default}
 
 pub invariant_of-self : goal.invariant_of-self
 invariant_of-self c =
-    elim c.match-name.branch [
-      | in-Some w ↦ rw (c.set_name.ensures, w.self-inside-is)
-          (registry_lose w.in-Some.name.now c.args.entity c.self.invariant (sym w.in-Some.ensures) w.remove.ensures
-          (own-renamed c.self.inside.slots c.args.entity None (rw c.self.view_is c.requires)))
-      | in_default w ↦ rw (c.set_name.ensures, w.self-inside-is)
-          (registry_nameless c.args.entity c.self.invariant (sym w.in_default.ensures) (record { all = λ k. refl })
-          (own-renamed c.self.inside.slots c.args.entity None (rw c.self.view_is c.requires)))
-    ]
+    let named : own_name name_of c.self.inside.slots c.args.entity ≡ Some c.as_str.result.now = sym c.in-Some.ensures.was ∙ ap Some (sym c.as_str.ensures.value) in
+    rw c.take_name.ensures.renamed
+    (registry_lose c.as_str.result.now c.args.entity c.self.invariant named c.remove.ensures
+    (own-renamed c.self.inside.slots c.args.entity None (rw c.self.view_is c.requires)))
+
+pub invariant_of-self-in_default : goal.invariant_of-self-in_default
+invariant_of-self-in_default c =
+    rw c.take_name.ensures.renamed
+    (registry_nameless c.args.entity c.self.invariant (sym c.in_default.ensures.was) (record { all = λ k. refl })
+    (own-renamed c.self.inside.slots c.args.entity None (rw c.self.view_is c.requires)))

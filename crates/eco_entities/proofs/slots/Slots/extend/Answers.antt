@@ -1,20 +1,30 @@
-use Rattle.std.proofs.Common.{◌≡◌, ◌++◌, ap, ◌∙◌, length, replicate, arith}
-use Rattle.eco_entities.specs.declared.slot.Slot.TheVariants.{Free}
-use Rattle.eco_entities.proofs.Marks.{slots_admitted, room_inside}
+use Rattle.std.proofs.Common.{◌≡◌, ◌+◌, ◌++◌, false, ap, ◌∙◌, length, replicate, arith}
+use Rattle.eco_entities.proofs.Marks.{marks_as_slots, slots_admitted, room_inside}
+use Rattle.std.proofs.lemmas.List.{length-append, length-replicate}
 use Rattle.eco_entities.proofs.slots.Slots.extend.Goals as goal
 
 pub invariant_of-self-2 : goal.invariant_of-self-2
 invariant_of-self-2 c =
-    let known : c.len-known.result ≡ length c.self.inside.slots.items = omega arith in
-    (slots_admitted _ _ _ _ _ _ c.args.self.now c.args.count c.self.invariant c.self.view_is
-    (room_inside _ _ c.args.self.now c.args.count c.self.view_is c.requires)
-    (c.push_fresh.ensures ∙ ap (λ xs. xs ++ replicate c.args.count (Free 0)) c.in_ok-reserve.ensures.items)
+    let slots = c.self.inside.slots.items in
+    let known : c.len-known.result ≡ length slots = omega arith in
+    (slots_admitted c.self.inside c.args.self.now c.self.invariant c.self.view_is _ _ _ c.args.count c.free.result
+    (room_inside c.self.inside c.args.self.now c.self.invariant c.self.view_is c.args.count c.requires)
+    (c.push_copies.ensures ∙ ap (λ xs. xs ++ replicate c.args.count c.free.result) c.in_ok-reserve.ensures.items) c.free.ensures
     c.in_ok-grow.ensures.ok (rw known at c.insert_from.ensures)).0
 
 pub returns-clause-ok : goal.returns-clause-ok
 returns-clause-ok c =
-    let known : c.len-known.result ≡ length c.self.inside.slots.items = omega arith in
-    (slots_admitted _ _ _ _ _ _ c.args.self.now c.args.count c.self.invariant c.self.view_is
-    (room_inside _ _ c.args.self.now c.args.count c.self.view_is c.requires)
-    (c.push_fresh.ensures ∙ ap (λ xs. xs ++ replicate c.args.count (Free 0)) c.in_ok-reserve.ensures.items)
+    let slots = c.self.inside.slots.items in
+    let known : c.len-known.result ≡ length slots = omega arith in
+    (slots_admitted c.self.inside c.args.self.now c.self.invariant c.self.view_is _ _ _ c.args.count c.free.result
+    (room_inside c.self.inside c.args.self.now c.self.invariant c.self.view_is c.args.count c.requires)
+    (c.push_copies.ensures ∙ ap (λ xs. xs ++ replicate c.args.count c.free.result) c.in_ok-reserve.ensures.items) c.free.ensures
     c.in_ok-grow.ensures.ok (rw known at c.insert_from.ensures)).1
+
+pub insert_from-requires : goal.insert_from-requires
+insert_from-requires c =
+    let slots = c.self.inside.slots.items in
+    let marks : length c.self.inside.free ≡ length slots = marks_as_slots c.self.inside c.args.self.now c.self.invariant c.self.view_is in
+    let grown : length c.grow.new.self ≡ length c.self.inside.free + c.args.count =
+    ap length c.in_ok-grow.ensures.ok ∙ (length-append c.self.inside.free (replicate c.args.count false) ∙ ap (λ n. length c.self.inside.free + n) (length-replicate c.args.count false)) in
+    omega arith

@@ -1,28 +1,53 @@
-use Rattle.std.proofs.Common.{ap, ◌∙◌, set}
-use Rattle.eco_entities.proofs.Marks.{living_unmarked, slot_died}
+use Rattle.std.proofs.Common.{◌≡◌, ◌<◌, length, ap, ◌∙◌, set, arith}
+use Rattle.eco_entities.specs.Labels.{label_of}
+use Rattle.eco_entities.proofs.Marks.{alive_within, marks_as_slots, living_unmarked, slot_died}
 use Rattle.eco_entities.proofs.slots.Slots.kill.Goals as goal
 use Rattle.eco_entities.proofs.slots.Slots.kill.Goals.{then-is_free, else-is_free}
 
 pub invariant_of-self : goal.invariant_of-self
 invariant_of-self c =
+    let label = label_of c.self.inside.labels in
+    let e = c.args.entity in
     elim c.if-is_free.branch [
-      | then-is_free w ↦ rw w.self-inside-is
-          (slot_died _ _ _ _ c.args.self.now c.args.entity c.raised-left.result c.self.invariant c.self.view_is c.requires c.raised-left.ensures
-          (w.insert.ensures ∙ ap (λ b. set c.self.inside.free c.args.entity.index b) w.if-is_free.ensures)).0
-      | else-is_free w ↦ rw w.self-inside-is
-          (slot_died _ _ _ _ c.args.self.now c.args.entity c.raised-left.result c.self.invariant c.self.view_is c.requires c.raised-left.ensures
-          (living_unmarked _ _ _ c.args.self.now c.args.entity c.self.invariant c.self.view_is c.requires
-          ∙ ap (λ b. set c.self.inside.free c.args.entity.index b) w.if-is_free.ensures)).0
+      | then-is_free b ↦ rw b.self-inside-is
+          (slot_died c.self.inside c.args.self.now c.self.invariant c.self.view_is _ e c.raised-left.result c.requires
+          (c.raised-left.ensures (label e.index)) (b.insert.ensures ∙ ap (set c.self.inside.free e.index) (b.if-is_free.ensures (label e.index)))).0
+      | else-is_free b ↦ rw b.self-inside-is
+          (slot_died c.self.inside c.args.self.now c.self.invariant c.self.view_is _ e c.raised-left.result c.requires
+          (c.raised-left.ensures (label e.index))
+          (living_unmarked c.self.inside c.args.self.now c.self.invariant c.self.view_is e c.requires
+          ∙ ap (set c.self.inside.free e.index) (b.if-is_free.ensures (label e.index)))).0
     ]
 
 pub returns : goal.returns
 returns c =
+    let label = label_of c.self.inside.labels in
+    let e = c.args.entity in
     elim c.if-is_free.branch [
-      | then-is_free w ↦ rw w.self-inside-is
-          (slot_died _ _ _ _ c.args.self.now c.args.entity c.raised-left.result c.self.invariant c.self.view_is c.requires c.raised-left.ensures
-          (w.insert.ensures ∙ ap (λ b. set c.self.inside.free c.args.entity.index b) w.if-is_free.ensures)).1
-      | else-is_free w ↦ rw w.self-inside-is
-          (slot_died _ _ _ _ c.args.self.now c.args.entity c.raised-left.result c.self.invariant c.self.view_is c.requires c.raised-left.ensures
-          (living_unmarked _ _ _ c.args.self.now c.args.entity c.self.invariant c.self.view_is c.requires
-          ∙ ap (λ b. set c.self.inside.free c.args.entity.index b) w.if-is_free.ensures)).1
+      | then-is_free b ↦ rw b.self-inside-is
+          (slot_died c.self.inside c.args.self.now c.self.invariant c.self.view_is _ e c.raised-left.result c.requires
+          (c.raised-left.ensures (label e.index)) (b.insert.ensures ∙ ap (set c.self.inside.free e.index) (b.if-is_free.ensures (label e.index)))).1
+      | else-is_free b ↦ rw b.self-inside-is
+          (slot_died c.self.inside c.args.self.now c.self.invariant c.self.view_is _ e c.raised-left.result c.requires
+          (c.raised-left.ensures (label e.index))
+          (living_unmarked c.self.inside c.args.self.now c.self.invariant c.self.view_is e c.requires
+          ∙ ap (set c.self.inside.free e.index) (b.if-is_free.ensures (label e.index)))).1
     ]
+
+pub index_mut-requires : goal.index_mut-requires
+index_mut-requires c =
+    let slots = c.self.inside.slots.items in
+    let e = c.args.entity in
+    let within : e.index < length slots = alive_within c.self.inside c.args.self.now c.self.invariant c.self.view_is e c.requires in
+    elim c.if-is_free.branch [
+      | then-is_free b ↦ rw b.self-inside-is (omega arith)
+      | else-is_free b ↦ rw b.self-inside-is (omega arith)
+    ]
+
+pub insert-requires : goal.insert-requires
+insert-requires c =
+    let slots = c.self.inside.slots.items in
+    let e = c.args.entity in
+    let within : e.index < length slots = alive_within c.self.inside c.args.self.now c.self.invariant c.self.view_is e c.requires in
+    let marks : length c.self.inside.free ≡ length slots = marks_as_slots c.self.inside c.args.self.now c.self.invariant c.self.view_is in
+    omega arith

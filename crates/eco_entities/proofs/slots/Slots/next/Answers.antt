@@ -4,7 +4,8 @@ use Rattle.eco_entities.proofs.slots.Slots.next.Goals as goal
 use Rattle.eco_entities.proofs.slots.Slots.next.Goals.{in-Some, in-None}
 
 pub returns-in-None-2 : goal.returns-in-None-2
-returns-in-None-2 c = next_over _ _ _ c.args.self.now c.self.invariant c.self.view_is c.in-None-2.ensures (omega arith)
+returns-in-None-2 c =
+    next_over c.self.inside c.args.self.now c.self.invariant c.self.view_is c.in-None-2.ensures (omega arith)
 
 pub overflow_cast-result : goal.overflow_cast-result
 overflow_cast-result c =
@@ -19,6 +20,7 @@ overflow_cast-result c =
 pub returns : goal.returns
 returns c =
     elim c.match-lowest.branch [
-      | in-Some w ↦ next_marked _ _ _ c.args.self.now _ _ c.self.invariant c.self.view_is (rw w.index-is w.in-Some.ensures) c.next_generation.ensures
-      | in-None w ↦ next_fresh _ _ _ c.args.self.now _ _ c.self.invariant c.self.view_is w.in-None.ensures (omega arith) (omega arith) c.next_generation.ensures
+      | in-Some w ↦ next_marked c.self.inside c.args.self.now c.self.invariant c.self.view_is _ _ (rw w.index-is w.in-Some.ensures) c.next_generation.ensures
+      | in-None w ↦ next_fresh c.self.inside c.args.self.now c.self.invariant c.self.view_is _ _ w.in-None.ensures (omega arith) (omega arith)
+          c.next_generation.ensures
     ]

@@ -1,10 +1,24 @@
-use Rattle.eco_entities.proofs.Marks.{slot_changed}
+use Rattle.std.proofs.Common.{◌<◌, length, refl, arith}
+use Rattle.eco_entities.specs.Labels.{label_of}
+use Rattle.eco_entities.specs.Registration.{placed}
+use Rattle.eco_entities.proofs.Marks.{alive_within, slot_changed}
 use Rattle.eco_entities.proofs.slots.Slots.set_place.Goals as goal
 
 pub invariant_of-self : goal.invariant_of-self
 invariant_of-self c =
-    (slot_changed _ _ _ c.args.self.now c.args.entity c.index_mut.result.now c.set_place.new.self _ c.self.invariant c.self.view_is c.requires c.index_mut.ensures.value c.set_place.ensures).0
+    let label = label_of c.self.inside.labels in
+    (slot_changed c.self.inside c.args.self.now c.self.invariant c.self.view_is label c.args.entity c.index_mut.result.now c.set_place.new.self
+    (placed c.args.place) (λ k n. refl) c.requires.alive c.index_mut.ensures.value (c.set_place.ensures (label c.args.entity.index))).0
 
 pub returns : goal.returns
 returns c =
-    (slot_changed _ _ _ c.args.self.now c.args.entity c.index_mut.result.now c.set_place.new.self _ c.self.invariant c.self.view_is c.requires c.index_mut.ensures.value c.set_place.ensures).1
+    let label = label_of c.self.inside.labels in
+    (slot_changed c.self.inside c.args.self.now c.self.invariant c.self.view_is label c.args.entity c.index_mut.result.now c.set_place.new.self
+    (placed c.args.place) (λ k n. refl) c.requires.alive c.index_mut.ensures.value (c.set_place.ensures (label c.args.entity.index))).1
+
+pub index_mut-requires : goal.index_mut-requires
+index_mut-requires c =
+    let slots = c.self.inside.slots.items in
+    let e = c.args.entity in
+    let within : e.index < length slots = alive_within c.self.inside c.args.self.now c.self.invariant c.self.view_is e c.requires.alive in
+    omega arith

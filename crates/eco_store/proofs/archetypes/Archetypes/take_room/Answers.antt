@@ -19,7 +19,8 @@ loop-transfer-preserved c =
       room =
           subst (HasRoom s') (sym (take_more c.args.transfers.now c.loop-transfer.transfer-index none c.loop-transfer-test.true))
           (room_more c.loop-transfer.self s'
-          (take c.loop-transfer.transfer-index c.args.transfers.now) t _ c.loop-transfer.invariant.room c.reserve_more.ensures.rows c.reserve_more.ensures.sets more);
+          (take c.loop-transfer.transfer-index c.args.transfers.now) t _ c.loop-transfer.invariant.room c.reserve_more.ensures.rows
+          c.reserve_more.ensures.sets more);
       types = λ n. c.reserve_more.ensures.types n ∙ c.loop-transfer.invariant.types n;
       rowless = λ slots was. c.reserve_more.ensures.rowless slots (c.loop-transfer.invariant.rowless slots was);
       rows = λ n k. c.reserve_more.ensures.rows n k ∙ c.loop-transfer.invariant.rows n k;

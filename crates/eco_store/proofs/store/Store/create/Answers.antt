@@ -1,141 +1,129 @@
-use Rattle.std.proofs.Common.{[], Ok, ◌≡◌, refl, sym, ap, subst, ◌∙◌}
+use Rattle.std.proofs.Common.{Ok, Err, refl, sym, ap, subst, ◌∙◌}
 use Rattle.std.specs.Option.{option_copied}
 use Rattle.std.proofs.lemmas.Result.{err_from_is_err_and}
-use Rattle.eco_ids.specs.Births.{Makes, may_make}
-use Rattle.eco_ids.specs.Outcome.{Meets}
+use Rattle.eco_ids.specs.declared.refusal.Refusal.TheVariants.{NoMoreIds}
+use Rattle.eco_ids.specs.Births.{Makes}
 use Rattle.eco_entities.specs.Registration.{name_of, newcomer}
+use Rattle.eco_store.specs.Layout.{rows_in, PutsRow}
 use Rattle.eco_store.specs.Seats.{row_at}
-use Rattle.eco_store.specs.Store.{record_for, record_name, newborn, read}
-use Rattle.eco_store.proofs.ArchetypeLemmas.{then_rows}
-use Rattle.eco_store.proofs.Newborn.{opposed, unopposed, create_made, create_refused, create_done, refused}
-use Rattle.eco_store.proofs.StoreChanges.{same_read, same_store, typed_table}
+use Rattle.eco_store.specs.Store.{StoreState, record_for, record_name, newborn, read}
+use Rattle.eco_store.proofs.RowCounts.{end_fits}
 use Rattle.eco_store.proofs.BirthChanges as births
-use Rattle.eco_store.proofs.Forgetting.{still_seen}
-use Rattle.eco_store.proofs.StoreChanges.{same_store}
-use Rattle.eco_store.proofs.Rowless.{sound_unprepared}
+use Rattle.eco_store.proofs.LaidRows.{put_back}
+use Rattle.eco_store.proofs.Newborn.{unopposed, create_made, create_refused, create_done}
+use Rattle.eco_store.proofs.SeatChanges.{one_some}
+use Rattle.eco_store.proofs.StoreChanges.{same_read, same_store}
 use Rattle.eco_store.proofs.store.Store.create.Goals as goal
 
+-- nobody can be made next
 pub invariant_of-self : goal.invariant_of-self
-invariant_of-self c =
+invariant_of-self c = same_store _ _ _ c.forget.ensures.rows c.self.invariant
+
+pub returns-in_err-check_name-clause-step : goal.returns-in_err-check_name-clause-step
+returns-in_err-check_name-clause-step c =
     let w = c.self.inside.entities in
-    let s0 = c.forget.new.archetypes in
-    let s1 = c.room_for.new.self in
-    let store = same_store w c.self.inside.archetypes s0 c.forget.ensures.rows c.self.invariant.places in
-    sound_unprepared _ _ _
-    (same_store w s0 s1 c.room_for.ensures.rows store)
-    c.forget.ensures.nothing
-    (c.in-Err.ensures.rowless [] c.forget.ensures.tidy)
+    let s = c.self.inside.layout.tables in
+    let p = err_from_is_err_and c.from_residual.result c.from_residual.ensures.1 in
+    rw (p.1, p.2)
+    (births.still_opposed w s _ _ (option_copied c.args.name) c.args.arity c.args.type_list.now c.in_err-check_name.field-0.0
+    (ap (λ (x : StoreState). x.entities) c.self.view_is) (same_read w s _ c.forget.ensures.rows)
+    (births.name_opposes _ _ c.in_err-check_name.field-0.0 c.in_err-check_name.ensures))
+
+pub returns-in_default-clause-step : goal.returns-in_default-clause-step
+returns-in_default-clause-step c =
+    let w = c.self.inside.entities in
+    let s = c.self.inside.layout.tables in
+    births.still_opposed w s _ _ (option_copied c.args.name) c.args.arity c.args.type_list.now NoMoreIds
+    (ap (λ (x : StoreState). x.entities) c.self.view_is) (same_read w s _ c.forget.ensures.rows)
+    (births.end_opposes _ _ c.in_ok-check_name.ensures (sym c.in_default.ensures))
+
+-- no room is had
+pub invariant_of-self-in_err-check_new-in-Err : goal.invariant_of-self-in_err-check_new-in-Err
+invariant_of-self-in_err-check_new-in-Err c = same_store _ _ _ c.in-Err.ensures.err c.self.invariant
 
 pub returns-in_err-check_new-in-Err-clause-step : goal.returns-in_err-check_new-in-Err-clause-step
 returns-in_err-check_new-in-Err-clause-step c =
     let w = c.self.inside.entities in
-    let s0 = c.forget.new.archetypes in
-    let s1 = c.room_for.new.self in
-    let name = option_copied c.args.name in
-    let child = newborn name c.args.arity c.args.type_list.now in
-    let seen = still_seen w c.self.inside.archetypes s0 _ c.args.self.now c.forget.ensures.rows c.self.view_is in
-    let p = err_from_is_err_and c.from_residual.result c.from_residual.ensures.1 in
-    let same : read w s1 ≡ read w s0 =
-    same_read w s0 s1 c.room_for.ensures.rows in
+    let s = c.self.inside.layout.tables in
+    let p = err_from_is_err_and c.from_residual-in_err-check_new-in-Err.result c.from_residual-in_err-check_new-in-Err.ensures.1 in
     rw (p.1, p.2)
-    (subst (λ v. Meets (Makes record_name v child) (may_make record_name v name) v (refused c.in_err-check_new-in-Err.field-0.0) (read w s1)) seen
-    (subst (λ v. Meets (Makes record_name (read w s0) child) (may_make record_name (read w s0) name) (read w s0)
-    (refused c.in_err-check_new-in-Err.field-0.0) v) (sym same)
-    (opposed (record_for (row_at s0)) name_of record_name (λ a. refl) w child name refl c.in_err-check_new-in-Err.field-0.0 c.in_err-check_new-in-Err.ensures)))
+    (births.still_opposed w s _ _ (option_copied c.args.name) c.args.arity c.args.type_list.now c.in_err-check_new-in-Err.field-0.0
+    (ap (λ (x : StoreState). x.entities) c.self.view_is) (same_read w s _ c.in-Err.ensures.err) c.in_err-check_new-in-Err.ensures)
 
 pub returns-in-Err-clause-step : goal.returns-in-Err-clause-step
 returns-in-Err-clause-step c =
     let w = c.self.inside.entities in
-    let s0 = c.forget.new.archetypes in
-    let s1 = c.room_for.new.self in
+    let s = c.self.inside.layout.tables in
     let name = option_copied c.args.name in
     let child = newborn name c.args.arity c.args.type_list.now in
-    let seen = still_seen w c.self.inside.archetypes s0 _ c.args.self.now c.forget.ensures.rows c.self.view_is in
-    rw (← seen, c.from.ensures) (
-      unopposed (record_for (row_at s0)) name_of record_name (λ a. refl) w child name refl c.in_ok-check_new-in-Err.ensures,
-      same_read w s0 s1 c.room_for.ensures.rows,
+    rw (← c.self.view_is, c.from.ensures) (
+      unopposed (record_for (row_at s)) name_of record_name (λ a. refl) w child name refl c.in_ok-check_new-in-Err.ensures,
+      same_read w s _ c.in-Err.ensures.err,
     )
 
-pub settle-requires-clause-living : goal.settle-requires-clause-living
-settle-requires-clause-living c =
+-- the entity is made
+pub set_place-requires-clause-alive : goal.set_place-requires-clause-alive
+set_place-requires-clause-alive c =
     let w = c.self.inside.entities in
-    let s0 = c.forget.new.archetypes in
     let name = option_copied c.args.name in
-    let fresh = newcomer name c.args.arity in
-    let child = newborn name c.args.arity c.args.type_list.now in
-    let made = create_made (record_for (row_at s0)) name_of record_name
-    (λ a. refl) w fresh child refl c.create.new.self c.in-Ok-create.entity c.in-Ok-create.ensures in
-    births.created_alive w c.create.new.self c.in-Ok-create.entity name c.args.arity made.0 made.1
+    let made =
+    create_made (record_for (row_at c.self.inside.layout.tables)) name_of record_name (λ a. refl) w (newcomer name c.args.arity)
+    (newborn name c.args.arity c.args.type_list.now) refl _ c.in-Ok-create.created c.in-Ok-create.ensures in
+    births.created_alive w _ c.in-Ok-create.created name c.args.arity made.0 made.1
 
 pub invariant_of-self-in-Ok-create : goal.invariant_of-self-in-Ok-create
 invariant_of-self-in-Ok-create c =
     let w = c.self.inside.entities in
-    let s0 = c.forget.new.archetypes in
-    let s1 = c.room_for.new.self in
+    let s = c.self.inside.layout.tables in
+    let s1 = c.push_row.new.self.tables in
     let name = option_copied c.args.name in
-    let fresh = newcomer name c.args.arity in
-    let child = newborn name c.args.arity c.args.type_list.now in
-    let store = same_store w c.self.inside.archetypes s0 c.forget.ensures.rows c.self.invariant.places in
-    let made = create_made (record_for (row_at s0)) name_of record_name
-    (λ a. refl) w fresh child refl c.create.new.self c.in-Ok-create.entity c.in-Ok-create.ensures in
-    sound_unprepared _ _ _
-    (rw c.settle.ensures.places
-    (births.created_store w c.create.new.self s0 s1 c.settle.new.archetypes c.in-Ok-create.entity c.in-Ok.slot c.args.type_list.now name c.args.arity store c.room_for.ensures.rows
-    (typed_table s1 c.in-Ok.slot c.args.type_list.now c.in-Ok.ensures.typed) made.0 made.1 c.settle.ensures.rows))
-    c.forget.ensures.nothing
-    (c.settle.ensures.rowless [] (c.in-Ok.ensures.rowless [] c.forget.ensures.tidy))
+    let made =
+    create_made (record_for (row_at s)) name_of record_name (λ a. refl) w (newcomer name c.args.arity)
+    (newborn name c.args.arity c.args.type_list.now) refl _ c.in-Ok-create.created c.in-Ok-create.ensures in
+    let puts =
+    subst (λ e. PutsRow (rows_in s) (rows_in s1) c.in-Ok.place e c.args.type_list.now) (one_some _ _ _ (sym c.in-Some.ensures) made.0) c.in-Ok.ensures.put in
+    rw c.set_place.ensures (births.created_store w _ s s1 _ c.in-Ok.place _ name c.args.arity c.self.invariant puts made.0 made.1)
 
 pub returns-in-Ok-create-clause-step : goal.returns-in-Ok-create-clause-step
 returns-in-Ok-create-clause-step c =
     let w = c.self.inside.entities in
-    let s0 = c.forget.new.archetypes in
-    let s1 = c.room_for.new.self in
+    let s = c.self.inside.layout.tables in
+    let s1 = c.push_row.new.self.tables in
     let name = option_copied c.args.name in
     let fresh = newcomer name c.args.arity in
     let child = newborn name c.args.arity c.args.type_list.now in
-    let store = same_store w c.self.inside.archetypes s0 c.forget.ensures.rows c.self.invariant.places in
-    let seen = still_seen w c.self.inside.archetypes s0 _ c.args.self.now c.forget.ensures.rows c.self.view_is in
-    let made = create_made (record_for (row_at s0)) name_of record_name
-    (λ a. refl) w fresh child refl c.create.new.self c.in-Ok-create.entity c.in-Ok-create.ensures in
-    subst (λ v. Makes record_name v child (Ok c.in-Ok-create.entity) (read c.settle.new.entities c.settle.new.archetypes)) seen
-    (create_done (record_for (row_at s0)) name_of record_name (λ a. refl) w fresh child refl c.create.new.self _ c.in-Ok-create.entity c.in-Ok-create.ensures
-    (ap (λ v. read v c.settle.new.archetypes) c.settle.ensures.places
-    ∙ births.created_read w c.create.new.self s0 s1 c.settle.new.archetypes c.in-Ok-create.entity c.in-Ok.slot c.args.type_list.now name c.args.arity store c.room_for.ensures.rows
-    (typed_table s1 c.in-Ok.slot c.args.type_list.now c.in-Ok.ensures.typed) made.0 made.1 c.settle.ensures.rows))
+    let made =
+    create_made (record_for (row_at s)) name_of record_name (λ a. refl) w fresh child refl _ c.in-Ok-create.created c.in-Ok-create.ensures in
+    let puts =
+    subst (λ e. PutsRow (rows_in s) (rows_in s1) c.in-Ok.place e c.args.type_list.now) (one_some _ _ _ (sym c.in-Some.ensures) made.0) c.in-Ok.ensures.put in
+    subst (λ v. Makes record_name v child (Ok c.in-Ok-create.created) (read c.set_place.new.self s1)) (ap (λ (x : StoreState). x.entities) c.self.view_is)
+    (create_done (record_for (row_at s)) name_of record_name (λ a. refl) w fresh child refl c.create.new.self _ c.in-Ok-create.created c.in-Ok-create.ensures
+    (ap (λ v. read v s1) c.set_place.ensures
+    ∙ births.created_read w _ s s1 _ c.in-Ok.place _ name c.args.arity c.self.invariant puts made.0 made.1))
 
+-- the entity is refused, and its row taken out again
 pub invariant_of-self-in-Err-create : goal.invariant_of-self-in-Err-create
 invariant_of-self-in-Err-create c =
     let w = c.self.inside.entities in
-    let s0 = c.forget.new.archetypes in
-    let s1 = c.room_for.new.self in
+    let s = c.self.inside.layout.tables in
     let name = option_copied c.args.name in
-    let fresh = newcomer name c.args.arity in
-    let child = newborn name c.args.arity c.args.type_list.now in
-    let store = same_store w c.self.inside.archetypes s0 c.forget.ensures.rows c.self.invariant.places in
-    let unmade = create_refused (record_for (row_at s0)) name_of record_name
-    (λ a. refl) w fresh child refl c.create.new.self c.in-Err-create.refused c.in-Err-create.ensures in
-    sound_unprepared _ _ _
-    (rw unmade.0
-    (same_store w s0 c.drop_empty.new.self (then_rows s0 s1 c.drop_empty.new.self c.room_for.ensures.rows c.drop_empty.ensures.rows) store))
-    c.forget.ensures.nothing
-    (c.drop_empty.ensures.rowless [] (c.in-Ok.ensures.rowless [] c.forget.ensures.tidy))
+    let unmade =
+    create_refused (record_for (row_at s)) name_of record_name (λ a. refl) w (newcomer name c.args.arity)
+    (newborn name c.args.arity c.args.type_list.now) refl _ c.in-Err-create.refused c.in-Err-create.ensures in
+    rw unmade.0 (same_store w s _ (put_back s _ _ c.in-Ok.place _ _ _ c.in-Ok.ensures.put c.take_row.ensures.rows) c.self.invariant)
 
 pub returns-in-Err-create-clause-step : goal.returns-in-Err-create-clause-step
 returns-in-Err-create-clause-step c =
     let w = c.self.inside.entities in
-    let s0 = c.forget.new.archetypes in
-    let s1 = c.room_for.new.self in
+    let s = c.self.inside.layout.tables in
+    let s2 = c.take_row.new.self.tables in
     let name = option_copied c.args.name in
-    let fresh = newcomer name c.args.arity in
-    let child = newborn name c.args.arity c.args.type_list.now in
-    let seen = still_seen w c.self.inside.archetypes s0 _ c.args.self.now c.forget.ensures.rows c.self.view_is in
-    let unmade = create_refused (record_for (row_at s0)) name_of record_name
-    (λ a. refl) w fresh child refl c.create.new.self c.in-Err-create.refused c.in-Err-create.ensures in
-    let r = unmade in
-    let same : read c.create.new.self c.drop_empty.new.self ≡ read w s0 =
-    ap (λ v. read v c.drop_empty.new.self) r.0 ∙ same_read w s0 c.drop_empty.new.self
-    (then_rows s0 s1 c.drop_empty.new.self c.room_for.ensures.rows c.drop_empty.ensures.rows) in
-    subst (λ v. Meets (Makes record_name v child) (may_make record_name v name) v (refused c.in-Err-create.refused)
-    (read c.create.new.self c.drop_empty.new.self)) seen
-    (subst (λ v. Meets (Makes record_name (read w s0) child) (may_make record_name (read w s0) name) (read w s0) (refused c.in-Err-create.refused) v)
-    (sym same) r.1)
+    let unmade =
+    create_refused (record_for (row_at s)) name_of record_name (λ a. refl) w (newcomer name c.args.arity)
+    (newborn name c.args.arity c.args.type_list.now) refl _ c.in-Err-create.refused c.in-Err-create.ensures in
+    births.still_refused (read w s) _ _ name c.args.arity c.args.type_list.now (Err c.in-Err-create.refused) (ap (λ (x : StoreState). x.entities) c.self.view_is)
+    (ap (λ v. read v s2) unmade.0 ∙ same_read w s s2 (put_back s _ s2 c.in-Ok.place _ _ _ c.in-Ok.ensures.put c.take_row.ensures.rows)) unmade.1
+
+pub set_place-requires-clause-fits : goal.set_place-requires-clause-fits
+set_place-requires-clause-fits c =
+    end_fits c.self.inside.entities _ c.in-Ok.place.table _ c.rules.ensures c.self.invariant c.in-Ok.ensures.put.end

@@ -2,12 +2,13 @@ use Rattle.std.proofs.Common.{sym, ◌∙◌}
 use Rattle.std.specs.List.{list_any}
 use Rattle.eco_ids.specs.Matching.{pattern_matches}
 use Rattle.eco_tables.specs.Tables.{slot_of}
-use Rattle.eco_store.proofs.Holders.{found_matches, standing_apart, standing_whose, whose_ascend}
+use Rattle.eco_store.proofs.Holders.{found_matches, some_listed, standing_apart, standing_whose, whose_ascend}
+use Rattle.eco_store.proofs.Keys.{on_err}
 use Rattle.eco_store.proofs.Sorting.{both_ok, sorted_is}
 use Rattle.eco_store.proofs.store.Store.entities_with.Goals as goal
 
-pub returns : goal.returns
-returns c =
+pub returns-clause-all : goal.returns-clause-all
+returns-clause-all c =
     let found = c.in_ok-found.found in
     let test = list_any (pattern_matches c.args.pattern) in
     let shown = c.in_ok-found.ensures.shown in
@@ -20,3 +21,11 @@ returns c =
     (standing_whose c.args.self.now.entities found.tables.now test shown found.slots.items
     (λ n h. found_matches test (slot_of found.tables.now n) (sym (listed n) ∙ h)) (λ n h. listed n ∙ h)))
     c.entities_in.result (rw c.deref.ensures.value at c.entities_in.ensures.all) c.entities_in.ensures.sorted
+
+pub returns-clause-some : goal.returns-clause-some
+returns-clause-some c =
+    let found = c.in_ok-found.found in
+    on_err c.entities_in.result
+    (some_listed c.args.self.now.entities found.tables.now (list_any (pattern_matches c.args.pattern)) c.in_ok-found.ensures.shown found.slots.items
+    c.in_ok-found.ensures.listed)
+    (rw c.deref.ensures.value at c.entities_in.ensures.some)

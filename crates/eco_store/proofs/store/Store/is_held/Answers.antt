@@ -7,6 +7,6 @@ use Rattle.eco_store.proofs.store.Store.is_held.Goals as goal
 pub returns : goal.returns
 returns c =
     rw (← c.self.view_is)
-    (held_is _ c.self.inside.archetypes (list_any (pattern_matches c.args.pattern))
-    (shows c.self.inside.entities c.self.inside.archetypes c.self.invariant.places
-    (rw c.tables.ensures.same at c.rows_have_ids.ensures)) c.is_held.result c.is_held.ensures)
+    (held_is _ c.self.inside.layout.tables (list_any (pattern_matches c.args.pattern))
+    (shows c.self.inside.entities c.self.inside.layout.tables c.self.invariant
+    (rw c.tables.ensures.same at c.rows_have_ids.ensures)) c.is_held.result (rw c.archetypes.ensures at c.is_held.ensures))

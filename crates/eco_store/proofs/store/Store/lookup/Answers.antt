@@ -2,11 +2,11 @@ use Rattle.std.proofs.Common.{refl, sym, ◌∙◌}
 use Rattle.eco_entities.specs.Registration.{name_of}
 use Rattle.eco_store.specs.Seats.{row_at}
 use Rattle.eco_store.specs.Store.{record_for, record_name}
-use Rattle.eco_store.proofs.Newborn.{bearer-map}
+use Rattle.eco_store.proofs.Newborn.{named_entity-map}
 use Rattle.eco_store.proofs.store.Store.lookup.Goals as goal
 
 pub returns : goal.returns
 returns c =
     rw (← c.self.view_is)
-    (c.lookup.ensures.bearer
-    ∙ sym (bearer-map (record_for (row_at c.self.inside.archetypes)) name_of record_name (λ a. refl) c.self.inside.entities c.args.name.now))
+    (c.lookup.ensures.named_entity
+    ∙ sym (named_entity-map (record_for (row_at c.self.inside.layout.tables)) name_of record_name (λ a. refl) c.self.inside.entities c.args.name.now))

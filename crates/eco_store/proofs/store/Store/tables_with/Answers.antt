@@ -1,6 +1,20 @@
+use Rattle.std.specs.List.{list_any}
+use Rattle.eco_ids.specs.Matching.{pattern_matches}
+use Rattle.eco_store.specs.Store.{read}
+use Rattle.eco_store.proofs.Holders.{some_held}
+use Rattle.eco_store.proofs.Keys.{err_says}
 use Rattle.eco_store.proofs.Values.{shows}
 use Rattle.eco_store.proofs.store.Store.tables_with.Goals as goal
 
 pub returns-clause-shown : goal.returns-clause-shown
 returns-clause-shown c = rw (← c.self.view_is, c.tables-tables.ensures.same)
-    (shows c.self.inside.entities c.self.inside.archetypes c.self.invariant.places (rw c.tables-tables.ensures.same at c.rows_have_ids.ensures))
+    (shows c.self.inside.entities c.self.inside.layout.tables c.self.invariant (rw c.tables-tables.ensures.same at c.rows_have_ids.ensures))
+
+pub returns-in_err-slots-clause-some : goal.returns-in_err-slots-clause-some
+returns-in_err-slots-clause-some c =
+    let s = c.self.inside.layout.tables in
+    rw (← c.self.view_is)
+    (err_says c.from_residual.result
+    (some_held (read c.self.inside.entities s) s (list_any (pattern_matches c.args.pattern))
+    (shows c.self.inside.entities s c.self.invariant (rw c.tables-tables.ensures.same at c.rows_have_ids.ensures))
+    (rw c.archetypes.ensures at c.in_err-slots.ensures.some)))

@@ -10,27 +10,27 @@ use Rattle.eco_store.proofs.store.Store.types_with.Goals as goal
 
 pub returns-clause-listed : goal.returns-clause-listed
 returns-clause-listed c =
-    let s = c.self.inside.archetypes in
+    let s = c.self.inside.layout.tables in
     let w = read c.self.inside.entities s in
     let slots = c.in_ok-slots.slots.items in
-    let shown = shows c.self.inside.entities s c.self.invariant.places (rw c.tables-tables.ensures.same at c.rows_have_ids.ensures) in
+    let shown = shows c.self.inside.entities s c.self.invariant (rw c.tables-tables.ensures.same at c.rows_have_ids.ensures) in
     rw (← c.self.view_is)
     (IfOk-weaker c.types_in.result _ _
     (λ types is ids.
     subst (λ xs. Contains xs ids ↔ IsTypeWith w c.args.pattern ids)
     (sym (is ∙ (λ t. map (λ slot. (table_in (c.tables-tables.ensures.same t) slot).ids) (c.deref.ensures.value t))))
-    (types_listed w s c.args.pattern slots shown c.in_ok-slots.ensures.listed ids))
+    (types_listed w s c.args.pattern slots shown (rw c.archetypes.ensures at c.in_ok-slots.ensures.all.listed) ids))
     c.types_in.ensures)
 
 pub returns-clause-distinct : goal.returns-clause-distinct
 returns-clause-distinct c =
-    let s = c.self.inside.archetypes in
+    let s = c.self.inside.layout.tables in
     let w = read c.self.inside.entities s in
     let slots = c.in_ok-slots.slots.items in
-    let shown = shows c.self.inside.entities s c.self.invariant.places (rw c.tables-tables.ensures.same at c.rows_have_ids.ensures) in
+    let shown = shows c.self.inside.entities s c.self.invariant (rw c.tables-tables.ensures.same at c.rows_have_ids.ensures) in
     IfOk-weaker c.types_in.result _ _
     (λ types is.
     subst (AllPairs (λ one other. one ≢ other))
     (sym (is ∙ (λ t. map (λ slot. (table_in (c.tables-tables.ensures.same t) slot).ids) (c.deref.ensures.value t))))
-    (types_apart w s c.args.pattern slots shown c.in_ok-slots.ensures.listed c.tables-tables.ensures.kinds c.in_ok-slots.ensures.distinct))
+    (types_apart w s c.args.pattern slots shown (rw c.archetypes.ensures at c.in_ok-slots.ensures.all.listed) c.tables-tables.ensures.kinds c.in_ok-slots.ensures.all.distinct))
     c.types_in.ensures

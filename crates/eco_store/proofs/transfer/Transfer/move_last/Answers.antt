@@ -3,11 +3,12 @@ use Rattle.std.specs.Option.{option_copied}
 use Rattle.eco_ids.specs.declared.entity.Entity.{Entity}
 use Rattle.eco_tables.specs.Table.{TableState, entities_of}
 use Rattle.eco_tables.specs.Tables.{slot_of, table_in, no_table}
+use Rattle.eco_store.proofs.RowCounts.{end_fits}
 use Rattle.eco_store.proofs.LastMoves.{last_alive, last_store, last_ends}
 use Rattle.eco_store.proofs.transfer.Transfer.move_last.Goals as goal
 
-pub set_place-requires : goal.set_place-requires
-set_place-requires c =
+pub set_place-requires-clause-alive : goal.set_place-requires-clause-alive
+set_place-requires-clause-alive c =
     let s = c.args.archetypes.now in
     let es = c.rows-entities_there.result.now in
     let d : Entity = record { index = 0; generation = 0 } in
@@ -51,3 +52,8 @@ returns-clause-ends c =
     c.requires.store c.requires.apart c.requires.row c.requires.room there refl refl
     (c.row_count-end.ensures ∙ ap (λ x. length (table_in x c.args.self.to).rows) c.tables-tables.ensures.same)
     c.move_row.ensures.moves (rw c.tables-tables.ensures.same at c.rows_have_ids.ensures) c.tables-tables.ensures.kinds)
+
+pub set_place-requires-clause-fits : goal.set_place-requires-clause-fits
+set_place-requires-clause-fits c =
+    end_fits c.args.entities.now c.args.archetypes.now c.args.self.to _ c.rules.ensures c.requires.store
+    (c.row_count-end.ensures ∙ ap (λ x. length (table_in x c.args.self.to).rows) c.tables-tables.ensures.same)

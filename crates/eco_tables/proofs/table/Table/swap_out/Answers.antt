@@ -1,9 +1,9 @@
-use Rattle.std.proofs.Common.{◌≡◌, ◌++◌, ◌+◌, ap, ◌∙◌, length, take, drop}
+use Rattle.std.proofs.Common.{◌≡◌, ◌++◌, ◌+◌, ap, sym, ◌∙◌, refl, length, map, take, drop}
 use Rattle.std.specs.List.{swap_remove, slice_get}
-use Rattle.eco_tables.specs.Column.{with_removed}
-use Rattle.eco_tables.specs.Table.{rows_from}
+use Rattle.eco_tables.specs.Column.{kind_of, with_removed}
+use Rattle.eco_tables.specs.Table.{rows_of, width_among}
 use Rattle.eco_tables.specs.Tables.{no_row}
-use Rattle.eco_tables.proofs.Rows.{swapped_rows, rewritten, row_within, row_in_columns, shape_removed, entities_of-rows}
+use Rattle.eco_tables.proofs.Rows.{entities_of_all, kinds_same, removed_rows, rewritten, row_in_columns, row_within, shape_removed}
 use Rattle.eco_tables.proofs.table.Table.swap_out.Goals as goal
 
 pub swap_remove-requires : goal.swap_remove-requires
@@ -24,14 +24,18 @@ invariant_of-self c =
 
 pub returns-clause-rows : goal.returns-clause-rows
 returns-clause-rows c =
-    let columns = rewritten (λ x. with_removed x c.args.row) c.self.inside.columns.len c.swap_out_row.new.columns c.as_mut_slice.result.now
-    c.self.inside.columns.items c.swap_out_row.ensures c.as_mut_slice.ensures.value c.self.inside.columns.ok.0 in
+    let own = c.self.inside in
+    let columns = rewritten (λ x. with_removed x c.args.row) own.columns.len c.swap_out_row.new.columns c.as_mut_slice.result.now
+    own.columns.items c.swap_out_row.ensures c.as_mut_slice.ensures.value own.columns.ok.0 in
     let there = row_within _ _ _ _ _ c.self.invariant c.args.row (rw (← c.self.view_is) at c.requires) in
-    let rows : rows_from (take c.self.inside.columns.len (c.swap_out_row.new.columns ++ drop (length c.swap_out_row.new.columns) c.self.inside.columns.items)) 0
-    c.swap_remove.new.self.items ≡ swap_remove (rows_from c.self.inside.columns.items 0 c.self.inside.entities.items) c.args.row no_row =
-    (λ t. rows_from (columns t) 0 (c.swap_remove.ensures.items t))
-    ∙ swapped_rows c.self.inside.columns.items c.self.inside.entities.items c.args.row c.swap_remove.result no_row c.self.invariant.even there in
-    rw (← c.self.view_is) (λ t. record { ids = c.self.inside.type_list.value; rows = rows t; room = c.self.inside.room + 1 })
+    let rows : rows_of own.type_list (take own.columns.len (c.swap_out_row.new.columns ++ drop (length c.swap_out_row.new.columns) own.columns.items))
+    c.swap_remove.new.self.items ≡ swap_remove (rows_of own.type_list own.columns.items own.entities.items) c.args.row no_row =
+    (λ t. rows_of own.type_list (columns t) (c.swap_remove.ensures.items t))
+    ∙ removed_rows own.type_list own.columns.items own.entities.items c.args.row c.swap_remove.result no_row c.self.invariant.even there in
+    let kinds = ap (map kind_of) columns ∙ kinds_same (λ x. with_removed x c.args.row) (λ x. refl) own.columns.items in
+    rw (← c.self.view_is) (λ t. record { ids = own.type_list; widths = map (width_among (kinds t)) own.type_list; rows = rows t; room = own.room + 1 })
 
 pub returns-clause-moved : goal.returns-clause-moved
-returns-clause-moved c = rw entities_of-rows (c.entity_at.ensures ∙ ap (λ xs. slice_get xs c.args.row) c.as_slice.ensures.value)
+returns-clause-moved c =
+    c.entity_at.ensures
+    ∙ ap (λ xs. slice_get xs c.args.row) (c.as_slice.ensures.value ∙ sym (entities_of_all c.self.inside.type_list _ c.swap_remove.new.self.items))

@@ -1,13 +1,15 @@
-use Rattle.std.proofs.Common.{sym, subst, ◌<◌, length, unwrap_or}
+use Rattle.std.proofs.Common.{◌<◌, length, sym, subst, unwrap_or}
 use Rattle.eco_tables.specs.Table.{RowsHaveIds}
 use Rattle.eco_tables.specs.Tables.{no_table}
-use Rattle.eco_tables.proofs.RowIds.{still_have, removed_has}
+use Rattle.eco_tables.proofs.RowIds.{removed_has}
+use Rattle.eco_tables.proofs.Slots.{at_slot, row_within, still}
 use Rattle.eco_tables.proofs.tables.Tables.swap_out.Goals as goal
 
 pub invariant_of-self : goal.invariant_of-self
 invariant_of-self c =
-    let table = c.index_mut-table.result.now in
-    let within : c.args.row < length table.rows =
-    subst (λ o. c.args.row < length (unwrap_or o no_table).rows) c.index_mut-table.ensures.value (rw (← c.self.view_is) at c.requires) in
-    still_have c.self.inside.slots c.args.slot table c.swap_out.new.self c.index_mut-table.ensures.value
-    (λ has. subst RowsHaveIds (sym (c.swap_out.ensures.rows)) (removed_has table c.args.row within has)) c.self.invariant
+    let asked = rw (← c.self.view_is) at c.requires in
+    let within = row_within c.self.inside.slots.items c.args.slot c.args.row asked in
+    let there = at_slot c.self.inside.slots.items c.args.slot c.index_mut.result.now c.in-Some.table c.index_mut.ensures.value within c.in-Some.is in
+    let row : c.args.row < length c.in-Some.table.rows = subst (λ o. c.args.row < length (unwrap_or o no_table).rows) there asked in
+    still _ _ _ c.self.invariant c.args.slot c.in-Some.table c.swap_out.new.self there
+    (λ has. subst RowsHaveIds (sym c.swap_out.ensures.rows) (removed_has c.in-Some.table c.args.row row has))

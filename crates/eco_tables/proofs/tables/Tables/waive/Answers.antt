@@ -1,9 +1,10 @@
 use Rattle.std.proofs.Common.{sym, subst}
 use Rattle.eco_tables.specs.Table.{RowsHaveIds}
-use Rattle.eco_tables.proofs.RowIds.{still_have}
+use Rattle.eco_tables.proofs.Slots.{at_slot, some_within, still}
 use Rattle.eco_tables.proofs.tables.Tables.waive.Goals as goal
 
 pub invariant_of-self : goal.invariant_of-self
 invariant_of-self c =
-    still_have c.self.inside.slots c.args.slot _ c.waive.new.self c.index_mut-table.ensures.value
-    (λ has. subst RowsHaveIds (sym c.waive.ensures) has) c.self.invariant
+    let within = some_within c.self.inside.slots.items c.args.slot (rw (← c.self.view_is) at c.requires) in
+    let there = at_slot c.self.inside.slots.items c.args.slot c.index_mut.result.now c.in-Some.table c.index_mut.ensures.value within c.in-Some.is in
+    still _ _ _ c.self.invariant c.args.slot c.in-Some.table c.waive.new.self there (λ has. subst RowsHaveIds (sym c.waive.ensures) has)

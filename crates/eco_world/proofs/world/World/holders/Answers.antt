@@ -10,4 +10,4 @@ returns c =
     rw (← c.self.view_is)
     (IfOk-weaker c.entities_with.result _ _
     (λ v is. is ∙ ap (entities_with c.self.inside.store.entities) c.exactly.ensures
-    ∙ found_holders (world_of c.self.inside.store.entities) c.args.id) c.entities_with.ensures)
+    ∙ found_holders (world_of c.self.inside.store.entities) c.args.id) c.entities_with.ensures.all)

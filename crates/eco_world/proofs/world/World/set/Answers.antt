@@ -1,8 +1,8 @@
-use Rattle.std.proofs.Common.{◌≡◌, true, sym, ◌∙◌, Ok, Err, MatchBool, subst}
+use Rattle.std.proofs.Common.{◌≡◌, sym, ◌∙◌, Ok, Err, MatchBool, subst}
 use Rattle.std.proofs.lemmas.Result.{err_from_is_err_and}
 use Rattle.eco_ids.specs.Outcome.{Meets}
-use Rattle.eco_ids.specs.Step.{Extends, Sets, changed, unchanged, with_value}
-use Rattle.eco_world.proofs.Extending.{lawful_there, there_after, alive_after, lawful_after, refused_after, sets_after}
+use Rattle.eco_ids.specs.Step.{Adds, Sets, changed, may_add, with_value}
+use Rattle.eco_world.proofs.Extending.{extended, lawful_there, there_after, alive_after, lawful_after, refused_after, sets_after}
 use Rattle.eco_world.proofs.world.World.set.Goals as goal
 
 pub write-requires-clause-lawful : goal.write-requires-clause-lawful
@@ -17,26 +17,30 @@ returns-in_err-extend c =
     (refused_after c.args.self.now c.args.entity c.args.id c.args.value c.in_ok-check_set.ensures.ok c.is_lawful.ensures
     (c.steps_keep_lawful.ensures.set c.args.entity c.args.id c.args.value)
     (sym c.if-write.ensures.had) c.in_err-extend.field-0.0 c.extend.new.self
-    (subst (λ w. Meets (Extends w c.args.entity c.args.id unchanged) true w
-    (Err c.in_err-extend.field-0.0) c.extend.new.self) c.if-write.ensures.written c.in_err-extend.ensures))
+    (extended c.args.self.now c.args.entity c.args.id c.args.value c.in_ok-check_set.ensures.ok (sym c.if-write.ensures.had) (Err c.in_err-extend.field-0.0) c.extend.new.self
+    (subst (λ w. Meets (Adds w c.args.entity c.args.id) (may_add w c.args.entity c.args.id) w
+    (Err c.in_err-extend.field-0.0) c.extend.new.self) c.if-write.ensures.written c.in_err-extend.ensures)))
 
 pub write-requires-2-clause-alive : goal.write-requires-2-clause-alive
 write-requires-2-clause-alive c =
-    let extends = subst (λ w. Extends w c.args.entity c.args.id unchanged (Ok tt) c.extend.new.self) c.if-write.ensures.written c.in_ok-extend.ensures in
+    let extends = extended c.args.self.now c.args.entity c.args.id c.args.value c.in_ok-check_set.ensures.ok (sym c.if-write.ensures.had) (Ok tt) c.extend.new.self
+    (subst (λ w. Adds w c.args.entity c.args.id (Ok tt) c.extend.new.self) c.if-write.ensures.written c.in_ok-extend.ensures) in
     alive_after c.args.self.now c.args.entity c.args.id c.args.value c.in_ok-check_set.ensures.ok c.is_lawful.ensures
     (c.steps_keep_lawful.ensures.set c.args.entity c.args.id c.args.value)
     (sym c.if-write.ensures.had) c.add_adds_once.ensures c.extend.new.self extends
 
 pub write-requires-2-clause-lawful : goal.write-requires-2-clause-lawful
 write-requires-2-clause-lawful c = λ there.
-    let extends = subst (λ w. Extends w c.args.entity c.args.id unchanged (Ok tt) c.extend.new.self) c.if-write.ensures.written c.in_ok-extend.ensures in
+    let extends = extended c.args.self.now c.args.entity c.args.id c.args.value c.in_ok-check_set.ensures.ok (sym c.if-write.ensures.had) (Ok tt) c.extend.new.self
+    (subst (λ w. Adds w c.args.entity c.args.id (Ok tt) c.extend.new.self) c.if-write.ensures.written c.in_ok-extend.ensures) in
     lawful_after c.args.self.now c.args.entity c.args.id c.args.value c.in_ok-check_set.ensures.ok c.is_lawful.ensures
     (c.steps_keep_lawful.ensures.set c.args.entity c.args.id c.args.value)
     (sym c.if-write.ensures.had) c.add_adds_once.ensures c.extend.new.self extends
 
 pub returns : goal.returns
 returns c =
-    let extends = subst (λ w. Extends w c.args.entity c.args.id unchanged (Ok tt) c.extend.new.self) c.if-write.ensures.written c.in_ok-extend.ensures in
+    let extends = extended c.args.self.now c.args.entity c.args.id c.args.value c.in_ok-check_set.ensures.ok (sym c.if-write.ensures.had) (Ok tt) c.extend.new.self
+    (subst (λ w. Adds w c.args.entity c.args.id (Ok tt) c.extend.new.self) c.if-write.ensures.written c.in_ok-extend.ensures) in
     let there = there_after c.args.self.now c.args.entity c.args.id c.args.value c.in_ok-check_set.ensures.ok c.is_lawful.ensures
     (c.steps_keep_lawful.ensures.set c.args.entity c.args.id c.args.value)
     (sym c.if-write.ensures.had) c.add_adds_once.ensures c.extend.new.self extends in

@@ -1,25 +1,25 @@
 use Rattle.std.proofs.Common.{◌≡◌, ◌++◌, ◌∙◌, sym, ap, subst, append-nil}
 use Rattle.std.specs.List.{IsDistinct}
+use Rattle.std.specs.Slice.Iter.{iter_rest}
 use Rattle.std.proofs.lemmas.List.Sorted.{IsPermutation-map}
-use Rattle.slab.specs.Slab.{entries_from}
 use Rattle.eco_world.specs.Worlds.{world_of}
 use Rattle.eco_world.specs.Layouts.{listed, listed_of}
-use Rattle.eco_world.proofs.Tabled.{all_covered, kinds_differ, with_rows}
+use Rattle.eco_world.proofs.Tabled.{all_covered, kinds_differ, none_left, with_rows}
 use Rattle.eco_world.proofs.Layouts.{covers_moved, layout_of, same_type, sorted_tables, Covers}
 use Rattle.eco_world.proofs.world.World.tables.Goals as goal
 
 pub returns : goal.returns
 returns c =
     let slots = c.tables.result.now in
-    let old = c.loop-table.tables.items in
+    let old = c.loop-slot.tables.items in
     let new = c.sort_by_type.new.tables.items in
-    let all : listed old ≡ with_rows (entries_from 0 slots) =
-    sym (append-nil (listed old)) ∙ ap (λ ps. listed old ++ with_rows ps) (sym c.in-None.ensures.steps.0) ∙ c.loop-table.invariant
-    ∙ ap with_rows (c.into_iter-table-iterator.ensures.into_iter_gives ∙ c.iter-table-items.ensures) in
+    let all : listed old ≡ with_rows slots =
+    sym (append-nil (listed old)) ∙ ap (λ ss. listed old ++ with_rows ss) (sym (none_left (iter_rest c.loop-slot.slot-iterator) c.in-None.ensures.steps.0))
+    ∙ c.loop-slot.invariant ∙ ap with_rows (ap iter_rest c.into_iter-slot-iterator.ensures.into_iter_gives ∙ c.iter-slot-items.ensures) in
     let w = world_of c.self.inside.store.entities in
     rw (← c.self.view_is)
     (layout_of w (listed new)
     (sorted_tables old new c.sort_by_type.ensures.same c.sort_by_type.ensures.ordered
-    (subst (IsDistinct same_type) (sym all) (kinds_differ 0 slots c.tables.ensures.kinds)))
+    (subst (IsDistinct same_type) (sym all) (kinds_differ slots c.tables.ensures.kinds)))
     (covers_moved w _ (listed old) (listed new) (IsPermutation-map listed_of old new c.sort_by_type.ensures.same)
     (subst (Covers w _) (sym all) (all_covered w slots c.tables.ensures.shown c.tables.ensures.kinds))))

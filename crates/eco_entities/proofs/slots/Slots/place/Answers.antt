@@ -1,0 +1,18 @@
+use Rattle.std.proofs.Common.{◌≡◌, sym, ap, ◌∙◌, option_and_then}
+use Rattle.eco_entities.specs.Slots.{place_in, living_slot}
+use Rattle.eco_entities.proofs.Shown.{place_shown}
+use Rattle.eco_entities.proofs.slots.Slots.place.Goals as goal
+
+pub returns-in_err-living : goal.returns-in_err-living
+returns-in_err-living c =
+    let slots = c.self.inside.slots.items in
+    let e = c.args.entity in
+    let is : c.living.result ≡ living_slot slots e = rw c.as_slice.ensures.value at c.living.ensures in
+    c.from_residual.ensures ∙ (ap (option_and_then place_in) (sym c.in_err-living.was ∙ is) ∙ place_shown c.self.inside c.args.self.now c.self.view_is e)
+
+pub returns : goal.returns
+returns c =
+    let slots = c.self.inside.slots.items in
+    let e = c.args.entity in
+    let is : c.living.result ≡ living_slot slots e = rw c.as_slice.ensures.value at c.living.ensures in
+    c.place.ensures ∙ (ap (option_and_then place_in) (sym c.in_ok-living.was ∙ is) ∙ place_shown c.self.inside c.args.self.now c.self.view_is e)

@@ -1,0 +1,48 @@
+use Rattle.std.proofs.Common.{◌≡◌, ap, ◌∙◌, Some, string_bytes, arith}
+use Rattle.eco_ids.specs.Indices.{Living}
+use Rattle.eco_entities.specs.Labels.{label_of}
+use Rattle.eco_entities.specs.Registration.{newcomer}
+use Rattle.eco_entities.specs.Slots.{states}
+use Rattle.eco_entities.proofs.Marks.{next_slot, next_unlabelled, slot_settled}
+use Rattle.eco_entities.proofs.slots.Slots.settle_named.Goals as goal
+
+pub put-requires : goal.put-requires
+put-requires c = next_slot c.self.inside c.args.self.now c.self.invariant c.self.view_is c.args.entity c.requires
+
+pub invariant_of-self-in-Ok : goal.invariant_of-self-in-Ok
+invariant_of-self-in-Ok c =
+    let e = c.args.entity in
+    let label' = label_of c.insert.new.self in
+    (slot_settled c.self.inside c.args.self.now c.self.invariant c.self.view_is e label' c.put.new.slots.items c.put.new.free c.newcomer-slot.result
+    (newcomer (Some (string_bytes c.args.name)) c.args.arity) c.in_ok-insert.ensures.ok.others c.requires (omega arith)
+    (c.newcomer-slot.ensures (label' e.index) ∙ ap (λ o. Living e.generation (newcomer o c.args.arity)) c.in_ok-insert.ensures.ok.here)
+    c.in-Ok.ensures.slots c.in-Ok.ensures.free).0
+
+pub returns-in-Ok-clause-ok : goal.returns-in-Ok-clause-ok
+returns-in-Ok-clause-ok c =
+    let e = c.args.entity in
+    let label' = label_of c.insert.new.self in
+    (slot_settled c.self.inside c.args.self.now c.self.invariant c.self.view_is e label' c.put.new.slots.items c.put.new.free c.newcomer-slot.result
+    (newcomer (Some (string_bytes c.args.name)) c.args.arity) c.in_ok-insert.ensures.ok.others c.requires (omega arith)
+    (c.newcomer-slot.ensures (label' e.index) ∙ ap (λ o. Living e.generation (newcomer o c.args.arity)) c.in_ok-insert.ensures.ok.here)
+    c.in-Ok.ensures.slots c.in-Ok.ensures.free).1
+
+pub invariant_of-self-in-Err : goal.invariant_of-self-in-Err
+invariant_of-self-in-Err c =
+    let label = label_of c.self.inside.labels in
+    let slots = c.self.inside.slots.items in
+    let e = c.args.entity in
+    let same : states (label_of c.remove.new.self) slots ≡ states label slots =
+    next_unlabelled c.self.inside c.args.self.now c.self.invariant c.self.view_is e (label_of c.remove.new.self) (λ k ne. c.remove.ensures.removed.others k ne ∙ c.in_ok-insert.ensures.ok.others k ne)
+    c.requires in
+    rw (c.in-Err.ensures.err_slots, c.in-Err.ensures.err_free, same) c.self.invariant
+
+pub returns-in-Err-clause-err : goal.returns-in-Err-clause-err
+returns-in-Err-clause-err c =
+    let label = label_of c.self.inside.labels in
+    let slots = c.self.inside.slots.items in
+    let e = c.args.entity in
+    let same : states (label_of c.remove.new.self) slots ≡ states label slots =
+    next_unlabelled c.self.inside c.args.self.now c.self.invariant c.self.view_is e (label_of c.remove.new.self) (λ k ne. c.remove.ensures.removed.others k ne ∙ c.in_ok-insert.ensures.ok.others k ne)
+    c.requires in
+    rw (c.in-Err.ensures.err_slots, same) c.self.view_is

@@ -1,9 +1,0 @@
-use Rattle.std.proofs.Common.{◌≡◌, ◌+◌, ◌-◌, ◌≤◌, ◌++◌, replicate, vec_len, vec_capacity}
-use Rattle.eco_entities.specs.declared.slot.Slot.TheVariants.{Free}
-use Rattle.eco_entities.proofs.slots.push_fresh.Given as goal
-
-abbrev pub invariant-loop : goal.invariant-loop
-invariant-loop l = record {
-  pushed : l.slots.items ≡ l.fn.slots.items ++ replicate l.counter (Free 0);
-  room : vec_len l.slots + (l.count - l.counter) ≤ vec_capacity l.slots;
-}

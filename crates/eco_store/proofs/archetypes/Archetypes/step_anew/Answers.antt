@@ -1,0 +1,36 @@
+use Rattle.std.proofs.Common.{Some, IsTrue, IsSome, sym, ap, ◌∙◌, subst}
+use Rattle.std.specs.Option.{option_copied}
+use Rattle.eco_ids.specs.Order.{id_cmp, is_ascending}
+use Rattle.eco_tables.specs.Tables.{slot_of, table_in}
+use Rattle.eco_store.specs.Archetypes.{type_at}
+use Rattle.eco_store.specs.Edges.{toggled}
+use Rattle.eco_store.proofs.Leads.{apart_by_type, stays_typed}
+use Rattle.eco_store.proofs.StoreChanges.{typed_table}
+use Rattle.eco_store.proofs.archetypes.Archetypes.step_anew.Goals as goal
+
+pub link-requires-clause-from : goal.link-requires-clause-from
+link-requires-clause-from c = subst (λ s. IsSome (slot_of s c.args.slot)) (sym c.find.ensures.same) c.requires
+
+pub link-requires-clause-ascending : goal.link-requires-clause-ascending
+link-requires-clause-ascending c =
+    let own = c.type_list.result.now in
+    let kept = stays_typed c.self.inside.tables c.args.self.now c.args.self.now c.args.slot c.unwrap.result.now own c.self.view_is
+    (sym c.get.ensures ∙ ap option_copied c.unwrap.ensures) c.type_list.ensures.ids (λ n ids h. h) in
+    let ids_are = ap (λ s. (table_in s c.args.slot).ids) c.find.ensures.same ∙ typed_table c.args.self.now c.args.slot own kept in
+    subst (λ ids. IsTrue (is_ascending id_cmp ids)) (sym ids_are) c.toggled.ensures.ascending
+
+pub link-requires-clause-to : goal.link-requires-clause-to
+link-requires-clause-to c =
+    let own = c.type_list.result.now in
+    let kept = stays_typed c.self.inside.tables c.args.self.now c.args.self.now c.args.slot c.unwrap.result.now own c.self.view_is
+    (sym c.get.ensures ∙ ap option_copied c.unwrap.ensures) c.type_list.ensures.ids (λ n ids h. h) in
+    let ids_are = ap (λ s. (table_in s c.args.slot).ids) c.find.ensures.same ∙ typed_table c.args.self.now c.args.slot own kept in
+    ap (λ s. type_at s c.in-Some.to) c.find.ensures.same ∙ c.in-Some.ensures.found
+    ∙ ap Some (c.in_ok-type_list.ensures.is ∙ ap (λ ids. toggled ids c.args.id) (sym ids_are))
+
+pub returns-clause-apart : goal.returns-clause-apart
+returns-clause-apart c =
+    let own = c.type_list.result.now in
+    let kept = stays_typed c.self.inside.tables c.args.self.now c.args.self.now c.args.slot c.unwrap.result.now own c.self.view_is
+    (sym c.get.ensures ∙ ap option_copied c.unwrap.ensures) c.type_list.ensures.ids (λ n ids h. h) in
+    apart_by_type c.args.self.now c.args.slot c.in-Some.to c.args.id own kept (c.in-Some.ensures.found ∙ ap Some c.in_ok-type_list.ensures.is)

@@ -1,0 +1,80 @@
+use Rattle.std.proofs.Common.{◌≡◌, ◌∷◌, ◌<◌, length, Some, IsTrue, refl, sym, ap, subst, ◌∙◌}
+use Rattle.eco_tables.specs.Tables.{table_in, no_row, AllHaveIds}
+use Rattle.eco_store.specs.Layout.{rows_in, IsMoved, MovesRow}
+use Rattle.eco_store.specs.Preparing.{moves_of, is_next}
+use Rattle.eco_store.proofs.ArchetypeLemmas.{there_by_row}
+use Rattle.eco_store.proofs.LaidRows.{rows_alike}
+use Rattle.eco_store.proofs.NextMoves.{next_type, next_left, rest_ready, rest_left, rest_ready_after}
+use Rattle.eco_store.proofs.layout.Layout.move_next.Goals.{then-place-to, else-place-to}
+use Rattle.eco_store.proofs.layout.Layout.move_next.Goals as goal
+
+pub release-requires-clause-ready : goal.release-requires-clause-ready
+release-requires-clause-ready c =
+    let s = c.self.inside.archetypes in
+    let p = c.self.inside.prepared in
+    let p' = c.take_next.new.self in
+    let a = c.unwrap-to.result in
+    let place = c.args.place in
+    let first_is : p.arrivals ≡ a ∷ p'.arrivals = rw c.unwrap-to.ensures at c.take_next.ensures.some in
+    rest_ready_after s p p' a first_is c.take_next.ensures.targets c.self.invariant.ready c.shift-moved.new.archetypes place.table place.row
+    c.shift-moved.ensures.moves (there_by_row s place.table place.row (rw (← c.self.view_is) at c.requires.row))
+
+pub finish-requires-clause-ready : goal.finish-requires-clause-ready
+finish-requires-clause-ready c =
+    let p = c.self.inside.prepared in
+    let p' = c.take_next.new.self in
+    let a = c.unwrap-to.result in
+    let first_is : p.arrivals ≡ a ∷ p'.arrivals = rw c.unwrap-to.ensures at c.take_next.ensures.some in
+    elim c.if-place-to.branch [
+      | then-place-to w ↦ rw w.self-inside-is w.release.ensures.ready
+      | else-place-to w ↦
+          rw w.self-inside-is (rest_ready c.self.inside.archetypes p p' a first_is c.take_next.ensures.targets c.self.invariant.ready)
+    ]
+
+pub returns-clause-moved : goal.returns-clause-moved
+returns-clause-moved c =
+    let s = c.self.inside.archetypes in
+    let p = c.self.inside.prepared in
+    let p' = c.take_next.new.self in
+    let a = c.unwrap-to.result in
+    let place = c.args.place in
+    let ids = c.args.type_list.now in
+    let first_is : p.arrivals ≡ a ∷ p'.arrivals = rw c.unwrap-to.ensures at c.take_next.ensures.some in
+    let next : IsTrue (is_next (moves_of s p) c.args.entity ids) = rw (← c.self.view_is) at c.requires.next in
+    let typed = next_type s p p' a c.args.entity ids first_is next in
+    let there : place.row < length (rows_in s place.table) = rw (← c.self.view_is) at c.requires.row in
+    let had = subst AllHaveIds c.tables.ensures.same c.rows_have_ids.ensures in
+    rw (← c.self.view_is)
+    (subst (λ R. IsMoved (rows_in s) R place ids c.if-place-to.moved) (sym (rows_alike _ _ c.finish.ensures.rows))
+    (elim c.if-place-to.branch [
+      | then-place-to w ↦
+          rw (w.self-inside-is, w.moved-is)
+          (subst (λ R. IsMoved (rows_in s) R place ids (Some w.shift-moved.result)) (sym (rows_alike _ _ w.release.ensures.rows))
+          (subst (λ is. MovesRow (rows_in s) (rows_in w.shift-moved.new.archetypes) place w.shift-moved.result.place is w.shift-moved.result.filler) typed
+          w.shift-moved.ensures.row))
+      | else-place-to w ↦
+          rw (w.self-inside-is, w.moved-is)
+          (refl, had place.table place.row no_row there ∙ ap (λ n. (table_in s n).ids) w.if-place-to.false ∙ typed)
+    ]))
+
+pub returns-clause-left : goal.returns-clause-left
+returns-clause-left c =
+    let s = c.self.inside.archetypes in
+    let p = c.self.inside.prepared in
+    let p' = c.take_next.new.self in
+    let a = c.unwrap-to.result in
+    let place = c.args.place in
+    let ids = c.args.type_list.now in
+    let first_is : p.arrivals ≡ a ∷ p'.arrivals = rw c.unwrap-to.ensures at c.take_next.ensures.some in
+    let next : IsTrue (is_next (moves_of s p) c.args.entity ids) = rw (← c.self.view_is) at c.requires.next in
+    rw (← c.self.view_is)
+    (c.finish.ensures.left
+    ∙ elim c.if-place-to.branch [
+      | then-place-to w ↦
+          rw w.self-inside-is
+          (w.release.ensures.left
+          ∙ rest_left s p p' a first_is c.take_next.ensures.targets c.self.invariant.ready w.shift-moved.new.archetypes place.table place.row
+          w.shift-moved.ensures.moves (there_by_row s place.table place.row (rw (← c.self.view_is) at c.requires.row)))
+      | else-place-to w ↦ rw w.self-inside-is refl
+    ]
+    ∙ next_left s p p' a c.args.entity ids first_is next)

@@ -1,0 +1,31 @@
+use Rattle.std.proofs.Common.{◌≡◌, ◌∷◌, ◌+◌, ◌-◌, drop, length, not, IsTrue, sym, ap, ◌∙◌, subst, arith}
+use Rattle.std.proofs.lemmas.List.{drop_more}
+use Rattle.eco_store.specs.Preparing.{has_move}
+use Rattle.eco_store.proofs.Readiness.{none_later}
+use Rattle.eco_store.proofs.layout.Layout.prepare.Goals as goal
+
+pub prepare_before-requires : goal.prepare_before-requires
+prepare_before-requires c =
+    let ms = c.args.moves.now in
+    let r = c.index-moves-moves.result in
+    let k = length ms - 1 - c.loop-done.done in
+    let next : k + 1 ≡ length ms - c.loop-done.done = omega (arith, c.loop-done-test.true) in
+    let left : c.loop-done.self.moves ≡ drop (k + 1) ms = c.loop-done.invariant.moves ∙ ap (λ i. drop i ms) (sym next) in
+    subst (λ xs. IsTrue (not (has_move xs r.entity))) (sym left)
+    (subst (λ m. IsTrue (not (has_move (drop (k + 1) ms) m.entity))) (sym c.index-moves-moves.is)
+    (none_later ms k _ c.requires (omega (arith, c.loop-done-test.true))))
+
+pub loop-done-preserved : goal.loop-done-preserved
+loop-done-preserved c =
+    let ms = c.args.moves.now in
+    let k = length ms - 1 - c.loop-done.done in
+    let now : k ≡ length ms - (c.loop-done.done + 1) = omega (arith, c.loop-done-test.true) in
+    let next : k + 1 ≡ length ms - c.loop-done.done = omega (arith, c.loop-done-test.true) in
+    record {
+      moves =
+          c.in_ok-prepare_before.ensures.ok
+          ∙ (λ t. c.index-moves-moves.is t ∷ (c.loop-done.invariant.moves ∙ ap (λ i. drop i ms) (sym next)) t)
+          ∙ sym (drop_more ms k _ (omega (arith, c.loop-done-test.true)))
+          ∙ ap (λ i. drop i ms) now;
+      rows = λ n row. c.prepare_before.ensures.rows n row ∙ c.loop-done.invariant.rows n row;
+    }

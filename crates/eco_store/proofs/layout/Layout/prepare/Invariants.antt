@@ -1,0 +1,9 @@
+use Rattle.std.proofs.Common.{◌≡◌, ◌-◌, drop, length}
+use Rattle.eco_store.specs.Seats.{SameRows}
+use Rattle.eco_store.proofs.layout.Layout.prepare.Given as goal
+
+abbrev pub invariant-loop-done : goal.invariant-loop-done
+invariant-loop-done l = record {
+  moves : l.self.moves ≡ drop (length l.moves - l.done) l.moves;
+  rows : SameRows l.initial.self.tables l.self.tables;
+}

@@ -1,0 +1,28 @@
+//! An entity gets an id, or loses one that it has.
+ghost use Rattle.std.specs.Prelude.{◌≡◌, [], IsTrue, OnOk, OnErr};
+ghost use Rattle.eco_ids.specs.Indices.{changed, is_alive};
+ghost use Rattle.eco_store.specs.Store.{with_toggled};
+
+use crate::placing::fix_place;
+use crate::store::Store;
+use eco_ids::{Entity, Id};
+use std::alloc::AllocError;
+
+impl Store {
+    /// Gives an entity an id that it lacks, with zeros, or takes one away that it has. The values of its other ids stay. An
+    /// `Err` comes where memory is refused, and then no entity has changed.
+    pub fn step(&mut self, e: Entity, id: Id) -> Result<(), AllocError>
+        requires { IsTrue (is_alive self.old.entities e) }
+        ensures ok { OnOk result (self.new.entities ≡ changed self.old.entities e (with_toggled id)) }
+        ensures err { OnErr result (self.new.entities ≡ self.old.entities) }
+        ensures unprepared { self.new.prepared ≡ [] }
+    {
+        // A place's row fits, as a table has no more rows than there are indices.
+        self.entities.rules();
+        let place = self.entities.place_of(e).unwrap();
+        let moved = self.layout.step_row(place, id)?;
+        fix_place(&mut self.entities, moved.filler, place);
+        self.entities.set_place(e, moved.place);
+        Ok(())
+    }
+}

@@ -1,0 +1,8 @@
+use Rattle.std.proofs.Common.{◌≡◌, map, take, []}
+use Rattle.std.specs.List.{All}
+use Rattle.eco_tables.specs.Column.{kind_of}
+use Rattle.eco_tables.specs.Table.{kinds_of}
+use Rattle.eco_tables.proofs.columns.columns_of.Given as goal
+
+abbrev pub invariant-loop-place : goal.invariant-loop-place
+invariant-loop-place l = (map kind_of l.columns.items ≡ kinds_of (take l.place l.ids) (take l.place l.widths)) × All (λ c. c.values ≡ []) l.columns.items

@@ -1,0 +1,7 @@
+use Rattle.std.proofs.Common.{◌≡◌, ◌++◌, map, take, drop}
+use Rattle.eco_ids.specs.World.{zeros}
+use Rattle.eco_tables.specs.Column.{pushed}
+use Rattle.eco_tables.proofs.columns.push_zeros.Given as goal
+
+abbrev pub invariant-loop-column : goal.invariant-loop-column
+invariant-loop-column l = l.columns ≡ map (λ c. pushed c zeros) (take l.column-index l.initial.columns) ++ drop l.column-index l.initial.columns

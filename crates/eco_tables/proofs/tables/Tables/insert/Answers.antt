@@ -1,0 +1,22 @@
+use Rattle.std.proofs.Common.{◌≡◌, [], Some, ap, sym, set, subst}
+use Rattle.eco_tables.specs.Tables.{Sets}
+use Rattle.eco_tables.proofs.RowIds.{none_lacks}
+use Rattle.eco_tables.proofs.Slots.{reused, reused_slot, sets_slot}
+use Rattle.eco_tables.proofs.tables.Tables.insert.Goals as goal
+
+pub invariant_of-self : goal.invariant_of-self
+invariant_of-self c =
+    let none : [] ≡ c.in_ok-table.table.rows = sym (ap (λ t. t.rows) c.in_ok-table.ensures) in
+    rw c.in-Some.ensures.capacity
+    (reused _ _ _ c.self.invariant c.pop.new.self.items c.in-Some.slot c.in_ok-table.table c.in-Some.ensures.items (none_lacks c.in_ok-table.table none))
+
+pub returns-in-Some-clause-vacant : goal.returns-in-Some-clause-vacant
+returns-in-Some-clause-vacant c =
+    rw (← c.self.view_is) (reused_slot _ _ _ c.self.invariant c.pop.new.self.items c.in-Some.slot c.in-Some.ensures.items).1
+
+pub returns-in-Some-clause-sets : goal.returns-in-Some-clause-sets
+returns-in-Some-clause-sets c =
+    rw (← c.self.view_is)
+    (subst (λ t. Sets c.self.inside.slots.items (set c.self.inside.slots.items c.in-Some.slot (Some c.in_ok-table.table)) c.in-Some.slot (Some t)) c.in_ok-table.ensures
+    (sets_slot c.self.inside.slots.items c.in-Some.slot (Some c.in_ok-table.table)
+    (reused_slot _ _ _ c.self.invariant c.pop.new.self.items c.in-Some.slot c.in-Some.ensures.items).0))

@@ -1,0 +1,189 @@
+//! What is done to all columns of a table. They ascend by their ids, and an id that is no data has none.
+ghost use Rattle.std.specs.Prelude.{◌≡◌, ℕ, ◌<◌, ◌≤◌, ◌+◌, [], ◌∷◌, length, map, slice_get, slice_index_or, is_some, IsTrue, None, Some, OnOk, IfOk, IfSome, IfNone, false};
+ghost use Rattle.std.specs.List.{All, position_from};
+ghost use Rattle.std.specs.FinMap.Entries.{find};
+ghost use Rattle.eco_ids.specs.World.{zeros};
+ghost use Rattle.eco_ids.specs.Order.{id_cmp, id_eq, has_item, is_ascending};
+ghost use Rattle.eco_tables.specs.Column.{Fits, pushed, joined, emptied, with_removed, written, held_in, value_in, contents, kind_of};
+ghost use Rattle.eco_tables.specs.Table.{ColumnsAgree, kinds_of, rows_from};
+
+use crate::column::Column;
+use eco_ids::{Entity, Id, Value};
+use std::alloc::{AllocError, Global};
+use std::cmp::Ordering;
+
+// To ask so few columns one after another costs less than a search.
+const FEW: usize = 8;
+
+/// Where the column of an id is.
+pub fn find_column(columns: &[Column], id: Id) -> Option<usize>
+    requires { IsTrue (is_ascending id_cmp (map (λ c. c.id) columns.now)) }
+    ensures found { IfSome result (λ i. slice_get (map (λ c. c.id) columns.now) i ≡ Some id) }
+    ensures absent { IfNone result (has_item id_cmp (map (λ c. c.id) columns.now) id ≡ false) }
+{
+    if columns.len() <= FEW {
+        return find_among(columns, id);
+    }
+    find_by_halves(columns, id)
+}
+
+// Where the column of an id is among a few.
+fn find_among(columns: &[Column], id: Id) -> Option<usize>
+    ensures { result ≡ position_from (λ c. id_eq c.id id) 0 columns.now }
+{
+    columns.iter().position(|column| column.id().is(id))
+}
+
+// Where the column of an id is among many: by halves.
+fn find_by_halves(columns: &[Column], id: Id) -> Option<usize>
+    requires { IsTrue (is_ascending id_cmp (map (λ c. c.id) columns.now)) }
+    ensures found { IfSome result (λ i. slice_get (map (λ c. c.id) columns.now) i ≡ Some id) }
+    ensures absent { IfNone result (has_item id_cmp (map (λ c. c.id) columns.now) id ≡ false) }
+{
+    let mut low = 0;
+    let mut high = columns.len();
+    while low < high {
+        let middle = low + (high - low) / 2;
+        match columns[middle].id().cmp(&id) {
+            Ordering::Less => low = middle + 1,
+            Ordering::Equal => return Some(middle),
+            Ordering::Greater => high = middle,
+        }
+    }
+    None
+}
+
+// Where the column of an id is. It is looked for at this place first.
+fn find_near(columns: &[Column], place: usize, id: Id) -> Option<usize>
+    requires { IsTrue (is_ascending id_cmp (map (λ c. c.id) columns.now)) }
+    ensures found { IfSome result (λ i. slice_get (map (λ c. c.id) columns.now) i ≡ Some id) }
+    ensures absent { IfNone result (has_item id_cmp (map (λ c. c.id) columns.now) id ≡ false) }
+{
+    if place < columns.len() && columns[place].id().is(id) {
+        return Some(place);
+    }
+    find_column(columns, id)
+}
+
+/// The value of an id in a row, if one of the columns has the id.
+pub fn find_value(columns: &[Column], row: usize, id: Id) -> Option<Value>
+    requires ascending { IsTrue (is_ascending id_cmp (map (λ c. c.id) columns.now)) }
+    requires row { All (λ c. row < length c.values) columns.now }
+    ensures { result ≡ find id_cmp id (held_in columns.now row) }
+{
+    let place = find_column(columns, id)?;
+    Some(columns[place].value(row))
+}
+
+/// Writes the value of an id in a row. The answer is whether one of the columns has the id; where none has it nothing is
+/// written.
+pub fn write_value(columns: &mut [Column], row: usize, id: Id, value: Value) -> bool
+    requires ascending { IsTrue (is_ascending id_cmp (map (λ c. c.id) columns.old)) }
+    requires row { All (λ c. row < length c.values) columns.old }
+    requires fits { All (λ c. c.id ≡ id → Fits c.width value) columns.old }
+    ensures written { columns.new ≡ map (λ c. written c row id value) columns.old }
+    ensures had { result ≡ has_item id_cmp (map (λ c. c.id) columns.old) id }
+{
+    let Some(place) = find_column(columns, id) else {
+        return false;
+    };
+    columns[place].write(row, value);
+    true
+}
+
+/// One column for each id that has a width, without a row.
+pub fn columns_of(alloc: Global, ids: &[Id], widths: &[u8]) -> Result<Vec<Column>, AllocError>
+    requires lengths { length ids.now ≡ length widths.now }
+    requires widths { All (λ w. w ≤ 4) widths.now }
+    ensures kinds { IfOk result (λ v. map kind_of v.items ≡ kinds_of ids.now widths.now) }
+    ensures empty { IfOk result (λ v. All (λ c. c.values ≡ []) v.items) }
+{
+    let mut columns = Vec::new(alloc);
+    for place in 0..ids.len() {
+        if widths[place] > 0 {
+            columns.push(Column::new(alloc, ids[place], widths[place]))?;
+        }
+    }
+    Ok(columns)
+}
+
+/// Room for more rows in each. An `Err` keeps what is there.
+pub fn reserve(columns: &mut [Column], more: usize) -> Result<(), AllocError>
+    ensures same { map contents columns.new ≡ map contents columns.old }
+    ensures kept { (b : ℕ) → All (λ c. b ≤ c.room) columns.old → All (λ c. b ≤ c.room) columns.new }
+    ensures room { OnOk result (All (λ c. more ≤ c.room) columns.new) }
+{
+    for column in columns.iter_mut() {
+        column.reserve(more)?;
+    }
+    Ok(())
+}
+
+/// A place for one more row in each, with zeros.
+pub fn push_zeros(columns: &mut [Column])
+    requires { All (λ c. 0 < c.room) columns.old }
+    ensures { columns.new ≡ map (λ c. pushed c zeros) columns.old }
+{
+    for column in columns.iter_mut() {
+        column.push_zeros();
+    }
+}
+
+/// The row's values go, and the last row's take their place.
+pub fn swap_out_row(columns: &mut [Column], row: usize)
+    requires { All (λ c. row < length c.values) columns.old }
+    ensures { columns.new ≡ map (λ c. with_removed c row) columns.old }
+{
+    for column in columns.iter_mut() {
+        column.swap_out(row);
+    }
+}
+
+/// All values go. The memory stays.
+pub fn clear(columns: &mut [Column])
+    ensures { columns.new ≡ map emptied columns.old }
+{
+    for column in columns.iter_mut() {
+        column.clear();
+    }
+}
+
+/// A place for one more row in each, with the values of a row elsewhere: zeros for an id that has no column there.
+///
+/// Both lists ascend by their ids, so the next column is mostly found beside the last one.
+pub fn push_from(columns: &mut [Column], source: &[Column], row: usize)
+    requires room { All (λ c. 0 < c.room) columns.old }
+    requires ascending { IsTrue (is_ascending id_cmp (map (λ c. c.id) source.now)) }
+    requires row { All (λ c. row < length c.values) source.now }
+    requires widths { ColumnsAgree columns.old source.now }
+    ensures { columns.new ≡ map (λ c. pushed c (value_in (held_in source.now row) c.id)) columns.old }
+{
+    let mut near = 0;
+    for column in columns.iter_mut() {
+        match find_near(source, near, column.id()) {
+            Some(place) => {
+                column.push_from(&source[place], row);
+                near = place + 1;
+            }
+            None => column.push_zeros(),
+        }
+    }
+}
+
+/// Places for the rows of all these entities, who stand elsewhere, with their values: zeros for an id that has no column
+/// there.
+pub fn join_all(columns: &mut [Column], source: &[Column], entities: &[Entity])
+    requires room { All (λ c. length entities.now ≤ c.room) columns.old }
+    requires ascending { IsTrue (is_ascending id_cmp (map (λ c. c.id) source.now)) }
+    requires even { All (λ c. length c.values ≡ length entities.now) source.now }
+    requires widths { ColumnsAgree columns.old source.now }
+    ensures same { map contents columns.new ≡ map contents (map (λ c. joined c (map (λ r. value_in r.held c.id) (rows_from source.now 0 entities.now))) columns.old) }
+    ensures kept { (b : ℕ) → All (λ c. b + length entities.now ≤ c.room) columns.old → All (λ c. b ≤ c.room) columns.new }
+{
+    for column in columns.iter_mut() {
+        match find_column(source, column.id()) {
+            Some(place) => column.join(&source[place]),
+            None => column.join_zeros(entities.len()),
+        }
+    }
+}

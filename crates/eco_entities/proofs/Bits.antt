@@ -1,8 +1,11 @@
 -- One bit of a list of words: set, cleared, and what the word around it then is.
-use Rattle.std.proofs.Common.{◌≡◌, ◌≢◌, ℕ, ◌+◌, ◌-◌, ◌*◌, ◌/◌, ◌%◌, ◌^◌, ◌<◌, ◌≤◌, zero, suc, ◌==◌, Bool, true, false, nat_lt, Option, Some, None, MatchOption, cond, List, [], ◌∷◌, length, get_or, refl, sym, ap, ◌∙◌, inl, inr, min, max, arith, lit<, eq-eqb, eqb-true, replicate, ◌++◌}
+use Rattle.std.proofs.lemmas.Grind.{common_steps}
+use Rattle.std.proofs.Common.{◌≡◌, ◌≢◌, ℕ, ◌+◌, ◌-◌, ◌*◌, ◌/◌, ◌%◌, ◌^◌, ◌<◌, ◌≤◌, zero, suc, ◌==◌, Bool, true, false, nat_lt, Option, Some, None, MatchOption}
+use Rattle.std.proofs.Common.{cond, List, [], ◌∷◌, length, get_or, refl, sym, ap, ◌∙◌, inl, inr, min, max, arith, lit<, eq-eqb, eqb-true, replicate, ◌++◌}
 use Rattle.std.proofs.lemmas.Bool.{cases_eq, cases_lt, lt-ltb, le-ltb, ltb-true, ltb-false}
 use Rattle.std.proofs.lemmas.List.{get_or-set_same, get_or-set_other, get_or_past, length-set}
-use Rattle.std.proofs.lemmas.Nat.Bits.{bit_at-zero, bit_at-lt, bit_at_set_same, bit_at_set_other, bit_at_clear_same, bit_at_clear_other, bit_at_or, bit_at_mask_inside, bit_at_mask_below, bit_at_mask_above, bit_at-trailing_zeros}
+use Rattle.std.proofs.lemmas.Nat.Bits.{bit_at-zero, bit_at-lt, bit_at_set_same, bit_at_set_other, bit_at_clear_same, bit_at_clear_other, bit_at_or}
+use Rattle.std.proofs.lemmas.Nat.Bits.{bit_at_mask_inside, bit_at_mask_below, bit_at_mask_above, bit_at-trailing_zeros}
 use Rattle.std.proofs.Math.Nat.{pow-le-pow_right}
 use Rattle.std.proofs.lemmas.Nat.{pow_pos, and_le_l}
 use Rattle.std.specs.Int.Bits.{or_zero_r}
@@ -101,28 +104,29 @@ word-without_bit_other ws k w ne = rw get_or-set_other
 -- a bit set below is set above
 pub summarizes-with_bit : (lower upper : List ℕ) (k : ℕ) → Summarizes lower upper → k / 64 < length lower → k / 64 / 64 < length upper →
     Summarizes (with_bit lower k) (with_bit upper (k / 64))
-summarizes-with_bit lower upper k s l u = record {
-  exact = λ w. elim (cases_eq w (k / 64)) [
-    | inl e ↦
-        let set : has_bit (with_bit upper (k / 64)) w ≡ true = rw e (has_bit-with_bit_same upper (k / 64) u) in
-        let there : 0 < get_or (with_bit lower k) w 0 = rw e (word_of_bit _ k (has_bit-with_bit_same lower k l)) in
-        set ∙ sym (lt-ltb _ _ there)
-    | inr ne ↦ has_bit-with_bit_other upper (k / 64) w ne u ∙ (s.exact w ∙ ap (λ n. nat_lt 0 n) (sym (word-with_bit_other lower k w ne)))
-  ];
-}
+summarizes-with_bit lower upper k s l u = grind (
+  arith,
+  common_steps,
+  cases_eq,
+  has_bit-with_bit_same,
+  word_of_bit,
+  lt-ltb,
+  has_bit-with_bit_other,
+  word-with_bit_other,
+)
 
 -- the last bit of a word is cleared above too
 pub summarizes_emptied : (lower upper : List ℕ) (k : ℕ) → Summarizes lower upper → get_or (without_bit lower k) (k / 64) 0 ≡ 0 → k / 64 / 64 < length upper →
     Summarizes (without_bit lower k) (without_bit upper (k / 64))
-summarizes_emptied lower upper k s z u = record {
-  exact = λ w. elim (cases_eq w (k / 64)) [
-    | inl e ↦
-        let clear : has_bit (without_bit upper (k / 64)) w ≡ false = rw e (has_bit-without_bit_same upper (k / 64) u) in
-        let none : get_or (without_bit lower k) w 0 ≤ 0 = rw e (omega (arith, z)) in
-        clear ∙ sym (le-ltb _ _ none)
-    | inr ne ↦ has_bit-without_bit_other upper (k / 64) w ne u ∙ (s.exact w ∙ ap (λ n. nat_lt 0 n) (sym (word-without_bit_other lower k w ne)))
-  ];
-}
+summarizes_emptied lower upper k s z u = grind (
+  arith,
+  common_steps,
+  cases_eq,
+  has_bit-without_bit_same,
+  le-ltb,
+  has_bit-without_bit_other,
+  word-without_bit_other,
+)
 
 -- clearing a bit adds none
 pub word-without_bit_le : (ws : List ℕ) (k : ℕ) → k / 64 < length ws → get_or (without_bit ws k) (k / 64) 0 ≤ get_or ws (k / 64) 0
@@ -132,15 +136,7 @@ word-without_bit_le ws k l = rw get_or-set_same (and_le_l _ _)
 -- a word that keeps a bit stays marked
 pub summarizes_kept : (lower upper : List ℕ) (k : ℕ) → Summarizes lower upper → (get_or (without_bit lower k) (k / 64) 0 ≡ 0 → ⊥) → k / 64 < length lower →
     Summarizes (without_bit lower k) upper
-summarizes_kept lower upper k s ne l = record {
-  exact = λ w. elim (cases_eq w (k / 64)) [
-    | inl e ↦
-        let there : 0 < get_or (without_bit lower k) (k / 64) 0 = omega arith in
-        let before : 0 < get_or lower (k / 64) 0 = omega (arith, word-without_bit_le lower k l) in
-        rw e (s.exact (k / 64) ∙ (lt-ltb _ _ before ∙ sym (lt-ltb _ _ there)))
-    | inr apart ↦ s.exact w ∙ ap (λ n. nat_lt 0 n) (sym (word-without_bit_other lower k w apart))
-  ];
-}
+summarizes_kept lower upper k s ne l = grind (arith, common_steps, cases_eq, word-without_bit_le, lt-ltb, word-without_bit_other)
 
 -- the lowest bit of the first word that has any
 
@@ -153,13 +149,7 @@ lowest_of_first ws at f fits =
     let place : (at * 64 + trailing_zeros w64 (get_or ws at 0)) % 64 ≡ trailing_zeros w64 (get_or ws at 0) = omega arith in
     record {
       set = has_bit_one ws _ (rw (word, place) found.1);
-      below = λ j l. elim (cases_lt (j / 64) at) [
-        | inl before ↦ has_bit_of_zero ws j (f.before (j / 64) before)
-        | inr after ↦
-            let same : j / 64 ≡ at = omega arith in
-            let under : j % 64 < trailing_zeros w64 (get_or ws at 0) = omega arith in
-            has_bit_zero ws j (rw same (found.2 (j % 64) under))
-      ];
+      below = λ j l. grind (arith, common_steps, cases_lt, has_bit_of_zero, has_bit_zero);
     }
 
 -- a range
@@ -173,16 +163,12 @@ mask_is low high l = omega (arith, mask_order low high l, pow_pos low)
 pub mask_before : (from to w : ℕ) → from ≤ to → w < from / 64 → range_mask from to w ≡ 0
 unfolding range_mask
 mask_before from to w l b =
-    let low : min (from - w * 64) 64 ≡ 64 = omega arith in
-    let high : min (to - w * 64) 64 ≡ 64 = omega arith in
-    rw (low, high)
+    grind (arith, common_steps)
 
 pub mask_after : (from to w : ℕ) → from ≤ to → to ≤ w * 64 → range_mask from to w ≡ 0
 unfolding range_mask
 mask_after from to w l a =
-    let low : min (from - w * 64) 64 ≡ 0 = omega arith in
-    let high : min (to - w * 64) 64 ≡ 0 = omega arith in
-    rw (low, high)
+    grind (arith, common_steps)
 
 pub bit_at-mask_inside : (from to k : ℕ) → from ≤ k → k < to → bit_at (range_mask from to (k / 64)) (k % 64) ≡ 1
 unfolding range_mask
@@ -256,18 +242,14 @@ pub summarizes-appended_above : (n : ℕ) (lower upper upper' : List ℕ) → Su
 summarizes-appended_above n lower upper upper' s a = record { exact = λ w. has_bit-appended n upper upper' w a ∙ s.exact w }
 
 pub summarizes-appended_below : (n : ℕ) (lower lower' upper : List ℕ) → Summarizes lower upper → lower' ≡ lower ++ replicate n 0 → Summarizes lower' upper
-summarizes-appended_below n lower lower' upper s a = record {
-  exact = λ w. s.exact w ∙ ap (λ m. nat_lt 0 m) (sym (rw a (get_or-zeros lower n w)));
-}
+summarizes-appended_below n lower lower' upper s a = grind (arith, common_steps, get_or-zeros)
 
 -- one level down
 
 -- the lowest bit above names the first word below that has a bit
 -- what has no bit above has none below
 pub none_of_none : (lower upper : List ℕ) (k : ℕ) → Summarizes lower upper → ((w : ℕ) → has_bit upper w ≡ false) → has_bit lower k ≡ false
-none_of_none lower upper k s none =
-    let empty : get_or lower (k / 64) 0 ≤ 0 = ltb-false 0 _ (sym (s.exact (k / 64)) ∙ none (k / 64)) in
-    has_bit_of_zero lower k (omega arith)
+none_of_none lower upper k s none = grind (arith, common_steps, ltb-false, has_bit_of_zero)
 
 -- the place of a word with a bit lies within the words
 pub within_of_word : (ws : List ℕ) (w : ℕ) → 0 < get_or ws w 0 → w < length ws
@@ -284,18 +266,12 @@ zeros_after x ws (suc k) z below = below k (omega arith)
 
 first_later : (n x : ℕ) (ws : List ℕ) (r : Option ℕ) → x ≡ 0 → FirstFrom (n + 1) ws r → FirstFrom n (x ∷ ws) r
 first_later n x ws None z rest = λ k. zeros_after x ws k z (λ j l. rest j)
-first_later n x ws (Some p) z rest =
-    let later : p - n ≡ suc (p - (n + 1)) = let le : n + 1 ≤ p = rest.0 in omega arith in
-    let le : n + 1 ≤ p = rest.0 in
-    (omega arith, rw later rest.1, λ k l. zeros_after x ws k z (λ j h. rest.2 j (omega arith)))
+first_later n x ws (Some p) z rest = grind (arith, common_steps, zeros_after)
 
 first_here : (n x : ℕ) (ws : List ℕ) (b : Bool) → nat_lt 0 x ≡ b → FirstFrom (n + 1) ws (position_from (λ w. nat_lt 0 w) (n + 1) ws) →
     FirstFrom n (x ∷ ws) (cond b (Some n) (position_from (λ w. nat_lt 0 w) (n + 1) ws))
-first_here n x ws true e rest =
-    let none : n - n ≡ 0 = omega arith in
-    (omega arith, rw none (ltb-true 0 x e), λ k l. absurd (omega arith))
-first_here n x ws false e rest =
-    first_later n x ws (position_from (λ w. nat_lt 0 w) (n + 1) ws) (let z : x ≤ 0 = ltb-false 0 x e in omega arith) rest
+first_here n x ws true e rest = grind (arith, common_steps, ltb-true)
+first_here n x ws false e rest = grind (arith, common_steps, first_later, ltb-false)
 
 pub first_from : (n : ℕ) (ws : List ℕ) → FirstFrom n ws (position_from (λ w. nat_lt 0 w) n ws)
 first_from n [] = λ k. refl
@@ -303,9 +279,7 @@ first_from n (x ∷ ws) = first_here n x ws (nat_lt 0 x) refl (first_from (n + 1
 
 first_is : (ws : List ℕ) (r : Option ℕ) → FirstFrom 0 ws r → MatchOption r ((k : ℕ) → get_or ws k 0 ≡ 0) (IsFirstWord ws)
 first_is ws None f = f
-first_is ws (Some p) f =
-    let whole : p - 0 ≡ p = omega arith in
-    record { marked = rw whole at f.1; before = λ k l. f.2 k (omega arith) }
+first_is ws (Some p) f = grind (arith, common_steps)
 
 pub first_word_or_none : (ws : List ℕ) (r : Option ℕ) → r ≡ position_from (λ w. nat_lt 0 w) 0 ws → MatchOption r ((k : ℕ) → get_or ws k 0 ≡ 0) (IsFirstWord ws)
 first_word_or_none ws r e = first_is ws r (rw e (first_from 0 ws))

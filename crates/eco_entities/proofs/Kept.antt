@@ -1,9 +1,12 @@
 -- What is kept of each entity after a change of one state.
-use Rattle.std.proofs.Common.{◌≡◌, ◌≢◌, ℕ, zero, suc, ◌+◌, ◌<◌, ◌≤◌, Bool, true, false, cond, List, [], ◌∷◌, ◌++◌, length, set, slice_get, slice_set, replicate, refl, sym, ap, ◌∙◌, Some, None, inl, inr, arith, eq-eqb, nat_lt, if◌then◌else◌}
+use Rattle.std.proofs.lemmas.Grind.{common_steps}
+use Rattle.std.proofs.Common.{◌≡◌, ◌≢◌, ℕ, zero, suc, ◌+◌, ◌<◌, ◌≤◌, Bool, true, false, cond, List, [], ◌∷◌, ◌++◌, length, set, slice_get, slice_set, replicate}
+use Rattle.std.proofs.Common.{refl, sym, ap, ◌∙◌, Some, None, inl, inr, arith, eq-eqb, nat_lt, if◌then◌else◌}
 use Rattle.std.proofs.lemmas.Bool.{cases_eq, ne_eqb, lt-ltb, le-ltb, cond-true, cond-false}
 use Rattle.std.proofs.lemmas.Option.{slice_get_within}
 use Rattle.eco_ids.specs.declared.entity.Entity.{Entity}
-use Rattle.eco_ids.specs.Indices.{Indexed, IndexState, Retired, Free, Living, record_in, record_of, is_alive, is_free_in, is_free_at, with_record, with_death, with_new, admitted, raised, next_entity}
+use Rattle.eco_ids.specs.Indices.{Indexed, IndexState, Retired, Free, Living, record_in, record_of, is_alive, is_free_in, is_free_at, with_record, with_death}
+use Rattle.eco_ids.specs.Indices.{with_new, admitted, raised, next_entity}
 use Rattle.eco_entities.specs.Changes.{ChangesAt, Keeps}
 use Rattle.eco_ids.proofs.Lists.{slice_get-set_same, slice_get-set_other}
 use Rattle.eco_ids.proofs.States.{record_here}
@@ -23,18 +26,7 @@ raised_none A f g = raised_cases A f g (nat_lt f 65535)
 pub record-set : {A : Type 0} (w : Indexed A) (e : Entity) (x y : IndexState A) → slice_get w.indices e.index ≡ Some y →
     ((g : ℕ) → g ≢ e.generation → record_in (Some x) g ≡ record_in (Some y) g) →
     ChangesAt (record_of w) (record_of (record w { indices = slice_set w.indices e.index x })) e (record_in (Some x) e.generation)
-record-set w e x y here apart_from = record {
-  here = ap (λ o. record_in o e.generation) (slice_get-set_same w.indices e.index x (slice_get_within w.indices e.index y here));
-  others = λ j ne. elim (cases_eq j.index e.index) [
-    | inl i ↦
-        let apart : j.generation ≢ e.generation = λ g. ne (ap (λ n. record { index = n; generation = j.generation }) i
-        ∙ ap (λ n. record { index = e.index; generation = n }) g) in
-        rw i
-        (ap (λ o. record_in o j.generation) (slice_get-set_same w.indices e.index x (slice_get_within w.indices e.index y here))
-        ∙ (apart_from j.generation apart ∙ sym (ap (λ o. record_in o j.generation) here)))
-    | inr i ↦ ap (λ o. record_in o j.generation) (slice_get-set_other w.indices e.index j.index x i)
-  ];
-}
+record-set w e x y here apart_from = grind (arith, common_steps, slice_get-set_same, slice_get_within, cases_eq, slice_get-set_other)
 
 -- a free handle comes to live
 pub record-settled : {A : Type 0} (w : Indexed A) (e : Entity) (r : A) → is_free_at w e ≡ true →
@@ -126,10 +118,7 @@ next_has_room {A} w e h =
           record {
             free = ap (λ (v : Indexed A). is_free_at v e) (room_fresh w e past) ∙ free_is (admitted 1 w) e here;
             keeps = record { all = λ j. ap (λ (v : Indexed A). record_of v j) (room_fresh w e past) ∙ (record-admitted w 1).all j };
-            settled = λ r. ap (λ (v : Indexed A). with_record v e r) (room_fresh w e past)
-                ∙ (ap (λ i. record w { indices = set (w.indices ++ Free 0 ∷ []) i (Living e.generation r) }) (sym index)
-                ∙ (ap (λ ys. record w { indices = ys }) (set_fresh w.indices (Living e.generation r))
-                ∙ sym (cond-false (nat_lt e.index (length w.indices)) (with_record w e r) _ (le-ltb _ _ past))));
+            settled = λ r. grind (arith, common_steps, room_fresh, set_fresh, cond-false, le-ltb);
           }
     ]
 

@@ -1,13 +1,19 @@
 -- The three levels of a set of free indices: what each change leaves of them, and of the flags that they show.
-use Rattle.std.proofs.Common.{◌≡◌, ◌≢◌, ℕ, zero, suc, ◌+◌, ◌-◌, ◌*◌, ◌/◌, ◌%◌, ◌^◌, ◌<◌, ◌≤◌, Bool, true, false, List, [], ◌∷◌, ◌++◌, length, get_or, take, replicate, slice_set, refl, sym, ap, ◌∙◌, inl, inr, min, Some, None, arith}
+use Rattle.std.proofs.Common.{rules}
+use Rattle.std.proofs.lemmas.Grind.{common_steps}
+use Rattle.std.proofs.Common.{◌≡◌, ◌≢◌, ℕ, zero, suc, ◌+◌, ◌-◌, ◌*◌, ◌/◌, ◌%◌, ◌^◌, ◌<◌, ◌≤◌, Bool, true, false, List, [], ◌∷◌, ◌++◌, length, get_or, take}
+use Rattle.std.proofs.Common.{replicate, slice_set, refl, sym, ap, ◌∙◌, inl, inr, min, Some, None, arith}
 use Rattle.std.specs.List.{position_from}
 use Rattle.std.proofs.lemmas.Bool.{cases_eq, cases_lt, false≢true}
-use Rattle.std.proofs.lemmas.List.{append-nil, take_all, same_lists, length-set, length-append, length-replicate, length-take, get_or-set_same, get_or-set_other, get_or_append_left, get_or-append_right, get_or-replicate, get_or-take}
+use Rattle.std.proofs.lemmas.List.{append-nil, take_all, same_lists, length-set, length-append, length-replicate, length-take, get_or-set_same}
+use Rattle.std.proofs.lemmas.List.{get_or-set_other, get_or_append_left, get_or-append_right, get_or-replicate, get_or-take}
 use Rattle.std.proofs.lemmas.List.FromFn.{length-map-range_with_len, get_or-map-range_with_len}
 use Rattle.std.proofs.lemmas.Nat.Bits.{bit_at-zero}
 use Rattle.eco_entities.specs.Words.{has_bit, with_bit, without_bit, FillsBits, IsLowestBit, Summarizes}
 use Rattle.eco_entities.specs.FreeBits.{bits_below, IsLevelled}
-use Rattle.eco_entities.proofs.Bits.{length-with_bit, length-without_bit, has_bit-with_bit_same, has_bit-with_bit_other, has_bit-without_bit_same, has_bit-without_bit_other, has_bit-fill_inside, has_bit-fill_below, has_bit-fill_above, has_bit-appended, summarizes-with_bit, summarizes_filled, summarizes-appended_above, summarizes-appended_below}
+use Rattle.eco_entities.proofs.Bits.{length-with_bit, length-without_bit, has_bit-with_bit_same, has_bit-with_bit_other, has_bit-without_bit_same}
+use Rattle.eco_entities.proofs.Bits.{has_bit-without_bit_other, has_bit-fill_inside, has_bit-fill_below, has_bit-fill_above, has_bit-appended}
+use Rattle.eco_entities.proofs.Bits.{summarizes-with_bit, summarizes_filled, summarizes-appended_above, summarizes-appended_below}
 
 -- the flags
 
@@ -74,15 +80,18 @@ pub flags_grown : (n m len : ℕ) (old new : List ℕ) → new ≡ old ++ replic
 flags_grown n m len old new a past =
     let whole : length (bits_below n old ++ replicate m false) ≡ n + m = length-append (bits_below n old) (replicate m false)
     ∙ rw (length-bits_below, length-replicate) refl in
-    flags_are (n + m) _ _ whole
-    (λ k d b. has_bit-appended len old new k a ∙ elim (cases_lt k n) [
-      | inl before ↦
-          let in_front : k < length (bits_below n old) = rw length-bits_below before in
-          rw get_or_append_left (sym (get_or-bits_below n old k d before))
-      | inr after ↦
-          let within : k - n < m = omega arith in
-          past k after ∙ rw (get_or-append_right _ _ n k d (length-bits_below n old) after, get_or-replicate) refl
-    ])
+    grind (
+      arith,
+      common_steps,
+      flags_are,
+      has_bit-appended,
+      cases_lt,
+      length-bits_below,
+      get_or_append_left,
+      get_or-bits_below,
+      get_or-append_right,
+      get_or-replicate,
+    )
 
 -- the first flag that is set
 
@@ -116,24 +125,11 @@ flags_none n ws none =
 
 pub levelled-set : (len : ℕ) (indices words groups : List ℕ) (i : ℕ) → IsLevelled len indices words groups → i < len →
     IsLevelled len (with_bit indices i) (with_bit words (i / 64)) (with_bit groups (i / 64 / 64))
-levelled-set len indices words groups i v l = record {
-  bounded = v.bounded;
-  indices_room = rw length-with_bit v.indices_room;
-  words_room = rw (length-with_bit indices i, length-with_bit words (i / 64)) v.words_room;
-  groups_room = rw (length-with_bit words (i / 64), length-with_bit groups (i / 64 / 64)) v.groups_room;
-  indices_bounded = rw length-with_bit v.indices_bounded;
-  words_bounded = rw length-with_bit v.words_bounded;
-  groups_bounded = rw length-with_bit v.groups_bounded;
-  words_say = summarizes-with_bit indices words i v.words_say (omega (arith, v)) (omega (arith, v));
-  groups_say = summarizes-with_bit words groups (i / 64) v.groups_say (omega (arith, v)) (omega (arith, v));
-  past = λ k p. let apart : k ≢ i = omega arith in has_bit-with_bit_other indices i k apart (omega (arith, v)) ∙ v.past k p;
-}
+levelled-set len indices words groups i v l = grind (arith, common_steps, length-with_bit, summarizes-with_bit, has_bit-with_bit_other)
 
 -- from the end on there is nothing to fill
 pub nothing_filled : (xs : List Bool) (from : ℕ) → length xs ≤ from → xs ≡ take from xs ++ replicate (length xs - from) true
-nothing_filled xs from l =
-    let none : length xs - from ≡ 0 = omega arith in
-    rw (none, append-nil) (sym (take_all from xs l))
+nothing_filled xs from l = grind (arith, common_steps, append-nil, take_all)
 
 -- an index among the flags lies below their number
 pub in_flags : (n : ℕ) (ws : List ℕ) (xs : List Bool) (i : ℕ) → bits_below n ws ≡ xs → i < length xs → i < n
@@ -142,18 +138,8 @@ in_flags n ws xs i e l = let whole : length xs ≡ n = ap length (sym e) ∙ len
 pub levelled-clear : (len : ℕ) (indices words groups words' groups' : List ℕ) (i : ℕ) → IsLevelled len indices words groups → i < len →
     length words' ≡ length words → length groups' ≡ length groups → Summarizes (without_bit indices i) words' → Summarizes words' groups' →
     IsLevelled len (without_bit indices i) words' groups'
-levelled-clear len indices words groups words' groups' i v l same_words same_groups words_say groups_say = record {
-  bounded = v.bounded;
-  indices_room = rw length-without_bit v.indices_room;
-  words_room = rw (length-without_bit, same_words) v.words_room;
-  groups_room = rw (same_words, same_groups) v.groups_room;
-  indices_bounded = rw length-without_bit v.indices_bounded;
-  words_bounded = rw same_words v.words_bounded;
-  groups_bounded = rw same_groups v.groups_bounded;
-  words_say = words_say;
-  groups_say = groups_say;
-  past = λ k p. let apart : k ≢ i = omega arith in has_bit-without_bit_other indices i k apart (omega (arith, v)) ∙ v.past k p;
-}
+levelled-clear len indices words groups words' groups' i v l same_words same_groups words_say groups_say =
+    grind (arith, common_steps, length-without_bit, has_bit-without_bit_other)
 
 pub levelled-fill : (len from : ℕ) (indices words groups indices' words' groups' : List ℕ) → IsLevelled len indices words groups → from < len →
     FillsBits from len indices indices' → FillsBits (from / 64) (len / 64 + min 1 (len % 64)) words words' →
@@ -179,33 +165,11 @@ length-appended n old new a = rw (a, length-append, length-replicate) refl
 
 pub levelled_groups : (len n : ℕ) (indices words groups groups' : List ℕ) → IsLevelled len indices words groups → groups' ≡ groups ++ replicate n 0 →
     length groups' < 2 ^ 32 → IsLevelled len indices words groups'
-levelled_groups len n indices words groups groups' v a b = record {
-  bounded = v.bounded;
-  indices_room = v.indices_room;
-  words_room = v.words_room;
-  groups_room = omega (arith, v, length-appended n groups groups' a);
-  indices_bounded = v.indices_bounded;
-  words_bounded = v.words_bounded;
-  groups_bounded = b;
-  words_say = v.words_say;
-  groups_say = summarizes-appended_above n words groups groups' v.groups_say a;
-  past = v.past;
-}
+levelled_groups len n indices words groups groups' v a b = grind (arith, common_steps, length-appended, summarizes-appended_above)
 
 pub levelled_words : (len n : ℕ) (indices words words' groups : List ℕ) → IsLevelled len indices words groups → words' ≡ words ++ replicate n 0 →
     length words' ≤ 64 * length groups → length words' < 2 ^ 32 → IsLevelled len indices words' groups
-levelled_words len n indices words words' groups v a room b = record {
-  bounded = v.bounded;
-  indices_room = v.indices_room;
-  words_room = omega (arith, v, length-appended n words words' a);
-  groups_room = room;
-  indices_bounded = v.indices_bounded;
-  words_bounded = b;
-  groups_bounded = v.groups_bounded;
-  words_say = summarizes-appended_above n indices words words' v.words_say a;
-  groups_say = summarizes-appended_below n words words' groups v.groups_say a;
-  past = v.past;
-}
+levelled_words len n indices words words' groups v a room b = search (rules, length-appended, summarizes-appended_above, summarizes-appended_below)
 
 pub levelled_indices : (len len' n : ℕ) (indices indices' words groups : List ℕ) → IsLevelled len indices words groups → len ≤ len' → len' < 2 ^ 32 →
     len' ≤ 64 * length indices' → indices' ≡ indices ++ replicate n 0 → length indices' ≤ 64 * length words → length indices' < 2 ^ 32 →
@@ -226,18 +190,7 @@ levelled_indices len len' n indices indices' words groups v more bounded enough 
 -- no index is known at first
 pub levelled_none : IsLevelled 0 [] [] []
 unfolding has_bit
-levelled_none = record {
-  bounded = omega arith;
-  indices_room = omega arith;
-  words_room = omega arith;
-  groups_room = omega arith;
-  indices_bounded = omega arith;
-  words_bounded = omega arith;
-  groups_bounded = omega arith;
-  words_say = record { exact = λ w. rw bit_at-zero };
-  groups_say = record { exact = λ w. rw bit_at-zero };
-  past = λ k p. rw bit_at-zero;
-}
+levelled_none = grind (arith, common_steps, bit_at-zero)
 
 -- only known indices are free
 pub below_len : (len : ℕ) (indices words groups : List ℕ) (k : ℕ) → IsLevelled len indices words groups → has_bit indices k ≡ true → k < len

@@ -1,5 +1,7 @@
 pub mod NamedEntities
+pub mod Needs
 pub mod Bits
+pub mod Copies
 pub mod Kept
 pub mod Levels
 pub mod Lives

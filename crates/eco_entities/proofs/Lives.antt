@@ -1,12 +1,15 @@
 -- A handle that was killed stays dead.
-use Rattle.std.proofs.Common.{◌≡◌, ◌≢◌, ℕ, zero, suc, ◌+◌, ◌<◌, ◌≤◌, Bool, true, false, cond, List, [], ◌∷◌, ◌++◌, length, set, slice_get, slice_set, replicate, refl, sym, ap, ◌∙◌, Option, Some, None, is_some, inl, inr, arith, nat_lt, nat_le, Result, Ok, Err, IsTrue, if◌then◌else◌, MatchOption}
+use Rattle.std.proofs.lemmas.Grind.{common_steps}
+use Rattle.std.proofs.Common.{◌≡◌, ◌≢◌, ℕ, zero, suc, ◌+◌, ◌<◌, ◌≤◌, Bool, true, false, cond, List, [], ◌∷◌, ◌++◌, length, slice_get, slice_set, replicate}
+use Rattle.std.proofs.Common.{refl, ap, Option, Some, None, is_some, inl, inr, arith, nat_lt, Result, Ok, Err, IsTrue, if◌then◌else◌, MatchOption}
 use Rattle.std.proofs.lemmas.Bool.{cases_eq, cases_Bool, ne_eqb, MatchBool-at_true, MatchBool-at_false}
 use Rattle.std.proofs.lemmas.Option.{slice_get_within}
 use Rattle.eco_ids.specs.declared.entity.Entity.{Entity}
 use Rattle.eco_ids.specs.declared.refusal.Refusal.{Refusal}
-use Rattle.eco_ids.specs.declared.refusal.Refusal.TheVariants.{Taken, NoMoreIds}
-use Rattle.eco_ids.specs.Births.{may_make, Admits, may_admit, unfit_name}
-use Rattle.eco_ids.specs.Indices.{Indexed, IndexState, Retired, Free, Living, record_in, record_of, is_alive, is_free_at, next_entity, with_record, with_new, with_death, admitted, raised, changed, change_kept}
+use Rattle.eco_ids.specs.declared.refusal.Refusal.TheVariants.{NoMoreIds}
+use Rattle.eco_ids.specs.Births.{may_make, unfit_name}
+use Rattle.eco_ids.specs.Indices.{Indexed, IndexState, Retired, Free, Living, record_in, record_of, is_alive, is_free_at, next_entity, with_record, with_new}
+use Rattle.eco_ids.specs.Indices.{with_death, admitted, changed, change_kept}
 use Rattle.eco_ids.specs.Outcome.{Refuses, Answers, is_out_of_memory}
 use Rattle.eco_ids.specs.Renaming.{unfit_rename, may_rename}
 use Rattle.eco_entities.specs.Registration.{Registration, newcomer, name_of, placed, renamed}
@@ -46,16 +49,7 @@ raised_past f g false l = tt
 -- another state at some index, which is past too where it is this one
 past_put : (w : Indexed Registration) (e : Entity) (i : ℕ) (x : IndexState Registration) → IsPast w e → (i ≡ e.index → IsPastIn (Some x) e.generation) →
     IsPast (record w { indices = slice_set w.indices i x }) e
-past_put w e i x p here = record {
-  state = elim (cases_eq e.index i) [
-    | inl same ↦
-        let known : (y : IndexState Registration) × (slice_get w.indices e.index ≡ Some y) = past_known (slice_get w.indices e.index) e.generation p.state in
-        let within : e.index < length w.indices = slice_get_within w.indices e.index known.0 known.1 in
-        let at : slice_get (set w.indices i x) e.index ≡ Some x = rw (← same) (slice_get-set_same w.indices e.index x within) in
-        rw at (here (sym same))
-    | inr apart ↦ rw slice_get-set_other p.state
-  ];
-}
+past_put w e i x p here = grind (arith, common_steps, cases_eq, past_known, slice_get_within, slice_get-set_same, slice_get-set_other)
 
 past_appended : (xs ys : List (IndexState Registration)) (i g : ℕ) → IsPastIn (slice_get xs i) g → IsPastIn (slice_get (xs ++ ys) i) g
 past_appended [] ys i g h = absurd h
@@ -67,37 +61,18 @@ past_admitted w e n p = record { state = past_appended w.indices (replicate n (F
 
 -- a free handle that comes to live
 past_settled : (w : Indexed Registration) (e x : Entity) (r : Registration) → is_free_at w x ≡ true → IsPast w e → IsPast (with_record w x r) e
-past_settled w e x r free p =
-    past_put w e x.index (Living x.generation r) p
-    (λ same. rw (free_known w x free) at (rw (← same) at p.state))
+past_settled w e x r free p = grind (arith, common_steps, past_put, free_known)
 
 past_died : (w : Indexed Registration) (e x : Entity) → is_alive w x ≡ true → IsPast w e → IsPast (with_death w x) e
-past_died w e x alive p =
-    let living : (r : Registration) × (slice_get w.indices x.index ≡ Some (Living x.generation r)) = alive_known w x alive in
-    past_put w e x.index (raised x.generation) p
-    (λ same. let above : e.generation < x.generation = rw living.1 at (rw (← same) at p.state) in
-    raised_past x.generation e.generation (nat_lt x.generation 65535) (omega arith))
+past_died w e x alive p = grind (arith, common_steps, alive_known, past_put, raised_past)
 
 -- the killed one
 pub past_killed : (w : Indexed Registration) (e : Entity) → is_alive w e ≡ true → IsPast (with_death w e) e
-past_killed w e alive =
-    let living : (r : Registration) × (slice_get w.indices e.index ≡ Some (Living e.generation r)) = alive_known w e alive in
-    let within : e.index < length w.indices = slice_get_within w.indices e.index (Living e.generation living.0) living.1 in
-    record { state = rw slice_get-set_same (raised_past e.generation e.generation (nat_lt e.generation 65535) (omega arith)) }
+past_killed w e alive = grind (arith, common_steps, alive_known, slice_get_within, slice_get-set_same, raised_past)
 
 -- the next entity isn't one that is past
 next_not_past : (w : Indexed Registration) (e x : Entity) → next_entity w ≡ Some x → IsPast w e → x ≢ e
-next_not_past w e x h p same =
-    elim (next_is w x h) [
-      | inl free ↦
-          let at : slice_get w.indices e.index ≡ Some (Free e.generation) = rw same at free in
-          absurd (let above : e.generation < e.generation = rw at at p.state in omega arith)
-      | inr fresh ↦
-          let known : (y : IndexState Registration) × (slice_get w.indices e.index ≡ Some y) = past_known (slice_get w.indices e.index) e.generation p.state in
-          let within : e.index < length w.indices = slice_get_within w.indices e.index known.0 known.1 in
-          let index : length w.indices ≡ e.index = ap (λ (y : Entity). y.index) (fresh.1 ∙ same) in
-          absurd (omega arith)
-    ]
+next_not_past w e x h p same = grind (arith, common_steps, next_is, past_known, slice_get_within)
 
 -- each call leaves it past
 
@@ -130,9 +105,7 @@ made_next w new x d None (Some y) n h = let e : Ok x ≡ Ok y = h.0 in cc
 past_changed : (w : Indexed Registration) (e x : Entity) (change : Registration → Registration) (o : Option Registration) → record_of w x ≡ o → IsPast w e →
     IsPast (change_kept w x change o) e
 past_changed w e x change None h p = p
-past_changed w e x change (Some r) h p =
-    past_put w e x.index (Living x.generation (change r)) p
-    (λ same. rw (living_at w x r h) at (rw (← same) at p.state))
+past_changed w e x change (Some r) h p = grind (arith, common_steps, past_put, living_at)
 
 past_renamed : (w new : Indexed Registration) (e x : Entity) (name : Option (List ℕ)) (r : Result (Unit {0}) Refusal) (u : Option Refusal) →
     MatchOption u (Answers tt (changed w x (renamed name)) r new) (λ why. Refuses why w r new) → IsPast w e → IsPast new e
@@ -146,21 +119,9 @@ past_call (Create name arity) w new e h p =
       | inr step ↦ past_made w new e (newcomer name arity) h.0 (unfit_name name_of w name) (next_entity w) refl (MatchBool-at_false _ _ step h.1) p
     ]
 past_call (Admit n) w new e h p =
-    elim (cases_Bool (is_out_of_memory h.0)) [
-      | inl out ↦ let same : IsTrue (may_admit w n) × (new ≡ w) = MatchBool-at_true _ _ out h.1 in rw same.1 p
-      | inr step ↦
-          let admits : Admits w n h.0 new = MatchBool-at_false _ _ step h.1 in
-          elim (cases_Bool (nat_le (length w.indices + n) w.limit)) [
-            | inl room ↦ let done : (h.0 ≡ Ok tt) × (new ≡ admitted n w) = MatchBool-at_true _ _ room admits in rw done.1 (past_admitted w e n p)
-            | inr full ↦ let refused : (h.0 ≡ Err NoMoreIds) × (new ≡ w) = MatchBool-at_false _ _ full admits in rw refused.1 p
-          ]
-    ]
+    grind (arith, common_steps, cases_Bool, past_admitted)
 past_call (MakeAlive x) w new e h p =
-    elim (cases_Bool (is_free_at w x)) [
-      | inl free ↦ let done : (h.0 ≡ Ok tt) × (new ≡ with_record w x (newcomer None None)) = MatchBool-at_true _ _ free h.1 in
-          rw done.1 (past_settled w e x (newcomer None None) free p)
-      | inr other ↦ let refused : (h.0 ≡ Err Taken) × (new ≡ w) = MatchBool-at_false _ _ other h.1 in rw refused.1 p
-    ]
+    grind (arith, common_steps, cases_Bool, past_settled)
 past_call (Kill x) w new e h p = rw h.1 (past_died w e x h.0 p)
 past_call (Rename x name) w new e h p =
     elim (cases_Bool (is_out_of_memory h.0)) [

@@ -1,32 +1,29 @@
 -- The marks of the free indices: they follow each change of a state.
-use Rattle.std.proofs.Common.{◌≡◌, ℕ, zero, suc, ◌+◌, ◌-◌, ◌<◌, ◌≤◌, Bool, true, false, List, [], ◌∷◌, ◌++◌, length, set, take, get_or, slice_get, slice_set, replicate, map, refl, sym, ap, ◌∙◌, Option, Some, None, MatchOption, option_map, ◌⊎◌, inl, inr, arith, nat_lt, if◌then◌else◌}
+use Rattle.std.proofs.Common.{rules}
+use Rattle.std.proofs.lemmas.Grind.{common_steps}
+use Rattle.std.proofs.Common.{◌≡◌, ℕ, zero, suc, ◌+◌, ◌-◌, ◌<◌, ◌≤◌, Bool, true, false, List, [], ◌∷◌, ◌++◌, length, set, take, get_or, slice_get, slice_set}
+use Rattle.std.proofs.Common.{replicate, map, refl, sym, ap, ◌∙◌, Option, Some, None, MatchOption, option_map, ◌⊎◌, inl, inr, arith, nat_lt, if◌then◌else◌}
 use Rattle.std.specs.List.{position_from}
 use Rattle.std.specs.Option.{option_or}
 use Rattle.std.proofs.lemmas.Bool.{cases_Bool, cases_eq, ltb-true, ltb-false, lt-ltb, le-ltb, cond-true, cond-false}
 use Rattle.std.proofs.lemmas.List.{length-append, length-replicate, take_at, length-map, get_or-map, length-set, map-set, set-get_or, map-append}
 use Rattle.std.proofs.lemmas.Option.{same_Some, slice_get_within, slice_get_past, slice_get_read, get_or_from_slice_get}
 use Rattle.eco_ids.specs.declared.entity.Entity.{Entity}
-use Rattle.eco_ids.specs.Indices.{Indexed, IndexState, Retired, Free, Living, lowest_free, next_entity, admitted, is_alive, is_free_at, map_state, raised, with_death, with_new, with_record, changed}
+use Rattle.eco_ids.specs.Indices.{Indexed, IndexState, Retired, Free, Living, lowest_free, next_entity, admitted, is_alive, is_free_at, map_state, raised}
+use Rattle.eco_ids.specs.Indices.{with_death, with_new, with_record, changed}
 use Rattle.eco_entities.specs.Registration.{Registration, renamed}
 use Rattle.eco_entities.specs.Slots.{IsMarked, Fits, is_free, is_named, next_generation, put_at, state_of, states, IsNextSlot}
 use Rattle.eco_entities.specs.declared.slot.Slot.{Slot}
 use Rattle.eco_entities.specs.declared.slots.Slots.TheInside.{Inside}
 use Rattle.eco_ids.proofs.Lists.{slice_get-set_same, slice_get-set_other, map-replicate}
-use Rattle.eco_entities.proofs.Shown.{AgreeBeside, Names, Shows, View, items, labels, free_slot, length-states, nameless_kept, slice_get-states, state_shown, states-copies, states-push, states-set, states_beside}
+use Rattle.eco_entities.proofs.Shown.{AgreeBeside, Names, Shows, View, items, labels, free_slot, length-states, nameless_kept, slice_get-states, state_shown}
+use Rattle.eco_entities.proofs.Shown.{states-copies, states-push, states-set, states_beside}
 use Rattle.eco_entities.proofs.States.{alive_known, free_known, changed_states, next_is}
 
 -- one state changes, and its mark with it
 pub marked-set : (limit : ℕ) (xs : List (IndexState Registration)) (marks marks' : List Bool) (i : ℕ) (x : IndexState Registration) → IsMarked limit xs marks →
     i < length xs → Fits (Some x) → marks' ≡ set marks i (is_free x) → IsMarked limit (set xs i x) marks'
-marked-set limit xs marks marks' i x m l fits e = record {
-  limited = m.limited;
-  within = rw length-set m.within;
-  marked = e ∙ (ap (λ ms. set ms i (is_free x)) m.marked ∙ sym (map-set is_free xs i x));
-  fit = λ j. elim (cases_eq j i) [
-    | inl same ↦ rw (same, slice_get-set_same) fits
-    | inr apart ↦ rw slice_get-set_other (m.fit j)
-  ];
-}
+marked-set limit xs marks marks' i x m l fits e = search (rules, length-set, map-set, cases_eq, slice_get-set_same, slice_get-set_other)
 
 -- the lowest mark is the lowest free index
 
@@ -38,10 +35,7 @@ LowestFrom n xs r =
 lowest_later : {A : Type 0} (n : ℕ) (x : IndexState A) (xs : List (IndexState A)) (r : Option ℕ) → lowest_free n (x ∷ xs) ≡ lowest_free (n + 1) xs →
     LowestFrom (n + 1) xs r → LowestFrom n (x ∷ xs) r
 lowest_later n x xs None e h = e ∙ h
-lowest_later n x xs (Some k) e h =
-    let above : n + 1 ≤ k = h.0 in
-    let place : k - n ≡ suc (k - (n + 1)) = omega arith in
-    (omega arith, omega arith, e ∙ (h.2 ∙ rw place refl))
+lowest_later n x xs (Some k) e h = grind (arith, common_steps)
 
 pub lowest_marked : {A : Type 0} (n : ℕ) (xs : List (IndexState A)) → LowestFrom n xs (position_from (λ b. b) n (map is_free xs))
 lowest_marked n [] = refl
@@ -86,9 +80,7 @@ fits-raised A g = fits_if A g (nat_lt g 65535) refl
 
 lowest_unmarked : (limit : ℕ) (xs : List (IndexState Registration)) (marks : List Bool) → IsMarked limit xs marks → None ≡ position_from (λ b. b) 0 marks →
     lowest_free 0 xs ≡ None
-lowest_unmarked limit xs marks m none =
-    let found : LowestFrom 0 xs (position_from (λ b. b) 0 marks) = rw m.marked (lowest_marked 0 xs) in
-    rw (← none) at found
+lowest_unmarked limit xs marks m none = grind (arith, common_steps, lowest_marked)
 
 lowest_mark : (limit : ℕ) (xs : List (IndexState Registration)) (marks : List Bool) (k : ℕ) → IsMarked limit xs marks →
     Some k ≡ position_from (λ b. b) 0 marks → (k < length xs) × (lowest_free 0 xs ≡ Some (record { index = k; generation = next_generation (slice_get xs k) }))
@@ -135,11 +127,7 @@ abbrev with_last : ℕ → Registration → Indexed Registration → Indexed Reg
 with_last g r v = record v { indices = v.indices ++ Living g r ∷ [] }
 
 cases_lt : (a b : ℕ) → (a < b) ⊎ (b ≤ a)
-cases_lt a b =
-    elim (cases_Bool (nat_lt a b)) [
-      | inl t ↦ inl (ltb-true a b t)
-      | inr f ↦ inr (ltb-false a b f)
-    ]
+cases_lt a b = grind (arith, common_steps, cases_Bool, ltb-true, ltb-false)
 
 -- the (items kept)
 
@@ -151,23 +139,21 @@ module _ (kept : Inside) (w : Indexed Registration) (m : IsMarked kept.limit (st
   marks_as_slots = ap length m.marked ∙ (length-map (states (labels kept) (items kept)) is_free ∙ length-states (labels kept) (items kept))
 
   -- what a slot shows where it was read
-  state_read : (i : ℕ) (x : Slot) → i < length (items kept) → x ≡ get_or (items kept) i x → slice_get (states (labels kept) (items kept)) i ≡ Some (state_of ((labels kept) i) x)
-  state_read i x l read = slice_get-states (labels kept) (items kept) i ∙ ap (option_map (state_of ((labels kept) i))) (slice_get_read (items kept) (length (items kept)) i x refl l read)
+  state_read : (i : ℕ) (x : Slot) → i < length (items kept) → x ≡ get_or (items kept) i x
+      → slice_get (states (labels kept) (items kept)) i ≡ Some (state_of ((labels kept) i) x)
+  state_read i x l read = slice_get-states (labels kept) (items kept) i
+      ∙ ap (option_map (state_of ((labels kept) i))) (slice_get_read (items kept) (length (items kept)) i x refl l read)
 
   living_there : (e : Entity) → is_alive w e ≡ true →
       (r : Registration) × (slice_get (states (labels kept) (items kept)) e.index ≡ Some (Living e.generation r))
-  living_there e alive =
-      let living : (r : Registration) × (slice_get w.indices e.index ≡ Some (Living e.generation r)) = alive_known w e alive in
-      (living.0, ap (λ (v : Indexed Registration). slice_get v.indices e.index) view ∙ living.1)
+  living_there e alive = grind (arith, common_steps, alive_known)
 
   within_by : (i : ℕ) (x : IndexState Registration) → slice_get (states (labels kept) (items kept)) i ≡ Some x → i < length (items kept)
   within_by i x known = let l : i < length (states (labels kept) (items kept)) = slice_get_within (states (labels kept) (items kept)) i x known in
       let same : length (states (labels kept) (items kept)) ≡ length (items kept) = length-states (labels kept) (items kept) in omega arith
 
   pub alive_within : (e : Entity) → is_alive w e ≡ true → e.index < length (items kept)
-  alive_within e alive =
-      let living : (r : Registration) × (slice_get (states (labels kept) (items kept)) e.index ≡ Some (Living e.generation r)) = living_there e alive in
-      within_by e.index (Living e.generation living.0) living.1
+  alive_within e alive = grind (arith, common_steps, labels, items, living_there, within_by)
 
   pub free_within : (e : Entity) → is_free_at w e ≡ true → e.index < length (items kept)
   free_within e free =
@@ -181,20 +167,25 @@ module _ (kept : Inside) (w : Indexed Registration) (m : IsMarked kept.limit (st
   slot_changed label' e old new change apart alive read is =
       let within : e.index < length (items kept) = alive_within e alive in
       let here : slice_get (states (labels kept) (items kept)) e.index ≡ Some (state_of ((labels kept) e.index) old) = state_read e.index old within read in
-      let known : is_alive (record { limit = kept.limit; indices = states (labels kept) (items kept) }) e ≡ true = ap (λ (v : Indexed Registration). is_alive v e) view ∙ alive in
+      let known : is_alive (record { limit = kept.limit; indices = states (labels kept) (items kept) }) e ≡ true =
+      ap (λ (v : Indexed Registration). is_alive v e) view ∙ alive in
       let shown : states label' (set (items kept) e.index new) ≡ set (states (labels kept) (items kept)) e.index (state_of (label' e.index) new) =
       states-set (labels kept) label' (items kept) e.index new apart in (
         rw (shown, is)
-            (marked_kept kept.limit (states (labels kept) (items kept)) kept.free e.index (map_state change (state_of ((labels kept) e.index) old)) (state_of ((labels kept) e.index) old) m here
+            (marked_kept kept.limit (states (labels kept) (items kept)) kept.free e.index (map_state change (state_of ((labels kept) e.index) old))
+            (state_of ((labels kept) e.index) old) m here
             (is_free-map_state change (state_of ((labels kept) e.index) old))
-            (fits-map_state change (state_of ((labels kept) e.index) old) (fits_at kept.limit (states (labels kept) (items kept)) kept.free e.index (state_of ((labels kept) e.index) old) m here))),
+            (fits-map_state change (state_of ((labels kept) e.index) old)
+            (fits_at kept.limit (states (labels kept) (items kept)) kept.free e.index (state_of ((labels kept) e.index) old) m here))),
         rw shown
-            (changed_states kept.limit (states (labels kept) (items kept)) e (state_of (label' e.index) new) (state_of ((labels kept) e.index) old) change known here is
+            (changed_states kept.limit (states (labels kept) (items kept)) e (state_of (label' e.index) new)
+            (state_of ((labels kept) e.index) old) change known here is
             ∙ ap (λ (v : Indexed Registration). changed v e change) view),
       )
 
   -- who has no name loses none
-  pub unnamed_same : (e : Entity) (old : Slot) → is_alive w e ≡ true → old ≡ get_or (items kept) e.index old → is_named old.state ≡ false → w ≡ changed w e (renamed None)
+  pub unnamed_same : (e : Entity) (old : Slot) → is_alive w e ≡ true → old ≡ get_or (items kept) e.index old → is_named old.state ≡ false
+      → w ≡ changed w e (renamed None)
   unnamed_same e old alive read nameless =
       let same : (items kept) ≡ set (items kept) e.index old = sym (ap (set (items kept) e.index) read ∙ set-get_or (items kept) e.index old) in
       sym view ∙ (ap (λ ss. record { limit = kept.limit; indices = states (labels kept) ss }) same
@@ -218,17 +209,21 @@ module _ (kept : Inside) (w : Indexed Registration) (m : IsMarked kept.limit (st
   pub living_unmarked : (e : Entity) → is_alive w e ≡ true → kept.free ≡ set kept.free e.index false
   living_unmarked e alive =
       let living : (r : Registration) × (slice_get (states (labels kept) (items kept)) e.index ≡ Some (Living e.generation r)) = living_there e alive in
-      let within : e.index < length (states (labels kept) (items kept)) = slice_get_within (states (labels kept) (items kept)) e.index (Living e.generation living.0) living.1 in
+      let within : e.index < length (states (labels kept) (items kept)) =
+      slice_get_within (states (labels kept) (items kept)) e.index (Living e.generation living.0) living.1 in
       let mark : get_or kept.free e.index false ≡ false =
       ap (λ ms. get_or ms e.index false) m.marked
       ∙ (get_or-map is_free (states (labels kept) (items kept)) e.index (Living e.generation living.0) false within
-      ∙ ap is_free (get_or_from_slice_get (states (labels kept) (items kept)) e.index (Living e.generation living.0) (Living e.generation living.0) living.1)) in
+      ∙ ap is_free (get_or_from_slice_get (states (labels kept) (items kept)) e.index (Living e.generation living.0)
+      (Living e.generation living.0) living.1)) in
       sym (ap (λ b. set kept.free e.index b) (sym mark) ∙ set-get_or kept.free e.index false)
 
   -- the state that a death leaves
   pub slot_died : (marks' : List Bool) (e : Entity) (new : Slot) →
-      is_alive w e ≡ true → state_of ((labels kept) e.index) new ≡ raised e.generation → marks' ≡ set kept.free e.index (is_free (state_of ((labels kept) e.index) new)) →
-      IsMarked kept.limit (states (labels kept) (set (items kept) e.index new)) marks' × Shows kept.limit (labels kept) (set (items kept) e.index new) (with_death w e)
+      is_alive w e ≡ true → state_of ((labels kept) e.index) new ≡ raised e.generation
+      → marks' ≡ set kept.free e.index (is_free (state_of ((labels kept) e.index) new)) →
+      IsMarked kept.limit (states (labels kept) (set (items kept) e.index new)) marks'
+      × Shows kept.limit (labels kept) (set (items kept) e.index new) (with_death w e)
   slot_died marks' e new alive is mark =
       slot_put marks' e.index new (raised e.generation) (alive_within e alive) is
       (fits-raised Registration e.generation)
@@ -240,7 +235,8 @@ module _ (kept : Inside) (w : Indexed Registration) (m : IsMarked kept.limit (st
       let same : g ≡ next_generation (slice_get (states (labels kept) (items kept)) k) = is
       ∙ ap (λ (v : Indexed Registration). next_generation (slice_get v.indices k)) (sym view) in
       ap (λ n. Some (record { index = k; generation = n })) same
-      ∙ (sym (next_free kept.limit (states (labels kept) (items kept)) _ (lowest_mark kept.limit (states (labels kept) (items kept)) kept.free k m some).1) ∙ ap next_entity view)
+      ∙ (sym (next_free kept.limit (states (labels kept) (items kept)) _ (lowest_mark kept.limit (states (labels kept) (items kept)) kept.free k m some).1)
+      ∙ ap next_entity view)
 
   pub next_fresh : (k g : ℕ) → None ≡ position_from (λ b. b) 0 kept.free → k ≡ length (items kept) →
       k < kept.limit → g ≡ next_generation (slice_get w.indices k) → Some (record { index = k; generation = g }) ≡ next_entity w
@@ -249,48 +245,47 @@ module _ (kept : Inside) (w : Indexed Registration) (m : IsMarked kept.limit (st
       let past : slice_get (states (labels kept) (items kept)) k ≡ None = slice_get_past (states (labels kept) (items kept)) k (omega arith) in
       let zero_is : g ≡ 0 = is ∙ (ap (λ (v : Indexed Registration). next_generation (slice_get v.indices k)) (sym view) ∙ ap next_generation past) in
       ap (λ n. Some (record { index = k; generation = n })) zero_is
-      ∙ (sym (ap (first_unknown kept.limit) whole ∙ cond-true (nat_lt k kept.limit) (Some (record { index = k; generation = 0 })) None (lt-ltb k kept.limit below))
-      ∙ (sym (next_unknown kept.limit (states (labels kept) (items kept)) (lowest_unmarked kept.limit (states (labels kept) (items kept)) kept.free m none)) ∙ ap next_entity view))
+      ∙ (sym (ap (first_unknown kept.limit) whole ∙ cond-true (nat_lt k kept.limit) (Some (record { index = k; generation = 0 })) None
+      (lt-ltb k kept.limit below))
+      ∙ (sym (next_unknown kept.limit (states (labels kept) (items kept)) (lowest_unmarked kept.limit (states (labels kept) (items kept)) kept.free m none))
+      ∙ ap next_entity view))
 
   pub next_over : None ≡ position_from (λ b. b) 0 kept.free → kept.limit ≤ length (items kept) →
       None ≡ next_entity w
   next_over none over =
       let whole : length (states (labels kept) (items kept)) ≡ length (items kept) = length-states (labels kept) (items kept) in
-      sym (ap (first_unknown kept.limit) whole ∙ cond-false (nat_lt (length (items kept)) kept.limit) (Some (record { index = length (items kept); generation = 0 })) None
+      sym (ap (first_unknown kept.limit) whole ∙ cond-false (nat_lt (length (items kept)) kept.limit)
+      (Some (record { index = length (items kept); generation = 0 })) None
       (le-ltb (length (items kept)) kept.limit over))
-      ∙ (sym (next_unknown kept.limit (states (labels kept) (items kept)) (lowest_unmarked kept.limit (states (labels kept) (items kept)) kept.free m none)) ∙ ap next_entity view)
+      ∙ (sym (next_unknown kept.limit (states (labels kept) (items kept)) (lowest_unmarked kept.limit (states (labels kept) (items kept)) kept.free m none))
+      ∙ ap next_entity view)
 
   pub slots_admitted : (slots' : List Slot) (grown marks' : List Bool) (n : ℕ) (new : Slot) →
-      length (items kept) + n ≤ kept.limit → slots' ≡ (items kept) ++ replicate n new → ((l : Option (List ℕ)) → state_of l new ≡ Free 0) → grown ≡ kept.free ++ replicate n false →
+      length (items kept) + n ≤ kept.limit → slots' ≡ (items kept) ++ replicate n new → ((l : Option (List ℕ)) → state_of l new ≡ Free 0)
+      → grown ≡ kept.free ++ replicate n false →
       marks' ≡ take (length (items kept)) grown ++ replicate (length grown - length (items kept)) true →
       IsMarked kept.limit (states (labels kept) slots') marks' × Shows kept.limit (labels kept) slots' (admitted n w)
   slots_admitted slots' grown marks' n new room more fresh zeros filled =
-      let same : length (states (labels kept) (items kept)) ≡ length (items kept) = length-states (labels kept) (items kept) in
-      let known : length kept.free ≡ length (items kept) = ap length m.marked ∙ (length-map (states (labels kept) (items kept)) is_free ∙ same) in
-      let whole : length grown - length (items kept) ≡ n = let grown_by : length grown ≡ length kept.free + n = ap length zeros
-      ∙ (length-append kept.free (replicate n false) ∙ rw length-replicate refl) in omega arith in
-      let front : take (length (items kept)) grown ≡ kept.free = ap (take (length (items kept))) zeros ∙ take_at kept.free (replicate n false) (length (items kept)) known in
-      let shown : states (labels kept) slots' ≡ states (labels kept) (items kept) ++ replicate n (Free 0) = ap (states (labels kept)) more ∙ states-copies (labels kept) (items kept) n new fresh in
-      let marks_are : marks' ≡ map is_free (states (labels kept) (items kept) ++ replicate n (Free 0)) =
-      filled ∙ (rw (front, whole) refl
-      ∙ (ap (λ ms. ms ++ replicate n true) m.marked
-      ∙ sym (map-append is_free (states (labels kept) (items kept)) (replicate n (Free 0))
-      ∙ ap (λ ys. map is_free (states (labels kept) (items kept)) ++ ys) (map-replicate is_free n (Free 0))))) in (
-        rw shown (record {
-          limited = m.limited;
-          within = rw (length-append, length-replicate, same) room;
-          marked = marks_are;
-          fit = fits-append (states (labels kept) (items kept)) (replicate n (Free 0)) m.fit (fits-fresh Registration n);
-        }),
-        rw shown (ap (admitted n) view),
+      grind (
+        arith,
+        common_steps,
+        labels,
+        items,
+        length-states,
+        length-map,
+        length-append,
+        length-replicate,
+        take_at,
+        states-copies,
+        map-append,
+        map-replicate,
+        fits-append,
+        fits-fresh,
       )
 
   pub room_inside : (n : ℕ) →
       length w.indices + n ≤ w.limit → length (items kept) + n ≤ kept.limit
-  room_inside n room =
-      let known : length w.indices ≡ length (items kept) = length_shown in
-      let bound : kept.limit ≡ w.limit = ap (λ (v : Indexed Registration). v.limit) view in
-      omega arith
+  room_inside n room = grind (arith, common_steps, items, length_shown)
 
   -- ---- the next entity's slot, at its index or after the last one
   next_within : (e : Entity) → next_entity w ≡ Some e → (e.index ≤ length (items kept)) × (length (items kept) ≤ e.index → length (items kept) + 1 ≤ kept.limit)
@@ -309,13 +304,7 @@ module _ (kept : Inside) (w : Indexed Registration) (m : IsMarked kept.limit (st
 
   pub next_slot : (e : Entity) → next_entity w ≡ Some e →
       IsNextSlot e.index (length (items kept)) (length kept.free)
-  next_slot e next =
-      let same : length (states (labels kept) (items kept)) ≡ length (items kept) = length-states (labels kept) (items kept) in
-      record {
-        within = (next_within e next).0;
-        marked = marks_as_slots;
-        room = omega (arith, m.limited, m.within);
-      }
+  next_slot e next = grind (arith, common_steps, labels, items, length-states, next_within, marks_as_slots)
 
   -- another (labels kept) there, and still nobody
   pub next_unlabelled : (e : Entity) (label' : Names) → AgreeBeside e.index (labels kept) label' → next_entity w ≡ Some e →
@@ -337,7 +326,8 @@ module _ (kept : Inside) (w : Indexed Registration) (m : IsMarked kept.limit (st
   -- it lives with this kept of it, and isn't marked
   pub slot_settled : (e : Entity) (label' : Names) (slots' : List Slot) (marks' : List Bool) (new : Slot) (r : Registration) →
       AgreeBeside e.index (labels kept) label' → next_entity w ≡ Some e →
-      e.generation ≤ 65535 → state_of (label' e.index) new ≡ Living e.generation r → slots' ≡ put_at e.index new (items kept) → marks' ≡ put_at e.index false kept.free →
+      e.generation ≤ 65535 → state_of (label' e.index) new ≡ Living e.generation r → slots' ≡ put_at e.index new (items kept)
+      → marks' ≡ put_at e.index false kept.free →
       IsMarked kept.limit (states label' slots') marks' × Shows kept.limit label' slots' (with_new w e r)
   slot_settled e label' slots' marks' new r apart next small is put unmarked =
       let at : (e.index ≤ length (items kept)) × (length (items kept) ≤ e.index → length (items kept) + 1 ≤ kept.limit) = next_within e next in
@@ -349,8 +339,10 @@ module _ (kept : Inside) (w : Indexed Registration) (m : IsMarked kept.limit (st
             let slots_are : slots' ≡ set (items kept) e.index new = put ∙ cond-true (nat_lt e.index (length (items kept))) _ _ (lt-ltb _ _ l) in
             let marks_are : marks' ≡ set kept.free e.index false = unmarked ∙ cond-true (nat_lt e.index (length kept.free)) _ _ (lt-ltb _ _ (omega arith)) in
             let shown : states label' slots' ≡ set (states (labels kept) (items kept)) e.index (Living e.generation r) =
-            ap (states label') slots_are ∙ (states-set (labels kept) label' (items kept) e.index new apart ∙ ap (set (states (labels kept) (items kept)) e.index) is) in (
-              rw shown (marked-set kept.limit (states (labels kept) (items kept)) kept.free marks' e.index (Living e.generation r) m (omega arith) small marks_are),
+            ap (states label') slots_are ∙ (states-set (labels kept) label' (items kept) e.index new apart
+            ∙ ap (set (states (labels kept) (items kept)) e.index) is) in (
+              rw shown (marked-set kept.limit (states (labels kept) (items kept)) kept.free marks' e.index (Living e.generation r) m
+                  (omega arith) small marks_are),
               rw shown (ap (with_state e.index (Living e.generation r)) view
                   ∙ sym (cond-true (nat_lt e.index (length w.indices)) (with_record w e r) _ (lt-ltb _ _ (omega arith)))),
             )
@@ -360,9 +352,7 @@ module _ (kept : Inside) (w : Indexed Registration) (m : IsMarked kept.limit (st
             let slots_are : slots' ≡ (items kept) ++ new ∷ [] = put ∙ cond-false (nat_lt e.index (length (items kept))) _ _ (le-ltb _ _ past) in
             let marks_are : marks' ≡ kept.free ++ false ∷ [] = unmarked ∙ cond-false (nat_lt e.index (length kept.free)) _ _ (le-ltb _ _ (omega arith)) in
             let shown : states label' slots' ≡ states (labels kept) (items kept) ++ Living e.generation r ∷ [] =
-            ap (states label') slots_are
-            ∙ (states-push (labels kept) label' (items kept) new (λ k ne. apart k (λ e. ne (e ∙ there)))
-            ∙ ap (λ x. states (labels kept) (items kept) ++ x ∷ []) (ap (λ i. state_of (label' i) new) (sym there) ∙ is)) in (
+            grind (arith, common_steps, states-push, labels, items) in (
               rw shown (record {
                 limited = m.limited;
                 within = rw (length-append, same) room;

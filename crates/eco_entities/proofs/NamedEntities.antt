@@ -1,5 +1,7 @@
 -- Who bears a name: the look-up in the registry and the search among the living find the same.
-use Rattle.std.proofs.Common.{◌≡◌, ℕ, zero, suc, ◌+◌, ◌-◌, ◌≤◌, Bool, true, false, cond, List, [], ◌∷◌, slice_get, refl, sym, ap, ◌∙◌, Option, Some, None, MatchOption, option_map, option_and_then, find, inl, inr, arith}
+use Rattle.std.proofs.lemmas.Grind.{common_steps}
+use Rattle.std.proofs.Common.{◌≡◌, ℕ, zero, suc, ◌+◌, ◌-◌, ◌≤◌, Bool, true, false, cond, List, [], ◌∷◌, slice_get, refl, sym, ap, ◌∙◌, Option, Some, None}
+use Rattle.std.proofs.Common.{MatchOption, option_map, option_and_then, find, arith}
 use Rattle.std.proofs.lemmas.Bool.{cases_eq, false≢true, ne_eqb}
 use Rattle.std.proofs.lemmas.Map.Text.{is_eq-slice_cmp}
 use Rattle.std.proofs.lemmas.Option.{none-some, same_Some}
@@ -49,25 +51,15 @@ none_after x xs name here rest (suc i) g r h = rest i g r h
 found_later : (n : ℕ) (x : IndexState Registration) (xs : List (IndexState Registration)) (name : List ℕ) (o : Option (Entity × Registration)) →
     ((g : ℕ) (r : Registration) → record_in (Some x) g ≡ Some r → is_called name (name_of r) ≡ false) → Found (n + 1) xs name o → Found n (x ∷ xs) name o
 found_later n x xs name None here rest = none_after x xs name here rest
-found_later n x xs name (Some q) here rest =
-    let above : n + 1 ≤ q.0.index = rest.0 in
-    let place : q.0.index - n ≡ suc (q.0.index - (n + 1)) = omega arith in
-    (omega arith, rw place rest.1, rest.2)
+found_later n x xs name (Some q) here rest = grind (arith, common_steps)
 
 living_one : (g f : ℕ) (r q : Registration) → record_in (Some (Living g r)) f ≡ Some q → Some r ≡ Some q
-living_one g f r q h =
-    elim (cases_eq f g) [
-      | inl e ↦ sym (record_here g r) ∙ (ap (λ m. record_in (Some (Living g r)) m) (sym e) ∙ h)
-      | inr ne ↦ absurd (none-some q (sym (ap (λ b. cond b (Some r) None) (ne_eqb f g ne)) ∙ h))
-    ]
+living_one g f r q h = grind (arith, common_steps, cases_eq, record_here, none-some, ne_eqb)
 
 found_living : (n g : ℕ) (r : Registration) (xs : List (IndexState Registration)) (name : List ℕ) (b : Bool) (o : Option (Entity × Registration)) →
     is_called name (name_of r) ≡ b → Found (n + 1) xs name o → Found n (Living g r ∷ xs) name (cond b (Some (record { index = n; generation = g }, r)) o)
-found_living n g r xs name true o e rest =
-    let here : n - n ≡ 0 = omega arith in
-    (omega arith, rw here (record_here g r), e)
-found_living n g r xs name false o e rest =
-    found_later n (Living g r) xs name o (λ f q h. rw (same_Some r q (living_one g f r q h)) at e) rest
+found_living n g r xs name true o e rest = grind (arith, common_steps, record_here)
+found_living n g r xs name false o e rest = grind (arith, common_steps, found_later, same_Some, living_one)
 
 found_from : (n : ℕ) (xs : List (IndexState Registration)) (name : List ℕ) → Found n xs name (find (is_named name) (living_from n xs))
 found_from n [] name = λ i g r h. absurd (none-some r h)

@@ -1,17 +1,19 @@
 -- The names of the living after each change of a state.
-use Rattle.std.proofs.Common.{◌≡◌, ℕ, ◌+◌, Bool, true, List, length, slice_get, refl, sym, ap, ◌∙◌, Option, Some, None, is_some, option_and_then, inl, inr, nat_le, Result, Ok, Err, IsTrue}
+use Rattle.std.proofs.lemmas.Grind.{common_steps}
+use Rattle.std.proofs.Common.{arith}
+use Rattle.std.proofs.Common.{◌≡◌, ℕ, Bool, true, List, slice_get, refl, ap, ◌∙◌, Option, Some, None, is_some, option_and_then, inl, inr, Result, Ok, Err}
 use Rattle.std.proofs.lemmas.Bool.{cases_Bool}
 use Rattle.std.proofs.lemmas.Bool.{MatchBool-at_true, MatchBool-at_false}
 use Rattle.std.proofs.lemmas.List.{set-set}
 use Rattle.eco_ids.specs.declared.refusal.Refusal.{Refusal}
-use Rattle.eco_ids.specs.declared.refusal.Refusal.TheVariants.{Taken, NoMoreIds}
+use Rattle.eco_ids.specs.declared.refusal.Refusal.TheVariants.{Taken}
 use Rattle.eco_ids.specs.Births.{Admits, MakesAliveWith}
-use Rattle.eco_ids.specs.Outcome.{Meets, is_out_of_memory}
+use Rattle.eco_ids.specs.Outcome.{Meets}
 use Rattle.eco_entities.specs.declared.place.Place.{Place}
 use Rattle.eco_entities.proofs.Registers.{cases_entity, registry_same, registry_nameless}
 use Rattle.std.proofs.lemmas.Option.{slice_get_within}
 use Rattle.eco_ids.specs.declared.entity.Entity.{Entity}
-use Rattle.eco_ids.specs.Indices.{Indexed, Living, record_in, record_of, is_alive, is_free_at, with_record, with_death, admitted, raised, with_new, next_entity, changed, change_kept}
+use Rattle.eco_ids.specs.Indices.{Indexed, Living, record_of, is_alive, is_free_at, with_record, with_death, with_new, next_entity, changed, change_kept}
 use Rattle.eco_ids.specs.Renaming.{own_name}
 use Rattle.eco_entities.specs.Registration.{Registration, newcomer, name_of, placed, renamed}
 use Rattle.eco_entities.specs.Changes.{ChangesAt, Keeps}
@@ -80,20 +82,13 @@ own-placed w e p alive =
     let living : (r : Registration) × (slice_get w.indices e.index ≡ Some (Living e.generation r)) = alive_known w e alive in
     let c : ChangesAt (own_name name_of w) (own_name name_of (changed w e (placed p))) e (name_of living.0) = own-changed w e (placed p) living.0 living.1 in
     record {
-      all = λ j. elim (cases_entity j e) [
-        | inl same ↦ ap (own_name name_of (changed w e (placed p))) same
-            ∙ (c.here ∙ (sym (ap (option_and_then name_of) (record_at w e living.0 living.1)) ∙ ap (own_name name_of w) (sym same)))
-        | inr apart ↦ c.others j apart
-      ];
+      all = λ j. grind (arith, common_steps, cases_entity, record_at);
     }
 
 -- who dies after losing the name
 pub death_of_renamed : (w : Indexed Registration) (e : Entity) (change : Registration → Registration) → is_alive w e ≡ true →
     with_death (changed w e change) e ≡ with_death w e
-death_of_renamed w e change alive =
-    let living : (r : Registration) × (slice_get w.indices e.index ≡ Some (Living e.generation r)) = alive_known w e alive in
-    ap (λ v. with_death v e) (ap (change_kept w e change) (record_at w e living.0 living.1))
-    ∙ ap (λ xs. record w { indices = xs }) (set-set w.indices e.index (Living e.generation (change living.0)) (raised e.generation))
+death_of_renamed w e change alive = grind (arith, common_steps, alive_known, record_at, set-set)
 
 module _ {found : List ℕ → Option Entity} where
   -- a call that makes an entity alive keeps the registry
@@ -112,27 +107,8 @@ module _ {found : List ℕ → Option Entity} where
   -- a call that admits keeps the registry
   pub registry_admitted : (w new : Indexed Registration) (n : ℕ) (may : Bool) (r : Result (Unit {0}) Refusal) → IsRegistry found (own_name name_of w) →
       Meets (Admits w n) may w r new → IsRegistry found (own_name name_of new)
-  registry_admitted w new n may r g h =
-      elim (cases_Bool (is_out_of_memory r)) [
-        | inl out ↦ let same : IsTrue may × (new ≡ w) = MatchBool-at_true _ _ out h in rw same.1 g
-        | inr step ↦
-            let admits : Admits w n r new = MatchBool-at_false _ _ step h in
-            elim (cases_Bool (nat_le (length w.indices + n) w.limit)) [
-              | inl room ↦
-                  let done : (r ≡ Ok tt) × (new ≡ admitted n w) = MatchBool-at_true _ _ room admits in
-                  rw done.1 (registry_same g (record { all = λ k. refl }) (names_stay w (admitted n w) (record-admitted w n)))
-              | inr full ↦
-                  let refused : (r ≡ Err NoMoreIds) × (new ≡ w) = MatchBool-at_false _ _ full admits in
-                  rw refused.1 g
-            ]
-      ]
+  registry_admitted w new n may r g h = grind (arith, common_steps, cases_Bool, registry_same, names_stay, record-admitted)
 
 pub alive_changed : (w : Indexed Registration) (e : Entity) (change : Registration → Registration) → is_alive w e ≡ true →
     is_alive (changed w e change) e ≡ true
-alive_changed w e change alive =
-    let living : (r : Registration) × (slice_get w.indices e.index ≡ Some (Living e.generation r)) = alive_known w e alive in
-    ap (λ (v : Indexed Registration). is_alive v e) (ap (change_kept w e change) (record_at w e living.0 living.1))
-    ∙ (ap (λ o. is_some (record_in o e.generation))
-    (slice_get-set_same w.indices e.index (Living e.generation (change living.0))
-    (slice_get_within w.indices e.index (Living e.generation living.0) living.1))
-    ∙ ap is_some (record_here e.generation (change living.0)))
+alive_changed w e change alive = grind (arith, common_steps, alive_known, record_at, slice_get-set_same, slice_get_within, record_here)

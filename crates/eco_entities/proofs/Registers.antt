@@ -1,11 +1,12 @@
 -- The registry of names after each change.
-use Rattle.std.proofs.Common.{◌≡◌, ◌≢◌, ℕ, true, List, sym, ap, ◌∙◌, Option, Some, None, ◌⊎◌, inl, inr}
+use Rattle.std.proofs.lemmas.Grind.{common_steps}
+use Rattle.std.proofs.Common.{◌≡◌, ◌≢◌, ℕ, true, List, sym, ap, ◌∙◌, Option, Some, None, ◌⊎◌, inl, inr, arith}
 use Rattle.std.proofs.lemmas.Bool.{cases_eq, cases_Bool, false≢true}
 use Rattle.std.proofs.lemmas.Option.{none-some, same_Some}
 use Rattle.std.proofs.lemmas.Slice.Eq.{bytes_eq-Decides}
 use Rattle.std.specs.Str.{bytes_eq}
 use Rattle.eco_ids.specs.declared.entity.Entity.{Entity}
-use Rattle.eco_ids.specs.Names.{is_proper, is_name}
+use Rattle.eco_ids.specs.Names.{is_name}
 use Rattle.eco_entities.specs.Changes.{ChangesAt, Keeps}
 use Rattle.eco_entities.specs.Registry.{IsRegistry}
 
@@ -19,23 +20,12 @@ cases_text xs ys =
 
 -- two handles are equal or not
 pub cases_entity : (a b : Entity) → (a ≡ b) ⊎ (a ≢ b)
-cases_entity a b =
-    elim (cases_eq a.index b.index) [
-      | inl i ↦ elim (cases_eq a.generation b.generation) [
-        | inl g ↦ inl (ap (λ n. record { index = n; generation = a.generation }) i ∙ ap (λ n. record { index = b.index; generation = n }) g)
-        | inr ne ↦ inr (λ e. ne (ap (λ (x : Entity). x.generation) e))
-      ]
-      | inr ne ↦ inr (λ e. ne (ap (λ (x : Entity). x.index) e))
-    ]
+cases_entity a b = grind (arith, common_steps, cases_eq)
 
 module _ {found found' : List ℕ → Option Entity} {own own' : Entity → Option (List ℕ)} where
   -- nothing that it is about has changed
   pub registry_same : IsRegistry found own → Keeps found found' → Keeps own own' → IsRegistry found' own'
-  registry_same r f o = record {
-    lives = λ name e h. o.all e ∙ r.lives name e (sym (f.all name) ∙ h);
-    listed = λ name e h. f.all name ∙ r.listed name e (sym (o.all e) ∙ h);
-    proper = λ e. ap is_proper (o.all e) ∙ r.proper e;
-  }
+  registry_same r f o = grind (arith, common_steps)
 
   -- an entity without name gets one that nobody has
   pub registry_gain : (name : List ℕ) (e : Entity) → IsRegistry found own → own e ≡ None → found name ≡ None → is_name name ≡ true →
@@ -49,62 +39,23 @@ module _ {found found' : List ℕ → Option Entity} {own own' : Entity → Opti
           let lived : own x ≡ Some n = r.lives n x (sym (f.others n apart) ∙ h) in
           o.others x (λ is. none-some n (sym nameless ∙ (ap own (sym is) ∙ lived))) ∙ lived
     ];
-    listed = λ n x h. elim (cases_entity x e) [
-      | inl same ↦
-          let called : n ≡ name = same_Some n name (sym h ∙ (ap own' same ∙ o.here)) in
-          ap found' called ∙ (f.here ∙ ap Some (sym same))
-      | inr apart ↦
-          let was : found n ≡ Some x = r.listed n x (sym (o.others x apart) ∙ h) in
-          f.others n (λ is. none-some x (sym free ∙ (ap found (sym is) ∙ was))) ∙ was
-    ];
-    proper = λ x. elim (cases_entity x e) [
-      | inl same ↦ ap is_proper (ap own' same ∙ o.here) ∙ good
-      | inr apart ↦ ap is_proper (o.others x apart) ∙ r.proper x
-    ];
+    listed = λ n x h. grind (arith, common_steps, cases_entity, same_Some, none-some);
+    proper = λ x. grind (arith, common_steps, cases_entity);
   }
 
   -- an entity loses its name
   pub registry_lose : (name : List ℕ) (e : Entity) → IsRegistry found own → own e ≡ Some name → ChangesAt found found' name None → ChangesAt own own' e None →
       IsRegistry found' own'
-  registry_lose name e r named f o = record {
-    lives = λ n x h. elim (cases_text n name) [
-      | inl same ↦ absurd (none-some x (sym f.here ∙ (ap found' (sym same) ∙ h)))
-      | inr apart ↦
-          let lived : own x ≡ Some n = r.lives n x (sym (f.others n apart) ∙ h) in
-          o.others x (λ is. apart (same_Some n name (sym lived ∙ (ap own is ∙ named)))) ∙ lived
-    ];
-    listed = λ n x h. elim (cases_entity x e) [
-      | inl same ↦ absurd (none-some n (sym o.here ∙ (ap own' (sym same) ∙ h)))
-      | inr apart ↦
-          let was : found n ≡ Some x = r.listed n x (sym (o.others x apart) ∙ h) in
-          f.others n (λ is. apart (same_Some x e (sym was ∙ (ap found is ∙ r.listed name e named)))) ∙ was
-    ];
-    proper = λ x. elim (cases_entity x e) [
-      | inl same ↦ ap is_proper (ap own' same ∙ o.here)
-      | inr apart ↦ ap is_proper (o.others x apart) ∙ r.proper x
-    ];
-  }
+  registry_lose name e r named f o = grind (arith, common_steps, cases_text, none-some, same_Some, cases_entity)
 
   -- an entity without name still has none
   pub registry_nameless : (e : Entity) → IsRegistry found own → own e ≡ None → Keeps found found' → ChangesAt own own' e None → IsRegistry found' own'
-  registry_nameless e r nameless f o =
-      registry_same r f (record {
-        all = λ x. elim (cases_entity x e) [
-          | inl same ↦ ap own' same
-              ∙ (o.here ∙ (sym nameless ∙ ap own (sym same)))
-          | inr apart ↦ o.others x apart
-        ];
-      })
+  registry_nameless e r nameless f o = grind (arith, common_steps, registry_same, cases_entity)
 
 -- a name that was given and taken back
 pub keeps_undone : {found found' found'' : List ℕ → Option Entity} (name : List ℕ) (e : Entity)
     → found name ≡ None → ChangesAt found found' name (Some e) → ChangesAt found' found'' name None → Keeps found found''
-keeps_undone {found} {found'} {found''} name e free f g = record {
-  all = λ n. elim (cases_text n name) [
-    | inl same ↦ ap found'' same ∙ (g.here ∙ (sym free ∙ sym (ap found same)))
-    | inr apart ↦ g.others n apart ∙ f.others n apart
-  ];
-}
+keeps_undone {found} {found'} {found''} name e free f g = grind (arith, common_steps, cases_text)
 
 -- an entity gets another name, and then the old one is free
 pub registry_exchange : {found found' found'' : List ℕ → Option Entity} {own own' : Entity → Option (List ℕ)} (old name : List ℕ) (e : Entity)
@@ -135,8 +86,5 @@ registry_exchange {found} {found'} {found''} {own} {own'} old name e r named fre
             let apart : n ≢ name = λ is. none-some x (sym free ∙ (ap found (sym is) ∙ was)) in
             g.others n kept ∙ (f.others n apart ∙ was)
       ];
-      proper = λ x. elim (cases_entity x e) [
-        | inl same ↦ ap is_proper (ap own' same ∙ o.here) ∙ good
-        | inr other ↦ ap is_proper (o.others x other) ∙ r.proper x
-      ];
+      proper = λ x. grind (arith, common_steps, cases_entity);
     }

@@ -1,12 +1,15 @@
 -- What a rename answers.
-use Rattle.std.proofs.Common.{◌≡◌, ℕ, Bool, true, false, not, ◌&&◌, List, [], ◌∷◌, slice_get, refl, sym, ap, ◌∙◌, Option, Some, None, is_some, Result, Ok, Err, MatchOption, option_and_then, inl, inr, eqb, eqb-true, eq-eqb}
+use Rattle.std.proofs.lemmas.Grind.{common_steps}
+use Rattle.std.proofs.Common.{arith}
+use Rattle.std.proofs.Common.{◌≡◌, ℕ, Bool, true, false, not, ◌&&◌, List, [], ◌∷◌, refl, sym, ap, ◌∙◌, Option, Some, None, is_some, Result, Ok, Err}
+use Rattle.std.proofs.Common.{MatchOption, eqb, eqb-true, eq-eqb}
 use Rattle.std.proofs.lemmas.Bool.{cases_Bool, false≢true, and_parts, and_from}
 use Rattle.std.proofs.lemmas.Option.{none-some, same_Some}
 use Rattle.eco_ids.specs.declared.entity.Entity.{Entity}
 use Rattle.eco_ids.specs.declared.refusal.Refusal.{Refusal}
 use Rattle.eco_ids.specs.declared.refusal.Refusal.TheVariants.{BadName, NameTaken}
 use Rattle.eco_ids.specs.Births.{unfit_name, Makes}
-use Rattle.eco_ids.specs.Indices.{Indexed, Living, is_alive, with_record, changed, change_kept}
+use Rattle.eco_ids.specs.Indices.{Indexed, is_alive, changed}
 use Rattle.eco_ids.specs.Names.{is_name, is_called, named_entity}
 use Rattle.eco_ids.specs.Outcome.{Meets, first_refusal, is_out_of_memory}
 use Rattle.eco_ids.specs.Renaming.{own_name, RenamesWith, may_rename}
@@ -18,11 +21,7 @@ use Rattle.eco_entities.proofs.States.{alive_known}
 
 -- who doesn't bear the name isn't called by it
 pub uncalled : (w : Indexed Registration) (e : Entity) (name : List ℕ) → (own_name name_of w e ≡ Some name → ⊥) → is_called name (own_name name_of w e) ≡ false
-uncalled w e name ne =
-    elim (cases_Bool (is_called name (own_name name_of w e))) [
-      | inl called ↦ absurd (ne (called_same name (own_name name_of w e) called))
-      | inr other ↦ other
-    ]
+uncalled w e name ne = grind (arith, common_steps, cases_Bool, called_same)
 
 -- another has it
 pub rename_taken : (w : Indexed Registration) (e x : Entity) (name : List ℕ) → is_alive w e ≡ true → is_name name ≡ true →
@@ -41,12 +40,7 @@ same_name r name h = ap (λ n. renamed n r) (sym h)
 -- its own name again changes nothing
 pub renamed_same : (w : Indexed Registration) (e : Entity) (name : List ℕ) → is_alive w e ≡ true → own_name name_of w e ≡ Some name →
     changed w e (renamed (Some name)) ≡ w
-renamed_same w e name alive own =
-    let living : (r : Registration) × (slice_get w.indices e.index ≡ Some (Living e.generation r)) = alive_known w e alive in
-    let called : name_of living.0 ≡ Some name = sym (ap (option_and_then name_of) (record_at w e living.0 living.1)) ∙ own in
-    ap (change_kept w e (renamed (Some name))) (record_at w e living.0 living.1)
-    ∙ (ap (λ r. with_record w e r) (same_name living.0 (Some name) called)
-    ∙ ap (λ xs. record w { indices = xs }) (set_own w.indices e.index (Living e.generation living.0) living.1))
+renamed_same w e name alive own = grind (arith, common_steps, alive_known, record_at, same_name, set_own)
 
 pub rename_same : (w : Indexed Registration) (e : Entity) (name : List ℕ) → is_alive w e ≡ true → is_name name ≡ true → own_name name_of w e ≡ Some name →
     RenamesWith name_of renamed w e false (Some name) (Ok tt) w
@@ -75,10 +69,7 @@ makes_refused w name arity may why h = rw (unfit_why Entity w name why h, h) (re
 -- the test of two handles
 
 pub same_entity : (a b : Entity) → true ≡ (eqb a.index b.index && eqb a.generation b.generation) → a ≡ b
-same_entity a b h =
-    let parts : (eqb a.index b.index ≡ true) × (eqb a.generation b.generation ≡ true) = and_parts _ _ (sym h) in
-    ap (λ n. record { index = n; generation = a.generation }) (eqb-true _ _ parts.0)
-    ∙ ap (λ n. record { index = b.index; generation = n }) (eqb-true _ _ parts.1)
+same_entity a b h = grind (arith, common_steps, and_parts, eqb-true)
 
 pub other_entity : (a b : Entity) → false ≡ (eqb a.index b.index && eqb a.generation b.generation) → a ≡ b → ⊥
 other_entity a b h e =
@@ -90,5 +81,6 @@ fit_parts true None h = (refl, refl)
 fit_parts true (Some e) h = absurd (none-some NameTaken (sym h))
 fit_parts false o h = absurd (none-some BadName (sym h))
 
-pub name_fit : (w : Indexed Registration) (name : List ℕ) → unfit_name name_of w (Some name) ≡ None → (is_name name ≡ true) × (named_entity name_of w name ≡ None)
+pub name_fit : (w : Indexed Registration) (name : List ℕ) → unfit_name name_of w (Some name) ≡ None → (is_name name ≡ true)
+    × (named_entity name_of w name ≡ None)
 name_fit w name h = fit_parts (is_name name) (named_entity name_of w name) h

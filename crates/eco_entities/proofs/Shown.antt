@@ -1,12 +1,15 @@
 -- What slots and labels show of the indices.
-use Rattle.std.proofs.Common.{◌≡◌, ◌≢◌, ℕ, zero, suc, ◌<◌, ◌==◌, ◌&&◌, Bool, true, false, cond, if◌then◌else◌, List, [], ◌∷◌, ◌++◌, length, set, get_or, slice_get, replicate, refl, sym, ap, ◌∙◌, Option, Some, None, is_some, option_map, option_and_then, arith}
+use Rattle.std.proofs.lemmas.Grind.{common_steps}
+use Rattle.std.proofs.Common.{◌≡◌, ◌≢◌, ℕ, zero, suc, ◌<◌, ◌==◌, ◌&&◌, Bool, true, false, cond, if◌then◌else◌, List, [], ◌∷◌, ◌++◌, length, set, get_or}
+use Rattle.std.proofs.Common.{slice_get, replicate, refl, sym, ap, ◌∙◌, Option, Some, None, is_some, option_map, option_and_then, arith}
 use Rattle.std.proofs.lemmas.Bool.{false≢true}
 use Rattle.std.proofs.lemmas.Option.{none-some, same_Some, slice_get_read}
 use Rattle.eco_ids.specs.declared.entity.Entity.{Entity}
 use Rattle.eco_ids.specs.Indices.{Indexed, IndexState, Retired, Free, Living, record_in, record_of, is_alive, is_free_in, map_state}
 use Rattle.eco_ids.specs.Renaming.{own_name}
 use Rattle.eco_entities.specs.Registration.{Registration, name_of, entity_at, entity_in, own_arity, own_place, renamed}
-use Rattle.eco_entities.specs.Slots.{is_living, is_named, arity_in, place_in, registration_of, state_at, state_of, states, living_in, living_slot, is_free, next_generation}
+use Rattle.eco_entities.specs.Slots.{is_living, is_named, arity_in, place_in, registration_of, state_at, state_of, states, living_in, living_slot, is_free}
+use Rattle.eco_entities.specs.Slots.{next_generation}
 use Rattle.eco_entities.specs.Labels.{label_of}
 use Rattle.eco_entities.specs.declared.slot.Slot.{Slot}
 use Rattle.eco_entities.specs.declared.slots.Slots.TheInside.{Inside}
@@ -123,9 +126,7 @@ View s w = Shows s.limit (labels s) (items s) w
 
 module _ (kept : Inside) (w : Indexed Registration) (view : View kept w) (e : Entity) where
   pub record_shown : record_of w e ≡ option_map (registration_of ((labels kept) e.index)) (living_slot (items kept) e)
-  record_shown =
-      ap (λ (v : Indexed Registration). record_of v e) (sym view)
-      ∙ (ap (λ o. record_in o e.generation) (slice_get-states (labels kept) (items kept) e.index) ∙ in_slot ((labels kept) e.index) (slice_get (items kept) e.index) e.generation)
+  record_shown = grind (arith, common_steps, slice_get-states, in_slot)
 
   pub alive_shown : is_some (living_slot (items kept) e) ≡ is_alive w e
   alive_shown = sym (ap is_some record_shown ∙ some_map ((labels kept) e.index) (living_slot (items kept) e))
@@ -140,17 +141,9 @@ module _ (kept : Inside) (w : Indexed Registration) (view : View kept w) (e : En
   name_shown = sym (ap (option_and_then name_of) record_shown ∙ name_map ((labels kept) e.index) (living_slot (items kept) e))
 
   -- where a living entity's slot was read
-  pub name_read : (s : Slot) → is_alive w e ≡ true → e.index < length (items kept) → s ≡ get_or (items kept) e.index s → name_in ((labels kept) e.index) s ≡ own_name name_of w e
-  name_read s alive within read =
-      let here : slice_get (items kept) e.index ≡ Some s = slice_get_read (items kept) (length (items kept)) e.index s refl within read in
-      name_by s (living_slot (items kept) e) refl here (alive_shown ∙ alive)
-    where
-      name_by : (s : Slot) (o : Option Slot) → living_slot (items kept) e ≡ o → slice_get (items kept) e.index ≡ Some s → is_some (living_slot (items kept) e) ≡ true →
-          name_in ((labels kept) e.index) s ≡ own_name name_of w e
-      name_by s None is here lives = absurd (false≢true (sym (ap is_some is) ∙ lives))
-      name_by s (Some t) is here lives =
-          let same : t ≡ s = living_same s t e.generation (sym (ap (λ o. living_in o e.generation) here) ∙ is) in
-          ap (name_in ((labels kept) e.index)) (sym same) ∙ (ap (option_and_then (name_in ((labels kept) e.index))) (sym is) ∙ name_shown)
+  pub name_read : (s : Slot) → is_alive w e ≡ true → e.index < length (items kept) → s ≡ get_or (items kept) e.index s
+      → name_in ((labels kept) e.index) s ≡ own_name name_of w e
+  name_read s alive within read = grind (arith, common_steps, slice_get_read, alive_shown, false≢true, living_same, name_shown)
 
 -- who has no name loses none
 nameless : (l : Option (List ℕ)) (s : Slot) (st : State) → is_named st ≡ false →
@@ -209,24 +202,27 @@ used_next (Living f r) h = refl
 module _ (kept : Inside) (w : Indexed Registration) (view : View kept w) (i : ℕ) where
   pub state_shown : (o : Option Slot) → o ≡ slice_get (items kept) i → slice_get w.indices i ≡ option_map (state_of ((labels kept) i)) o
   state_shown o is =
-      ap (λ (v : Indexed Registration). slice_get v.indices i) (sym view) ∙ (slice_get-states (labels kept) (items kept) i ∙ ap (option_map (state_of ((labels kept) i))) (sym is))
+      ap (λ (v : Indexed Registration). slice_get v.indices i) (sym view)
+      ∙ (slice_get-states (labels kept) (items kept) i ∙ ap (option_map (state_of ((labels kept) i))) (sym is))
 
-  pub entity_shown : (s : Slot) → Some s ≡ slice_get (items kept) i → is_living s.state ≡ true → Some (record { index = i; generation = s.generation }) ≡ entity_at w i
-  entity_shown s is lives =
-      sym (ap (entity_in i) (state_shown (Some s) is
-      ∙ ap Some (living_shows s.state s.generation (registration_of ((labels kept) i) s) lives)))
+  pub entity_shown : (s : Slot) → Some s ≡ slice_get (items kept) i → is_living s.state ≡ true
+      → Some (record { index = i; generation = s.generation }) ≡ entity_at w i
+  entity_shown s is lives = grind (arith, common_steps, state_shown, living_shows)
 
   pub nobody_shown : (s : Slot) → Some s ≡ slice_get (items kept) i → is_living s.state ≡ false → None ≡ entity_at w i
   nobody_shown s is dead =
       sym (ap (entity_in i) (state_shown (Some s) is) ∙ nobody_shows i s.state s.generation (registration_of ((labels kept) i) s) dead)
 
-  pub free_shown : (s : Slot) → Some s ≡ slice_get (items kept) i → is_free (state_of ((labels kept) i) s) ≡ true → slice_get w.indices i ≡ Some (Free s.generation)
+  pub free_shown : (s : Slot) → Some s ≡ slice_get (items kept) i → is_free (state_of ((labels kept) i) s) ≡ true
+      → slice_get w.indices i ≡ Some (Free s.generation)
   free_shown s is free = state_shown (Some s) is ∙ ap Some (free_slot ((labels kept) i) ((labels kept) i) s free)
 
-  pub used_shown : (s : Slot) (g : ℕ) → Some s ≡ slice_get (items kept) i → is_free (state_of ((labels kept) i) s) ≡ false → is_free_in (slice_get w.indices i) g ≡ false
+  pub used_shown : (s : Slot) (g : ℕ) → Some s ≡ slice_get (items kept) i → is_free (state_of ((labels kept) i) s) ≡ false
+      → is_free_in (slice_get w.indices i) g ≡ false
   used_shown s g is used = ap (λ o. is_free_in o g) (state_shown (Some s) is) ∙ used_in (state_of ((labels kept) i) s) g used
 
-  pub used_shows_none : (s : Slot) → Some s ≡ slice_get (items kept) i → is_free (state_of ((labels kept) i) s) ≡ false → next_generation (slice_get w.indices i) ≡ 0
+  pub used_shows_none : (s : Slot) → Some s ≡ slice_get (items kept) i → is_free (state_of ((labels kept) i) s) ≡ false
+      → next_generation (slice_get w.indices i) ≡ 0
   used_shows_none s is used = ap next_generation (state_shown (Some s) is) ∙ used_next (state_of ((labels kept) i) s) used
 
 -- a label counts only where somebody lives

@@ -1,10 +1,13 @@
 -- Lists of states: who lives or is free at an index, and what a change leaves of it.
-use Rattle.std.proofs.Common.{◌≡◌, ℕ, suc, ◌+◌, ◌-◌, ◌<◌, ◌≤◌, true, cond, List, [], ◌∷◌, length, set, slice_get, refl, sym, ap, ◌∙◌, Option, Some, None, is_some, ◌⊎◌, inl, inr, nat_lt, if◌then◌else◌, arith, eqb-true}
+use Rattle.std.proofs.lemmas.Grind.{common_steps}
+use Rattle.std.proofs.Common.{◌≡◌, ℕ, ◌+◌, ◌-◌, ◌<◌, ◌≤◌, true, cond, List, [], ◌∷◌, length, set, slice_get, refl, sym, ap, ◌∙◌, Option, Some, None, is_some}
+use Rattle.std.proofs.Common.{◌⊎◌, inl, inr, nat_lt, if◌then◌else◌, arith, eqb-true}
 use Rattle.std.specs.Option.{option_or}
 use Rattle.std.proofs.lemmas.Bool.{cases_eq, ltb-true, false≢true, ne_eqb}
 use Rattle.std.proofs.lemmas.Option.{none-some, cond_some, same_Some}
 use Rattle.eco_ids.specs.declared.entity.Entity.{Entity}
-use Rattle.eco_ids.specs.Indices.{Indexed, IndexState, Retired, Free, Living, record_in, is_alive, is_free_in, is_free_at, map_state, lowest_free, next_entity, change_kept, changed}
+use Rattle.eco_ids.specs.Indices.{Indexed, IndexState, Retired, Free, Living, record_in, is_alive, is_free_in, is_free_at, map_state, lowest_free, next_entity}
+use Rattle.eco_ids.specs.Indices.{changed}
 use Rattle.eco_ids.proofs.States.{record_at}
 
 -- who is there
@@ -37,40 +40,27 @@ alive_known w e h = living_in (slice_get w.indices e.index) e.generation h
 pub changed_states : {A : Type 0} (limit : ℕ) (xs : List (IndexState A)) (e : Entity) (x y : IndexState A) (change : A → A) →
     is_alive (record { limit = limit; indices = xs }) e ≡ true → slice_get xs e.index ≡ Some y → x ≡ map_state change y →
     ◌≡◌ {A = Indexed A} (record { limit = limit; indices = set xs e.index x }) (changed (record { limit = limit; indices = xs }) e change)
-changed_states {A} limit xs e x y change alive here is =
-    let living : (r : A) × (slice_get xs e.index ≡ Some (Living e.generation r)) = alive_known (record { limit = limit; indices = xs }) e alive in
-    let same : x ≡ Living e.generation (change living.0) = is ∙ ap (map_state change) (same_Some y (Living e.generation living.0) (sym here ∙ living.1)) in
-    ap (λ z. record { limit = limit; indices = set xs e.index z }) same
-    ∙ sym (ap (change_kept (record { limit = limit; indices = xs }) e change) (record_at (record { limit = limit; indices = xs }) e living.0 living.1))
+changed_states {A} limit xs e x y change alive here is = grind (arith, common_steps, alive_known, same_Some, record_at)
 
 -- who is made next is free at a known index, or comes first after the known ones
 
 lowest_on : {A : Type 0} (n : ℕ) (x : IndexState A) (xs : List (IndexState A)) (e : Entity) →
     (n + 1 ≤ e.index) × (slice_get xs (e.index - (n + 1)) ≡ Some (Free e.generation)) →
     (n ≤ e.index) × (slice_get (x ∷ xs) (e.index - n) ≡ Some (Free e.generation))
-lowest_on n x xs e h =
-    let above : n + 1 ≤ e.index = h.0 in
-    let place : e.index - n ≡ suc (e.index - (n + 1)) = omega arith in
-    (omega arith, rw place h.1)
+lowest_on n x xs e h = grind (arith, common_steps)
 
 lowest_is : {A : Type 0} (n : ℕ) (xs : List (IndexState A)) (e : Entity) → lowest_free n xs ≡ Some e →
     (n ≤ e.index) × (slice_get xs (e.index - n) ≡ Some (Free e.generation))
 lowest_is n [] e h = absurd (none-some e h)
 lowest_is n (Retired ∷ xs) e h = lowest_on n Retired xs e (lowest_is (n + 1) xs e h)
-lowest_is n (Free g ∷ xs) e h =
-    let index : n ≡ e.index = ap (λ (x : Entity). x.index) (same_Some (record { index = n; generation = g }) e h) in
-    let generation : g ≡ e.generation = ap (λ (x : Entity). x.generation) (same_Some (record { index = n; generation = g }) e h) in
-    let here : e.index - n ≡ 0 = omega arith in
-    (omega arith, rw here (ap (λ m. Some (Free m)) generation))
+lowest_is n (Free g ∷ xs) e h = grind (arith, common_steps, same_Some)
 lowest_is n (Living g r ∷ xs) e h = lowest_on n (Living g r) xs e (lowest_is (n + 1) xs e h)
 
 next_or : {A : Type 0} (w : Indexed A) (e : Entity) (o : Option Entity) → lowest_free 0 w.indices ≡ o →
     option_or o (if nat_lt (length w.indices) w.limit then Some (record { index = length w.indices; generation = 0 }) else None) ≡ Some e →
     (slice_get w.indices e.index ≡ Some (Free e.generation)) ⊎ ((length w.indices < w.limit) × (record { index = length w.indices; generation = 0 } ≡ e))
 next_or w e None low h =
-    let found : (nat_lt (length w.indices) w.limit ≡ true) × (record { index = length w.indices; generation = 0 } ≡ e) =
-    cond_some (nat_lt (length w.indices) w.limit) (record { index = length w.indices; generation = 0 }) e h in
-    inr (ltb-true _ _ found.0, found.1)
+    grind (arith, common_steps, cond_some, ltb-true)
 next_or w e (Some x) low h =
     let place : e.index - 0 ≡ e.index = omega arith in
     inl (rw place at (lowest_is 0 w.indices e (low ∙ h)).1)

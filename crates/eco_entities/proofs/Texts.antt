@@ -1,5 +1,6 @@
 -- Look-ups by text in the tree of names.
-use Rattle.std.proofs.Common.{◌≡◌, ℕ, List, refl, sym, ◌∙◌, Option}
+use Rattle.std.proofs.lemmas.Grind.{common_steps}
+use Rattle.std.proofs.Common.{◌≡◌, ℕ, List, Option, arith}
 use Rattle.std.specs.Prelude.{String}
 use Rattle.std.specs.BTreeMap.{BTreeMap, get_by_text}
 use Rattle.std.specs.Map.{update}
@@ -11,7 +12,4 @@ use Rattle.eco_entities.specs.Changes.{ChangesAt}
 -- a change under one key, seen by bytes
 pub changes_text : {Y X : Type 0} (bs : List ℕ) (m n : BTreeMap (String Y) X) (w : Option X)
     → ((cs : List ℕ) → get_by_text n cs ≡ update bytes_eq (get_by_text m) bs w cs) → ChangesAt (get_by_text m) (get_by_text n) bs w
-changes_text bs m n w u = record {
-  here = u bs ∙ cond-true _ _ _ ((bytes_eq-Decides bs bs).1 refl);
-  others = λ cs ne. u cs ∙ cond-false _ _ _ (false_from_ne_true _ (λ t. ne (sym ((bytes_eq-Decides bs cs).0 t))));
-}
+changes_text bs m n w u = grind (arith, common_steps, cond-true, bytes_eq-Decides, cond-false, false_from_ne_true)

@@ -1,6 +1,7 @@
 pub mod Changes
 pub mod FreeBits
 pub mod Labels
+pub mod Needs
 pub mod Registration
 pub mod Registry
 pub mod Rules

@@ -2,7 +2,7 @@
 //!
 //! An entity is named by a handle: an index, and how often that index was used before. A handle that outlives its entity
 //! is never taken for the one who lives at its index now (Flecs manual, Entities and Components).
-ghost use Rattle.std.specs.Prelude.{◌≡◌, ◌↔◌, ◌≤◌, ◌<◌, ◌&&◌, nat_lt, true, [], length, Option, Some, None, IsTrue, OnOk, OnErr, MatchOption};
+ghost use Rattle.std.specs.Prelude.{◌≡◌, ◌↔◌, ◌≤◌, ◌<◌, ◌&&◌, nat_lt, true, [], length, Option, Some, None, IsTrue, IfOk, OnOk, OnErr, MatchOption};
 ghost use Rattle.std.specs.Option.{option_copied};
 ghost use Rattle.eco_ids.specs.Births.{Admits, may_admit, Makes, MakesAliveWith, unfit_name};
 ghost use Rattle.eco_ids.specs.declared.entity.Entity.{Entity};
@@ -10,13 +10,14 @@ ghost use Rattle.eco_ids.specs.Indices.{changed, is_alive, is_free_at, next_enti
 ghost use Rattle.eco_ids.specs.Names.{named_entity, is_name};
 ghost use Rattle.eco_ids.specs.Outcome.{Meets};
 ghost use Rattle.eco_ids.specs.Renaming.{own_name};
+ghost use Rattle.eco_entities.specs.Needs.{need};
 ghost use Rattle.eco_entities.specs.Registration.{Creates, Renames, newcomer, name_of, own_arity, own_place, entity_at, placed, renamed};
 ghost use Rattle.eco_entities.specs.Rules.{IsRuled};
 
 use crate::names::Names;
 use crate::place::Place;
 use crate::slots::Slots;
-use eco_ids::{Entity, Refusal, is_name};
+use eco_ids::{Entity, Id, Refusal, is_name};
 use std::alloc::{AllocError, Global};
 use std::marker::Model;
 
@@ -64,6 +65,15 @@ impl EntityIndex {
             slots: Slots::new(alloc, limit),
             names: Names::new(alloc),
         }
+    }
+
+    /// The same index once more, with its names and places. An `Err` comes where memory is refused.
+    pub fn try_copy(&self) -> Result<EntityIndex, AllocError>
+        ensures { IfOk result (λ s. s ≡ self.now) }
+    {
+        let slots = self.slots.try_copy()?;
+        let names = self.names.try_copy()?;
+        Ok(EntityIndex { slots, names })
     }
 
     /// All indices lie below it.
@@ -128,7 +138,22 @@ impl EntityIndex {
         self.slots.arity(entity)
     }
 
+    /// The most fields that a value of an id may have, now or later: as many as the arity of its entity says, and all while that
+    /// is not known. A pair's value has the fields of its relationship's or of its target's.
+    pub fn need(&self, id: Id) -> u8
+        ensures need { result ≡ need self.now id }
+        ensures few { result ≤ 4 }
+    {
+        match id {
+            Id::One(entity) => self.slots.need(entity),
+            Id::Two(relationship, target) => {
+                self.slots.need(relationship).max(self.slots.need(target))
+            }
+        }
+    }
+
     /// Who is made next: the lowest free index at its generation, else the first unknown one below the limit.
+    #[inline]
     pub fn next(&self) -> Option<Entity>
         ensures { result ≡ next_entity self.now }
     {
@@ -162,12 +187,29 @@ impl EntityIndex {
     pub fn create(&mut self, name: Option<&str>, arity: Option<u8>) -> Result<Entity, Refusal>
         ensures { Creates self.old (option_copied name.entry) arity result self.new }
     {
+        match self.next() {
+            Some(entity) => self.create_next(entity, name, arity),
+            None => {
+                self.check_name(name)?;
+                Err(Refusal::NoMoreIds)
+            }
+        }
+    }
+
+    /// What [`create`](EntityIndex::create) does, where the caller knows already who is made next.
+    #[inline]
+    pub fn create_next(
+        &mut self,
+        entity: Entity,
+        name: Option<&str>,
+        arity: Option<u8>,
+    ) -> Result<Entity, Refusal>
+        requires { next_entity self.old ≡ Some entity }
+        ensures { Creates self.old (option_copied name.entry) arity result self.new }
+    {
         if name.is_some() {
             self.check_name(name)?;
         }
-        let Some(entity) = self.slots.next() else {
-            return Err(Refusal::NoMoreIds);
-        };
         self.settle(entity, name, arity)?;
         Ok(entity)
     }
@@ -175,7 +217,8 @@ impl EntityIndex {
     /// What stands against the name of a new entity: `BadName` where it is none, then `NameTaken` where a living entity has
     /// it.
     pub fn check_name(&self, name: Option<&str>) -> Result<(), Refusal>
-        ensures { MatchOption (unfit_name name_of self.now (option_copied name.entry)) (result ≡ Ok tt) (λ why. result ≡ Err why) }
+        ensures { MatchOption (unfit_name name_of self.now (option_copied name.entry)) (result ≡ Ok tt)
+            (λ why. result ≡ Err why) }
     {
         let Some(text) = name else {
             return Ok(());
@@ -190,6 +233,7 @@ impl EntityIndex {
     }
 
     // The next entity lives, with this arity and a name that nobody has, or none. An `Err` leaves everything.
+    #[inline]
     fn settle(
         &mut self,
         entity: Entity,
@@ -198,13 +242,31 @@ impl EntityIndex {
     ) -> Result<(), AllocError>
         requires next { next_entity self.old ≡ Some entity }
         requires fit { unfit_name name_of self.old (option_copied name) ≡ None }
-        ensures ok { OnOk result (self.new ≡ with_new self.old entity (newcomer (option_copied name.entry) arity)) }
+        ensures ok { OnOk result (self.new ≡ with_new self.old entity
+            (newcomer (option_copied name.entry) arity)) }
         ensures err { OnErr result (self.new ≡ self.old) }
     {
         let Some(text) = name else {
             self.slots.settle_nameless(entity, arity)?;
             return Ok(());
         };
+        self.settle_named(entity, text, arity)
+    }
+
+    // The next entity lives, with this arity and a name that nobody has. An `Err` leaves everything.
+    #[cold]
+    #[inline(never)]
+    fn settle_named(
+        &mut self,
+        entity: Entity,
+        text: &str,
+        arity: Option<u8>,
+    ) -> Result<(), AllocError>
+        requires next { next_entity self.old ≡ Some entity }
+        requires fit { unfit_name name_of self.old (Some text.now) ≡ None }
+        ensures ok { OnOk result (self.new ≡ with_new self.old entity (newcomer (Some text.now) arity)) }
+        ensures err { OnErr result (self.new ≡ self.old) }
+    {
         let own = self.names.insert(text, entity)?;
         match self.slots.settle_named(entity, own, arity) {
             Ok(()) => Ok(()),
@@ -220,7 +282,8 @@ impl EntityIndex {
     /// Refused with `NoMoreIds` where they would pass the limit, and with `OutOfMemory` where a growth was refused. A
     /// refused call changes nothing, and a `count` of 0 is never refused.
     pub fn admit(&mut self, count: u32) -> Result<(), Refusal>
-        ensures { Meets (Admits self.old count) (may_admit self.old count && nat_lt 0 count) self.old result self.new }
+        ensures { Meets (Admits self.old count) (may_admit self.old count && nat_lt 0 count) self.old result
+            self.new }
     {
         self.slots.admit(count)
     }

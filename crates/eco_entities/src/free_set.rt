@@ -1,5 +1,5 @@
 //! The set of free indices, as a bitmap of three levels.
-ghost use Rattle.std.specs.Prelude.{◌≡◌, ◌+◌, ◌-◌, ◌^◌, ◌<◌, ◌≤◌, true, false, List, [], ◌++◌, length, take, replicate, slice_set, OnOk, OnErr};
+ghost use Rattle.std.specs.Prelude.{◌≡◌, ◌+◌, ◌-◌, ◌^◌, ◌<◌, ◌≤◌, true, false, List, [], ◌++◌, length, take, replicate, slice_set, IfOk, OnOk, OnErr};
 ghost use Rattle.std.specs.List.{position_from};
 
 use crate::level::{Level, WORD_BITS};
@@ -40,6 +40,18 @@ impl FreeSet {
             words: Level::new(alloc),
             groups: Level::new(alloc),
         }
+    }
+
+    /// The same indices once more. An `Err` comes where memory is refused.
+    pub(crate) fn try_copy(&self) -> Result<FreeSet, AllocError>
+        ensures { IfOk result (λ s. s ≡ self.now) }
+    {
+        Ok(FreeSet {
+            len: self.len,
+            indices: self.indices.try_copy()?,
+            words: self.words.try_copy()?,
+            groups: self.groups.try_copy()?,
+        })
     }
 
     /// The lowest free index.
@@ -89,18 +101,31 @@ impl FreeSet {
     }
 
     /// Knows `count` more indices, which aren't free. An `Err` comes where a growth was refused, and leaves the set.
+    #[inline]
     pub(crate) fn grow(&mut self, count: usize) -> Result<(), AllocError>
         requires { length self.old + count < 2 ^ 32 }
         ensures ok { OnOk result (self.new ≡ self.old ++ replicate count false) }
         ensures err { OnErr result (self.new ≡ self.old) }
     {
         let len = self.len + count;
-        let indices = len.div_ceil(WORD_BITS);
         // Mostly the last word has bits left.
-        if indices <= self.indices.len() {
+        if len.div_ceil(WORD_BITS) <= self.indices.len() {
             self.len = len;
             return Ok(());
         }
+        self.grow_levels(count)
+    }
+
+    // What `grow` does where the words that there are don't reach. Rare beside calls that do.
+    #[cold]
+    #[inline(never)]
+    fn grow_levels(&mut self, count: usize) -> Result<(), AllocError>
+        requires { length self.old + count < 2 ^ 32 }
+        ensures ok { OnOk result (self.new ≡ self.old ++ replicate count false) }
+        ensures err { OnErr result (self.new ≡ self.old) }
+    {
+        let len = self.len + count;
+        let indices = len.div_ceil(WORD_BITS);
         let words = indices.div_ceil(WORD_BITS);
         self.groups.grow_to(words.div_ceil(WORD_BITS))?;
         self.words.grow_to(words)?;

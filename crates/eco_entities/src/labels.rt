@@ -24,6 +24,14 @@ impl Labels {
         }
     }
 
+    /// The same names once more. An `Err` comes where memory is refused.
+    pub(crate) fn try_copy(&self) -> Result<Labels, AllocError>
+        ensures { IfOk result (λ l. Keeps (label_of self.now) (label_of l)) }
+    {
+        let names = self.names.clone()?;
+        Ok(Labels { names })
+    }
+
     /// The name at the index.
     pub(crate) fn get(&self, index: u32) -> Option<&str>
         ensures { option_copied result ≡ label_of self.now index }
@@ -37,7 +45,8 @@ impl Labels {
     /// The index has this name. The answer is the one that it had. An `Err` comes where a growth was refused, and changes
     /// nothing.
     pub(crate) fn insert(&mut self, index: u32, name: String) -> Result<Option<String>, AllocError>
-        ensures ok { OnOk result (ChangesAt (label_of self.old) (label_of self.new) index (Some (string_bytes name))) }
+        ensures ok { OnOk result (ChangesAt (label_of self.old) (label_of self.new) index
+            (Some (string_bytes name))) }
         ensures was { IfOk result (λ was. option_map string_bytes was ≡ label_of self.old index) }
         ensures err { OnErr result (Keeps (label_of self.old) (label_of self.new)) }
     {

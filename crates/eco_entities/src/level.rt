@@ -1,5 +1,5 @@
 //! One level of a bitmap: bits in words of 64, the lowest bit of a word first.
-ghost use Rattle.std.specs.Prelude.{◌≡◌, ℕ, ◌+◌, ◌-◌, ◌*◌, ◌/◌, ◌^◌, ◌<◌, ◌≤◌, ◌==◌, nat_lt, [], ◌++◌, replicate, length, slice_index, OnOk, OnErr, List};
+ghost use Rattle.std.specs.Prelude.{◌≡◌, ℕ, ◌+◌, ◌-◌, ◌*◌, ◌/◌, ◌^◌, ◌<◌, ◌≤◌, ◌==◌, nat_lt, [], ◌++◌, replicate, length, slice_index, IfOk, OnOk, OnErr, List};
 ghost use Rattle.std.specs.List.{position_from};
 ghost use Rattle.eco_entities.specs.Words.{with_bit, without_bit, range_mask, FillsBits, IsFirstWord, IsLowestBit};
 
@@ -86,6 +86,14 @@ impl Level {
         ensures { IsLowestBit self.now result }
     {
         at * WORD_BITS + self.words[at].trailing_zeros() as usize
+    }
+
+    /// The same words once more. An `Err` comes where memory is refused.
+    pub(crate) fn try_copy(&self) -> Result<Level, AllocError>
+        ensures { IfOk result (λ l. l ≡ self.now) }
+    {
+        let words = Vec::from_slice(*self.words.allocator(), self.words.as_slice())?;
+        Ok(Level { words })
     }
 
     /// Appends words without bits, until there are `len`. An `Err` leaves the level.

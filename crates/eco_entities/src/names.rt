@@ -26,6 +26,17 @@ impl Names {
         }
     }
 
+    /// The same names once more. An `Err` comes where memory is refused.
+    pub(crate) fn try_copy(&self) -> Result<Names, AllocError>
+        ensures { IfOk result (λ n. Keeps (entity_of self.now) (entity_of n)) }
+    {
+        let entities = self.entities.clone()?;
+        Ok(Names {
+            entities,
+            alloc: self.alloc,
+        })
+    }
+
     /// Who bears the name.
     pub(crate) fn get(&self, name: &str) -> Option<Entity>
         ensures { result ≡ entity_of self.now name.now }
@@ -36,7 +47,8 @@ impl Names {
     /// The entity bears this name, which nobody bears. The answer is a copy of the name. An `Err` comes where a growth was
     /// refused, and changes nothing.
     pub(crate) fn insert(&mut self, name: &str, entity: Entity) -> Result<String, AllocError>
-        ensures ok { OnOk result (ChangesAt (entity_of self.old) (entity_of self.new) name.now (Some entity)) }
+        ensures ok { OnOk result
+            (ChangesAt (entity_of self.old) (entity_of self.new) name.now (Some entity)) }
         ensures own { IfOk result (λ own. string_bytes own ≡ name.now) }
         ensures err { OnErr result (Keeps (entity_of self.old) (entity_of self.new)) }
     {

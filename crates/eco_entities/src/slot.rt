@@ -1,10 +1,12 @@
 //! What the index keeps of one index, in 16 bytes.
-ghost use Rattle.std.specs.Prelude.{◌≡◌, ◌<◌, ℕ, true, List, Option, None, if◌then◌else◌};
+ghost use Rattle.std.specs.Prelude.{◌≡◌, ◌<◌, nat_lt, ℕ, true, List, Option, None, Some, if◌then◌else◌};
+ghost use Rattle.eco_entities.specs.Needs.{fields_for, need_in};
 ghost use Rattle.eco_ids.specs.Indices.{Free, Living, map_state, raised};
 ghost use Rattle.eco_entities.specs.Registration.{newcomer, placed, renamed};
 ghost use Rattle.eco_entities.specs.Slots.{arity_in, has_arity, is_free, is_living, is_named, place_in, state_of};
 
 use crate::place::Place;
+use eco_ids::value::FIELD_COUNT;
 
 /// Whether an index is in use, and what its entity has besides.
 #[derive(Clone, Copy)]
@@ -55,8 +57,29 @@ impl State {
     }
 }
 
+// The most fields that a value has.
+pub(crate) const ALL_FIELDS: u8 = FIELD_COUNT as u8;
+
 // No row has this number: it stands in the slot of an entity that has no place.
 const NO_ROW: u32 = u32::MAX;
+
+// So many fields as the arity says, none where there is none.
+fn fields_for(arity: Option<u8>) -> u8
+    ensures { result ≡ fields_for arity }
+{
+    match arity {
+        Some(fields) if fields < ALL_FIELDS => fields,
+        Some(_) => ALL_FIELDS,
+        None => 0,
+    }
+}
+
+// The most fields of a generation that does not live, where its index has come to this one: none, if that is past.
+fn need_beside(generation: u16, reached: u16) -> u8
+    ensures { result ≡ (if nat_lt generation reached then 0 else FIELD_COUNT) }
+{
+    if generation < reached { 0 } else { ALL_FIELDS }
+}
 
 /// A known index. Where nobody lives, only the state counts, and the generation of a free one.
 #[derive(Clone, Copy)]
@@ -72,7 +95,13 @@ impl Slot {
     // A slot without place.
     #[inline]
     fn unplaced(generation: u16, arity: u8, state: State) -> Slot
-        ensures { result ≡ record { table = 0; row = 4294967295; generation = generation; arity = arity; state = state } }
+        ensures { result ≡ record {
+          table = 0;
+          row = 4294967295;
+          generation = generation;
+          arity = arity;
+          state = state;
+        } }
     {
         Slot {
             table: 0,
@@ -105,7 +134,8 @@ impl Slot {
     /// A new entity, which has a name or none and an arity or none, and no place.
     #[inline]
     pub(crate) fn newcomer(generation: u16, named: bool, arity: Option<u8>) -> Slot
-        ensures { (label : Option (List ℕ)) → state_of label result ≡ Living generation (newcomer (if named then label else None) arity) }
+        ensures { (label : Option (List ℕ)) → state_of label result
+            ≡ Living generation (newcomer (if named then label else None) arity) }
     {
         let state = State::living(named, arity.is_some());
         Slot::unplaced(generation, arity.unwrap_or(0), state)
@@ -155,6 +185,18 @@ impl Slot {
         }
     }
 
+    /// The most fields that values of an entity of this generation may have, now or once it lives.
+    pub(crate) fn need(&self, generation: u16) -> u8
+        ensures { (label : Option (List ℕ)) → result ≡ need_in (Some (state_of label self.now)) generation }
+    {
+        match self.state {
+            State::Retired => 0,
+            State::Free => need_beside(generation, self.generation),
+            _ if generation == self.generation => fields_for(self.arity()),
+            _ => need_beside(generation, self.generation),
+        }
+    }
+
     /// The place of who lives there, if it has one.
     #[inline]
     pub(crate) fn place(&self) -> Option<Place>
@@ -173,7 +215,8 @@ impl Slot {
     #[inline]
     pub(crate) fn set_place(&mut self, place: Place)
         requires { place.row < 4294967295 }
-        ensures { (label : Option (List ℕ)) → state_of label self.new ≡ map_state (placed place) (state_of label self.old) }
+        ensures { (label : Option (List ℕ)) → state_of label self.new
+            ≡ map_state (placed place) (state_of label self.old) }
     {
         self.table = place.table;
         self.row = place.row as u32;
@@ -181,7 +224,8 @@ impl Slot {
 
     /// Who lives there has a name from now on, or none.
     pub(crate) fn set_named(&mut self, named: bool)
-        ensures { (old label : Option (List ℕ)) → state_of label self.new ≡ map_state (renamed (if named then label else None)) (state_of old self.old) }
+        ensures { (old label : Option (List ℕ)) → state_of label self.new
+            ≡ map_state (renamed (if named then label else None)) (state_of old self.old) }
     {
         if self.state.is_living() {
             self.state = State::living(named, self.state.has_arity());

@@ -5,13 +5,14 @@ ghost use Rattle.eco_ids.specs.Indices.{changed, record_of, is_alive, is_free_at
 ghost use Rattle.eco_ids.specs.Outcome.{Meets};
 ghost use Rattle.std.specs.Option.{option_copied};
 ghost use Rattle.eco_ids.specs.Renaming.{own_name};
+ghost use Rattle.eco_entities.specs.Needs.{need_of};
 ghost use Rattle.eco_entities.specs.Registration.{name_of, newcomer, own_arity, own_place, entity_at, placed, renamed};
 ghost use Rattle.eco_entities.specs.Slots.{living_slot, next_generation, put_at, Fits, IsNextSlot};
 
 use crate::free_set::FreeSet;
 use crate::labels::Labels;
 use crate::place::Place;
-use crate::slot::Slot;
+use crate::slot::{ALL_FIELDS, Slot};
 use eco_ids::{Entity, Refusal};
 use std::alloc::{AllocError, Global};
 use std::marker::Model;
@@ -70,6 +71,21 @@ impl Slots {
         self.slots.len() as u32
     }
 
+    /// The same indices once more. An `Err` comes where memory is refused.
+    pub(crate) fn try_copy(&self) -> Result<Slots, AllocError>
+        ensures { IfOk result (λ s. s ≡ self.now) }
+    {
+        let slots = Vec::from_slice(*self.slots.allocator(), self.slots.as_slice())?;
+        let free = self.free.try_copy()?;
+        let labels = self.labels.try_copy()?;
+        Ok(Slots {
+            limit: self.limit,
+            slots,
+            free,
+            labels,
+        })
+    }
+
     // What every value keeps, for proofs.
     pub(crate) fn rules(&self)
         ensures limited { self.now.limit ≤ 1048576 }
@@ -101,6 +117,16 @@ impl Slots {
         ensures { result ≡ own_arity self.now entity }
     {
         living(self.slots.as_slice(), entity)?.arity()
+    }
+
+    /// The most fields that values of an entity may have, now or once it lives.
+    pub(crate) fn need(&self, entity: Entity) -> u8
+        ensures { result ≡ need_of self.now entity }
+    {
+        match slot_at(self.slots.as_slice(), entity.index as usize) {
+            Some(slot) => slot.need(entity.generation),
+            None => ALL_FIELDS,
+        }
     }
 
     /// The name of a living entity, if it has one.
@@ -166,7 +192,8 @@ impl Slots {
 
     /// Makes `count` more indices known. They are free at generation 0.
     pub(crate) fn admit(&mut self, count: u32) -> Result<(), Refusal>
-        ensures { Meets (Admits self.old count) (may_admit self.old count && nat_lt 0 count) self.old result self.new }
+        ensures { Meets (Admits self.old count) (may_admit self.old count && nat_lt 0 count) self.old result
+            self.new }
     {
         if count > self.limit() - self.high() {
             return Err(Refusal::NoMoreIds);
@@ -218,6 +245,8 @@ impl Slots {
     }
 
     /// The next entity lives, with this name and this arity. An `Err` leaves everything.
+    #[cold]
+    #[inline(never)]
     pub(crate) fn settle_named(
         &mut self,
         entity: Entity,
@@ -225,7 +254,8 @@ impl Slots {
         arity: Option<u8>,
     ) -> Result<(), AllocError>
         requires { next_entity self.old ≡ Some entity }
-        ensures ok { OnOk result (self.new ≡ with_new self.old entity (newcomer (Some (string_bytes name)) arity)) }
+        ensures ok { OnOk result (self.new ≡ with_new self.old entity
+            (newcomer (Some (string_bytes name)) arity)) }
         ensures err { OnErr result (self.new ≡ self.old) }
     {
         let slot = Slot::newcomer(entity.generation, true, arity);

@@ -1,21 +1,9 @@
 -- An add has an end: the closure can be listed, and what stands against it can be found.
-use Rattle.std.proofs.Common.{◌≡◌, Bool, true, false, List, [], ◌∷◌, ◌++◌, map, refl, sym, subst, IsTrue, inl, inr, ⊎_elim, Option, Some, None, option_map}
-use Rattle.std.proofs.Common.{MatchBool}
-use Rattle.std.specs.List.{list_any}
-use Rattle.eco_ids.specs.declared.entity.Entity.{Entity}
-use Rattle.eco_ids.specs.declared.entity.TheConstants.{WITH, ACYCLIC}
-use Rattle.eco_ids.specs.declared.id.Id.{Id}
-use Rattle.eco_ids.specs.declared.id.Id.TheVariants.{One, Two}
-use Rattle.eco_ids.specs.declared.refusal.Refusal.{Refusal}
-use Rattle.eco_ids.specs.declared.refusal.Refusal.TheVariants.{NotAPolicy, InUse, Cycle}
-use Rattle.eco_ids.specs.Edition.{late_traits}
-use Rattle.eco_ids.specs.Lawful.{IsLawful}
-use Rattle.eco_ids.specs.Least.{root, next}
-use Rattle.eco_ids.specs.Order.{id_cmp, id_eq, has_item}
-use Rattle.eco_ids.specs.Outcome.{Answers}
-use Rattle.eco_ids.specs.Step.{IsClosure, ClosesCycle, IsFirstCycle, Judges, Extends, changed, grown, is_late, is_wrong_policy}
-use Rattle.eco_ids.specs.Traits.{Brings, InClosure, Reaches}
-use Rattle.eco_ids.specs.World.{WorldState, Record, has, is_acyclic, is_alive, names_living}
+use Rattle.eco_ids.proofs.Common.{◌≡◌, Bool, true, false, List, [], ◌∷◌, ◌++◌, map, IsTrue, Some, None, MatchBool, Option, option_map, sym, refl, subst, inl}
+use Rattle.eco_ids.proofs.Common.{inr, ⊎_elim, arith, list_any, common_steps, Entity, ACYCLIC, WITH, Id, Two, One, Refusal, Cycle, InUse, NotAPolicy}
+use Rattle.eco_ids.proofs.Common.{late_traits, IsLawful, root, next, id_cmp, has_item, id_eq, Answers, changed, IsClosure, Judges, grown, Extends, ClosesCycle}
+use Rattle.eco_ids.proofs.Common.{IsFirstCycle, is_late, is_wrong_policy, InClosure, Reaches, Brings, WorldState, Record, has, is_alive, names_living}
+use Rattle.eco_ids.proofs.Common.{is_acyclic}
 use Rattle.eco_ids.proofs.Ascending.{both, first, second}
 use Rattle.eco_ids.proofs.Endings.{End, done, unless}
 use Rattle.eco_ids.proofs.Facts.{id_eq_is, id_eq_itself, same_or_apart}
@@ -51,9 +39,7 @@ the_ids w = map One (the_living w) ++ pairs_in (the_living w) (the_living w)
 
 id_in : (w : WorldState) (i : Id) → IsTrue (names_living w i) → In i (the_ids w)
 id_in w (One e) h = in_left (One e) (map One (the_living w)) _ (in_map One e (the_living w) (living_in w e h))
-id_in w (Two r t) h =
-    in_right (Two r t) (map One (the_living w)) _
-    (pair_in r t (the_living w) (the_living w) (living_in w r (first (is_alive w r) _ h)) (living_in w t (second (is_alive w r) _ h)))
+id_in w (Two r t) h = grind (arith, common_steps, in_right, the_living, pair_in, living_in, first, second)
 
 decide_id : (i j : Id) → Decided (i ≡ j)
 decide_id i j = decide_as (id_eq_is i j) (λ e. subst (λ x. IsTrue (id_eq i x)) e (id_eq_itself i)) (decide_bool (id_eq i j))

@@ -1,14 +1,7 @@
 -- Worked rows: whom a delete takes, what it leaves, and what forbids it.
-use Rattle.std.proofs.Common.{◌≡◌, true, false, refl, sym, ap, subst, true≢false, ◌==◌, IsTrue, [], ◌∷◌, Some, None, is_some, cond, inl, inr}
-use Rattle.eco_ids.specs.declared.entity.Entity.{Entity}
-use Rattle.eco_ids.specs.declared.entity.TheConstants.{CHILD_OF, DELETE, ON_DELETE, PANIC}
-use Rattle.eco_ids.specs.declared.id.Id.{Id}
-use Rattle.eco_ids.specs.declared.id.Id.TheVariants.{One, Two}
-use Rattle.eco_ids.specs.Cleanup.{Doomed, Forbids, HoldsOn, Names, after_delete}
-use Rattle.eco_ids.specs.Indices.{Free}
-use Rattle.eco_ids.specs.Least.{root}
-use Rattle.eco_ids.specs.Order.{id_eq}
-use Rattle.eco_ids.specs.World.{WorldState, has, zeros}
+use Rattle.eco_ids.proofs.Common.{◌≡◌, true, false, cond, [], ◌∷◌, is_some, IsTrue, ◌==◌, Some, None, sym, refl, ap, subst, inl, inr, true≢false, Entity}
+use Rattle.eco_ids.proofs.Common.{DELETE, ON_DELETE, PANIC, CHILD_OF, Id, Two, One, after_delete, Doomed, Forbids, HoldsOn, Names, Free, root, id_eq}
+use Rattle.eco_ids.proofs.Common.{WorldState, has, zeros}
 use Rattle.eco_ids.proofs.Facts.{id_eq_is}
 use Rattle.eco_ids.proofs.Meaning.{doomed_closed}
 use Rattle.eco_ids.proofs.Worlds.{e, having, world}

@@ -1,14 +1,8 @@
 -- A delete has an end: the doomed can be listed, and whoever forbids it first can be found.
-use Rattle.std.proofs.Common.{List, refl, IsTrue, ⊎_elim, Ok, Err}
-use Rattle.eco_ids.specs.declared.entity.Entity.{Entity}
-use Rattle.eco_ids.specs.declared.entity.TheConstants.{ON_DELETE, ON_DELETE_TARGET, DELETE, PANIC}
-use Rattle.eco_ids.specs.declared.id.Id.{Id}
-use Rattle.eco_ids.specs.declared.id.Id.TheVariants.{One, Two}
+use Rattle.eco_ids.proofs.Common.{List, IsTrue, Ok, Err, refl, ⊎_elim, arith, common_steps, Entity, DELETE, ON_DELETE, PANIC, Id, Two, One, after_delete}
+use Rattle.eco_ids.proofs.Common.{Deletes, Doomed, Ends, Forbids, HoldsOn, Names, IsDoomed, root, next, has_item, entity_cmp, WorldState, is_alive}
 use Rattle.eco_ids.specs.declared.refusal.Refusal.TheVariants.{Panic}
-use Rattle.eco_ids.specs.Cleanup.{Names, HoldsOn, Doomed, IsDoomed, Forbids, Ends, Deletes, after_delete, policy}
-use Rattle.eco_ids.specs.Least.{root, next}
-use Rattle.eco_ids.specs.Order.{entity_cmp, has_item}
-use Rattle.eco_ids.specs.World.{WorldState, is_alive}
+use Rattle.eco_ids.specs.Cleanup.{policy}
 use Rattle.eco_ids.proofs.Endings.{End}
 use Rattle.eco_ids.proofs.Facts.{same_or_apart}
 use Rattle.eco_ids.proofs.IdOrder.{entity_cmp_total, same_entity}
@@ -18,9 +12,7 @@ use Rattle.eco_ids.proofs.LivingLists.{has_alive, living_in, some_held, the_livi
 
 decide_names : (w : WorldState) (action : Entity) (i : Id) (member : Entity) → Decided (Names w action i member)
 decide_names w action (One x) member = decide_both (same_or_apart x member) (same_or_apart (policy w x ON_DELETE) action)
-decide_names w action (Two r t) member =
-    decide_either (decide_both (same_or_apart r member) (same_or_apart (policy w r ON_DELETE) action))
-    (decide_both (same_or_apart t member) (same_or_apart (policy w r ON_DELETE_TARGET) action))
+decide_names w action (Two r t) member = grind (arith, common_steps, decide_either, decide_both, same_or_apart)
 
 decide_holds_on : (w : WorldState) (action member holder : Entity) → Decided (HoldsOn w action member holder)
 decide_holds_on w action member holder = some_held w holder (λ i. Names w action i member) (λ i. decide_names w action i member)

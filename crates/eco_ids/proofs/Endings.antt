@@ -1,9 +1,6 @@
 -- What it is for a step to have an end, and how ends are put together.
-use Rattle.std.proofs.Common.{◌≡◌, Bool, true, false, refl, Option, Some, None, MatchBool, MatchOption, Result, Ok, Err}
-use Rattle.eco_ids.specs.declared.refusal.Refusal.{Refusal}
-use Rattle.eco_ids.specs.Indices.{Indexed}
-use Rattle.eco_ids.specs.Outcome.{Answers, Refuses}
-use Rattle.eco_ids.specs.World.{OnEntities, Record, WorldState, entities, with_entities}
+use Rattle.eco_ids.proofs.Common.{◌≡◌, Bool, true, false, Some, None, Ok, Err, MatchBool, Option, Result, MatchOption, refl, Refusal, Indexed, Refuses, Answers}
+use Rattle.eco_ids.proofs.Common.{WorldState, Record, entities, with_entities, OnEntities}
 
 -- some answer, and some state after it
 abbrev pub End : {A S : Type 0} → (Result A Refusal → S → Type 0) → Type 0

@@ -1,20 +1,9 @@
 -- Each step has one end, and a refused one changes nothing.
-use Rattle.std.proofs.Common.{◌≡◌, ℕ, Bool, true, false, List, sym, ap, ◌∙◌, IsTrue, Option, Some, None, MatchOption, MatchBool, Result, Err}
-use Rattle.eco_ids.specs.declared.entity.Entity.{Entity}
-use Rattle.eco_ids.specs.declared.id.Id.{Id}
-use Rattle.eco_ids.specs.declared.refusal.Refusal.{Refusal}
-use Rattle.eco_ids.specs.declared.refusal.Refusal.TheVariants.{NoMoreIds, Reserved, Taken}
-use Rattle.eco_ids.specs.declared.value.Value.{Value}
-use Rattle.eco_ids.specs.Births.{Makes, MakesAliveWith, Admits, unfit_name}
-use Rattle.eco_ids.specs.Builtin.{is_builtin, is_builtins}
-use Rattle.eco_ids.specs.Cleanup.{Deletes}
-use Rattle.eco_ids.specs.Delete.{DeletesOne, DeletesWith}
-use Rattle.eco_ids.specs.Indices.{Indexed, next_entity}
-use Rattle.eco_ids.specs.Outcome.{Answers, Refuses}
-use Rattle.eco_ids.specs.Renaming.{RenamesWith, unfit_rename}
-use Rattle.eco_ids.specs.Step.{Adds, Sets, Removes, Clears, Renames, RemovesAll, Extends, unfit, unfit_set, unfit_actor, unchanged, changed, grown, with_name}
-use Rattle.eco_ids.specs.Step.{with_value}
-use Rattle.eco_ids.specs.World.{WorldState, Record, has, entities, with_entities, OnEntities}
+use Rattle.eco_ids.proofs.Common.{◌≡◌, ℕ, Bool, true, false, List, IsTrue, Some, None, Err, MatchBool, Option, Result, MatchOption, sym, ◌∙◌, arith, rules}
+use Rattle.eco_ids.proofs.Common.{common_steps, Entity, Id, Refusal, Reserved, NoMoreIds, Taken, Value, Makes, Admits, MakesAliveWith, is_builtin, is_builtins}
+use Rattle.eco_ids.proofs.Common.{Deletes, DeletesOne, DeletesWith, Indexed, Refuses, Answers, RenamesWith, unfit_rename, changed, Adds, Sets, with_value}
+use Rattle.eco_ids.proofs.Common.{RemovesAll, Renames, grown, unfit_actor, Extends, unchanged, unfit, Clears, Removes, unfit_set, with_name, WorldState, Record}
+use Rattle.eco_ids.proofs.Common.{has, entities, OnEntities}
 use Rattle.eco_ids.proofs.Exact.{deletes_unique}
 use Rattle.eco_ids.proofs.Facts.{not_ok}
 use Rattle.eco_ids.proofs.Meaning.{extends_unique}
@@ -48,19 +37,10 @@ at_once old unfit x after = by_option old unfit _ _ (answers old x after) (λ wh
 -- a step of the entities that is settled is settled in the world
 lifted : {A : Type 0} (w : WorldState) (Step : Indexed Record → Result A Refusal → Indexed Record → Type 0) → IsSettled (entities w) (Step (entities w)) →
     IsSettled w (OnEntities Step w)
-lifted w Step s = record {
-  one = λ r q new other a b.
-      let e = s.one r q a.0 b.0 a.1 b.1 in
-      (e.0, a.2 ∙ ap (with_entities w) e.1 ∙ sym b.2);
-  kept = λ why new a. a.2 ∙ ap (with_entities w) (s.kept why a.0 a.1);
-}
+lifted w Step s = grind (arith, common_steps)
 
 pub makes_settled : (name_of : Record → Option (List ℕ)) (w : WorldState) (d : Record) → IsSettled w (OnEntities (λ v. Makes name_of v d) w)
-makes_settled name_of w d =
-    lifted w (λ v. Makes name_of v d)
-    (by_option (entities w) (unfit_name name_of (entities w) (name_of d)) _ _
-    (by_option (entities w) (next_entity (entities w)) _ _ (refuses (entities w) NoMoreIds) (λ e. answers (entities w) e _))
-    (λ why. refuses (entities w) why))
+makes_settled name_of w d = search (rules, lifted, by_option, refuses, answers)
 
 pub makes_alive_settled : (w : WorldState) (e : Entity) (d : Record) → IsSettled w (OnEntities (λ v. MakesAliveWith v e d) w)
 makes_alive_settled w e d = lifted w (λ v. MakesAliveWith v e d) (by_bool (entities w) _ _ _ (answers (entities w) tt _) (refuses (entities w) Taken))

@@ -1,10 +1,9 @@
 -- What is left of a fingerprint when an id leaves.
-use Rattle.std.proofs.Common.{◌≡◌, ℕ, ◌+◌, ◌-◌, ◌%◌, ◌^◌, ◌≤◌, List, Some, slice_get, remove, get_or, ap, sym, ◌∙◌, arith}
+use Rattle.eco_ids.proofs.Common.{◌≡◌, ℕ, ◌+◌, ◌-◌, ◌%◌, ◌^◌, ◌≤◌, List, get_or, slice_get, Some, remove, sym, ap, ◌∙◌, arith, slice_get_within}
+use Rattle.eco_ids.proofs.Common.{get_or_from_slice_get, Id}
 use Rattle.std.proofs.Math.Nat.{add-mod_right, mod-add-mod}
 use Rattle.std.proofs.lemmas.List.Sums.{sum_by-remove}
-use Rattle.std.proofs.lemmas.Option.{get_or_from_slice_get, slice_get_within}
 use Rattle.std.specs.List.{sum_by}
-use Rattle.eco_ids.specs.declared.id.Id.{Id}
 use Rattle.eco_ids.specs.Fingerprint.{fingerprint, id_share}
 
 -- what is taken off a number in so many bits

@@ -1,11 +1,7 @@
 -- Whatever a test decides on a list can be searched there, and a least set of its items can be listed.
-use Rattle.std.proofs.Common.{◌≡◌, ℕ, zero, suc, Bool, true, false, ◌||◌, ◌↔◌, List, [], ◌∷◌, length, refl, sym, ap, ◌∙◌, subst, arith, true≢false, IsTrue}
-use Rattle.std.proofs.Common.{IsFalse, ◌⊎◌, inl, inr, ⊎_elim, Ordering, Less, Equal, Greater, is_eq}
-use Rattle.std.specs.Cmp.{IsTotalOrder, tied_itself}
-use Rattle.std.specs.FinMap.{IsAntisymmetric}
-use Rattle.std.specs.Ordering.{is_le, ordering_reverse}
-use Rattle.eco_ids.specs.Least.{Least, root, next}
-use Rattle.eco_ids.specs.Order.{has_item, is_ascending, with_item}
+use Rattle.eco_ids.proofs.Common.{◌≡◌, ℕ, zero, suc, Bool, true, false, ◌||◌, ◌⊎◌, ◌↔◌, List, [], ◌∷◌, length, IsTrue, IsFalse, is_eq, Ordering, Equal, sym}
+use Rattle.eco_ids.proofs.Common.{refl, ap, ◌∙◌, subst, inl, inr, ⊎_elim, true≢false, arith, tied_itself, IsTotalOrder, IsAntisymmetric, is_le, common_steps}
+use Rattle.eco_ids.proofs.Common.{root, next, Least, has_item, is_ascending, with_item}
 use Rattle.eco_ids.proofs.Ascending.{ascending_with}
 use Rattle.eco_ids.proofs.Facts.{equal_tie, or_parts, or_right}
 use Rattle.eco_ids.proofs.SetLaws.{joins_with}
@@ -97,22 +93,10 @@ module _ {K : Type 0} {R : K → K → Ordering} (o : IsTotalOrder R) where
   le_itself x = ap is_le (tied_itself o x)
 
   le_after : (x y z : K) → IsTrue (is_le (R x y)) → IsTrue (is_le (R y z)) → IsTrue (is_le (R x z))
-  le_after x y z h k = by (R x y) (R y z) refl refl h k
-    where
-      by : (r s : Ordering) → R x y ≡ r → R y z ≡ s → IsTrue (is_le r) → IsTrue (is_le s) → IsTrue (is_le (R x z))
-      by Less Less d e h k = ap is_le (o.trans x y z d e)
-      by Less Equal d e h k = ap is_le (o.antisymm x z ∙ ap ordering_reverse (sym (o.congr y z x e)) ∙ sym (o.antisymm x y) ∙ d)
-      by Equal s d e h k = ap is_le (o.congr x y z d ∙ e) ∙ k
-      by Less Greater d e h k = absurd (true≢false (sym k))
-      by Greater s d e h k = absurd (true≢false (sym h))
+  le_after x y z h k = grind (arith, common_steps)
 
   le_total : (x y : K) → IsTrue (is_le (R x y)) ⊎ IsTrue (is_le (R y x))
-  le_total x y = by (R x y) refl
-    where
-      by : (r : Ordering) → R x y ≡ r → IsTrue (is_le (R x y)) ⊎ IsTrue (is_le (R y x))
-      by Less e = inl (ap is_le e)
-      by Equal e = inl (ap is_le e)
-      by Greater e = inr (ap is_le (o.antisymm y x ∙ ap ordering_reverse e))
+  le_total x y = grind (arith, common_steps)
 
   -- the least of a list that passes, or none does
   abbrev LeastIn : (K → Type 0) → List K → Type 0

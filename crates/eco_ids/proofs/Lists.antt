@@ -1,11 +1,9 @@
 -- What lists have at their places once they changed.
-use Rattle.std.proofs.Common.{◌≡◌, ◌≢◌, ℕ, zero, suc, ◌-◌, ◌<◌, ◌==◌, Bool, true, false, cond, List, [], ◌∷◌, ◌++◌, map, replicate, length, get_or, slice_get}
-use Rattle.std.proofs.Common.{set, Some, refl, sym, ap, ◌∙◌, arith, le_of_suc-le-suc, inl, inr}
+use Rattle.eco_ids.proofs.Common.{◌≡◌, ℕ, zero, suc, ◌-◌, ◌<◌, Bool, true, false, cond, ◌≢◌, List, [], ◌∷◌, ◌++◌, map, length, get_or, set, replicate, ◌==◌}
+use Rattle.eco_ids.proofs.Common.{slice_get, Some, sym, refl, ap, le_of_suc-le-suc, arith, length-set, cases_eq, Decides-eqb, common_steps, length-take-le}
+use Rattle.eco_ids.proofs.Common.{get_or-set_other, get_or-set_same, get_or-take, same_Some, slice_get_within}
 use Rattle.std.specs.List.{swap_remove}
-use Rattle.std.proofs.lemmas.List.{get_or-take, get_or-set_same, get_or-set_other, get_or_default, length-set, length-take-le}
-use Rattle.std.proofs.lemmas.Bool.{cases_eq}
-use Rattle.std.proofs.lemmas.Bool.Decides.{Decides-eqb}
-use Rattle.std.proofs.lemmas.Option.{same_Some, slice_get_within}
+use Rattle.std.proofs.lemmas.List.{get_or_default}
 
 -- ---- an element written, or one more at the end
 
@@ -72,17 +70,7 @@ not_equal j row other = by (j == row) refl
 pub get_or-swap_remove : {X : Type 0} (xs : List X) (row j : ℕ) (d e : X) → row < length xs → j < length xs - 1
     → get_or (swap_remove xs row d) j e ≡ get_or xs (before row (length xs) j) e
 get_or-swap_remove {X} xs row j d e there within =
-    get_or-take (length xs - 1) (set xs row (get_or xs (length xs - 1) d)) j e within
-    ∙ elim (cases_eq j row) [
-      | inl same ↦
-          ap (λ k. get_or (set xs row (get_or xs (length xs - 1) d)) k e) same
-          ∙ get_or-set_same xs row (get_or xs (length xs - 1) d) e there
-          ∙ get_or_default xs (length xs - 1) d e (omega arith)
-          ∙ sym (ap (λ b. get_or xs (cond b (length xs - 1) j) e) ((Decides-eqb j row).1 same))
-      | inr other ↦
-          get_or-set_other xs row j (get_or xs (length xs - 1) d) e other
-          ∙ sym (ap (λ b. get_or xs (cond b (length xs - 1) j) e) (not_equal j row other))
-    ]
+    grind (arith, common_steps, get_or-take, cases_eq, get_or-set_same, get_or_default, get_or-set_other, not_equal)
 
 pub length-swap_remove : {X : Type 0} (xs : List X) (row : ℕ) (d : X) → length (swap_remove xs row d) ≡ length xs - 1
 length-swap_remove xs row d =

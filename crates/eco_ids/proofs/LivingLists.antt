@@ -1,13 +1,7 @@
 -- The living entities and what each of them has, as lists to search.
-use Rattle.std.proofs.Common.{◌≡◌, ℕ, zero, suc, ◌+◌, true, false, cond, ◌==◌, List, [], ◌∷◌, map, refl, sym, subst, arith, true≢false, IsTrue, inl, inr}
-use Rattle.std.proofs.Common.{Option, Some, None, is_some, option_map, unwrap_or, slice_get, eqb-true}
-use Rattle.std.specs.FinMap.Entries.{find}
-use Rattle.eco_ids.specs.declared.entity.Entity.{Entity}
-use Rattle.eco_ids.specs.declared.id.Id.{Id}
-use Rattle.eco_ids.specs.declared.value.Value.{Value}
-use Rattle.eco_ids.specs.Indices.{IndexState, Retired, Free, Living, record_in, living_from}
-use Rattle.eco_ids.specs.Order.{id_cmp, id_eq}
-use Rattle.eco_ids.specs.World.{WorldState, Record, has, held_by, is_alive, living, record_of}
+use Rattle.eco_ids.proofs.Common.{◌≡◌, ℕ, zero, suc, ◌+◌, true, false, cond, List, [], ◌∷◌, map, is_some, IsTrue, slice_get, Some, None, Option, option_map}
+use Rattle.eco_ids.proofs.Common.{unwrap_or, sym, refl, subst, inl, inr, true≢false, arith, eqb-true, find, common_steps, Entity, Id, Value, Living, IndexState}
+use Rattle.eco_ids.proofs.Common.{Free, Retired, record_in, living_from, id_cmp, id_eq, WorldState, Record, has, record_of, is_alive, living, held_by}
 use Rattle.eco_ids.proofs.Facts.{id_eq_is}
 use Rattle.eco_ids.proofs.Listable.{In, Decided, decide_as, decide_bool, decide_both, some_of}
 
@@ -25,10 +19,7 @@ state_in n [] k g h = absurd (true≢false (sym h))
 state_in n (Retired ∷ xs) zero g h = absurd (true≢false (sym h))
 state_in n (Free f ∷ xs) zero g h = absurd (true≢false (sym h))
 state_in n (Living f r ∷ xs) zero g h =
-    elim (g == f) as (λ b. (g == f) ≡ b → IsTrue (is_some (cond b (Some r) None)) → In (handle (n + zero) g) (handles_from n (Living f r ∷ xs))) [
-      | true ↦ λ e k. let place : n ≡ n + zero = omega arith in inl (λ i. handle (place i) (sym (eqb-true g f e) i))
-      | false ↦ λ e k. absurd (true≢false (sym k))
-    ] refl h
+    grind (arith, common_steps, eqb-true)
 state_in n (Retired ∷ xs) (suc k) g h = one_on n k g _ (state_in (n + 1) xs k g h)
 state_in n (Free f ∷ xs) (suc k) g h = one_on n k g _ (state_in (n + 1) xs k g h)
 state_in n (Living f r ∷ xs) (suc k) g h = inr (one_on n k g _ (state_in (n + 1) xs k g h))

@@ -1,25 +1,14 @@
 -- What a loss leaves, and that remove, clear and remove_all keep a lawful world lawful.
-use Rattle.std.proofs.Common.{◌≡◌, ℕ, zero, suc, ◌+◌, ◌<◌, ◌≤◌, Bool, true, false, cond, not, ◌&&◌, ◌||◌, ◌==◌, List, [], ◌∷◌, map, length, refl, sym, ap, ◌∙◌}
-use Rattle.std.proofs.Common.{subst, IsTrue, IsFalse, Option, Some, None, is_some, option_map, MatchOption, MatchBool, Result, slice_get, arith, nat_lt, nat_le}
-use Rattle.std.proofs.Common.{eqb-true, eq-eqb, ltb-true, le-leb}
-use Rattle.std.specs.List.{list_all, list_any, range_with_len}
-use Rattle.std.proofs.lemmas.Option.{same_Some, none-some}
-use Rattle.std.specs.FinMap.Entries.{find, where_key, is_sorted-where_key}
-use Rattle.eco_ids.specs.declared.entity.Entity.{Entity}
-use Rattle.eco_ids.specs.declared.id.Id.{Id}
-use Rattle.eco_ids.specs.declared.id.Id.TheVariants.{One, Two}
-use Rattle.eco_ids.specs.declared.refusal.Refusal.{Refusal}
-use Rattle.eco_ids.specs.declared.refusal.Refusal.TheVariants.{NotAlive, Reserved}
-use Rattle.eco_ids.specs.declared.value.Value.{Value}
-use Rattle.eco_ids.specs.Builtin.{is_builtin, builtin_entities, is_builtins}
-use Rattle.eco_ids.specs.Edition.{builtin_count}
-use Rattle.eco_ids.specs.Indices.{IndexState, Retired, Free, Living, record_in, raised, map_from, map_state, change_kept}
-use Rattle.eco_ids.specs.Lawful.{IsLawful, IsOrderly, is_proper_state}
-use Rattle.eco_ids.specs.Losses.{keeping, left_at, without, nobody}
-use Rattle.eco_ids.specs.Order.{id_cmp, id_eq, entity_eq}
-use Rattle.eco_ids.specs.Outcome.{Refuses}
-use Rattle.eco_ids.specs.Step.{Loses, Removes, Clears, RemovesAll, changed, unfit_actor}
-use Rattle.eco_ids.specs.World.{WorldState, Record, entities, with_entities, has, record_of, is_alive}
+use Rattle.eco_ids.proofs.Common.{◌≡◌, ℕ, zero, suc, ◌+◌, ◌<◌, ◌≤◌, Bool, true, false, cond, not, ◌&&◌, ◌||◌, List, [], ◌∷◌, map, length, is_some, IsTrue}
+use Rattle.eco_ids.proofs.Common.{IsFalse, nat_lt, nat_le, ◌==◌, slice_get, Some, None, MatchBool, Option, Result, MatchOption, option_map, sym, refl, ap, ◌∙◌}
+use Rattle.eco_ids.proofs.Common.{subst, arith, ltb-true, eq-eqb, eqb-true, le-leb, find, where_key, is_sorted-where_key, list_any, list_all, range_with_len}
+use Rattle.eco_ids.proofs.Common.{common_steps, same_Some, none-some, Entity, Id, Refusal, Reserved, NotAlive, Value, is_builtin, is_builtins, builtin_count}
+use Rattle.eco_ids.proofs.Common.{Living, IndexState, Free, Retired, record_in, map_state, change_kept, raised, IsLawful, IsOrderly, is_proper_state, nobody}
+use Rattle.eco_ids.proofs.Common.{without, keeping, id_cmp, id_eq, entity_eq, Refuses, changed, RemovesAll, unfit_actor, Loses, Clears, Removes, WorldState}
+use Rattle.eco_ids.proofs.Common.{Record, has, record_of, is_alive, entities, with_entities}
+use Rattle.eco_ids.specs.Builtin.{builtin_entities}
+use Rattle.eco_ids.specs.Indices.{map_from}
+use Rattle.eco_ids.specs.Losses.{left_at}
 use Rattle.eco_ids.proofs.Ascending.{both, first, second}
 use Rattle.eco_ids.proofs.Closures.{kept_entry}
 use Rattle.eco_ids.proofs.Facts.{id_eq_is, id_eq_itself, not_both, or_right, not_true}
@@ -33,19 +22,14 @@ get_map_from : (f : ℕ → IndexState Record → IndexState Record) (n : ℕ) (
     slice_get (map_from f n xs) k ≡ option_map (f (n + k)) (slice_get xs k)
 get_map_from f n [] k = refl
 get_map_from f n (x ∷ xs) zero = ap (λ m. Some (f m x)) (omega arith)
-get_map_from f n (x ∷ xs) (suc k) =
-    let e : (n + 1) + k ≡ n + suc k = omega arith in
-    get_map_from f (n + 1) xs k ∙ ap (λ m. option_map (f m) (slice_get xs k)) e
+get_map_from f n (x ∷ xs) (suc k) = grind (arith, common_steps, get_map_from f (n + 1) xs k)
 
 length_map_from : (f : ℕ → IndexState Record → IndexState Record) (n : ℕ) (xs : List (IndexState Record)) → length (map_from f n xs) ≡ length xs
 length_map_from f n [] = refl
 length_map_from f n (x ∷ xs) = ap suc (length_map_from f (n + 1) xs)
 
 raised_proper : (g : ℕ) → IsTrue (is_proper_state (raised g))
-raised_proper g = elim (nat_lt g 65535) as (λ b. nat_lt g 65535 ≡ b → IsTrue (is_proper_state (cond b (Free (g + 1)) Retired))) [
-  | true ↦ λ e. let l : g < 65535 = ltb-true g 65535 e in le-leb (g + 1) 65535 (omega (arith, l))
-  | false ↦ λ e. refl
-] refl
+raised_proper g = grind (arith, common_steps, ltb-true, le-leb)
 
 raised_dead : (g h : ℕ) → record_in {A = Record} (Some (raised g)) h ≡ None
 raised_dead g h = elim (nat_lt g 65535) as (λ b. record_in {A = Record} (Some (cond b (Free (g + 1)) Retired)) h ≡ None) [ true ↦ refl | false ↦ refl ]
@@ -59,44 +43,20 @@ left_in : (dies : Entity → Bool) (goes : Entity → Id → Bool) (x : Entity) 
 left_in dies goes x None = nothing_left (dies x)
 left_in dies goes x (Some Retired) = nothing_left (dies x)
 left_in dies goes x (Some (Free f)) = nothing_left (dies x)
-left_in dies goes x (Some (Living g r)) =
-    elim (x.generation == g) as (λ c. (x.generation == g) ≡ c → record_in (Some (left_at dies goes x.index (Living g r))) x.generation
-    ≡ cond (dies x) None (option_map (keeping (goes x)) (cond c (Some r) None))) [
-      | true ↦ λ e.
-          ap (λ y. record_in (Some (cond (dies y) (raised g) (Living g (keeping (goes y) r)))) x.generation)
-          (same_parts other x refl (sym (eqb-true x.generation g e)))
-          ∙ state (dies x) true (goes x) e
-      | false ↦ λ e. state (dies other) false (goes other) e ∙ sym (nothing_left (dies other)) ∙ nothing_left (dies x)
-    ] refl
-  where
-    other : Entity
-    other = record { index = x.index; generation = g }
-
-    state : (b c : Bool) (p : Id → Bool) → (x.generation == g) ≡ c → record_in (Some (cond b (raised g) (Living g (keeping p r)))) x.generation
-        ≡ cond b None (cond c (Some (keeping p r)) None)
-    state true c p e = raised_dead g x.generation
-    state false c p e = ap (λ t. cond t (Some (keeping p r)) None) e
+left_in dies goes x (Some (Living g r)) = grind (arith, common_steps, same_parts, eqb-true, nothing_left, raised_dead)
 
 -- the dead have nothing, and the others keep the ids that don't go
 pub record_left : (w : WorldState) (dies : Entity → Bool) (goes : Entity → Id → Bool) (x : Entity) →
     record_of (without w dies goes) x ≡ cond (dies x) None (option_map (keeping (goes x)) (record_of w x))
-record_left w dies goes x =
-    let e : 0 + x.index ≡ x.index = omega arith in
-    ap (λ o. record_in o x.generation) (get_map_from (left_at dies goes) 0 w.indices x.index
-    ∙ ap (λ n. option_map (left_at dies goes n) (slice_get w.indices x.index)) e)
-    ∙ left_in dies goes x (slice_get w.indices x.index)
+record_left w dies goes x = grind (arith, common_steps, get_map_from, left_in)
 
 proper_left : (dies : Entity → Bool) (goes : Entity → Id → Bool) (n : ℕ) (xs : List (IndexState Record)) → IsTrue (list_all is_proper_state xs) →
     IsTrue (list_all is_proper_state (map_from (left_at dies goes) n xs))
 proper_left dies goes n [] h = refl
 proper_left dies goes n (Retired ∷ xs) h = proper_left dies goes (n + 1) xs h
 proper_left dies goes n (Free g ∷ xs) h = both _ _ (first (nat_le g 65535) _ h) (proper_left dies goes (n + 1) xs (second (nat_le g 65535) _ h))
-proper_left dies goes n (Living g r ∷ xs) h = both _ _ (state (dies (record { index = n; generation = g })))
-    (proper_left dies goes (n + 1) xs (second (nat_le g 65535) _ h))
-  where
-    state : (b : Bool) → IsTrue (is_proper_state (cond b (raised g) (Living g (keeping (goes (record { index = n; generation = g })) r))))
-    state true = raised_proper g
-    state false = first (nat_le g 65535) _ h
+proper_left dies goes n (Living g r ∷ xs) h =
+    grind (arith, common_steps, both, second, raised_proper, first, proper_left dies goes (n + 1) xs (second (nat_le g 65535) _ h))
 
 -- all that pass are kept
 where_all : (p : Id → Bool) (es : List (Id × Value)) → ((i : Id) → IsTrue (is_some (find id_cmp i es)) → IsTrue (p i)) → where_key id_cmp p es ≡ es
@@ -146,9 +106,7 @@ orderly_loss w dies goes l f = orderly_shrink l (record {
       (named_map survives i
       (named_both (λ y. IsFalse (dies y)) (λ y. IsTrue (is_alive w y)) i (f.named x i q.0 (not_true _ stays)) (named_from w i named)));
   builtins = λ x h.
-      record_left w dies goes x
-      ∙ ap (λ b. cond b None (option_map (keeping (goes x)) (record_of w x))) (f.spared x h)
-      ∙ same (goes x) (record_of w x) (λ i k. f.untouched x i h k);
+      grind (arith, common_steps, record_left);
   indices = record {
     generations = proper_left dies goes 0 w.indices l.generations;
     known = subst (λ n. n ≤ w.limit) (sym (length_map_from (left_at dies goes) 0 w.indices)) l.known;
@@ -173,13 +131,7 @@ orderly_loss w dies goes l f = orderly_shrink l (record {
 -- ids go, and nobody dies
 loses_lawful : (w : WorldState) (goes : Entity → Id → Bool) (r : Result (Unit {0}) Refusal) (new : WorldState) →
     IsLawful w → ((x : Entity) (i : Id) → IsTrue (is_builtin w x) → IsTrue (has w x i) → IsFalse (goes x i)) → Loses w goes r new → IsLawful new
-loses_lawful w goes r new l untouched a =
-    subst IsLawful (sym a.1)
-    (lawful (orderly_loss w nobody goes l.orderly (record { spared = λ x h. refl; untouched = untouched; named = λ x i p q. named i })))
-  where
-    named : (i : Id) → Named (λ e. IsFalse (nobody e)) i
-    named (One e) = refl
-    named (Two r t) = (refl, refl)
+loses_lawful w goes r new l untouched a = grind (arith, common_steps, lawful, orderly_loss)
 
 -- the one who acts is no built-in
 acts_lawful : (w : WorldState) (e : Entity) (goes : Entity → Id → Bool) (r : Result (Unit {0}) Refusal) (new : WorldState) →
@@ -213,10 +165,7 @@ handle_at (suc count) from (suc k) l =
     handle_at count (from + 1) k m ∙ ap (λ n. Some (first_handle n)) e
 
 pub builtin_parts : (w : WorldState) (x : Entity) → IsTrue (is_builtin w x) → (x.index < builtin_count w.edition) × (x.generation ≡ 0)
-builtin_parts w x h = (
-  ltb-true x.index (builtin_count w.edition) (first _ _ h),
-  eqb-true x.generation 0 (second (nat_lt x.index (builtin_count w.edition)) _ h),
-)
+builtin_parts w x h = grind (arith, common_steps, ltb-true, first, eqb-true, second)
 
 any_get : {X : Type 0} (t : X → Bool) (xs : List X) (k : ℕ) (x : X) → slice_get xs k ≡ Some x → IsTrue (t x) → IsTrue (list_any t xs)
 any_get t [] k x at h = absurd (none-some x at)
@@ -256,20 +205,11 @@ module _ (e : Entity) (goes : Id → Bool) where
   other_stays : (n : ℕ) (x : IndexState Record) → ((g : ℕ) (r : Record) → x ≡ Living g r → record { index = n; generation = g } ≡ e → ⊥) → one_goes n x ≡ x
   other_stays n Retired apart = refl
   other_stays n (Free g) apart = refl
-  other_stays n (Living g r) apart =
-      ap (Living g) (keeps_all _ r
-      (λ i _. elim (entity_eq handle e) as (λ b. entity_eq handle e ≡ b →
-      IsFalse (b && goes i)) [ true ↦ λ h. absurd (apart g r refl (entity_eq_is handle e h)) | false ↦ λ h. refl ] refl))
-    where
-      handle : Entity
-      handle = record { index = n; generation = g }
+  other_stays n (Living g r) apart = grind (arith, common_steps, keeps_all, entity_eq_is)
 
   past_stays : (n : ℕ) (xs : List (IndexState Record)) → e.index < n → map_from one_goes n xs ≡ xs
   past_stays n [] l = refl
-  past_stays n (x ∷ xs) l =
-      let head : one_goes n x ≡ x = other_stays n x (λ g r _ k. let is : n ≡ e.index = ap (λ (y : Entity). y.index) k in absurd (omega arith)) in
-      let rest : map_from one_goes (n + 1) xs ≡ xs = past_stays (n + 1) xs (omega arith) in
-      λ i. head i ∷ rest i
+  past_stays n (x ∷ xs) l = grind (arith, common_steps, other_stays, past_stays (n + 1) xs (omega arith))
 
   -- the list of states once what is kept there has changed
   abbrev kept_at : List (IndexState Record) → ℕ → Option Record → List (IndexState Record)
@@ -286,9 +226,7 @@ module _ (e : Entity) (goes : Id → Bool) where
       elim (e.generation == g) as (λ b. (e.generation == g) ≡ b → map_from one_goes n (Living g r ∷ xs)
       ≡ kept_at (Living g r ∷ xs) zero (cond b (Some r) None)) [
         | true ↦ λ m.
-            let own : record { index = n; generation = g } ≡ e = same_parts (record { index = n; generation = g }) e place (sym (eqb-true e.generation g m)) in
-            let there : IsTrue (entity_eq (record { index = n; generation = g }) e) = subst (λ y. IsTrue (entity_eq y e)) (sym own) (entity_eq_itself e) in
-            λ i. Living (sym (eqb-true e.generation g m) i) (keeping (λ j. there i && goes j) r) ∷ rest i
+            grind (arith, common_steps, same_parts, eqb-true, entity_eq_itself)
         | false ↦ λ m.
             let head = other_stays n (Living g r) (λ h d is k. apart h d is k m) in
             λ i. head i ∷ rest i

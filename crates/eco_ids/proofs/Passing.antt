@@ -1,12 +1,8 @@
 -- The living entities that pass a test, in a list of what is known of each index.
-use Rattle.std.proofs.Common.{◌≡◌, ℕ, zero, suc, ◌+◌, ◌<◌, Bool, true, false, true≢false, cond, ◌⊎◌, inl, inr, IsTrue, is_lt, List, [], ◌∷◌, map, filter}
-use Rattle.std.proofs.Common.{slice_get, Some, refl, sym, ap, ◌∙◌, subst, arith, Less}
-use Rattle.std.specs.List.{list_any, list_all}
-use Rattle.std.specs.Ordering.{ordering_then, nat_cmp}
-use Rattle.std.proofs.lemmas.Bool.Decides.{nat_tests}
-use Rattle.eco_ids.specs.declared.entity.Entity.{Entity}
-use Rattle.eco_ids.specs.Indices.{Indexed, IndexState, Retired, Free, Living, record_of, living, living_from}
-use Rattle.eco_ids.specs.Order.{entity_cmp, entity_eq, has_item, is_ascending}
+use Rattle.eco_ids.proofs.Common.{◌≡◌, ℕ, zero, suc, ◌+◌, ◌<◌, Bool, true, false, cond, ◌⊎◌, List, [], ◌∷◌, map, IsTrue, slice_get, Some, filter, is_lt, Less}
+use Rattle.eco_ids.proofs.Common.{sym, refl, ap, ◌∙◌, inl, inr, true≢false, arith, list_any, list_all, ordering_then, nat_cmp, nat_tests, common_steps, Entity}
+use Rattle.eco_ids.proofs.Common.{Living, IndexState, Indexed, Free, Retired, living_from, has_item, entity_cmp, entity_eq, is_ascending}
+use Rattle.eco_ids.specs.Indices.{record_of, living}
 use Rattle.eco_ids.proofs.Ascending.{both}
 use Rattle.eco_ids.proofs.Facts.{or_parts, or_right, or_left}
 use Rattle.eco_ids.proofs.Overlaps.{entity_eq_is, entity_eq_itself}
@@ -53,11 +49,7 @@ module _ {A : Type 0} (test : A → Bool) where
       (filter (λ (p : Entity × A). test p.1) (living_from (n + 1) xs)))) e)
       → ((record { index = n; generation = g } ≡ e) × (test a ≡ true)) ⊎ IsTrue (has_item entity_cmp (passed_from (n + 1) xs) e)
   here_or_later n g a xs e true is h =
-      elim (or_parts (entity_eq (record { index = n; generation = g }) e) (has_item entity_cmp (passed_from (n + 1) xs) e) h) as
-      (λ _. ((record { index = n; generation = g } ≡ e) × (test a ≡ true)) ⊎ IsTrue (has_item entity_cmp (passed_from (n + 1) xs) e)) [
-        | inl same ↦ inl (entity_eq_is (record { index = n; generation = g }) e same, is)
-        | inr more ↦ inr more
-      ]
+      grind (arith, common_steps, or_parts, entity_eq_is)
   here_or_later n g a xs e false is h = inr h
 
   -- who is among them stands at its index, and passes
@@ -91,16 +83,7 @@ module _ {A : Type 0} (test : A → Bool) where
   passed_among n (Free f ∷ xs) zero g a at h e i s = absurd (cc)
   passed_among n (Free f ∷ xs) (suc k) g a at h e i s = passed_among (n + 1) xs k g a at h e (omega (arith, i)) s
   passed_among n (Living f b ∷ xs) zero g a at h e i s =
-      let kind : b ≡ a = cc in
-      let age : f ≡ g = cc in
-      let place : n ≡ e.index = omega (arith, i) in
-      let is : test b ≡ true = ap test kind ∙ h in
-      let own : record { index = n; generation = f } ≡ e = (λ t. record { index = place t; generation = (age ∙ sym s) t }) in
-      subst (λ c. IsTrue (has_item entity_cmp
-      (map (λ (p : Entity × A). p.0)
-      (cond c ((record { index = n; generation = f }, b) ∷ filter (λ (p : Entity × A). test p.1) (living_from (n + 1) xs))
-      (filter (λ (p : Entity × A). test p.1) (living_from (n + 1) xs)))) e)) (sym is)
-      (or_left (entity_eq (record { index = n; generation = f }) e) _ (subst (λ x. IsTrue (entity_eq x e)) (sym own) (entity_eq_itself e)))
+      grind (arith, common_steps, or_left, entity_eq_itself)
   passed_among n (Living f b ∷ xs) (suc k) g a at h e i s = by (passed_among (n + 1) xs k g a at h e (omega (arith, i)) s) (test b)
     where
       by : IsTrue (has_item entity_cmp (passed_from (n + 1) xs) e) → (c : Bool) →
@@ -160,9 +143,7 @@ module _ {A : Type 0} (test : A → Bool) where
 
   pub own_from_passed : (w : Indexed A) (e : Entity) → IsTrue (has_item entity_cmp (passed_from 0 w.indices) e) → PassesOwn w e
   own_from_passed w e h =
-      let p = among_passed 0 w.indices e h in
-      let same : p.0 ≡ e.index = omega (arith, p.2) in
-      (p.1, record_at w e p.1 (ap (slice_get w.indices) (sym same) ∙ p.3), p.4)
+      grind (arith, common_steps, among_passed, record_at)
 
   pub passed_from_own : (w : Indexed A) (e : Entity) → PassesOwn w e → IsTrue (has_item entity_cmp (passed_from 0 w.indices) e)
   passed_from_own w e p = passed_among 0 w.indices e.index e.generation p.0 (living_at w e p.0 p.1) p.2 e (omega arith) refl

@@ -1,8 +1,7 @@
 -- Who lives at an index, in lists of states.
-use Rattle.std.proofs.Common.{◌≡◌, ℕ, true, false, cond, ◌==◌, refl, sym, ap, ◌∙◌, Option, Some, None, slice_get, eqb-true, eq-eqb}
-use Rattle.std.proofs.lemmas.Option.{same_Some, none-some}
-use Rattle.eco_ids.specs.declared.entity.Entity.{Entity}
-use Rattle.eco_ids.specs.Indices.{Indexed, IndexState, Retired, Free, Living, record_in, record_of}
+use Rattle.eco_ids.proofs.Common.{◌≡◌, ℕ, cond, slice_get, Some, None, Option, refl, ap, ◌∙◌, arith, eq-eqb, eqb-true, common_steps, same_Some, none-some}
+use Rattle.eco_ids.proofs.Common.{Entity, Living, IndexState, Indexed, Free, Retired, record_in}
+use Rattle.eco_ids.specs.Indices.{record_of}
 
 -- a handle is its index and generation
 pub same_parts : (a b : Entity) → a.index ≡ b.index → a.generation ≡ b.generation → a ≡ b
@@ -14,10 +13,7 @@ state_of_living None g r h = absurd (none-some r h)
 state_of_living (Some Retired) g r h = absurd (none-some r h)
 state_of_living (Some (Free f)) g r h = absurd (none-some r h)
 state_of_living (Some (Living f d)) g r h =
-    elim (g == f) as (λ b. (g == f) ≡ b → cond b (Some d) None ≡ Some r → Some (Living f d) ≡ Some (Living g r)) [
-      | true ↦ λ e k. λ i. Some (Living (sym (eqb-true g f e) i) (same_Some d r k i))
-      | false ↦ λ e k. absurd (none-some r k)
-    ] refl h
+    grind (arith, common_steps, eqb-true, same_Some, none-some)
 
 pub living_at : {A : Type 0} (w : Indexed A) (e : Entity) (r : A) → record_of w e ≡ Some r → slice_get w.indices e.index ≡ Some (Living e.generation r)
 living_at w e r h = state_of_living (slice_get w.indices e.index) e.generation r h

@@ -1,20 +1,9 @@
 -- Each step has an end: some answer, and some world after it.
-use Rattle.std.proofs.Common.{◌≡◌, ℕ, Bool, not, List, cond, sym, subst, IsTrue, Option, Some, None, MatchOption, nat_le, length, ◌+◌}
-use Rattle.eco_ids.specs.declared.entity.Entity.{Entity}
-use Rattle.eco_ids.specs.declared.id.Id.{Id}
-use Rattle.eco_ids.specs.declared.refusal.Refusal.{Refusal}
-use Rattle.eco_ids.specs.declared.refusal.Refusal.TheVariants.{NotAlive, DeadId, Reserved, NoMoreIds, Taken}
-use Rattle.eco_ids.specs.declared.value.Value.{Value}
-use Rattle.eco_ids.specs.Births.{Admits, Makes, MakesAliveWith, MakesAlive, bare, unfit_name}
-use Rattle.eco_ids.specs.Builtin.{is_builtin, is_builtins}
-use Rattle.eco_ids.specs.Delete.{DeletesOne, DeletesWith}
-use Rattle.eco_ids.specs.Indices.{Indexed, admitted, is_free_at, next_entity, with_new, with_record}
-use Rattle.eco_ids.specs.Lawful.{IsLawful}
-use Rattle.eco_ids.specs.Losses.{nobody, without}
-use Rattle.eco_ids.specs.Outcome.{Answers, Refuses}
-use Rattle.eco_ids.specs.Renaming.{RenamesWith, unfit_rename}
-use Rattle.eco_ids.specs.Step.{Adds, Loses, RemovesAll, Renames, Sets, changed, unchanged, unfit, unfit_actor, unfit_set, with_name, with_value}
-use Rattle.eco_ids.specs.World.{OnEntities, Record, WorldState, entities, has, is_alive, names_living}
+use Rattle.eco_ids.proofs.Common.{◌≡◌, ℕ, Bool, cond, not, List, IsTrue, Some, None, Option, MatchOption, sym, subst, arith, rules, common_steps, Entity, Id}
+use Rattle.eco_ids.proofs.Common.{Refusal, Reserved, NotAlive, DeadId, NoMoreIds, Value, unfit_name, Makes, Admits, MakesAlive, is_builtin, is_builtins}
+use Rattle.eco_ids.proofs.Common.{DeletesOne, DeletesWith, Indexed, next_entity, with_new, IsLawful, nobody, without, Refuses, Answers, changed, Adds, Sets}
+use Rattle.eco_ids.proofs.Common.{with_value, RemovesAll, Renames, unfit_actor, Loses, unchanged, unfit, unfit_set, WorldState, Record, has, is_alive, entities}
+use Rattle.eco_ids.proofs.Common.{names_living, OnEntities}
 use Rattle.eco_ids.proofs.AddsEnd.{extends_end}
 use Rattle.eco_ids.proofs.DeletesEnd.{deletes_end}
 use Rattle.eco_ids.proofs.Endings.{End, done, either, in_world, refused, unless}
@@ -27,9 +16,7 @@ use Rattle.eco_ids.proofs.Steps.{passed, was_true}
 fit_names : (w : WorldState) (e : Entity) (i : Id) (rest : Option Refusal)
     → cond (not (is_alive w e)) (Some NotAlive) (cond (is_builtin w e) (Some Reserved) (cond (not (names_living w i)) (Some DeadId) rest)) ≡ None
     → IsTrue (names_living w i)
-fit_names w e i rest h =
-    let may_act = passed (is_builtin w e) Reserved _ (passed (not (is_alive w e)) NotAlive _ h).1 in
-    was_true (names_living w i) (passed (not (names_living w i)) DeadId rest may_act.1).0
+fit_names w e i rest h = grind (arith, common_steps, passed, was_true)
 
 pub makes_end : (w : WorldState) (d : Record) → End (OnEntities (λ v. Makes (λ r. r.name) v d) w)
 makes_end w d =
@@ -41,23 +28,16 @@ makes_end w d =
     next v (Some e) = done e (with_new v e d)
 
 pub makes_alive_end : (w : WorldState) (e : Entity) → End (MakesAlive w e)
-makes_alive_end w e =
-    let v = entities w in
-    in_world w (λ v. MakesAliveWith v e (bare None)) (either (is_free_at v e) _ _ (done tt (with_record v e (bare None))) (refused Taken v))
+makes_alive_end w e = search (rules, in_world, either, done, refused)
 
 pub admits_end : (w : WorldState) (n : ℕ) → End (OnEntities (λ v. Admits v n) w)
-admits_end w n =
-    let v = entities w in
-    in_world w (λ v. Admits v n) (either (nat_le (length w.indices + n) w.limit) _ _ (done tt (admitted n v)) (refused NoMoreIds v))
+admits_end w n = search (rules, in_world, either, done, refused)
 
 pub loses_end : (w : WorldState) (o : Option Refusal) (goes : Entity → Id → Bool) → End (λ r new. MatchOption o (Loses w goes r new) (λ y. Refuses y w r new))
 loses_end w o goes = unless w o _ (λ _. done tt (without w nobody goes))
 
 pub renames_end : (w : WorldState) (e : Entity) (name : Option (List ℕ)) → End (Renames w e name)
-renames_end w e name =
-    let v = entities w in
-    in_world w (λ v. RenamesWith (λ r. r.name) with_name v e (is_builtin w e) name)
-    (unless v (unfit_rename (λ r. r.name) v e (is_builtin w e) name) _ (λ _. done tt _))
+renames_end w e name = search (rules, in_world, unless, done)
 
 pub removes_all_end : (w : WorldState) (i : Id) → End (RemovesAll w i)
 removes_all_end w i = either (is_builtins w i) _ _ (refused Reserved w) (done tt _)

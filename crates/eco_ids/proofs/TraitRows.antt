@@ -1,16 +1,7 @@
 -- Worked rows: what With brings, and a walk that would close a cycle.
-use Rattle.std.proofs.Common.{◌≡◌, false, refl, sym, subst, true≢false, IsTrue, [], ◌∷◌, Some, None, Err, inl, inr}
-use Rattle.std.specs.Ordering.{is_le}
-use Rattle.eco_ids.specs.declared.entity.Entity.{Entity}
-use Rattle.eco_ids.specs.declared.entity.TheConstants.{CHILD_OF, WITH}
-use Rattle.eco_ids.specs.declared.id.Id.{Id}
-use Rattle.eco_ids.specs.declared.id.Id.TheVariants.{One, Two}
-use Rattle.eco_ids.specs.declared.refusal.Refusal.TheVariants.{Cycle}
-use Rattle.eco_ids.specs.Least.{root, next}
-use Rattle.eco_ids.specs.Order.{entity_cmp, id_cmp, id_eq, has_item}
-use Rattle.eco_ids.specs.Step.{Adds, IsClosure, ClosesCycle, with_closure}
-use Rattle.eco_ids.specs.Traits.{Brings, InClosure, Reaches}
-use Rattle.eco_ids.specs.World.{WorldState, zeros}
+use Rattle.eco_ids.proofs.Common.{◌≡◌, false, [], ◌∷◌, IsTrue, Some, None, Err, sym, refl, subst, inl, inr, true≢false, is_le, Entity, WITH, CHILD_OF, Id, Two}
+use Rattle.eco_ids.proofs.Common.{One, Cycle, root, next, id_cmp, has_item, id_eq, entity_cmp, Adds, IsClosure, with_closure, ClosesCycle, InClosure, Reaches}
+use Rattle.eco_ids.proofs.Common.{Brings, WorldState, zeros}
 use Rattle.eco_ids.proofs.Facts.{id_eq_is, or_parts}
 use Rattle.eco_ids.proofs.Worlds.{e, having, world}
 use Rattle.eco_ids.proofs.Gains.{same_relationship}

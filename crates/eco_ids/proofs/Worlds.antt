@@ -1,9 +1,5 @@
 -- Worlds for rows: what lives in them, written short.
-use Rattle.std.proofs.Common.{ℕ, map, List, ◌++◌, None}
-use Rattle.eco_ids.specs.declared.entity.Entity.{Entity}
-use Rattle.eco_ids.specs.declared.id.Id.{Id}
-use Rattle.eco_ids.specs.Indices.{IndexState, Living}
-use Rattle.eco_ids.specs.World.{WorldState, Record, first_world, zeros}
+use Rattle.eco_ids.proofs.Common.{ℕ, List, ◌++◌, map, None, Entity, Id, Living, IndexState, WorldState, Record, zeros, first_world}
 
 -- the first handle of an index
 abbrev pub e : ℕ → Entity

@@ -19,14 +19,16 @@ fn share(id: Id) -> u64
 
 /// The fingerprint once the id joined.
 pub(crate) fn joined_by(mark: u64, id: Id) -> u64
-    ensures { (ids : List Ids) (place : ℕ) → mark ≡ fingerprint ids → result ≡ fingerprint (insert ids place id) }
+    ensures { (ids : List Ids) (place : ℕ) → mark ≡ fingerprint ids
+        → result ≡ fingerprint (insert ids place id) }
 {
     mark.wrapping_add(share(id))
 }
 
 /// The fingerprint once the id left.
 pub(crate) fn left_by(mark: u64, id: Id) -> u64
-    ensures { (ids : List Ids) (place : ℕ) → slice_get ids place ≡ Some id → mark ≡ fingerprint ids → result ≡ fingerprint (remove ids place) }
+    ensures { (ids : List Ids) (place : ℕ) → slice_get ids place ≡ Some id → mark ≡ fingerprint ids
+        → result ≡ fingerprint (remove ids place) }
 {
     mark.wrapping_sub(share(id))
 }

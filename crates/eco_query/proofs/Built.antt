@@ -1,17 +1,16 @@
 -- The loops from the atoms of a text to its query, each against the slots that the atoms make.
-use Rattle.std.proofs.Common.{◌≡◌, ℕ, zero, suc, ◌+◌, ◌<◌, ◌≤◌, get_or, drop, drop-cons, add-one, arith, Bool, true, false, ◌&&◌, ◌||◌, if◌then◌else◌, List, [], ◌∷◌, ◌++◌, length, Option, Some, None, Result, Ok, Err, refl, ap, ◌∙◌, sym, subst, append_assoc}
-use Rattle.std.specs.List.{list_any}
-use Rattle.std.proofs.lemmas.List.{append-nil}
-use Rattle.eco_ids.specs.Terms.{QueryTerm}
-use Rattle.eco_ids.specs.Terms as terms
+use Rattle.eco_ids.proofs.Common.{◌≡◌, ℕ, zero, suc, ◌+◌, ◌<◌, ◌≤◌, Bool, true, false, ◌&&◌, ◌||◌, List, [], ◌∷◌, ◌++◌, length, get_or, drop, if◌then◌else◌}
+use Rattle.eco_ids.proofs.Common.{Some, None, Ok, Err, Option, Result, sym, refl, ap, ◌∙◌, subst, append_assoc, add-one, arith, list_any, common_steps}
 use Rattle.eco_ids.specs.declared.entity.Entity.{Entity}
 use Rattle.eco_ids.specs.declared.id.Id.{Id}
 use Rattle.eco_ids.specs.declared.refusal.Refusal.{Refusal}
+use Rattle.std.proofs.Common.{drop-cons}
+use Rattle.eco_ids.specs.Terms as terms
 use Rattle.eco_query.specs.Grammar.{WrittenAtom, alternatives, WrittenSlot, IsProperAtom}
 use Rattle.eco_query.specs.Reader.Machine.{body_of}
 use Rattle.eco_query.specs.Reader.Points.{atom_view, is_bare_head}
 use Rattle.eco_query.specs.Queries.{QuerySlot}
-use Rattle.eco_query.specs.Readings.{ok_map, ok_both, id_of, ids_of, pattern_of, term_of_body, slots_of, has_wildcard, misplaces_wildcard, is_positive}
+use Rattle.eco_query.specs.Readings.{ok_map, ok_both, id_of, ids_of, term_of_body, slots_of, has_wildcard, misplaces_wildcard, is_positive}
 use Rattle.eco_query.specs.Reader.Marks.{asks, slots_from, grouping, AreWhole, AreProperMarks}
 use Rattle.eco_query.specs.Reader.LastTerms.{last_of, misplaces_last, term_with, left_over}
 use Rattle.eco_query.specs.declared.written.WrittenAtom as written
@@ -36,8 +35,7 @@ misplaced g (marks.Slot a h x ∷ ms) = misplaces_last h g (atom_view x) || misp
 
 any-append : (p : WrittenAtom → Bool) (xs : List WrittenAtom) (x : WrittenAtom) → list_any p (xs ++ x ∷ []) ≡ (list_any p xs || p x)
 any-append p [] x = elim (p x) as (λ c. (c || false) ≡ (false || c)) [ true ↦ refl | false ↦ refl ]
-any-append p (y ∷ xs) x =
-    elim (p y) as (λ c. (c || list_any p (xs ++ x ∷ [])) ≡ ((c || list_any p xs) || p x)) [ true ↦ refl | false ↦ any-append p xs x ]
+any-append p (y ∷ xs) x = grind (arith, common_steps, any-append p xs x)
 
 -- the slot is one of alternatives
 group_wildcards : (a : Access) (y : WrittenAtom) (ys : List WrittenAtom) (x : WrittenAtom)
@@ -75,11 +73,7 @@ last_wildcard a Alone (y ∷ ys) x w e = cc
 pub slot_grouped : (xs : List WrittenAtom) (a : Access) (h : Head) (ms : List Mark)
     → (if some_of xs && is_bare_head h then None else grouping false ms) ≡ Some false
     → ((some_of xs && is_bare_head h) ≡ false) × (grouping false ms ≡ Some false)
-slot_grouped xs a h ms e =
-    elim (some_of xs && is_bare_head h) as (λ c. (if c then None else grouping false ms) ≡ Some false → (c ≡ false) × (grouping false ms ≡ Some false)) [
-      | true ↦ λ e. cc
-      | false ↦ λ e. (refl, e)
-    ] e
+slot_grouped xs a h ms e = grind (arith, common_steps, some_of)
 
 wildcards : (xs : List WrittenAtom) (ms : List Mark) → list_any has_wildcard xs ≡ false → grouping (some_of xs) ms ≡ Some false
     → misplaced (some_of xs) ms ≡ list_any misplaces_wildcard (slots_from xs ms)
@@ -167,15 +161,11 @@ module _ (entity_named : List ℕ → Option Entity) where
   term_last : (h : Head) (xs : List WrittenAtom) (group : List Id) (x : WrittenAtom) → ids_of entity_named xs ≡ Ok group
       → (some_of xs && is_bare_head h) ≡ false
       → term_of_body entity_named (body_of h xs x) ≡ ok_map (term_with group) (last_of entity_named h (some_of xs) x)
-  term_last Plain [] group x d e = elim (pattern_of entity_named x) as
-      (λ r. ok_map (λ p. terms.And p) r ≡ ok_map (term_with group) (ok_map (λ p. last.And p) r)) [ Err f ↦ refl | Ok p ↦ refl ]
+  term_last Plain [] group x d e = grind (arith, common_steps)
   term_last Plain (y ∷ ys) group x d e = term_group y ys group x d
-  term_last Not xs group x d e = elim (pattern_of entity_named x) as
-      (λ r. ok_map (λ p. terms.Not p) r ≡ ok_map (term_with group) (ok_map (λ p. last.Not p) r)) [ Err f ↦ refl | Ok p ↦ refl ]
-  term_last Optional xs group x d e = elim (id_of entity_named x) as
-      (λ r. ok_map (λ p. terms.Optional p) r ≡ ok_map (term_with group) (ok_map (λ p. last.Optional p) r)) [ Err f ↦ refl | Ok p ↦ refl ]
-  term_last Alone [] group x d e = elim (pattern_of entity_named x) as
-      (λ r. ok_map (λ p. terms.And p) r ≡ ok_map (term_with group) (ok_map (λ p. last.And p) r)) [ Err f ↦ refl | Ok p ↦ refl ]
+  term_last Not xs group x d e = grind (arith, common_steps)
+  term_last Optional xs group x d e = grind (arith, common_steps)
+  term_last Alone [] group x d e = grind (arith, common_steps)
   term_last Alone (y ∷ ys) group x d e = cc
 
   ids_unknown : (xs : List WrittenAtom) (f : Refusal) (x : WrittenAtom) → ids_of entity_named xs ≡ Err f → ids_of entity_named (xs ++ x ∷ []) ≡ Err f
@@ -222,12 +212,7 @@ pub record Standing (entity_named : List ℕ → Option Entity) (all : List Mark
 
 module _ (entity_named : List ℕ → Option Entity) (all : List Mark) where
   pub standing_first : AreWhole all → AreProperMarks all → Standing entity_named all [] [] [] all
-  standing_first g p = record {
-    known = refl;
-    whole = elim (slots_of entity_named (slots_from [] all)) as (λ r. r ≡ joined entity_named [] r) [ Err f ↦ refl | Ok zs ↦ refl ];
-    groups = g;
-    proper = p;
-  }
+  standing_first g p = grind (arith, common_steps)
 
   module _ (xs : List WrittenAtom) (ys : List QuerySlot) (group : List Id) where
     pub other_known : (a : Access) (x : written.WrittenAtom) (i : Id) (ms : List Mark) → Standing entity_named all xs ys group (marks.Other a x ∷ ms)
@@ -276,9 +261,6 @@ module _ (entity_named : List ℕ → Option Entity) (all : List Mark) where
           groups = rest;
           proper = s.proper.1;
         }
-
-    pub all_known : Standing entity_named all xs ys group [] → slots_of entity_named (slots_from [] all) ≡ Ok ys
-    all_known s = s.whole ∙ ap (λ qs. Ok qs) (append-nil ys)
 
     pub atom_proper : (a : Access) (x : written.WrittenAtom) (ms : List Mark) → Standing entity_named all xs ys group (marks.Other a x ∷ ms)
         → IsProperAtom (atom_view x)
@@ -352,6 +334,3 @@ module _ (entity_named : List ℕ → Option Entity) (all : List Mark) (xs : Lis
   pub standing_at : (m : Mark) → Standing entity_named all xs ys group (drop i all) → i < length all → get_or all i marks.Same ≡ m
       → Standing entity_named all xs ys group (m ∷ drop (i + 1) all)
   standing_at m s lt e = subst (λ rest. Standing entity_named all xs ys group rest) (at_mark all i m lt e) s
-
-  pub standing_end : Standing entity_named all xs ys group (drop i all) → length all ≤ i → slots_of entity_named (slots_from [] all) ≡ Ok ys
-  standing_end s ge = all_known entity_named all xs ys group (subst (λ rest. Standing entity_named all xs ys group rest) (past_end all i ge) s)

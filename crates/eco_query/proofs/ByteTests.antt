@@ -1,15 +1,10 @@
 -- The tests of bytes, names and digits.
-use Rattle.std.proofs.Common.{◌≡◌, ◌≢◌, ℕ, zero, suc, ◌+◌, ◌-◌, ◌*◌, ◌/◌, ◌%◌, ◌^◌, ◌<◌, ◌≤◌, ◌&&◌, Bool, true, false, not, if◌then◌else◌, List, [], ◌∷◌, ◌++◌, length, codes, decimal, Option, refl, ap, ◌∙◌, sym, arith}
-use Rattle.std.specs.Prelude.{IfSome}
-use Rattle.std.specs.List.{list_all}
-use Rattle.std.proofs.lemmas.Bool.{le-leb, leb-true}
-use Rattle.std.proofs.lemmas.Bool.Decides.{nat_tests}
-use Rattle.std.proofs.lemmas.Slice.Eq.{bytes_eq-Decides}
+use Rattle.eco_ids.proofs.Common.{◌≡◌, ℕ, zero, suc, ◌+◌, ◌-◌, ◌*◌, ◌^◌, ◌<◌, ◌≤◌, Bool, true, false, not, ◌&&◌, ◌≢◌, List, [], ◌∷◌, ◌++◌, length, IfSome}
+use Rattle.eco_ids.proofs.Common.{if◌then◌else◌, codes, decimal, Option, refl, ap, ◌∙◌, arith, le-leb, leb-true, list_all, nat_tests, common_steps}
+use Rattle.eco_ids.proofs.Common.{is_eq-slice_cmp, bytes_eq-Decides, may_follow, is_name, is_text, may_begin}
 use Rattle.std.proofs.lemmas.Fmt.{decimal_digit, decimal_step}
-use Rattle.std.proofs.lemmas.Map.Text.{is_eq-slice_cmp}
 use Rattle.std.proofs.lemmas.Str.{IsUtf8-from_ascii}
 use Rattle.std.specs.Str.{IsAscii, IsUtf8}
-use Rattle.eco_ids.specs.Names.{may_begin, may_follow, is_name, is_text}
 use Rattle.eco_query.specs.Tokens.{is_white, is_digit}
 use Rattle.eco_query.specs.Reader.Machine.{is_lone}
 
@@ -31,14 +26,8 @@ and_right false b e = cc
 pub and_both : (a b : Bool) → a ≡ true → b ≡ true → (a && b) ≡ true
 and_both a b p q = rw (p, q) refl
 
-pub letter_not_white : (b : ℕ) → may_begin b ≡ true → is_white b ≡ false
-letter_not_white b e = grind (arith, nat_tests)
-
 pub white_not_word : (b : ℕ) → is_white b ≡ true → may_follow b ≡ false
 white_not_word b e = grind (arith, nat_tests)
-
-pub white_not_digit : (b : ℕ) → is_white b ≡ true → is_digit b ≡ false
-white_not_digit b e = grind (arith, nat_tests)
 
 pub digit_is : (b : ℕ) → is_digit b ≡ true → (48 ≤ b) × (b ≤ 57)
 digit_is b e = (leb-true 48 b (and_left _ _ e), leb-true b 57 (and_right _ _ e))
@@ -49,22 +38,11 @@ is_digit_of n lt = and_both _ _ (le-leb 48 (48 + n) (omega arith)) (le-leb (48 +
 pub not_lone : (n : List ℕ) → not (is_lone n) ≡ true → n ≢ codes "_"
 not_lone n e h = let same : is_lone n ≡ true = (bytes_eq-Decides n (codes "_")).1 h in cc
 
-pub lone_not : (n : List ℕ) → n ≢ codes "_" → is_lone n ≡ false
-lone_not n ne = elim (is_lone n) as (λ c. is_lone n ≡ c → c ≡ false) [ true ↦ λ e. absurd (ne ((bytes_eq-Decides n (codes "_")).0 e)) | false ↦ λ e. refl ] refl
-
 pub one_digit : (b : ℕ) → is_digit b ≡ true → b ∷ [] ≡ decimal (b - 48)
-one_digit b d =
-    let range = digit_is b d in
-    let same : 48 + (b - 48) ≡ b = omega arith in
-    sym (decimal_digit (b - 48) (omega arith) ∙ ap (λ c. c ∷ []) same)
+one_digit b d = grind (arith, common_steps, digit_is, decimal_digit)
 
 pub more_digits : (n b : ℕ) → 0 < n → is_digit b ≡ true → 10 * n + (b - 48) < 2 ^ 64 → decimal n ++ b ∷ [] ≡ decimal (10 * n + (b - 48))
-more_digits n b pos d small =
-    let range = digit_is b d in
-    let high : (10 * n + (b - 48)) / 10 ≡ n = omega arith in
-    let low : 48 + (10 * n + (b - 48)) % 10 ≡ b = omega arith in
-    sym (decimal_step (10 * n + (b - 48)) (omega arith) small ∙ ap (λ k. decimal k ++ (48 + (10 * n + (b - 48)) % 10) ∷ []) high
-    ∙ ap (λ c. decimal n ++ c ∷ []) low)
+more_digits n b pos d small = grind (arith, common_steps, digit_is, decimal_step)
 
 -- ---- names
 
@@ -79,11 +57,7 @@ not_true false e = refl
 -- what a name is
 pub name_parts : (b : ℕ) (bs : List ℕ) → is_name (b ∷ bs) ≡ true
     → (may_begin b ≡ true) × (list_all may_follow bs ≡ true) × (length bs < 63) × (is_lone (b ∷ bs) ≡ false)
-name_parts b bs e =
-    let rest = and_right (may_begin b) _ e in
-    let last = and_right (list_all may_follow bs) _ rest in
-    let small : length bs ≤ 62 = leb-true (length bs) 62 (and_left _ _ last) in
-    (and_left _ _ e, and_left _ _ rest, omega arith, sym (lone_is_text (b ∷ bs)) ∙ not_true _ (and_right _ _ last))
+name_parts b bs e = grind (arith, common_steps, and_right, leb-true, and_left, lone_is_text, not_true)
 
 pub name_of_parts : (b : ℕ) (bs : List ℕ) → may_begin b ≡ true → list_all may_follow bs ≡ true → length bs < 63 → is_lone (b ∷ bs) ≡ false
     → is_name (b ∷ bs) ≡ true

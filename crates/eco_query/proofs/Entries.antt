@@ -1,16 +1,15 @@
 -- Where a slot has an entry.
-use Rattle.std.proofs.Common.{◌≡◌, Bool, true, false, ◌&&◌, ◌||◌, if◌then◌else◌, List, [], ◌∷◌, map, filter, find, Option, Some, None, is_some, option_to_list, refl, ap, ◌∙◌}
-use Rattle.std.specs.List.{list_any}
-use Rattle.std.specs.Cmp.{IsTotalOrder, both_ways, tied_itself}
+use Rattle.eco_ids.proofs.Common.{◌≡◌, Bool, true, false, ◌&&◌, ◌||◌, List, [], ◌∷◌, map, is_some, Some, None, filter, Option, option_to_list, refl, ap, ◌∙◌}
+use Rattle.eco_ids.proofs.Common.{arith, rules, tied_itself, IsTotalOrder, list_any, common_steps, is_least_match, same_filling, pattern_matches, id_cmp}
+use Rattle.eco_ids.proofs.Common.{has_item}
+use Rattle.eco_ids.specs.declared.id.Id.{Id}
+use Rattle.eco_ids.specs.declared.pattern.Pattern.{Pattern}
+use Rattle.std.proofs.Common.{find}
+use Rattle.std.specs.Cmp.{both_ways}
 use Rattle.std.specs.Ordering.{is_lt}
 use Rattle.std.specs.declared.cmp.Ordering.{Ordering}
 use Rattle.std.specs.declared.cmp.Ordering.TheVariants.{Less, Equal, Greater}
-use Rattle.eco_ids.specs.declared.id.Id.{Id}
-use Rattle.eco_ids.specs.declared.pattern.Pattern.{Pattern}
 use Rattle.eco_ids.specs.Terms as terms
-use Rattle.eco_ids.specs.Answer.{is_least_match, same_filling}
-use Rattle.eco_ids.specs.Matching.{pattern_matches}
-use Rattle.eco_ids.specs.Order.{has_item, id_cmp}
 use Rattle.eco_query.specs.Queries.{has_any, holds}
 use Rattle.eco_query.proofs.ByteTests.{and_left, and_right, and_both}
 use Rattle.eco_query.proofs.Matched.{is_some_find}
@@ -35,8 +34,7 @@ is_less Greater e = cc
 
 any-filter : {A B : Type 0} (f : A → B) (p : A → Bool) (xs : List A) → has_any (map f (filter p xs)) ≡ list_any p xs
 any-filter f p [] = refl
-any-filter f p (x ∷ xs) =
-    elim (p x) as (λ c. has_any (map f (if c then x ∷ filter p xs else filter p xs)) ≡ (c || list_any p xs)) [ true ↦ refl | false ↦ any-filter f p xs ]
+any-filter f p (x ∷ xs) = grind (arith, common_steps, any-filter f p xs)
 
 any-found : {A B : Type 0} (f : A → B) (o : Option A) → has_any (map f (option_to_list o)) ≡ is_some o
 any-found f None = refl
@@ -52,10 +50,7 @@ any-weaker p q (x ∷ xs) h e =
     ] refl e
 
 none-weaker : {A : Type 0} (p q : A → Bool) (xs : List A) → ((x : A) → p x ≡ true → q x ≡ true) → list_any q xs ≡ false → list_any p xs ≡ false
-none-weaker p q xs h none = by (list_any p xs) refl where
-  by : (c : Bool) → list_any p xs ≡ c → c ≡ false
-  by true e = let bad = any-weaker p q xs h e in cc
-  by false e = refl
+none-weaker p q xs h none = grind (arith, common_steps, any-weaker)
 
 module _ (order : IsTotalOrder id_cmp) where
   -- a least of those that are so: it is one of them, and none is less

@@ -1,7 +1,7 @@
 -- Where the machine stops, the longest beginning of a sentence ends.
-use Rattle.std.proofs.Common.{◌≡◌, inl, inr, ℕ, ◌+◌, ◌<◌, List, [], ◌++◌, length, take, get_or, Option, Some, None, option_map, ap, ◌∙◌, sym, subst, arith}
-use Rattle.std.proofs.lemmas.List.{append-nil, length-append, take-take, get_or-take, length-take-le}
-use Rattle.std.proofs.Math.Seq.{take-length}
+use Rattle.eco_ids.proofs.Common.{◌≡◌, ℕ, ◌+◌, ◌<◌, List, [], ◌++◌, length, get_or, take, Some, None, Option, option_map, sym, ap, ◌∙◌, subst, inl, inr}
+use Rattle.eco_ids.proofs.Common.{append-nil, arith, length-append, rules, take-length, common_steps, length-take-le, get_or-take}
+use Rattle.std.proofs.lemmas.List.{take-take}
 use Rattle.eco_query.specs.Faults.{IsFault}
 use Rattle.eco_query.specs.Grammar.{WrittenSlot}
 use Rattle.eco_query.specs.Reader.Machine.{Point, end, advance, runs, Stops}
@@ -33,9 +33,7 @@ module _ (Is : List ℕ → Type 0) (first' : Point) (fits : Fits first')
       (u, is_out (front ++ u) r (subst (λ k. Rest k r first' (front ++ u)) size_is (run_out size r front u 0 n first' q whole' e h)))
 
   not_read : (front more : List ℕ) → runs advance (0, first') front ≡ None → Is (front ++ more) → ⊥
-  not_read front more e s =
-      let (r, q, run, last) = begins_read front more s in
-      let bad : ◌≡◌ {A = Option (ℕ × Point)} None (Some (length front, q)) = sym e ∙ run in cc
+  not_read front more e s = grind (arith, common_steps, begins_read)
 
   -- the machine has no move at the byte
   fault_stuck : (text : List ℕ) (n m : ℕ) (q : Point) → n < length text → runs advance (0, first') (take n text) ≡ Some (m, q)
@@ -75,7 +73,4 @@ module _ (Is : List ℕ → Type 0) (first' : Point) (fits : Fits first')
   -- likewise, by where the machine stops
   pub fault_at : (text : List ℕ) (n : ℕ) → Stops first' text n → IsFault Is text n
   fault_at text n (q, e, inl (lt, stuck)) = fault_stuck text n n q lt e (ap (λ o. option_map (λ q. (n + 1, q)) o) stuck)
-  fault_at text n (q, e, inr (all, last)) =
-      let whole' : runs advance (0, first') text ≡ Some (n, q) = ap (λ xs. runs advance (0, first') xs) (sym (ap (λ k. take k text) all ∙ take-length text))
-      ∙ e in
-      subst (λ k. IsFault Is text k) (sym all) (fault_end text n q whole' last)
+  fault_at text n (q, e, inr (all, last)) = search (rules, take-length, fault_end)

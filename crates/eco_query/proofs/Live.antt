@@ -1,18 +1,16 @@
 -- From any point that the machine comes to some sentence goes on.
-use Rattle.std.proofs.Common.{◌≡◌, ◌⊎◌, inl, inr, ℕ, ◌+◌, ◌&&◌, ◌||◌, ◌==◌, Bool, true, false, not, nat_lt, if◌then◌else◌, List, [], ◌∷◌, ◌++◌, length, codes, Option, Some, None, option_and_then, option_map, refl, ap, sym, subst, arith}
-use Rattle.std.specs.Prelude.{IfSome}
-use Rattle.std.proofs.lemmas.List.{append-nil, length-append}
-use Rattle.std.proofs.lemmas.Bool.Decides.{Decides-eqb}
-use Rattle.std.proofs.lemmas.Slice.Eq.{bytes_eq-Decides}
-use Rattle.eco_ids.specs.Names.{may_begin, may_follow}
+use Rattle.eco_ids.proofs.Common.{◌≡◌, ℕ, ◌+◌, Bool, true, false, not, ◌&&◌, ◌||◌, ◌⊎◌, List, [], ◌∷◌, ◌++◌, length, IfSome, if◌then◌else◌, ◌==◌, Some, None}
+use Rattle.eco_ids.proofs.Common.{codes, Option, option_map, option_and_then, sym, refl, ap, subst, inl, inr, append-nil, arith, length-append, Decides-eqb}
+use Rattle.eco_ids.proofs.Common.{common_steps, bytes_eq-Decides, may_begin}
 use Rattle.eco_query.specs.Tokens.{Reference, name, handle, is_white, is_digit}
-use Rattle.eco_query.specs.Reader.Machine.{grown, is_lone}
+use Rattle.eco_query.specs.Reader.Machine.{is_lone, Before, Role, whole, first, second, sole, takes_wildcard, Spot, slot, word, shut, body, atom, part, behind}
+use Rattle.eco_query.specs.Reader.Machine.{after, Point, at, letters, bar, name_of, hash, index, dot, generation, slots_with, others_with, begun, part_of}
+use Rattle.eco_query.specs.Reader.Machine.{is_prefix, is_front, part_or, atom_or, body_or, behind_atom, enter, move_at, move, advance, runs}
 use Rattle.eco_query.specs.Grammar.{WrittenPart, named, each, any, WrittenAtom, single, pair, WrittenSlot, access_word}
 use Rattle.eco_query.specs.declared.access.Access.{Access}
-use Rattle.eco_query.specs.declared.access.Access.TheVariants.{Out, InOut, InOutNone}
+use Rattle.eco_query.specs.declared.access.Access.TheVariants.{InOut}
 use Rattle.eco_query.specs.declared.point.Head.{Head}
 use Rattle.eco_query.specs.declared.point.Head.TheVariants.{Plain, Not, Optional, Alone}
-use Rattle.eco_query.specs.Reader.Machine.{Before, Role, whole, first, second, sole, takes_wildcard, Spot, slot, word, shut, body, atom, part, behind, after, Point, at, letters, bar, name_of, hash, index, dot, generation, slots_with, others_with, begun, part_of, is_prefix, is_front, access_of, part_or, atom_or, body_or, behind_atom, enter, move_at, move, advance, runs}
 use Rattle.eco_query.proofs.ByteTests.{and_left, and_right, if_some_cond}
 use Rattle.eco_query.proofs.Tokens.{Sat}
 use Rattle.eco_query.proofs.Rest.{IsNamed, After, Follow, Rest, move_out}
@@ -66,11 +64,7 @@ fits_named (second c q) from n = tt
 fits_named (sole c) from n = tt
 
 fits_word : (o : Role) (from : ℕ) (m : List ℕ) → (is_lone m && not (takes_wildcard o)) ≡ false → FitsAt (behind o (part_of from m))
-fits_word o from m e =
-    elim (is_lone m) as (λ c. (c && not (takes_wildcard o)) ≡ false → FitsAt (behind o (if c then any else named from (name m)))) [
-      | true ↦ λ e. fits_behind o any (not_false (takes_wildcard o) e)
-      | false ↦ λ e. fits_named o from (name m)
-    ] e
+fits_word o from m e = grind (arith, common_steps, fits_behind, not_false, fits_named)
 
 fits_part : (n : ℕ) (o : Role) (b : ℕ) (y : Option Point) → IfSome y Fits → IfSome (part_or n o b y) Fits
 fits_part n o b y h = fits_if (may_begin b) _ _ tt (fits_if (b == 35) _ _ tt
@@ -106,19 +100,13 @@ fits_at n s b f = fits_if (is_white b) _ _ f (fits_enter n s b)
 
 fits_move : (n : ℕ) (p : Point) (b : ℕ) → Fits p → IfSome (move n p b) Fits
 fits_move n (at s) b f = fits_at n s b f
-fits_move n (letters ss m) b f =
-    if_some_cond (is_front (m ++ b ∷ [])) _ _ Fits (λ e. e) (λ _. fits_then (access_of m) (λ a. move_at n (shut ss a) b) (λ a. fits_at n (shut ss a) b tt))
+fits_move n (letters ss m) b f = grind (arith, common_steps, if_some_cond, fits_then, fits_at)
 fits_move n (bar c x) b f = fits_if (b == 124) _ _ tt tt
-fits_move n (name_of o from m) b f =
-    fits_if (may_follow b) _ _ (fits_if (nat_lt (length m) 63) _ _ tt tt)
-    (if_some_cond (is_lone m && not (takes_wildcard o)) _ _ Fits (λ _. tt) (λ e. fits_at n (behind o (part_of from m)) b (fits_word o from m e)))
+fits_move n (name_of o from m) b f = grind (arith, common_steps, fits_if, if_some_cond, fits_at, fits_word)
 fits_move n (hash o from) b f = fits_if (is_digit b) _ _ tt tt
-fits_move n (index o from i) b f =
-    fits_if (is_digit b) _ _ (fits_then (grown 4294967295 i b) (λ j. Some (index o from j)) (λ j. tt)) (fits_if (b == 46) _ _ tt tt)
+fits_move n (index o from i) b f = grind (arith, common_steps, fits_if, fits_then)
 fits_move n (dot o from i) b f = fits_if (is_digit b) _ _ tt tt
-fits_move n (generation o from i g) b f =
-    fits_if (is_digit b) _ _ (fits_then (grown 65535 g b) (λ h. Some (generation o from i h)) (λ j. tt))
-    (fits_at n (behind o (named from (handle i g))) b (fits_named o from (handle i g)))
+fits_move n (generation o from i g) b f = grind (arith, common_steps, fits_if, fits_then, fits_at, fits_named)
 
 pub fits_run : (u : List ℕ) (n m : ℕ) (p q : Point) → Fits p → runs advance (n, p) u ≡ Some (m, q) → Fits q × (m ≡ n + length u)
 fits_run [] n m p q f e =
@@ -182,14 +170,7 @@ or_cases true b e = inl refl
 or_cases false b e = inr e
 
 front_word : (m : List ℕ) → is_front m ≡ true → (a : Access) × (t : List ℕ) × (access_word a ≡ m ++ t)
-front_word m e =
-    elim (or_cases (is_prefix m (codes "inout") || is_prefix m (codes "out")) (is_prefix m (codes "none")) e) [
-      | inl f ↦ elim (or_cases (is_prefix m (codes "inout")) (is_prefix m (codes "out")) f) [
-        | inl g ↦ let (t, h) = front_rest m (codes "inout") g in (InOut, t, h)
-        | inr g ↦ let (t, h) = front_rest m (codes "out") g in (Out, t, h)
-      ]
-      | inr f ↦ let (t, h) = front_rest m (codes "none") f in (InOutNone, t, h)
-    ]
+front_word m e = grind (arith, common_steps, or_cases, front_rest)
 
 live_letters : (n : ℕ) (ss : List WrittenSlot) (m : List ℕ) → is_front m ≡ true → Live n (letters ss m)
 live_letters n ss m e =

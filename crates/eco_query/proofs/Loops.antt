@@ -1,7 +1,6 @@
 -- The loop of the reader: what the machine has read so far.
-use Rattle.std.proofs.Common.{◌≡◌, ℕ, ◌+◌, ◌<◌, inl, inr, List, length, take, get_or, Some, None, option_and_then, option_map, refl, ap, ◌∙◌, sym}
-use Rattle.std.proofs.lemmas.List.{take_more}
-use Rattle.std.proofs.Math.Seq.{take-length}
+use Rattle.eco_ids.proofs.Common.{◌≡◌, ℕ, ◌+◌, ◌<◌, List, length, get_or, take, Some, None, option_map, option_and_then, sym, refl, ap, ◌∙◌, inl, inr}
+use Rattle.eco_ids.proofs.Common.{take-length, take_more}
 use Rattle.eco_query.specs.Grammar.{WrittenAtom}
 use Rattle.eco_query.specs.Reader.Machine.{Point, Before, move, end, advance, runs, slots_with, Reached, Stops, EndsWith}
 use Rattle.eco_query.proofs.Stuck.{runs-more}

@@ -1,9 +1,7 @@
 -- Lists that are searched and mapped.
-use Rattle.std.proofs.Common.{◌≡◌, ℕ, ◌+◌, ◌<◌, Bool, true, false, ◌&&◌, ◌||◌, if◌then◌else◌, List, [], ◌∷◌, ◌++◌, length, take, get_or, map, Some, refl, ap, ◌∙◌}
-use Rattle.std.specs.Prelude.{find, is_some, flat_map}
-use Rattle.std.specs.List.{list_any, list_all}
-use Rattle.std.proofs.lemmas.List.{append-nil, take_more}
-use Rattle.std.proofs.lemmas.Grind.{flat_map-append}
+use Rattle.eco_ids.proofs.Common.{◌≡◌, ◌+◌, Bool, true, false, ◌&&◌, ◌||◌, List, [], ◌∷◌, ◌++◌, map, is_some, if◌then◌else◌, Some, flat_map, refl, ap, list_any}
+use Rattle.eco_ids.proofs.Common.{list_all}
+use Rattle.std.proofs.Common.{find}
 
 pub is_some_find : {X : Type 0} (p : X → Bool) (xs : List X) → is_some (find p xs) ≡ list_any p xs
 is_some_find p [] = refl
@@ -16,9 +14,3 @@ list_all_map f p (x ∷ xs) = ap (λ c. p (f x) && c) (list_all_map f p xs)
 pub flat_map_map : {X Y Z : Type 0} (f : X → Y) (g : Y → List Z) (xs : List X) → flat_map g (map f xs) ≡ flat_map (λ x. g (f x)) xs
 flat_map_map f g [] = refl
 flat_map_map f g (x ∷ xs) = ap (λ zs. g (f x) ++ zs) (flat_map_map f g xs)
-
-pub flat_map-more : {X Z : Type 0} (f : X → List Z) (xs : List X) (i : ℕ) (d : X) → i < length xs
-    → flat_map f (take (i + 1) xs) ≡ flat_map f (take i xs) ++ f (get_or xs i d)
-flat_map-more f xs i d lt =
-    ap (flat_map f) (take_more xs i d lt) ∙ flat_map-append f (take i xs) (get_or xs i d ∷ [])
-    ∙ ap (λ zs. flat_map f (take i xs) ++ zs) (append-nil (f (get_or xs i d)))

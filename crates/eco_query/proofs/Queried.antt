@@ -1,15 +1,10 @@
 -- The refusals of a query, in their order.
-use Rattle.std.proofs.Common.{◌≡◌, ℕ, true, false, not, ◌&&◌, nat_lt, List, [], ◌∷◌, ◌++◌, length, Option, Some, None, Err, ap, ◌∙◌, sym, subst, arith}
-use Rattle.std.specs.List.{list_any}
-use Rattle.std.proofs.lemmas.Bool.{cond-true, cond-false, lt-ltb}
-use Rattle.std.proofs.lemmas.Bool.Decides.{nat_tests}
-use Rattle.eco_ids.specs.declared.entity.Entity.{Entity}
-use Rattle.eco_ids.specs.declared.refusal.Refusal.TheVariants.{WildcardHere, TooManyTerms, NoPositive}
-use Rattle.eco_query.specs.Grammar.{WrittenAtom, single, pair, WrittenBody, absent, optional, alternatives, WrittenSlot, IsAtom, AreMore, IsBody, AreSlots, SpellsSlots, SpellsQuery, IsProperAtom}
+use Rattle.eco_ids.proofs.Common.{◌≡◌, ℕ, false, ◌&&◌, List, [], ◌∷◌, ◌++◌, length, Some, ap, ◌∙◌, subst}
+use Rattle.eco_query.specs.Grammar.{WrittenAtom, single, pair, WrittenBody, absent, optional, alternatives, WrittenSlot, IsAtom, AreMore, IsBody, AreSlots}
+use Rattle.eco_query.specs.Grammar.{SpellsSlots, SpellsQuery, IsProperAtom}
 use Rattle.eco_query.specs.Reader.Machine.{body_of}
 use Rattle.eco_query.specs.Reader.Points.{atom_view, is_bare_head}
-use Rattle.eco_query.specs.Readings.{misplaces_wildcard, is_positive, slots_of, query_of}
-use Rattle.eco_query.specs.Readings.{atoms_of, count_atoms}
+use Rattle.eco_query.specs.Readings.{atoms_of}
 use Rattle.eco_query.specs.Reader.Marks.{slots_from, grouping, HoldsSlots, AreProperMarks}
 use Rattle.eco_query.specs.declared.point.Mark.{Mark}
 use Rattle.eco_query.specs.declared.point.Mark.TheVariants as marks
@@ -88,36 +83,3 @@ marks_proper xs (marks.Slot a h x ∷ ms) g s =
 pub held_proper : (text : List ℕ) (slots : List WrittenSlot) (ms : List Mark) → SpellsQuery text slots → HoldsSlots (Some ms) slots → AreProperMarks ms
 held_proper text slots ms s (same, whole, count) =
     let (all, none) = marks_proper [] ms whole (subst AreProperSlots same (query_proper (length text) text slots s)) in all
-
--- ---- the refusals
-
-module _ (entity_named : List ℕ → Option Entity) (slots : List WrittenSlot) where
-  pub too_many : HoldsSlots None slots → query_of entity_named slots ≡ Err TooManyTerms
-  too_many many = cond-true (nat_lt 32 (count_atoms slots)) _ _ (lt-ltb 32 (count_atoms slots) many)
-
-  module _ (ms : List Mark) (holds : HoldsSlots (Some ms) slots) where
-    few : nat_lt 32 (count_atoms slots) ≡ false
-    few = let (same, whole, count) = holds in grind (arith, nat_tests)
-
-    pub wildcard_here : true ≡ list_any misplaces_wildcard (slots_from [] ms) → query_of entity_named slots ≡ Err WildcardHere
-    wildcard_here wrong =
-        let (same, whole, count) = holds in
-        cond-false (nat_lt 32 (count_atoms slots)) _ _ few
-        ∙ cond-true (list_any misplaces_wildcard slots) _ _ (ap (list_any misplaces_wildcard) same ∙ sym wrong)
-
-    pub no_positive : false ≡ list_any misplaces_wildcard (slots_from [] ms) → false ≡ list_any (λ s. is_positive s.body) (slots_from [] ms)
-        → query_of entity_named slots ≡ Err NoPositive
-    no_positive right asked =
-        let (same, whole, count) = holds in
-        cond-false (nat_lt 32 (count_atoms slots)) _ _ few
-        ∙ cond-false (list_any misplaces_wildcard slots) _ _ (ap (list_any misplaces_wildcard) same ∙ sym right)
-        ∙ cond-true (not (list_any (λ s. is_positive s.body) slots)) _ _ (ap (λ ss. not (list_any (λ s. is_positive s.body) ss)) same ∙ ap not (sym asked))
-
-    pub looked_up : false ≡ list_any misplaces_wildcard (slots_from [] ms) → true ≡ list_any (λ s. is_positive s.body) (slots_from [] ms)
-        → query_of entity_named slots ≡ slots_of entity_named (slots_from [] ms)
-    looked_up right asked =
-        let (same, whole, count) = holds in
-        cond-false (nat_lt 32 (count_atoms slots)) _ _ few
-        ∙ cond-false (list_any misplaces_wildcard slots) _ _ (ap (list_any misplaces_wildcard) same ∙ sym right)
-        ∙ cond-false (not (list_any (λ s. is_positive s.body) slots)) _ _ (ap (λ ss. not (list_any (λ s. is_positive s.body) ss)) same ∙ ap not (sym asked))
-        ∙ ap (slots_of entity_named) same

@@ -1,6 +1,6 @@
 -- Each text is read in some way: a machine runs through it, or stops at its first fault.
-use Rattle.std.proofs.Common.{◌≡◌, ◌⊎◌, inl, inr, ℕ, suc, ◌+◌, ◌<◌, List, [], ◌∷◌, length, take, get_or, Option, Some, None, option_map, option_and_then, Err, refl, ap, ◌∙◌, subst, arith}
-use Rattle.std.proofs.Math.Seq.{take-length}
+use Rattle.eco_ids.proofs.Common.{◌≡◌, ℕ, suc, ◌+◌, ◌<◌, ◌⊎◌, List, [], ◌∷◌, length, get_or, take, Some, None, Err, Option, option_map, option_and_then, refl}
+use Rattle.eco_ids.proofs.Common.{ap, ◌∙◌, subst, inl, inr, arith, take-length}
 use Rattle.eco_ids.specs.declared.entity.Entity.{Entity}
 use Rattle.eco_ids.specs.declared.refusal.Refusal.TheVariants.{Syntax}
 use Rattle.eco_query.specs.Grammar.{WrittenSlot, SpellsId, SpellsQuery, SpellsRef}

@@ -1,20 +1,21 @@
 -- What is left of a text at each point of the machine, and that the machine goes on exactly there.
-use Rattle.std.proofs.Common.{◌≡◌, ◌⊎◌, inl, inr, ℕ, ◌+◌, ◌-◌, ◌^◌, ◌<◌, ◌≤◌, ◌&&◌, ◌==◌, true, false, not, nat_lt, if◌then◌else◌, List, [], ◌∷◌, ◌++◌, length, codes, decimal, Option, Some, None, option_and_then, refl, ap, ◌∙◌, sym, subst, arith, append_assoc}
-use Rattle.std.specs.List.{list_all}
-use Rattle.std.proofs.lemmas.List.{append-nil, length-append}
-use Rattle.std.proofs.lemmas.Bool.{cond-false, lt-ltb, ltb-true}
-use Rattle.std.proofs.lemmas.Slice.Eq.{bytes_eq-Decides}
+use Rattle.eco_ids.proofs.Common.{◌≡◌, ℕ, ◌+◌, ◌-◌, ◌^◌, ◌<◌, ◌≤◌, true, false, not, ◌&&◌, ◌⊎◌, List, [], ◌∷◌, ◌++◌, length, if◌then◌else◌, nat_lt, ◌==◌, Some}
+use Rattle.eco_ids.proofs.Common.{None, codes, decimal, Option, option_and_then, sym, refl, ap, ◌∙◌, subst, inl, inr, append_assoc, append-nil, arith}
+use Rattle.eco_ids.proofs.Common.{length-append, ltb-true, lt-ltb, list_all, cond-false, common_steps, bytes_eq-Decides, may_follow, may_begin}
 use Rattle.eco_query.proofs.ByteTests.{and_left, and_right, and_both, name_parts, name_of_parts}
-use Rattle.eco_ids.specs.Names.{may_begin, may_follow}
 use Rattle.eco_query.specs.Tokens.{name, handle, is_white, is_digit}
-use Rattle.eco_query.specs.Reader.Machine.{grown, is_lone}
-use Rattle.eco_query.specs.Grammar.{WrittenPart, named, each, any, WrittenAtom, single, pair, WrittenBody, absent, optional, alternatives, WrittenSlot, IsTok, IsPart, IsAtom, AreMore, IsBody, access_word, IsSlot, AreSlots}
+use Rattle.eco_query.specs.Reader.Machine.{grown, is_lone, Before, Role, whole, first, second, sole, takes_wildcard, Spot, slot, word, shut, body, atom, part}
+use Rattle.eco_query.specs.Reader.Machine.{behind, after, Point, at, letters, bar, name_of, hash, index, dot, generation, body_of, slots_with, others_with}
+use Rattle.eco_query.specs.Reader.Machine.{begun, part_of, is_front, access_of, part_or, atom_or, body_or, comma, behind_atom, enter, move_at, move}
+use Rattle.eco_query.specs.Grammar.{WrittenPart, named, each, any, WrittenAtom, single, pair, WrittenBody, absent, optional, alternatives, WrittenSlot, IsTok}
+use Rattle.eco_query.specs.Grammar.{IsPart, IsAtom, AreMore, IsBody, access_word, IsSlot, AreSlots}
 use Rattle.eco_query.specs.declared.access.Access.{Access}
 use Rattle.eco_query.specs.declared.access.Access.TheVariants.{In, Out, InOut, InOutNone}
 use Rattle.eco_query.specs.declared.point.Head.{Head}
 use Rattle.eco_query.specs.declared.point.Head.TheVariants.{Plain, Not, Optional, Alone}
-use Rattle.eco_query.specs.Reader.Machine.{Before, Role, whole, first, second, sole, takes_wildcard, Spot, slot, word, shut, body, atom, part, behind, after, Point, at, letters, bar, name_of, hash, index, dot, generation, body_of, slots_with, others_with, begun, part_of, is_front, access_of, part_or, atom_or, body_or, comma, behind_atom, enter, move_at, move}
-use Rattle.eco_query.proofs.Tokens.{Sat, sat_if, if_sat, else_sat, same_byte, tok_cons, tok_uncons, enter_white, word_stops, digit_word, none_sat, four, word_ends, front_of, access_of_word, word_of_access, then_out, some_out, digits, digits_in, digits_out, number_front, number_back}
+use Rattle.eco_query.proofs.Tokens.{Sat, sat_if, if_sat, else_sat, same_byte, tok_cons, tok_uncons, enter_white, word_stops, digit_word, none_sat, four}
+use Rattle.eco_query.proofs.Tokens.{word_ends, front_of, access_of_word, word_of_access, then_out, some_out, digits, digits_in, digits_out, number_front}
+use Rattle.eco_query.proofs.Tokens.{number_back}
 
 -- a reference is a name or a handle
 abbrev pub IsNamed : WrittenPart → Type 0
@@ -209,16 +210,7 @@ module _ (size : ℕ) (r : List WrittenSlot) where
 
   -- a lone `_` is taken where what follows it is there
   lone_taken : (o : Role) (from : ℕ) (m v : List ℕ) → Follow o (part_of from m) v → (is_lone m && not (takes_wildcard o)) ≡ false
-  lone_taken o from m v f =
-      elim (is_lone m) as (λ c. Follow o (if c then any else named from (name m)) v → (c && not (takes_wildcard o)) ≡ false) [
-        | true ↦ λ f. elim o as (λ o. Follow o any v → not (takes_wildcard o) ≡ false) [
-          | whole c ↦ λ f. refl
-          | first c ↦ λ f. refl
-          | second c p ↦ λ f. refl
-          | sole c ↦ λ f. absurd f.0
-        ] f
-        | false ↦ λ f. refl
-      ] f
+  lone_taken o from m v f = grind (arith, common_steps)
 
   part_in : (n : ℕ) (o : Role) (b : ℕ) (u : List ℕ) (y : Option Point) → n + length (b ∷ u) ≡ size → PartThen o (b ∷ u)
       → Sat (part_or n o b y) (λ q. Rest q u)
@@ -279,8 +271,7 @@ module _ (size : ℕ) (r : List WrittenSlot) where
   atom_in : (n : ℕ) (c : Before) (b : ℕ) (u : List ℕ) (y : Option Point) → n + length (b ∷ u) ≡ size → AtomThen c (b ∷ u)
       → Sat (atom_or n c b y) (λ q. Rest q u)
   atom_in n c b u y place (inl s) = part_in n (whole c) b u _ place s
-  atom_in n c b u y place (inr (v, tok, s)) =
-      let t = tok_cons 40 [] b u v tok in subst (λ k. Sat (atom_or n c k y) (λ q. Rest q u)) (sym t.0) (v, t.1, s)
+  atom_in n c b u y place (inr (v, tok, s)) = grind (arith, common_steps, tok_cons)
 
   atom_out : (n : ℕ) (c : Before) (b : ℕ) (u : List ℕ) (y : Option Point) → n + length (b ∷ u) ≡ size → Sat (atom_or n c b y) (λ q. Rest q u)
       → AtomThen c (b ∷ u) ⊎ Sat y (λ q. Rest q u)
@@ -293,10 +284,8 @@ module _ (size : ℕ) (r : List WrittenSlot) where
   body_in : (n : ℕ) (ss : List WrittenSlot) (a : Access) (b : ℕ) (u : List ℕ) (y : Option Point) → n + length (b ∷ u) ≡ size → BodyThen ss a (b ∷ u)
       → Sat (body_or n ss a b y) (λ q. Rest q u)
   body_in n ss a b u y place (inl s) = atom_in n (begun ss a Plain) b u _ place s
-  body_in n ss a b u y place (inr (inl (v, tok, s))) =
-      let t = tok_cons 33 [] b u v tok in subst (λ k. Sat (body_or n ss a k y) (λ q. Rest q u)) (sym t.0) (v, t.1, s)
-  body_in n ss a b u y place (inr (inr (v, tok, s))) =
-      let t = tok_cons 63 [] b u v tok in subst (λ k. Sat (body_or n ss a k y) (λ q. Rest q u)) (sym t.0) (v, t.1, s)
+  body_in n ss a b u y place (inr (inl (v, tok, s))) = grind (arith, common_steps, tok_cons)
+  body_in n ss a b u y place (inr (inr (v, tok, s))) = grind (arith, common_steps, tok_cons)
 
   body_out : (n : ℕ) (ss : List WrittenSlot) (a : Access) (b : ℕ) (u : List ℕ) (y : Option Point) → n + length (b ∷ u) ≡ size
       → Sat (body_or n ss a b y) (λ q. Rest q u) → BodyThen ss a (b ∷ u) ⊎ Sat y (λ q. Rest q u)

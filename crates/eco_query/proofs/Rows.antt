@@ -1,5 +1,5 @@
 -- Rows of the grammar that compute.
-use Rattle.std.proofs.Common.{◌≡◌, inl, inr, ℕ, List, [], ◌∷◌, codes, Option, Some, option_and_then, refl, arith}
+use Rattle.eco_ids.proofs.Common.{◌≡◌, ℕ, List, [], ◌∷◌, Some, codes, Option, option_and_then, refl, inl, inr, arith}
 use Rattle.eco_query.specs.Tokens.{name}
 use Rattle.eco_query.specs.Faults.{IsSpelled, IsFault}
 use Rattle.eco_query.specs.Grammar.{named, each, any, single, pair, absent, alternatives, WrittenSlot, SpellsQuery}

@@ -1,13 +1,14 @@
 -- The machine over a whole text: it ends exactly with the slots that are left of the text where it begins.
-use Rattle.std.proofs.Common.{◌≡◌, inl, inr, ℕ, ◌+◌, List, [], ◌∷◌, ◌++◌, length, codes, decimal, Option, Some, None, option_and_then, option_map, refl, ap, ◌∙◌, sym, subst, arith}
-use Rattle.std.proofs.lemmas.List.{append-nil, length-append}
+use Rattle.eco_ids.proofs.Common.{◌≡◌, ℕ, ◌+◌, List, [], ◌∷◌, ◌++◌, length, Some, None, codes, decimal, Option, option_map, option_and_then, sym, refl, ap, ◌∙◌}
+use Rattle.eco_ids.proofs.Common.{subst, inl, inr, append-nil, arith, length-append}
 use Rattle.eco_query.specs.Tokens.{name, handle}
 use Rattle.eco_query.specs.Grammar.{WrittenPart, named, each, any, WrittenAtom, single, WrittenSlot, IsTok, IsPart, access_word, AreSlots}
 use Rattle.eco_query.specs.declared.access.Access.{Access}
 use Rattle.eco_query.specs.declared.access.Access.TheVariants.{In, Out, InOut, InOutNone}
 use Rattle.eco_query.specs.declared.point.Head.{Head}
 use Rattle.eco_query.specs.declared.point.Head.TheVariants.{Plain, Not, Optional, Alone}
-use Rattle.eco_query.specs.Reader.Machine.{Before, whole, first, second, sole, Spot, slot, word, shut, body, atom, part, behind, after, Point, at, letters, bar, name_of, hash, index, dot, generation, slots_with, begun, part_of, move, end_at, end, advance, runs}
+use Rattle.eco_query.specs.Reader.Machine.{Before, whole, first, second, sole, Spot, slot, word, shut, body, atom, part, behind, after, Point, at, letters, bar}
+use Rattle.eco_query.specs.Reader.Machine.{name_of, hash, index, dot, generation, slots_with, begun, part_of, move, end_at, end, advance, runs}
 use Rattle.eco_query.proofs.Tokens.{Sat, tok_nil, number_front}
 use Rattle.eco_query.proofs.Rest.{After, Follow, AtomThen, BodyThen, Then, Rest, move_in, move_out}
 

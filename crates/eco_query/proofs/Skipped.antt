@@ -1,9 +1,6 @@
 -- Bytes at which the machine stays between tokens, or inside of the same one.
-use Rattle.std.proofs.Common.{◌≡◌, ℕ, ◌+◌, ◌-◌, ◌<◌, ◌≤◌, true, List, length, length-drop, drop, Some, refl, arith}
-use Rattle.std.proofs.lemmas.Bool.Decides.{nat_tests}
-use Rattle.std.proofs.lemmas.List.{length-take-le}
-use Rattle.std.specs.Prelude.{nat_lt, slice_index, slice_range}
-use Rattle.eco_ids.specs.Names.{may_follow}
+use Rattle.eco_ids.proofs.Common.{◌≡◌, ℕ, ◌+◌, ◌-◌, ◌<◌, ◌≤◌, true, List, length, drop, nat_lt, slice_index, slice_range, Some, refl, arith, length-drop}
+use Rattle.eco_ids.proofs.Common.{nat_tests, length-take-le, may_follow}
 use Rattle.eco_query.specs.Tokens.{is_digit, is_white}
 use Rattle.eco_query.specs.Reader.Machine.{Point, Role, Spot, at, dot, generation, hash, index, name_of, grown, Reached}
 use Rattle.eco_query.proofs.Loops.{reached_more}

@@ -1,20 +1,18 @@
 -- Queries, ids and references: what the reader ends with is spelled, and where it stops the fault lies.
-use Rattle.std.proofs.Common.{◌≡◌, inl, inr, ℕ, ◌≤◌, arith, List, [], ◌∷◌, ◌++◌, length, Option, Some, Result, Err, refl, ap, ◌∙◌, sym, subst}
+use Rattle.eco_ids.proofs.Common.{◌≡◌, ℕ, List, [], ◌∷◌, ◌++◌, length, Some, Err, Option, Result, sym, refl, ap, ◌∙◌, subst, inl, inr, arith, common_steps}
 use Rattle.eco_ids.specs.declared.entity.Entity.{Entity}
 use Rattle.eco_ids.specs.declared.refusal.Refusal.{Refusal}
 use Rattle.eco_ids.specs.declared.refusal.Refusal.TheVariants.{Syntax}
 use Rattle.eco_query.specs.Tokens.{Reference}
-use Rattle.eco_query.specs.Grammar.{WrittenPart, named, each, any, WrittenAtom, single, pair, alternatives, WrittenSlot, IsPart, SpellsId, PlacedReference, SpellsRef, IsProperPart, IsProperAtom}
+use Rattle.eco_query.specs.Grammar.{WrittenPart, named, each, any, WrittenAtom, single, pair, alternatives, WrittenSlot, IsPart, SpellsId, PlacedReference}
+use Rattle.eco_query.specs.Grammar.{SpellsRef, IsProperPart, IsProperAtom, SpellsSlots, SpellsQuery, IsAtom}
 use Rattle.eco_query.specs.Faults.{IsSpelled, IsFault}
-use Rattle.eco_query.specs.Reader.Machine.{Point, Before, end, advance, runs, slots_with, body_of, id_start, ref_start, begun, EndsWith, Stops}
+use Rattle.eco_query.specs.Reader.Machine.{Point, Before, end, advance, runs, slots_with, body_of, id_start, ref_start, begun, EndsWith, Stops, query_start}
 use Rattle.eco_query.specs.declared.access.Access.TheVariants.{InOut}
 use Rattle.eco_query.specs.declared.point.Head.{Head}
 use Rattle.eco_query.specs.declared.point.Head.TheVariants.{Plain, Not, Optional, Alone}
 use Rattle.eco_query.specs.Readings.{Reads, SpellsOnce, ReadsOnce, entity_at, entity_of_part}
-use Rattle.eco_query.proofs.Rest.{Rest}
-use Rattle.eco_query.specs.Grammar.{SpellsSlots, SpellsQuery, IsAtom}
-use Rattle.eco_query.specs.Reader.Machine.{query_start}
-use Rattle.eco_query.proofs.Rest.{slot_split, slot_join, atom_split, atom_join}
+use Rattle.eco_query.proofs.Rest.{Rest, slot_split, slot_join, atom_split, atom_join}
 use Rattle.eco_query.proofs.Runs.{read_out, rest_once}
 use Rattle.eco_query.proofs.Fault.{fault_at}
 
@@ -68,10 +66,7 @@ body_is Alone xs x y e = last_is xs x y cc
 
 -- a slot of one atom alone has that atom
 atom_is : (c : Before) (x y : WrittenAtom) → slots_with c.head c x ≡ id_slots y → x ≡ y
-atom_is c x y e =
-    let slot : ◌≡◌ {A = WrittenSlot} (record { access = c.access; body = body_of c.head c.others x }) (record { access = InOut; body = alternatives (y ∷ []) })
-    = last_is c.slots _ _ e in
-    body_is c.head c.others x y (ap (λ (s : WrittenSlot). s.body) slot)
+atom_is c x y e = grind (arith, common_steps, last_is, body_is)
 
 pub id_ended : (text : List ℕ) (x : WrittenAtom) → EndsWith id_start text x → SpellsId text x
 id_ended text x (q, c, e, last) =
@@ -162,12 +157,7 @@ ref_refused meaning text n s = inr (n, ref_fault text n s, refl)
 
 -- there is one first fault
 pub fault_once : (Is : List ℕ → Type 0) (text : List ℕ) (n m : ℕ) → IsFault Is text n → IsFault Is text m → n ≡ m
-fault_once Is text n m f g =
-    let (more, is) = f.begins in
-    let (more', is') = g.begins in
-    let le : n ≤ m = g.longest n f.within more is in
-    let ge : m ≤ n = f.longest m g.within more' is' in
-    omega arith
+fault_once Is text n m f g = grind (arith, common_steps)
 
 -- an answer is what the text spells, or its first fault
 pub reads_once : {X T : Type 0} (Spells : List ℕ → X → Type 0) (meaning : X → Result T Refusal) → SpellsOnce Spells → ReadsOnce Spells meaning

@@ -1,9 +1,8 @@
 -- The store of atoms, and the drafts that its atoms make.
-use Rattle.std.proofs.Common.{◌≡◌, ℕ, ◌+◌, ◌<◌, ◌≤◌, Bool, true, false, ◌&&◌, nat_lt, if◌then◌else◌, List, [], ◌∷◌, ◌++◌, length, take, Option, Some, None, option_and_then, refl, ap, ◌∙◌, sym, subst, arith, append_assoc}
-use Rattle.std.proofs.lemmas.List.{append-nil, length-append, take_more_set, length-take-le}
-use Rattle.std.proofs.lemmas.Bool.{cond-true, cond-false, lt-ltb, ltb-true}
-use Rattle.std.specs.Prelude.{slice_set}
-use Rattle.std.proofs.lemmas.Bool.Decides.{nat_tests}
+use Rattle.eco_ids.proofs.Common.{◌≡◌, ℕ, ◌+◌, ◌<◌, ◌≤◌, Bool, true, false, ◌&&◌, List, [], ◌∷◌, ◌++◌, length, take, if◌then◌else◌, slice_set, Some, None}
+use Rattle.eco_ids.proofs.Common.{Option, option_and_then, sym, refl, ap, ◌∙◌, subst, append_assoc, append-nil, arith, length-append, ltb-true, lt-ltb}
+use Rattle.eco_ids.proofs.Common.{cond-false, cond-true, nat_tests, common_steps, length-take-le}
+use Rattle.std.proofs.lemmas.List.{take_more_set}
 use Rattle.eco_query.specs.Grammar.{WrittenAtom, WrittenSlot}
 use Rattle.eco_query.specs.Reader.Machine.{body_of}
 use Rattle.eco_query.specs.Reader.Points.{Draft, atom_view, marked, is_bare_head, keeps_slots}
@@ -20,16 +19,12 @@ use Rattle.eco_query.specs.declared.point.Head.TheVariants.{Plain, Not, Optional
 pub stored_within : (over : Bool) (xs : List Mark) (n : ℕ) (m : Mark) → n < length xs → n < 32
     → (if over then None else Some (take (n + 1) (slice_set xs n m))) ≡ option_and_then (λ ms. with_mark ms m) (if over then None else Some (take n xs))
 stored_within true xs n m le lt = refl
-stored_within false xs n m le lt =
-    let count : length (take n xs) ≡ n = length-take-le n xs (omega arith) in
-    ap (λ ms. Some ms) (take_more_set xs n m le) ∙ sym (cond-true (nat_lt (length (take n xs)) 32) _ _ (lt-ltb (length (take n xs)) 32 (omega arith)))
+stored_within false xs n m le lt = grind (arith, common_steps, length-take-le, take_more_set, cond-true, lt-ltb)
 
 pub stored_past : (over : Bool) (xs : List Mark) (n : ℕ) (m : Mark) → n ≤ length xs → 32 ≤ n
     → None ≡ option_and_then (λ ms. with_mark ms m) (if over then None else Some (take n xs))
 stored_past true xs n m le ge = refl
-stored_past false xs n m le ge =
-    let count : length (take n xs) ≡ n = length-take-le n xs le in
-    sym (cond-false (nat_lt (length (take n xs)) 32) _ _ (grind (arith, nat_tests)))
+stored_past false xs n m le ge = grind (arith, common_steps, length-take-le, cond-false, nat_tests)
 
 -- ---- drafts
 
@@ -63,12 +58,7 @@ grouping-append g [] ns = refl
 grouping-append g (marks.Same ∷ ms) ns = refl
 grouping-append g (marks.Begin ∷ ms) ns = refl
 grouping-append g (marks.Other a x ∷ ms) ns = grouping-append true ms ns
-grouping-append g (marks.Slot a h x ∷ ms) ns =
-    elim (g && is_bare_head h) as
-    (λ c. (if c then None else grouping false (ms ++ ns)) ≡ option_and_then (λ k. grouping k ns) (if c then None else grouping false ms)) [
-      | true ↦ refl
-      | false ↦ grouping-append false ms ns
-    ]
+grouping-append g (marks.Slot a h x ∷ ms) ns = grind (arith, common_steps, grouping-append false ms ns)
 
 pub some_of-more : (xs : List WrittenAtom) (x : WrittenAtom) → some_of (xs ++ x ∷ []) ≡ true
 some_of-more [] x = refl
@@ -93,35 +83,18 @@ store_holds : (t : Option (List Mark)) (d : Draft) (m : Mark) → HoldsDraft t d
     → grouping (some_of d.others) (m ∷ []) ≡ Some (some_of (marked m d).others) → HoldsDraft (option_and_then (λ ms. with_mark ms m) t) (marked m d)
 store_holds None d m h more group = omega arith
 store_holds (Some ms) d m (draft, grouped, count, within) more group =
-    let longer : length (ms ++ m ∷ []) ≡ length ms + 1 = length-append ms (m ∷ []) in
-    elim (nat_lt (length ms) 32) as (λ c. nat_lt (length ms) 32 ≡ c → HoldsDraft (if c then Some (ms ++ m ∷ []) else None) (marked m d)) [
-      | true ↦ λ e.
-          let lt : length ms < 32 = ltb-true (length ms) 32 e in (
-            draft_from-append nothing_read ms (m ∷ []) ∙ ap (λ d. marked m d) draft,
-            grouping-append false ms (m ∷ []) ∙ ap (λ o. option_and_then (λ k. grouping k (m ∷ [])) o) grouped ∙ group,
-            omega arith,
-            omega arith,
-          )
-      | false ↦ λ e. let ge : 32 ≤ length ms = grind (arith, nat_tests) in let past : 32 < draft_atoms (marked m d) = omega arith in past
-    ] refl
+    grind (arith, common_steps, length-append, ltb-true, draft_from-append, grouping-append, nat_tests)
 
 others_bare : (d : Draft) → d.others ≡ [] → some_of d.others ≡ false
 others_bare d e = ap some_of e
 
 last_bare : (d : Draft) (h : Head) (bare : Bool) → (bare ≡ true → d.others ≡ []) → (if is_bare_head h then bare else true) ≡ true
     → (some_of d.others && is_bare_head h) ≡ false
-last_bare d h bare empty e =
-    elim (is_bare_head h) as (λ c. (if c then bare else true) ≡ true → (some_of d.others && c) ≡ false) [
-      | true ↦ λ e. rw (others_bare d (empty e)) refl
-      | false ↦ λ e. elim (some_of d.others) as (λ c. (c && false) ≡ false) [ true ↦ refl | false ↦ refl ]
-    ] e
+last_bare d h bare empty e = grind (arith, common_steps, others_bare)
 
 slot_atoms : (d : Draft) (a : Access) (h : Head) (x : WrittenAtom) → (some_of d.others && is_bare_head h) ≡ false
     → count_atoms (d.slots ++ (record { access = a; body = body_of h d.others x }) ∷ []) + 0 ≡ (count_atoms d.slots + length d.others) + 1
-slot_atoms d a h x e =
-    let s = count_atoms-append d.slots (record { access = a; body = body_of h d.others x } ∷ []) in
-    let t = atoms_of-body h d.others x e in
-    omega arith
+slot_atoms d a h x e = grind (arith, common_steps, count_atoms-append, atoms_of-body)
 
 -- what a byte puts down is held
 pub put_holds : (t : Option (List Mark)) (d : Draft) (m : Mark) (bare next : Bool) → HoldsDraft t d → (bare ≡ true → d.others ≡ [])
@@ -165,6 +138,4 @@ slots_from-draft d (marks.Slot a h x ∷ ms) =
 -- the last atom ends the slots
 pub held_slots : (t : Option (List Mark)) (d : Draft) → HoldsDraft t d → d.others ≡ [] → HoldsSlots t d.slots
 held_slots None d h e = let l : length d.others ≡ 0 = ap length e in omega arith
-held_slots (Some ms) d (draft, grouped, count, within) e =
-    let l : length d.others ≡ 0 = ap length e in
-    (ap (λ (d : Draft). d.slots) (sym draft) ∙ slots_from-draft nothing_read ms, grouped ∙ ap (λ xs. Some (some_of xs)) e, omega arith)
+held_slots (Some ms) d (draft, grouped, count, within) e = grind (arith, common_steps, slots_from-draft)

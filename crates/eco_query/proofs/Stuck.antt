@@ -1,9 +1,8 @@
 -- A machine that reads a text byte by byte, and the longest beginning of a text of its language.
-use Rattle.std.proofs.Common.{◌≡◌, ℕ, suc, ◌+◌, ◌<◌, ◌≤◌, List, [], ◌∷◌, ◌++◌, length, take, drop, get_or, Option, Some, None, option_and_then, refl, ap, ◌∙◌, sym, arith, append_assoc}
-use Rattle.std.proofs.lemmas.List.{take-append-drop, take_more}
+use Rattle.eco_ids.proofs.Common.{◌≡◌, ℕ, suc, ◌+◌, ◌-◌, ◌<◌, ◌≤◌, List, [], ◌∷◌, ◌++◌, length, get_or, take, drop, slice_index, slice_range, Some, None}
+use Rattle.eco_ids.proofs.Common.{Option, option_and_then, sym, refl, ap, ◌∙◌, append_assoc, arith, length-drop, take_more, take-append-drop}
 use Rattle.std.proofs.Math.Seq.{drop-cons}
-use Rattle.std.specs.Prelude.{slice_range, slice_index}
-use Rattle.std.proofs.Common.{◌-◌, length-drop, get_or-drop}
+use Rattle.std.proofs.Common.{get_or-drop}
 use Rattle.eco_query.specs.Reader.Machine.{runs}
 
 pub runs-append : {S : Type 0} (step : S → ℕ → Option S) (s : S) (xs ys : List ℕ)

@@ -1,23 +1,17 @@
 -- Tokens at the beginning of what is left of a text: bytes, access words and digits.
-use Rattle.std.proofs.Common.{◌≡◌, ℕ, ◌+◌, ◌-◌, ◌*◌, ◌^◌, ◌<◌, ◌≤◌, ◌&&◌, ◌||◌, ◌==◌, Bool, true, false, nat_lt, nat_le, if◌then◌else◌, List, [], ◌∷◌, ◌++◌, codes, decimal, Option, Some, None, option_and_then, refl, ap, ◌∙◌, sym, subst, arith, append_assoc}
-use Rattle.std.specs.Str.{bytes_eq}
-use Rattle.std.proofs.lemmas.List.{append-nil}
-use Rattle.std.proofs.lemmas.Bool.{cond-true, cond-false, lt-ltb, le-leb, ltb-true, leb-true}
-use Rattle.std.proofs.lemmas.Bool.Decides.{nat_tests, Decides-eqb}
-use Rattle.std.proofs.lemmas.Slice.Eq.{bytes_eq-Decides}
+use Rattle.eco_ids.proofs.Common.{◌≡◌, ℕ, ◌+◌, ◌-◌, ◌*◌, ◌/◌, ◌%◌, ◌^◌, ◌<◌, ◌≤◌, Bool, true, false, ◌&&◌, ◌||◌, List, [], ◌∷◌, ◌++◌, if◌then◌else◌, nat_lt}
+use Rattle.eco_ids.proofs.Common.{nat_le, ◌==◌, Some, None, codes, decimal, Option, option_and_then, sym, refl, ap, ◌∙◌, subst, append_assoc, append-nil, arith}
+use Rattle.eco_ids.proofs.Common.{ltb-true, lt-ltb, le-leb, leb-true, cond-false, cond-true, Decides-eqb, nat_tests, common_steps, bytes_eq-Decides, may_follow}
 use Rattle.eco_query.proofs.ByteTests.{and_left, and_right, and_both, white_not_word, digit_is, is_digit_of, one_digit, more_digits}
 use Rattle.std.proofs.lemmas.Fmt.{decimal_by_steps}
-use Rattle.std.proofs.Common.{◌/◌, ◌%◌}
-use Rattle.eco_query.specs.Reader.Machine.{is_prefix}
-use Rattle.eco_ids.specs.Names.{may_follow}
+use Rattle.eco_query.specs.Reader.Machine.{is_prefix, grown, Before, Role, whole, first, second, sole, Spot, slot, word, shut, body, atom, part, behind, after}
+use Rattle.eco_query.specs.Reader.Machine.{is_front, access_of, behind_atom, enter, move_at}
 use Rattle.eco_query.specs.Tokens.{is_white, is_digit}
-use Rattle.eco_query.specs.Reader.Machine.{grown}
 use Rattle.eco_query.specs.Grammar.{WrittenPart, WrittenAtom, single, IsTok, access_word}
 use Rattle.eco_query.specs.declared.access.Access.{Access}
 use Rattle.eco_query.specs.declared.access.Access.TheVariants.{In, Out, InOut, InOutNone}
 use Rattle.eco_query.specs.declared.point.Head.{Head}
 use Rattle.eco_query.specs.declared.point.Head.TheVariants.{Plain, Not, Optional, Alone}
-use Rattle.eco_query.specs.Reader.Machine.{Before, Role, whole, first, second, sole, Spot, slot, word, shut, body, atom, part, behind, after, is_front, access_of, behind_atom, enter, move_at}
 
 abbrev pub Sat : {X : Type 0} → Option X → (X → Type 0) → Type 0
 Sat None P = ⊥
@@ -50,36 +44,13 @@ tok_uncons k t b u v same (white, w, e) = (white, w, cc)
 pub tok_nil : (k : ℕ) (t v : List ℕ) → IsTok (k ∷ t) [] v → ⊥
 tok_nil k t v (white, w, e) = cc
 
-abbrev pub Skip : (List ℕ → Type 0) → List ℕ → Type 0
-Skip X u = (v : List ℕ) × IsTok [] u v × X v
-
-pub skip_tok : (X : List ℕ → Type 0) (k b : ℕ) (u : List ℕ) → ((v : List ℕ) × IsTok (k ∷ []) (b ∷ u) v × X v) → (b ≡ k) × Skip X u
-skip_tok X k b u (v, t, x) = let s = tok_cons k [] b u v t in (s.0, (v, s.1, x))
-
-pub tok_skip : (X : List ℕ → Type 0) (k b : ℕ) (u : List ℕ) → b ≡ k → Skip X u → (v : List ℕ) × IsTok (k ∷ []) (b ∷ u) v × X v
-tok_skip X k b u same (v, t, x) = (v, tok_uncons k [] b u v same t, x)
-
 -- ---- bytes
 
 pub white_elim : (P : ℕ → Type 0) → P 32 → P 9 → P 10 → P 13 → (b : ℕ) → is_white b ≡ true → P b
-white_elim P p q s t b w =
-    elim (b == 32) as (λ k. (b == 32) ≡ k → P b) [
-      | true ↦ λ e. subst P (sym (same_byte b 32 e)) p
-      | false ↦ λ e. elim (b == 9) as (λ k. (b == 9) ≡ k → P b) [
-        | true ↦ λ f. subst P (sym (same_byte b 9 f)) q
-        | false ↦ λ f. elim (b == 10) as (λ k. (b == 10) ≡ k → P b) [
-          | true ↦ λ g. subst P (sym (same_byte b 10 g)) s
-          | false ↦ λ g. let last : (b == 13) ≡ true = (rw (e, f, g) at w) in subst P (sym (same_byte b 13 last)) t
-        ] refl
-      ] refl
-    ] refl
+white_elim P p q s t b w = grind (arith, common_steps, same_byte)
 
 pub word_not : (b k : ℕ) → may_follow b ≡ true → may_follow k ≡ false → (b == k) ≡ false
-word_not b k w f =
-    elim (b == k) as (λ c. (b == k) ≡ c → c ≡ false) [
-      | true ↦ λ e. let g : may_follow k ≡ true = subst (λ x. may_follow x ≡ true) (same_byte b k e) w in cc
-      | false ↦ λ e. refl
-    ] refl
+word_not b k w f = grind (arith, common_steps, same_byte)
 
 pub behind_white : (h : Head) (c : Before) (x : WrittenAtom) (b : ℕ) → is_white b ≡ true → behind_atom h c x b ≡ None
 behind_white Plain c x b w = white_elim (λ b. behind_atom Plain c x b ≡ None) refl refl refl refl b w
@@ -109,15 +80,7 @@ enter_white n (after c x) b w = behind_white c.head c x b w
 
 -- behind a name no letter or digit goes on
 pub word_stops : (n : ℕ) (o : Role) (p : WrittenPart) (b : ℕ) → may_follow b ≡ true → move_at n (behind o p) b ≡ None
-word_stops n o p b w =
-    let no : is_white b ≡ false = elim (is_white b) as (λ c. is_white b ≡ c → c ≡ false) [ true ↦ λ e. let f = white_not_word b e in cc | false ↦ λ e. refl ]
-    refl in
-    cond-false (is_white b) _ _ no ∙ elim o as (λ o. enter n (behind o p) b ≡ None) [
-      | whole c ↦ behind_word c.head c (single p) b w
-      | first c ↦ cond-false (b == 44) _ _ (word_not b 44 w refl)
-      | second c q ↦ cond-false (b == 41) _ _ (word_not b 41 w refl)
-      | sole c ↦ refl
-    ]
+word_stops n o p b w = grind (arith, common_steps, white_not_word, cond-false, behind_word, word_not)
 
 pub digit_word : (b : ℕ) → is_digit b ≡ true → may_follow b ≡ true
 digit_word b d = grind (arith, nat_tests)
@@ -136,9 +99,7 @@ four k p q s t InOut = s
 four k p q s t InOutNone = t
 
 pub word_ends : (b : ℕ) → is_white b ≡ true → (a : Access) → is_front (access_word a ++ b ∷ []) ≡ false
-word_ends b w =
-    white_elim (λ b. (a : Access) → is_front (access_word a ++ b ∷ []) ≡ false) (four 32 refl refl refl refl) (four 9 refl refl refl refl)
-    (four 10 refl refl refl refl) (four 13 refl refl refl refl) b w
+word_ends b w = grind (arith, common_steps, white_elim, four)
 
 pub prefix_of : (k t : List ℕ) → is_prefix k (k ++ t) ≡ true
 prefix_of [] t = refl
@@ -167,11 +128,7 @@ access_of_word InOut = refl
 access_of_word InOutNone = refl
 
 pub word_of_access : (m : List ℕ) (Q : Access → Type 0) → Sat (access_of m) Q → (a : Access) × (access_word a ≡ m) × Q a
-word_of_access m Q s =
-    sat_if (bytes_eq m (codes "in")) _ _ Q _ (λ e q. (In, sym ((bytes_eq-Decides m (codes "in")).0 e), q))
-    (λ _ t. sat_if (bytes_eq m (codes "out")) _ _ Q _ (λ e q. (Out, sym ((bytes_eq-Decides m (codes "out")).0 e), q))
-    (λ _ t. sat_if (bytes_eq m (codes "inout")) _ _ Q _ (λ e q. (InOut, sym ((bytes_eq-Decides m (codes "inout")).0 e), q))
-    (λ _ t. sat_if (bytes_eq m (codes "none")) _ _ Q _ (λ e q. (InOutNone, sym ((bytes_eq-Decides m (codes "none")).0 e), q)) (λ _ z. absurd z) t) t) t) s
+word_of_access m Q s = grind (arith, common_steps, sat_if, bytes_eq-Decides)
 
 pub then_out : {X Y : Type 0} (o : Option X) (f : X → Option Y) (P : Y → Type 0) → Sat (option_and_then f o) P → Sat o (λ x. Sat (f x) P)
 then_out None f P s = s
@@ -190,16 +147,7 @@ digits most i (b ∷ t) = if is_digit b then option_and_then (λ j. digits most 
 
 pub digits_in : (most i j k : ℕ) (t : List ℕ) → digits most i (k ∷ t) ≡ Some j
     → (is_digit k ≡ true) × (n : ℕ) × (grown most i k ≡ Some n) × (digits most n t ≡ Some j)
-digits_in most i j k t e =
-    elim (is_digit k) as (λ c. is_digit k ≡ c → (if c then option_and_then (λ j. digits most j t) (grown most i k) else None) ≡ Some j
-    → (is_digit k ≡ true) × (n : ℕ) × (grown most i k ≡ Some n) × (digits most n t ≡ Some j)) [
-      | true ↦ λ d f. elim (grown most i k) as (λ o. grown most i k ≡ o → option_and_then (λ j. digits most j t) o ≡ Some j
-          → (is_digit k ≡ true) × (n : ℕ) × (grown most i k ≡ Some n) × (digits most n t ≡ Some j)) [
-            | None ↦ λ _ g. absurd (let bad : ◌≡◌ {A = Option ℕ} None (Some j) = g in cc)
-            | Some n ↦ λ h g. (d, n, h, g)
-          ] refl f
-      | false ↦ λ _ f. absurd (let bad : ◌≡◌ {A = Option ℕ} None (Some j) = f in cc)
-    ] refl e
+digits_in most i j k t e = grind (arith, common_steps)
 
 pub digits_out : (most i j k n : ℕ) (t : List ℕ) → is_digit k ≡ true → grown most i k ≡ Some n → digits most n t ≡ Some j → digits most i (k ∷ t) ≡ Some j
 digits_out most i j k n t d g e = cond-true (is_digit k) _ _ d ∙ ap (λ o. option_and_then (λ j. digits most j t) o) g ∙ e
@@ -235,15 +183,7 @@ number_front most n fits le =
     n (omega arith) le
 
 pub grown_is : (most i k n : ℕ) → grown most i k ≡ Some n → (0 < i) × (n ≡ 10 * i + (k - 48)) × (n ≤ most)
-grown_is most i k n e =
-    elim (nat_lt 0 i && nat_le (10 * i + (k - 48)) most) as (λ c. (nat_lt 0 i && nat_le (10 * i + (k - 48)) most) ≡ c
-    → (if c then Some (10 * i + (k - 48)) else None) ≡ Some n → (0 < i) × (n ≡ 10 * i + (k - 48)) × (n ≤ most)) [
-      | true ↦ λ t f.
-          let same : 10 * i + (k - 48) ≡ n = cc in
-          let le : 10 * i + (k - 48) ≤ most = leb-true (10 * i + (k - 48)) most (and_right _ _ t) in
-          (ltb-true 0 i (and_left _ _ t), sym same, subst (λ k. k ≤ most) same le)
-      | false ↦ λ _ f. absurd (let bad : ◌≡◌ {A = Option ℕ} None (Some n) = f in cc)
-    ] refl e
+grown_is most i k n e = grind (arith, common_steps, leb-true, and_right, ltb-true, and_left)
 
 pub number_more : (most i j : ℕ) (t : List ℕ) → most < 2 ^ 64 → i ≤ most → digits most i t ≡ Some j → (decimal i ++ t ≡ decimal j) × (j ≤ most)
 number_more most i j [] fits le e = let same : i ≡ j = cc in (append-nil (decimal i) ∙ ap decimal same, omega arith)

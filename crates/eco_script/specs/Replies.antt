@@ -9,7 +9,7 @@ use Rattle.eco_ids.specs.Births.{Creates, may_create, MakesComponent, may_make_c
 use Rattle.eco_ids.specs.Outcome.{Refuses, Answers, Meets}
 use Rattle.eco_ids.specs.Step.{Adds, may_add, Sets, may_set, Removes, may_remove, Clears, may_clear, RemovesAll, may_remove_all, Renames, may_rename}
 use Rattle.eco_ids.specs.World.{WorldState, has, is_alive, living}
-use Rattle.eco_world.specs.Queries.{term_of}
+use Rattle.eco_world.specs.Queries.{may_query, term_of}
 use Rattle.eco_script.specs.References.{ReadsEntity, ReadsId}
 use Rattle.eco_script.specs.Steps as step
 use Rattle.eco_script.specs.Values.{Shown, shown_value}
@@ -48,7 +48,7 @@ abbrev pub OnId : WorldState → List ℕ → (Id → Result Reply Refusal → W
 OnId w text = On (ReadsId w text) w
 
 -- what the step answers on a world, and the world after it. Texts are read from left to right, and the first that is refused
--- is the step's refusal. A listing and a query may find no memory.
+-- is the step's refusal. A listing may find no memory, and so may a query that has a result.
 abbrev pub Replies : WorldState → step.Step → Result Reply Refusal → WorldState → Type 0
 Replies w (step.create name) = Calls (Meets (Creates w name) (may_create w name) w) made
 Replies w (step.component name arity) =
@@ -64,4 +64,4 @@ Replies w (step.get e i) = OnEntity w e (λ x. OnId w i (λ y. Answers (got (sho
 Replies w (step.show e) =
     OnEntity w e (λ x r new. MatchBool (is_alive w x) (Answers (shown x) w r new) (Refuses NotAlive w r new))
 Replies w step.list = Meets (Answers (listed (map (λ p. p.0) (living w))) w) true w
-Replies w (step.query q) = OnId w q (λ y. Meets (Answers (found (answer w (term_of y))) w) true w)
+Replies w (step.query q) = OnId w q (λ y. Meets (Answers (found (answer w (term_of y))) w) (may_query w (term_of y)) w)

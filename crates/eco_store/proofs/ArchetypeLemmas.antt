@@ -7,15 +7,16 @@ use Rattle.std.proofs.lemmas.Bool.Decides.{Decides-eqb}
 use Rattle.eco_ids.specs.declared.pattern.Pattern.{Pattern}
 use Rattle.eco_ids.specs.declared.id.Id.{Id}
 use Rattle.eco_tables.specs.Table.{TableState, Row}
-use Rattle.eco_tables.specs.Tables.{slot_of, table_in, no_table, Sets, Moves, rowless, rowless_type}
+use Rattle.eco_tables.specs.Tables.{slot_of, table_in, no_table, Sets, Moves, MovesAll, rowless, rowless_type}
 use Rattle.eco_store.specs.TypeMap.{IsTypeMap, same_ids}
 use Rattle.eco_store.specs.IdIndex.{Lists, any_matches, Turns}
-use Rattle.eco_store.specs.Archetypes.{type_at, type_matches, IsArchetypes, IsFull, AreFull, SameSlots}
+use Rattle.eco_store.specs.Archetypes.{type_at, type_matches, IsIdIndex, IsArchetypes, SameSlots}
+use Rattle.eco_store.specs.Widths.{AreAgreed}
 use Rattle.eco_store.specs.Edges.{toggled, Cuts, Links, SameEdges}
 use Rattle.eco_store.specs.Seats.{SameRows}
 use Rattle.eco_store.proofs.Graphs.{graph_made, graph_cut, graph_linked}
 use Rattle.eco_store.proofs.TypeMaps.{type_map-insert, type_map-remove}
-use Rattle.eco_store.proofs.Widths.{sets_full}
+use Rattle.eco_store.proofs.Widths.{kept_agreed, sets_kept}
 
 -- a slot whose table has a row, or room, has a table
 pub there_by_row : (s : List (Option TableState)) (n row : ℕ) → row < length (table_in s n).rows → IsSome (slot_of s n)
@@ -52,30 +53,62 @@ module _ (s s' : List (Option TableState)) where
         | inr other ↦ ap (option_map (λ (x : TableState). x.ids)) (sets.others k other)
       ]
 
-  pub moves_types : (from row to : ℕ) → Moves s s' from row to → IsSome (slot_of s from) → IsSome (slot_of s to)
+  -- where two tables change, and their types stay, no slot's type changes
+  joined_types : (from to : ℕ) (t u : TableState) → slot_of s' from ≡ Some t → slot_of s' to ≡ Some u
+      → ((n : ℕ) → n ≢ from → n ≢ to → slot_of s' n ≡ slot_of s n) → type_at s from ≡ Some t.ids → type_at s to ≡ Some u.ids
       → (k : ℕ) → type_at s' k ≡ type_at s k
-  moves_types from row to moves there_from there_to k =
+  joined_types from to t u source target others was_from was_to k =
       elim (cases_eq k from) [
-        | inl here ↦
-            ap (type_at s') here ∙ ap (option_map (λ (x : TableState). x.ids)) moves.source ∙ sym (type_there s from there_from) ∙ ap (type_at s) (sym here)
+        | inl here ↦ ap (type_at s') here ∙ ap (option_map (λ (x : TableState). x.ids)) source ∙ sym was_from ∙ ap (type_at s) (sym here)
         | inr not_from ↦ elim (cases_eq k to) [
-          | inl here ↦
-              ap (type_at s') here ∙ ap (option_map (λ (x : TableState). x.ids)) moves.target ∙ sym (type_there s to there_to) ∙ ap (type_at s) (sym here)
-          | inr not_to ↦ ap (option_map (λ (x : TableState). x.ids)) (moves.others k not_from not_to)
+          | inl here ↦ ap (type_at s') here ∙ ap (option_map (λ (x : TableState). x.ids)) target ∙ sym was_to ∙ ap (type_at s) (sym here)
+          | inr not_to ↦ ap (option_map (λ (x : TableState). x.ids)) (others k not_from not_to)
         ]
       ]
 
+  pub moves_types : (from row to : ℕ) → Moves s s' from row to → IsSome (slot_of s from) → IsSome (slot_of s to)
+      → (k : ℕ) → type_at s' k ≡ type_at s k
+  moves_types from row to moves there_from there_to =
+      joined_types from to _ _ moves.source moves.target moves.others (type_there s from there_from) (type_there s to there_to)
+
+  pub moves_all_types : (from to : ℕ) → MovesAll s s' from to → IsSome (slot_of s from) → IsSome (slot_of s to)
+      → (k : ℕ) → type_at s' k ≡ type_at s k
+  moves_all_types from to moves there_from there_to =
+      joined_types from to _ _ moves.source moves.target moves.others (type_there s from there_from) (type_there s to there_to)
+
+-- a type comes to a slot that had none, and the index lists the slot under the patterns of its ids
+pub index_made : (types types' : ℕ → Option (List Id)) (l l' : Lists) (n : ℕ) (ids : List Id) → ((k : ℕ) → k ≢ n → types' k ≡ types k)
+    → IsIdIndex types l → types' n ≡ Some ids → types n ≡ None → Turns true (any_matches ids) l l' n → IsIdIndex types' l'
+index_made types types' l l' n ids others matches now vacant turns f k = turns f k ∙ by (nat_eq n k) refl
+  where
+    either : (c x : Bool) → x ≡ false → cond (c && true) true x ≡ c
+    either true x h = refl
+    either false x h = h
+
+    neither : (c x : Bool) → cond (c && false) true x ≡ x
+    neither true x = refl
+    neither false x = refl
+
+    by : (b : Bool) → nat_eq n k ≡ b → cond (any_matches ids f && b) true (l f k) ≡ type_matches (types' k) f
+    by true e =
+        let here : n ≡ k = (Decides-eqb n k).0 e in
+        let was : l f k ≡ false = matches f k ∙ ap (λ o. type_matches o f) (sym (ap types here) ∙ vacant) in
+        either (any_matches ids f) (l f k) was ∙ sym (ap (λ o. type_matches o f) (sym (ap types' here) ∙ now))
+    by false e =
+        let apart : k ≢ n = λ h. let same : nat_eq n k ≡ true = (Decides-eqb n k).1 (sym h) in cc in
+        neither (any_matches ids f) (l f k) ∙ matches f k ∙ ap (λ o. type_matches o f) (sym (others k apart))
+
 module _ {S E : Type 0} (s s' : List (Option TableState)) (m m' : HashMap (List Id) ℕ S) (l l' : Lists) (g g' : List (HashMap Id ℕ E)) where
   -- the same types are found by the same maps
-  pub found_same : IsArchetypes s m l g → ((k : ℕ) → type_at s' k ≡ type_at s k) → AreFull s' → IsArchetypes s' m l g
-  found_same found same full = record {
+  pub found_same : IsArchetypes s m l g → ((k : ℕ) → type_at s' k ≡ type_at s k) → AreAgreed s' → IsArchetypes s' m l g
+  found_same found same agreed = record {
     types = record {
       found = λ t n e. same n ∙ found.types.found t n e;
       there = λ t n e. found.types.there t n (sym (same n) ∙ e);
     };
     matches = λ f n. found.matches f n ∙ ap (λ o. type_matches o f) (sym (same n));
     graph = λ n k i e. let was = found.graph n k i e in (was.0, same n ∙ was.1, same k ∙ was.2);
-    full = full;
+    agreed = agreed;
   }
 
   -- two tables are joined by an id, of whose types one has it alone besides what the other has
@@ -86,7 +119,7 @@ module _ {S E : Type 0} (s s' : List (Option TableState)) (m m' : HashMap (List 
     types = found.types;
     matches = found.matches;
     graph = graph_linked (type_at s) g g' a b i ids found.graph links from to twice;
-    full = found.full;
+    agreed = found.agreed;
   }
 
   -- the same edges lead on
@@ -95,44 +128,26 @@ module _ {S E : Type 0} (s s' : List (Option TableState)) (m m' : HashMap (List 
     types = found.types;
     matches = found.matches;
     graph = λ n k i e. found.graph n k i (sym (same n i) ∙ e);
-    full = found.full;
+    agreed = found.agreed;
   }
 
   -- a new table is found
   pub found_made : (n : ℕ) (t : TableState) → IsArchetypes s m l g → Sets s s' n (Some t) → slot_of s n ≡ None
-      → IsFull t → ((k : ℕ) → type_at s k ≢ Some t.ids)
+      → AreAgreed s' → ((k : ℕ) → type_at s k ≢ Some t.ids)
       → ((q : List Id) → get same_ids m' q ≡ cond (same_ids t.ids q) (Some n) (get same_ids m q))
       → Turns true (any_matches t.ids) l l' n
       → IsArchetypes s' m' l' g
-  found_made n t found sets vacant own absent gets turns = record {
+  found_made n t found sets vacant agreed absent gets turns = record {
     types =
         type_map-insert (type_at s) (type_at s') m m' t.ids n (λ k other. ap (option_map (λ (x : TableState). x.ids)) (sets.others k other))
         found.types (ap (option_map (λ (x : TableState). x.ids)) sets.changed) (ap (option_map (λ (x : TableState). x.ids)) vacant) absent gets;
-    matches = λ f k. turns f k ∙ by f k (nat_eq n k) refl;
+    matches =
+        index_made (type_at s) (type_at s') l l' n t.ids (λ k other. ap (option_map (λ (x : TableState). x.ids)) (sets.others k other))
+        found.matches (ap (option_map (λ (x : TableState). x.ids)) sets.changed) (ap (option_map (λ (x : TableState). x.ids)) vacant) turns;
     graph = graph_made (type_at s) (type_at s') g n found.graph (ap (option_map (λ (x : TableState). x.ids)) vacant)
         (λ k other. ap (option_map (λ (x : TableState). x.ids)) (sets.others k other));
-    full = sets_full s s' found.full n (Some t) sets own;
+    agreed = agreed;
   }
-    where
-      by : (f : Pattern) (k : ℕ) (b : Bool) → nat_eq n k ≡ b → cond (any_matches t.ids f && b) true (l f k) ≡ type_matches (type_at s' k) f
-      by f k true e =
-          let here : n ≡ k = (Decides-eqb n k).0 e in
-          let was : l f k ≡ false = found.matches f k ∙ ap (λ j. type_matches (type_at s j) f) (sym here)
-          ∙ ap (λ o. type_matches (option_map (λ (x : TableState). x.ids) o) f) vacant in
-          either (any_matches t.ids f) (l f k) was ∙ sym (ap (λ j. type_matches (type_at s' j) f) (sym here)
-          ∙ ap (λ o. type_matches (option_map (λ (x : TableState). x.ids) o) f) sets.changed)
-        where
-          either : (c x : Bool) → x ≡ false → cond (c && true) true x ≡ c
-          either true x h = refl
-          either false x h = h
-      by f k false e =
-          let apart : k ≢ n = λ h. let same : nat_eq n k ≡ true = (Decides-eqb n k).1 (sym h) in cc in
-          neither (any_matches t.ids f) (l f k) ∙ found.matches f k
-          ∙ ap (λ o. type_matches (option_map (λ (x : TableState). x.ids) o) f) (sym (sets.others k apart))
-        where
-          neither : (c x : Bool) → cond (c && false) true x ≡ x
-          neither true x = refl
-          neither false x = refl
 
   -- a table that was dropped is found no more
   pub found_dropped : (n : ℕ) (ids : List Id) → IsArchetypes s m l g → Sets s s' n None → type_at s n ≡ Some ids
@@ -146,7 +161,7 @@ module _ {S E : Type 0} (s s' : List (Option TableState)) (m m' : HashMap (List 
         found.types (ap (option_map (λ (x : TableState). x.ids)) sets.changed) had gets;
     matches = λ f k. turns f k ∙ by f k (nat_eq n k) refl;
     graph = graph_cut (type_at s) (type_at s') g g' n found.graph cuts (λ k other. ap (option_map (λ (x : TableState). x.ids)) (sets.others k other));
-    full = sets_full s s' found.full n None sets refl;
+    agreed = kept_agreed s s' (sets_kept s s' n None sets (inr refl)) found.agreed;
   }
     where
       by : (f : Pattern) (k : ℕ) (b : Bool) → nat_eq n k ≡ b → cond (any_matches ids f && b) false (l f k) ≡ type_matches (type_at s' k) f

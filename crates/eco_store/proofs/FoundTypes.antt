@@ -1,5 +1,5 @@
--- The types of the tables that a pattern finds.
-use Rattle.std.proofs.Common.{◌≡◌, ◌≢◌, ℕ, zero, suc, ◌<◌, true, ◌||◌, IsSome, ◌↔◌, nat_eq, List, [], ◌∷◌, map, length, get_or, Option, Some, option_map, refl}
+-- The types of the tables that a test finds.
+use Rattle.std.proofs.Common.{◌≡◌, ◌≢◌, ℕ, ◌<◌, Bool, true, true≢false, IsSome, ◌↔◌, nat_eq, List, map, length, get_or, Option, None, Some, option_map, refl}
 use Rattle.std.proofs.Common.{sym, ap, ◌∙◌, arith}
 use Rattle.std.specs.List.{All, AllPairs, Contains, IsDistinct, list_any}
 use Rattle.std.proofs.lemmas.Bool.Decides.{Decides-eqb}
@@ -9,62 +9,58 @@ use Rattle.std.proofs.lemmas.Map.Views.{Contains-from_any}
 use Rattle.std.proofs.lemmas.Option.{same_Some}
 use Rattle.eco_ids.specs.World.{Record}
 use Rattle.eco_ids.specs.declared.id.Id.{Id}
-use Rattle.eco_ids.specs.declared.pattern.Pattern.{Pattern}
 use Rattle.eco_ids.specs.Indices.{Indexed, record_of}
-use Rattle.eco_ids.specs.Matching.{pattern_matches}
-use Rattle.eco_ids.proofs.Facts.{or_right}
-use Rattle.eco_store.proofs.Searching.{found_there}
 use Rattle.eco_tables.specs.Table.{TableState}
 use Rattle.eco_tables.specs.Tables.{slot_of, table_in}
-use Rattle.eco_store.specs.Archetypes.{is_found, type_at}
-use Rattle.eco_store.specs.Retyping.{IsTypeWith}
+use Rattle.eco_store.specs.Archetypes.{is_found_by, type_at}
+use Rattle.eco_store.specs.Retyping.{IsTypeBy}
 use Rattle.eco_store.specs.Store.{IsShown}
 use Rattle.eco_store.proofs.ArchetypeLemmas.{type_there}
+use Rattle.eco_store.proofs.Listings.{listed_at}
 use Rattle.eco_store.proofs.Holders.{found_matches, found_rows, has_found, row_kept, some_kept, first_row}
 
-listed_at : (ns : List ℕ) (k d : ℕ) → k < length ns → list_any (nat_eq (get_or ns k d)) ns ≡ true
-listed_at [] k d within = absurd (omega arith)
-listed_at (n ∷ ns) zero d within = ap (λ b. b || list_any (nat_eq n) ns) ((Decides-eqb n n).1 refl)
-listed_at (n ∷ ns) (suc k) d within = or_right (nat_eq (get_or ns k d) n) _ (listed_at ns k d (omega arith))
+found_there : (test : List Id → Bool) (o : Option TableState) → is_found_by test o ≡ true → IsSome o
+found_there test None h = absurd (true≢false (sym h))
+found_there test (Some t) h = refl
 
-module _ (w : Indexed Record) (s : List (Option TableState)) (p : Pattern) (ns : List ℕ) (shown : IsShown w s)
-    (listed : (n : ℕ) → list_any (nat_eq n) ns ≡ is_found p (slot_of s n)) where
+module _ (w : Indexed Record) (s : List (Option TableState)) (test : List Id → Bool) (ns : List ℕ) (shown : IsShown w s)
+    (listed : (n : ℕ) → list_any (nat_eq n) ns ≡ is_found_by test (slot_of s n)) where
   abbrev ids_in : ℕ → List Id
   ids_in n = (table_in s n).ids
 
-  is_found_at : (k d : ℕ) → k < length ns → is_found p (slot_of s (get_or ns k d)) ≡ true
+  is_found_at : (k d : ℕ) → k < length ns → is_found_by test (slot_of s (get_or ns k d)) ≡ true
   is_found_at k d within = sym (listed (get_or ns k d)) ∙ listed_at ns k d within
 
   -- each has a table
   pub tables_there : All (λ n. IsSome (slot_of s n)) ns
-  tables_there k d within = found_there p (slot_of s (get_or ns k d)) (is_found_at k d within)
+  tables_there k d within = found_there test (slot_of s (get_or ns k d)) (is_found_at k d within)
 
-  matching : (ids : List Id) → Contains (map ids_in ns) ids → IsTypeWith w p ids
+  matching : (ids : List Id) → Contains (map ids_in ns) ids → IsTypeBy w test ids
   matching ids c =
       let within : c.0 < length ns = rw (length-map ns ids_in) at c.1 in
       let n = get_or ns c.0 0 in
       let is : ids_in n ≡ ids = sym (get_or-map ids_in ns c.0 0 ids within) ∙ c.2 in
       let found = is_found_at c.0 0 within in
-      let first = first_row (table_in s n).rows (found_rows (list_any (pattern_matches p)) (slot_of s n) found) in
-      let own = row_kept w s (list_any (pattern_matches p)) shown n 0 first.0 first.1 in (
-        sym (ap (list_any (pattern_matches p)) is) ∙ found_matches (list_any (pattern_matches p)) (slot_of s n) found,
+      let first = first_row (table_in s n).rows (found_rows test (slot_of s n) found) in
+      let own = row_kept w s test shown n 0 first.0 first.1 in (
+        sym (ap test is) ∙ found_matches test (slot_of s n) found,
         first.0.entity,
         ap (option_map (λ (k : Record). map (λ h. h.0) k.held)) own.1 ∙ ap Some (own.2 ∙ is),
       )
 
-  listing : (ids : List Id) → IsTypeWith w p ids → Contains (map ids_in ns) ids
+  listing : (ids : List Id) → IsTypeBy w test ids → Contains (map ids_in ns) ids
   listing ids it =
       let own = some_kept (record_of w it.1) ids (sym it.2) in
-      let there = has_found w s (list_any (pattern_matches p)) shown it.1 (own.0, own.1, ap (list_any (pattern_matches p)) own.2 ∙ it.0) in
+      let there = has_found w s test shown it.1 (own.0, own.1, ap test own.2 ∙ it.0) in
       let n = there.0 in
-      let kept = row_kept w s (list_any (pattern_matches p)) shown n there.1 there.2 there.3 in
+      let kept = row_kept w s test shown n there.1 there.2 there.3 in
       let same : kept.0 ≡ own.0 = same_Some _ _ (sym kept.1 ∙ ap (record_of w) there.4 ∙ own.1) in
       let is : ids_in n ≡ ids = sym kept.2 ∙ ap (λ (k : Record). map (λ h. h.0) k.held) same ∙ own.2 in
       let at = Contains-from_any (λ x y. (Decides-eqb x y).0) n ns (listed n ∙ there.5) in
       (at.0, rw (length-map ns ids_in) at.1, get_or-map ids_in ns at.0 n ids at.1 ∙ ap ids_in at.2 ∙ is)
 
   -- they are the types that some living entity has, with a match
-  pub types_listed : (ids : List Id) → Contains (map ids_in ns) ids ↔ IsTypeWith w p ids
+  pub types_listed : (ids : List Id) → Contains (map ids_in ns) ids ↔ IsTypeBy w test ids
   types_listed ids = (matching ids, listing ids)
 
   -- each comes once

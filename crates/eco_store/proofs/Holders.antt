@@ -27,7 +27,7 @@ pub first_row : (rows : List Row) → 0 < length rows → (r : Row) × (slice_ge
 first_row [] none = absurd (omega arith)
 first_row (r ∷ rows) some = (r, refl)
 
-same_truth : (a b : Bool) → (a ≡ true → b ≡ true) → (b ≡ true → a ≡ true) → a ≡ b
+pub same_truth : (a b : Bool) → (a ≡ true → b ≡ true) → (b ≡ true → a ≡ true) → a ≡ b
 same_truth true b f g = sym (f refl)
 same_truth false true f g = g refl
 same_truth false false f g = refl

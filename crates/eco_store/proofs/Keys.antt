@@ -220,7 +220,7 @@ pub turned_last : (v : Bool) (i : Id) (l l' : Lists) (slot : ℕ) → Turns v (m
 turned_last v i l l' slot turns p matches =
     turns p slot ∙ (λ k. cond (matches k && (Decides-eqb slot slot).1 refl k) v (l p slot))
 
-turned_twice : (a b s v x : Bool) → cond (b && s) v (cond (a && s) v x) ≡ cond ((a || b) && s) v x
+pub turned_twice : (a b s v x : Bool) → cond (b && s) v (cond (a && s) v x) ≡ cond ((a || b) && s) v x
 turned_twice true true true v x = refl
 turned_twice true false true v x = refl
 turned_twice false true true v x = refl

@@ -12,10 +12,11 @@ use Rattle.eco_tables.specs.Tables.{table_in, row_in, no_row, no_table, new_row,
 use Rattle.eco_entities.specs.declared.place.Place.{Place}
 use Rattle.eco_store.specs.Archetypes.{RowlessIn}
 use Rattle.eco_store.specs.Layout.{IsLaid, rows_in, SetsRows, PutsRow, TakesRow, MovesRow}
-use Rattle.eco_store.specs.Preparing.{PreparedState, nothing_prepared, move_to, moves_of}
+use Rattle.eco_store.specs.Preparing.{PreparedState, nothing_prepared, staying, HasNoIdleTarget, IsReady, move_to, moves_of}
 use Rattle.eco_store.specs.Seats.{row_at, SameRows}
 use Rattle.eco_store.proofs.Pouring.{rows_same}
 use Rattle.eco_store.proofs.Readiness.{ready_nothing}
+use Rattle.eco_store.proofs.Rowless.{rowless_moved}
 use Rattle.eco_store.proofs.RowChanges.{swap_at_last, swap_others}
 use Rattle.eco_ids.proofs.Lists.{slice_get-push_other}
 
@@ -23,11 +24,11 @@ use Rattle.eco_ids.proofs.Lists.{slice_get-push_other}
 pub rows_alike : (s s' : List (Option TableState)) → SameRows s s' → rows_in s' ≡ rows_in s
 rows_alike s s' same = λ t n. rows_same s s' same n t
 
--- nothing is prepared, and no table is without rows
-pub laid_nothing : (s : List (Option TableState)) (p : PreparedState) → p ≡ nothing_prepared → RowlessIn s [] → IsLaid s p
-laid_nothing s p nothing none = record {
-  ready = ready_nothing s p nothing;
-  tidy = subst (λ (q : PreparedState). RowlessIn s q.targets) (sym nothing) none;
+-- nothing is prepared, and no table but the idle one is without rows
+pub laid_nothing : (s : List (Option TableState)) (p : PreparedState) (n : ℕ) → p ≡ nothing_prepared n → RowlessIn s (n ∷ []) → IsLaid s p
+laid_nothing s p n nothing one = record {
+  ready = ready_nothing s p n nothing;
+  tidy = subst (λ (q : PreparedState). RowlessIn s (staying q)) (sym nothing) one;
   done = λ none_left. ap (λ (q : PreparedState). q.targets) nothing;
 }
 
@@ -98,15 +99,32 @@ none_go s [] none = refl
 none_go s (a ∷ xs) none = absurd (cc)
 
 module _ (s : List (Option TableState)) (p : PreparedState) (laid : IsLaid s p) (none : moves_of s p ≡ []) where
-  pub idle : p ≡ nothing_prepared
+  pub idle : p ≡ nothing_prepared p.idle
   idle =
       let arrivals = none_go s p.arrivals none in
       let targets = laid.done arrivals in
-      λ t. record { arrivals = arrivals t; targets = targets t }
+      λ t. record { arrivals = arrivals t; targets = targets t; idle = p.idle }
+
+  idle_ready : (s' : List (Option TableState)) → IsReady s' p
+  idle_ready s' = ready_nothing s' p p.idle idle
 
   -- tables change, and none of them is left without rows
-  pub idle_laid : (s' : List (Option TableState)) → (RowlessIn s [] → RowlessIn s' []) → IsLaid s' p
-  idle_laid s' keeps = laid_nothing s' p idle (keeps (subst (λ (q : PreparedState). RowlessIn s q.targets) idle laid.tidy))
+  pub idle_laid : (s' : List (Option TableState)) → (RowlessIn s (staying p) → RowlessIn s' (staying p)) → IsLaid s' p
+  idle_laid s' keeps = record { ready = idle_ready s'; tidy = keeps laid.tidy; done = laid.done }
+
+  -- a row goes from a table to another, and the table that it left is to be released
+  pub idle_leaves : (s1 s2 : List (Option TableState)) (from row to : ℕ) → Moves s1 s2 from row to
+      → (RowlessIn s (staying p) → RowlessIn s1 (to ∷ staying p)) → IsReady s2 p × RowlessIn s2 (from ∷ staying p)
+  idle_leaves s1 s2 from row to moves keeps = (idle_ready s2, rowless_moved s1 s2 from row to (staying p) moves (keeps laid.tidy))
 
   pub idle_moves : (s' : List (Option TableState)) → moves_of s' p ≡ []
   idle_moves s' = ap (moves_of s') idle
+
+-- another table is the idle one, and the moves are the same
+pub still_laid : (s : List (Option TableState)) (p q : PreparedState) → q ≡ record p { idle = q.idle } → HasNoIdleTarget p → IsReady s q
+    → RowlessIn s (staying q) → IsLaid s q
+still_laid s p q same done ready tidy = record {
+  ready = ready;
+  tidy = tidy;
+  done = λ none. ap (λ (x : PreparedState). x.targets) same ∙ done (sym (ap (λ (x : PreparedState). x.arrivals) same) ∙ none);
+}

@@ -1,5 +1,7 @@
 pub mod ArchetypeLemmas
+pub mod Copying
 pub mod Holders
+pub mod Joinings
 pub mod Keys
 pub mod Moves
 pub mod RowChanges
@@ -14,7 +16,6 @@ pub mod Listings
 pub mod Searching
 pub mod Sorting
 pub mod Retyping
-pub mod LastMoves
 pub mod Pouring
 pub mod Arrivals
 pub mod Readiness
@@ -26,6 +27,10 @@ pub mod FoundTypes
 pub mod EdgeLists
 pub mod Graphs
 pub mod Toggles
+pub mod Turnings
 pub mod Leads
 pub mod Stepping
 pub mod Widths
+pub mod WholeMoves
+pub mod NewWidths
+pub mod Needing

@@ -1,5 +1,6 @@
 -- Lists of slots, each once.
-use Rattle.std.proofs.Common.{◌≡◌, ℕ, Bool, true, false, true≢false, cond, ◌||◌, nat_eq, List, [], ◌∷◌, ◌++◌, filter, refl, sym, ◌∙◌}
+use Rattle.std.proofs.Common.{◌≡◌, ℕ, zero, suc, ◌<◌, Bool, true, false, true≢false, cond, ◌||◌, nat_eq, List, [], ◌∷◌, ◌++◌, filter, length}
+use Rattle.std.proofs.Common.{get_or, refl, sym, ap, ◌∙◌, arith}
 use Rattle.std.specs.List.{list_any, IsDistinct, AllByRecursion}
 use Rattle.std.proofs.lemmas.Bool.Decides.{Decides-eqb}
 use Rattle.eco_ids.proofs.Facts.{or_left, or_right}
@@ -65,3 +66,9 @@ distinct_joined (x ∷ xs) ys a b apart = (
     by : (b : Bool) → list_any (nat_eq x) ys ≡ b → b ≡ false
     by true h = absurd (true≢false (sym ((Decides-eqb x x).1 refl) ∙ (neither (nat_eq x x) (list_any (nat_eq x) xs) (apart x h)).0))
     by false h = refl
+
+-- what stands in a list is listed
+pub listed_at : (ns : List ℕ) (k d : ℕ) → k < length ns → list_any (nat_eq (get_or ns k d)) ns ≡ true
+listed_at [] k d within = absurd (omega arith)
+listed_at (n ∷ ns) zero d within = ap (λ b. b || list_any (nat_eq n) ns) ((Decides-eqb n n).1 refl)
+listed_at (n ∷ ns) (suc k) d within = or_right (nat_eq (get_or ns k d) n) _ (listed_at ns k d (omega arith))

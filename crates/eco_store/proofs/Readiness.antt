@@ -26,12 +26,16 @@ use Rattle.std.proofs.lemmas.List.{get_or-drop, get_or_default, length-drop}
 use Rattle.eco_ids.proofs.Overlaps.{entity_eq_is}
 
 -- nothing is ready in any tables
-pub ready_nothing : (s : List (Option TableState)) (p : PreparedState) → p ≡ nothing_prepared → IsReady s p
-ready_nothing s p is = subst (IsReady s) (sym is) (record {
+pub ready_nothing : (s : List (Option TableState)) (p : PreparedState) (n : ℕ) → p ≡ nothing_prepared n → IsReady s p
+ready_nothing s p n is = subst (IsReady s) (sym is) (record {
   there = All-nil (λ (a : Entity × ℕ). IsSome (slot_of s a.1));
   stays = All-nil (λ (a : Entity × ℕ). IsTrue (list_any (nat_eq a.1) []));
-  room = λ n. omega arith;
+  room = λ m. omega arith;
 })
+
+-- another table is the idle one
+pub ready_idle : (s : List (Option TableState)) (p : PreparedState) (n : ℕ) → IsReady s p → IsReady s (record p { idle = n })
+ready_idle s p n ready = record { there = ready.there; stays = ready.stays; room = ready.room }
 
 -- a slot to which nobody comes
 none_arrive : (xs : List (Entity × ℕ)) (n : ℕ) → All (λ a. a.1 ≢ n) xs → arriving xs n ≡ 0
@@ -112,17 +116,21 @@ spares_other s s' p n slot ready free sets = record {
         let stays = ready.stays k d within in
         true≢false (sym stays ∙ ap (λ m. list_any (nat_eq m) p.targets) same ∙ free)
 
+-- a target stays one
+pub still_targeted : (p : PreparedState) (n m : ℕ) → IsTrue (list_any (nat_eq m) p.targets) → IsTrue (list_any (nat_eq m) (with_target p n).targets)
+still_targeted p n m = by (list_any (nat_eq n) p.targets)
+  where
+    by : (b : Bool) → IsTrue (list_any (nat_eq m) p.targets) → IsTrue (list_any (nat_eq m) (if b then p.targets else p.targets ++ n ∷ []))
+    by true h = h
+    by false h = list_any-append (nat_eq m) p.targets (n ∷ []) ∙ ap (λ b. b || list_any (nat_eq m) (n ∷ [])) h
+
 -- more targets
 pub targeted : (s : List (Option TableState)) (p : PreparedState) (n : ℕ) → IsReady s p → IsReady s (with_target p n)
 targeted s p n ready = record {
   there = ready.there;
-  stays = λ k d within. more (list_any (nat_eq n) p.targets) (get_or p.arrivals k d).1 (ready.stays k d within);
+  stays = λ k d within. still_targeted p n (get_or p.arrivals k d).1 (ready.stays k d within);
   room = ready.room;
 }
-  where
-    more : (b : Bool) (m : ℕ) → IsTrue (list_any (nat_eq m) p.targets) → IsTrue (list_any (nat_eq m) (if b then p.targets else p.targets ++ n ∷ []))
-    more true m h = h
-    more false m h = list_any-append (nat_eq m) p.targets (n ∷ []) ∙ ap (λ b. b || list_any (nat_eq m) (n ∷ [])) h
 
 -- the slot is one of the targets
 pub is_targeted : (p : PreparedState) (n : ℕ) → IsTrue (list_any (nat_eq n) (with_target p n).targets)

@@ -1,6 +1,6 @@
 -- Which tables are without rows, after rows came and went.
-use Rattle.std.proofs.Common.{◌≡◌, ◌≢◌, ℕ, Bool, true, false, ◌||◌, IsTrue, if◌then◌else◌, List, [], ◌∷◌, ◌++◌, length, Option, Some, None, unwrap_or, IsSome}
-use Rattle.std.proofs.Common.{is_some, nat_eq, refl, sym, ap, subst, ◌∙◌, arith, inl, inr}
+use Rattle.std.proofs.Common.{◌≡◌, ◌≢◌, ℕ, Bool, true, false, true≢false, ◌||◌, IsTrue, if◌then◌else◌, List, [], ◌∷◌, ◌++◌, length, Option, Some, None, unwrap_or, IsSome}
+use Rattle.std.proofs.Common.{is_some, nat_eq, get_or, refl, sym, ap, subst, ◌∙◌, arith, inl, inr}
 use Rattle.std.specs.List.{list_any}
 use Rattle.std.proofs.lemmas.Bool.{cases_eq}
 use Rattle.std.proofs.lemmas.Bool.Decides.{Decides-eqb}
@@ -10,11 +10,12 @@ use Rattle.eco_tables.specs.Tables.{slot_of, table_in, no_table, rowless, rowles
 use Rattle.eco_ids.proofs.Lists.{not_equal}
 use Rattle.eco_store.specs.Archetypes.{is_rowless, RowlessIn}
 use Rattle.eco_store.specs.Seats.{SameRows}
-use Rattle.eco_store.specs.Transfers.{SameTypes, Pours}
-use Rattle.eco_store.specs.Preparing.{PreparedState, with_target}
+use Rattle.eco_store.specs.declared.transfer.Transfer.{Transfer}
+use Rattle.eco_store.specs.Transfers.{AreNamed, SameTypes, Pours}
+use Rattle.eco_store.specs.Preparing.{PreparedState, staying, with_target}
 use Rattle.eco_ids.proofs.Facts.{or_right}
 use Rattle.eco_store.proofs.ArchetypeLemmas.{type_there}
-use Rattle.eco_store.proofs.Readiness.{is_targeted}
+use Rattle.eco_store.proofs.Readiness.{is_targeted, still_targeted}
 use Rattle.std.proofs.lemmas.List.Folds.{list_any-append}
 use Rattle.eco_store.proofs.Pouring.{rows_same, there_as_typed}
 
@@ -119,19 +120,54 @@ rowless_moved s s' from row to slots moves was m empty =
       ]
     ]
 
+-- the first two slots in the other order
+pub rowless_turned : (s : List (Option TableState)) (n k : ℕ) (slots : List ℕ) → RowlessIn s (n ∷ k ∷ slots) → RowlessIn s (k ∷ n ∷ slots)
+rowless_turned s n k slots = rowless_more s (n ∷ k ∷ slots) (k ∷ n ∷ slots) (λ m. by (nat_eq m n) (nat_eq m k) (list_any (nat_eq m) slots))
+  where
+    by : (a b c : Bool) → IsTrue (a || (b || c)) → IsTrue (b || (a || c))
+    by true true c h = refl
+    by true false c h = refl
+    by false true c h = refl
+    by false false c h = h
+
+-- the first slot as the last
+pub rowless_last : (s : List (Option TableState)) (n : ℕ) (slots : List ℕ) → RowlessIn s (n ∷ slots) → RowlessIn s (slots ++ n ∷ [])
+rowless_last s n slots =
+    rowless_more s (n ∷ slots) (slots ++ n ∷ [])
+    (λ m there. list_any-append (nat_eq m) slots (n ∷ []) ∙ by m (list_any (nat_eq m) slots) there)
+  where
+    by : (m : ℕ) (b : Bool) → IsTrue (nat_eq m n || b) → IsTrue (b || list_any (nat_eq m) (n ∷ []))
+    by m true h = refl
+    by m false h = h
+
+-- a slot whose table is not without rows
+pub rowless_but : (s : List (Option TableState)) (n : ℕ) (slots : List ℕ) → is_rowless s n ≡ false → RowlessIn s (n ∷ slots) → RowlessIn s slots
+rowless_but s n slots has_rows was m empty =
+    let other : m ≢ n = λ here. true≢false (sym empty ∙ ap (is_rowless s) here ∙ has_rows) in
+    sym (ap (λ b. b || list_any (nat_eq m) slots) (not_equal m n other)) ∙ was m empty
+
+-- the tables of the transfers are in these slots, and so in more
+pub named_beside : (n : ℕ) (slots : List ℕ) (ts : List Transfer) → AreNamed slots ts → AreNamed (n ∷ slots) ts
+named_beside n slots ts named k d within =
+    let t = get_or ts k d in
+    let both = named k d within in
+    (or_right (nat_eq t.from n) (list_any (nat_eq t.from) slots) both.0, or_right (nat_eq t.to n) (list_any (nat_eq t.to) slots) both.1)
+
 -- a slot becomes one of the targets
-pub rowless_targeted : (s : List (Option TableState)) (p : PreparedState) (n : ℕ) → RowlessIn s (n ∷ p.targets) → RowlessIn s (with_target p n).targets
+pub rowless_targeted : (s : List (Option TableState)) (p : PreparedState) (n : ℕ) → RowlessIn s (n ∷ staying p) → RowlessIn s (staying (with_target p n))
 rowless_targeted s p n =
-    rowless_more s (n ∷ p.targets) (with_target p n).targets (λ m there.
+    rowless_more s (n ∷ staying p) (staying (with_target p n)) (λ m there.
     elim (cases_eq m n) [
-      | inl here ↦ subst (λ k. IsTrue (list_any (nat_eq k) (with_target p n).targets)) (sym here) (is_targeted p n)
+      | inl here ↦
+          or_right (nat_eq m p.idle) (list_any (nat_eq m) (with_target p n).targets)
+          (subst (λ k. IsTrue (list_any (nat_eq k) (with_target p n).targets)) (sym here) (is_targeted p n))
       | inr other ↦
-          stays m (list_any (nat_eq n) p.targets) (sym (ap (λ b. b || list_any (nat_eq m) p.targets) (not_equal m n other)) ∙ there)
+          beside (nat_eq m p.idle) m (sym (ap (λ b. b || list_any (nat_eq m) (staying p)) (not_equal m n other)) ∙ there)
     ])
   where
-    stays : (m : ℕ) (b : Bool) → IsTrue (list_any (nat_eq m) p.targets) → IsTrue (list_any (nat_eq m) (if b then p.targets else p.targets ++ n ∷ []))
-    stays m true h = h
-    stays m false h = list_any-append (nat_eq m) p.targets (n ∷ []) ∙ ap (λ b. b || list_any (nat_eq m) (n ∷ [])) h
+    beside : (a : Bool) (m : ℕ) → IsTrue (a || list_any (nat_eq m) p.targets) → IsTrue (a || list_any (nat_eq m) (with_target p n).targets)
+    beside true m h = refl
+    beside false m h = still_targeted p n m h
 
 -- one more slot may be without rows
 pub rowless_beside : (s : List (Option TableState)) (n : ℕ) (slots : List ℕ) → RowlessIn s slots → RowlessIn s (n ∷ slots)

@@ -16,17 +16,15 @@ use Rattle.eco_ids.specs.Indices.{changed, change_kept, Indexed, IndexState, Ret
 use Rattle.eco_ids.specs.Names.{is_proper, is_same_name}
 use Rattle.eco_ids.specs.Order.{id_cmp}
 use Rattle.eco_ids.specs.Outcome.{Meets, is_out_of_memory, first_refusal, Answers, Refuses}
-use Rattle.eco_tables.specs.Column.{with_held}
 use Rattle.eco_tables.specs.Table.{TableState, Row, HasIds}
 use Rattle.eco_tables.specs.Tables.{AllHaveIds, slot_of, table_in, row_in, no_row, no_table}
-use Rattle.eco_store.specs.Layout.{rows_in, WritesRow}
+use Rattle.eco_store.specs.Layout.{rows_in, SetsRows}
 use Rattle.eco_entities.specs.declared.place.Place.{Place}
 use Rattle.eco_ids.specs.Renaming.{own_name, unfit_rename, RenamesWith, may_rename}
 use Rattle.eco_ids.specs.Step.{with_name}
 use Rattle.eco_entities.specs.Registration.{Registration, name_of, own_place, renamed}
 use Rattle.eco_store.specs.Seats.{Seat, IsSeated, seat_of, row_at, seen, held_of}
 use Rattle.eco_store.specs.Store.{record_for, record_name, held_at, held_by, read, seat_in, seat_at, HasPlace, IsStore, Stands, IsShown, seat_of_place}
-use Rattle.eco_store.specs.Store.{with_written}
 use Rattle.eco_store.proofs.SeatChanges.{no_some, one_some}
 use Rattle.std.proofs.lemmas.Option.{slice_get-map}
 use Rattle.eco_store.proofs.Newborn.{is_borne-map}
@@ -65,10 +63,11 @@ pub value_found : (o : Option Record) (t : TableState) (row : ℕ) (i : Id) (v :
 value_found None t row i v h is = absurd h
 value_found (Some k) t row i v h is = is no_row ∙ ap (find id_cmp i) (sym (h.held no_row))
 
--- ---- a value written
-module _ (w : Indexed Registration) (s s1 : List (Option TableState)) (e : Entity) (p : Place) (i : Id) (v : Value)
+-- ---- an entity's row holds something else
+module _ (w : Indexed Registration) (s s1 : List (Option TableState)) (e : Entity) (p : Place) (f : List (Id × Value) → List (Id × Value))
     (store : IsStore w s) (own : own_place w e ≡ Some p)
-    (sets : WritesRow (rows_in s) (rows_in s1) p i v) where
+    (sets : SetsRows (rows_in s) (rows_in s1) p.table (set (rows_in s p.table) p.row
+    (record { entity = (row_in s p.table p.row).entity; held = f (row_in s p.table p.row).held }))) where
   abbrev rows : List Row
   rows = (table_in s p.table).rows
 
@@ -76,7 +75,7 @@ module _ (w : Indexed Registration) (s s1 : List (Option TableState)) (e : Entit
   old_row = row_in s p.table p.row
 
   abbrev new_row : Row
-  new_row = record { entity = old_row.entity; held = with_held old_row.held i v }
+  new_row = record { entity = old_row.entity; held = f old_row.held }
 
   old_there : row_at s p.table p.row ≡ Some old_row
   old_there = slice_get-get_or rows p.row no_row (row_within w s e p store own)
@@ -154,21 +153,23 @@ module _ (w : Indexed Registration) (s s1 : List (Option TableState)) (e : Entit
       let r = held_there w s e p store own in
       ap (λ o. unwrap_or (option_map (λ (k : Record). k.held) o) []) (read_record w s e r.0 r.1) ∙ r.2
 
-  pub written_read : read w s1 ≡ changed (read w s) e (with_written i v)
+  abbrev held_anew : Record → Record
+  held_anew r = record r { held = f r.held }
+
+  pub written_read : read w s1 ≡ changed (read w s) e held_anew
   written_read =
       let r = placed_record w e p own in
       let living = living_at w e r.0 r.1 in
       let before : record_of (read w s) e ≡ Some (record_for (row_at s) r.0) = read_record w s e r.0 r.1 in
       let held : held_at (row_at s) r.0.place ≡ old_row.held = ap (held_at (row_at s)) r.2 ∙ ap held_of old_there in
-      let after : Record = with_written i v (record_for (row_at s) r.0) in
+      let after : Record = held_anew (record_for (row_at s) r.0) in
       let here : slice_get (read w s1).indices e.index ≡ Some (Living e.generation after) =
       slice_get-map (map_state (record_for (row_at s1))) w.indices e.index ∙ ap (option_map (map_state (record_for (row_at s1)))) living
       ∙ (λ t. Some (Living e.generation
       (record {
         name = r.0.name;
         arity = r.0.arity;
-        held = (ap (held_at (row_at s1)) r.2 ∙ ap held_of new_there
-            ∙ ap (λ xs. with_held xs i v) (sym held)) t;
+        held = (ap (held_at (row_at s1)) r.2 ∙ ap held_of new_there ∙ ap f (sym held)) t;
       }))) in
       let indices : (read w s1).indices ≡ set (read w s).indices e.index (Living e.generation after) =
       ext_slice_get (read w s1).indices (set (read w s).indices e.index (Living e.generation after))
@@ -181,7 +182,7 @@ module _ (w : Indexed Registration) (s s1 : List (Option TableState)) (e : Entit
             seen_alike w w s s1 j refl (others_seen j other (seat_at w j) refl)
             ∙ sym (slice_get-set_other (read w s).indices e.index j (Living e.generation after) other)
       ]) in
-      (λ t. record { limit = w.limit; indices = indices t }) ∙ sym (ap (change_kept (read w s) e (with_written i v)) before)
+      (λ t. record { limit = w.limit; indices = indices t }) ∙ sym (ap (change_kept (read w s) e held_anew) before)
 
 -- ---- a name given
 record_of-read : (w : Indexed Registration) (s : List (Option TableState)) (e : Entity) →

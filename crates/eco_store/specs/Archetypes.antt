@@ -1,17 +1,17 @@
 -- Tables in slots, each found by its type and by the patterns that match its ids.
-use Rattle.std.specs.Prelude.{◌≡◌, ℕ, ◌≤◌, Bool, false, IsTrue, ◌&&◌, not, nat_lt, nat_eq, length, replicate, List, [], ◌∷◌}
+use Rattle.std.specs.Prelude.{◌≡◌, ◌≢◌, ℕ, ◌≤◌, Bool, MatchBool, false, IsTrue, ◌&&◌, nat_lt, nat_eq, length, map, List, [], ◌∷◌}
 use Rattle.std.specs.Prelude.{Option, None, Some, option_map, is_some, Result, MatchResult}
 use Rattle.std.specs.HashMap.{HashMap}
 use Rattle.std.specs.List.{list_any, IsDistinct}
 use Rattle.eco_ids.specs.declared.id.Id.{Id}
 use Rattle.eco_ids.specs.declared.pattern.Pattern.{Pattern}
-use Rattle.eco_ids.specs.declared.value.TheConstants.{FIELD_COUNT}
 use Rattle.eco_ids.specs.Matching.{pattern_matches}
-use Rattle.eco_tables.specs.Table.{TableState}
+use Rattle.eco_tables.specs.Table.{TableState, retyped_row}
 use Rattle.eco_tables.specs.Tables.{slot_of, table_in, rowless_type}
 use Rattle.eco_store.specs.Edges.{IsGraph}
 use Rattle.eco_store.specs.TypeMap.{IsTypeMap}
 use Rattle.eco_store.specs.IdIndex.{Lists, any_matches}
+use Rattle.eco_store.specs.Widths.{AreAgreed}
 
 -- the type of the table in a slot, if there is one
 abbrev pub type_at : List (Option TableState) → ℕ → Option (List Id)
@@ -22,34 +22,22 @@ abbrev pub type_matches : Option (List Id) → Pattern → Bool
 type_matches None p = false
 type_matches (Some ids) p = any_matches ids p
 
+-- there is a type, and one of its ids matches one of the patterns
+abbrev pub has_one_of : List Pattern → Option (List Id) → Bool
+has_one_of ps o = list_any (type_matches o) ps
+
 -- the index lists, under each pattern, exactly the slots of the tables whose types have an id that it matches
 abbrev pub IsIdIndex : (ℕ → Option (List Id)) → Lists → Type 0
 IsIdIndex types lists = (p : Pattern) (n : ℕ) → lists p n ≡ type_matches (types n) p
 
--- the widths of so many ids, each of which may use all fields
-abbrev pub full_widths : List Id → List ℕ
-full_widths ids = replicate (length ids) FIELD_COUNT
-
--- the table keeps all fields of the values of its ids
-abbrev pub IsFull : TableState → Type 0
-IsFull t = t.widths ≡ full_widths t.ids
-
--- each table does
-abbrev pub AreFull : List (Option TableState) → Type 0
-AreFull slots = (n : ℕ) → IsFull (table_in slots n)
-
--- each table is found by its type and by what its type's ids match, nothing else is found, and edges lead
--- from table to table
+-- each table is found by its type and by what its type's ids match, nothing else is found, edges lead
+-- from table to table, and an id is as wide in each table
 pub record IsArchetypes {S E : Type 0} (slots : List (Option TableState)) (by_type : HashMap (List Id) ℕ S)
     (by_id : Lists) (edges : List (HashMap Id ℕ E)) : Type 0 where
   pub types : IsTypeMap (type_at slots) by_type
   pub matches : IsIdIndex (type_at slots) by_id
   pub graph : IsGraph (type_at slots) edges
-  pub full : AreFull slots
-
--- a table of the type, without rows and room
-abbrev pub new_table : List Id → TableState
-new_table ids = record { ids = ids; widths = full_widths ids; rows = []; room = 0 }
+  pub agreed : AreAgreed slots
 
 -- each slot has what it had
 abbrev pub SameSlots : List (Option TableState) → List (Option TableState) → Type 0
@@ -58,6 +46,17 @@ SameSlots old new = (n : ℕ) → slot_of new n ≡ slot_of old n
 -- no table is gone, and each has the type that it had
 abbrev pub KeepsTypes : List (Option TableState) → List (Option TableState) → Type 0
 KeepsTypes old new = (n : ℕ) (ids : List Id) → type_at old n ≡ Some ids → type_at new n ≡ Some ids
+
+-- the table in a slot has another type from now on, and its rows are under it; every other table stays
+pub record TakesType (old new : List (Option TableState)) (n : ℕ) (ids : List Id) : Type 0 where
+  pub typed : type_at new n ≡ Some ids
+  pub rows : (table_in new n).rows ≡ map (retyped_row ids) (table_in old n).rows
+  pub others : (m : ℕ) → m ≢ n → slot_of new m ≡ slot_of old m
+
+-- a table of one row has this type from now on, or nothing has changed
+abbrev pub MayTakeType : List (Option TableState) → List (Option TableState) → ℕ → List Id → Bool → Type 0
+MayTakeType old new n ids takes =
+    MatchBool takes (TakesType old new n ids × (length (table_in old n).rows ≡ 1)) (SameSlots old new)
 
 -- there is a table in the slot, and it has no rows
 abbrev pub is_rowless : List (Option TableState) → ℕ → Bool
@@ -86,10 +85,6 @@ is_found_by test (Some t) = nat_lt 0 (length t.rows) && test t.ids
 abbrev pub is_found : Pattern → Option TableState → Bool
 is_found p = is_found_by (list_any (pattern_matches p))
 
--- one of the ids matches one of the patterns
-abbrev pub matches_one : List Pattern → List Id → Bool
-matches_one ps ids = list_any (any_matches ids) ps
-
 -- some table is found
 abbrev pub FindsSome : (List Id → Bool) → List (Option TableState) → Type 0
 FindsSome test slots = (n : ℕ) × IsTrue (is_found_by test (slot_of slots n))
@@ -100,10 +95,6 @@ pub record IsAllFound (test : List Id → Bool) (slots : List (Option TableState
   pub listed : (n : ℕ) → list_any (nat_eq n) found ≡ is_found_by test (slot_of slots n)
   pub distinct : IsDistinct nat_eq found
 
--- the table has rows, and its type no id that one of these patterns matches
-abbrev pub is_next : List Pattern → Option TableState → Bool
-is_next earlier = is_found_by (λ ids. not (matches_one earlier ids))
-
--- the table in the slot has rows, and none of the patterns finds it
-abbrev pub is_next_in : List (Option TableState) → List Pattern → ℕ → Bool
-is_next_in slots earlier n = is_next earlier (slot_of slots n)
+-- the table in the slot has rows, and its type passes the test
+abbrev pub is_found_in : (List Id → Bool) → List (Option TableState) → ℕ → Bool
+is_found_in test slots n = is_found_by test (slot_of slots n)

@@ -1,16 +1,15 @@
 -- Who has an id that a pattern matches, or that names an entity.
-use Rattle.std.specs.Prelude.{ℕ, Bool, ◌||◌, List, map, filter, Option}
+use Rattle.std.specs.Prelude.{ℕ, Bool, List, map, filter, Option}
 use Rattle.std.specs.List.{list_any, flat_map}
 use Rattle.eco_ids.specs.declared.entity.Entity.{Entity}
 use Rattle.eco_ids.specs.declared.id.Id.{Id}
 use Rattle.eco_ids.specs.declared.pattern.Pattern.{Pattern}
 use Rattle.eco_ids.specs.Indices.{Indexed, living}
 use Rattle.eco_ids.specs.Matching.{pattern_matches}
+use Rattle.eco_ids.specs.Order.{names_entity}
 use Rattle.eco_ids.specs.World.{Record}
 use Rattle.eco_tables.specs.Table.{TableState, entities_of}
 use Rattle.eco_tables.specs.Tables.{table_in}
-use Rattle.eco_ids.specs.declared.id.Id.TheVariants.{One, Two}
-use Rattle.eco_ids.specs.contracts.entity.EntityPartialEq.TheImpl as entity_impl
 use Rattle.eco_store.specs.Store.{record_ids}
 
 -- the ids of the record pass the test
@@ -29,18 +28,13 @@ entities_whose w test = map (λ x. x.0) (filter (λ x. passes test x.1) (living 
 abbrev pub entities_with : Indexed Record → Pattern → List Entity
 entities_with w p = entities_whose w (list_any (pattern_matches p))
 
--- `==` of entities
-abbrev pub same_entity : Entity → Entity → Bool
-same_entity = (entity_impl.eq-value).it
-
--- the id names the entity
-abbrev pub names : Id → Entity → Bool
-names (One e) f = same_entity e f
-names (Two r t) f = same_entity r f || same_entity t f
-
 -- an id of the type names the entity
 abbrev pub names_any : List Id → Entity → Bool
-names_any ids f = list_any (λ i. names i f) ids
+names_any ids f = list_any (λ i. names_entity i f) ids
+
+-- one of the ids names the entity
+abbrev pub is_holder : Entity → Record → Bool
+is_holder e = passes (λ ids. names_any ids e)
 
 -- the living entities that have an id which names this one, ascending
 abbrev pub holders : Indexed Record → Entity → List Entity

@@ -1,5 +1,5 @@
 -- For each pattern, the slots of the tables whose types have an id that it matches.
-use Rattle.std.specs.Prelude.{◌≡◌, ℕ, Bool, true, false, cond, if◌then◌else◌, ◌&&◌, List, [], ◌∷◌, length, Option, None, Some, nat_eq}
+use Rattle.std.specs.Prelude.{◌≡◌, ℕ, Bool, true, false, cond, if◌then◌else◌, ◌&&◌, not, List, [], ◌∷◌, length, Option, None, Some, nat_eq}
 use Rattle.std.specs.List.{list_any}
 use Rattle.std.specs.HashMap.{HashMap, get}
 use Rattle.eco_ids.specs.declared.entity.Entity.{Entity}
@@ -66,6 +66,18 @@ key_of (Two Each Any) = key.AnyPair
 key_of (Two Any Each) = key.AnyPair
 key_of (Two Any Any) = key.AnyPair
 
+-- a pattern with the key
+abbrev pub pattern_of : Key → Pattern
+pattern_of (key.Single e) = One e
+pattern_of (key.Pair r t) = Two (Is r) (Is t)
+pattern_of (key.Relationship r) = Two (Is r) Any
+pattern_of (key.Target t) = Two Any (Is t)
+pattern_of key.AnyPair = Two Any Any
+
+-- the pattern matches the id and none of the others
+abbrev pub is_own : Id → List Id → Pattern → Bool
+is_own i others p = matches_id i p && not (any_matches others p)
+
 -- the keys of the patterns that match an id
 abbrev pub keys_of : Id → List Key
 keys_of (id.One e) = key.Single e ∷ []
@@ -93,6 +105,10 @@ has_key k p = same_key k (key_of p)
 -- one of the keys is the pattern's
 abbrev pub has_one : List Key → Pattern → Bool
 has_one ks p = list_any (λ k. has_key k p) ks
+
+-- one of the keys is the pattern's, and it matches none of these ids
+abbrev pub has_own : List Key → List Id → Pattern → Bool
+has_own ks others p = has_one ks p && not (any_matches others p)
 
 -- the slots of a key
 abbrev pub slots_of : Slots → List ℕ

@@ -12,19 +12,19 @@ use Rattle.eco_store.specs.declared.moving.Move.{Move}
 use Rattle.eco_store.specs.declared.layout.moves.Moved.{Moved}
 use Rattle.eco_store.specs.Archetypes.{RowlessIn}
 use Rattle.eco_store.specs.Edges.{toggled}
-use Rattle.eco_store.specs.Preparing.{PreparedState, IsReady, HasNoIdleTarget}
+use Rattle.eco_store.specs.Preparing.{PreparedState, staying, IsReady, HasNoIdleTarget}
 
 -- the tables in their slots, and the moves to come, the next one first
 pub record LayoutState : Type 0 where
   pub tables : List (Option TableState)
   pub moves : List Move
 
--- ready: the moves to come have their tables and their room; tidy: no other table is without rows; done:
--- none stays where no move is left. How types and what they name lead to tables is the tables' own
+-- ready: the moves to come have their tables and their room; tidy: no other table is without rows, but the one
+-- that lost its last row last; done: none stays for moves where no move is left. How types and what they name lead to tables is the tables' own
 -- (`IsArchetypes`).
 pub record IsLaid (slots : List (Option TableState)) (p : PreparedState) : Type 0 where
   pub ready : IsReady slots p
-  pub tidy : RowlessIn slots p.targets
+  pub tidy : RowlessIn slots (staying p)
   pub done : HasNoIdleTarget p
 
 -- the rows of the table in a slot; none, where it is empty
@@ -67,9 +67,15 @@ pub record MovesRow (old new : ℕ → List Row) (from to : Place) (ids : List I
   pub others : (n : ℕ) → n ≢ from.table → n ≢ to.table → new n ≡ old n
   pub filled : moved ≡ slice_get (entities_of (new from.table)) from.row
 
--- the row went to a table of the type that has the id more, or less
-abbrev pub StepsRow : List (Option TableState) → List (Option TableState) → Place → Id → Moved → Type 0
-StepsRow old new p i m = MovesRow (rows_in old) (rows_in new) p m.place (toggled (ids_at old p) i) m.filler
+-- the row has this type where it stands
+abbrev pub RetypesRow : (ℕ → List Row) → (ℕ → List Row) → Place → List Id → Type 0
+RetypesRow old new p ids =
+    SetsRows old new p.table (slice_set (old p.table) p.row (retyped_row ids (slice_index_or (old p.table) p.row no_row)))
+
+-- the row went to a table of the type that has the id more, or less, or has that type where it stands
+abbrev pub StepsRow : List (Option TableState) → List (Option TableState) → Place → Id → Option Moved → Type 0
+StepsRow old new p i None = RetypesRow (rows_in old) (rows_in new) p (toggled (ids_at old p) i)
+StepsRow old new p i (Some m) = MovesRow (rows_in old) (rows_in new) p m.place (toggled (ids_at old p) i) m.filler
 
 -- where the row stands now, and who fills its old place; none where it had the type
 abbrev pub IsMoved : (ℕ → List Row) → (ℕ → List Row) → Place → List Id → Option Moved → Type 0

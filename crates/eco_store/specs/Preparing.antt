@@ -39,14 +39,20 @@ AreOfDifferent ms = AllPairs (λ one other. one.entity ≢ other.entity) ms
 
 -- ---- as they are kept
 
--- arrivals: who goes to which slot, the next one first; targets: slots whose tables stay though they may be without rows
+-- arrivals: who goes to which slot, the next one first; targets: slots whose tables stay though they may be without rows;
+-- idle: the slot whose table lost its last row last, and stays too
 pub record PreparedState : Type 0 where
   pub arrivals : List (Entity × ℕ)
   pub targets : List ℕ
+  pub idle : ℕ
 
 -- neither a move nor a target
-abbrev pub nothing_prepared : PreparedState
-nothing_prepared = record { arrivals = []; targets = [] }
+abbrev pub nothing_prepared : ℕ → PreparedState
+nothing_prepared idle = record { arrivals = []; targets = []; idle = idle }
+
+-- the slots whose tables may be without rows
+abbrev pub staying : PreparedState → List ℕ
+staying p = p.idle ∷ p.targets
 
 -- where no move is left, no table stays for one
 abbrev pub HasNoIdleTarget : PreparedState → Type 0

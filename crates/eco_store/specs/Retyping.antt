@@ -1,5 +1,5 @@
 -- All entities of a type get another.
-use Rattle.std.specs.Prelude.{◌≡◌, ◌≢◌, List, map, fold, Some, IsTrue, if◌then◌else◌}
+use Rattle.std.specs.Prelude.{◌≡◌, ◌≢◌, Bool, List, map, fold, Some, IsTrue, if◌then◌else◌}
 use Rattle.std.specs.List.{All, list_any}
 use Rattle.eco_ids.specs.World.{Record}
 use Rattle.eco_ids.specs.declared.entity.Entity.{Entity}
@@ -27,6 +27,10 @@ after_changes w cs = fold after_change w cs
 abbrev pub IsOneWay : List TypeChange → Type 0
 IsOneWay cs = All (λ c. All (λ d. c.to ≢ d.from) cs) cs
 
+-- some living entity has this type, and it passes the test
+abbrev pub IsTypeBy : Indexed Record → (List Id → Bool) → List Id → Type 0
+IsTypeBy w test ids = IsTrue (test ids) × (e : Entity) × (type_of w e ≡ Some ids)
+
 -- some living entity has this type, and the pattern matches one of its ids
 abbrev pub IsTypeWith : Indexed Record → Pattern → List Id → Type 0
-IsTypeWith w p ids = IsTrue (list_any (pattern_matches p) ids) × (e : Entity) × (type_of w e ≡ Some ids)
+IsTypeWith w p = IsTypeBy w (list_any (pattern_matches p))

@@ -1,9 +1,13 @@
 -- A store: a record of each living entity, as the world has it, with no table in it.
-use Rattle.std.specs.Prelude.{◌≡◌, ℕ, ◌<◌, nat_lt, ◌&&◌, false, Result, length, slice_index_or, List, [], map, slice_get, Option, None, Some, IsSome}
+use Rattle.std.specs.Prelude.{◌≡◌, ℕ, ◌<◌, ◌==◌, nat_lt, Bool, ◌&&◌, false, Result, length, slice_index_or, List, [], map, slice_get, Option, None, Some, IsSome}
 use Rattle.std.specs.Prelude.{option_map, option_and_then, unwrap_or}
+use Rattle.std.specs.Option.{option_or}
 use Rattle.eco_ids.specs.declared.entity.Entity.{Entity}
 use Rattle.eco_ids.specs.declared.id.Id.{Id}
+use Rattle.eco_ids.specs.declared.id.Id.TheVariants.{One, Two}
 use Rattle.eco_ids.specs.declared.value.Value.{Value}
+use Rattle.eco_ids.specs.declared.value.TheConstants.{FIELD_COUNT}
+use Rattle.eco_ids.specs.Data.{is_zero_past}
 use Rattle.eco_ids.specs.declared.refusal.Refusal.{Refusal}
 use Rattle.eco_ids.specs.Births.{Makes, may_make, Admits, may_admit, MakesAliveWith}
 use Rattle.eco_ids.specs.Indices.{is_free_at, Indexed, IndexState, Retired, Free, Living, record_of, map_state}
@@ -14,11 +18,13 @@ use Rattle.eco_ids.specs.World.{Record, zeros}
 use Rattle.eco_tables.specs.Column.{retyped, with_held}
 use Rattle.eco_tables.specs.Table.{TableState, Row, RowsHaveIds}
 use Rattle.eco_entities.specs.declared.place.Place.{Place}
+use Rattle.eco_entities.specs.Needs.{need}
 use Rattle.eco_entities.specs.Registration.{Registration}
 use Rattle.eco_tables.specs.Tables.{table_in}
 use Rattle.eco_store.specs.declared.moving.Move.{Move}
 use Rattle.eco_store.specs.Edges.{toggled}
 use Rattle.eco_store.specs.Seats.{Seat, IsSeated, row_at, held_of}
+use Rattle.eco_store.specs.Widths.{Covers}
 
 -- a store: a record of each living entity by its index, and the moves that were prepared and are not yet made, the next
 -- one first
@@ -65,6 +71,15 @@ with_toggled i r = with_type (toggled (record_ids r) i) r
 -- this value at the id, where it is there
 abbrev pub with_written : Id → Value → Record → Record
 with_written i v r = record r { held = with_held r.held i v }
+
+-- the arity of an id: a single has its entity's, a pair its relationship's, else its target's
+abbrev pub arity : Indexed Record → Id → Option ℕ
+arity w (One e) = own_arity w e
+arity w (Two r t) = option_or (own_arity w r) (own_arity w t)
+
+-- a value has all its fields, and those past the id's arity are 0; all are, where it has none
+abbrev pub fits : Indexed Record → Id → Value → Bool
+fits w i v = (length v.0 == FIELD_COUNT) && is_zero_past (unwrap_or (arity w i) 0) v
 
 -- ---- steps, each with when it may want memory
 
@@ -125,6 +140,11 @@ HasPlace (Some (Living g r)) = IsSome r.place
 pub record IsStore (w : Indexed Registration) (slots : List (Option TableState)) : Type 0 where
   pub seated : IsSeated (seat_at w) (row_at slots)
   pub placed : (i : ℕ) → HasPlace (slice_get w.indices i)
+
+-- likewise, and tables keep as many fields as values may need
+pub record IsKept (w : Indexed Registration) (slots : List (Option TableState)) : Type 0 where
+  pub store : IsStore w slots
+  pub covers : Covers (need w) slots
 
 -- ---- what is seen of the tables
 

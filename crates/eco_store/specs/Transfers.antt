@@ -1,6 +1,9 @@
 -- All rows of a table go to another.
-use Rattle.std.specs.Prelude.{◌≡◌, ◌≢◌, ℕ, ◌+◌, ◌≤◌, ◌==◌, List, [], ◌∷◌, map, length, nat_eq, Option, IsSome, IsTrue, if◌then◌else◌}
+use Rattle.std.specs.Prelude.{◌≡◌, ◌≢◌, ℕ, ◌+◌, ◌≤◌, ◌==◌, ◌&&◌, nat_lt, List, [], ◌∷◌, map, length, nat_eq, Option, option_map, IsSome, IsTrue, if◌then◌else◌}
 use Rattle.std.specs.List.{All, list_any}
+use Rattle.eco_ids.specs.Indices.{Indexed, map_state}
+use Rattle.eco_entities.specs.declared.place.Place.{Place}
+use Rattle.eco_entities.specs.Registration.{Registration}
 use Rattle.eco_tables.specs.Table.{TableState}
 use Rattle.eco_tables.specs.Tables.{slot_of, table_in}
 use Rattle.eco_store.specs.declared.transfer.Transfer.{Transfer}
@@ -40,3 +43,16 @@ pub record Pours (old new : List (Option TableState)) (from to : ℕ) : Type 0 w
   pub emptied : length (table_in new from).rows ≡ 0
   pub room : (table_in old to).room ≤ (table_in new to).room + length (table_in old from).rows
   pub others : (n : ℕ) → n ≢ from → n ≢ to → slot_of new n ≡ slot_of old n
+
+-- the place of one of the first rows of the table that is left, once those stand in their order in the other one from
+-- this row on; any other place stays
+abbrev pub place_after : Transfer → ℕ → ℕ → Place → Place
+place_after t end count p = if p.table == t.from && nat_lt p.row count then record { table = t.to; row = end + p.row } else p
+
+-- the entity has such a place
+abbrev pub placed_after : Transfer → ℕ → ℕ → Registration → Registration
+placed_after t end count r = record r { place = option_map (place_after t end count) r.place }
+
+-- so many of the first rows of the table that is left are placed there
+abbrev pub with_places : Indexed Registration → Transfer → ℕ → ℕ → Indexed Registration
+with_places w t end count = record w { indices = map (map_state (placed_after t end count)) w.indices }

@@ -6,23 +6,26 @@ ghost use Rattle.std.specs.FinMap.Entries.{find};
 ghost use Rattle.eco_ids.specs.declared.id.Id.{Id as Ids};
 ghost use Rattle.eco_ids.specs.Order.{id_cmp};
 ghost use Rattle.eco_tables.specs.Column.{with_held};
-ghost use Rattle.eco_tables.specs.Table.{TableState, entities_of};
-ghost use Rattle.eco_tables.specs.Tables.{slot_of, table_in, row_in, Sets, Moves, with_row, without_row, rowless_type};
-ghost use Rattle.eco_store.specs.Archetypes.{type_at, new_table, SameSlots, KeepsTypes, KeepsRoom, RowlessIn, RowlessBut};
+ghost use Rattle.eco_tables.specs.Table.{TableState, entities_of, empty_table};
+ghost use Rattle.eco_tables.specs.Tables.{slot_of, table_in, row_in, Sets, Moves, MovesAll, with_row, without_row, rowless_type};
+ghost use Rattle.eco_store.specs.Archetypes.{type_at, SameSlots, KeepsTypes, KeepsRoom, RowlessIn, RowlessBut};
 ghost use Rattle.eco_store.specs.Seats.{SameRows};
+ghost use Rattle.eco_store.specs.Widths.{FitsIn, KeepsWidths, StillCover};
 
-use crate::archetypes::widths::{all_fields, insert_full};
 use crate::edges::Edges;
 use crate::id_index::IdIndex;
 use crate::type_map::TypeMap;
+use eco_entities::EntityIndex;
 use eco_ids::{Entity, Id, TypeList, Value};
 use eco_tables::Tables;
 use std::alloc::{AllocError, Global};
 use std::marker::Model;
 
+mod copying;
 mod preparing;
 mod searching;
 mod stepping;
+mod turning;
 mod widths;
 
 /// A contract sees the tables in their slots. No two tables have the same type.
@@ -88,6 +91,7 @@ impl Archetypes {
 
     // The slot of the table with a type. The type that was asked for last is compared before any is searched for, since many
     // entities of one type are often made one after another.
+    #[inline]
     fn find(&mut self, type_list: &TypeList) -> Option<usize>
         ensures found { IfSome result (λ n. type_at self.old n ≡ Some type_list.now) }
         ensures none { IfNone result ((n : ℕ) → type_at self.old n ≢ Some type_list.now) }
@@ -96,12 +100,23 @@ impl Archetypes {
         if self.has_type(self.last, type_list) {
             return Some(self.last);
         }
+        self.look_up(type_list)
+    }
+
+    // What `find` does with another type than the last, apart, so that the last one costs no more than a look at it.
+    #[inline(never)]
+    fn look_up(&mut self, type_list: &TypeList) -> Option<usize>
+        ensures found { IfSome result (λ n. type_at self.old n ≡ Some type_list.now) }
+        ensures none { IfNone result ((n : ℕ) → type_at self.old n ≢ Some type_list.now) }
+        ensures same { self.new ≡ self.old }
+    {
         let slot = self.by_type.find(type_list)?;
         self.last = slot;
         Some(slot)
     }
 
     // Whether there is a table in the slot, of this type.
+    #[inline]
     fn has_type(&self, slot: usize, type_list: &TypeList) -> bool
         ensures { IsTrue result ↔ (type_at self.now slot ≡ Some type_list.now) }
     {
@@ -113,25 +128,37 @@ impl Archetypes {
 
     /// The slot of the table with a type, with room for so many more rows. Where there is no table of the type, one without
     /// rows is made. An `Err` comes where memory is refused, and then no table was made. No row changes.
-    pub fn room_for(&mut self, type_list: &TypeList, more: usize) -> Result<usize, AllocError>
+    #[inline(always)]
+    pub fn room_for(
+        &mut self,
+        entities: &EntityIndex,
+        type_list: &TypeList,
+        more: usize,
+    ) -> Result<usize, AllocError>
         ensures typed { IfOk result (λ n. type_at self.new n ≡ Some type_list.now) }
         ensures room { IfOk result (λ n. more ≤ (table_in self.new n).room) }
         ensures kept { OnOk result (KeepsRoom self.old self.new) }
         ensures rowless { RowlessBut self.old self.new result }
         ensures rows { SameRows self.old self.new }
         ensures types { KeepsTypes self.old self.new }
+        ensures widths { StillCover entities.now self.old self.new }
     {
         if let Some(slot) = self.find(type_list) {
             self.reserve_rows(slot, more)?;
             return Ok(slot);
         }
-        self.make_with_room(type_list, more)
+        self.make_with_room(entities, type_list, more)
     }
 
     // What `room_for` does where there is no table of the type. Rare beside finds.
     #[cold]
     #[inline(never)]
-    fn make_with_room(&mut self, type_list: &TypeList, more: usize) -> Result<usize, AllocError>
+    fn make_with_room(
+        &mut self,
+        entities: &EntityIndex,
+        type_list: &TypeList,
+        more: usize,
+    ) -> Result<usize, AllocError>
         requires { (n : ℕ) → type_at self.old n ≢ Some type_list.now }
         ensures typed { IfOk result (λ n. type_at self.new n ≡ Some type_list.now) }
         ensures room { IfOk result (λ n. more ≤ (table_in self.new n).room) }
@@ -139,8 +166,9 @@ impl Archetypes {
         ensures rowless { RowlessBut self.old self.new result }
         ensures rows { SameRows self.old self.new }
         ensures types { KeepsTypes self.old self.new }
+        ensures widths { StillCover entities.now self.old self.new }
     {
-        let slot = self.make(type_list)?;
+        let slot = self.make(entities, type_list)?;
         match self.reserve_rows(slot, more) {
             Ok(()) => Ok(slot),
             Err(refused) => {
@@ -150,17 +178,20 @@ impl Archetypes {
         }
     }
 
-    // A table without rows of a type that has none, in a slot that was empty.
-    fn make(&mut self, type_list: &TypeList) -> Result<usize, AllocError>
+    // A table without rows of a type that has none, in a slot that was empty. Every table is made here: what is to be told of
+    // new tables is told here.
+    fn make(&mut self, entities: &EntityIndex, type_list: &TypeList) -> Result<usize, AllocError>
         requires { (n : ℕ) → type_at self.old n ≢ Some type_list.now }
         ensures vacant { IfOk result (λ n. slot_of self.old n ≡ None) }
-        ensures makes { IfOk result (λ n. Sets self.old self.new n (Some (new_table type_list.now))) }
+        ensures makes { IfOk result (λ n. Sets self.old self.new n (Some (empty_table type_list.now (table_in self.new n).widths))) }
+        ensures widths { OnOk result (StillCover entities.now self.old self.new) }
         ensures err { OnErr result (SameSlots self.old self.new) }
     {
+        let widths = self.widths_of(entities, type_list.as_slice())?;
         let key = type_list.try_copy()?;
         let kept = type_list.try_copy()?;
         self.by_type.reserve_one()?;
-        let slot = insert_full(&mut self.tables, self.alloc, kept)?;
+        let slot = self.tables.insert(kept, widths.as_slice())?;
         match self.by_id.add_all(self.alloc, type_list.as_slice(), slot) {
             Ok(()) => {
                 self.by_type.insert_reserved(key, slot);
@@ -179,13 +210,15 @@ impl Archetypes {
         ensures kept { IfNone (rowless_type (slot_of self.old slot)) (SameSlots self.old self.new) }
         ensures rowless { (slots : List ℕ) → RowlessIn self.old (slot ∷ slots) → RowlessIn self.new slots }
         ensures rows { SameRows self.old self.new }
+        ensures widths { KeepsWidths self.old self.new }
     {
         if self.tables.is_rowless(slot) {
             self.forget(slot);
         }
     }
 
-    // What `drop_empty` does, apart, so that a table with rows costs no more than a look at it.
+    // What `drop_empty` does, apart, so that a table with rows costs no more than a look at it. Every table is dropped here:
+    // what is to be told of dropped tables is told here.
     #[cold]
     #[inline(never)]
     fn forget(&mut self, slot: usize)
@@ -204,6 +237,7 @@ impl Archetypes {
     pub fn drop_each(&mut self, slots: &[usize])
         ensures rowless { (others : List ℕ) → RowlessIn self.old (slots.now ++ others) → RowlessIn self.new others }
         ensures rows { SameRows self.old self.new }
+        ensures widths { KeepsWidths self.old self.new }
     {
         for slot in slots {
             self.drop_empty(*slot);
@@ -211,31 +245,36 @@ impl Archetypes {
     }
 
     /// Room for more rows in a table. An `Err` keeps all rows and the room that was there.
+    #[inline]
     pub fn reserve_rows(&mut self, slot: usize, more: usize) -> Result<(), AllocError>
         requires { IsSome (slot_of self.old slot) }
         ensures sets { Sets self.old self.new slot (Some (record (table_in self.old slot) { room = (table_in self.new slot).room })) }
         ensures kept { (table_in self.old slot).room ≤ (table_in self.new slot).room }
         ensures room { OnOk result (more ≤ (table_in self.new slot).room) }
         ensures rows { SameRows self.old self.new }
+        ensures widths { KeepsWidths self.old self.new }
     {
         self.tables.reserve_rows(slot, more)
     }
 
-    /// Writes the value of an id in a row, and takes no memory. The answer is whether the table's type has the id; where it
-    /// lacks it nothing is written.
+    /// Writes the value of an id in a row, which has no more fields than the tables keep of it, and takes no memory. The answer
+    /// is whether the table's type has the id; where it lacks it nothing is written.
     pub fn set_value(&mut self, slot: usize, row: usize, id: Id, value: Value) -> bool
-        requires { row < length (table_in self.old slot).rows }
+        requires row { row < length (table_in self.old slot).rows }
+        requires fits { FitsIn self.old id value }
         ensures written { Sets self.old self.new slot (Some (record (table_in self.old slot) { rows = slice_set (table_in self.old slot).rows row (record { entity = (row_in self.old slot row).entity; held = with_held (row_in self.old slot row).held id value }) })) }
         ensures had { result ≡ is_some (find id_cmp id (row_in self.old slot row).held) }
+        ensures widths { KeepsWidths self.old self.new }
     {
-        all_fields(value);
         self.tables.set_value(slot, row, id, value)
     }
 
     /// A row for a new entity, with zeros, in room that was reserved.
+    #[inline]
     pub fn push_row(&mut self, slot: usize, entity: Entity)
         requires { 0 < (table_in self.old slot).room }
-        ensures { Sets self.old self.new slot (Some (with_row (table_in self.old slot) (record { entity = entity; held = [] }))) }
+        ensures row { Sets self.old self.new slot (Some (with_row (table_in self.old slot) (record { entity = entity; held = [] }))) }
+        ensures widths { KeepsWidths self.old self.new }
     {
         self.tables.push_row(slot, entity);
     }
@@ -245,6 +284,7 @@ impl Archetypes {
         requires { row < length (table_in self.old slot).rows }
         ensures rows { Sets self.old self.new slot (Some (without_row (table_in self.old slot) row)) }
         ensures moved { result ≡ slice_get (entities_of (table_in self.new slot).rows) row }
+        ensures widths { KeepsWidths self.old self.new }
     {
         self.tables.swap_out(slot, row)
     }
@@ -256,7 +296,20 @@ impl Archetypes {
         requires room { 0 < (table_in self.old to).room }
         ensures moves { Moves self.old self.new from row to }
         ensures moved { result ≡ slice_get (entities_of (table_in self.new from).rows) row }
+        ensures widths { KeepsWidths self.old self.new }
     {
         self.tables.move_row(from, row, to)
+    }
+
+    /// Moves all rows of a table, in their order, to the end of another, into room that was reserved.
+    pub fn move_rows(&mut self, from: usize, to: usize)
+        requires apart { from ≢ to }
+        requires source { IsSome (slot_of self.old from) }
+        requires target { IsSome (slot_of self.old to) }
+        requires room { length (table_in self.old from).rows ≤ (table_in self.old to).room }
+        ensures moves { MovesAll self.old self.new from to }
+        ensures widths { KeepsWidths self.old self.new }
+    {
+        self.tables.move_rows(from, to);
     }
 }

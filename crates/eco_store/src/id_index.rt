@@ -14,7 +14,9 @@ use indexmap::IndexMap;
 use std::alloc::{AllocError, Global};
 
 mod key;
+mod shortest;
 mod slots;
+mod turning;
 
 /// No model: the crate's contracts read the one field. A key of which no slot is listed is not kept, so the index does not
 /// grow with the ids that types had once.

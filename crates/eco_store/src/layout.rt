@@ -8,22 +8,25 @@ ghost use Rattle.eco_store.specs.Archetypes.{type_at};
 ghost use Rattle.eco_store.specs.Layout.{rows_in, WritesRow, PutsRow, TakesRow};
 ghost use Rattle.eco_store.specs.Preparing.{is_next, moves_beside};
 ghost use Rattle.eco_store.specs.Seats.{SameRows};
+ghost use Rattle.eco_store.specs.Widths.{FitsIn, KeepsWidths, StillCover};
 
 use crate::archetypes::Archetypes;
 use crate::prepared::Prepared;
-use eco_entities::Place;
+use eco_entities::{EntityIndex, Place};
 use eco_ids::{Entity, Id, TypeList, Value};
 use eco_tables::Tables;
 use std::alloc::{AllocError, Global};
 use std::marker::Model;
 
+mod copying;
 mod moves;
 mod preparing;
 mod retyping;
 mod stepping;
 
 /// A contract sees the tables in their slots and the moves to come, the next one first. The moves have their tables and
-/// their room, and no other table is without rows: a table that loses its last row goes, unless a move goes there.
+/// their room, and no other table but one is without rows: when a table loses its last row, the one that did so before it
+/// goes, unless a move goes there.
 pub struct Layout {
     archetypes: Archetypes,
     prepared: Prepared,
@@ -92,9 +95,11 @@ impl Layout {
     }
 
     /// No move is to come from then on. It takes no memory.
+    #[inline]
     pub fn forget(&mut self)
         ensures unprepared { self.new.moves ≡ [] }
         ensures rows { SameRows self.old.tables self.new.tables }
+        ensures widths { KeepsWidths self.old.tables self.new.tables }
     {
         if !self.prepared.is_idle() {
             self.prepared.forget(&mut self.archetypes);
@@ -103,25 +108,33 @@ impl Layout {
 
     /// A row for a new entity at the end of the table of a type, with zeros. No move is to come from then on. An `Err` comes
     /// where memory is refused, and then no row has changed.
-    pub fn push_row(&mut self, type_list: &TypeList, entity: Entity) -> Result<Place, AllocError>
+    #[inline(always)]
+    pub fn push_row(
+        &mut self,
+        entities: &EntityIndex,
+        type_list: &TypeList,
+        entity: Entity,
+    ) -> Result<Place, AllocError>
         ensures put { IfOk result
             (λ p. PutsRow (rows_in self.old.tables) (rows_in self.new.tables) p entity type_list.now) }
         ensures err { OnErr result (SameRows self.old.tables self.new.tables) }
         ensures unprepared { self.new.moves ≡ [] }
+        ensures widths { StillCover entities.now self.old.tables self.new.tables }
     {
         self.forget();
-        let table = self.archetypes.room_for(type_list, 1)?;
+        let table = self.archetypes.room_for(entities, type_list, 1)?;
         let row = self.archetypes.tables().row_count(table);
         self.archetypes.push_row(table, entity);
         Ok(Place { table, row })
     }
 
-    /// Takes the row of an entity out, and its table if that was the last one. The answer is the entity that stands in its
-    /// place now. If the entity has a move to come, none is left. It takes no memory.
+    /// Takes the row of an entity out. The answer is the entity that stands in its place now. If the entity has a move to
+    /// come, none is left. It takes no memory.
     pub fn take_row(&mut self, entity: Entity, place: Place) -> Option<Entity>
         requires { place.row < length (rows_in self.old.tables place.table) }
         ensures rows { TakesRow (rows_in self.old.tables) (rows_in self.new.tables) place result }
         ensures left { self.new.moves ≡ moves_beside self.old.moves entity }
+        ensures widths { KeepsWidths self.old.tables self.new.tables }
     {
         self.forget_awaited(entity);
         let moved = self.archetypes.swap_out(place.table, place.row);
@@ -129,13 +142,15 @@ impl Layout {
         moved
     }
 
-    /// Writes the value of an id in a row, and takes no memory. The answer is whether the table's type has the id; where it
-    /// lacks it nothing is written. No move is to come from then on.
+    /// Writes the value of an id in a row, which has no more fields than the tables keep of it, and takes no memory. The answer
+    /// is whether the table's type has the id; where it lacks it nothing is written. No move is to come from then on.
     pub fn set_value(&mut self, place: Place, id: Id, value: Value) -> bool
-        requires { place.row < length (rows_in self.old.tables place.table) }
+        requires row { place.row < length (rows_in self.old.tables place.table) }
+        requires fits { FitsIn self.old.tables id value }
         ensures written { WritesRow (rows_in self.old.tables) (rows_in self.new.tables) place id value }
         ensures had { result ≡ is_some (find id_cmp id (row_in self.old.tables place.table place.row).held) }
         ensures unprepared { self.new.moves ≡ [] }
+        ensures widths { KeepsWidths self.old.tables self.new.tables }
     {
         self.forget();
         self.archetypes.set_value(place.table, place.row, id, value)

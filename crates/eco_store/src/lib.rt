@@ -3,9 +3,11 @@
 //!
 //! A [`Store`] is seen as a map from entities to their names, ids and values. Inside, each living entity stands in one row
 //! of the table of its type; a type finds its table through a map, and a pattern the tables whose types have an id that it
-//! matches through an index. A table that has lost its last row is dropped, and its slot may be used again.
+//! matches through an index. The table that lost its last row last is kept for who comes back to it; the one before it is
+//! dropped then, and its slot may be used again.
 //!
-//! Which ids are data, and how many fields their values have, is not known here: each id has a value, zeros when new.
+//! Each id has a value, zeros when new. A table keeps as many fields of it as the arities of the entities in the id say, and all
+//! where they are not known yet; whether an id is data is not known here.
 #![tactic(auto)]
 
 mod archetypes;
@@ -20,9 +22,11 @@ mod store;
 mod transfer;
 mod type_change;
 mod type_map;
+mod type_test;
 
 pub use eco_tables::{Table, Tables};
 pub use found::Found;
 pub use moving::Move;
 pub use store::Store;
 pub use type_change::TypeChange;
+pub use type_test::{AllOf, Naming, TypeTest};

@@ -13,13 +13,15 @@ use std::marker::Model;
 mod planning;
 
 /// A contract sees who goes to which slot, the next one first, and the slots whose tables stay though they may be without
-/// rows.
+/// rows: those to which moves go, and the one whose table lost its last row last, which is likely to get one soon again.
 #[derive(Drop)]
 pub struct Prepared {
     alloc: Global,
     // The next one is the last.
     arrivals: IndexMap<Entity, usize>,
     targets: IndexSet<usize>,
+    // Any slot, before a table has lost its last row.
+    idle: usize,
 }
 
 impl Model for Prepared {
@@ -28,24 +30,37 @@ impl Model for Prepared {
 
     ghost Value = { PreparedState };
 
-    ghost view = { λ p. record { arrivals = reverse p.arrivals.entries; targets = p.targets.keys } };
+    ghost view = { λ p. record { arrivals = reverse p.arrivals.entries; targets = p.targets.keys; idle = p.idle } };
 }
 
 impl Prepared {
     /// No move.
     pub fn new(alloc: Global) -> Prepared
-        ensures { result ≡ nothing_prepared }
+        ensures { result ≡ nothing_prepared result.idle }
     {
         Prepared {
             alloc,
             arrivals: IndexMap::new(alloc),
             targets: IndexSet::new(alloc),
+            idle: 0,
+        }
+    }
+
+    /// Neither a move nor a target, and the same idle slot.
+    pub fn emptied(&self) -> Prepared
+        ensures { result ≡ nothing_prepared self.now.idle }
+    {
+        Prepared {
+            alloc: self.alloc,
+            arrivals: IndexMap::new(self.alloc),
+            targets: IndexSet::new(self.alloc),
+            idle: self.idle,
         }
     }
 
     /// Whether there is neither a move nor a target.
     pub fn is_idle(&self) -> bool
-        ensures { IsTrue result ↔ (self.now ≡ nothing_prepared) }
+        ensures { IsTrue result ↔ (self.now ≡ nothing_prepared self.now.idle) }
     {
         self.targets.is_empty() && self.arrivals.is_empty()
     }
@@ -90,6 +105,7 @@ impl Prepared {
     /// The next move is made: it is none of those to come.
     pub fn take_next(&mut self) -> Option<(Entity, usize)>
         ensures targets { self.new.targets ≡ self.old.targets }
+        ensures idle { self.new.idle ≡ self.old.idle }
         ensures some { IfSome result (λ a. self.old.arrivals ≡ a ∷ self.new.arrivals) }
         ensures none { IfNone result ((self.old.arrivals ≡ []) × (self.new.arrivals ≡ [])) }
     {
@@ -118,9 +134,23 @@ impl Prepared {
         Ok(())
     }
 
+    /// The slot whose table lost its last row last.
+    pub fn idle(&self) -> usize
+        ensures { result ≡ self.now.idle }
+    {
+        self.idle
+    }
+
+    /// The table in this slot lost its last row.
+    pub fn set_idle(&mut self, slot: usize)
+        ensures { self.new ≡ record self.old { idle = slot } }
+    {
+        self.idle = slot;
+    }
+
     /// Neither a move nor a target is left.
     pub fn clear(&mut self)
-        ensures { self.new ≡ nothing_prepared }
+        ensures { self.new ≡ nothing_prepared self.old.idle }
     {
         self.arrivals.clear();
         self.targets.clear();

@@ -1,31 +1,30 @@
 //! The store of a world: each living entity with its name, its ids and their values.
-ghost use Rattle.std.specs.Prelude.{◌≡◌, ◌≤◌, ◌<◌, nat_eq, List, ℕ, [], length, None, Some, is_some, IsTrue, IfOk, OnErr, MatchOption, map};
+ghost use Rattle.std.specs.Prelude.{◌≡◌, ◌≤◌, List, ℕ, [], length, None, Some, is_some, IsTrue, MatchOption, map};
 ghost use Rattle.std.specs.Option.{option_copied};
 ghost use Rattle.std.specs.FinMap.Entries.{find};
 ghost use Rattle.eco_ids.specs.Births.{unfit_name, Makes};
-ghost use Rattle.eco_ids.specs.Indices.{changed, is_alive, is_free_at, living, next_entity, record_of};
+ghost use Rattle.eco_ids.specs.Indices.{changed, is_alive, is_free_at, next_entity, record_of};
 ghost use Rattle.eco_ids.specs.Names.{named_entity};
 ghost use Rattle.eco_ids.specs.Order.{id_cmp, is_ascending};
 ghost use Rattle.eco_ids.specs.Renaming.{own_name};
-ghost use Rattle.eco_tables.specs.Tables.{slot_of};
-ghost use Rattle.eco_store.specs.Archetypes.{type_at, is_found};
-ghost use Rattle.std.specs.List.{list_any, IsDistinct};
+ghost use Rattle.eco_store.specs.Archetypes.{type_at};
 ghost use Rattle.eco_ids.specs.declared.id.Id.{Id as Ids};
 ghost use Rattle.eco_entities.specs.Registration.{entity_at, name_of};
-ghost use Rattle.eco_store.specs.Holders.{has_match, entities_with, holders};
 ghost use Rattle.eco_store.specs.Placing.{Opposes};
-ghost use Rattle.eco_store.specs.Store.{Admission, Creates, Renames, MakesAlive, held_by, own_arity, record_name, type_of, with_written, Stands, IsShown};
+ghost use Rattle.eco_store.specs.Store.{Admission, Creates, Renames, MakesAlive, held_by, own_arity, fits, record_name, type_of, with_written, Stands, IsShown};
 
-use crate::found::{Found, entities_in};
 use crate::layout::Layout;
 use eco_entities::EntityIndex;
-use eco_ids::{Entity, Id, Pattern, Refusal, TypeList, Value};
+use eco_entities::laws::needs_never_grow;
+use eco_ids::{Entity, Id, Refusal, TypeList, Value};
 use eco_tables::{Table, Tables};
-use std::alloc::{AllocError, Global};
+use std::alloc::Global;
 use std::marker::Model;
 
+mod copying;
 mod moves;
 mod retyping;
+mod searching;
 mod stepping;
 
 /// A contract sees what is known of each index, of each living entity its name and its ids with their values, and the moves
@@ -40,13 +39,13 @@ pub struct Store {
 }
 
 impl Model for Store {
-    ghost use Rattle.eco_store.specs.Store.{StoreState, IsStore, read};
+    ghost use Rattle.eco_store.specs.Store.{StoreState, IsKept, read};
 
     ghost Value = { StoreState };
 
     ghost view = { λ s. record { entities = read s.entities s.layout.tables; prepared = s.layout.moves } };
 
-    ghost invariant = { λ s. IsStore s.entities s.layout.tables };
+    ghost invariant = { λ s. IsKept s.entities s.layout.tables };
 }
 
 // By hand, so that dropping it is one call: a derived drop is proved anew at each early return of whoever holds it.
@@ -182,56 +181,6 @@ impl Store {
         tables
     }
 
-    /// The tables that have rows and a type with an id that the pattern matches. An `Err` comes where memory is refused, and
-    /// never where no living entity has such an id.
-    pub fn tables_with(&self, pattern: Pattern) -> Result<Found<'_>, AllocError>
-        ensures shown { IfOk result (λ f. IsShown self.now.entities f.tables.now) }
-        ensures listed { IfOk result (λ f. (n : ℕ) → list_any (nat_eq n) f.slots.items ≡ is_found pattern (slot_of f.tables.now n)) }
-        ensures distinct { IfOk result (λ f. IsDistinct nat_eq f.slots.items) }
-        ensures some { OnErr result (IsTrue (list_any (λ p. has_match pattern p.1) (living self.now.entities))) }
-        ensures kinds { IfOk result (λ f. (n m : ℕ) (ids : List Ids) → type_at f.tables.now n ≡ Some ids → type_at f.tables.now m ≡ Some ids → n ≡ m) }
-    {
-        let tables = self.layout.tables();
-        tables.rows_have_ids();
-        let slots = self.layout.archetypes().tables_with(pattern)?;
-        Ok(Found { tables, slots })
-    }
-
-    /// Whether some living entity has an id that the pattern matches. It looks at one table that has rows, and at tables
-    /// without rows before it. It takes no memory.
-    pub fn is_held(&self, pattern: Pattern) -> bool
-        ensures { result ≡ list_any (λ p. has_match pattern p.1) (living self.now.entities) }
-    {
-        self.layout.tables().rows_have_ids();
-        self.layout.archetypes().is_held(pattern)
-    }
-
-    /// The living entities that have an id which the pattern matches, ascending. Its time grows with how many they are,
-    /// and with the tables whose types have such an id. An `Err` comes where memory is refused, and never where nobody has
-    /// such an id.
-    pub fn entities_with(&self, pattern: Pattern) -> Result<Vec<Entity>, AllocError>
-        ensures all { IfOk result (λ v. v.items ≡ entities_with self.now.entities pattern) }
-        ensures some { OnErr result (IsTrue (list_any (λ p. has_match pattern p.1) (living self.now.entities))) }
-    {
-        eco_ids::order::handles_are_ordered();
-        eco_ids::order::ascending_lists_are_sets();
-        let found = self.tables_with(pattern)?;
-        entities_in(self.alloc, found.tables, &found.slots)
-    }
-
-    /// The living entities that have an id which names this one, ascending. Its time grows with how many they are, and with
-    /// the tables whose types name it. An `Err` comes where memory is refused.
-    pub fn holders(&self, e: Entity) -> Result<Vec<Entity>, AllocError>
-        ensures { IfOk result (λ v. v.items ≡ holders self.now.entities e) }
-    {
-        eco_ids::order::handles_are_ordered();
-        eco_ids::order::ascending_lists_are_sets();
-        let tables = self.layout.tables();
-        tables.rows_have_ids();
-        let slots = self.layout.archetypes().tables_naming(e)?;
-        entities_in(self.alloc, tables, &slots)
-    }
-
     /// What stands against a new entity of this name, or none: `BadName` where it is no name, `NameTaken` where a living
     /// entity has it, and `NoMoreIds` where every index below the limit is in use or retired, in this order.
     pub fn check_new(&self, name: Option<&str>) -> Result<(), Refusal>
@@ -257,12 +206,13 @@ impl Store {
     {
         // A place's row fits, as a table has no more rows than there are indices.
         self.entities.rules();
+        needs_never_grow();
         let Some(entity) = self.entities.next() else {
             self.layout.forget();
             self.entities.check_name(name)?;
             return Err(Refusal::NoMoreIds);
         };
-        let place = match self.layout.push_row(type_list, entity) {
+        let place = match self.layout.push_row(&self.entities, type_list, entity) {
             Ok(place) => place,
             Err(refused) => {
                 // What stands against the entity is told before the want of memory.
@@ -270,7 +220,7 @@ impl Store {
                 return Err(Refusal::from(refused));
             }
         };
-        match self.entities.create(name, arity) {
+        match self.entities.create_next(entity, name, arity) {
             Ok(created) => {
                 self.entities.set_place(created, place);
                 Ok(created)
@@ -289,6 +239,7 @@ impl Store {
         ensures step { Admission self.old.entities count result self.new.entities }
         ensures unprepared { self.new.prepared ≡ [] }
     {
+        needs_never_grow();
         self.layout.forget();
         self.entities.admit(count)
     }
@@ -302,11 +253,14 @@ impl Store {
         ensures unprepared { self.new.prepared ≡ [] }
     {
         self.entities.rules();
+        needs_never_grow();
         if !self.entities.is_free_at(e) {
             self.layout.forget();
             return Err(Refusal::Taken);
         }
-        let place = self.layout.push_row(&TypeList::empty(self.alloc), e)?;
+        let place = self
+            .layout
+            .push_row(&self.entities, &TypeList::empty(self.alloc), e)?;
         self.entities.make_alive(e)?;
         self.entities.set_place(e, place);
         Ok(())
@@ -320,14 +274,16 @@ impl Store {
         ensures step { Renames self.old.entities e (option_copied name.entry) result self.new.entities }
         ensures unprepared { self.new.prepared ≡ [] }
     {
+        needs_never_grow();
         self.layout.forget();
         self.entities.rename(e, name)
     }
 
-    /// Writes the value of an id that a living entity has, and takes no memory. The answer is whether it has the id; where
-    /// it lacks it nothing is written.
+    /// Writes the value of an id that a living entity has, and takes no memory: fields past the id's arity are 0, since tables
+    /// need not keep them. The answer is whether it has the id; where it lacks it nothing is written.
     pub fn set_value(&mut self, e: Entity, id: Id, value: Value) -> bool
-        requires { IsTrue (is_alive self.old.entities e) }
+        requires alive { IsTrue (is_alive self.old.entities e) }
+        requires fits { IsTrue (fits self.old.entities id value) }
         ensures written { self.new.entities ≡ changed self.old.entities e (with_written id value) }
         ensures had { result ≡ is_some (find id_cmp id (held_by self.old.entities e)) }
         ensures unprepared { self.new.prepared ≡ [] }

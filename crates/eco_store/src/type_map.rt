@@ -1,6 +1,7 @@
 //! Which slot has the table of a type.
-ghost use Rattle.std.specs.Prelude.{◌≡◌, ◌<◌, Some, None, OnOk};
+ghost use Rattle.std.specs.Prelude.{◌≡◌, ◌<◌, cond, List, Some, None, OnOk};
 ghost use Rattle.std.specs.HashMap.{IsEmpty, IsUnchanged, Updates, get, spare};
+ghost use Rattle.eco_ids.specs.declared.id.Id.{Id as Ids};
 ghost use Rattle.eco_store.specs.TypeMap.{same_ids};
 
 use eco_ids::TypeList;
@@ -51,5 +52,15 @@ impl TypeMap {
         ensures { Updates same_ids self.old.slots self.new.slots type_list.now None }
     {
         let _ = self.slots.swap_remove(type_list);
+    }
+
+    /// The slot of one type has another from now on. It takes no memory.
+    pub fn rename(&mut self, old: &TypeList, new: TypeList, slot: usize)
+        requires { 0 < spare self.old.slots }
+        ensures { (t : List Ids) → get same_ids self.new.slots t
+            ≡ cond (same_ids new t) (Some slot) (cond (same_ids old.now t) None (get same_ids self.old.slots t)) }
+    {
+        let _ = self.slots.swap_remove(old);
+        let _ = self.slots.insert(new, slot).unwrap();
     }
 }

@@ -19,7 +19,7 @@ use Rattle.eco_ids.proofs.IdOrder.{same_id}
 use Rattle.eco_tables.specs.Column.{ColumnState, contents, with_value, written}
 
 -- an id that is above all others is none of them
-above-other : (cs : List ColumnState) (i : ℕ) (j : Id) (d : ColumnState) → i < length cs
+pub above-other : (cs : List ColumnState) (i : ℕ) (j : Id) (d : ColumnState) → i < length cs
     → IsTrue (list_all (λ y. is_lt (id_cmp j y)) (map (λ c. c.id) cs)) → id_eq (get_or cs i d).id j ≡ false
 above-other [] i j d within above = absurd (omega arith)
 above-other (c ∷ cs) zero j d within above =

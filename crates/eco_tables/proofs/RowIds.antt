@@ -7,7 +7,7 @@ use Rattle.eco_ids.specs.declared.value.Value.{Value}
 use Rattle.eco_ids.specs.Order.{id_eq}
 use Rattle.eco_tables.specs.Column.{value_in, with_held}
 use Rattle.eco_tables.specs.Table.{TableState, Row, HasIds, RowsHaveIds, retyped_row}
-use Rattle.eco_tables.specs.Tables.{no_row, with_rows, without_row}
+use Rattle.eco_tables.specs.Tables.{no_row, turned, with_rows, without_row}
 use Rattle.eco_ids.proofs.Lists.{keys_paired, before, before_within, get_or-swap_remove, length-swap_remove}
 
 ids_written : (held : List (Id × Value)) (i : Id) (v : Value) → map (λ (p : Id × Value). p.0) (with_held held i v) ≡ map (λ (p : Id × Value). p.0) held
@@ -27,6 +27,10 @@ pub joined_have : (t : TableState) (rs : List Row) → RowsHaveIds t → RowsHav
 joined_have t rs all =
     All-append (HasIds t.ids) t.rows (map (retyped_row t.ids) rs) all
     (All-map (HasIds t.ids) (retyped_row t.ids) rs (λ k r there. keys_paired (value_in (get_or rs k r).held) t.ids))
+
+-- the rows under another type
+pub turned_have : (t : TableState) (ids : List Id) (i : Id) (w : ℕ) → RowsHaveIds (turned t ids i w)
+turned_have t ids i w = All-map (HasIds ids) (retyped_row ids) t.rows (λ k r there. keys_paired (value_in (get_or t.rows k r).held) ids)
 
 -- a row less
 pub removed_has : (t : TableState) (row : ℕ) → row < length t.rows → RowsHaveIds t → RowsHaveIds (without_row t row)

@@ -260,7 +260,7 @@ written_kind row i v c = by (id_eq c.id i)
     by true = refl
     by false = refl
 
-ids_of_kinds : (cs : List ColumnState) → map (λ k. k.0) (map kind_of cs) ≡ map (λ c. c.id) cs
+pub ids_of_kinds : (cs : List ColumnState) → map (λ k. k.0) (map kind_of cs) ≡ map (λ c. c.id) cs
 ids_of_kinds [] = refl
 ids_of_kinds (c ∷ cs) = ap (λ is. c.id ∷ is) (ids_of_kinds cs)
 
@@ -412,6 +412,16 @@ module _ (ids sids : List Id) (cs ds : List ColumnState) (own : AreKinds ids (ma
       agree (get_or cs p c).id (get_or cs p c).width (get_or ds q d).width (width_at ids cs own p c there)
       (ap (λ x. find id_cmp x (paired sids (map (width_among (map kind_of ds)) sids))) same ∙ width_at sids ds others q d there2)
 
+-- rows that change hands, under another type
+pub taken_rows : (ids sids : List Id) (ds : List ColumnState) → AreKinds sids (map kind_of ds) → (k : ℕ) (es : List Entity)
+    → map (retyped_row ids) (rows_from ds k es) ≡ map (retyped_row ids) (map (retyped_row sids) (rows_from ds k es))
+taken_rows ids sids ds kinds k [] = refl
+taken_rows ids sids ds kinds k (e ∷ es) =
+    let held : retyped ids (held_in ds k) ≡ retyped ids (retyped sids (held_in ds k)) =
+    same_within ids (value_in (held_in ds k)) (value_in (retyped sids (held_in ds k))) (λ i there. sym (held_value sids ds kinds k i)) in
+    let rest = taken_rows ids sids ds kinds (suc k) es in
+    λ t. record { entity = e; held = held t } ∷ rest t
+
 -- a row of zeros
 pub zeros_added : (ids : List Id) (cs : List ColumnState) → AreKinds ids (map kind_of cs)
     → retyped ids (retyped (map (λ c. c.id) cs) []) ≡ retyped ids []
@@ -509,12 +519,12 @@ module _ (ids : List Id) (es : List Entity) (capacity : ℕ) (cs : List ColumnSt
     rows_room = omega (arith, shape.rows_room, length-swap_remove es row e);
   }
 
-  pub shape_emptied : HasShape ids [] capacity (map emptied cs) (room + length es)
+  pub shape_emptied : HasShape ids [] capacity (map emptied cs) 0
   shape_emptied = record {
     kinds = rw (kinds_same emptied (λ c. refl) cs) shape.kinds;
     even = All-map (λ c. length c.values ≡ 0) emptied cs (λ k d in_cs. refl);
-    roomy = All-map (λ c. room + length es ≤ c.room) emptied cs (λ k d in_cs. omega (arith, shape.even k d in_cs, shape.roomy k d in_cs));
-    rows_room = omega (arith, shape.rows_room);
+    roomy = All-map (λ c. 0 ≤ c.room) emptied cs (λ k d in_cs. omega arith);
+    rows_room = omega arith;
   }
 
   pub shape_written : (row : ℕ) (i : Id) (v : Value) → HasShape ids es capacity (map (λ c. written c row i v) cs) room

@@ -1,7 +1,8 @@
 -- The values of one id, a place for each row.
-use Rattle.std.specs.Prelude.{◌≡◌, ℕ, ℤ, pos, ◌+◌, ◌-◌, List, [], ◌∷◌, ◌++◌, map, length, take, replicate, slice_index_or, slice_set, unwrap_or, if◌then◌else◌}
+use Rattle.std.specs.Prelude.{◌≡◌, ℕ, ℤ, pos, ◌+◌, ◌-◌, List, [], ◌∷◌, ◌++◌, filter, not, map, length, take, replicate, slice_index_or, slice_set, unwrap_or, if◌then◌else◌}
 use Rattle.std.specs.List.{swap_remove}
 use Rattle.std.specs.FinMap.Entries.{find}
+use Rattle.std.specs.Ordering.{is_lt}
 use Rattle.eco_ids.specs.declared.id.Id.{Id}
 use Rattle.eco_ids.specs.declared.value.Value.{Value}
 use Rattle.eco_ids.specs.declared.value.TheConstants.{FIELD_COUNT}
@@ -54,6 +55,15 @@ with_removed c row = record { id = c.id; width = c.width; values = swap_remove c
 -- no value, and the room of those that there were
 abbrev pub emptied : ColumnState → ColumnState
 emptied c = record { id = c.id; width = c.width; values = []; room = c.room + length c.values }
+
+-- the columns with one more in its place, before the first that is not below it
+abbrev pub with_column : List ColumnState → ColumnState → List ColumnState
+with_column [] c = c ∷ []
+with_column (d ∷ ds) c = if is_lt (id_cmp d.id c.id) then d ∷ with_column ds c else c ∷ d ∷ ds
+
+-- the columns of the other ids
+abbrev pub without_column : List ColumnState → Id → List ColumnState
+without_column cs i = filter (λ c. not (id_eq c.id i)) cs
 
 -- what the columns hold in a row: each id with its value
 abbrev pub held_in : List ColumnState → ℕ → List (Id × Value)

@@ -1,11 +1,12 @@
 -- Tables in slots.
-use Rattle.std.specs.Prelude.{◌≡◌, ◌≢◌, ℕ, ◌-◌, ◌+◌, ◌≤◌, ◌<◌, List, [], ◌∷◌, ◌++◌, Option, None, Some, length, map, count_by, is_some, slice_index_or, slice_set, unwrap_or}
+use Rattle.std.specs.Prelude.{◌≡◌, ◌≢◌, ℕ, ◌-◌, ◌+◌, ◌≤◌, ◌<◌, List, [], ◌∷◌, ◌++◌, Option, None, Some, length, map, count_by, is_some, slice_index_or, slice_set, unwrap_or, if◌then◌else◌, option_map}
 use Rattle.std.specs.List.{swap_remove, All}
 use Rattle.eco_ids.specs.declared.entity.Entity.{Entity}
 use Rattle.eco_ids.specs.declared.id.Id.{Id}
 use Rattle.eco_ids.specs.declared.value.Value.{Value}
+use Rattle.eco_ids.specs.Order.{id_eq}
 use Rattle.eco_tables.specs.Column.{with_held}
-use Rattle.eco_tables.specs.Table.{TableState, Row, retyped_row, RowsHaveIds}
+use Rattle.eco_tables.specs.Table.{TableState, Row, retyped_row, width_in, RowsHaveIds}
 
 -- the table in a slot, if there is one
 abbrev pub slot_of : List (Option TableState) → ℕ → Option TableState
@@ -36,6 +37,14 @@ pub record Sets (old new : List (Option TableState)) (n : ℕ) (slot : Option Ta
 abbrev pub with_room : TableState → ℕ → TableState
 with_room t n = record t { room = n }
 
+-- the same table, without room
+abbrev pub without_room : Option TableState → Option TableState
+without_room o = option_map (λ t. with_room t 0) o
+
+-- each slot has the table that it has there, without room
+abbrev pub AreCopies : List (Option TableState) → List (Option TableState) → Type 0
+AreCopies slots copies = (n : ℕ) → slot_of copies n ≡ without_room (slot_of slots n)
+
 -- the new slots have at n the same table with other room, and every other slot keeps what it had
 abbrev pub SetsRoom : List (Option TableState) → List (Option TableState) → ℕ → Type 0
 SetsRoom old new n = Sets old new n (Some (with_room (table_in old n) (table_in new n).room))
@@ -64,9 +73,13 @@ with_row t r = with_rows t (r ∷ [])
 abbrev pub without_row : TableState → ℕ → TableState
 without_row t row = record t { rows = swap_remove t.rows row no_row; room = t.room + 1 }
 
--- the table without rows; their room is won
+-- the table without rows; no room is promised in it any more
 abbrev pub without_rows : TableState → TableState
-without_rows t = record t { rows = []; room = t.room + length t.rows }
+without_rows t = record t { rows = []; room = 0 }
+
+-- the table under these ids, of which one may be new to it: that one is so wide and holds zeros, the others stay as they are
+abbrev pub turned : TableState → List Id → Id → ℕ → TableState
+turned t ids i w = record { ids = ids; widths = map (λ j. if id_eq j i then w else unwrap_or (width_in t j) 0) ids; rows = map (retyped_row ids) t.rows; room = t.room }
 
 -- the type, where these rows are none
 abbrev pub rowless : TableState → List Row → Option (List Id)

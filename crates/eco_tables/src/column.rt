@@ -1,9 +1,10 @@
 //! The values of one id, a place for each row, in as many fields as the id has.
-ghost use Rattle.std.specs.Prelude.{◌≡◌, ◌<◌, ◌≤◌, ◌+◌, ◌-◌, ◌++◌, [], length, map, take, replicate, vec_len, vec_capacity, slice_index_or, OnOk};
+ghost use Rattle.std.specs.Prelude.{◌≡◌, ◌<◌, ◌≤◌, ◌+◌, ◌-◌, ◌++◌, ◌^◌, [], length, map, take, replicate, vec_len, vec_capacity, slice_index_or, OnOk, IfOk, ◌↔◌, IsTrue};
 ghost use Rattle.std.specs.List.{swap_remove};
 ghost use Rattle.eco_ids.specs.World.{zeros};
-ghost use Rattle.eco_tables.specs.Column.{ColumnState, Fits, pushed, joined, widened, with_removed, with_value, emptied};
+ghost use Rattle.eco_tables.specs.Column.{ColumnState, Fits, kind_of, pushed, joined, widened, with_removed, with_value, emptied, contents};
 ghost use Rattle.eco_tables.specs.Values.{shown};
+ghost use Rattle.eco_tables.specs.Fields.{width_of, values_of};
 
 use crate::values::Values;
 use eco_ids::value::FIELD_COUNT;
@@ -35,6 +36,28 @@ impl Model for Column {
     ghost Value = { ColumnState };
 
     ghost view = { λ c. record { id = c.id; width = width_of c.fields; values = values_of c.fields; room = room_of c.fields } };
+}
+
+// The same fields once more.
+fn copied<const N: usize>(rows: &Vec<[i64; N]>) -> Result<Vec<[i64; N]>, AllocError>
+    ensures { IfOk result (λ v. v.items ≡ rows.now.items) }
+{
+    Vec::from_slice(*rows.allocator(), rows.as_slice())
+}
+
+impl Fields {
+    // The same fields once more. An `Err` comes where memory is refused.
+    fn try_copy(&self) -> Result<Fields, AllocError>
+        ensures width { IfOk result (λ f. width_of f ≡ width_of self.now) }
+        ensures values { IfOk result (λ f. values_of f ≡ values_of self.now) }
+    {
+        match self {
+            Fields::One(rows) => Ok(Fields::One(copied(rows)?)),
+            Fields::Two(rows) => Ok(Fields::Two(copied(rows)?)),
+            Fields::Three(rows) => Ok(Fields::Three(copied(rows)?)),
+            Fields::Four(rows) => Ok(Fields::Four(copied(rows)?)),
+        }
+    }
 }
 
 // The first fields of a value.
@@ -106,6 +129,39 @@ impl Column {
         Column { id, fields }
     }
 
+    /// A column with zeros for so many rows, and room for more. An `Err` comes where memory is refused.
+    pub fn zeros(
+        alloc: Global,
+        id: Id,
+        width: u8,
+        count: usize,
+        room: usize,
+    ) -> Result<Column, AllocError>
+        requires at_least { 1 ≤ width }
+        requires at_most { width ≤ FIELD_COUNT }
+        requires fits { count + room < 2 ^ 64 }
+        ensures id { IfOk result (λ c. c.id ≡ id) }
+        ensures width { IfOk result (λ c. c.width ≡ width) }
+        ensures values { IfOk result (λ c. c.values ≡ replicate count zeros) }
+        ensures room { IfOk result (λ c. room ≤ c.room) }
+    {
+        let mut column = Column::new(alloc, id, width);
+        column.reserve(count + room)?;
+        column.join_zeros(count);
+        Ok(column)
+    }
+
+    /// The same values once more, under the same id. An `Err` comes where memory is refused.
+    pub fn try_copy(&self) -> Result<Column, AllocError>
+        ensures { IfOk result (λ c. contents c ≡ contents self.now) }
+    {
+        let fields = self.fields.try_copy()?;
+        Ok(Column {
+            id: self.id,
+            fields,
+        })
+    }
+
     /// Whose values these are.
     pub fn id(&self) -> Id
         ensures { result ≡ self.now.id }
@@ -115,7 +171,8 @@ impl Column {
 
     /// How many fields are kept of each value.
     pub fn width(&self) -> u8
-        ensures { result ≡ self.now.width }
+        ensures width { result ≡ self.now.width }
+        ensures few { result ≤ FIELD_COUNT }
     {
         match &self.fields {
             Fields::One(_) => 1,
@@ -123,6 +180,13 @@ impl Column {
             Fields::Three(_) => 3,
             Fields::Four(_) => 4,
         }
+    }
+
+    /// Whether these are the values of the same id, in as many fields.
+    pub fn is_alike(&self, other: &Column) -> bool
+        ensures { IsTrue result ↔ (kind_of self.now ≡ kind_of other.now) }
+    {
+        self.id.is(other.id) && self.width() == other.width()
     }
 
     /// The values, to read in a row.

@@ -1,10 +1,11 @@
 //! What is done to all columns of a table. They ascend by their ids, and an id that is no data has none.
-ghost use Rattle.std.specs.Prelude.{◌≡◌, ℕ, ◌<◌, ◌≤◌, ◌+◌, [], ◌∷◌, length, map, slice_get, slice_index_or, is_some, IsTrue, None, Some, OnOk, IfOk, IfSome, IfNone, false};
+ghost use Rattle.std.specs.Prelude.{◌≡◌, ℕ, ◌<◌, ◌≤◌, ◌+◌, [], ◌∷◌, length, map, slice_get, slice_index_or, is_some, IsTrue, None, Some, OnOk, IfOk, IfSome, IfNone, false, not, vec_len, vec_capacity, ◌↔◌};
 ghost use Rattle.std.specs.List.{All, position_from};
 ghost use Rattle.std.specs.FinMap.Entries.{find};
+ghost use Rattle.std.specs.Ordering.{is_lt};
 ghost use Rattle.eco_ids.specs.World.{zeros};
 ghost use Rattle.eco_ids.specs.Order.{id_cmp, id_eq, has_item, is_ascending};
-ghost use Rattle.eco_tables.specs.Column.{Fits, pushed, joined, emptied, with_removed, written, held_in, value_in, contents, kind_of};
+ghost use Rattle.eco_tables.specs.Column.{Fits, pushed, joined, emptied, with_removed, written, held_in, value_in, contents, kind_of, with_column, without_column};
 ghost use Rattle.eco_tables.specs.Table.{ColumnsAgree, kinds_of, rows_from};
 
 use crate::column::Column;
@@ -107,6 +108,33 @@ pub fn columns_of(alloc: Global, ids: &[Id], widths: &[u8]) -> Result<Vec<Column
     Ok(columns)
 }
 
+/// Whether the columns are of the same ids, each as wide.
+pub fn are_alike(columns: &[Column], others: &[Column]) -> bool
+    ensures { IsTrue result ↔ (map kind_of columns.now ≡ map kind_of others.now) }
+{
+    if columns.len() != others.len() {
+        return false;
+    }
+    for place in 0..columns.len() {
+        if !columns[place].is_alike(&others[place]) {
+            return false;
+        }
+    }
+    true
+}
+
+/// The same columns once more. An `Err` comes where memory is refused.
+pub fn copy_all(alloc: Global, columns: &[Column]) -> Result<Vec<Column>, AllocError>
+    ensures { IfOk result (λ v. map contents v.items ≡ map contents columns.now) }
+{
+    let mut copies = Vec::with_capacity(alloc, columns.len())?;
+    for column in columns {
+        let copy = column.try_copy()?;
+        copies.push(copy)?;
+    }
+    Ok(copies)
+}
+
 /// Room for more rows in each. An `Err` keeps what is there.
 pub fn reserve(columns: &mut [Column], more: usize) -> Result<(), AllocError>
     ensures same { map contents columns.new ≡ map contents columns.old }
@@ -185,5 +213,38 @@ pub fn join_all(columns: &mut [Column], source: &[Column], entities: &[Entity])
             Some(place) => column.join(&source[place]),
             None => column.join_zeros(entities.len()),
         }
+    }
+}
+
+// Whether the column stands before one of this id.
+fn is_before(column: &Column, id: Id) -> bool
+    ensures { result ≡ is_lt (id_cmp column.now.id id) }
+{
+    column.id().cmp(&id) == Ordering::Less
+}
+
+// Where the first column stands that is not before one of this id.
+fn find_end(columns: &[Column], id: Id) -> Option<usize>
+    ensures { result ≡ position_from (λ c. not (is_lt (id_cmp c.id id))) 0 columns.now }
+{
+    columns.iter().position(|column| !is_before(column, id))
+}
+
+/// Puts one more column in its place, in room that was reserved.
+pub fn insert_column(columns: &mut Vec<Column>, column: Column)
+    requires { vec_len columns.old < vec_capacity columns.old }
+    ensures { columns.new.items ≡ with_column columns.old.items column }
+{
+    let place = find_end(columns.as_slice(), column.id()).unwrap_or(columns.len());
+    columns.insert(place, column).unwrap();
+}
+
+/// Drops the column of an id, if it has one.
+pub fn remove_column(columns: &mut Vec<Column>, id: Id)
+    requires { IsTrue (is_ascending id_cmp (map (λ c. c.id) columns.old.items)) }
+    ensures { columns.new.items ≡ without_column columns.old.items id }
+{
+    if let Some(place) = find_column(columns.as_slice(), id) {
+        let _dropped = columns.remove(place);
     }
 }

@@ -1,8 +1,9 @@
 //! A table: the entities of one type, and a column of values for each id that is data.
-ghost use Rattle.std.specs.Prelude.{◌≡◌, ℕ, ◌<◌, ◌≤◌, ◌+◌, ◌-◌, ◌^◌, ◌++◌, [], ◌∷◌, length, map, slice_index_or, slice_set, is_some, unwrap_or, OnOk, IsOk, IfOk, IfSome, IfNone, slice_get};
+ghost use Rattle.std.specs.Prelude.{◌≡◌, ℕ, ◌<◌, ◌≤◌, ◌+◌, ◌-◌, ◌^◌, ◌++◌, [], ◌∷◌, length, map, slice_index_or, slice_set, is_some, unwrap_or, OnOk, IsOk, IfOk, IfSome, IfNone, IsSome, IsTrue, slice_get, IsFalse};
+ghost use Rattle.eco_ids.specs.declared.id.Id.{Id as Ids};
 ghost use Rattle.std.specs.List.{swap_remove, All};
 ghost use Rattle.std.specs.FinMap.Entries.{find};
-ghost use Rattle.eco_ids.specs.Order.{id_cmp};
+ghost use Rattle.eco_ids.specs.Order.{id_cmp, has_item};
 ghost use Rattle.eco_ids.specs.World.{zeros};
 ghost use Rattle.eco_tables.specs.Column.{value_in, with_held, retyped};
 ghost use Rattle.eco_tables.specs.Table.{TableState, Row, entities_of, HasIds, Agree, FitsId, width_in, empty_table};
@@ -11,13 +12,16 @@ ghost use Rattle.eco_tables.specs.Values.{shown};
 
 use crate::column::Column;
 use crate::columns::{
-    clear, columns_of, find_column, find_value, join_all, push_from, push_zeros, reserve,
-    swap_out_row, write_value,
+    are_alike, clear, columns_of, copy_all, find_column, find_value, join_all, push_from,
+    push_zeros, reserve, swap_out_row, write_value,
 };
 use crate::values::Values;
 use eco_ids::{Entity, Id, TypeList, Value};
 use std::alloc::{AllocError, Global};
 use std::marker::Model;
+use std::mem;
+
+mod turning;
 
 /// The entities of one type (Flecs manual, "Component Traits": an archetype table). Rows have no order of their own: a
 /// removal puts the last row in the place of the one that goes.
@@ -61,6 +65,21 @@ impl Table {
         })
     }
 
+    /// The same rows once more, without room. An `Err` comes where memory is refused.
+    pub fn try_copy(&self) -> Result<Table, AllocError>
+        ensures { IfOk result (λ t. t ≡ with_room self.now 0) }
+    {
+        let type_list = self.type_list.try_copy()?;
+        let entities = Vec::from_slice(*self.entities.allocator(), self.entities.as_slice())?;
+        let columns = copy_all(*self.columns.allocator(), self.columns.as_slice())?;
+        Ok(Table {
+            type_list,
+            entities,
+            columns,
+            room: 0,
+        })
+    }
+
     /// The ids that each row has a value for.
     pub fn type_list(&self) -> &TypeList
         ensures ids { result.now ≡ self.now.ids }
@@ -71,13 +90,21 @@ impl Table {
 
     /// How many fields the values of an id may use, if the type has the id.
     pub fn width(&self, id: Id) -> Option<u8>
-        ensures { result ≡ width_in self.now id }
+        ensures width { result ≡ width_in self.now id }
+        ensures few { IfSome result (λ fields. fields ≤ 4) }
     {
         match find_column(self.columns.as_slice(), id) {
             Some(place) => Some(self.columns[place].width()),
             None if self.type_list.has(id) => Some(0),
             None => None,
         }
+    }
+
+    /// Does nothing, and its contract says that each id of the type has a width.
+    pub fn ids_have_widths(&self)
+        ensures { (i : Ids) → IsTrue (has_item id_cmp self.now.ids i) → IsSome (width_in self.now i) }
+    {
+        let _columns = &self.columns;
     }
 
     /// The entities of the rows, in their order.
@@ -201,15 +228,40 @@ impl Table {
     }
 
     /// All rows of another table go to the end of this one, with the values of ids that both types have, which are as wide in
-    /// both; new ids hold zeros. It takes no memory.
+    /// both; new ids hold zeros. It takes no memory. The other table promises no room any more.
     pub fn take_rows(&mut self, source: &mut Table)
         requires room { length source.old.rows ≤ self.old.room }
         requires widths { Agree self.old source.old }
         ensures taken { self.new ≡ with_rows self.old source.old.rows }
         ensures left { source.new ≡ without_rows source.old }
     {
-        self.join(source);
-        source.empty();
+        if !self.swap_rows(source) {
+            self.join(source);
+            source.empty();
+        }
+    }
+
+    // Where there is no row here, and the columns are alike, what is kept of the rows changes hands and is not copied, unless
+    // that had less room than is promised here. The answer is whether it did; if not, nothing has changed.
+    fn swap_rows(&mut self, source: &mut Table) -> bool
+        requires { length source.old.rows ≤ self.old.room }
+        ensures taken { IsTrue result → self.new ≡ with_rows self.old source.old.rows }
+        ensures left { IsTrue result → source.new ≡ without_rows source.old }
+        ensures same { IsFalse result → self.new ≡ self.old }
+        ensures kept { IsFalse result → source.new ≡ source.old }
+    {
+        let count = source.entities.len();
+        if !self.entities.is_empty()
+            || source.room + count < self.room
+            || !are_alike(self.columns.as_slice(), source.columns.as_slice())
+        {
+            return false;
+        }
+        mem::swap(&mut self.entities, &mut source.entities);
+        mem::swap(&mut self.columns, &mut source.columns);
+        self.room -= count;
+        source.room = 0;
+        true
     }
 
     // The rows of another table once more, at the end of this one.
@@ -228,11 +280,11 @@ impl Table {
         self.room -= entities.len();
     }
 
-    // All rows go, and their room is won.
+    // All rows go. Their memory stays the table's, and the next ones go there.
     fn empty(&mut self)
         ensures { self.new ≡ without_rows self.old }
     {
-        self.room += self.entities.len();
+        self.room = 0;
         self.entities.clear();
         clear(self.columns.as_mut_slice());
     }

@@ -14,6 +14,9 @@ use std::alloc::{AllocError, Global};
 use std::marker::Model;
 use std::slice;
 
+mod copies;
+mod turning;
+
 /// A contract sees a list of slots, each with a table or nothing. A slot keeps its number as long as its table lives; a
 /// slot whose table was dropped may be used again.
 pub struct Tables {
@@ -97,6 +100,13 @@ impl Tables {
         self.vacant.reserve(slot + 1)?;
         self.slots.push_reserved(Some(table));
         Ok(slot)
+    }
+
+    /// How many slots there are, with a table or without.
+    pub fn slot_count(&self) -> usize
+        ensures { result ≡ length self.now }
+    {
+        self.slots.len()
     }
 
     /// The table in a slot, if there is one.

@@ -1,5 +1,8 @@
 -- The closure of an id is the walk of pairs of With from its head.
-use Rattle.std.proofs.Common.{◌≡◌, ℕ, ◌+◌, ◌<◌, ◌||◌, ◌↔◌, inl, inr, List, [], ◌∷◌, length, take, get_or, refl, sym, ap, ◌∙◌, subst, true≢false, IsTrue, Option, Some, None, is_some}
+use Rattle.std.proofs.lemmas.Grind.{common_steps}
+use Rattle.std.proofs.Common.{arith}
+use Rattle.std.proofs.Common.{◌≡◌, ℕ, ◌+◌, ◌<◌, ◌||◌, ◌↔◌, inl, inr, List, [], ◌∷◌, length, take, get_or, refl, sym, ap, ◌∙◌, subst, true≢false, IsTrue, Option}
+use Rattle.std.proofs.Common.{Some, None, is_some}
 use Rattle.std.proofs.lemmas.List.{take_more}
 use Rattle.eco_ids.specs.declared.entity.Entity.{Entity}
 use Rattle.eco_ids.specs.declared.entity.TheConstants.{WITH}
@@ -41,13 +44,7 @@ with_found ids (Some i) found = (λ h. let pair = starts_with i found.1 in (pair
 pub heads_more : (i : Id) (heads : List Entity) (k : ℕ) (d : Entity) (old new : List Id) → k < length heads
     → ((j : Id) → has_item id_cmp old j ≡ has_item id_cmp (with_heads i (take k heads)) j) → Joins id_cmp old (with_head i (get_or heads k d)) new
     → (j : Id) → has_item id_cmp new j ≡ has_item id_cmp (with_heads i (take (k + 1) heads)) j
-heads_more i heads k d old new l h joins j =
-    let x = get_or heads k d in
-    joins j ∙ or_comm (id_eq (with_head i x) j) (has_item id_cmp old j)
-    ∙ ap (λ b. b || id_eq (with_head i x) j) (h j)
-    ∙ ap (λ b. has_item id_cmp (with_heads i (take k heads)) j || b) (sym (or-false (id_eq (with_head i x) j)))
-    ∙ sym (has_append id_cmp (with_heads i (take k heads)) (with_head i x ∷ []) j)
-    ∙ ap (λ xs. has_item id_cmp xs j) (sym (map-append (with_head i) (take k heads) (x ∷ [])) ∙ ap (with_heads i) (sym (take_more heads k d l)))
+heads_more i heads k d old new l h joins j = grind (arith, common_steps, or_comm, or-false, has_append, map-append, take_more)
 
 has_head : (i : Id) (heads : List Entity) (x : Entity) → IsTrue (has_item entity_cmp heads x) → IsTrue (has_item id_cmp (with_heads i heads) (with_head i x))
 has_head i [] x h = absurd (true≢false (sym h))

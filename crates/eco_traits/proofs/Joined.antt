@@ -1,5 +1,8 @@
 -- What an entity has once a closure came to it, by its ids alone.
-use Rattle.std.proofs.Common.{◌≡◌, if◌then◌else◌, ℕ, ◌+◌, ◌<◌, Bool, true, false, cond, not, ◌&&◌, ◌||◌, List, [], ◌∷◌, filter, fold, length, take, get_or, refl, sym, ap, ◌∙◌, subst, true≢false, IsTrue, Option, Some, None, MatchBool, Result, Ok, Err, option_copied, option_map, unwrap_or, is_some, is_lt}
+use Rattle.std.proofs.lemmas.Grind.{common_steps}
+use Rattle.std.proofs.Common.{arith, rules}
+use Rattle.std.proofs.Common.{◌≡◌, if◌then◌else◌, ℕ, ◌+◌, ◌<◌, Bool, true, false, cond, not, ◌&&◌, ◌||◌, List, [], ◌∷◌, filter, fold, length, take, get_or}
+use Rattle.std.proofs.Common.{refl, sym, ap, ◌∙◌, true≢false, IsTrue, Option, Some, None, Result, Ok, option_copied, option_map, unwrap_or, is_some, is_lt}
 use Rattle.std.proofs.lemmas.List.{take_more}
 use Rattle.std.proofs.lemmas.List.Sums.{fold-append}
 use Rattle.std.specs.Borrow.{Bor}
@@ -9,14 +12,13 @@ use Rattle.eco_ids.specs.declared.entity.Entity.{Entity}
 use Rattle.eco_ids.specs.declared.id.Id.{Id}
 use Rattle.eco_ids.specs.declared.value.Value.{Value}
 use Rattle.eco_ids.specs.declared.refusal.Refusal.{Refusal}
-use Rattle.eco_ids.specs.declared.refusal.Refusal.TheVariants.{DeadId}
 use Rattle.eco_ids.specs.Order.{id_cmp, id_eq, has_item, is_ascending, with_item, without_item}
 use Rattle.eco_ids.specs.Step.{IsClosure, Judges, is_replaced, with_closure}
 use Rattle.eco_ids.specs.World.{WorldState, Record, has, names_living, record_of}
 use Rattle.std.proofs.lemmas.Bool.{and_right, or_left}
 use Rattle.eco_ids.proofs.Exact.{id_eq_sym, keys, keys_kept, keys_zeros}
 use Rattle.eco_ids.proofs.Facts.{to_T, or_right, id_eq_is, id_eq_itself}
-use Rattle.eco_traits.specs.Target.{ExtendsTo, IsOwnType, LeadsTo, type_of_record}
+use Rattle.eco_traits.specs.Target.{ExtendsTo, LeadsTo, type_of_record}
 
 -- ---- the ids of what is held
 
@@ -45,18 +47,7 @@ filter_same p q (x ∷ xs) h = ap (λ b. cond b (x ∷ filter p xs) (filter p xs
 
 filter_twice : (p q : Id → Bool) (xs : List Id) → filter p (filter q xs) ≡ filter (λ y. p y && q y) xs
 filter_twice p q [] = refl
-filter_twice p q (x ∷ xs) =
-    elim (q x) as (λ b. filter p (cond b (x ∷ filter q xs) (filter q xs)) ≡ cond (p x && b) (x ∷ filter (λ y. p y && q y) xs) (filter (λ y. p y && q y) xs)) [
-      | true ↦ elim (p x) as (λ b. cond b (x ∷ filter p (filter q xs)) (filter p (filter q xs)) ≡ cond (b && true) (x ∷ filter (λ y. p y && q y) xs)
-          (filter (λ y. p y && q y) xs)) [
-            | true ↦ ap (λ ys. x ∷ ys) (filter_twice p q xs)
-            | false ↦ filter_twice p q xs
-          ]
-      | false ↦ elim (p x) as (λ b. filter p (filter q xs) ≡ cond (b && false) (x ∷ filter (λ y. p y && q y) xs) (filter (λ y. p y && q y) xs)) [
-        | true ↦ filter_twice p q xs
-        | false ↦ filter_twice p q xs
-      ]
-    ]
+filter_twice p q (x ∷ xs) = grind (arith, common_steps, filter_twice p q xs)
 
 -- the ids without this one, where it goes
 abbrev pub without_each : (Id → Bool) → List Id → Id → List Id
@@ -111,10 +102,7 @@ behind_either (Some b) other list e = ap (λ k. unwrap_or k other.now) e
 -- one more is folded in
 pub fold_more : {A B : Type 0} (f : B → A → B) (start now new : B) (xs : List A) (k : ℕ) (d : A) → k < length xs
     → now ≡ fold f start (take k xs) → new ≡ f now (get_or xs k d) → new ≡ fold f start (take (k + 1) xs)
-fold_more f start now new xs k d l is goes_on =
-    goes_on ∙ ap (λ b. f b (get_or xs k d)) is
-    ∙ sym (fold-append f start (take k xs) (get_or xs k d ∷ []))
-    ∙ ap (fold f start) (sym (take_more xs k d l))
+fold_more f start now new xs k d l is goes_on = grind (arith, common_steps, fold-append, take_more)
 
 -- ---- all of it
 
@@ -125,24 +113,14 @@ some_record (Some d) ids e = (d, refl, ap (λ o. unwrap_or o ids) e)
 -- the entity has the id
 pub has_already : (w : WorldState) (e : Entity) (i : Id) (own all : List Id) → names_living w i ≡ true → has w e i ≡ true
     → Some own ≡ option_map type_of_record (record_of w e) → all ≡ own → LeadsTo w e i (Ok all)
-has_already w e i own all lives there owns is =
-    let d = some_record (record_of w e) own owns in
-    subst (λ b. MatchBool b (MatchBool (has w e i) (IsOwnType w e (Ok all)) (ExtendsTo w e i (Ok all))) (Ok all ≡ Err DeadId)) (sym lives)
-    (subst (λ b. MatchBool b (IsOwnType w e (Ok all)) (ExtendsTo w e i (Ok all))) (sym there) (d.0, d.1, ap Ok (is ∙ d.2)))
+has_already w e i own all lives there owns is = grind (arith, common_steps, some_record)
 
 -- it lacks the id
 pub lacked : (w : WorldState) (e : Entity) (i : Id) (r : Result (List Id) Refusal) → names_living w i ≡ true → has w e i ≡ false → ExtendsTo w e i r
     → LeadsTo w e i r
-lacked w e i r lives absent extends =
-    subst (λ b. MatchBool b (MatchBool (has w e i) (IsOwnType w e r) (ExtendsTo w e i r)) (r ≡ Err DeadId)) (sym lives)
-    (subst (λ b. MatchBool b (IsOwnType w e r) (ExtendsTo w e i r)) (sym absent) extends)
+lacked w e i r lives absent extends = grind (arith, common_steps)
 
 pub leads_to : (w : WorldState) (e : Entity) (i : Id) (s own kept all : List Id) (verdict : Option Refusal) → names_living w i ≡ true → has w e i ≡ false
     → IsClosure w i s → Judges w e s verdict → verdict ≡ None → Some own ≡ option_map type_of_record (record_of w e) → IsTrue (is_ascending id_cmp own)
     → kept ≡ filter (λ j. not (is_replaced w s j)) own → all ≡ fold (with_item id_cmp) kept s → LeadsTo w e i (Ok all)
-leads_to w e i s own kept all verdict lives absent closure judges none owns up is_kept is_all =
-    let d = some_record (record_of w e) own owns in
-    let type_is : all ≡ type_of_record (with_closure w s d.0) =
-    is_all ∙ ap (λ xs. fold (with_item id_cmp) xs s) (is_kept ∙ ap (filter (λ j. not (is_replaced w s j))) d.2)
-    ∙ type_with w s d.0 (subst (λ xs. IsTrue (is_ascending id_cmp xs)) d.2 up) in
-    lacked w e i (Ok all) lives absent (s, closure, None, subst (Judges w e s) none judges, (d.0, d.1, ap Ok type_is))
+leads_to w e i s own kept all verdict lives absent closure judges none owns up is_kept is_all = search (rules, some_record, type_with, lacked)

@@ -1,5 +1,7 @@
 -- The target of each pair that an entity has is among the known targets.
-use Rattle.std.proofs.Common.{◌≡◌, ℕ, zero, suc, ◌==◌, true, false, cond, ◌||◌, List, [], ◌∷◌, ◌++◌, slice_get, Some, None, is_some, IsTrue, if◌then◌else◌, refl, sym, subst, true≢false}
+use Rattle.std.proofs.lemmas.Grind.{common_steps}
+use Rattle.std.proofs.Common.{arith}
+use Rattle.std.proofs.Common.{◌≡◌, ℕ, zero, suc, true, false, cond, ◌||◌, List, [], ◌∷◌, slice_get, Some, is_some, IsTrue, refl, sym, subst, true≢false}
 use Rattle.std.specs.FinMap.Entries.{find}
 use Rattle.eco_ids.specs.declared.entity.Entity.{Entity}
 use Rattle.eco_ids.specs.declared.id.Id.{Id}
@@ -29,12 +31,7 @@ known_in : (states : List (IndexState Record)) (n g : ℕ) (i : Id) → IsTrue (
 known_in [] n g i h = absurd (true≢false (sym h))
 known_in (Retired ∷ rest) zero g i h = absurd (true≢false (sym h))
 known_in (Free f ∷ rest) zero g i h = absurd (true≢false (sym h))
-known_in (Living f r ∷ rest) zero g i h =
-    elim (g == f) as (λ b. IsTrue (has_in (if b then Some r else None) i)
-    → IsTrue (has_item entity_cmp (targets_in r.held ++ targets_from rest) (target_of i))) [
-      | true ↦ λ k. has_front entity_cmp (targets_in r.held) (targets_from rest) (target_of i) (held_target i r.held k)
-      | false ↦ λ k. absurd (true≢false (sym k))
-    ] h
+known_in (Living f r ∷ rest) zero g i h = grind (arith, common_steps, has_in, has_front, held_target)
 known_in (Retired ∷ rest) (suc n) g i h = known_in rest n g i h
 known_in (Free f ∷ rest) (suc n) g i h = known_in rest n g i h
 known_in (Living f r ∷ rest) (suc n) g i h = has_back entity_cmp (targets_in r.held) (targets_from rest) (target_of i) (known_in rest n g i h)

@@ -3,6 +3,7 @@ pub mod Joined
 pub mod Known
 pub mod Members
 pub mod Plain
+pub mod Replaced
 pub mod Rows
 pub mod Search
 pub mod Verdicts

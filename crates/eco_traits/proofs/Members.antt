@@ -1,5 +1,7 @@
 -- Tests, and members of lists.
-use Rattle.std.proofs.Common.{◌≡◌, ℕ, zero, suc, ◌<◌, length, get_or, arith, Bool, true, false, ◌||◌, ◌⊎◌, inl, inr, List, [], ◌∷◌, ◌++◌, refl, sym, ap, ◌∙◌, subst, is_eq, true≢false, Ordering, IsTrue}
+use Rattle.std.proofs.lemmas.Grind.{common_steps}
+use Rattle.std.proofs.Common.{◌≡◌, ℕ, zero, suc, ◌<◌, length, get_or, arith, Bool, true, false, ◌||◌, ◌⊎◌, inl, inr, List, [], ◌∷◌, ◌++◌, refl, sym, ap, ◌∙◌}
+use Rattle.std.proofs.Common.{subst, is_eq, true≢false, Ordering, IsTrue}
 use Rattle.std.specs.FinMap.{IsAntisymmetric}
 use Rattle.std.specs.List.{list_any}
 use Rattle.std.proofs.lemmas.Bool.{or_left, or_right}
@@ -7,7 +9,6 @@ use Rattle.std.proofs.lemmas.List.Folds.{list_any-append}
 use Rattle.std.specs.Cmp.{IsTotalOrder, tied_itself}
 use Rattle.eco_ids.specs.declared.entity.Entity.{Entity}
 use Rattle.eco_ids.specs.Order.{entity_cmp, entity_eq, has_item}
-use Rattle.eco_ids.specs.OrderLaws.{entity_ties}
 use Rattle.eco_ids.specs.contracts.entity.EntityPartialEq.TheImpl as entity_impl
 use Rattle.eco_ids.proofs.Facts.{equal_tie, or_parts}
 use Rattle.eco_ids.proofs.Overlaps.{entity_eq_is, entity_eq_itself}
@@ -24,9 +25,7 @@ entity_eq_turns a b h = subst (λ x. IsTrue (entity_eq x a)) (entity_eq_is a b h
 -- the test that `derive` writes for handles finds a member
 pub list_any-derived : (ks : List Entity) (k : Entity) → list_any ((entity_impl.eq-value).it k) ks ≡ has_item entity_cmp ks k
 list_any-derived [] k = refl
-list_any-derived (y ∷ ys) k =
-    ap (λ b. b || list_any ((entity_impl.eq-value).it k) ys) (entity_ties k y ∙ same_truth _ _ (entity_eq_turns k y) (entity_eq_turns y k))
-    ∙ ap (λ b. entity_eq y k || b) (list_any-derived ys k)
+list_any-derived (y ∷ ys) k = grind (arith, common_steps, same_truth, entity_eq_turns, list_any-derived ys k)
 
 module _ {K : Type 0} (R : K → K → Ordering) where
   pub has_append : (xs ys : List K) (x : K) → has_item R (xs ++ ys) x ≡ (has_item R xs x || has_item R ys x)

@@ -1,15 +1,17 @@
 -- An id that comes alone, replaces nothing, and against which nothing stands.
-use Rattle.std.proofs.Common.{◌≡◌, true, false, cond, not, ◌||◌, ◌&&◌, inl, inr, List, [], ◌∷◌, filter, refl, sym, ap, ◌∙◌, subst, true≢false, IsTrue, Some, None, Ok, option_map}
+use Rattle.std.proofs.lemmas.Grind.{common_steps}
+use Rattle.std.proofs.Common.{arith}
+use Rattle.std.proofs.Common.{◌≡◌, true, false, not, List, [], ◌∷◌, filter, refl, sym, ◌∙◌, true≢false, IsTrue, Some, None, Ok, option_map}
 use Rattle.std.proofs.lemmas.Bool.{and_right}
 use Rattle.eco_ids.proofs.Gains.{same_relationship}
 use Rattle.eco_ids.proofs.IdOrder.{same_id}
 use Rattle.eco_ids.specs.declared.entity.Entity.{Entity}
-use Rattle.eco_ids.specs.declared.entity.TheConstants.{ACYCLIC, EXCLUSIVE, WITH}
+use Rattle.eco_ids.specs.declared.entity.TheConstants.{WITH}
 use Rattle.eco_ids.specs.declared.id.Id.{Id}
 use Rattle.eco_ids.specs.declared.id.Id.TheVariants.{One, Two}
 use Rattle.eco_ids.specs.Order.{id_cmp, is_ascending, with_item}
-use Rattle.eco_ids.specs.Step.{IsClosure, Judges, is_replaced, is_pair_of, is_used}
-use Rattle.eco_ids.specs.World.{WorldState, has, is_acyclic, is_exclusive, names_living, record_of}
+use Rattle.eco_ids.specs.Step.{IsClosure, Judges, is_replaced}
+use Rattle.eco_ids.specs.World.{WorldState, has, is_exclusive, names_living, record_of}
 use Rattle.eco_traits.specs.Closure.{head_of}
 use Rattle.eco_ids.proofs.Ascending.{first, second}
 use Rattle.eco_ids.proofs.Facts.{or_parts}
@@ -34,34 +36,17 @@ replaces_none : (w : WorldState) (i : Id) (ids : List Id) → AreTraitsOf w i id
 replaces_none w (One c) ids own plain (One e) = refl
 replaces_none w (One c) ids own plain (Two q u) = and_right (is_exclusive w q) false refl
 replaces_none w (Two r t) ids own plain (One e) = refl
-replaces_none w (Two r t) ids own plain (Two q u) =
-    same_truth (is_replaced w (Two r t ∷ []) (Two q u)) false
-    (λ h.
-    let same : q ≡ r = elim (or_parts (is_pair_of q (Two r t)) false
-    (first _ _ (second (is_exclusive w q) _ h))) as (λ _. q ≡ r) [ inl k ↦ entity_eq_is q r k | inr k ↦ absurd (true≢false (sym k)) ] in
-    absurd (true≢false (sym (subst (λ p. IsTrue (is_exclusive w p)) same (first _ _ h)) ∙ has_listed w r (One EXCLUSIVE) ids own ∙ plain.1.0)))
-    (λ h. absurd (true≢false (sym h)))
+replaces_none w (Two r t) ids own plain (Two q u) = grind (arith, common_steps, same_truth, or_parts, first, second, entity_eq_is, has_listed)
 
 keeps_all : (w : WorldState) (i : Id) → ((j : Id) → is_replaced w (i ∷ []) j ≡ false) → (own : List Id)
     → own ≡ filter (λ j. not (is_replaced w (i ∷ []) j)) own
 keeps_all w i none [] = refl
-keeps_all w i none (x ∷ xs) =
-    ap (λ ys. x ∷ ys) (keeps_all w i none xs)
-    ∙ sym (ap (λ b. cond (not b) (x ∷ filter (λ j. not (is_replaced w (i ∷ []) j)) xs) (filter (λ j. not (is_replaced w (i ∷ []) j)) xs)) (none x))
+keeps_all w i none (x ∷ xs) = grind (arith, common_steps, keeps_all w i none xs)
 
 -- nothing stands against it
 unopposed : (w : WorldState) (e : Entity) (i : Id) (ids : List Id) → AreTraitsOf w i ids → IsPlain i ids → Judges w e (i ∷ []) None
-unopposed w e (One c) ids own plain =
-    judged_cycle w e (One c ∷ []) None None refl
-    (ap (λ b. (b || false) && (not (has w e (One EXCLUSIVE)) && is_used w e)) plain.0)
-    (ap (λ b. (b || false) && (not (has w e (One ACYCLIC)) && is_used w e)) plain.1)
-    (λ r closes. true≢false (sym closes.2)) refl
-unopposed w e (Two r t) ids own plain =
-    judged_cycle w e (Two r t ∷ []) None None (ap (λ b. b || false) plain.0) refl refl
-    (λ q closes.
-    let same : r ≡ q = same_relationship (only same_id (Two r t) (Two q closes.1) closes.2) in
-    true≢false (sym closes.0 ∙ subst (λ p. is_acyclic w p ≡ false) same (has_listed w r (One ACYCLIC) ids own ∙ plain.1.1)))
-    refl
+unopposed w e (One c) ids own plain = grind (arith, common_steps, judged_cycle)
+unopposed w e (Two r t) ids own plain = grind (arith, common_steps, judged_cycle, same_relationship, only, same_id, has_listed)
 
 -- nothing comes along with a plain id
 plain_alone : (w : WorldState) (i : Id) (ids : List Id) → AreTraitsOf w i ids → IsPlain i ids → IsClosure w i (i ∷ [])

@@ -1,5 +1,6 @@
 -- A world of rows: each index lives at generation 0, with its ids.
-use Rattle.std.proofs.Common.{◌≡◌, ℕ, zero, suc, ◌+◌, ◌==◌, true, false, ◌||◌, ◌↔◌, inl, inr, List, [], ◌∷◌, map, refl, sym, ap, ◌∙◌, true≢false, IsTrue, Option, Some, None, is_some, option_map, slice_get, Bor, if◌then◌else◌}
+use Rattle.std.proofs.Common.{◌≡◌, ℕ, zero, suc, ◌+◌, ◌==◌, true, false, ◌||◌, ◌↔◌, inl, inr, List, [], ◌∷◌, map, refl, sym, ap, ◌∙◌, true≢false, IsTrue}
+use Rattle.std.proofs.Common.{Option, Some, None, is_some, option_map, slice_get, Bor, if◌then◌else◌}
 use Rattle.std.specs.Option.{option_copied}
 use Rattle.std.specs.Slice.{IsItemAt}
 use Rattle.std.proofs.lemmas.Option.{slice_get_past, slice_get-get_or}

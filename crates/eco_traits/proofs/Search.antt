@@ -1,5 +1,7 @@
 -- A search that asks its members in turn ends, with the least set.
-use Rattle.std.proofs.Common.{◌≡◌, ℕ, suc, ◌+◌, ◌-◌, ◌<◌, ◌≤◌, true, false, cond, ◌||◌, ◌↔◌, ◌⊎◌, inl, inr, List, [], ◌∷◌, ◌++◌, length, take, get_or, refl, sym, ap, ◌∙◌, subst, true≢false, IsTrue, arith, length-append, append_assoc}
+use Rattle.std.proofs.lemmas.Grind.{common_steps}
+use Rattle.std.proofs.Common.{◌≡◌, ℕ, suc, ◌+◌, ◌-◌, ◌<◌, ◌≤◌, true, false, cond, ◌||◌, ◌↔◌, ◌⊎◌, inl, inr, List, [], ◌∷◌, ◌++◌, length, take, get_or, refl}
+use Rattle.std.proofs.Common.{sym, ap, ◌∙◌, subst, true≢false, IsTrue, arith, length-append, append_assoc}
 use Rattle.std.proofs.Math.Seq.{take-length}
 use Rattle.std.proofs.lemmas.List.{take_more, take-append-le}
 use Rattle.eco_ids.specs.declared.entity.Entity.{Entity}
@@ -37,14 +39,7 @@ noted_all_grows ms (e ∷ es) =
     (one.0 ++ rest.0, rest.1 ∙ ap (λ xs. xs ++ rest.0) one.1 ∙ append_assoc ms one.0 rest.0)
 
 has_noted : (ms : List Entity) (e b : Entity) → has_item entity_cmp (noted ms e) b ≡ (has_item entity_cmp ms b || has_item entity_cmp (e ∷ []) b)
-has_noted ms e b =
-    elim (has_item entity_cmp ms e) as (λ t. has_item entity_cmp ms e ≡ t
-    → has_item entity_cmp (cond t ms (ms ++ e ∷ [])) b ≡ (has_item entity_cmp ms b || has_item entity_cmp (e ∷ []) b)) [
-      | true ↦ λ m. same_truth (has_item entity_cmp ms b) (has_item entity_cmp ms b || has_item entity_cmp (e ∷ []) b)
-          (λ h. or_left _ _ h)
-          (λ h. elim (or_parts (has_item entity_cmp ms b) _ h) as (λ _. Has ms b) [ inl k ↦ k | inr k ↦ subst (Has ms) (only same_entity e b k) m ])
-      | false ↦ λ m. has_append entity_cmp ms (e ∷ []) b
-    ] refl
+has_noted ms e b = grind (arith, common_steps, same_truth, or_left, or_parts, only, same_entity, has_append)
 
 pub has_noted_all : (ms es : List Entity) (b : Entity) → has_item entity_cmp (noted_all ms es) b ≡ (has_item entity_cmp ms b || has_item entity_cmp es b)
 has_noted_all ms [] b = sym (or-false _)

@@ -1,8 +1,7 @@
 -- A target stands for the type that an add leads to.
-use Rattle.std.proofs.Common.{◌≡◌, true, false, List, [], Some, unwrap_or, refl, sym, ap, subst, IsTrue, Result, Ok, Err}
+use Rattle.std.proofs.Common.{◌≡◌, true, false, List, [], Some, unwrap_or, refl, ap, subst, IsTrue, Ok}
 use Rattle.eco_ids.specs.declared.entity.Entity.{Entity}
 use Rattle.eco_ids.specs.declared.id.Id.{Id}
-use Rattle.eco_ids.specs.declared.refusal.Refusal.{Refusal}
 use Rattle.eco_ids.specs.Order.{id_cmp, is_ascending, with_item}
 use Rattle.eco_ids.specs.World.{WorldState, has, names_living}
 use Rattle.eco_traits.specs.declared.target.Target.TheVariants.{Own, With}
@@ -21,4 +20,5 @@ module _ (w : WorldState) (e : Entity) (i : Id) (own : List Id) (lives : names_l
   -- it comes alone
   pub plain_target : (ids : List Id) → has w e i ≡ false → AreTraitsOf w i ids → IsPlain i ids → IsTrue (is_ascending id_cmp own) → FindsTarget w e i (Ok With)
   plain_target ids absent traits plain up =
-      subst (λ all. LeadsTo w e i (Ok (with_item id_cmp all i))) own_is (plain_leads_to w e i ids own (with_item id_cmp own i) lives absent traits plain owns up refl)
+      subst (λ all. LeadsTo w e i (Ok (with_item id_cmp all i))) own_is
+      (plain_leads_to w e i ids own (with_item id_cmp own i) lives absent traits plain owns up refl)

@@ -1,18 +1,17 @@
 -- What stands against a closure.
-use Rattle.std.proofs.Common.{◌≡◌, ℕ, zero, suc, ◌+◌, ◌<◌, Bool, false, ◌||◌, ◌⊎◌, inl, inr, List, [], ◌∷◌, length, take, get_or, refl, sym, ap, ◌∙◌, subst, true≢false, IsTrue, Option, Some, None, MatchBool, option_map, is_lt, Less, Equal, Greater, arith}
+use Rattle.std.proofs.lemmas.Grind.{common_steps}
+use Rattle.std.proofs.Common.{◌≡◌, ℕ, zero, suc, ◌+◌, ◌<◌, false, ◌||◌, ◌⊎◌, inl, inr, List, [], ◌∷◌, length, take, get_or, refl, sym, ap, ◌∙◌, subst}
+use Rattle.std.proofs.Common.{true≢false, IsTrue, Option, Some, None, MatchBool, option_map, is_lt, Less, Equal, Greater, arith}
 use Rattle.std.proofs.lemmas.List.{take_more}
 use Rattle.std.specs.Cmp.{tied_itself}
 use Rattle.std.specs.List.{list_any}
-use Rattle.std.specs.Ordering.{is_le, ordering_then}
-use Rattle.eco_ids.specs.declared.edition.Edition.{Edition}
-use Rattle.eco_ids.specs.declared.edition.Edition.TheVariants.{First}
+use Rattle.std.specs.Ordering.{is_le}
 use Rattle.eco_ids.specs.declared.entity.Entity.{Entity}
 use Rattle.eco_ids.specs.declared.entity.TheConstants.{ACYCLIC, EXCLUSIVE}
 use Rattle.eco_ids.specs.declared.id.Id.{Id}
 use Rattle.eco_ids.specs.declared.id.Id.TheVariants.{Two}
 use Rattle.eco_ids.specs.declared.refusal.Refusal.{Refusal}
-use Rattle.eco_ids.specs.declared.refusal.Refusal.TheVariants.{Cycle, InUse, NotAPolicy}
-use Rattle.eco_ids.specs.Edition.{late_traits}
+use Rattle.eco_ids.specs.declared.refusal.Refusal.TheVariants.{Cycle}
 use Rattle.eco_ids.specs.Order.{id_cmp, id_eq, entity_cmp, has_item, is_ascending}
 use Rattle.eco_ids.specs.Step.{IsFirstCycle, Judges, is_late, is_wrong_policy}
 use Rattle.eco_ids.specs.World.{WorldState}
@@ -48,11 +47,7 @@ before_or_above (x ∷ xs) (suc k) d y up l h = elim (or_parts (id_eq x y) (has_
     ]
 
 below_by_relationship : (r q t u : Entity) → IsTrue (is_lt (id_cmp (Two r t) (Two q u))) → IsTrue (is_le (entity_cmp r q))
-below_by_relationship r q t u = elim (entity_cmp r q) as (λ c. IsTrue (is_lt (ordering_then c (entity_cmp t u))) → IsTrue (is_le c)) [
-  | Less ↦ λ h. refl
-  | Equal ↦ λ h. refl
-  | Greater ↦ λ h. absurd (true≢false (sym h))
-]
+below_by_relationship r q t u = grind (arith, common_steps, is_lt)
 
 -- ---- cycles
 
@@ -90,18 +85,7 @@ none_more w e s k d l none o says is = λ j r h closes.
 
 -- ---- all of it
 
-abbrev pub Cycles : WorldState → Entity → List Id → Option Refusal → Type 0
-Cycles w e s verdict = (cycle : Option Entity) × IsFirstCycle w e s cycle × (verdict ≡ option_map Cycle cycle)
-
-abbrev pub Late : WorldState → Entity → List Id → Option Refusal → Type 0
-Late w e s verdict = MatchBool (list_any (is_late w e s) (late_traits w.edition)) (verdict ≡ Some InUse) (Cycles w e s verdict)
-
 pub judged_cycle : (w : WorldState) (e : Entity) (s : List Id) (o : Option Entity) (verdict : Option Refusal) → list_any is_wrong_policy s ≡ false
     → is_late w e s EXCLUSIVE ≡ false → is_late w e s ACYCLIC ≡ false
     → IsFirstCycle w e s o → verdict ≡ option_map Cycle o → Judges w e s verdict
-judged_cycle w e s o verdict policy late later first is =
-    subst (λ b. MatchBool b (verdict ≡ Some NotAPolicy) (Late w e s verdict)) (sym policy)
-    (subst (λ b. MatchBool b (verdict ≡ Some InUse) (Cycles w e s verdict)) (sym (none_late w.edition)) (o, first, is))
-  where
-    none_late : (d : Edition) → list_any (is_late w e s) (late_traits d) ≡ false
-    none_late First = ap (λ x. x || (is_late w e s ACYCLIC || false)) late ∙ ap (λ x. x || false) later
+judged_cycle w e s o verdict policy late later first is = grind (arith, common_steps)

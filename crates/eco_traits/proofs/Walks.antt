@@ -1,7 +1,9 @@
 -- What an entity has, by its ids; the targets of its pairs; and walks along them.
-use Rattle.std.proofs.Common.{◌≡◌, ℕ, ◌+◌, ◌<◌, Bool, false, ◌||◌, ◌↔◌, ◌⊎◌, inl, inr, List, [], ◌∷◌, ◌++◌, length, take, get_or, refl, sym, ap, ◌∙◌, subst, true≢false, IsTrue, Option, Some, None, is_some, is_eq, option_map, option_to_list, unwrap_or, if◌then◌else◌, Less, Equal, Greater}
+use Rattle.std.proofs.lemmas.Grind.{common_steps}
+use Rattle.std.proofs.Common.{arith}
+use Rattle.std.proofs.Common.{◌≡◌, ℕ, ◌+◌, ◌<◌, Bool, false, ◌||◌, ◌↔◌, ◌⊎◌, inl, inr, List, [], ◌∷◌, ◌++◌, length, take, get_or, refl, sym, ap, ◌∙◌, subst}
+use Rattle.std.proofs.Common.{true≢false, IsTrue, Option, Some, None, is_some, is_eq, option_map, option_to_list, unwrap_or}
 use Rattle.std.proofs.lemmas.List.{take_more}
-use Rattle.std.specs.Ordering.{ordering_then}
 use Rattle.eco_ids.specs.declared.entity.Entity.{Entity}
 use Rattle.eco_ids.specs.declared.id.Id.{Id}
 use Rattle.eco_ids.specs.declared.id.Id.TheVariants.{One, Two}
@@ -21,7 +23,7 @@ use Rattle.eco_traits.specs.Target.{type_of_record, target_by_pair}
 
 -- ---- what an entity has
 
-some_is : {A : Type 0} (x y : A) → Some x ≡ Some y → x ≡ y
+pub some_is : {A : Type 0} (x y : A) → Some x ≡ Some y → x ≡ y
 some_is x y e = ap (λ o. unwrap_or o x) e
 
 has_of_some : (o : Option Record) (i : Id) (ids : List Id) → Some ids ≡ option_map type_of_record o → has_in o i ≡ has_item id_cmp ids i
@@ -43,34 +45,18 @@ has_nothing w e i h = has_of_none (record_of w e) i h
 
 pair_test : (r b : Entity) (i : Id) → has_item entity_cmp (option_to_list (target_by_pair r i)) b ≡ id_eq i (Two r b)
 pair_test r b (One e) = refl
-pair_test r b (Two q t) =
-    elim (entity_cmp q r) as (λ c. has_item entity_cmp (option_to_list (if is_eq c then Some t else None)) b ≡ is_eq (ordering_then c (entity_cmp t b))) [
-      | Less ↦ refl
-      | Equal ↦ or-false (entity_eq t b)
-      | Greater ↦ refl
-    ]
+pair_test r b (Two q t) = grind (arith, common_steps, is_eq, or-false)
 
 -- one more id is looked at
 pub targets_more : (ids : List Id) (k : ℕ) (d : Id) (start now : List Entity) (o : Option Entity) (r b : Entity) → k < length ids
     → o ≡ target_by_pair r (get_or ids k d)
     → has_item entity_cmp now b ≡ (has_item entity_cmp start b || has_item id_cmp (take k ids) (Two r b))
     → has_item entity_cmp (now ++ option_to_list o) b ≡ (has_item entity_cmp start b || has_item id_cmp (take (k + 1) ids) (Two r b))
-targets_more ids k d start now o r b l is h =
-    has_append entity_cmp now (option_to_list o) b
-    ∙ ap (λ x. x || has_item entity_cmp (option_to_list o) b) h
-    ∙ or_assoc (has_item entity_cmp start b) (has_item id_cmp (take k ids) (Two r b)) (has_item entity_cmp (option_to_list o) b)
-    ∙ ap (λ x. has_item entity_cmp start b || x)
-    (ap (λ x. has_item id_cmp (take k ids) (Two r b) || x)
-    (ap (λ p. has_item entity_cmp (option_to_list p) b) is ∙ pair_test r b (get_or ids k d) ∙ sym (or-false _))
-    ∙ sym (has_append id_cmp (take k ids) (get_or ids k d ∷ []) (Two r b))
-    ∙ ap (λ xs. has_item id_cmp xs (Two r b)) (sym (take_more ids k d l)))
+targets_more ids k d start now o r b l is h = grind (arith, common_steps, has_append, or_assoc, pair_test, or-false, take_more)
 
 -- a test by cases, as a fact
 pub or_fact : (a b c : Bool) → a ≡ (b || c) → IsTrue a ↔ (IsTrue b ⊎ IsTrue c)
 or_fact a b c e = (λ h. or_parts b c (sym e ∙ h), λ h. e ∙ elim h as (λ _. IsTrue (b || c)) [ inl k ↦ or_left b c k | inr k ↦ or_right b c k ])
-
-pub nothing_more : (a c : Bool) → c ≡ false → IsTrue a ↔ (IsTrue a ⊎ IsTrue c)
-nothing_more a c e = (λ h. inl h, λ h. elim h as (λ _. IsTrue a) [ inl k ↦ k | inr k ↦ absurd (true≢false (sym k ∙ e)) ])
 
 -- ---- walks
 

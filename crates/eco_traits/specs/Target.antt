@@ -6,7 +6,7 @@ use Rattle.eco_ids.specs.declared.id.Id.{Id}
 use Rattle.eco_ids.specs.declared.id.Id.TheVariants.{One, Two}
 use Rattle.eco_ids.specs.declared.refusal.Refusal.{Refusal}
 use Rattle.eco_ids.specs.declared.refusal.Refusal.TheVariants.{DeadId}
-use Rattle.eco_ids.specs.Order.{entity_cmp, entity_eq, has_item, id_cmp, with_item}
+use Rattle.eco_ids.specs.Order.{entity_cmp, entity_eq, has_item, id_cmp, with_item, without_item}
 use Rattle.eco_ids.specs.Outcome.{is_out_of_memory}
 use Rattle.eco_ids.specs.Step.{IsClosure, Judges, is_replaced, is_wrong_policy, with_closure}
 use Rattle.eco_ids.specs.Traits.{Reaches}
@@ -89,6 +89,15 @@ LeadsTo w e i r = MatchBool (names_living w i) (MatchBool (has w e i) (IsOwnType
 -- the answer is that type or that refusal, or memory was wanting, which is asked for only once each entity in the id lives
 abbrev pub FindsType : WorldState → Entity → Id → Result (List Id) Refusal → Type 0
 FindsType w e i r = MatchBool (is_out_of_memory r) (IsTrue (names_living w i)) (LeadsTo w e i r)
+
+-- the ids without the one that is replaced, if one is
+abbrev pub spared : Option Id → List Id → List Id
+spared None ids = ids
+spared (Some old) ids = without_item id_cmp ids old
+
+-- an add of i to e, which has these ids, leads to them with i in the place of the one that is replaced, if one is
+abbrev pub Replaces : WorldState → Entity → Id → List Id → Option Id → Type 0
+Replaces w e i own replaced = LeadsTo w e i (Ok (with_item id_cmp (spared replaced own) i))
 
 -- the type that a target stands for, where an id comes to these
 abbrev pub type_meant : List Id → Id → Target → List Id

@@ -23,5 +23,6 @@ pub trait Holdings {
 
     /// Whether some living entity has this pair.
     fn is_target(&self, relationship: Entity, target: Entity) -> bool
-        ensures { IsTrue result ↔ ((holder : EntityData) × IsTrue (has (world self.now) holder (Two relationship target))) };
+        ensures { IsTrue result ↔ ((holder : EntityData)
+            × IsTrue (has (world self.now) holder (Two relationship target))) };
 }

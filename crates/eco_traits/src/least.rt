@@ -78,7 +78,8 @@ fn ask<G: Graph>(
     found: &mut Vec<Entity>,
 ) -> Result<(), AllocError>
     requires { asked < length members.old.keys }
-    ensures { OnOk result (IsTurn (G.leads graph.now) (G.nodes graph.now) members.old.keys asked members.new.keys) }
+    ensures { OnOk result (IsTurn (G.leads graph.now) (G.nodes graph.now) members.old.keys asked
+        members.new.keys) }
 {
     let member = members.as_slice()[asked];
     found.clear();

@@ -1,18 +1,20 @@
 //! The type that an add leads to.
-ghost use Rattle.std.specs.Prelude.{◌≡◌, ◌↔◌, false, IfOk, IfSome, IsFalse, IsTrue, Some, filter, fold, is_some, not, option_map, unwrap_or};
+ghost use Rattle.std.specs.Prelude.{◌≡◌, ◌↔◌, ◌&&◌, false, IfOk, IfSome, IsFalse, IsTrue, Some, filter, find, fold, is_some, not, option_map, unwrap_or};
 ghost use Rattle.std.specs.List.{list_any};
 ghost use Rattle.eco_ids.specs.Outcome.{is_out_of_memory};
 ghost use Rattle.eco_ids.specs.World.{has, is_alive as lives, record_of};
-ghost use Rattle.eco_ids.specs.Order.{id_cmp, is_ascending, with_item};
+ghost use Rattle.eco_ids.specs.declared.id.Id.TheVariants.{One, Two};
+ghost use Rattle.eco_ids.specs.Order.{has_item, id_cmp, id_eq, is_ascending, with_item};
 ghost use Rattle.eco_ids.specs.Step as step;
 ghost use Rattle.eco_ids.specs.World as world;
 ghost use Rattle.eco_traits.specs.Closure.{head_of};
-ghost use Rattle.eco_traits.specs.Target.{FindsTarget, FindsType, is_own, IsPlain, LacksTraits, extended_by, left_by, type_of_entity};
+ghost use Rattle.eco_ids.specs.Traits.{Reaches};
+ghost use Rattle.eco_traits.specs.Target.{FindsTarget, FindsType, is_own, IsPlain, LacksTraits, Replaces, extended_by, left_by, spared, type_of_entity};
 
 use crate::holdings::Holdings;
 use crate::implied::{brings_any, closure};
 use crate::verdict::{is_among, is_wrong_policy, verdict};
-use crate::walk::has;
+use crate::walk::{has, has_pair_of, is_pair_of, may_reach};
 use eco_ids::entity::{ACYCLIC, EXCLUSIVE};
 use eco_ids::{Entity, Id, Refusal, TypeList};
 use std::alloc::{AllocError, Global};
@@ -64,10 +66,159 @@ pub fn target_type<H: Holdings>(
     if is_plain(id, traits) {
         return Ok(Target::With);
     }
-    Ok(Target::Other(closed_type(alloc, holdings, entity, own, id, traits)?))
+    new_target(alloc, holdings, entity, own, id, traits)
 }
 
-// What `target_type` does with an id that isn't plain, apart, so that one that is needs no room for what this one keeps.
+// What `target_type` does with an id that is absent and isn't plain, apart, so that one that is needs no room for what this
+// one keeps. A pair of an exclusive relationship mostly takes the place of one other pair, and nothing else has to be known
+// for that.
+#[inline(never)]
+fn new_target<H: Holdings>(
+    alloc: Global,
+    holdings: &H,
+    entity: Entity,
+    own: &TypeList,
+    added: Id,
+    traits: &TypeList,
+) -> Result<Target, Refusal>
+    requires lives { IsTrue (world.names_living (H.world holdings.now) added) }
+    requires absent { IsFalse (world.has (H.world holdings.now) entity added) }
+    requires own { Some own.now ≡ type_of_entity (H.world holdings.now) entity }
+    requires traits { Some traits.now ≡ type_of_entity (H.world holdings.now) (head_of added) }
+    ensures target { FindsTarget (H.world holdings.now) entity added result }
+    ensures own { IfOk result (λ target. is_own target ≡ has (H.world holdings.now) entity added) }
+{
+    let Some(replaced) = short_way(holdings, entity, own, added, traits) else {
+        let ids = closed_type(alloc, holdings, entity, own, added, traits)?;
+        return Ok(Target::Other(ids));
+    };
+    let Some(old) = replaced else {
+        return Ok(Target::With);
+    };
+    let ids = exchanged(own, old, added)?;
+    Ok(Target::Other(ids))
+}
+
+// The ids with one in the place of another.
+fn exchanged(own: &TypeList, old: Id, new: Id) -> Result<TypeList, AllocError>
+    ensures { IfOk result (λ ids. ids ≡ with_item id_cmp (spared (Some old) own.now) new) }
+{
+    let mut ids = own.try_copy()?;
+    ids.remove(old);
+    ids.insert(new)?;
+    Ok(ids)
+}
+
+// The pair that a new pair replaces, or none, where that is all that the new one does, and nothing stands against it. No
+// answer where that takes more than a look at the pair's entities: the pair brings others along, replaces several, names
+// no action, or may close a cycle.
+fn short_way<H: Holdings>(
+    holdings: &H,
+    entity: Entity,
+    own: &TypeList,
+    added: Id,
+    traits: &TypeList,
+) -> Option<Option<Id>>
+    requires lives { IsTrue (world.names_living (H.world holdings.now) added) }
+    requires absent { IsFalse (world.has (H.world holdings.now) entity added) }
+    requires own { Some own.now ≡ type_of_entity (H.world holdings.now) entity }
+    requires traits { Some traits.now ≡ type_of_entity (H.world holdings.now) (head_of added) }
+    ensures { IfSome result (λ replaced. Replaces (H.world holdings.now) entity added own.now replaced) }
+{
+    match added {
+        Id::One(_) => None,
+        Id::Two(relationship, target) => short_pair(
+            holdings,
+            entity,
+            own,
+            relationship,
+            target,
+            traits,
+        ),
+    }
+}
+
+// What `short_way` answers for a pair.
+fn short_pair<H: Holdings>(
+    holdings: &H,
+    entity: Entity,
+    own: &TypeList,
+    relationship: Entity,
+    target: Entity,
+    traits: &TypeList,
+) -> Option<Option<Id>>
+    requires lives { IsTrue (world.names_living (H.world holdings.now) (Two relationship target)) }
+    requires absent { IsFalse (world.has (H.world holdings.now) entity (Two relationship target)) }
+    requires own { Some own.now ≡ type_of_entity (H.world holdings.now) entity }
+    requires traits { Some traits.now ≡ type_of_entity (H.world holdings.now) relationship }
+    ensures { IfSome result
+        (λ replaced. Replaces (H.world holdings.now) entity (Two relationship target) own.now replaced) }
+{
+    if is_wrong_policy(Id::Two(relationship, target)) {
+        return None;
+    }
+    if brings_any(traits) {
+        return None;
+    }
+    if may_close(holdings, entity, relationship, target, traits) {
+        return None;
+    }
+    let replaced = replaced_by(own, relationship, traits)?;
+    Some(replaced)
+}
+
+// Whether a pair may close a cycle at the entity, as far as that is known without a walk.
+fn may_close<H: Holdings>(
+    holdings: &H,
+    entity: Entity,
+    relationship: Entity,
+    target: Entity,
+    traits: &TypeList,
+) -> bool
+    ensures { IsFalse result → IsTrue (has_item id_cmp traits.now (One ACYCLIC))
+        → Reaches (H.world holdings.now) relationship target entity → ⊥ }
+{
+    if traits.has(Id::One(ACYCLIC)) {
+        return may_reach(holdings, relationship, target, entity);
+    }
+    false
+}
+
+// The pair among the ids that one more pair of the relationship replaces, or none; no answer where there are several.
+fn replaced_by(own: &TypeList, relationship: Entity, traits: &TypeList) -> Option<Option<Id>>
+    ensures left { IfSome result (λ replaced. spared replaced own.now
+        ≡ filter (λ id. not (has_item id_cmp traits.now (One EXCLUSIVE) && step.is_pair_of relationship id)) own.now) }
+    ensures ascending { IsTrue (is_ascending id_cmp own.now) }
+{
+    let ids = own.as_slice();
+    if !traits.has(Id::One(EXCLUSIVE)) {
+        return Some(None);
+    }
+    let Some(first) = first_pair_of(ids, relationship) else {
+        return Some(None);
+    };
+    if has_other_pair_of(ids, relationship, first) {
+        return None;
+    }
+    Some(Some(first))
+}
+
+// The first pair of the relationship among the ids.
+fn first_pair_of(ids: &[Id], relationship: Entity) -> Option<Id>
+    ensures { result ≡ find (step.is_pair_of relationship) ids.now }
+{
+    ids.iter().copied().find(|id| is_pair_of(*id, relationship))
+}
+
+// Whether one of the ids is a pair of the relationship, and not this one.
+fn has_other_pair_of(ids: &[Id], relationship: Entity, first: Id) -> bool
+    ensures { result ≡ list_any (λ id. step.is_pair_of relationship id && not (id_eq id first)) ids.now }
+{
+    ids.iter()
+        .any(|id| is_pair_of(*id, relationship) && !id.is(first))
+}
+
+// The type that `new_target` leads to where the short way doesn't tell. Rare beside the short way.
 #[cold]
 #[inline(never)]
 fn closed_type<H: Holdings>(
@@ -96,7 +247,8 @@ fn closed_type<H: Holdings>(
 // entity in the id isn't living.
 fn traits_of<H: Holdings>(holdings: &H, id: Id) -> Option<&TypeList>
     ensures living { is_some result ≡ world.names_living (H.world holdings.now) id }
-    ensures traits { IfSome result (λ ids. Some ids.now ≡ type_of_entity (H.world holdings.now) (head_of id)) }
+    ensures traits { IfSome result (λ ids. Some ids.now
+        ≡ type_of_entity (H.world holdings.now) (head_of id)) }
 {
     match id {
         Id::One(entity) => holdings.type_of(entity),
@@ -167,7 +319,8 @@ fn kept<H: Holdings>(
     own: &TypeList,
     coming: &[Id],
 ) -> Result<Option<TypeList>, AllocError>
-    ensures kept { IfOk result (λ ids. unwrap_or ids own.now ≡ left_by (H.world holdings.now) coming.now own.now) }
+    ensures kept { IfOk result (λ ids. unwrap_or ids own.now
+        ≡ left_by (H.world holdings.now) coming.now own.now) }
     ensures ascending { IsTrue (is_ascending id_cmp own.now) }
 {
     let mut kept: Option<TypeList> = None;
@@ -189,22 +342,6 @@ fn is_replaced<H: Holdings>(holdings: &H, coming: &[Id], id: Id) -> bool
     has_pair_of(coming, relationship)
         && !is_among(coming, id)
         && has(holdings, relationship, Id::One(EXCLUSIVE))
-}
-
-// Whether one of the ids is a pair of the relationship.
-fn has_pair_of(ids: &[Id], relationship: Entity) -> bool
-    ensures { result ≡ list_any (step.is_pair_of relationship) ids.now }
-{
-    ids.iter().any(|id| is_pair_of(*id, relationship))
-}
-
-fn is_pair_of(id: Id, relationship: Entity) -> bool
-    ensures { result ≡ step.is_pair_of relationship id }
-{
-    match id {
-        Id::One(_) => false,
-        Id::Two(own, _) => relationship.is(own),
-    }
 }
 
 // The ids, and those that come.

@@ -1,8 +1,10 @@
 //! Walks along the pairs of one relationship.
-ghost use Rattle.std.specs.Prelude.{◌≡◌, ◌||◌, ◌↔◌, IfOk, OnOk, IsTrue};
+ghost use Rattle.std.specs.Prelude.{◌≡◌, ◌||◌, ◌↔◌, IfOk, OnOk, IsFalse, IsTrue};
+ghost use Rattle.std.specs.List.{list_any};
 ghost use Rattle.eco_ids.specs.declared.entity.Entity.{Entity as EntityData};
 ghost use Rattle.eco_ids.specs.declared.id.Id.TheVariants.{Two};
 ghost use Rattle.eco_ids.specs.Order.{entity_cmp, has_item, id_cmp};
+ghost use Rattle.eco_ids.specs.Step.{is_pair_of};
 ghost use Rattle.eco_ids.specs.Traits.{Reaches};
 ghost use Rattle.eco_ids.specs.World.{has as world_has};
 ghost use Rattle.eco_traits.specs.Known.{all_targets};
@@ -13,6 +15,9 @@ use crate::least::{Graph, is_in_least_set, least_set};
 use eco_ids::{Entity, Id};
 use indexmap::IndexSet;
 use std::alloc::{AllocError, Global};
+
+// To look through so many ids costs less than to ask who has the goal as target.
+const FEW_IDS: usize = 8;
 
 // Each entity leads to the targets of its pairs of the relationship.
 #[derive(Drop)]
@@ -81,8 +86,8 @@ pub fn reached<H: Holdings>(
 
 /// Whether a walk of pairs of the relationship leads from one entity to another. It leads from each to itself.
 ///
-/// A longer walk ends with a pair that names the goal. So nothing is walked where nobody has such a pair, and that takes
-/// no memory. A walk stops as soon as it meets the goal.
+/// Nothing is walked where it is known before ([`may_reach`]), and that takes no memory. A walk stops as soon as it meets
+/// the goal.
 pub fn reaches<H: Holdings>(
     alloc: Global,
     holdings: &H,
@@ -95,7 +100,7 @@ pub fn reaches<H: Holdings>(
     if from.is(goal) {
         return Ok(true);
     }
-    if !holdings.is_target(relationship, goal) {
+    if !may_reach(holdings, relationship, from, goal) {
         return Ok(false);
     }
     let pairs = Pairs {
@@ -103,6 +108,63 @@ pub fn reaches<H: Holdings>(
         relationship,
     };
     is_in_least_set(alloc, &pairs, &[from], goal)
+}
+
+/// Whether a walk of pairs of the relationship may lead from one entity to another, as far as that is known without one: a
+/// longer walk begins with a pair of the first entity, and ends with one that names the goal.
+pub(crate) fn may_reach<H: Holdings>(
+    holdings: &H,
+    relationship: Entity,
+    from: Entity,
+    goal: Entity,
+) -> bool
+    ensures { IsFalse result → Reaches (H.world holdings.now) relationship from goal → ⊥ }
+{
+    if from.is(goal) {
+        return true;
+    }
+    if !may_lead_on(holdings, relationship, from) {
+        return false;
+    }
+    holdings.is_target(relationship, goal)
+}
+
+// Whether the entity may have a pair of the relationship. Of an entity with many ids that is not asked.
+fn may_lead_on<H: Holdings>(holdings: &H, relationship: Entity, from: Entity) -> bool
+    ensures { IsFalse result → (target : EntityData)
+        → IsFalse (world_has (H.world holdings.now) from (Two relationship target)) }
+{
+    match holdings.type_of(from) {
+        Some(ids) => may_have_pair_of(ids.as_slice(), relationship),
+        None => false,
+    }
+}
+
+// Whether a pair of the relationship may be among the ids: whether one is, where they are few.
+fn may_have_pair_of(ids: &[Id], relationship: Entity) -> bool
+    ensures { IsFalse result → IsFalse (list_any (is_pair_of relationship) ids.now) }
+{
+    if ids.len() > FEW_IDS {
+        return true;
+    }
+    has_pair_of(ids, relationship)
+}
+
+/// Whether one of the ids is a pair of the relationship.
+pub(crate) fn has_pair_of(ids: &[Id], relationship: Entity) -> bool
+    ensures { result ≡ list_any (is_pair_of relationship) ids.now }
+{
+    ids.iter().any(|id| is_pair_of(*id, relationship))
+}
+
+/// Whether the id is a pair of the relationship.
+pub(crate) fn is_pair_of(id: Id, relationship: Entity) -> bool
+    ensures { result ≡ is_pair_of relationship id }
+{
+    match id {
+        Id::One(_) => false,
+        Id::Two(own, _) => relationship.is(own),
+    }
 }
 
 /// Whether the entity lives and has the id.

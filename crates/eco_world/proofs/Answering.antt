@@ -1,9 +1,12 @@
 -- What a query of one term answers.
 use Rattle.std.proofs.Common.{if◌then◌else◌, ◌≡◌, ℕ, suc, ◌+◌, Bool, true, false, cond, not, ◌&&◌, ◌||◌, List, [], ◌∷◌, ◌++◌, map, filter, flat_map, slice_get, Option, Some, refl, sym, ap, ◌∙◌, subst, Less, Equal, Greater, is_eq, is_lt, is_some, IsTrue, T}
+use Rattle.std.proofs.Common.{◌<◌, arith, length, true≢false}
 use Rattle.std.specs.List.{list_any}
 use Rattle.std.specs.FinMap.Entries.{find, is_sorted, below_all}
 use Rattle.std.specs.Cmp.{tied_itself}
 use Rattle.std.specs.Ordering.{ordering_then}
+use Rattle.std.proofs.lemmas.Bool.Decides.{nat_tests}
+use Rattle.std.proofs.lemmas.List.{length-map}
 use Rattle.eco_ids.specs.declared.entity.Entity.{Entity}
 use Rattle.eco_ids.specs.declared.id.Id.{Id}
 use Rattle.eco_ids.specs.declared.id.Id.TheVariants as id
@@ -22,7 +25,7 @@ use Rattle.eco_ids.proofs.Facts.{id_eq_is}
 use Rattle.eco_ids.proofs.IdOrder.{id_cmp_total}
 use Rattle.eco_ids.proofs.States.{record_here}
 use Rattle.eco_ids.proofs.Ascending.{first_T, second_T}
-use Rattle.eco_world.specs.Queries.{term_of, holders}
+use Rattle.eco_world.specs.Queries.{term_of, holders, may_query}
 use Rattle.eco_world.proofs.Held.{keys}
 
 -- the pattern matches the id alone
@@ -175,3 +178,35 @@ found i (p ∷ ps) = λ t. if exactly_held i p.1.held t then p ∷ found i ps t 
 -- whom the store finds by the id's pattern has the id in the world
 pub found_holders : (w : WorldState) (i : Id) → store.entities_with (entities w) (exactly i) ≡ holders w i
 found_holders w i = ap (map (λ (p : Entity × Record). p.0)) (found i (living (entities w)))
+
+some_kept : {X : Type 0} (test : X → Bool) (xs : List X) → IsTrue (list_any test xs) → 0 < length (filter test xs)
+some_kept test [] h = absurd (true≢false (sym h))
+some_kept test (x ∷ xs) h = by (test x) (some_kept test xs) h
+  where
+    by : (b : Bool) → (IsTrue (list_any test xs) → 0 < length (filter test xs)) → (b || list_any test xs) ≡ true →
+        0 < length (cond b (x ∷ filter test xs) (filter test xs))
+    by true rest h = omega arith
+    by false rest h = rest h
+
+-- where the store finds somebody, somebody has the id in the world
+pub some_holder : (w : WorldState) (i : Id) → IsTrue (list_any (λ (p : Entity × Record). has_match (exactly i) p.1) (living (entities w))) →
+    0 < length (holders w i)
+some_holder w i h =
+    let kept = some_kept (λ (p : Entity × Record). has_match (exactly i) p.1) (living (entities w)) h in
+    rw (← found_holders w i, length-map) kept
+
+-- where somebody has the id, a query for it has a result
+pub some_answer : (w : WorldState) (i : Id) (q : List QueryTerm) → q ≡ term_of i →
+    ((e : Entity) (r : Record) → record_of w e ≡ Some r → T (is_sorted id_cmp r.held)) → 0 < length (holders w i) → IsTrue (may_query w q)
+some_answer w i q is sorted some =
+    let same : length (answer w q) ≡ length (holders w i) =
+    ap length (ap (answer w) is ∙ answer_is w i sorted) ∙ length-map (holders w i) (holding i) in
+    grind (arith, nat_tests)
+
+-- so it has where one of those who have it is still to be answered
+pub some_left : (w : WorldState) (i : Id) (q : List QueryTerm) → q ≡ term_of i →
+    ((e : Entity) (r : Record) → record_of w e ≡ Some r → T (is_sorted id_cmp r.held)) → (es : List Entity) → es ≡ holders w i → (n : ℕ) →
+    n < length es → IsTrue (may_query w q)
+some_left w i q is sorted es all n within =
+    let same : length es ≡ length (holders w i) = ap length all in
+    some_answer w i q is sorted (omega (arith, same, within))

@@ -2,6 +2,7 @@ pub mod Answering
 pub mod Asking
 pub mod Changes
 pub mod Extending
+pub mod Fitting
 pub mod Held
 pub mod Layouts
 pub mod Removals

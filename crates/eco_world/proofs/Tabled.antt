@@ -3,7 +3,7 @@ use Rattle.std.proofs.Common.{◌≡◌, ◌≢◌, ℕ, zero, suc, ◌<◌, Boo
 use Rattle.std.specs.List.{All, AllByRecursion, IsDistinct, list_any}
 use Rattle.std.proofs.lemmas.Bool.Decides.{nat_tests, Decides-eqb}
 use Rattle.std.proofs.lemmas.Option.{none-some, same_Some, slice_get_within}
-use Rattle.eco_ids.specs.World.{WorldState, entities, is_alive, record_of}
+use Rattle.eco_ids.specs.World.{WorldState, entities, is_alive, living, record_of}
 use Rattle.eco_ids.specs.declared.entity.Entity.{Entity}
 use Rattle.eco_ids.specs.declared.id.Id.{Id}
 use Rattle.eco_ids.specs.declared.pattern.Pattern.{Pattern}
@@ -19,6 +19,9 @@ use Rattle.eco_ids.proofs.Ascending.{both, first, second}
 use Rattle.eco_ids.proofs.Facts.{or_parts, or_right}
 use Rattle.eco_ids.proofs.Overlaps.{entity_eq_is}
 use Rattle.eco_ids.specs.World.{Record}
+use Rattle.eco_traits.specs.Target.{type_of_record}
+use Rattle.eco_ids.proofs.Passing.{passes_some}
+use Rattle.eco_world.specs.Queries.{is_matched}
 use Rattle.eco_world.specs.Layouts.{HasTable, shown_at, shown_of}
 use Rattle.eco_world.specs.Removals.{type_of}
 use Rattle.eco_world.proofs.Layouts.{or_left, Covers, IsTable, all_of, element_cases, here, no_element, same_ids, same_type, there}
@@ -69,6 +72,10 @@ some_row (r ∷ rows) within e = none_left e
   where
     none_left : ◌≡◌ {A = List Entity} (r.entity ∷ entities_of rows) [] → ⊥
     none_left h = cc
+
+first_row : (rows : List Row) → 0 < length rows → (r : Row) × (slice_get rows 0 ≡ Some r)
+first_row [] some = absurd (omega arith)
+first_row (r ∷ rows) some = (r, refl)
 
 has_rows : (rows : List Row) (k : ℕ) (r : Row) → slice_get rows k ≡ Some r → 0 < length rows
 has_rows rows k r at = let within : k < length rows = slice_get_within rows k r at in omega arith
@@ -173,6 +180,20 @@ module _ (w : WorldState) (slots : List (Option TableState)) (shown : IsShown (e
   row_lives n row r at =
       let stands = stands_typed (record_of w r.entity) (table_in slots n) row (shown.rows n row r at) (shown.own n) in
       stands
+
+  -- where a type with rows passes, some living entity's does
+  some_passes : (passes : List Id → Bool) (n : ℕ) → 0 < length (table_in slots n).rows → passes (table_in slots n).ids ≡ true →
+      list_any (λ (x : Entity × Record). passes (type_of_record x.1)) (living w) ≡ true
+  some_passes passes n some fit =
+      let row = first_row (table_in slots n).rows some in
+      let own = row_lives n 0 row.0 row.1 in
+      by row.0.entity (record_of w row.0.entity) refl own.0 (ap passes (sym own.1) ∙ fit)
+    where
+      by : (e : Entity) (o : Option Record) → record_of w e ≡ o → is_some o ≡ true →
+          passes (map (λ p. p.0) (unwrap_or (option_map (λ (k : Record). k.held) o) [])) ≡ true →
+          list_any (λ (x : Entity × Record). passes (type_of_record x.1)) (living w) ≡ true
+      by e None at lives fit = absurd (true≢false (sym lives))
+      by e (Some k) at lives fit = passes_some (λ (r : Record). passes (type_of_record r)) (entities w) e (k, at, fit)
 
   -- the row of a living entity
   row_there : (e : Entity) → IsTrue (is_alive w e) → (n : ℕ) × (row : ℕ) × (r : Row) × (row_at slots n row ≡ Some r) × (r.entity ≡ e)
@@ -311,6 +332,16 @@ module _ (w : WorldState) (slots : List (Option TableState)) (shown : IsShown (e
 
     pub found_match : (t : ListedTable) → Contains (map (shown_at slots) ns) t → list_any (pattern_matches pattern) t.ids ≡ true
     found_match t p = let slot = shown_to ns t p in subst (λ (x : ListedTable). list_any (pattern_matches pattern) x.ids ≡ true) slot.2 (found_rows slot.0 slot.1).1
+
+    -- where a table was found, somebody has an id that matches
+    pub found_some : 0 < length ns → is_matched w pattern ≡ true
+    found_some some = by ns refl some
+      where
+        by : (ms : List ℕ) → ms ≡ ns → 0 < length ms → is_matched w pattern ≡ true
+        by [] same some = absurd (omega arith)
+        by (m ∷ ms) same some =
+            let rows = found_rows m (ap (list_any (nat_eq m)) (sym same) ∙ or_left (nat_eq m m) (list_any (nat_eq m) ms) (itself m)) in
+            some_passes (list_any (pattern_matches pattern)) m rows.0 rows.1
 
     pub found_covered : Covers w (list_any (pattern_matches pattern)) (map (shown_at slots) ns)
     found_covered = covers_of (list_any (pattern_matches pattern)) (map (shown_at slots) ns)

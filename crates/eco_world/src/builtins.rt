@@ -1,5 +1,7 @@
 //! The entities that live from the start.
 ghost use Rattle.std.specs.Prelude.{◌≡◌, ◌≤◌, ◌<◌, ◌∷◌, [], Some, IfOk, IfErr};
+ghost use Rattle.eco_ids.specs.declared.entity.TheConstants.{ACYCLIC, EXCLUSIVE};
+ghost use Rattle.eco_ids.specs.declared.id.Id.TheVariants.{One};
 ghost use Rattle.eco_ids.specs.declared.refusal.Refusal.TheVariants.{OutOfMemory};
 ghost use Rattle.eco_world.specs.Builtins.{first_entities, builtin_name, builtin_type};
 
@@ -26,14 +28,25 @@ fn builtin_name(number: u32) -> &'static str
     }
 }
 
+// The ids of a relationship that is exclusive.
+fn exclusive_type(alloc: Global) -> Result<TypeList, AllocError>
+    ensures { IfOk result (λ type_list. type_list ≡ One EXCLUSIVE ∷ []) }
+{
+    TypeList::empty(alloc).with(Id::One(EXCLUSIVE))
+}
+
+// The ids of a relationship that is exclusive and acyclic.
+fn exclusive_acyclic_type(alloc: Global) -> Result<TypeList, AllocError>
+    ensures { IfOk result (λ type_list. type_list ≡ One EXCLUSIVE ∷ One ACYCLIC ∷ []) }
+{
+    exclusive_type(alloc)?.with(Id::One(ACYCLIC))
+}
+
 // The ids of ChildOf.
 fn child_of_type(alloc: Global) -> Result<TypeList, AllocError>
     ensures { IfOk result (λ type_list. type_list ≡ builtin_type 0) }
 {
-    TypeList::empty(alloc)
-        .with(Id::One(EXCLUSIVE))?
-        .with(Id::One(ACYCLIC))?
-        .with(Id::Two(ON_DELETE_TARGET, DELETE))
+    exclusive_acyclic_type(alloc)?.with(Id::Two(ON_DELETE_TARGET, DELETE))
 }
 
 // The ids of the built-in at this index.
@@ -43,7 +56,7 @@ fn builtin_type(alloc: Global, number: u32) -> Result<TypeList, AllocError>
 {
     match number {
         0 => child_of_type(alloc),
-        4 | 5 => TypeList::empty(alloc).with(Id::One(EXCLUSIVE)),
+        4 | 5 => exclusive_type(alloc),
         _ => Ok(TypeList::empty(alloc)),
     }
 }

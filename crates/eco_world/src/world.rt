@@ -1,20 +1,18 @@
 //! The world and what it answers.
-ghost use Rattle.std.specs.Prelude.{◌≡◌, ◌≤◌, false, IfErr, IfOk, IsTrue, length, map, OnOk, option_map, true};
+ghost use Rattle.std.specs.Prelude.{◌≡◌, ◌≤◌, ◌<◌, false, IfErr, IfOk, IsTrue, length, map, OnErr, OnOk, option_map, true};
 ghost use Rattle.std.specs.Option.{option_copied};
-ghost use Rattle.std.specs.List.{list_any};
 ghost use Rattle.std.specs.FinMap.Entries.{find};
 ghost use Rattle.eco_ids.specs.declared.refusal.Refusal.TheVariants.{OutOfMemory};
 ghost use Rattle.eco_ids.specs.Answer.{answer};
 ghost use Rattle.eco_ids.specs.Data.{arity, arity_of, value_of};
 ghost use Rattle.eco_ids.specs.Lawful.{IsLawful};
-ghost use Rattle.eco_ids.specs.Matching.{pattern_matches};
 ghost use Rattle.eco_ids.specs.Names.{lookup};
 ghost use Rattle.eco_ids.specs.Order.{id_cmp, is_ascending};
 ghost use Rattle.eco_ids.specs.Step.{own_name};
 ghost use Rattle.eco_ids.specs.World.{entities, first_world, has, held_by, is_alive, living, record_of};
 ghost use Rattle.eco_entities.specs.Registration.{entity_at};
 ghost use Rattle.eco_traits.specs.Target.{type_of_record};
-ghost use Rattle.eco_world.specs.Queries.{result_of, holders};
+ghost use Rattle.eco_world.specs.Queries.{holders, is_matched, may_query, result_of};
 
 use crate::builtins::builtin_store;
 use crate::query::{Query, Row};
@@ -184,10 +182,11 @@ impl World {
     /// The results of the query, ascending by entity: who has the id that it asks for (Flecs manual, Queries). Its time
     /// grows with how many they are, and with the tables whose types name the id's entity.
     ///
-    /// Refused with `OutOfMemory` alone.
+    /// Refused with `OutOfMemory` alone, and never where it has no result.
     pub fn query(&self, query: &Query) -> Result<Vec<Row>, Refusal>
         ensures ok { IfOk result (λ rows. map result_of rows.items ≡ answer self.now query.now) }
         ensures err { IfErr result (λ why. why ≡ OutOfMemory) }
+        ensures some { OnErr result (IsTrue (may_query self.now query.now)) }
     {
         self.is_lawful();
         let alloc = self.alloc;
@@ -233,15 +232,15 @@ impl World {
 
     // Whether some living entity has an id that matches.
     fn is_held(&self, pattern: Pattern) -> bool
-        ensures { result
-            ≡ list_any (λ p. list_any (pattern_matches pattern) (type_of_record p.1)) (living self.now) }
+        ensures { result ≡ is_matched self.now pattern }
     {
         self.store.is_held(pattern)
     }
 
     // The living entities that have the id, ascending.
     fn holders(&self, id: Id) -> Result<Vec<Entity>, AllocError>
-        ensures { IfOk result (λ entities. entities.items ≡ holders self.now id) }
+        ensures all { IfOk result (λ entities. entities.items ≡ holders self.now id) }
+        ensures some { OnErr result (0 < length (holders self.now id)) }
     {
         self.store.entities_with(exactly(id))
     }

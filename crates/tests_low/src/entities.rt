@@ -36,6 +36,25 @@ fn each_call_succeeds(rt: HostRuntime) {
     assert_eq!(rt; next(&mut index, None), Some(at(0, 1)));
 }
 
+// Whether a copy knows names and indices, and goes its own way.
+fn is_copied(alloc: Global) -> bool {
+    let mut index = EntityIndex::new(alloc, 3);
+    let is_made = are_made(&mut index);
+    match index.try_copy() {
+        Ok(mut copy) => is_made
+            && copy.name(at(1, 0)) == Some("b")
+            && copy.lookup("a") == Some(at(0, 0))
+            && next(&mut copy, None) == Some(at(2, 0))
+            && !index.is_alive(at(2, 0)),
+        Err(_) => false,
+    }
+}
+
+#[test]
+fn a_copy_goes_its_own_way(rt: HostRuntime) {
+    assert!(rt; is_copied(rt.alloc()));
+}
+
 // Whether the entities made next are those of one generation at these indices.
 fn come_next(index: &mut EntityIndex, indices: &[u32], generation: u16) -> bool {
     indices.iter().all(|expected| next(index, None) == Some(at(*expected, generation)))

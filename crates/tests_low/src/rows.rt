@@ -62,6 +62,24 @@ fn moved(alloc: Global, tables: &mut Tables) -> Result<Option<Value>, AllocError
     )
 }
 
+// The value of a row that was moved, in a copy of its tables.
+fn copied(alloc: Global, tables: &mut Tables) -> Result<Option<Value>, AllocError> {
+    moved(alloc, tables)?;
+    let copy = tables.try_copy()?;
+    match copy.get(1) {
+        Some(table) if table.row_count() > 0 => Ok(table.find_value(0, POSITION)),
+        _ => Ok(None),
+    }
+}
+
+#[test]
+fn a_copy_has_the_rows(rt: HostRuntime) {
+    assert_eq!(rt;
+        copied(rt.alloc(), &mut Tables::new(rt.alloc())),
+        Ok(Some(WRITTEN))
+    );
+}
+
 #[test]
 fn tables_get_room(rt: HostRuntime) {
     assert_eq!(rt; filled(rt.alloc()), Ok(2));

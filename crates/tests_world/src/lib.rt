@@ -10,4 +10,6 @@ mod queries;
 #[cfg(test)]
 mod rounds;
 #[cfg(test)]
+mod searching;
+#[cfg(test)]
 mod store;

@@ -5,6 +5,7 @@ ghost use Rattle.eco_tables.specs.Tables.{slot_of, table_in, Sets};
 ghost use Rattle.eco_store.specs.Archetypes.{RowlessIn};
 ghost use Rattle.eco_store.specs.Seats.{SameRows};
 ghost use Rattle.eco_store.specs.Transfers.{HasRoom, SameTypes};
+ghost use Rattle.eco_store.specs.Widths.{KeepsWidths};
 
 use crate::archetypes::Archetypes;
 use crate::transfer::Transfer;
@@ -18,6 +19,7 @@ impl Archetypes {
         ensures types { SameTypes self.old self.new }
         ensures rowless { (slots : List ℕ) → RowlessIn self.old slots → RowlessIn self.new slots }
         ensures rows { SameRows self.old self.new }
+        ensures widths { KeepsWidths self.old self.new }
     {
         for transfer in transfers {
             let rows = self.tables.row_count(transfer.from);
@@ -36,6 +38,7 @@ impl Archetypes {
         ensures types { SameTypes self.old self.new }
         ensures rowless { (slots : List ℕ) → RowlessIn self.old slots → RowlessIn self.new slots }
         ensures rows { SameRows self.old self.new }
+        ensures widths { KeepsWidths self.old self.new }
     {
         self.tables.reserve_more(slot, more)
     }
@@ -47,6 +50,7 @@ impl Archetypes {
         ensures types { SameTypes self.old self.new }
         ensures rowless { (slots : List ℕ) → RowlessIn self.old slots → RowlessIn self.new slots }
         ensures rows { SameRows self.old self.new }
+        ensures widths { KeepsWidths self.old self.new }
     {
         self.tables.waive(slot);
     }

@@ -1,116 +1,161 @@
-//! Tables are found by patterns.
-ghost use Rattle.std.specs.Prelude.{◌≡◌, ◌↔◌, ◌++◌, ◌∷◌, [], filter, IsTrue, IfOk, OnOk, OnErr};
-ghost use Rattle.std.specs.List.{list_any};
-ghost use Rattle.eco_ids.specs.Matching.{pattern_matches};
-ghost use Rattle.eco_tables.specs.Tables.{slot_of};
-ghost use Rattle.eco_store.specs.Archetypes.{is_next, is_next_in, matches_one, FindsSome, IsAllFound, type_at, type_matches};
-ghost use Rattle.eco_store.specs.Holders.{names_any};
+//! Tables are found by tests of their types.
+ghost use Rattle.std.specs.Prelude.{◌≡◌, ℕ, nat_eq, ◌+◌, ◌<◌, ◌↔◌, ◌++◌, filter, length, IsTrue, IfOk, OnOk, OnErr};
+ghost use Rattle.std.specs.List.{All, list_any, IsDistinct};
+ghost use Rattle.eco_store.specs.Archetypes.{is_found_in, FindsSome, IsAllFound, has_one_of, type_at, type_matches};
+ghost use Rattle.eco_store.specs.TypeTests.{IsPlace, earlier_in, group_at, passes_with, passes_without};
 
 use crate::archetypes::Archetypes;
-use eco_ids::{Entity, Part, Pattern};
+use crate::type_test::TypeTest;
+use eco_ids::Pattern;
 use std::alloc::AllocError;
 
 impl Archetypes {
-    /// The slots of the tables that have rows and a type with an id that the pattern matches, each once, in any order. Its
-    /// time grows with the tables whose types have such an id. An `Err` comes where memory is refused, and never where no
-    /// table is found.
-    pub fn tables_with(&self, pattern: Pattern) -> Result<Vec<usize>, AllocError>
-        ensures all { IfOk result (λ v. IsAllFound (list_any (pattern_matches pattern)) self.now v.items) }
-        ensures some { OnErr result (FindsSome (list_any (pattern_matches pattern)) self.now) }
+    /// The slots of the tables that have rows and a type that passes the test, each once, in any order. Its time grows with
+    /// the tables that the shortest group of the test's patterns finds. An `Err` comes where memory is refused, and never
+    /// where no table is found.
+    pub fn tables_by<T: TypeTest>(&self, test: &T) -> Result<Vec<usize>, AllocError>
+        ensures all { IfOk result (λ v. IsAllFound (T.test test.now) self.now v.items) }
+        ensures some { OnErr result (FindsSome (T.test test.now) self.now) }
     {
-        self.tables_with_any(&[pattern])
-    }
-
-    /// The slots of the tables that have rows and a type which names the entity, each once, in any order. Its time grows with
-    /// the tables whose types name it. An `Err` comes where memory is refused, and never where no table is found.
-    pub fn tables_naming(&self, entity: Entity) -> Result<Vec<usize>, AllocError>
-        ensures all { IfOk result (λ v. IsAllFound (λ ids. names_any ids entity) self.now v.items) }
-        ensures some { OnErr result (FindsSome (λ ids. names_any ids entity) self.now) }
-    {
-        self.tables_with_any(&[
-            Pattern::One(entity),
-            Pattern::Two(Part::Is(entity), Part::Any),
-            Pattern::Two(Part::Any, Part::Is(entity)),
-        ])
-    }
-
-    /// Whether some table has rows and a type with an id that the pattern matches. Its time grows with the tables without
-    /// rows alone.
-    pub fn is_held(&self, pattern: Pattern) -> bool
-        ensures { IsTrue result ↔ FindsSome (list_any (pattern_matches pattern)) self.now }
-    {
-        self.has_rows_among(self.by_id.slots(pattern))
-    }
-
-    // Whether the table in one of the slots has rows.
-    fn has_rows_among(&self, slots: &[usize]) -> bool
-        ensures { result ≡ list_any (is_next_in self.now []) slots.now }
-    {
-        slots.iter().any(|slot| self.is_next(*slot, &[]))
-    }
-
-    // The slots of the tables that have rows and a type with an id that one of the patterns matches, each once.
-    fn tables_with_any(&self, patterns: &[Pattern]) -> Result<Vec<usize>, AllocError>
-        ensures all { IfOk result (λ v. IsAllFound (matches_one patterns.now) self.now v.items) }
-        ensures some { OnErr result (FindsSome (matches_one patterns.now) self.now) }
-    {
+        let group = self.by_id.shortest_group(test);
         let mut found = Vec::new(self.alloc);
-        for place in 0..patterns.len() {
-            self.add_found(&mut found, &patterns[..place], patterns[place])?;
+        for place in 0..test.pattern_count(group) {
+            self.add_found(&mut found, test, group, place)?;
         }
         Ok(found)
     }
 
-    // Puts the tables that a pattern finds behind those that the earlier patterns found.
-    fn add_found(
+    // Puts the tables that the pattern at a place of the group finds behind those that the patterns before it found.
+    fn add_found<T: TypeTest>(
         &self,
         found: &mut Vec<usize>,
-        earlier: &[Pattern],
-        pattern: Pattern,
+        test: &T,
+        group: usize,
+        place: usize,
     ) -> Result<(), AllocError>
-        requires { IsAllFound (matches_one earlier.now) self.now found.old.items }
+        requires place { IsPlace (T.groups test.now) group place }
+        requires found { IsAllFound (passes_with (T.test test.now) (earlier_in (T.groups test.now) group place))
+            self.now found.old.items }
         ensures ok { OnOk result
-            (IsAllFound (matches_one (earlier.now ++ pattern ∷ [])) self.now found.new.items) }
-        ensures some { OnErr result (FindsSome (list_any (pattern_matches pattern)) self.now) }
+            (IsAllFound (passes_with (T.test test.now) (earlier_in (T.groups test.now) group (place + 1)))
+            self.now found.new.items) }
+        ensures some { OnErr result (FindsSome (T.test test.now) self.now) }
     {
-        self.add_next(found, earlier, self.by_id.slots(pattern))
+        let slots = self.listed(test.pattern(group, place));
+        self.add_new(found, slots, test, group, place)
     }
 
-    // Puts those of the slots behind the others whose tables have rows, and which no earlier pattern finds.
-    fn add_next(
+    // Puts those of the slots behind the others whose tables have rows and a type that passes, and which no pattern before
+    // the place has found.
+    fn add_new<T: TypeTest>(
         &self,
         found: &mut Vec<usize>,
-        earlier: &[Pattern],
         slots: &[usize],
+        test: &T,
+        group: usize,
+        place: usize,
     ) -> Result<(), AllocError>
-        ensures ok { OnOk result
-            (found.new.items ≡ found.old.items ++ filter (is_next_in self.now earlier.now) slots.now) }
-        ensures some { OnErr result (IsTrue (list_any (is_next_in self.now earlier.now) slots.now)) }
+        requires place { IsPlace (T.groups test.now) group place }
+        requires listed { All
+            (λ n. IsTrue (has_one_of (group_at (T.groups test.now) group) (type_at self.now n))) slots.now }
+        ensures ok { OnOk result (found.new.items ≡ found.old.items ++ filter
+            (is_found_in (passes_without (T.test test.now) (earlier_in (T.groups test.now) group place)) self.now)
+            slots.now) }
+        ensures some { OnErr result (FindsSome (T.test test.now) self.now) }
     {
         for slot in slots {
-            if self.is_next(*slot, earlier) {
+            if self.is_new(*slot, test, group, place) {
                 found.push(*slot)?;
             }
         }
         Ok(())
     }
 
-    // Whether the slot's table has rows, and no earlier pattern finds it.
-    fn is_next(&self, slot: usize, earlier: &[Pattern]) -> bool
-        ensures { result ≡ is_next earlier.now (slot_of self.now slot) }
+    // Whether the table in a slot that the group's patterns have found has rows and a type that passes, and no pattern before
+    // the place has found it.
+    #[tactic(auto, using(crate::proofs::Searching::new_is))]
+    fn is_new<T: TypeTest>(&self, slot: usize, test: &T, group: usize, place: usize) -> bool
+        requires place { IsPlace (T.groups test.now) group place }
+        requires listed { IsTrue (has_one_of (group_at (T.groups test.now) group) (type_at self.now slot)) }
+        ensures { result ≡ is_found_in
+            (passes_without (T.test test.now) (earlier_in (T.groups test.now) group place)) self.now slot }
+    {
+        !self.is_found_before(slot, test, group, place) && self.passes(slot, test, group)
+    }
+
+    // Whether the slot is listed under one of the group's patterns before the place.
+    fn is_found_before<T: TypeTest>(
+        &self,
+        slot: usize,
+        test: &T,
+        group: usize,
+        place: usize,
+    ) -> bool
+        requires { IsPlace (T.groups test.now) group place }
+        ensures { result ≡ has_one_of (earlier_in (T.groups test.now) group place) (type_at self.now slot) }
+    {
+        for before in 0..place {
+            if self.is_listed(test.pattern(group, before), slot) {
+                return true;
+            }
+        }
+        false
+    }
+
+    // Whether the table in a slot that the group's patterns have found has rows and a type that passes.
+    fn passes<T: TypeTest>(&self, slot: usize, test: &T, group: usize) -> bool
+        requires group { group < length (T.groups test.now) }
+        requires listed { IsTrue (has_one_of (group_at (T.groups test.now) group) (type_at self.now slot)) }
+        ensures { result ≡ is_found_in (T.test test.now) self.now slot }
     {
         match self.tables.get(slot) {
-            Some(table) if table.row_count() > 0 => !self.is_found_earlier(slot, earlier),
-            _ => false,
+            Some(table) => table.row_count() > 0 && test.passes_found(group, table.type_list()),
+            None => false,
         }
     }
 
-    // Whether one of the patterns finds the slot.
-    fn is_found_earlier(&self, slot: usize, earlier: &[Pattern]) -> bool
-        ensures { result ≡ list_any (type_matches (type_at self.now slot)) earlier.now }
+    /// Whether some table has rows and a type that passes the test. Its time grows with the tables that the shortest group
+    /// of the test's patterns finds, up to the first that has rows and passes.
+    pub fn finds<T: TypeTest>(&self, test: &T) -> bool
+        ensures { IsTrue result ↔ FindsSome (T.test test.now) self.now }
     {
-        earlier
-            .iter()
-            .any(|pattern| self.by_id.lists(*pattern, slot))
+        let group = self.by_id.shortest_group(test);
+        for place in 0..test.pattern_count(group) {
+            let slots = self.listed(test.pattern(group, place));
+            if self.has_passing(slots, test, group) {
+                return true;
+            }
+        }
+        false
+    }
+
+    // Whether the table in one of the slots has rows and a type that passes.
+    fn has_passing<T: TypeTest>(&self, slots: &[usize], test: &T, group: usize) -> bool
+        requires group { group < length (T.groups test.now) }
+        requires listed { All
+            (λ n. IsTrue (has_one_of (group_at (T.groups test.now) group) (type_at self.now n))) slots.now }
+        ensures { result ≡ list_any (is_found_in (T.test test.now) self.now) slots.now }
+    {
+        for slot in slots {
+            if self.passes(*slot, test, group) {
+                return true;
+            }
+        }
+        false
+    }
+
+    // The slots of the tables whose types have an id that the pattern matches, each once.
+    fn listed(&self, pattern: Pattern) -> &[usize]
+        ensures listed { (n : ℕ) → list_any (nat_eq n) result.now ≡ type_matches (type_at self.now n) pattern }
+        ensures distinct { IsDistinct nat_eq result.now }
+    {
+        self.by_id.slots(pattern)
+    }
+
+    // Whether the slot is one of them.
+    fn is_listed(&self, pattern: Pattern, slot: usize) -> bool
+        ensures { result ≡ type_matches (type_at self.now slot) pattern }
+    {
+        self.by_id.lists(pattern, slot)
     }
 }

@@ -5,13 +5,15 @@ ghost use Rattle.eco_tables.specs.Tables.{slot_of, table_in};
 ghost use Rattle.eco_store.specs.Archetypes.{type_at, RowlessBut};
 ghost use Rattle.eco_store.specs.Edges.{toggled};
 ghost use Rattle.eco_store.specs.Seats.{SameRows};
+ghost use Rattle.eco_store.specs.Widths.{StillCover};
 
 use crate::archetypes::Archetypes;
+use eco_entities::EntityIndex;
 use eco_ids::{Id, TypeList};
 use std::alloc::AllocError;
 
 // The type with the id, or without it where it has it.
-fn toggled(type_list: &TypeList, id: Id) -> Result<TypeList, AllocError>
+pub(super) fn toggled(type_list: &TypeList, id: Id) -> Result<TypeList, AllocError>
     ensures is { IfOk result (λ ids. ids ≡ toggled type_list.now id) }
     ensures ascending { IsTrue (is_ascending id_cmp type_list.now) }
 {
@@ -26,7 +28,7 @@ impl Archetypes {
     /// The slot of the table that an id leads to: its type has the id where that of the table in this slot lacks it, and
     /// lacks it where that has it. The table has room for one more row, and where there was none it is made. An `Err` comes
     /// where memory is refused, and then no table was made. No row changes.
-    pub fn step(&mut self, slot: usize, id: Id) -> Result<usize, AllocError>
+    pub fn step(&mut self, entities: &EntityIndex, slot: usize, id: Id) -> Result<usize, AllocError>
         requires { IsSome (slot_of self.old slot) }
         ensures typed { IfOk result
             (λ n. type_at self.new n ≡ Some (toggled (table_in self.old slot).ids id)) }
@@ -34,13 +36,14 @@ impl Archetypes {
         ensures room { IfOk result (λ n. 0 < (table_in self.new n).room) }
         ensures rowless { RowlessBut self.old self.new result }
         ensures rows { SameRows self.old self.new }
+        ensures widths { StillCover entities.now self.old self.new }
     {
         match self.lead(slot, id) {
             Some(to) => {
                 self.reserve_rows(to, 1)?;
                 Ok(to)
             }
-            None => self.step_anew(slot, id),
+            None => self.step_anew(entities, slot, id),
         }
     }
 
@@ -59,7 +62,12 @@ impl Archetypes {
     // may be the only one.
     #[cold]
     #[inline(never)]
-    fn step_anew(&mut self, slot: usize, id: Id) -> Result<usize, AllocError>
+    fn step_anew(
+        &mut self,
+        entities: &EntityIndex,
+        slot: usize,
+        id: Id,
+    ) -> Result<usize, AllocError>
         requires { IsSome (slot_of self.old slot) }
         ensures typed { IfOk result
             (λ n. type_at self.new n ≡ Some (toggled (table_in self.old slot).ids id)) }
@@ -67,10 +75,11 @@ impl Archetypes {
         ensures room { IfOk result (λ n. 0 < (table_in self.new n).room) }
         ensures rowless { RowlessBut self.old self.new result }
         ensures rows { SameRows self.old self.new }
+        ensures widths { StillCover entities.now self.old self.new }
     {
         let type_list = toggled(self.tables.get(slot).unwrap().type_list(), id)?;
         let Some(to) = self.find(&type_list) else {
-            let made = self.make_with_room(&type_list, 1)?;
+            let made = self.make_with_room(entities, &type_list, 1)?;
             return Ok(made);
         };
         self.link(slot, id, to);

@@ -1,40 +1,42 @@
-//! How many fields tables keep of values: all, so that each value fits and any two tables agree.
-ghost use Rattle.std.specs.Prelude.{◌≡◌, Some, None, IfOk, OnErr};
-ghost use Rattle.eco_tables.specs.Column.{Fits};
-ghost use Rattle.eco_tables.specs.Tables.{slot_of, Sets};
-ghost use Rattle.eco_store.specs.Archetypes.{full_widths, new_table};
+//! How many fields a new table keeps of values.
+ghost use Rattle.std.specs.Prelude.{◌≡◌, IfOk};
+ghost use Rattle.eco_entities.specs.Needs.{need};
+ghost use Rattle.eco_store.specs.Widths.{AreWidths, IsWidth};
 
-use eco_ids::value::FIELD_COUNT;
-use eco_ids::{INLINE_IDS, TypeList, Value};
-use eco_tables::Tables;
+use crate::archetypes::Archetypes;
+use eco_entities::EntityIndex;
+use eco_ids::{INLINE_IDS, Id};
 use smallvec::SmallVec;
-use std::alloc::{AllocError, Global};
+use std::alloc::AllocError;
 
-/// A table without rows of a type, in a slot that was empty. An `Err` comes where memory is refused, and changes nothing.
-pub fn insert_full(
-    tables: &mut Tables,
-    alloc: Global,
-    type_list: TypeList,
-) -> Result<usize, AllocError>
-    ensures vacant { IfOk result (λ n. slot_of tables.old n ≡ None) }
-    ensures sets { IfOk result (λ n. Sets tables.old tables.new n (Some (new_table type_list))) }
-    ensures err { OnErr result (tables.new ≡ tables.old) }
-{
-    let widths = full_widths(alloc, &type_list)?;
-    tables.insert(type_list, widths.as_slice())
-}
+impl Archetypes {
+    /// How many fields a new table may keep of the values of each of these ids. They take memory only for more than
+    /// [`INLINE_IDS`] ids. An `Err` comes where memory is refused.
+    pub fn widths_of(
+        &self,
+        entities: &EntityIndex,
+        ids: &[Id],
+    ) -> Result<SmallVec<u8, INLINE_IDS>, AllocError>
+        ensures { IfOk result (λ widths. AreWidths (need entities.now) self.now ids.now widths.items) }
+    {
+        let mut widths = SmallVec::new(self.alloc);
+        for id in ids {
+            widths.push(self.width_of(entities, *id))?;
+        }
+        Ok(widths)
+    }
 
-// The widths of the ids of a type. They take memory only for more than [`INLINE_IDS`] ids.
-fn full_widths(alloc: Global, type_list: &TypeList) -> Result<SmallVec<u8, INLINE_IDS>, AllocError>
-    ensures { IfOk result (λ widths. widths.items ≡ full_widths type_list.now) }
-{
-    SmallVec::from_elem(alloc, FIELD_COUNT as u8, type_list.as_slice().len())
-}
-
-/// Does nothing, and its contract says that all fields of a value hold it.
-#[tactic(auto, using(crate::proofs::Widths::fits_all))]
-pub fn all_fields(value: Value)
-    ensures { Fits FIELD_COUNT value }
-{
-    let _fields = value.0.len();
+    /// As many fields as the tables keep that have the id; where none has it, as many as it may need.
+    pub fn width_of(&self, entities: &EntityIndex, id: Id) -> u8
+        ensures { IsWidth (need entities.now) self.now id result }
+    {
+        match self.by_id.any(id) {
+            Some(slot) => {
+                let table = self.tables.get(slot).unwrap();
+                table.ids_have_widths();
+                table.width(id).unwrap()
+            }
+            None => entities.need(id),
+        }
+    }
 }

@@ -1,6 +1,6 @@
 //! What the tables of a store are found by.
 ghost use Rattle.std.specs.Prelude.{◌≡◌};
-ghost use Rattle.eco_store.specs.IdIndex.{key_of};
+ghost use Rattle.eco_store.specs.IdIndex.{key_of, pattern_of};
 
 use eco_ids::{Entity, Part, Pattern};
 
@@ -35,6 +35,22 @@ impl Key {
             ),
             Pattern::Two(Part::Each | Part::Any, Part::Is(target)) => Key::Target(target),
             Pattern::Two(Part::Each | Part::Any, Part::Each | Part::Any) => Key::AnyPair,
+        }
+    }
+
+    /// A pattern that matches the ids.
+    pub fn pattern(self) -> Pattern
+        ensures { result ≡ pattern_of self }
+    {
+        match self {
+            Key::Single(entity) => Pattern::One(entity),
+            Key::Pair(relationship, target) => Pattern::Two(
+                Part::Is(relationship),
+                Part::Is(target),
+            ),
+            Key::Relationship(relationship) => Pattern::Two(Part::Is(relationship), Part::Any),
+            Key::Target(target) => Pattern::Two(Part::Any, Part::Is(target)),
+            Key::AnyPair => Pattern::Two(Part::Any, Part::Any),
         }
     }
 }

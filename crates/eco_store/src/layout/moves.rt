@@ -5,10 +5,11 @@ ghost use Rattle.eco_tables.specs.Tables.{table_in, row_in, Moves};
 ghost use Rattle.eco_store.specs.Layout.{rows_in, IsMoved, MovesRow};
 ghost use Rattle.eco_store.specs.Preparing.{is_next, moves_left};
 ghost use Rattle.eco_store.specs.Seats.{SameRows};
+ghost use Rattle.eco_store.specs.Widths.{KeepsWidths, StillCover};
 
 use crate::archetypes::Archetypes;
 use crate::layout::Layout;
-use eco_entities::Place;
+use eco_entities::{EntityIndex, Place};
 use eco_ids::{Entity, TypeList};
 use std::alloc::AllocError;
 
@@ -27,6 +28,7 @@ pub(crate) fn shift(archetypes: &mut Archetypes, place: Place, to: usize) -> Mov
     ensures moves { Moves archetypes.old archetypes.new place.table place.row to }
     ensures row { MovesRow (rows_in archetypes.old) (rows_in archetypes.new)
         place result.place (table_in archetypes.old to).ids result.filler }
+    ensures widths { KeepsWidths archetypes.old archetypes.new }
 {
     let row = archetypes.tables().row_count(to);
     let filler = archetypes.move_row(place.table, place.row, to);
@@ -43,6 +45,7 @@ impl Layout {
     /// and then no row has changed.
     pub fn move_row(
         &mut self,
+        entities: &EntityIndex,
         entity: Entity,
         place: Place,
         type_list: &TypeList,
@@ -54,12 +57,13 @@ impl Layout {
         ensures left { self.new.moves ≡ moves_left self.old.moves entity type_list.now }
         ensures ready { IsTrue (is_next self.old.moves entity type_list.now) → IsOk result }
         ensures own { HasIds type_list.now (row_in self.old.tables place.table place.row) → IsOk result }
+        ensures widths { StillCover entities.now self.old.tables self.new.tables }
     {
         if self.is_next(entity, type_list) {
             return Ok(self.move_next(entity, place, type_list));
         }
         self.forget();
-        self.move_at_once(place, type_list)
+        self.move_at_once(entities, place, type_list)
     }
 
     // Makes the first of the moves to come, which brings the entity to this type. It takes no memory.
@@ -69,6 +73,7 @@ impl Layout {
         ensures moved { IsMoved (rows_in self.old.tables) (rows_in self.new.tables)
             place type_list.now result }
         ensures left { self.new.moves ≡ moves_left self.old.moves entity type_list.now }
+        ensures widths { KeepsWidths self.old.tables self.new.tables }
     {
         self.archetypes.tables().rows_have_ids();
         let (_, to) = self.prepared.take_next().unwrap();
@@ -86,6 +91,7 @@ impl Layout {
     // Gives a row another type where no move is to come. An `Err` changes no row.
     fn move_at_once(
         &mut self,
+        entities: &EntityIndex,
         place: Place,
         type_list: &TypeList,
     ) -> Result<Option<Moved>, AllocError>
@@ -96,6 +102,7 @@ impl Layout {
         ensures err { OnErr result (SameRows self.old.tables self.new.tables) }
         ensures unprepared { self.new.moves ≡ [] }
         ensures own { HasIds type_list.now (row_in self.old.tables place.table place.row) → IsOk result }
+        ensures widths { StillCover entities.now self.old.tables self.new.tables }
     {
         let tables = self.archetypes.tables();
         tables.rows_have_ids();
@@ -103,9 +110,9 @@ impl Layout {
         if table.type_list().as_slice() == type_list.as_slice() {
             return Ok(None);
         }
-        let to = self.archetypes.room_for(type_list, 1)?;
+        let to = self.archetypes.room_for(entities, type_list, 1)?;
         let moved = shift(&mut self.archetypes, place, to);
-        self.archetypes.drop_empty(place.table);
+        self.prepared.release(&mut self.archetypes, place.table);
         Ok(Some(moved))
     }
 }

@@ -2,6 +2,8 @@
 ghost use Rattle.std.specs.Prelude.{◌≡◌, [], OnOk, OnErr};
 ghost use Rattle.eco_store.specs.Retyping.{after_changes, IsOneWay};
 ghost use Rattle.eco_store.specs.Store.{IsStore, read};
+ghost use Rattle.eco_entities.specs.Needs.{need};
+ghost use Rattle.eco_store.specs.Widths.{Covers};
 
 use crate::layout::Layout;
 use crate::transfer::move_all;
@@ -21,6 +23,7 @@ impl Layout {
         requires store { IsStore entities.old self.old.tables }
         requires one_way { IsOneWay changes.now }
         ensures store { IsStore entities.new self.new.tables }
+        ensures covers { Covers (need entities.old) self.old.tables → Covers (need entities.new) self.new.tables }
         ensures ok { OnOk result
             (read entities.new self.new.tables
             ≡ after_changes (read entities.old self.old.tables) changes.now) }
@@ -28,7 +31,9 @@ impl Layout {
         ensures unprepared { self.new.moves ≡ [] }
     {
         self.forget();
-        let planned = self.prepared.plan_changes(&mut self.archetypes, changes);
+        let planned = self
+            .prepared
+            .plan_changes(entities, &mut self.archetypes, changes);
         if let Ok(transfers) = &planned {
             move_all(entities, &mut self.archetypes, transfers);
         }

@@ -3,15 +3,17 @@ ghost use Rattle.std.specs.Prelude.{◌≡◌, ◌∷◌, ℕ, Some, nat_eq, not
 ghost use Rattle.std.specs.List.{list_any};
 ghost use Rattle.eco_store.specs.Archetypes.{type_at, KeepsTypes, RowlessIn};
 ghost use Rattle.eco_store.specs.Layout.{IsLaid};
-ghost use Rattle.eco_store.specs.Preparing.{nothing_prepared, moves_of, has_move, IsReady};
+ghost use Rattle.eco_store.specs.Preparing.{nothing_prepared, staying, moves_of, has_move, IsReady};
 ghost use Rattle.eco_store.specs.Seats.{SameRows};
 ghost use Rattle.eco_store.specs.Transfers.{AreNamed, IsPlan, HasRoom};
+ghost use Rattle.eco_store.specs.Widths.{KeepsWidths, StillCover};
 
 use crate::archetypes::Archetypes;
 use crate::moving::Move;
 use crate::prepared::Prepared;
 use crate::transfer::Transfer;
 use crate::type_change::TypeChange;
+use eco_entities::EntityIndex;
 use eco_ids::TypeList;
 use std::alloc::AllocError;
 
@@ -22,10 +24,11 @@ impl Prepared {
     #[cold]
     #[inline(never)]
     pub fn forget(&mut self, archetypes: &mut Archetypes)
-        requires { RowlessIn archetypes.old self.old.targets }
+        requires { RowlessIn archetypes.old (staying self.old) }
         ensures laid { IsLaid archetypes.new self.new }
-        ensures nothing { self.new ≡ nothing_prepared }
+        ensures nothing { self.new ≡ nothing_prepared self.old.idle }
         ensures rows { SameRows archetypes.old archetypes.new }
+        ensures widths { KeepsWidths archetypes.old archetypes.new }
     {
         archetypes.drop_each(self.targets());
         self.clear();
@@ -34,41 +37,73 @@ impl Prepared {
     /// Where no move is left, the tables that stayed for moves go, if they have no rows. It takes no memory.
     pub fn finish(&mut self, archetypes: &mut Archetypes)
         requires ready { IsReady archetypes.old self.old }
-        requires tidy { RowlessIn archetypes.old self.old.targets }
+        requires tidy { RowlessIn archetypes.old (staying self.old) }
         ensures laid { IsLaid archetypes.new self.new }
         ensures left { moves_of archetypes.new self.new ≡ moves_of archetypes.old self.old }
         ensures rows { SameRows archetypes.old archetypes.new }
+        ensures widths { KeepsWidths archetypes.old archetypes.new }
     {
         if self.is_done() {
             self.forget(archetypes);
         }
     }
 
-    /// Drops the table in a slot if it has no rows and does not stay for moves to come. It takes no memory.
-    pub fn release(&self, archetypes: &mut Archetypes, slot: usize)
-        requires ready { IsReady archetypes.old self.now }
-        requires tidy { RowlessIn archetypes.old (slot ∷ self.now.targets) }
-        ensures ready { IsReady archetypes.new self.now }
-        ensures tidy { RowlessIn archetypes.new self.now.targets }
-        ensures left { moves_of archetypes.new self.now ≡ moves_of archetypes.old self.now }
+    /// A row left the table in this slot. If it was the last one, the table stays as the idle one, and the idle one before it
+    /// is dropped if it has no rows; where moves go to either, that one stays in any case. It takes no memory.
+    #[inline]
+    pub fn release(&mut self, archetypes: &mut Archetypes, slot: usize)
+        requires ready { IsReady archetypes.old self.old }
+        requires tidy { RowlessIn archetypes.old (slot ∷ staying self.old) }
+        ensures ready { IsReady archetypes.new self.new }
+        ensures tidy { RowlessIn archetypes.new (staying self.new) }
+        ensures same { self.new ≡ record self.old { idle = self.new.idle } }
+        ensures left { moves_of archetypes.new self.new ≡ moves_of archetypes.old self.old }
         ensures rows { SameRows archetypes.old archetypes.new }
+        ensures widths { KeepsWidths archetypes.old archetypes.new }
     {
-        if !self.is_target(slot) {
-            archetypes.drop_empty(slot);
+        if archetypes.tables().is_rowless(slot) && slot != self.idle() {
+            self.rest(archetypes, slot);
+        }
+    }
+
+    // The table in this slot is the idle one from then on, and the one before it goes. Apart, as a row mostly leaves others
+    // behind, or comes back to where it was.
+    #[cold]
+    #[inline(never)]
+    fn rest(&mut self, archetypes: &mut Archetypes, slot: usize)
+        requires ready { IsReady archetypes.old self.old }
+        requires tidy { RowlessIn archetypes.old (slot ∷ staying self.old) }
+        ensures ready { IsReady archetypes.new self.new }
+        ensures tidy { RowlessIn archetypes.new (staying self.new) }
+        ensures same { self.new ≡ record self.old { idle = slot } }
+        ensures left { moves_of archetypes.new self.new ≡ moves_of archetypes.old self.old }
+        ensures rows { SameRows archetypes.old archetypes.new }
+        ensures widths { KeepsWidths archetypes.old archetypes.new }
+    {
+        let before = self.idle();
+        self.set_idle(slot);
+        if !self.is_target(before) {
+            archetypes.drop_empty(before);
         }
     }
 
     /// One more move, before all others. An `Err` comes where memory is refused, and may leave a target without a move.
-    pub fn plan_move(&mut self, archetypes: &mut Archetypes, next: &Move) -> Result<(), AllocError>
+    pub fn plan_move(
+        &mut self,
+        entities: &EntityIndex,
+        archetypes: &mut Archetypes,
+        next: &Move,
+    ) -> Result<(), AllocError>
         requires ready { IsReady archetypes.old self.old }
         requires absent { IsTrue (not (has_move (moves_of archetypes.old self.old) next.now.entity)) }
-        requires tidy { RowlessIn archetypes.old self.old.targets }
+        requires tidy { RowlessIn archetypes.old (staying self.old) }
         ensures ready { OnOk result (IsReady archetypes.new self.new) }
-        ensures tidy { RowlessIn archetypes.new self.new.targets }
+        ensures tidy { RowlessIn archetypes.new (staying self.new) }
         ensures ok { OnOk result (moves_of archetypes.new self.new ≡ next.now ∷ moves_of archetypes.old self.old) }
         ensures rows { SameRows archetypes.old archetypes.new }
+        ensures widths { StillCover entities.now archetypes.old archetypes.new }
     {
-        let slot = self.target(archetypes, &next.type_list)?;
+        let slot = self.target(entities, archetypes, &next.type_list)?;
         archetypes.reserve_more(slot, 1)?;
         let entity = next.entity;
         self.add(entity, slot)
@@ -78,18 +113,20 @@ impl Prepared {
     /// those that other changes bring there. An `Err` comes where memory is refused. No row changes.
     pub fn plan_changes(
         &mut self,
+        entities: &EntityIndex,
         archetypes: &mut Archetypes,
         changes: &[TypeChange],
     ) -> Result<Vec<Transfer>, AllocError>
-        requires nothing { self.old ≡ nothing_prepared }
-        requires tidy { RowlessIn archetypes.old self.old.targets }
+        requires nothing { self.old ≡ nothing_prepared self.old.idle }
+        requires tidy { RowlessIn archetypes.old (staying self.old) }
         ensures plan { IfOk result (λ transfers. IsPlan archetypes.new transfers.items changes.now) }
         ensures room { IfOk result (λ transfers. HasRoom archetypes.new transfers.items) }
-        ensures named { IfOk result (λ transfers. AreNamed self.new.targets transfers.items) }
-        ensures tidy { RowlessIn archetypes.new self.new.targets }
+        ensures named { IfOk result (λ transfers. AreNamed (staying self.new) transfers.items) }
+        ensures tidy { RowlessIn archetypes.new (staying self.new) }
         ensures rows { SameRows archetypes.old archetypes.new }
+        ensures widths { StillCover entities.now archetypes.old archetypes.new }
     {
-        let transfers = self.find_tables(archetypes, changes)?;
+        let transfers = self.find_tables(entities, archetypes, changes)?;
         archetypes.take_room(&transfers)?;
         Ok(transfers)
     }
@@ -97,20 +134,22 @@ impl Prepared {
     // The transfers of the changes, whose tables are targets.
     fn find_tables(
         &mut self,
+        entities: &EntityIndex,
         archetypes: &mut Archetypes,
         changes: &[TypeChange],
     ) -> Result<Vec<Transfer>, AllocError>
         requires ready { IsReady archetypes.old self.old }
-        requires tidy { RowlessIn archetypes.old self.old.targets }
+        requires tidy { RowlessIn archetypes.old (staying self.old) }
         ensures plan { IfOk result (λ transfers. IsPlan archetypes.new transfers.items changes.now) }
         ensures named { IfOk result (λ transfers. AreNamed self.new.targets transfers.items) }
-        ensures tidy { RowlessIn archetypes.new self.new.targets }
+        ensures tidy { RowlessIn archetypes.new (staying self.new) }
         ensures rows { SameRows archetypes.old archetypes.new }
+        ensures widths { StillCover entities.now archetypes.old archetypes.new }
     {
         let mut transfers = Vec::new(self.alloc);
         for change in changes {
-            let from = self.target(archetypes, &change.from)?;
-            let to = self.target(archetypes, &change.to)?;
+            let from = self.target(entities, archetypes, &change.from)?;
+            let to = self.target(entities, archetypes, &change.to)?;
             transfers.push(Transfer { from, to })?;
         }
         Ok(transfers)
@@ -120,13 +159,14 @@ impl Prepared {
     // moves to come.
     fn target(
         &mut self,
+        entities: &EntityIndex,
         archetypes: &mut Archetypes,
         type_list: &TypeList,
     ) -> Result<usize, AllocError>
         requires ready { IsReady archetypes.old self.old }
-        requires tidy { RowlessIn archetypes.old self.old.targets }
+        requires tidy { RowlessIn archetypes.old (staying self.old) }
         ensures ready { OnOk result (IsReady archetypes.new self.new) }
-        ensures tidy { RowlessIn archetypes.new self.new.targets }
+        ensures tidy { RowlessIn archetypes.new (staying self.new) }
         ensures typed { IfOk result (λ n. type_at archetypes.new n ≡ Some type_list.now) }
         ensures stays { IfOk result (λ n. IsTrue (list_any (nat_eq n) self.new.targets)) }
         ensures kept { OnOk result (KeepsTypes archetypes.old archetypes.new) }
@@ -134,8 +174,9 @@ impl Prepared {
         ensures arrivals { self.new.arrivals ≡ self.old.arrivals }
         ensures moves { OnOk result (moves_of archetypes.new self.new ≡ moves_of archetypes.old self.old) }
         ensures rows { SameRows archetypes.old archetypes.new }
+        ensures widths { StillCover entities.now archetypes.old archetypes.new }
     {
-        let slot = archetypes.room_for(type_list, 0)?;
+        let slot = archetypes.room_for(entities, type_list, 0)?;
         match self.add_target(slot) {
             Ok(true) => archetypes.waive(slot),
             Ok(false) => {}

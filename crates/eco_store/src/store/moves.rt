@@ -7,6 +7,7 @@ ghost use Rattle.eco_store.specs.Store.{type_of, with_type};
 use crate::moving::Move;
 use crate::placing::fix_place;
 use crate::store::Store;
+use eco_entities::laws::needs_never_grow;
 use eco_ids::{Entity, TypeList};
 use std::alloc::AllocError;
 
@@ -21,7 +22,7 @@ impl Store {
         ensures err { OnErr result (self.new.prepared ≡ []) }
         ensures nothing { moves.now ≡ [] → IsOk result }
     {
-        self.layout.prepare(moves)
+        self.layout.prepare(&self.entities, moves)
     }
 
     /// Gives an entity another type: values of ids that both have stay, new ids hold zeros. It takes no memory and succeeds
@@ -37,10 +38,11 @@ impl Store {
     {
         // A place's row fits, as a table has no more rows than there are indices.
         self.entities.rules();
+        needs_never_grow();
         // Under its own type an entity holds what it held, since the ids of its row ascend.
         let _ids = type_list.as_slice();
         let place = self.entities.place_of(e).unwrap();
-        match self.layout.move_row(e, place, type_list)? {
+        match self.layout.move_row(&self.entities, e, place, type_list)? {
             Some(moved) => {
                 fix_place(&mut self.entities, moved.filler, place);
                 self.entities.set_place(e, moved.place);
@@ -58,6 +60,7 @@ impl Store {
         ensures left { self.new.prepared ≡ moves_beside self.old.prepared e }
     {
         self.entities.rules();
+        needs_never_grow();
         let place = self.entities.place_of(e).unwrap();
         let moved = self.layout.take_row(e, place);
         fix_place(&mut self.entities, moved, place);

@@ -5,6 +5,7 @@ ghost use Rattle.eco_store.specs.Store.{with_toggled};
 
 use crate::placing::fix_place;
 use crate::store::Store;
+use eco_entities::laws::needs_never_grow;
 use eco_ids::{Entity, Id};
 use std::alloc::AllocError;
 
@@ -19,10 +20,15 @@ impl Store {
     {
         // A place's row fits, as a table has no more rows than there are indices.
         self.entities.rules();
+        needs_never_grow();
         let place = self.entities.place_of(e).unwrap();
-        let moved = self.layout.step_row(place, id)?;
-        fix_place(&mut self.entities, moved.filler, place);
-        self.entities.set_place(e, moved.place);
+        match self.layout.step_row(&self.entities, place, id)? {
+            Some(moved) => {
+                fix_place(&mut self.entities, moved.filler, place);
+                self.entities.set_place(e, moved.place);
+            }
+            None => {}
+        }
         Ok(())
     }
 }

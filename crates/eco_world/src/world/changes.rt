@@ -5,7 +5,7 @@ ghost use Rattle.eco_ids.specs.declared.id.Id.TheVariants.{Two};
 ghost use Rattle.eco_ids.specs.declared.value.TheConstants.{LARGEST_ARITY};
 ghost use Rattle.eco_ids.specs.Births.{Creates, may_create, MakesComponent, may_make_component};
 ghost use Rattle.eco_ids.specs.Builtin.{is_builtin};
-ghost use Rattle.eco_ids.specs.Data.{is_zero_past};
+ghost use Rattle.eco_ids.specs.Data.{fits, is_zero_past};
 ghost use Rattle.eco_ids.specs.Lawful.{IsLawful};
 ghost use Rattle.eco_ids.specs.Losses.{nobody, without};
 ghost use Rattle.eco_ids.specs.Order.{entity_eq, id_eq};
@@ -247,6 +247,7 @@ impl World {
     // the id, so that a set looks for it once.
     fn write(&mut self, entity: Entity, id: Id, value: Value) -> bool
         requires alive { is_alive self.old entity ≡ true }
+        requires fits { IsTrue (fits self.old id value) }
         requires lawful { has self.old entity id ≡ true
             → IsLawful (changed self.old entity (with_value id value)) }
         ensures had { result ≡ has self.old entity id }

@@ -1,7 +1,8 @@
 //! The tables that a world lists.
-ghost use Rattle.std.specs.Prelude.{◌≡◌, All, IfOk, map};
+ghost use Rattle.std.specs.Prelude.{◌≡◌, ◌<◌, All, IfOk, IsTrue, length, map, OnErr};
 ghost use Rattle.std.specs.List.Sorted.{IsPermutation};
 ghost use Rattle.eco_ids.specs.Layout.{IsLayout};
+ghost use Rattle.eco_world.specs.Queries.{is_matched};
 ghost use Rattle.eco_world.specs.Layouts.{HasTable, IsByType, listed, ListsWith, shown_at};
 
 use crate::table_rows::TableRows;
@@ -33,9 +34,10 @@ impl World {
     /// The tables whose type has an id that the pattern matches, as [`tables`](World::tables) lists them (Flecs manual,
     /// Queries, wildcards). Where the pattern names an entity, only tables whose type names that entity are looked at.
     ///
-    /// An `Err` comes where a growth of the list was refused.
+    /// An `Err` comes where a growth of the list was refused, and never where nobody has such an id.
     pub fn tables_with(&self, pattern: Pattern) -> Result<Vec<TableRows<'_>>, AllocError>
-        ensures { IfOk result (λ tables. ListsWith self.now pattern (listed tables.items)) }
+        ensures all { IfOk result (λ tables. ListsWith self.now pattern (listed tables.items)) }
+        ensures some { OnErr result (IsTrue (is_matched self.now pattern)) }
     {
         let found = self.store.tables_with(pattern)?;
         let mut tables = tables_in(self.alloc, found.tables, &found.slots)?;
@@ -51,7 +53,8 @@ fn tables_in<'a>(
     slots: &[usize],
 ) -> Result<Vec<TableRows<'a>>, AllocError>
     requires { All (HasTable tables.now) slots.now }
-    ensures { IfOk result (λ found. listed found.items ≡ map (shown_at tables.now) slots.now) }
+    ensures all { IfOk result (λ found. listed found.items ≡ map (shown_at tables.now) slots.now) }
+    ensures some { OnErr result (0 < length slots.now) }
 {
     let mut found = Vec::new(alloc);
     for slot in slots {

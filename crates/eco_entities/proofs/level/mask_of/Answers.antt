@@ -1,12 +1,11 @@
+use Rattle.std.proofs.lemmas.Grind.{common_steps}
 use Rattle.std.proofs.Common.{◌≤◌, arith}
 use Rattle.eco_entities.specs.Words.{range_mask}
 use Rattle.eco_entities.proofs.Bits.{mask_order, mask_is}
 use Rattle.eco_entities.proofs.level.mask_of.Goals as goal
 
 pub overflow_sub-result : goal.overflow_sub-result
-overflow_sub-result c =
-    let order : c.min-low.result ≤ c.min-high.result = omega arith in
-    omega (arith, mask_order _ _ order)
+overflow_sub-result c = grind (arith, common_steps, mask_order)
 
 pub returns : goal.returns
 unfolding range_mask

@@ -1,4 +1,4 @@
-use Rattle.std.proofs.Common.{◌≡◌, ◌≤◌, ◌^◌, arith}
+use Rattle.eco_ids.proofs.Common.{◌≡◌, ◌^◌, ◌≤◌, arith}
 use Rattle.eco_ids.specs.Fingerprint.{id_share}
 use Rattle.eco_ids.proofs.Fingerprints.{left_sum}
 use Rattle.eco_ids.proofs.fingerprint.left_by.Goals as goal

@@ -1,4 +1,4 @@
-use Rattle.std.proofs.Common.{Bool, true, false, not, ◌&&◌, refl, sym, ap, true≢false, IsTrue, IsFalse}
+use Rattle.eco_ids.proofs.Common.{Bool, true, false, not, ◌&&◌, IsTrue, IsFalse, sym, refl, ap, true≢false}
 use Rattle.eco_ids.proofs.laws.commands_want_no_more.Goals as goal
 
 -- what is refused wants none, and neither does what need not

@@ -1,5 +1,4 @@
-use Rattle.std.proofs.Common.{None}
-use Rattle.eco_ids.specs.Births.{bare, component_record}
+use Rattle.eco_ids.proofs.Common.{None, bare, component_record}
 use Rattle.eco_ids.proofs.Ends.{adds_settled, admits_settled, clears_settled, deletes_one_settled, deletes_with_settled, makes_settled, removes_all_settled}
 use Rattle.eco_ids.proofs.Ends.{removes_settled, renames_settled, makes_alive_settled, sets_settled}
 use Rattle.eco_ids.proofs.laws.refused_steps_change_nothing.Goals as goal

@@ -1,9 +1,6 @@
-use Rattle.std.proofs.Common.{◌&&◌}
-use Rattle.eco_ids.specs.Births.{bare, component_record}
-use Rattle.eco_ids.specs.Order.{entity_eq, id_eq}
-use Rattle.eco_ids.specs.Step.{unfit_actor}
-use Rattle.eco_ids.proofs.StepsEnd.{adds_end, admits_end, deletes_one_end, deletes_with_end, loses_end, makes_end, removes_all_end, renames_end, makes_alive_end}
-use Rattle.eco_ids.proofs.StepsEnd.{sets_end}
+use Rattle.eco_ids.proofs.Common.{◌&&◌, bare, component_record, id_eq, entity_eq, unfit_actor}
+use Rattle.eco_ids.proofs.StepsEnd.{adds_end, admits_end, deletes_one_end, deletes_with_end, loses_end, makes_end, removes_all_end, renames_end}
+use Rattle.eco_ids.proofs.StepsEnd.{makes_alive_end, sets_end}
 use Rattle.eco_ids.proofs.laws.steps_have_an_end.Goals as goal
 
 pub returns : goal.returns

@@ -1,5 +1,4 @@
-use Rattle.std.proofs.Common.{◌≡◌, inr, rules, sym, ap, ◌∙◌, [], Ok, Err}
-use Rattle.std.proofs.lemmas.List.{map-append}
+use Rattle.eco_ids.proofs.Common.{◌≡◌, [], Ok, Err, sym, ap, ◌∙◌, inr, rules, map-append}
 use Rattle.eco_query.specs.Reader.Points.{atom_view}
 use Rattle.eco_query.specs.Readings.{slots_of}
 use Rattle.eco_query.specs.Reader.Marks.{slots_from}
@@ -7,7 +6,8 @@ use Rattle.eco_query.specs.declared.point.Mark.TheVariants.{Other, Slot}
 use Rattle.eco_query.specs.Reader.LastTerms.{last_of}
 use Rattle.eco_query.proofs.Stored.{some_of, some_of-more}
 use Rattle.eco_query.proofs.Built.{standing_at, other_known, other_unknown, last_known, last_unknown, standing_left, not_same, not_begin}
-use Rattle.eco_query.proofs.build.build_query.Goals.{in-Same, in-Begin, in-Other+in_ok-id-in-Other+in_ok-push-in-Other, in-Slot+in_ok-last-in-Slot+in_ok-term-in-Slot+in_ok-push-in-Slot}
+use Rattle.eco_query.proofs.build.build_query.Goals.{in-Same, in-Begin, in-Other+in_ok-id-in-Other+in_ok-push-in-Other}
+use Rattle.eco_query.proofs.build.build_query.Goals.{in-Slot+in_ok-last-in-Slot+in_ok-term-in-Slot+in_ok-push-in-Slot}
 use Rattle.eco_query.proofs.build.build_query.Goals as goal
 
 pub returns-in_err-id-in-Other : goal.returns-in_err-id-in-Other

@@ -1,4 +1,4 @@
-use Rattle.std.proofs.Common.{◌≡◌, List, drop, map}
+use Rattle.eco_ids.proofs.Common.{◌≡◌, List, map, drop}
 use Rattle.eco_query.specs.Grammar.{WrittenAtom}
 use Rattle.eco_query.specs.Queries.{slot_view}
 use Rattle.eco_query.proofs.Built.{Standing}

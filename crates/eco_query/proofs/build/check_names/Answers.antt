@@ -1,4 +1,4 @@
-use Rattle.std.proofs.Common.{◌≡◌, rules, refl, sym, ap, ◌∙◌, [], Err}
+use Rattle.eco_ids.proofs.Common.{◌≡◌, [], Err, sym, refl, ap, ◌∙◌, rules}
 use Rattle.eco_query.specs.Reader.Points.{atom_view}
 use Rattle.eco_query.specs.Readings.{slots_of}
 use Rattle.eco_query.specs.Reader.Marks.{slots_from}

@@ -1,4 +1,4 @@
-use Rattle.std.proofs.Common.{◌≡◌, List, drop}
+use Rattle.eco_ids.proofs.Common.{◌≡◌, List, drop}
 use Rattle.eco_ids.specs.declared.id.Id.{Id}
 use Rattle.eco_query.specs.Grammar.{WrittenAtom}
 use Rattle.eco_query.specs.Queries.{QuerySlot}

@@ -1,5 +1,4 @@
-use Rattle.std.proofs.Common.{◌≡◌, drop}
-use Rattle.std.specs.List.{list_any}
+use Rattle.eco_ids.proofs.Common.{◌≡◌, drop, list_any}
 use Rattle.eco_query.specs.Reader.Marks.{asks}
 use Rattle.eco_query.proofs.build.has_positive.Given as goal
 

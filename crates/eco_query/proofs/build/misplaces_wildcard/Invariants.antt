@@ -1,4 +1,4 @@
-use Rattle.std.proofs.Common.{◌≡◌, drop, false}
+use Rattle.eco_ids.proofs.Common.{◌≡◌, false, drop}
 use Rattle.eco_query.proofs.Built.{misplaced}
 use Rattle.eco_query.proofs.build.misplaces_wildcard.Given as goal
 

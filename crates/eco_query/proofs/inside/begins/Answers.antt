@@ -1,4 +1,4 @@
-use Rattle.std.proofs.Common.{◌∙◌}
+use Rattle.eco_ids.proofs.Common.{◌∙◌}
 use Rattle.eco_query.proofs.Fronts.{starts_prefix}
 use Rattle.eco_query.proofs.inside.begins.Goals as goal
 

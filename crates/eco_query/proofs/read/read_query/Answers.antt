@@ -1,4 +1,4 @@
-use Rattle.std.proofs.Common.{inl, inr, refl}
+use Rattle.eco_ids.proofs.Common.{refl, inl, inr, arith, common_steps}
 use Rattle.eco_query.specs.Reader.Machine.{Stops, query_start}
 use Rattle.eco_query.proofs.Spelled.{query_fault}
 use Rattle.eco_query.proofs.Queried.{held_proper}
@@ -10,11 +10,7 @@ returns-in-Err g c =
     inl (inr (c.in-Err.at, query_fault c.args.text.now c.in-Err.at stops, refl))
 
 pub check_names-requires-clause-proper : goal.check_names-requires-clause-proper
-check_names-requires-clause-proper g c =
-    let (slots, spells, holds) = c.in-Ok.ensures.found in
-    held_proper _ slots c.in-Some.marks.now spells (rw c.in-Some.ensures at holds)
+check_names-requires-clause-proper g c = grind (arith, common_steps, held_proper)
 
 pub build_query-requires-clause-proper : goal.build_query-requires-clause-proper
-build_query-requires-clause-proper g c =
-    let (slots, spells, holds) = c.in-Ok.ensures.found in
-    held_proper _ slots c.in-Some.marks.now spells (rw c.in-Some.ensures at holds)
+build_query-requires-clause-proper g c = grind (arith, common_steps, held_proper)

@@ -1,4 +1,4 @@
-use Rattle.std.proofs.Common.{rules, arith, refl, sym, []}
+use Rattle.eco_ids.proofs.Common.{[], sym, refl, arith, rules, common_steps}
 use Rattle.eco_query.proofs.Loops.{reached_more, reached_stuck, reached_end, reached_atom}
 use Rattle.eco_query.specs.Reader.Points.{point_view, marked, before_view, atom_view}
 use Rattle.eco_query.proofs.scan.scan_atom.Goals as goal
@@ -18,10 +18,7 @@ loop-at-preserved c =
     }
 
 pub returns-in_default-clause-fault : goal.returns-in_default-clause-fault
-returns-in_default-clause-fault c =
-    let (d, run) = c.loop-at.invariant.run in
-    reached_stuck _ c.args.text.now c.loop-at.at (point_view c.args.text.now c.loop-at.at d c.loop-at.point) c.loop-at-test.true run
-    (c.in_default.ensures.step d)
+returns-in_default-clause-fault c = grind (arith, common_steps, reached_stuck)
 
 pub returns-in-Some-last_atom-clause-found : goal.returns-in-Some-last_atom-clause-found
 returns-in-Some-last_atom-clause-found c =

@@ -1,4 +1,4 @@
-use Rattle.std.proofs.Common.{◌-◌, ◌≤◌, length, []}
+use Rattle.eco_ids.proofs.Common.{◌-◌, ◌≤◌, [], length}
 use Rattle.eco_query.specs.Reader.Machine as machine
 use Rattle.eco_query.specs.Reader.Points.{Draft, IsBegunAt, point_view, spot_view}
 use Rattle.eco_query.specs.Reader.Machine.{Reached}

@@ -1,4 +1,4 @@
-use Rattle.std.proofs.Common.{rules, arith, refl, sym, false}
+use Rattle.eco_ids.proofs.Common.{false, sym, refl, arith, rules}
 use Rattle.eco_query.specs.Reader.Machine.{query_start}
 use Rattle.eco_query.specs.Reader.Points.{point_view, marked, is_bare}
 use Rattle.eco_query.specs.declared.point.Mark.TheVariants.{Slot}

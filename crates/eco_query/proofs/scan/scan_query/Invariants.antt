@@ -1,7 +1,6 @@
-use Rattle.std.proofs.Common.{◌-◌, ◌≤◌, length, ◌≡◌, true, []}
-use Rattle.eco_query.specs.Reader.Machine.{query_start}
+use Rattle.eco_ids.proofs.Common.{◌≡◌, ◌-◌, ◌≤◌, true, [], length}
+use Rattle.eco_query.specs.Reader.Machine.{query_start, Reached}
 use Rattle.eco_query.specs.Reader.Points.{Draft, IsBegunAt, point_view, is_bare}
-use Rattle.eco_query.specs.Reader.Machine.{Reached}
 use Rattle.eco_query.proofs.Stored.{HoldsDraft}
 use Rattle.eco_query.proofs.scan.scan_query.Given as goal
 

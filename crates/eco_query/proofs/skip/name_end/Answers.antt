@@ -1,5 +1,4 @@
-use Rattle.std.proofs.Common.{rules, arith, ◌≡◌, true, slice_index}
-use Rattle.eco_ids.specs.Names.{may_follow}
+use Rattle.eco_ids.proofs.Common.{◌≡◌, true, slice_index, arith, rules, may_follow}
 use Rattle.eco_query.proofs.Skipped.{name_more}
 use Rattle.eco_query.proofs.skip.name_end.Goals as goal
 

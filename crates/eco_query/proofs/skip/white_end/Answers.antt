@@ -1,4 +1,4 @@
-use Rattle.std.proofs.Common.{rules, ◌≡◌, true, slice_index}
+use Rattle.eco_ids.proofs.Common.{◌≡◌, true, slice_index, rules}
 use Rattle.eco_query.specs.Tokens.{is_white}
 use Rattle.eco_query.proofs.Skipped.{white_more}
 use Rattle.eco_query.proofs.skip.white_end.Goals as goal

@@ -1,4 +1,4 @@
-use Rattle.std.proofs.Common.{◌-◌, ◌≤◌, length}
+use Rattle.eco_ids.proofs.Common.{◌-◌, ◌≤◌, length}
 use Rattle.eco_query.specs.Reader.Machine as machine
 use Rattle.eco_query.specs.Reader.Machine.{Reached}
 use Rattle.eco_query.proofs.skip.white_end.Given as goal

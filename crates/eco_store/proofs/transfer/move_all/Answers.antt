@@ -21,13 +21,21 @@ move_rows-requires-clause-apart c =
     λ same. apart_slots c.args.archetypes.now c.args.transfers.now c.requires.one_way i i none none c.loop-transfer-test.true c.loop-transfer-test.true
     (sym same)
 
-pub move_rows-requires-clause-there : goal.move_rows-requires-clause-there
-move_rows-requires-clause-there c =
+pub move_rows-requires-clause-source : goal.move_rows-requires-clause-source
+move_rows-requires-clause-source c =
     let i = c.loop-transfer.transfer-index in
     let none : Transfer = record { from = 0; to = 0 } in
     let t = get_or c.args.transfers.now i none in
     still_there c.args.archetypes.now c.loop-transfer.archetypes t.from (c.loop-transfer.invariant.types t.from)
     (c.requires.plan.sources i none c.loop-transfer-test.true)
+
+pub move_rows-requires-clause-target : goal.move_rows-requires-clause-target
+move_rows-requires-clause-target c =
+    let i = c.loop-transfer.transfer-index in
+    let none : Transfer = record { from = 0; to = 0 } in
+    let t = get_or c.args.transfers.now i none in
+    still_there c.args.archetypes.now c.loop-transfer.archetypes t.to (c.loop-transfer.invariant.types t.to)
+    (c.requires.plan.targets i none c.loop-transfer-test.true)
 
 pub move_rows-requires-clause-room : goal.move_rows-requires-clause-room
 move_rows-requires-clause-room c =
@@ -50,6 +58,7 @@ loop-transfer-preserved c =
     let was = c.loop-transfer.invariant in
     record {
       store = c.move_rows.ensures.store;
+      covers = λ kept. c.move_rows.ensures.covers (was.covers kept);
       types = λ n. c.move_rows.ensures.pours.types n ∙ was.types n;
       room =
           room_rest s c.move_rows.new.archetypes t (drop (i + 1) ts)

@@ -1,4 +1,5 @@
-use Rattle.std.proofs.Common.{◌≤◌, ◌↔◌, [], ◌∷◌, refl, sym, ap, ◌∙◌, subst, length, Result, Ok, Err, IfOk, IsTrue, true≢false, arith}
+use Rattle.std.proofs.lemmas.Grind.{common_steps}
+use Rattle.std.proofs.Common.{◌↔◌, [], ◌∷◌, refl, sym, ap, ◌∙◌, subst, Result, Ok, Err, IfOk, IsTrue, true≢false, arith}
 use Rattle.std.proofs.lemmas.Result.{IfOk-weaker}
 use Rattle.eco_ids.specs.declared.entity.Entity.{Entity}
 use Rattle.eco_ids.specs.Step.{IsClosure}
@@ -20,10 +21,7 @@ returns-then-not-has_with-clause-exact g c =
     (λ s is. subst (IsClosure w c.args.id) (sym (is ∙ ap (λ xs. with_item id_cmp xs c.args.id) c.empty.ensures)) alone) c.with-then-not-has_with.ensures.is
 
 pub returns-then-not-has_with-clause-alone : goal.returns-then-not-has_with-clause-alone
-returns-then-not-has_with-clause-alone g c = λ none.
-    let one : length (with_item id_cmp c.empty.result c.args.id) ≤ 4 = subst (λ xs. length (with_item id_cmp xs c.args.id) ≤ 4) (sym c.empty.ensures)
-    (omega arith) in
-    c.with-then-not-has_with.ensures.short one
+returns-then-not-has_with-clause-alone g c = grind (arith, common_steps)
 
 pub returns-clause-exact : goal.returns-clause-exact
 returns-clause-exact g c =

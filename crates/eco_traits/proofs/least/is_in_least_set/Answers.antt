@@ -1,4 +1,5 @@
-use Rattle.std.proofs.Common.{◌<◌, true≢false, sym, ap, subst, ◌∙◌, length, arith, refl}
+use Rattle.std.proofs.lemmas.Grind.{common_steps}
+use Rattle.std.proofs.Common.{◌<◌, true≢false, sym, ap, subst, ◌∙◌, length, arith}
 use Rattle.eco_traits.proofs.Members.{list_any-derived}
 use Rattle.eco_traits.specs.Search.{noted_all}
 use Rattle.eco_traits.proofs.Search.{IsSearch, search_starts, search_ends, turn_goes_on, turn_pays}
@@ -12,10 +13,7 @@ loop-goal-init g c =
     (search_starts (g.G.Graph.leads c.args.graph.now) c.args.roots.now)
 
 pub loop-goal-smaller : goal.loop-goal-smaller
-loop-goal-smaller g c =
-    let within : c.loop-goal.asked < length c.loop-goal.members.keys = omega (arith, c.len.ensures.len, c.if-asked-len.false, c.loop-goal.invariant.within) in
-    turn_pays (g.G.Graph.leads c.args.graph.now) (g.G.Graph.nodes c.args.graph.now) c.loop-goal.members.keys c.loop-goal.asked c.ask.new.members.keys
-    c.in_ok-ask.ensures within
+loop-goal-smaller g c = grind (arith, common_steps, turn_pays)
 
 pub loop-goal-preserved : goal.loop-goal-preserved
 loop-goal-preserved g c =
@@ -32,6 +30,4 @@ returns-then-asked-len g c =
     (λ h. absurd (true≢false (sym h)), λ least. sym c.loop-goal-test.true ∙ is ∙ all.1 least)
 
 pub returns : goal.returns
-returns g c =
-    let is = c.contains.ensures ∙ list_any-derived c.loop-goal.members.keys c.args.goal in
-    (λ h. c.loop-goal.invariant.sound c.args.goal (sym is ∙ c.loop-goal-test.false), λ least. refl)
+returns g c = grind (arith, common_steps, list_any-derived)

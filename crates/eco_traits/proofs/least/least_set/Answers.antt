@@ -1,3 +1,4 @@
+use Rattle.std.proofs.lemmas.Grind.{common_steps}
 use Rattle.std.proofs.Common.{◌<◌, sym, ap, subst, ◌∙◌, length, arith}
 use Rattle.eco_traits.specs.Search.{noted_all}
 use Rattle.eco_traits.proofs.Search.{IsSearch, search_starts, search_ends, turn_goes_on, turn_pays}
@@ -11,10 +12,7 @@ loop-asked-init g c =
     (search_starts (g.G.Graph.leads c.args.graph.now) c.args.roots.now)
 
 pub loop-asked-smaller : goal.loop-asked-smaller
-loop-asked-smaller g c =
-    let within : c.loop-asked.asked < length c.loop-asked.members.keys = omega (arith, c.len.ensures.len, c.loop-asked-test.true) in
-    turn_pays (g.G.Graph.leads c.args.graph.now) (g.G.Graph.nodes c.args.graph.now) c.loop-asked.members.keys c.loop-asked.asked c.ask.new.members.keys
-    c.in_ok-ask.ensures within
+loop-asked-smaller g c = grind (arith, common_steps, turn_pays)
 
 pub loop-asked-preserved : goal.loop-asked-preserved
 loop-asked-preserved g c =

@@ -1,8 +1,7 @@
-use Rattle.std.proofs.Common.{ap, ◌∙◌, cond, ◌++◌, ◌∷◌, []}
+use Rattle.std.proofs.lemmas.Grind.{common_steps}
+use Rattle.std.proofs.Common.{arith}
 use Rattle.eco_traits.proofs.Members.{list_any-derived}
 use Rattle.eco_traits.proofs.least.note.Goals as goal
 
 pub returns : goal.returns
-returns c =
-    c.in_ok-insert.ensures.keys
-    ∙ ap (λ b. cond b c.args.members.now.keys (c.args.members.now.keys ++ c.args.entity ∷ [])) (list_any-derived c.args.members.now.keys c.args.entity)
+returns c = grind (arith, common_steps, list_any-derived)

@@ -32,7 +32,8 @@ invariant_of-self-in-Ok-None c =
     ∙ (ap (λ (v : Indexed Registration). named_entity name_of v name) c.self.view_is ∙ c.requires.free) in
     let alive : is_alive w e ≡ true = rw c.self.view_is c.requires.alive in
     rw (c.in-Ok-None.ensures.ok, c.in_ok-own.ensures.own)
-    (registry_gain name e c.self.invariant (sym c.in-Ok-None.ensures.was ∙ ap (option_map string_bytes) c.in-Ok-None.field-0-is) free c.requires.proper c.in_ok-own.ensures.ok (own-renamed w e (Some name) alive))
+    (registry_gain name e c.self.invariant (sym c.in-Ok-None.ensures.was
+    ∙ ap (option_map string_bytes) c.in-Ok-None.field-0-is) free c.requires.proper c.in_ok-own.ensures.ok (own-renamed w e (Some name) alive))
 
 pub invariant_of-self-in-Err : goal.invariant_of-self-in-Err
 invariant_of-self-in-Err c =

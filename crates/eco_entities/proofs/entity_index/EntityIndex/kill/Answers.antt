@@ -1,5 +1,6 @@
-use Rattle.std.proofs.Common.{◌≡◌, refl, ap, ◌∙◌, true, None}
-use Rattle.eco_ids.specs.Indices.{Indexed, is_alive, with_death}
+use Rattle.std.proofs.lemmas.Grind.{common_steps}
+use Rattle.std.proofs.Common.{◌≡◌, refl, ap, ◌∙◌, true, None, arith}
+use Rattle.eco_ids.specs.Indices.{Indexed, is_alive}
 use Rattle.eco_ids.specs.Renaming.{own_name}
 use Rattle.eco_entities.specs.Registration.{Registration, name_of, renamed}
 use Rattle.eco_entities.proofs.Owners.{own-died, own-renamed, death_of_renamed, alive_changed}
@@ -20,7 +21,4 @@ invariant_of-self c =
     (registry_nameless c.args.entity c.self.invariant nameless (record { all = λ k. refl }) (own-died c.self.inside.slots c.args.entity alive))
 
 pub returns : goal.returns
-returns c =
-    c.kill.ensures
-    ∙ (ap (λ (w : Indexed Registration). with_death w c.args.entity) (c.self.view_is ∙ c.unname.ensures)
-    ∙ death_of_renamed c.args.self.now c.args.entity (renamed None) c.requires)
+returns c = grind (arith, common_steps, death_of_renamed)

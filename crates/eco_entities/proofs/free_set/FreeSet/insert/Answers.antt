@@ -1,4 +1,5 @@
-use Rattle.std.proofs.Common.{◌<◌, ◌∙◌, ap, arith, slice_set, true}
+use Rattle.std.proofs.lemmas.Grind.{common_steps}
+use Rattle.std.proofs.Common.{◌<◌, arith}
 use Rattle.eco_entities.proofs.Levels.{in_flags, flags-with_bit, levelled-set}
 use Rattle.eco_entities.proofs.free_set.FreeSet.insert.Goals as goal
 
@@ -20,6 +21,4 @@ invariant_of-self c =
     rw (c.set.ensures, c.set-2.ensures, c.set-3.ensures) (levelled-set _ _ _ _ _ c.self.invariant l)
 
 pub returns : goal.returns
-returns c =
-    let l : c.args.index < c.self.inside.len = in_flags _ _ _ _ c.self.view_is c.requires in
-    rw c.set.ensures (flags-with_bit _ _ c.args.index l (omega arith) ∙ ap (λ xs. slice_set xs c.args.index true) c.self.view_is)
+returns c = grind (arith, common_steps, in_flags, flags-with_bit)

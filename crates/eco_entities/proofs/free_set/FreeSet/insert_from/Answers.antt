@@ -1,4 +1,5 @@
-use Rattle.std.proofs.Common.{◌≡◌, length, ap, sym, ◌∙◌, arith}
+use Rattle.std.proofs.lemmas.Grind.{common_steps}
+use Rattle.std.proofs.Common.{arith}
 use Rattle.eco_entities.proofs.Levels.{flags_filled_from, nothing_filled, levelled-fill, length-bits_below}
 use Rattle.eco_entities.proofs.free_set.FreeSet.insert_from.Goals as goal
 
@@ -13,6 +14,4 @@ returns-then-from-self c =
     flags_filled_from c.self.inside.len c.args.from c.self.inside.indices c.set_range.new.self c.args.self.now c.self.view_is (omega arith) c.set_range.ensures
 
 pub returns-else-from-self : goal.returns-else-from-self
-returns-else-from-self c =
-    let whole : length c.args.self.now ≡ c.self.inside.len = ap length (sym c.self.view_is) ∙ length-bits_below _ _ in
-    nothing_filled c.args.self.now c.args.from (omega arith)
+returns-else-from-self c = grind (arith, common_steps, length-bits_below, nothing_filled)

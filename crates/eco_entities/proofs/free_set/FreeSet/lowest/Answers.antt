@@ -1,4 +1,5 @@
-use Rattle.std.proofs.Common.{◌<◌, ◌/◌, List, Some, None, Bool, ap, sym, ◌∙◌, arith}
+use Rattle.std.proofs.lemmas.Grind.{common_steps}
+use Rattle.std.proofs.Common.{◌/◌, List, Some, None, Bool, ap, sym, ◌∙◌, arith}
 use Rattle.std.specs.List.{position_from}
 use Rattle.eco_entities.proofs.Bits.{first_word_or_none, none_of_none, has_bit_of_zero, within_of_word}
 use Rattle.eco_entities.specs.Words.{IsFirstWord}
@@ -24,7 +25,4 @@ returns-in_err-first_word c =
     ∙ ap (λ (xs : List Bool). position_from (λ b. b) 0 xs) c.self.view_is
 
 pub returns : goal.returns
-returns c =
-    let below : c.lowest_bit.result < c.self.inside.len = below_len _ _ _ _ _ c.self.invariant c.lowest_bit.ensures.set in
-    sym (flags_lowest c.self.inside.len c.lowest_bit.result c.self.inside.indices c.lowest_bit.ensures below)
-    ∙ ap (λ (xs : List Bool). position_from (λ b. b) 0 xs) c.self.view_is
+returns c = grind (arith, common_steps, below_len, flags_lowest)

@@ -1,4 +1,5 @@
-use Rattle.std.proofs.Common.{◌≡◌, ◌<◌, ◌/◌, ◌∙◌, ap, sym, get_or, refl, arith, eqb-true, slice_set, false}
+use Rattle.std.proofs.lemmas.Grind.{common_steps}
+use Rattle.std.proofs.Common.{◌≡◌, ◌<◌, ◌/◌, ◌∙◌, sym, get_or, refl, arith, eqb-true, false}
 use Rattle.std.proofs.lemmas.Bool.{eqb-false}
 use Rattle.eco_entities.specs.Words.{without_bit}
 use Rattle.eco_entities.proofs.Bits.{length-without_bit, summarizes_emptied, summarizes_kept}
@@ -53,16 +54,7 @@ invariant_of-self-else-clear c =
     c.self.invariant.groups_say)
 
 pub returns-then-clear-2 : goal.returns-then-clear-2
-returns-then-clear-2 c =
-    let l : c.args.index < c.self.inside.len = in_flags _ _ _ _ c.self.view_is c.requires in
-    rw c.clear.ensures.words (flags-without_bit _ _ c.args.index l (omega arith) ∙ ap (λ xs. slice_set xs c.args.index false) c.self.view_is)
+returns-then-clear-2 c = grind (arith, common_steps, in_flags, flags-without_bit)
 
 pub returns-else-clear : goal.returns-else-clear
-returns-else-clear c =
-    let l : c.args.index < c.self.inside.len = in_flags _ _ _ _ c.self.view_is c.requires in
-    elim c.else-clear.branch [
-      | else-clear-via-then-clear+else-clear-2 w ↦ w.self-is ∙ rw c.clear.ensures.words
-          (flags-without_bit _ _ c.args.index l (omega arith) ∙ ap (λ xs. slice_set xs c.args.index false) c.self.view_is)
-      | else-clear-via-else-clear w ↦ w.self-is ∙ rw c.clear.ensures.words
-          (flags-without_bit _ _ c.args.index l (omega arith) ∙ ap (λ xs. slice_set xs c.args.index false) c.self.view_is)
-    ]
+returns-else-clear c = grind (arith, common_steps, in_flags, else-clear-via-then-clear+else-clear-2, flags-without_bit, else-clear-via-else-clear)

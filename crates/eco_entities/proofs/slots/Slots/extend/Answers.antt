@@ -1,4 +1,5 @@
-use Rattle.std.proofs.Common.{◌≡◌, ◌+◌, ◌++◌, false, ap, ◌∙◌, length, replicate, arith}
+use Rattle.std.proofs.lemmas.Grind.{common_steps}
+use Rattle.std.proofs.Common.{◌≡◌, ◌+◌, ◌++◌, ap, ◌∙◌, length, replicate, arith}
 use Rattle.eco_entities.proofs.Marks.{marks_as_slots, slots_admitted, room_inside}
 use Rattle.std.proofs.lemmas.List.{length-append, length-replicate}
 use Rattle.eco_entities.proofs.slots.Slots.extend.Goals as goal
@@ -22,9 +23,4 @@ returns-clause-ok c =
     c.in_ok-grow.ensures.ok (rw known at c.insert_from.ensures)).1
 
 pub insert_from-requires : goal.insert_from-requires
-insert_from-requires c =
-    let slots = c.self.inside.slots.items in
-    let marks : length c.self.inside.free ≡ length slots = marks_as_slots c.self.inside c.args.self.now c.self.invariant c.self.view_is in
-    let grown : length c.grow.new.self ≡ length c.self.inside.free + c.args.count =
-    ap length c.in_ok-grow.ensures.ok ∙ (length-append c.self.inside.free (replicate c.args.count false) ∙ ap (λ n. length c.self.inside.free + n) (length-replicate c.args.count false)) in
-    omega arith
+insert_from-requires c = grind (arith, common_steps, marks_as_slots, length-append, length-replicate)

@@ -1,3 +1,4 @@
+use Rattle.std.proofs.lemmas.Grind.{common_steps}
 use Rattle.std.proofs.Common.{◌<◌, cond, length, ap, ◌∙◌, Some, None, option_map, string_bytes, arith}
 use Rattle.eco_ids.specs.Indices.{map_state}
 use Rattle.eco_entities.specs.Labels.{label_of}
@@ -9,11 +10,7 @@ use Rattle.eco_entities.proofs.slots.Slots.give_name.Goals as goal
 use Rattle.eco_entities.proofs.slots.Slots.give_name.Goals.{then-is_named, else-is_named}
 
 pub index_mut-slot-requires : goal.index_mut-slot-requires
-index_mut-slot-requires c =
-    let slots = c.self.inside.slots.items in
-    let e = c.args.entity in
-    let within : e.index < length slots = alive_within c.self.inside c.args.self.now c.self.invariant c.self.view_is e c.requires in
-    omega arith
+index_mut-slot-requires c = grind (arith, common_steps, alive_within)
 
 pub invariant_of-self-2 : goal.invariant_of-self-2
 invariant_of-self-2 c =

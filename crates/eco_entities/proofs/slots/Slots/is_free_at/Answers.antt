@@ -1,4 +1,5 @@
-use Rattle.std.proofs.Common.{◌≡◌, ◌==◌, sym, ap, ◌∙◌, None, slice_get}
+use Rattle.std.proofs.lemmas.Grind.{common_steps}
+use Rattle.std.proofs.Common.{◌≡◌, ◌==◌, sym, ap, ◌∙◌, slice_get, arith}
 use Rattle.eco_ids.specs.Indices.{is_free_in}
 use Rattle.eco_entities.specs.Labels.{label_of}
 use Rattle.eco_entities.proofs.Shown.{free_shown, state_shown, used_shown}
@@ -21,11 +22,8 @@ returns-else-is_free c =
     let e = c.args.entity in
     let is : c.slot_at.result ≡ slice_get slots e.index = rw c.as_slice.ensures.value at c.slot_at.ensures in
     c.if-is_free.false
-    ∙ sym (used_shown c.self.inside c.args.self.now c.self.view_is e.index c.in-Some.slot e.generation (sym c.in-Some.is ∙ is) (sym (c.if-is_free.ensures (label e.index))))
+    ∙ sym (used_shown c.self.inside c.args.self.now c.self.view_is e.index c.in-Some.slot e.generation (sym c.in-Some.is ∙ is)
+    (sym (c.if-is_free.ensures (label e.index))))
 
 pub returns-in-None : goal.returns-in-None
-returns-in-None c =
-    let slots = c.self.inside.slots.items in
-    let e = c.args.entity in
-    let is : c.slot_at.result ≡ slice_get slots e.index = rw c.as_slice.ensures.value at c.slot_at.ensures in
-    sym (ap (λ o. is_free_in o e.generation) (state_shown c.self.inside c.args.self.now c.self.view_is e.index None (sym c.in-None.is ∙ is)))
+returns-in-None c = grind (arith, common_steps, state_shown)

@@ -1,4 +1,5 @@
-use Rattle.std.proofs.Common.{◌≡◌, ◌<◌, length, ap, ◌∙◌, set, arith}
+use Rattle.std.proofs.lemmas.Grind.{common_steps}
+use Rattle.std.proofs.Common.{ap, ◌∙◌, set, arith}
 use Rattle.eco_entities.specs.Labels.{label_of}
 use Rattle.eco_entities.proofs.Marks.{alive_within, marks_as_slots, living_unmarked, slot_died}
 use Rattle.eco_entities.proofs.slots.Slots.kill.Goals as goal
@@ -35,19 +36,7 @@ returns c =
     ]
 
 pub index_mut-requires : goal.index_mut-requires
-index_mut-requires c =
-    let slots = c.self.inside.slots.items in
-    let e = c.args.entity in
-    let within : e.index < length slots = alive_within c.self.inside c.args.self.now c.self.invariant c.self.view_is e c.requires in
-    elim c.if-is_free.branch [
-      | then-is_free b ↦ rw b.self-inside-is (omega arith)
-      | else-is_free b ↦ rw b.self-inside-is (omega arith)
-    ]
+index_mut-requires c = grind (arith, common_steps, alive_within, then-is_free, else-is_free)
 
 pub insert-requires : goal.insert-requires
-insert-requires c =
-    let slots = c.self.inside.slots.items in
-    let e = c.args.entity in
-    let within : e.index < length slots = alive_within c.self.inside c.args.self.now c.self.invariant c.self.view_is e c.requires in
-    let marks : length c.self.inside.free ≡ length slots = marks_as_slots c.self.inside c.args.self.now c.self.invariant c.self.view_is in
-    omega arith
+insert-requires c = grind (arith, common_steps, alive_within, marks_as_slots)

@@ -1,3 +1,4 @@
+use Rattle.std.proofs.lemmas.Grind.{common_steps}
 use Rattle.std.proofs.Common.{◌<◌, arith}
 use Rattle.eco_entities.proofs.Marks.{mark_within, next_marked, next_fresh, next_over}
 use Rattle.eco_entities.proofs.slots.Slots.next.Goals as goal
@@ -18,9 +19,4 @@ overflow_cast-result c =
     omega arith
 
 pub returns : goal.returns
-returns c =
-    elim c.match-lowest.branch [
-      | in-Some w ↦ next_marked c.self.inside c.args.self.now c.self.invariant c.self.view_is _ _ (rw w.index-is w.in-Some.ensures) c.next_generation.ensures
-      | in-None w ↦ next_fresh c.self.inside c.args.self.now c.self.invariant c.self.view_is _ _ w.in-None.ensures (omega arith) (omega arith)
-          c.next_generation.ensures
-    ]
+returns c = grind (arith, common_steps, in-Some, next_marked, in-None, next_fresh)

@@ -1,4 +1,5 @@
-use Rattle.std.proofs.Common.{◌<◌, length, refl, arith}
+use Rattle.std.proofs.lemmas.Grind.{common_steps}
+use Rattle.std.proofs.Common.{refl, arith}
 use Rattle.eco_entities.specs.Labels.{label_of}
 use Rattle.eco_entities.specs.Registration.{placed}
 use Rattle.eco_entities.proofs.Marks.{alive_within, slot_changed}
@@ -11,14 +12,7 @@ invariant_of-self c =
     (placed c.args.place) (λ k n. refl) c.requires.alive c.index_mut.ensures.value (c.set_place.ensures (label c.args.entity.index))).0
 
 pub returns : goal.returns
-returns c =
-    let label = label_of c.self.inside.labels in
-    (slot_changed c.self.inside c.args.self.now c.self.invariant c.self.view_is label c.args.entity c.index_mut.result.now c.set_place.new.self
-    (placed c.args.place) (λ k n. refl) c.requires.alive c.index_mut.ensures.value (c.set_place.ensures (label c.args.entity.index))).1
+returns c = grind (arith, common_steps, slot_changed)
 
 pub index_mut-requires : goal.index_mut-requires
-index_mut-requires c =
-    let slots = c.self.inside.slots.items in
-    let e = c.args.entity in
-    let within : e.index < length slots = alive_within c.self.inside c.args.self.now c.self.invariant c.self.view_is e c.requires.alive in
-    omega arith
+index_mut-requires c = grind (arith, common_steps, alive_within)

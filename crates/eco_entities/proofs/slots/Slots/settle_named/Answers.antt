@@ -1,8 +1,8 @@
-use Rattle.std.proofs.Common.{◌≡◌, ap, ◌∙◌, Some, string_bytes, arith}
+use Rattle.std.proofs.lemmas.Grind.{common_steps}
+use Rattle.std.proofs.Common.{ap, ◌∙◌, Some, string_bytes, arith}
 use Rattle.eco_ids.specs.Indices.{Living}
 use Rattle.eco_entities.specs.Labels.{label_of}
 use Rattle.eco_entities.specs.Registration.{newcomer}
-use Rattle.eco_entities.specs.Slots.{states}
 use Rattle.eco_entities.proofs.Marks.{next_slot, next_unlabelled, slot_settled}
 use Rattle.eco_entities.proofs.slots.Slots.settle_named.Goals as goal
 
@@ -28,21 +28,7 @@ returns-in-Ok-clause-ok c =
     c.in-Ok.ensures.slots c.in-Ok.ensures.free).1
 
 pub invariant_of-self-in-Err : goal.invariant_of-self-in-Err
-invariant_of-self-in-Err c =
-    let label = label_of c.self.inside.labels in
-    let slots = c.self.inside.slots.items in
-    let e = c.args.entity in
-    let same : states (label_of c.remove.new.self) slots ≡ states label slots =
-    next_unlabelled c.self.inside c.args.self.now c.self.invariant c.self.view_is e (label_of c.remove.new.self) (λ k ne. c.remove.ensures.removed.others k ne ∙ c.in_ok-insert.ensures.ok.others k ne)
-    c.requires in
-    rw (c.in-Err.ensures.err_slots, c.in-Err.ensures.err_free, same) c.self.invariant
+invariant_of-self-in-Err c = grind (arith, common_steps, next_unlabelled)
 
 pub returns-in-Err-clause-err : goal.returns-in-Err-clause-err
-returns-in-Err-clause-err c =
-    let label = label_of c.self.inside.labels in
-    let slots = c.self.inside.slots.items in
-    let e = c.args.entity in
-    let same : states (label_of c.remove.new.self) slots ≡ states label slots =
-    next_unlabelled c.self.inside c.args.self.now c.self.invariant c.self.view_is e (label_of c.remove.new.self) (λ k ne. c.remove.ensures.removed.others k ne ∙ c.in_ok-insert.ensures.ok.others k ne)
-    c.requires in
-    rw (c.in-Err.ensures.err_slots, same) c.self.view_is
+returns-in-Err-clause-err c = grind (arith, common_steps, next_unlabelled)

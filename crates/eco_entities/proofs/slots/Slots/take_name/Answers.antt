@@ -1,4 +1,5 @@
-use Rattle.std.proofs.Common.{◌<◌, cond, length, sym, ap, ◌∙◌, None, arith}
+use Rattle.std.proofs.lemmas.Grind.{common_steps}
+use Rattle.std.proofs.Common.{◌<◌, cond, length, ap, ◌∙◌, None, arith}
 use Rattle.eco_entities.specs.Labels.{label_of}
 use Rattle.eco_entities.specs.Registration.{renamed}
 use Rattle.eco_entities.proofs.Marks.{alive_within, slot_changed, unnamed_same}
@@ -6,24 +7,13 @@ use Rattle.eco_entities.proofs.Shown.{name_read}
 use Rattle.eco_entities.proofs.slots.Slots.take_name.Goals as goal
 
 pub index-requires : goal.index-requires
-index-requires c =
-    let slots = c.self.inside.slots.items in
-    let e = c.args.entity in
-    let within : e.index < length slots = alive_within c.self.inside c.args.self.now c.self.invariant c.self.view_is e c.requires in
-    omega arith
+index-requires c = grind (arith, common_steps, alive_within)
 
 pub index_mut-requires : goal.index_mut-requires
-index_mut-requires c =
-    let slots = c.self.inside.slots.items in
-    let e = c.args.entity in
-    let within : e.index < length slots = alive_within c.self.inside c.args.self.now c.self.invariant c.self.view_is e c.requires in
-    omega arith
+index_mut-requires c = grind (arith, common_steps, alive_within)
 
 pub returns-then-not-is_named-clause-renamed : goal.returns-then-not-is_named-clause-renamed
-returns-then-not-is_named-clause-renamed c =
-    let e = c.args.entity in
-    unnamed_same c.self.inside c.args.self.now c.self.invariant c.self.view_is e c.index.result.now c.requires c.index.ensures
-    (sym c.if-not-is_named.ensures)
+returns-then-not-is_named-clause-renamed c = grind (arith, common_steps, unnamed_same)
 
 pub returns-then-not-is_named-clause-was : goal.returns-then-not-is_named-clause-was
 returns-then-not-is_named-clause-was c =
@@ -39,7 +29,8 @@ invariant_of-self c =
     let label = label_of c.self.inside.labels in
     let e = c.args.entity in
     let label' = label_of c.remove.new.self in
-    (slot_changed c.self.inside c.args.self.now c.self.invariant c.self.view_is label' e c.index_mut.result.now c.set_named.new.self (renamed None) c.remove.ensures.removed.others
+    (slot_changed c.self.inside c.args.self.now c.self.invariant c.self.view_is label' e c.index_mut.result.now c.set_named.new.self
+    (renamed None) c.remove.ensures.removed.others
     c.requires c.index_mut.ensures.value (c.set_named.ensures (label e.index) (label' e.index))).0
 
 pub returns-clause-renamed : goal.returns-clause-renamed
@@ -47,7 +38,8 @@ returns-clause-renamed c =
     let label = label_of c.self.inside.labels in
     let e = c.args.entity in
     let label' = label_of c.remove.new.self in
-    (slot_changed c.self.inside c.args.self.now c.self.invariant c.self.view_is label' e c.index_mut.result.now c.set_named.new.self (renamed None) c.remove.ensures.removed.others
+    (slot_changed c.self.inside c.args.self.now c.self.invariant c.self.view_is label' e c.index_mut.result.now c.set_named.new.self
+    (renamed None) c.remove.ensures.removed.others
     c.requires c.index_mut.ensures.value (c.set_named.ensures (label e.index) (label' e.index))).1
 
 pub returns-clause-was : goal.returns-clause-was

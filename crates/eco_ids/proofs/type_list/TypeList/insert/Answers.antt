@@ -1,7 +1,5 @@
-use Rattle.std.proofs.Common.{rules, arith, ◌≡◌, ◌≤◌, ◌+◌, ap, sym, ◌∙◌, insert, length, IsOk}
+use Rattle.eco_ids.proofs.Common.{◌≡◌, ◌+◌, ◌≤◌, length, IsOk, insert, sym, ap, ◌∙◌, arith, rules, id_cmp, with_item}
 use Rattle.std.proofs.lemmas.List.Edits.{length-insert}
-use Rattle.eco_ids.specs.Fingerprint.{IsTypeList}
-use Rattle.eco_ids.specs.Order.{id_cmp, with_item}
 use Rattle.eco_ids.proofs.Ascending.{ascending_with}
 use Rattle.eco_ids.proofs.IdOrder.{id_cmp_total}
 use Rattle.eco_ids.proofs.type_list.TypeList.insert.Goals as goal

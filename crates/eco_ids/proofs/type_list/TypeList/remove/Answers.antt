@@ -1,5 +1,4 @@
-use Rattle.std.proofs.Common.{rules, ◌≡◌, remove, slice_get, Some}
-use Rattle.eco_ids.specs.Order.{id_cmp, without_item}
+use Rattle.eco_ids.proofs.Common.{◌≡◌, slice_get, Some, remove, rules, id_cmp, without_item}
 use Rattle.eco_ids.proofs.Ascending.{ascending_without}
 use Rattle.eco_ids.proofs.type_list.TypeList.remove.Goals as goal
 

@@ -1,5 +1,4 @@
-use Rattle.std.proofs.Common.{Result, Ok, Err, refl}
-use Rattle.std.specs.Prelude.{MatchResult, IsOk}
+use Rattle.eco_ids.proofs.Common.{IsOk, Ok, Err, Result, MatchResult, refl, arith, common_steps}
 use Rattle.eco_query.proofs.ByteTests.{name_utf8}
 use Rattle.eco_query.proofs.written.Reference.entity.Goals as goal
 
@@ -9,6 +8,4 @@ first_case (Ok x) P Q m none = refl
 first_case (Err e) P Q m none = absurd (none e m)
 
 pub unwrap-name-requires : goal.unwrap-name-requires
-unwrap-name-requires g c =
-    let (token, (same, is)) = rw c.in-Name.is at c.requires in
-    first_case c.from_utf8.result _ _ c.from_utf8.ensures.cases (λ e (not_text, valid). not_text (name_utf8 c.in-Name.name.now is))
+unwrap-name-requires g c = grind (arith, common_steps, first_case, name_utf8)

@@ -13,6 +13,7 @@ loop-slot-preserved c =
           ap (λ ys. ys ++ others) (take_more xs i 0 c.loop-slot-test.true) ∙ append_assoc (take i xs) (get_or xs i 0 ∷ []) others in
           c.drop_empty.ensures.rowless others (c.loop-slot.invariant.rowless (get_or xs i 0 ∷ others) (subst (RowlessIn c.args.self.now) parts was));
       rows = λ n row. c.drop_empty.ensures.rows n row ∙ c.loop-slot.invariant.rows n row;
+      widths = λ need was. c.drop_empty.ensures.widths need (c.loop-slot.invariant.widths need was);
     }
 
 pub returns-clause-rowless : goal.returns-clause-rowless

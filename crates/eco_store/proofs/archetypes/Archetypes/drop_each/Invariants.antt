@@ -1,10 +1,12 @@
 use Rattle.std.proofs.Common.{ℕ, List, ◌++◌, take}
 use Rattle.eco_store.specs.Archetypes.{RowlessIn}
 use Rattle.eco_store.specs.Seats.{SameRows}
+use Rattle.eco_store.specs.Widths.{KeepsWidths}
 use Rattle.eco_store.proofs.archetypes.Archetypes.drop_each.Given as goal
 
 abbrev pub invariant-loop-slot : goal.invariant-loop-slot
 invariant-loop-slot l = record {
   rowless : (others : List ℕ) → RowlessIn l.initial.self (take l.slot-index l.slots ++ others) → RowlessIn l.self others;
   rows : SameRows l.initial.self l.self;
+  widths : KeepsWidths l.initial.self l.self;
 }

@@ -1,8 +1,9 @@
 use Rattle.std.proofs.Common.{Some, IsTrue, IsSome, sym, ap, ◌∙◌, subst}
 use Rattle.std.specs.Option.{option_copied}
+use Rattle.std.proofs.lemmas.Result.{err_from_is_err_and}
 use Rattle.eco_ids.specs.Order.{id_cmp, is_ascending}
 use Rattle.eco_tables.specs.Tables.{slot_of, table_in}
-use Rattle.eco_store.specs.Archetypes.{type_at}
+use Rattle.eco_store.specs.Archetypes.{type_at, RowlessIn}
 use Rattle.eco_store.specs.Edges.{toggled}
 use Rattle.eco_store.proofs.Leads.{apart_by_type, stays_typed}
 use Rattle.eco_store.proofs.StoreChanges.{typed_table}
@@ -34,3 +35,11 @@ returns-clause-apart c =
     let kept = stays_typed c.self.inside.tables c.args.self.now c.args.self.now c.args.slot c.unwrap.result.now own c.self.view_is
     (sym c.get.ensures ∙ ap option_copied c.unwrap.ensures) c.type_list.ensures.ids (λ n ids h. h) in
     apart_by_type c.args.self.now c.args.slot c.in-Some.to c.args.id own kept (c.in-Some.ensures.found ∙ ap Some c.in_ok-type_list.ensures.is)
+
+pub returns-in_err-made-clause-rowless : goal.returns-in_err-made-clause-rowless
+returns-in_err-made-clause-rowless c =
+    let p = err_from_is_err_and c.from_residual-in_err-made.result c.from_residual-in_err-made.ensures.1 in
+    rw p.1 (λ slots was. c.in_err-made.ensures.rowless slots (subst (λ s. RowlessIn s slots) (sym c.find.ensures.same) was))
+
+pub returns-in_default-clause-rowless : goal.returns-in_default-clause-rowless
+returns-in_default-clause-rowless c = λ slots was. c.in_ok-made.ensures.rowless slots (subst (λ s. RowlessIn s slots) (sym c.find.ensures.same) was)

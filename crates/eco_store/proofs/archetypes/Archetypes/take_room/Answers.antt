@@ -24,4 +24,5 @@ loop-transfer-preserved c =
       types = λ n. c.reserve_more.ensures.types n ∙ c.loop-transfer.invariant.types n;
       rowless = λ slots was. c.reserve_more.ensures.rowless slots (c.loop-transfer.invariant.rowless slots was);
       rows = λ n k. c.reserve_more.ensures.rows n k ∙ c.loop-transfer.invariant.rows n k;
+      widths = λ need was. c.reserve_more.ensures.widths need (c.loop-transfer.invariant.widths need was);
     }

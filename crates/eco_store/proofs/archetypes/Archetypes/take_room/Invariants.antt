@@ -2,6 +2,7 @@ use Rattle.std.proofs.Common.{ℕ, List, take}
 use Rattle.eco_store.specs.Archetypes.{RowlessIn}
 use Rattle.eco_store.specs.Seats.{SameRows}
 use Rattle.eco_store.specs.Transfers.{HasRoom, SameTypes}
+use Rattle.eco_store.specs.Widths.{KeepsWidths}
 use Rattle.eco_store.proofs.archetypes.Archetypes.take_room.Given as goal
 
 abbrev pub invariant-loop-transfer : goal.invariant-loop-transfer
@@ -10,4 +11,5 @@ invariant-loop-transfer l = record {
   types : SameTypes l.initial.self l.self;
   rowless : (slots : List ℕ) → RowlessIn l.initial.self slots → RowlessIn l.self slots;
   rows : SameRows l.initial.self l.self;
+  widths : KeepsWidths l.initial.self l.self;
 }

@@ -1,11 +1,11 @@
-use Rattle.std.proofs.Common.{[], ◌<◌, true≢false, length, refl, sym, ap, subst, ◌∙◌, option_map, unwrap_or}
+use Rattle.std.proofs.Common.{◌<◌, true≢false, length, refl, sym, ap, subst, ◌∙◌, option_map, unwrap_or}
 use Rattle.std.specs.Option.{option_copied}
 use Rattle.eco_tables.specs.Table.{TableState}
 use Rattle.eco_tables.specs.Tables.{slot_of, no_row, no_table, AllHaveIds}
 use Rattle.eco_store.specs.Layout.{LayoutState, rows_in, MovesRow}
+use Rattle.eco_store.specs.Preparing.{staying}
 use Rattle.eco_ids.proofs.SameIds.{same_ids-Decides}
-use Rattle.eco_store.proofs.LaidRows.{rows_alike, idle_laid, idle_moves}
-use Rattle.eco_store.proofs.Rowless.{rowless_moved}
+use Rattle.eco_store.proofs.LaidRows.{rows_alike, idle_laid, idle_leaves, idle_moves, still_laid}
 use Rattle.eco_store.proofs.StoreChanges.{other_slot, typed_table}
 use Rattle.eco_store.proofs.layout.Layout.move_at_once.Goals as goal
 
@@ -22,7 +22,7 @@ returns-then-eq-clause-ok c =
 pub invariant_of-self : goal.invariant_of-self
 invariant_of-self c =
     let none = ap (λ (l : LayoutState). l.moves) c.self.view_is ∙ c.requires.unprepared in
-    idle_laid _ _ c.self.invariant none _ (c.in_err-to.ensures.rowless [])
+    idle_laid _ _ c.self.invariant none _ (c.in_err-to.ensures.rowless (staying c.self.inside.prepared))
 
 pub returns-in_err-to-clause-unprepared : goal.returns-in_err-to-clause-unprepared
 returns-in_err-to-clause-unprepared c = idle_moves _ _ c.self.invariant (ap (λ (l : LayoutState). l.moves) c.self.view_is ∙ c.requires.unprepared) _
@@ -50,12 +50,18 @@ pub shift-moved-requires-clause-row : goal.shift-moved-requires-clause-row
 shift-moved-requires-clause-row c =
     subst (λ R. c.args.place.row < length (R c.args.place.table)) (sym (rows_alike _ _ c.room_for.ensures.rows)) (rw (← c.self.view_is) at c.requires.row)
 
+pub release-requires : goal.release-requires
+release-requires c =
+    let none = ap (λ (l : LayoutState). l.moves) c.self.view_is ∙ c.requires.unprepared in
+    let slots = staying c.self.inside.prepared in
+    let left = idle_leaves _ _ c.self.invariant none _ _ c.args.place.table c.args.place.row c.in_ok-to.to
+    c.shift-moved.ensures.moves (c.in_ok-to.ensures.rowless slots) in
+    record { ready = left.0; tidy = left.1 }
+
 pub invariant_of-self-2 : goal.invariant_of-self-2
 invariant_of-self-2 c =
-    let none = ap (λ (l : LayoutState). l.moves) c.self.view_is ∙ c.requires.unprepared in
-    idle_laid _ _ c.self.invariant none _ (λ was.
-    c.drop_empty.ensures.rowless []
-    (rowless_moved _ _ c.args.place.table c.args.place.row c.in_ok-to.to [] c.shift-moved.ensures.moves (c.in_ok-to.ensures.rowless [] was)))
+    still_laid _ c.self.inside.prepared c.release.new.self c.release.ensures.same c.self.invariant.done
+    c.release.ensures.ready c.release.ensures.tidy
 
 pub returns-clause-ok : goal.returns-clause-ok
 returns-clause-ok c =
@@ -63,11 +69,16 @@ returns-clause-ok c =
     let m = c.shift-moved.result in
     rw (← c.self.view_is)
     (subst (λ R. MovesRow (rows_in c.self.inside.archetypes) R c.args.place m.place c.args.type_list.now m.filler)
-    (sym (rows_alike _ _ c.drop_empty.ensures.rows))
+    (sym (rows_alike _ _ c.release.ensures.rows))
     (subst (λ R. MovesRow R (rows_in c.shift-moved.new.archetypes) c.args.place m.place c.args.type_list.now m.filler)
     (rows_alike _ s1 c.room_for.ensures.rows)
     (subst (λ ids. MovesRow (rows_in s1) (rows_in c.shift-moved.new.archetypes) c.args.place m.place ids m.filler)
     (typed_table s1 c.in_ok-to.to _ c.in_ok-to.ensures.typed) c.shift-moved.ensures.row)))
 
 pub returns-clause-unprepared : goal.returns-clause-unprepared
-returns-clause-unprepared c = idle_moves _ _ c.self.invariant (ap (λ (l : LayoutState). l.moves) c.self.view_is ∙ c.requires.unprepared) _
+returns-clause-unprepared c =
+    c.release.ensures.left ∙ idle_moves _ _ c.self.invariant (ap (λ (l : LayoutState). l.moves) c.self.view_is ∙ c.requires.unprepared) _
+
+pub returns-clause-widths : goal.returns-clause-widths
+returns-clause-widths c =
+    rw (← c.self.view_is) (λ was. c.release.ensures.widths _ (c.shift-moved.ensures.widths _ (c.room_for.ensures.widths was)))

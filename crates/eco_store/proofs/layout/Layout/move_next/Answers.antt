@@ -1,9 +1,11 @@
 use Rattle.std.proofs.Common.{◌≡◌, ◌∷◌, ◌<◌, length, Some, IsTrue, refl, sym, ap, subst, ◌∙◌}
 use Rattle.eco_tables.specs.Tables.{table_in, no_row, AllHaveIds}
 use Rattle.eco_store.specs.Layout.{rows_in, IsMoved, MovesRow}
-use Rattle.eco_store.specs.Preparing.{moves_of, is_next}
+use Rattle.eco_store.specs.Archetypes.{RowlessIn}
+use Rattle.eco_store.specs.Preparing.{staying, moves_of, is_next}
 use Rattle.eco_store.proofs.ArchetypeLemmas.{there_by_row}
 use Rattle.eco_store.proofs.LaidRows.{rows_alike}
+use Rattle.eco_store.proofs.Rowless.{rowless_beside, rowless_moved}
 use Rattle.eco_store.proofs.NextMoves.{next_type, next_left, rest_ready, rest_left, rest_ready_after}
 use Rattle.eco_store.proofs.layout.Layout.move_next.Goals.{then-place-to, else-place-to}
 use Rattle.eco_store.proofs.layout.Layout.move_next.Goals as goal
@@ -18,6 +20,23 @@ release-requires-clause-ready c =
     let first_is : p.arrivals ≡ a ∷ p'.arrivals = rw c.unwrap-to.ensures at c.take_next.ensures.some in
     rest_ready_after s p p' a first_is c.take_next.ensures.targets c.self.invariant.ready c.shift-moved.new.archetypes place.table place.row
     c.shift-moved.ensures.moves (there_by_row s place.table place.row (rw (← c.self.view_is) at c.requires.row))
+
+pub release-requires-clause-tidy : goal.release-requires-clause-tidy
+release-requires-clause-tidy c =
+    let s = c.self.inside.archetypes in
+    let p' = c.take_next.new.self in
+    let to = c.unwrap-to.result.1 in
+    let same : staying p' ≡ staying c.self.inside.prepared = λ t. c.take_next.ensures.idle t ∷ c.take_next.ensures.targets t in
+    rowless_moved s _ c.args.place.table c.args.place.row to (staying p') c.shift-moved.ensures.moves
+    (rowless_beside s to (staying p') (subst (RowlessIn s) (sym same) c.self.invariant.tidy))
+
+pub finish-requires-clause-tidy : goal.finish-requires-clause-tidy
+finish-requires-clause-tidy c =
+    let same : staying c.take_next.new.self ≡ staying c.self.inside.prepared = λ t. c.take_next.ensures.idle t ∷ c.take_next.ensures.targets t in
+    elim c.if-place-to.branch [
+      | then-place-to w ↦ rw w.self-inside-is w.release.ensures.tidy
+      | else-place-to w ↦ rw w.self-inside-is (subst (RowlessIn c.self.inside.archetypes) (sym same) c.self.invariant.tidy)
+    ]
 
 pub finish-requires-clause-ready : goal.finish-requires-clause-ready
 finish-requires-clause-ready c =

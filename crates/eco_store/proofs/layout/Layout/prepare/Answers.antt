@@ -28,4 +28,5 @@ loop-done-preserved c =
           ∙ sym (drop_more ms k _ (omega (arith, c.loop-done-test.true)))
           ∙ ap (λ i. drop i ms) now;
       rows = λ n row. c.prepare_before.ensures.rows n row ∙ c.loop-done.invariant.rows n row;
+      widths = λ was. c.prepare_before.ensures.widths (c.loop-done.invariant.widths was);
     }

@@ -1,49 +1,133 @@
-use Rattle.std.proofs.Common.{[], ◌<◌, length, sym, ap, subst, ◌∙◌}
-use Rattle.eco_tables.specs.Tables.{no_row, AllHaveIds}
+use Rattle.std.proofs.Common.{[], ◌<◌, ◌≡◌, IsSome, length, unwrap_or, sym, ap, subst, ◌∙◌}
+use Rattle.eco_tables.specs.Tables.{no_row, no_table, table_in, AllHaveIds}
+use Rattle.eco_store.specs.Archetypes.{MayTakeType, SameSlots}
 use Rattle.eco_store.specs.Edges.{toggled}
-use Rattle.eco_store.specs.Layout.{LayoutState, rows_in, ids_at, MovesRow}
-use Rattle.eco_store.proofs.ArchetypeLemmas.{there_by_row}
-use Rattle.eco_store.proofs.LaidRows.{rows_alike, idle_laid, idle_moves}
-use Rattle.eco_store.proofs.Rowless.{rowless_moved}
+use Rattle.eco_store.specs.Layout.{LayoutState, rows_in, ids_at, MovesRow, RetypesRow}
+use Rattle.eco_store.specs.Preparing.{staying}
+use Rattle.eco_store.specs.Seats.{SameRows}
+use Rattle.eco_store.proofs.ArchetypeLemmas.{rows_from_slots, then_rows, there_by_row}
+use Rattle.eco_store.proofs.Keys.{err_says}
+use Rattle.eco_store.proofs.LaidRows.{rows_alike, idle_laid, idle_leaves, idle_moves, still_laid}
 use Rattle.eco_store.proofs.StoreChanges.{typed_table}
+use Rattle.eco_store.proofs.Turnings.{rowless_slots, takes_row, takes_rowless}
 use Rattle.eco_store.proofs.layout.Layout.step_at_once.Goals as goal
 
-pub step-requires : goal.step-requires
-step-requires c = there_by_row _ c.args.place.table c.args.place.row (rw (← c.self.view_is) at c.requires.row)
+pub step_alone-requires : goal.step_alone-requires
+step_alone-requires c = there_by_row _ c.args.place.table c.args.place.row (rw (← c.self.view_is) at c.requires.row)
 
+-- where memory is refused for the table itself
 pub invariant_of-self : goal.invariant_of-self
 invariant_of-self c =
     let none = ap (λ (l : LayoutState). l.moves) c.self.view_is ∙ c.requires.unprepared in
-    idle_laid _ _ c.self.invariant none _ (c.in_err-to.ensures.rowless [])
+    idle_laid _ _ c.self.invariant none _ (rowless_slots _ _ (staying c.self.inside.prepared) c.in_err-stays.ensures.err)
+
+pub returns-in_err-stays-clause-err : goal.returns-in_err-stays-clause-err
+returns-in_err-stays-clause-err c =
+    rw (← c.self.view_is) (err_says c.from_residual.result (rows_from_slots _ _ c.in_err-stays.ensures.err))
+
+pub returns-in_err-stays-clause-unprepared : goal.returns-in_err-stays-clause-unprepared
+returns-in_err-stays-clause-unprepared c = idle_moves _ _ c.self.invariant (ap (λ (l : LayoutState). l.moves) c.self.view_is ∙ c.requires.unprepared) _
+
+-- where the table takes the type
+pub invariant_of-self-then-stays : goal.invariant_of-self-then-stays
+invariant_of-self-then-stays c =
+    let none = ap (λ (l : LayoutState). l.moves) c.self.view_is ∙ c.requires.unprepared in
+    let s = c.self.inside.archetypes in
+    let takes = subst (MayTakeType s c.step_alone.new.self c.args.place.table (toggled (table_in s c.args.place.table).ids c.args.id)) c.if-stays.true c.in_ok-stays.ensures.ok in
+    idle_laid _ _ c.self.invariant none _ (takes_rowless _ _ c.args.place.table _ takes.0 takes.1 (staying c.self.inside.prepared))
+
+pub returns-then-stays-clause-ok : goal.returns-then-stays-clause-ok
+returns-then-stays-clause-ok c =
+    let s = c.self.inside.archetypes in
+    let s1 = c.step_alone.new.self in
+    let takes = subst (MayTakeType s s1 c.args.place.table (toggled (table_in s c.args.place.table).ids c.args.id)) c.if-stays.true c.in_ok-stays.ensures.ok in
+    let there = rw (← c.self.view_is) at c.requires.row in
+    let own = subst AllHaveIds c.tables.ensures.same c.rows_have_ids.ensures c.args.place.table c.args.place.row no_row there in
+    rw (← c.self.view_is)
+    (subst (RetypesRow (rows_in s) (rows_in s1) c.args.place) (ap (λ ids. toggled ids c.args.id) (sym own))
+    (takes_row s s1 c.args.place _ takes.0 takes.1 there))
+
+pub returns-then-stays-clause-unprepared : goal.returns-then-stays-clause-unprepared
+returns-then-stays-clause-unprepared c = idle_moves _ _ c.self.invariant (ap (λ (l : LayoutState). l.moves) c.self.view_is ∙ c.requires.unprepared) _
+
+-- where the row goes to another table
+pub step-requires : goal.step-requires
+step-requires c =
+    let s = c.self.inside.archetypes in
+    let same : SameSlots s c.step_alone.new.self =
+    subst (MayTakeType s c.step_alone.new.self c.args.place.table (toggled (table_in s c.args.place.table).ids c.args.id)) c.if-stays.false c.in_ok-stays.ensures.ok in
+    subst IsSome (sym (same c.args.place.table)) (there_by_row _ c.args.place.table c.args.place.row (rw (← c.self.view_is) at c.requires.row))
+
+pub invariant_of-self-in_err-to : goal.invariant_of-self-in_err-to
+invariant_of-self-in_err-to c =
+    let none = ap (λ (l : LayoutState). l.moves) c.self.view_is ∙ c.requires.unprepared in
+    let s = c.self.inside.archetypes in
+    let same : SameSlots s c.step_alone.new.self =
+    subst (MayTakeType s c.step_alone.new.self c.args.place.table (toggled (table_in s c.args.place.table).ids c.args.id)) c.if-stays.false c.in_ok-stays.ensures.ok in
+    idle_laid _ _ c.self.invariant none _ (λ was.
+    let slots = staying c.self.inside.prepared in c.in_err-to.ensures.rowless slots (rowless_slots _ _ slots same was))
+
+pub returns-in_err-to-clause-err : goal.returns-in_err-to-clause-err
+returns-in_err-to-clause-err c =
+    let s = c.self.inside.archetypes in
+    let same : SameSlots s c.step_alone.new.self =
+    subst (MayTakeType s c.step_alone.new.self c.args.place.table (toggled (table_in s c.args.place.table).ids c.args.id)) c.if-stays.false c.in_ok-stays.ensures.ok in
+    rw (← c.self.view_is) (err_says c.from_residual-in_err-to.result (then_rows _ _ _ (rows_from_slots _ _ same) c.step.ensures.rows))
+
+pub returns-in_err-to-clause-widths : goal.returns-in_err-to-clause-widths
+returns-in_err-to-clause-widths c = rw (← c.self.view_is) (λ was. c.step.ensures.widths (c.step_alone.ensures.widths was))
 
 pub returns-in_err-to-clause-unprepared : goal.returns-in_err-to-clause-unprepared
 returns-in_err-to-clause-unprepared c = idle_moves _ _ c.self.invariant (ap (λ (l : LayoutState). l.moves) c.self.view_is ∙ c.requires.unprepared) _
 
 pub shift-moved-requires-clause-row : goal.shift-moved-requires-clause-row
 shift-moved-requires-clause-row c =
-    subst (λ R. c.args.place.row < length (R c.args.place.table)) (sym (rows_alike _ _ c.step.ensures.rows)) (rw (← c.self.view_is) at c.requires.row)
+    let s = c.self.inside.archetypes in
+    let same : SameSlots s c.step_alone.new.self =
+    subst (MayTakeType s c.step_alone.new.self c.args.place.table (toggled (table_in s c.args.place.table).ids c.args.id)) c.if-stays.false c.in_ok-stays.ensures.ok in
+    subst (λ R. c.args.place.row < length (R c.args.place.table)) (sym (rows_alike _ _ (then_rows _ _ _ (rows_from_slots _ _ same) c.step.ensures.rows)))
+    (rw (← c.self.view_is) at c.requires.row)
+
+pub release-requires : goal.release-requires
+release-requires c =
+    let none = ap (λ (l : LayoutState). l.moves) c.self.view_is ∙ c.requires.unprepared in
+    let slots = staying c.self.inside.prepared in
+    let s = c.self.inside.archetypes in
+    let same : SameSlots s c.step_alone.new.self =
+    subst (MayTakeType s c.step_alone.new.self c.args.place.table (toggled (table_in s c.args.place.table).ids c.args.id)) c.if-stays.false c.in_ok-stays.ensures.ok in
+    let left = idle_leaves _ _ c.self.invariant none _ _ c.args.place.table c.args.place.row c.in_ok-to.to
+    c.shift-moved.ensures.moves (λ was. c.in_ok-to.ensures.rowless slots (rowless_slots _ _ slots same was)) in
+    record { ready = left.0; tidy = left.1 }
 
 pub invariant_of-self-2 : goal.invariant_of-self-2
 invariant_of-self-2 c =
-    let none = ap (λ (l : LayoutState). l.moves) c.self.view_is ∙ c.requires.unprepared in
-    idle_laid _ _ c.self.invariant none _ (λ was.
-    c.drop_empty.ensures.rowless []
-    (rowless_moved _ _ c.args.place.table c.args.place.row c.in_ok-to.to [] c.shift-moved.ensures.moves (c.in_ok-to.ensures.rowless [] was)))
+    still_laid _ c.self.inside.prepared c.release.new.self c.release.ensures.same c.self.invariant.done
+    c.release.ensures.ready c.release.ensures.tidy
 
 pub returns-clause-ok : goal.returns-clause-ok
 returns-clause-ok c =
     let s = c.self.inside.archetypes in
-    let s1 = c.step.new.self in
+    let s1 = c.step_alone.new.self in
+    let s2 = c.step.new.self in
     let m = c.shift-moved.result in
+    let same : SameSlots s s1 =
+    subst (MayTakeType s s1 c.args.place.table (toggled (table_in s c.args.place.table).ids c.args.id)) c.if-stays.false c.in_ok-stays.ensures.ok in
+    let rows : SameRows s s2 = then_rows s s1 s2 (rows_from_slots s s1 same) c.step.ensures.rows in
     let there = rw (← c.self.view_is) at c.requires.row in
     let own = subst AllHaveIds c.tables.ensures.same c.rows_have_ids.ensures c.args.place.table c.args.place.row no_row there in
+    let ids : (table_in s1 c.args.place.table).ids ≡ ids_at s c.args.place = ap (λ o. (unwrap_or o no_table).ids) (same c.args.place.table) ∙ sym own in
     rw (← c.self.view_is)
     (subst (λ R. MovesRow (rows_in s) R c.args.place m.place (toggled (ids_at s c.args.place) c.args.id) m.filler)
-    (sym (rows_alike _ _ c.drop_empty.ensures.rows))
+    (sym (rows_alike _ _ c.release.ensures.rows))
     (subst (λ R. MovesRow R (rows_in c.shift-moved.new.archetypes) c.args.place m.place (toggled (ids_at s c.args.place) c.args.id) m.filler)
-    (rows_alike _ s1 c.step.ensures.rows)
-    (subst (λ ids. MovesRow (rows_in s1) (rows_in c.shift-moved.new.archetypes) c.args.place m.place ids m.filler)
-    (typed_table s1 c.in_ok-to.to _ c.in_ok-to.ensures.typed ∙ ap (λ ids. toggled ids c.args.id) (sym own)) c.shift-moved.ensures.row)))
+    (rows_alike s s2 rows)
+    (subst (λ xs. MovesRow (rows_in s2) (rows_in c.shift-moved.new.archetypes) c.args.place m.place xs m.filler)
+    (typed_table s2 c.in_ok-to.to _ c.in_ok-to.ensures.typed ∙ ap (λ xs. toggled xs c.args.id) ids) c.shift-moved.ensures.row)))
 
 pub returns-clause-unprepared : goal.returns-clause-unprepared
-returns-clause-unprepared c = idle_moves _ _ c.self.invariant (ap (λ (l : LayoutState). l.moves) c.self.view_is ∙ c.requires.unprepared) _
+returns-clause-unprepared c =
+    c.release.ensures.left ∙ idle_moves _ _ c.self.invariant (ap (λ (l : LayoutState). l.moves) c.self.view_is ∙ c.requires.unprepared) _
+
+pub returns-clause-widths : goal.returns-clause-widths
+returns-clause-widths c =
+    rw (← c.self.view_is) (λ was. c.release.ensures.widths _ (c.shift-moved.ensures.widths _ (c.step.ensures.widths (c.step_alone.ensures.widths was))))

@@ -1,7 +1,8 @@
 use Rattle.std.proofs.Common.{◌<◌, length, sym, ap, subst, ◌∙◌}
 use Rattle.eco_store.specs.Layout.{LayoutState, rows_in, TakesRow}
+use Rattle.eco_store.specs.Preparing.{staying}
 use Rattle.eco_store.proofs.ArchetypeLemmas.{there_by_row}
-use Rattle.eco_store.proofs.LaidRows.{rows_alike, row_takes}
+use Rattle.eco_store.proofs.LaidRows.{rows_alike, row_takes, still_laid}
 use Rattle.eco_store.proofs.Readiness.{ready_spared, moves_spared, spares_without}
 use Rattle.eco_store.proofs.Rowless.{rowless_emptied}
 use Rattle.eco_store.proofs.layout.Layout.take_row.Goals as goal
@@ -20,8 +21,13 @@ release-requires c =
     let there = there_by_row s place.table place.row (subst (λ R. place.row < length (R place.table)) (sym same) c.requires) in
     record {
       ready = ready_spared s _ p (spares_without s _ p place.table place.row there c.swap_out-moved.ensures.rows) c.self.invariant.ready;
-      tidy = rowless_emptied s _ place.table p.targets _ c.swap_out-moved.ensures.rows c.self.invariant.tidy;
+      tidy = rowless_emptied s _ place.table (staying p) _ c.swap_out-moved.ensures.rows c.self.invariant.tidy;
     }
+
+pub invariant_of-self : goal.invariant_of-self
+invariant_of-self c =
+    still_laid _ c.self.inside.prepared c.release.new.self c.release.ensures.same c.self.invariant.done
+    c.release.ensures.ready c.release.ensures.tidy
 
 pub returns-clause-rows : goal.returns-clause-rows
 returns-clause-rows c =

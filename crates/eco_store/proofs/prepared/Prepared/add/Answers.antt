@@ -9,4 +9,5 @@ returns-clause-ok c =
       arrivals = arrived _ c.args.entity c.args.slot (entity_ties c.args.entity) c.self.inside.arrivals c.insert.new.self.entries c.in_ok-insert.ensures.entries
           (rw (← c.self.view_is) at c.requires) t;
       targets = c.self.inside.targets.keys;
+      idle = c.self.inside.idle;
     })

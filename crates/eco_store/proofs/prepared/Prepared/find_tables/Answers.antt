@@ -35,4 +35,5 @@ loop-change-preserved c =
           (λ k d within. (grown _ (c.loop-change.invariant.named k d within).0, grown _ (c.loop-change.invariant.named k d within).1))
           (c.in_ok-to.ensures.grown t.from c.in_ok-from.ensures.stays, c.in_ok-to.ensures.stays));
       rows = λ n k. c.in_ok-to.ensures.rows n k ∙ c.in_ok-from.ensures.rows n k ∙ c.loop-change.invariant.rows n k;
+      widths = λ was. c.in_ok-to.ensures.widths (c.in_ok-from.ensures.widths (c.loop-change.invariant.widths was));
     }

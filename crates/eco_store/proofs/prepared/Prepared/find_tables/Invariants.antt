@@ -1,15 +1,18 @@
 use Rattle.std.proofs.Common.{take}
 use Rattle.eco_store.specs.Archetypes.{RowlessIn}
-use Rattle.eco_store.specs.Preparing.{IsReady}
+use Rattle.eco_store.specs.Preparing.{staying, IsReady}
+use Rattle.eco_entities.specs.Needs.{need}
 use Rattle.eco_store.specs.Seats.{SameRows}
 use Rattle.eco_store.specs.Transfers.{AreNamed, IsPlan}
+use Rattle.eco_store.specs.Widths.{Covers}
 use Rattle.eco_store.proofs.prepared.Prepared.find_tables.Given as goal
 
 abbrev pub invariant-loop-change : goal.invariant-loop-change
 invariant-loop-change l = record {
   ready : IsReady l.archetypes l.self;
-  tidy : RowlessIn l.archetypes l.self.targets;
+  tidy : RowlessIn l.archetypes (staying l.self);
   plan : IsPlan l.archetypes l.transfers.items (take l.change-index l.changes);
   named : AreNamed l.self.targets l.transfers.items;
   rows : SameRows l.initial.archetypes l.archetypes;
+  widths : Covers (need l.entities) l.initial.archetypes → Covers (need l.entities) l.archetypes;
 }

@@ -1,10 +1,12 @@
-use Rattle.std.proofs.Common.{◌++◌, [], sym, ap, ◌∙◌, subst, append-nil}
+use Rattle.std.proofs.Common.{◌++◌, ◌∷◌, [], sym, ap, subst}
 use Rattle.eco_store.specs.Archetypes.{RowlessIn}
 use Rattle.eco_store.proofs.LaidRows.{laid_nothing}
+use Rattle.eco_store.proofs.Rowless.{rowless_last}
 use Rattle.eco_store.proofs.prepared.Prepared.forget.Goals as goal
 
 pub returns-clause-laid : goal.returns-clause-laid
 returns-clause-laid c =
-    laid_nothing _ _ c.clear.ensures
-    (c.drop_each.ensures.rowless []
-    (subst (RowlessIn c.args.archetypes.now) (sym (append-nil c.args.self.now.targets) ∙ ap (λ xs. xs ++ []) (sym c.targets.ensures)) c.requires))
+    let p = c.args.self.now in
+    laid_nothing _ _ p.idle c.clear.ensures
+    (c.drop_each.ensures.rowless (p.idle ∷ [])
+    (subst (RowlessIn c.args.archetypes.now) (ap (λ xs. xs ++ p.idle ∷ []) (sym c.targets.ensures)) (rowless_last _ p.idle p.targets c.requires)))

@@ -6,12 +6,19 @@ use Rattle.eco_ids.specs.Step.{with_name}
 use Rattle.eco_store.specs.Store.{StoreState, read, record_name}
 use Rattle.eco_store.proofs.StoreChanges.{same_read, same_store}
 use Rattle.eco_store.proofs.Values.{rename_lifts}
+use Rattle.eco_entities.specs.Runs.{Rename}
+use Rattle.eco_store.proofs.Needing.{called}
 use Rattle.eco_store.proofs.store.Store.rename.Goals as goal
 
 pub invariant_of-self : goal.invariant_of-self
-invariant_of-self c =
-    (rename_lifts c.self.inside.entities c.forget.new.self.tables c.args.e (option_copied c.args.name) c.rename.new.self c.rename.result c.rename.ensures).0
-    (same_store _ _ _ c.forget.ensures.rows c.self.invariant)
+invariant_of-self c = record {
+  store =
+      (rename_lifts c.self.inside.entities c.forget.new.self.tables c.args.e (option_copied c.args.name) c.rename.new.self c.rename.result c.rename.ensures).0
+      (same_store _ _ _ c.forget.ensures.rows c.self.invariant.store);
+  covers =
+      called c.needs_never_grow.ensures (Rename c.args.e (option_copied c.args.name)) _ _ _ (c.rename.result, c.rename.ensures)
+      (c.forget.ensures.widths _ c.self.invariant.covers);
+}
 
 pub returns-clause-step : goal.returns-clause-step
 returns-clause-step c =

@@ -2,50 +2,61 @@ use Rattle.std.proofs.Common.{slice_get, sym, ap, subst, ◌∙◌}
 use Rattle.eco_store.specs.Layout.{IsMoved}
 use Rattle.eco_store.proofs.RowCounts.{own_fits, end_fits}
 use Rattle.eco_store.proofs.StoreChanges as changes
+use Rattle.eco_store.proofs.Needing.{fixed_covers, placed_covers}
 use Rattle.eco_store.proofs.store.Store.retype.Goals as goal
 
 pub move_row-requires : goal.move_row-requires
-move_row-requires c = changes.row_within c.self.inside.entities _ c.args.e _ c.self.invariant (sym c.place_of.ensures ∙ c.unwrap-place.ensures)
+move_row-requires c = changes.row_within c.self.inside.entities _ c.args.e _ c.self.invariant.store (sym c.place_of.ensures ∙ c.unwrap-place.ensures)
 
 pub returns-in_err-moved-clause-own : goal.returns-in_err-moved-clause-own
 returns-in_err-moved-clause-own c =
     rw (← c.self.view_is) (λ own.
     let bad =
     c.in_err-moved.ensures.own
-    (changes.ids_there c.self.inside.entities _ c.args.e _ _ c.self.invariant (sym c.place_of.ensures ∙ c.unwrap-place.ensures) own) in
+    (changes.ids_there c.self.inside.entities _ c.args.e _ _ c.self.invariant.store (sym c.place_of.ensures ∙ c.unwrap-place.ensures) own) in
     absurd (cc))
 
 pub fix_place-requires-clause-living : goal.fix_place-requires-clause-living
 fix_place-requires-clause-living c =
-    changes.to_movers_live c.self.inside.entities _ _ c.args.e c.unwrap-place.result c.in-Some.moved.place _ _ c.self.invariant
+    changes.to_movers_live c.self.inside.entities _ _ c.args.e c.unwrap-place.result c.in-Some.moved.place _ _ c.self.invariant.store
     (sym c.place_of.ensures ∙ c.unwrap-place.ensures)
     (subst (IsMoved _ _ c.unwrap-place.result c.args.type_list.now) c.in-Some.is c.in_ok-moved.ensures.ok)
 
 pub set_place-requires-clause-alive : goal.set_place-requires-clause-alive
 set_place-requires-clause-alive c =
     rw c.fix_place.ensures
-    (changes.to_alive c.self.inside.entities _ _ c.args.e c.unwrap-place.result c.in-Some.moved.place _ _ c.self.invariant
+    (changes.to_alive c.self.inside.entities _ _ c.args.e c.unwrap-place.result c.in-Some.moved.place _ _ c.self.invariant.store
     (sym c.place_of.ensures ∙ c.unwrap-place.ensures)
     (subst (IsMoved _ _ c.unwrap-place.result c.args.type_list.now) c.in-Some.is c.in_ok-moved.ensures.ok))
 
 pub invariant_of-self-in-Some : goal.invariant_of-self-in-Some
-invariant_of-self-in-Some c =
-    rw (c.set_place.ensures, c.fix_place.ensures)
-    (changes.to_store c.self.inside.entities _ _ c.args.e c.unwrap-place.result c.in-Some.moved.place _ _ c.self.invariant
-    (sym c.place_of.ensures ∙ c.unwrap-place.ensures)
-    (subst (IsMoved _ _ c.unwrap-place.result c.args.type_list.now) c.in-Some.is c.in_ok-moved.ensures.ok))
+invariant_of-self-in-Some c = record {
+  store =
+      rw (c.set_place.ensures, c.fix_place.ensures)
+      (changes.to_store c.self.inside.entities _ _ c.args.e c.unwrap-place.result c.in-Some.moved.place _ _ c.self.invariant.store
+      (sym c.place_of.ensures ∙ c.unwrap-place.ensures)
+      (subst (IsMoved _ _ c.unwrap-place.result c.args.type_list.now) c.in-Some.is c.in_ok-moved.ensures.ok));
+  covers =
+      placed_covers c.needs_never_grow.ensures _ _ _ c.args.e c.in-Some.moved.place c.set_place.ensures
+      (fixed_covers c.needs_never_grow.ensures c.self.inside.entities c.fix_place.new.entities _ c.in-Some.moved.filler c.unwrap-place.result c.fix_place.ensures (c.move_row.ensures.widths c.self.invariant.covers));
+}
 
 pub returns-in-Some-clause-ok : goal.returns-in-Some-clause-ok
 returns-in-Some-clause-ok c =
     rw (← c.self.view_is, c.set_place.ensures, c.fix_place.ensures)
-    (changes.to_read c.self.inside.entities _ _ c.args.e c.unwrap-place.result c.in-Some.moved.place _ _ c.self.invariant
+    (changes.to_read c.self.inside.entities _ _ c.args.e c.unwrap-place.result c.in-Some.moved.place _ _ c.self.invariant.store
     (sym c.place_of.ensures ∙ c.unwrap-place.ensures)
     (subst (IsMoved _ _ c.unwrap-place.result c.args.type_list.now) c.in-Some.is c.in_ok-moved.ensures.ok))
 
 pub invariant_of-self-in-None : goal.invariant_of-self-in-None
 invariant_of-self-in-None c =
     let stays = subst (IsMoved _ _ c.unwrap-place.result c.args.type_list.now) c.in-None.is c.in_ok-moved.ensures.ok in
-    changes.same_store c.self.inside.entities _ _ (λ n k. ap (λ R. slice_get (R n) k) stays.0) c.self.invariant
+    record {
+      store =
+          changes.same_store c.self.inside.entities _ _ (λ n k. ap (λ R. slice_get (R n) k) stays.0) c.self.invariant.store;
+      covers =
+          c.move_row.ensures.widths c.self.invariant.covers;
+    }
 
 pub returns-in-None-clause-ok : goal.returns-in-None-clause-ok
 returns-in-None-clause-ok c =
@@ -53,12 +64,12 @@ returns-in-None-clause-ok c =
     let stays = subst (IsMoved _ _ c.unwrap-place.result c.args.type_list.now) c.in-None.is c.in_ok-moved.ensures.ok in
     rw (← c.self.view_is)
     (changes.same_read c.self.inside.entities _ _ (λ n k. ap (λ R. slice_get (R n) k) stays.0)
-    ∙ changes.same_type c.self.inside.entities _ c.args.e c.unwrap-place.result _ c.self.invariant own stays.1 c.as_slice-ids.ensures.ascending)
+    ∙ changes.same_type c.self.inside.entities _ c.args.e c.unwrap-place.result _ c.self.invariant.store own stays.1 c.as_slice-ids.ensures.ascending)
 
 pub fix_place-requires-clause-fits : goal.fix_place-requires-clause-fits
-fix_place-requires-clause-fits c = own_fits c.self.inside.entities _ c.args.e c.unwrap-place.result c.rules.ensures c.self.invariant (sym c.place_of.ensures ∙ c.unwrap-place.ensures)
+fix_place-requires-clause-fits c = own_fits c.self.inside.entities _ c.args.e c.unwrap-place.result c.rules.ensures c.self.invariant.store (sym c.place_of.ensures ∙ c.unwrap-place.ensures)
 
 pub set_place-requires-clause-fits : goal.set_place-requires-clause-fits
 set_place-requires-clause-fits c =
     let moves = subst (IsMoved _ _ c.unwrap-place.result c.args.type_list.now) c.in-Some.is c.in_ok-moved.ensures.ok in
-    end_fits c.self.inside.entities _ c.in-Some.moved.place.table _ c.rules.ensures c.self.invariant moves.end
+    end_fits c.self.inside.entities _ c.in-Some.moved.place.table _ c.rules.ensures c.self.invariant.store moves.end

@@ -3,4 +3,4 @@ use Rattle.eco_store.proofs.store.Store.tables.Goals as goal
 
 pub returns-clause-shown : goal.returns-clause-shown
 returns-clause-shown c = rw (← c.self.view_is, c.tables-tables.ensures.same)
-    (shows c.self.inside.entities c.self.inside.layout.tables c.self.invariant (rw c.tables-tables.ensures.same at c.rows_have_ids.ensures))
+    (shows c.self.inside.entities c.self.inside.layout.tables c.self.invariant.store (rw c.tables-tables.ensures.same at c.rows_have_ids.ensures))

@@ -3,6 +3,7 @@ use Rattle.std.proofs.lemmas.Result.{err_from_is_err_and}
 use Rattle.eco_ids.specs.Outcome.{Meets}
 use Rattle.eco_ids.specs.Step.{Adds, Sets, changed, may_add, with_value}
 use Rattle.eco_world.proofs.Extending.{extended, lawful_there, there_after, alive_after, lawful_after, refused_after, sets_after}
+use Rattle.eco_world.proofs.Fitting.{written_fits}
 use Rattle.eco_world.proofs.world.World.set.Goals as goal
 
 pub write-requires-clause-lawful : goal.write-requires-clause-lawful
@@ -36,6 +37,18 @@ write-requires-2-clause-lawful c = λ there.
     lawful_after c.args.self.now c.args.entity c.args.id c.args.value c.in_ok-check_set.ensures.ok c.is_lawful.ensures
     (c.steps_keep_lawful.ensures.set c.args.entity c.args.id c.args.value)
     (sym c.if-write.ensures.had) c.add_adds_once.ensures c.extend.new.self extends
+
+pub write-requires-2-clause-fits : goal.write-requires-2-clause-fits
+write-requires-2-clause-fits c =
+    let extends = extended c.args.self.now c.args.entity c.args.id c.args.value c.in_ok-check_set.ensures.ok (sym c.if-write.ensures.had) (Ok tt) c.extend.new.self
+    (subst (λ w. Adds w c.args.entity c.args.id (Ok tt) c.extend.new.self) c.if-write.ensures.written c.in_ok-extend.ensures) in
+    written_fits c.extend.new.self c.args.entity c.args.id c.args.value
+    (there_after c.args.self.now c.args.entity c.args.id c.args.value c.in_ok-check_set.ensures.ok c.is_lawful.ensures
+    (c.steps_keep_lawful.ensures.set c.args.entity c.args.id c.args.value)
+    (sym c.if-write.ensures.had) c.add_adds_once.ensures c.extend.new.self extends)
+    (lawful_after c.args.self.now c.args.entity c.args.id c.args.value c.in_ok-check_set.ensures.ok c.is_lawful.ensures
+    (c.steps_keep_lawful.ensures.set c.args.entity c.args.id c.args.value)
+    (sym c.if-write.ensures.had) c.add_adds_once.ensures c.extend.new.self extends)
 
 pub returns : goal.returns
 returns c =

@@ -4,7 +4,8 @@ use Rattle.std.proofs.lemmas.List.Sorted.{Contains-permutation, IsPermutation-ma
 use Rattle.eco_ids.specs.Matching.{pattern_matches}
 use Rattle.eco_world.specs.Worlds.{world_of}
 use Rattle.eco_world.specs.Layouts.{HasTable, listed, listed_of, shown_at}
-use Rattle.eco_world.proofs.Tabled.{all_covered, found_covered, found_differ, found_match, found_there}
+use Rattle.eco_world.proofs.Tabled.{all_covered, found_covered, found_differ, found_match, found_some, found_there}
+use Rattle.eco_world.proofs.Steps.{err_says}
 use Rattle.eco_world.proofs.Layouts.{covers_moved, layout_around, same_type, sorted_tables, Covers}
 use Rattle.eco_world.proofs.world.World.tables_with.Goals as goal
 
@@ -15,8 +16,8 @@ tables_in-requires c =
     (found_there (world_of c.self.inside.store.entities) found.tables.now c.in_ok-found.ensures.shown c.in_ok-found.ensures.kinds
     c.args.pattern found.slots.items c.in_ok-found.ensures.listed)
 
-pub returns : goal.returns
-returns c =
+pub returns-clause-all : goal.returns-clause-all
+returns-clause-all c =
     let slots = c.in_ok-found.found.tables.now in
     let ns = c.in_ok-found.found.slots.items in
     let shown = c.in_ok-found.ensures.shown in
@@ -25,7 +26,7 @@ returns c =
     let new = c.sort_by_type.new.tables.items in
     let w = world_of c.self.inside.store.entities in
     let passes = list_any (pattern_matches c.args.pattern) in
-    let all : listed old ≡ map (shown_at slots) ns = c.in_ok-tables.ensures ∙ ap (map (shown_at slots)) c.deref.ensures.value in
+    let all : listed old ≡ map (shown_at slots) ns = c.in_ok-tables.ensures.all ∙ ap (map (shown_at slots)) c.deref.ensures.value in
     let moved = IsPermutation-map listed_of old new c.sort_by_type.ensures.same in
     rw (← c.self.view_is)
     (layout_around w passes (listed new) _
@@ -36,3 +37,11 @@ returns c =
     (λ t p. found_match w slots shown kinds c.args.pattern ns c.in_ok-found.ensures.listed t
     (subst (λ ts. Contains ts t) all (Contains-permutation (listed new) (listed old) t (IsPermutation-sym (listed old) (listed new) moved) p)))
     (all_covered w slots shown kinds))
+
+pub returns-in_err-tables-clause-some : goal.returns-in_err-tables-clause-some
+returns-in_err-tables-clause-some c =
+    let found = c.in_ok-found.found in
+    rw (← c.self.view_is)
+    (err_says c.from_residual-in_err-tables.result
+    (found_some (world_of c.self.inside.store.entities) found.tables.now c.in_ok-found.ensures.shown c.in_ok-found.ensures.kinds c.args.pattern
+    found.slots.items c.in_ok-found.ensures.listed (rw c.deref.ensures.value at c.in_err-tables.ensures.some)))

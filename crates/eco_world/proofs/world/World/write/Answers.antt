@@ -4,7 +4,11 @@ use Rattle.eco_ids.specs.Step.{changed, with_value}
 use Rattle.eco_ids.specs.World.{WorldState, has}
 use Rattle.eco_world.specs.Worlds.{world_of}
 use Rattle.eco_world.proofs.Changes.{written_lawful, written_there}
+use Rattle.eco_world.proofs.Fitting.{fits_stored}
 use Rattle.eco_world.proofs.world.World.write.Goals as goal
+
+pub set_value-requires-clause-fits : goal.set_value-requires-clause-fits
+set_value-requires-clause-fits c = fits_stored c.self.inside.store.entities c.args.id c.args.value (rw (← c.self.view_is) at c.requires.fits)
 
 pub invariant_of-self : goal.invariant_of-self
 invariant_of-self c =

@@ -1,0 +1,113 @@
+-- The arity of an id, as the store shows it, is no more than the tables keep.
+use Rattle.std.proofs.Common.{◌≡◌, ◌≤◌, ◌==◌, ◌&&◌, ℕ, min, Bool, true, false, cond, IsTrue, IsSome, List, Option, None, Some, unwrap_or, option_map, option_and_then, if◌then◌else◌, refl, sym, ap, ◌∙◌, subst, arith, slice_get, is_some, nat_lt, MatchBool, Result}
+use Rattle.std.specs.Option.{option_or}
+use Rattle.std.proofs.lemmas.Option.{slice_get-map}
+use Rattle.eco_ids.specs.Births.{Admits, may_admit}
+use Rattle.eco_ids.specs.Indices.{Indexed, IndexState, Retired, Free, Living, changed, change_kept, map_state, record_in, record_of}
+use Rattle.eco_ids.specs.Outcome.{Meets, is_out_of_memory}
+use Rattle.eco_ids.specs.World.{Record}
+use Rattle.eco_ids.specs.declared.entity.Entity.{Entity}
+use Rattle.eco_ids.specs.declared.id.Id.{Id}
+use Rattle.eco_ids.specs.declared.id.Id.TheVariants.{One, Two}
+use Rattle.eco_ids.specs.declared.refusal.Refusal.{Refusal}
+use Rattle.eco_ids.specs.declared.value.Value.{Value}
+use Rattle.eco_ids.specs.declared.value.TheConstants.{FIELD_COUNT}
+use Rattle.eco_ids.proofs.Ascending.{first}
+use Rattle.eco_entities.specs.declared.place.Place.{Place}
+use Rattle.eco_entities.specs.Needs.{fields_for, need, need_in, need_of, NeedsNeverGrow}
+use Rattle.eco_entities.specs.Registration.{Registration, placed}
+use Rattle.eco_entities.specs.Runs.{Call, SetPlace, LeadsTo}
+use Rattle.eco_store.specs.Placing.{fixed}
+use Rattle.eco_tables.specs.Table.{TableState, Row}
+use Rattle.eco_store.specs.Seats.{row_at}
+use Rattle.eco_store.specs.declared.transfer.Transfer.{Transfer}
+use Rattle.eco_store.specs.Transfers.{placed_after, with_places}
+use Rattle.eco_store.specs.Store.{arity, fits, own_arity, read, record_for}
+use Rattle.eco_store.specs.Widths.{Covers, FitsIn}
+use Rattle.eco_store.proofs.Widths.{lowered, zero_later}
+
+own_needed : (w : Indexed Registration) (s : List (Option TableState)) (e : Entity) → fields_for (own_arity (read w s) e) ≤ need_of w e
+own_needed w s e = rw (slice_get-map (map_state (record_for (row_at s))) w.indices e.index) (by (slice_get w.indices e.index))
+  where
+    by : (o : Option (IndexState Registration))
+        → fields_for (option_and_then (λ (r : Record). r.arity) (record_in (option_map (map_state (record_for (row_at s))) o) e.generation)) ≤ need_in o e.generation
+    by None = omega arith
+    by (Some Retired) = omega arith
+    by (Some (Free f)) = omega arith
+    by (Some (Living f r)) = here (e.generation == f)
+      where
+        here : (b : Bool)
+            → fields_for (option_and_then (λ (x : Record). x.arity) (cond b (Some (record_for (row_at s) r)) None))
+            ≤ cond b (fields_for r.arity) (cond (nat_lt e.generation f) 0 4)
+        here true = omega arith
+        here false = omega arith
+
+needed : (w : Indexed Registration) (s : List (Option TableState)) (i : Id) → fields_for (arity (read w s) i) ≤ need w i
+needed w s (One e) = own_needed w s e
+needed w s (Two r t) = by (own_arity (read w s) r) (own_needed w s r) (own_needed w s t)
+  where
+    by : (o : Option ℕ) → fields_for o ≤ need_of w r → fields_for (own_arity (read w s) t) ≤ need_of w t
+        → fields_for (option_or o (own_arity (read w s) t)) ≤ need w (Two r t)
+    by None a b = omega (arith, b)
+    by (Some n) a b = omega (arith, a)
+
+-- a value that fits the arity fits in the tables
+pub fits_in : (w : Indexed Registration) (s : List (Option TableState)) (i : Id) (v : Value) → Covers (need w) s → IsTrue (fits (read w s) i v) → FitsIn s i v
+fits_in w s i v covers fit = (need w, covers, zero_later (unwrap_or (arity (read w s) i) 0) (need w i) v fit (needed w s i))
+
+-- an admission may want memory where it admits some
+pub admits : (w w1 : Indexed Registration) (n : ℕ) (some : Bool) (r : Result (Unit {0}) Refusal) → Meets (Admits w n) (may_admit w n && some) w r w1
+    → Meets (Admits w n) (may_admit w n) w r w1
+admits w w1 n some r h = by (is_out_of_memory r) h
+  where
+    by : (b : Bool) → MatchBool b (IsTrue (may_admit w n && some) × (w1 ≡ w)) (Admits w n r w1)
+        → MatchBool b (IsTrue (may_admit w n) × (w1 ≡ w)) (Admits w n r w1)
+    by true q = (first (may_admit w n) some q.0, q.1)
+    by false q = q
+
+-- who has another place needs what it needed
+need_mapped : (f : Registration → Registration) → ((r : Registration) → (f r).arity ≡ r.arity) → (o : Option (IndexState Registration)) (g : ℕ)
+    → need_in (option_map (map_state f) o) g ≡ need_in o g
+need_mapped f same None g = refl
+need_mapped f same (Some Retired) g = refl
+need_mapped f same (Some (Free k)) g = refl
+need_mapped f same (Some (Living k r)) g = ap (λ a. if g == k then fields_for a else (if nat_lt g k then 0 else FIELD_COUNT)) (same r)
+
+module _ (w : Indexed Registration) (t : Transfer) (end count : ℕ) where
+  need_moved : (e : Entity) → need_of (with_places w t end count) e ≡ need_of w e
+  need_moved e =
+      ap (λ o. need_in o e.generation) (slice_get-map (map_state (placed_after t end count)) w.indices e.index)
+      ∙ need_mapped (placed_after t end count) (λ r. refl) (slice_get w.indices e.index) e.generation
+
+  moved_less : (i : Id) → need (with_places w t end count) i ≤ need w i
+  moved_less (One e) = omega (arith, need_moved e)
+  moved_less (Two r u) = omega (arith, need_moved r, need_moved u)
+
+pub moved_covers : (w w1 : Indexed Registration) (s : List (Option TableState)) (t : Transfer) (end count : ℕ) → w1 ≡ with_places w t end count
+    → Covers (need w) s → Covers (need w1) s
+moved_covers w w1 s t end count is = lowered w w1 s (λ i. rw is (moved_less w t end count i))
+
+-- ---- places
+
+module _ (law : NeedsNeverGrow) where
+  -- who is placed needs no more
+  placed_less : (w : Indexed Registration) (e : Entity) (p : Place) (i : Id) → need (changed w e (placed p)) i ≤ need w i
+  placed_less w e p i = by (record_of w e) refl
+    where
+      by : (o : Option Registration) → record_of w e ≡ o → need (change_kept w e (placed p) o) i ≤ need w i
+      by None h = omega arith
+      by (Some r) h =
+          law w (change_kept w e (placed p) (Some r)) (SetPlace e p) (ap is_some h, ap (change_kept w e (placed p)) (sym h)) i
+
+  pub placed_covers : (w w1 : Indexed Registration) (s : List (Option TableState)) (e : Entity) (p : Place) → w1 ≡ changed w e (placed p)
+      → Covers (need w) s → Covers (need w1) s
+  placed_covers w w1 s e p is = lowered w w1 s (λ i. rw is (placed_less w e p i))
+
+  pub fixed_covers : (w w1 : Indexed Registration) (s : List (Option TableState)) (moved : Option Entity) (p : Place) → w1 ≡ fixed w moved p
+      → Covers (need w) s → Covers (need w1) s
+  fixed_covers w w1 s None p is = subst (λ v. Covers (need v) s) (sym is)
+  fixed_covers w w1 s (Some e) p is = placed_covers w w1 s e p is
+
+  -- a call needs no more
+  pub called : (c : Call) (w w1 : Indexed Registration) (s : List (Option TableState)) → LeadsTo c w w1 → Covers (need w) s → Covers (need w1) s
+  called c w w1 s leads = lowered w w1 s (law w w1 c leads)

@@ -1,0 +1,32 @@
+use Rattle.std.proofs.Common.{◌++◌, ◌∷◌, [], sym, ap, subst, ◌∙◌}
+use Rattle.eco_store.specs.Archetypes.{RowlessIn}
+use Rattle.eco_store.specs.Preparing.{staying, moves_of}
+use Rattle.eco_store.proofs.Copying.{copied_kept, copied_rows, copied_rowless}
+use Rattle.eco_store.proofs.LaidRows.{laid_nothing}
+use Rattle.eco_store.proofs.Rowless.{rowless_last}
+use Rattle.eco_store.proofs.Widths.{kept_widths}
+use Rattle.eco_store.proofs.layout.Layout.try_copy.Goals as goal
+
+pub invariant_of-result : goal.invariant_of-result
+invariant_of-result c =
+    let copies = c.in_ok-archetypes.archetypes in
+    let p = c.self.inside.prepared in
+    let tidy = copied_rowless c.self.inside.archetypes copies c.in_ok-archetypes.ensures (staying p) c.self.invariant.tidy in
+    laid_nothing _ _ p.idle c.emptied.ensures
+    (c.drop_each.ensures.rowless (p.idle ∷ [])
+    (subst (RowlessIn copies) (ap (λ xs. xs ++ p.idle ∷ []) (sym c.targets.ensures)) (rowless_last copies p.idle p.targets tidy)))
+
+pub returns-clause-rows : goal.returns-clause-rows
+returns-clause-rows c =
+    rw (← c.self.view_is)
+    (λ n k. c.drop_each.ensures.rows n k ∙ copied_rows c.self.inside.archetypes c.in_ok-archetypes.archetypes c.in_ok-archetypes.ensures n k)
+
+pub returns-clause-widths : goal.returns-clause-widths
+returns-clause-widths c =
+    let s = c.self.inside.archetypes in
+    let copies = c.in_ok-archetypes.archetypes in
+    rw (← c.self.view_is)
+    (λ need covers. c.drop_each.ensures.widths need (kept_widths s copies (copied_kept s copies c.in_ok-archetypes.ensures) need covers))
+
+pub returns-clause-unprepared : goal.returns-clause-unprepared
+returns-clause-unprepared c = ap (moves_of c.drop_each.new.self) c.emptied.ensures

@@ -1,0 +1,14 @@
+use Rattle.std.proofs.Common.{sym, subst}
+use Rattle.eco_ids.specs.Order.{id_cmp, without_item}
+use Rattle.eco_tables.specs.Table.{RowsHaveIds}
+use Rattle.eco_tables.proofs.RowIds.{turned_have}
+use Rattle.eco_tables.proofs.Slots.{at_slot, some_within, still}
+use Rattle.eco_tables.proofs.tables.Tables.lose.Goals as goal
+
+pub invariant_of-self : goal.invariant_of-self
+invariant_of-self c =
+    let table = c.in-Some.table in
+    let within = some_within c.self.inside.slots.items c.args.slot (rw (← c.self.view_is) at c.requires) in
+    let there = at_slot c.self.inside.slots.items c.args.slot c.index_mut.result.now table c.index_mut.ensures.value within c.in-Some.is in
+    still _ _ _ c.self.invariant c.args.slot table c.lose.new.self there
+    (λ has. subst RowsHaveIds (sym c.lose.ensures) (turned_have table (without_item id_cmp table.ids c.args.id) c.args.id 0))

@@ -1,0 +1,6 @@
+use Rattle.std.proofs.Common.{◌≡◌, map, take}
+use Rattle.eco_tables.specs.Tables.{without_room}
+use Rattle.eco_tables.proofs.tables.copies.copy_slots.Given as goal
+
+abbrev pub invariant-loop-slot : goal.invariant-loop-slot
+invariant-loop-slot l = l.copies.items ≡ map without_room (take l.slot-index l.slots)

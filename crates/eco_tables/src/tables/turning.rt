@@ -1,0 +1,40 @@
+//! The table in a slot takes another type where it stands.
+ghost use Rattle.std.specs.Prelude.{◌≡◌, ◌≤◌, false, Some, IsSome, OnOk, OnErr};
+ghost use Rattle.eco_ids.specs.Order.{id_cmp, has_item, with_item, without_item};
+ghost use Rattle.eco_tables.specs.Tables.{slot_of, table_in, turned, Sets};
+
+use crate::tables::Tables;
+use eco_ids::Id;
+use eco_ids::value::FIELD_COUNT;
+use std::alloc::AllocError;
+
+impl Tables {
+    /// The type of a table gets an id that it lacks, of which each row holds zeros in so many fields. An `Err` comes where
+    /// memory is refused, and then nothing has changed.
+    pub fn gain(&mut self, slot: usize, id: Id, width: u8) -> Result<(), AllocError>
+        requires there { IsSome (slot_of self.old slot) }
+        requires absent { has_item id_cmp (table_in self.old slot).ids id ≡ false }
+        requires width { width ≤ FIELD_COUNT }
+        ensures ok { OnOk result (Sets self.old self.new slot
+            (Some (turned (table_in self.old slot) (with_item id_cmp (table_in self.old slot).ids id) id width))) }
+        ensures err { OnErr result (Sets self.old self.new slot (slot_of self.old slot)) }
+    {
+        let Some(table) = &mut self.slots[slot] else {
+            unreachable!()
+        };
+        table.gain(self.alloc, id, width)?;
+        Ok(())
+    }
+
+    /// The type of a table loses an id, if it has it, and each row the value. It takes no memory.
+    pub fn lose(&mut self, slot: usize, id: Id)
+        requires { IsSome (slot_of self.old slot) }
+        ensures { Sets self.old self.new slot
+            (Some (turned (table_in self.old slot) (without_item id_cmp (table_in self.old slot).ids id) id 0)) }
+    {
+        let Some(table) = &mut self.slots[slot] else {
+            unreachable!()
+        };
+        table.lose(id);
+    }
+}

@@ -197,11 +197,18 @@ below (c ∷ cs) zero (suc k) d e before within up =
     ap (id_cmp c.id) (sym (get_or-map (λ (x : ColumnState). x.id) cs k e e.id in_cs)) ∙ less _ above
 below (c ∷ cs) (suc j) (suc k) d e before within up = below cs j k d e (omega arith) (omega arith) (second _ _ up)
 
+-- the id at a place ties with itself
+tied_here : (cs : List ColumnState) (m k : ℕ) (d e : ColumnState) (id : Id) → m < length cs → k ≡ m → (get_or cs k e).id ≡ id
+    → id_cmp (get_or cs m d).id id ≡ Equal
+tied_here cs m k d e id in_m same is =
+    ap (λ x. id_cmp x.id id) (get_or_default cs m d e in_m ∙ ap (λ j. get_or cs j e) (sym same))
+    ∙ ap (λ x. id_cmp x id) is ∙ tied_itself id_cmp_total id
+
 -- what a look at a place says of where an id may be
 pub past_less : (cs : List ColumnState) (m k : ℕ) (d e : ColumnState) (id : Id) → IsTrue (is_ascending id_cmp (map (λ c. c.id) cs)) → m < length cs
     → id_cmp (get_or cs m d).id id ≡ Less → (get_or cs k e).id ≡ id → k < length cs → m < k
 past_less cs m k d e id up in_m less_m is in_k = elim (cases_order k m) [
-  | inl same ↦ absurd (less_not_equal (sym less_m ∙ ap (λ x. id_cmp x.id id) (get_or_default cs m d e in_m ∙ ap (λ j. get_or cs j e) (sym same)) ∙ ap (λ x. id_cmp x id) is ∙ tied_itself id_cmp_total id))
+  | inl same ↦ absurd (less_not_equal (sym less_m ∙ tied_here cs m k d e id in_m same is))
   | inr (inl before) ↦
       absurd (less_not_greater (sym less_m ∙ id_cmp_total.antisymm (get_or cs m d).id id
       ∙ ap ordering_reverse (ap (λ x. id_cmp x (get_or cs m d).id) (sym is) ∙ below cs k m e d before in_m up)))
@@ -217,7 +224,7 @@ past_less cs m k d e id up in_m less_m is in_k = elim (cases_order k m) [
 pub before_greater : (cs : List ColumnState) (m k : ℕ) (d e : ColumnState) (id : Id) → IsTrue (is_ascending id_cmp (map (λ c. c.id) cs)) → m < length cs
     → id_cmp (get_or cs m d).id id ≡ Greater → (get_or cs k e).id ≡ id → k < length cs → k < m
 before_greater cs m k d e id up in_m greater is in_k = elim (cases_order k m) [
-  | inl same ↦ absurd (greater_not_equal (sym greater ∙ ap (λ x. id_cmp x.id id) (get_or_default cs m d e in_m ∙ ap (λ j. get_or cs j e) (sym same)) ∙ ap (λ x. id_cmp x id) is ∙ tied_itself id_cmp_total id))
+  | inl same ↦ absurd (greater_not_equal (sym greater ∙ tied_here cs m k d e id in_m same is))
   | inr (inl before) ↦ before
   | inr (inr after) ↦ absurd (greater_not_less (sym greater ∙ ap (id_cmp (get_or cs m d).id) (sym is) ∙ below cs m k d e after in_k up))
 ]
@@ -229,7 +236,8 @@ before_greater cs m k d e id up in_m greater is in_k = elim (cases_order k m) [
     greater_not_less e = cc
 
 -- an id that is at no place is none of them
-pub nowhere : (cs : List ColumnState) (id : Id) → ((k : ℕ) (d : ColumnState) → k < length cs → (get_or cs k d).id ≡ id → ⊥) → has_item id_cmp (map (λ c. c.id) cs) id ≡ false
+pub nowhere : (cs : List ColumnState) (id : Id) → ((k : ℕ) (d : ColumnState) → k < length cs → (get_or cs k d).id ≡ id → ⊥)
+    → has_item id_cmp (map (λ c. c.id) cs) id ≡ false
 nowhere [] id none = refl
 nowhere (c ∷ cs) id none = by (id_eq c.id id) refl (nowhere cs id (λ k d within is. none (suc k) d (omega arith) is))
   where

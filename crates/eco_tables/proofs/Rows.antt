@@ -12,7 +12,7 @@ use Rattle.std.specs.FinMap.Entries.{find}
 use Rattle.eco_ids.specs.Order.{id_cmp, id_eq, has_item, is_ascending}
 use Rattle.eco_ids.proofs.Lists.{before, before_within, get_or-swap_remove, keys_paired, length-swap_remove}
 use Rattle.eco_tables.specs.Column.{ColumnState, Fits, held_in, value_in, contents, kind_of, joined, emptied, with_removed, with_value, with_held, written, retyped}
-use Rattle.eco_tables.specs.Table.{Row, rows_from, rows_of, retyped_row, paired, width_among, AreKinds, HasShape, ColumnsAgree, entities_of, HasIds}
+use Rattle.eco_tables.specs.Table.{Row, rows_from, rows_of, retyped_row, table_of, paired, width_among, AreKinds, HasShape, ColumnsAgree, entities_of, HasIds}
 use Rattle.eco_tables.proofs.Held.{found_at, find-absent, place_within, has_place}
 use Rattle.eco_tables.proofs.Widths.{find-each, value-retyped, same_within, retyped-written, value-written, value-other, width-each, width-none}
 use Rattle.eco_tables.proofs.Packing.{map_swap_remove}
@@ -248,6 +248,38 @@ contents_kinds cs ds same = firsts ds ∙ ap (map (λ p. p.0)) same ∙ sym (fir
     firsts [] = refl
     firsts (x ∷ xs) = ap (λ ys. kind_of x ∷ ys) (firsts xs)
 
+-- columns that were written over but for their room
+pub refilled_columns : (n : ℕ) (ds slice cs : List ColumnState) → map contents ds ≡ map contents slice → slice ≡ cs → n ≡ length cs
+    → (map contents ds ≡ map contents cs) × (take n (ds ++ drop (length ds) cs) ≡ ds)
+refilled_columns n ds slice cs same is len =
+    let all : map contents ds ≡ map contents cs = same ∙ ap (map contents) is in
+    (all, refilled n ds cs (length-contents cs ds all) (sym len))
+
+-- columns that took the rows of another table
+pub joined_columns : (n : ℕ) (ds slice cs from source : List ColumnState) (fs es : List Entity)
+    → map contents ds ≡ map contents (map (λ x. joined x (values_held (rows_from from 0 fs) x.id)) slice)
+    → slice ≡ cs → from ≡ source → fs ≡ es → n ≡ length cs
+    → (map contents ds ≡ map contents (map (λ x. joined x (values_held (rows_from source 0 es) x.id)) cs))
+    × (take n (ds ++ drop (length ds) cs) ≡ ds)
+joined_columns n ds slice cs from source fs es same is read listed len =
+    let whole : List ColumnState = map (λ x. joined x (values_held (rows_from source 0 es) x.id)) cs in
+    let all : map contents ds ≡ map contents whole =
+    same ∙ (λ t. map contents (map (λ x. joined x (values_held (rows_from (read t) 0 (listed t)) x.id)) (is t))) in
+    (all, refilled n ds cs (length-contents whole ds all ∙ length-map cs (λ x. joined x (values_held (rows_from source 0 es) x.id))) (sym len))
+
+-- they show the same table
+pub same_table : (ids : List Id) (es : List Entity) (cs ds : List ColumnState) (room : ℕ) → map contents ds ≡ map contents cs
+    → table_of ids ds es room ≡ table_of ids cs es room
+same_table ids es cs ds room same =
+    let kinds = contents_kinds cs ds same in
+    let rows = contents_rows cs ds 0 es same in
+    λ t. record {
+      ids = ids;
+      widths = map (width_among (kinds t)) ids;
+      rows = map (retyped_row ids) (rows t);
+      room = room;
+    }
+
 pub kinds_same : (f : ColumnState → ColumnState) → ((c : ColumnState) → kind_of (f c) ≡ kind_of c) → (cs : List ColumnState)
     → map kind_of (map f cs) ≡ map kind_of cs
 kinds_same f same [] = refl
@@ -431,7 +463,8 @@ zeros_added ids cs kinds =
     (λ i m n own none. let bad : ◌≡◌ {A = Option ℕ} None (Some n) = none in cc) 0
 
 -- rows from a table, under its type
-pub same_rows : (ids sids : List Id) (cs ds : List ColumnState) → ((k : ℕ) → retyped ids (retyped (map (λ c. c.id) cs) (held_in ds k)) ≡ retyped ids (retyped sids (held_in ds k)))
+pub same_rows : (ids sids : List Id) (cs ds : List ColumnState)
+    → ((k : ℕ) → retyped ids (retyped (map (λ c. c.id) cs) (held_in ds k)) ≡ retyped ids (retyped sids (held_in ds k)))
     → (k : ℕ) (es : List Entity)
     → map (retyped_row ids) (map (retyped_row (map (λ c. c.id) cs)) (rows_from ds k es)) ≡ map (retyped_row ids) (map (retyped_row sids) (rows_from ds k es))
 same_rows ids sids cs ds same k [] = refl
@@ -505,7 +538,9 @@ module _ (ids : List Id) (es : List Entity) (capacity : ℕ) (cs : List ColumnSt
   shape_joined g fs some long = record {
     kinds = rw (kinds_same (λ c. joined c (g c.id)) (λ c. refl) cs) shape.kinds;
     even = All-map (λ c. length c.values ≡ length (es ++ fs)) (λ c. joined c (g c.id)) cs
-        (λ k d in_cs. omega (arith, shape.even k d in_cs, long (get_or cs k d).id, length-append (get_or cs k d).values (g (get_or cs k d).id), length-append es fs));
+        (λ k d in_cs.
+        let both = length-append (get_or cs k d).values (g (get_or cs k d).id) in
+        omega (arith, shape.even k d in_cs, long (get_or cs k d).id, both, length-append es fs));
     roomy = All-map (λ c. room - length fs ≤ c.room) (λ c. joined c (g c.id)) cs (λ k d in_cs. omega (arith, long (get_or cs k d).id, shape.roomy k d in_cs));
     rows_room = omega (arith, shape.rows_room, length-append es fs);
   }

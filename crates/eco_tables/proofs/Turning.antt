@@ -16,7 +16,7 @@ use Rattle.eco_ids.proofs.Facts.{equal_tie}
 use Rattle.eco_ids.proofs.IdOrder.{id_cmp_total, same_id}
 use Rattle.eco_ids.proofs.SetLaws.{joins_with, leaves_without}
 use Rattle.eco_tables.specs.Column.{ColumnState, held_in, value_in, kind_of, retyped, with_column, without_column}
-use Rattle.eco_tables.specs.Table.{TableState, Row, rows_from, rows_of, retyped_row, paired, width_among, AreKinds, HasShape}
+use Rattle.eco_tables.specs.Table.{TableState, Row, rows_from, rows_of, retyped_row, table_of, paired, width_among, width_in, AreKinds, HasShape}
 use Rattle.eco_tables.specs.Tables.{turned}
 use Rattle.eco_tables.proofs.Held.{above-other, above-none, same_eq, place_within, place_id}
 use Rattle.eco_tables.proofs.Rows.{ascends, within_ids, outside, no_column, zeros_held, held_value, ids_of_kinds}
@@ -35,11 +35,14 @@ end_of : (c : ColumnState) (cs : List ColumnState) (k : ℕ) → (m : ℕ) × Is
 end_of c [] k = (0, (refl, refl, omega arith))
 end_of c (d ∷ ds) k = by (is_lt (id_cmp d.id c.id)) refl (end_of c ds (k + 1))
   where
+    later : Option ℕ
+    later = position_from (λ x. not (is_lt (id_cmp x.id c.id))) (k + 1) ds
+
     by : (b : Bool) → is_lt (id_cmp d.id c.id) ≡ b → (m : ℕ) × IsEnd c ds (k + 1) m → (m : ℕ) × IsEnd c (d ∷ ds) k m
     by false e rest = (
       0,
       (
-        ap (λ b. unwrap_or (cond (not b) (Some k) (position_from (λ x. not (is_lt (id_cmp x.id c.id))) (k + 1) ds)) (k + length (d ∷ ds))) e ∙ (let n : k ≡ k + 0 = omega arith in n),
+        ap (λ b. unwrap_or (cond (not b) (Some k) later) (k + length (d ∷ ds))) e ∙ (let n : k ≡ k + 0 = omega arith in n),
         sym (ap (λ b. if b then d ∷ with_column ds c else c ∷ d ∷ ds) e),
         omega arith,
       ),
@@ -47,8 +50,8 @@ end_of c (d ∷ ds) k = by (is_lt (id_cmp d.id c.id)) refl (end_of c ds (k + 1))
     by true e rest = (
       suc rest.0,
       (
-        ap (λ b. unwrap_or (cond (not b) (Some k) (position_from (λ x. not (is_lt (id_cmp x.id c.id))) (k + 1) ds)) (k + length (d ∷ ds))) e
-            ∙ ap (unwrap_or (position_from (λ x. not (is_lt (id_cmp x.id c.id))) (k + 1) ds)) (let n : k + suc (length ds) ≡ k + 1 + length ds = omega arith in n)
+        ap (λ b. unwrap_or (cond (not b) (Some k) later) (k + length (d ∷ ds))) e
+            ∙ ap (unwrap_or later) (let n : k + suc (length ds) ≡ k + 1 + length ds = omega arith in n)
             ∙ rest.1.0 ∙ (let n : k + 1 + rest.0 ≡ k + suc rest.0 = omega arith in n),
         ap (λ xs. d ∷ xs) rest.1.1 ∙ sym (ap (λ b. if b then d ∷ with_column ds c else c ∷ d ∷ ds) e),
         omega (arith, rest.1.2),
@@ -258,7 +261,8 @@ module _ (ids : List Id) (cs : List ColumnState) (kinds : AreKinds ids (map kind
         zero_at (suc m) zero = refl
         zero_at (suc m) (suc r) = zero_at m r
 
-        by : (b : Bool) → id_eq j c.id ≡ b → unwrap_or (if b then Some (get_or c.values k zeros) else find id_cmp j (held_in cs k)) zeros ≡ value_in (held_in cs k) j
+        by : (b : Bool) → id_eq j c.id ≡ b
+            → unwrap_or (if b then Some (get_or c.values k zeros) else find id_cmp j (held_in cs k)) zeros ≡ value_in (held_in cs k) j
         by true e =
             ap (λ vs. get_or vs k zeros) blank ∙ zero_at n k
             ∙ sym (ap (value_in (held_in cs k)) (is_same j c.id e) ∙ zeros_held ids cs kinds k c.id none)
@@ -324,11 +328,11 @@ module _ (ids : List Id) (cs : List ColumnState) (kinds : AreKinds ids (map kind
         λ t. record { entity = e; held = here t } ∷ there t
 
     abbrev was : TableState
-    was = record { ids = ids; widths = map (width_among (map kind_of cs)) ids; rows = rows_of ids cs es; room = room }
+    was = table_of ids cs es room
 
-    pub turned_table : record { ids = ids'; widths = map (width_among (map kind_of ds)) ids'; rows = rows_of ids' ds es; room = room } ≡ turned was ids' i w
+    pub turned_table : table_of ids' ds es room ≡ turned was ids' i w
     turned_table =
-        let widths = same_numbers (width_among (map kind_of ds)) (λ j. if id_eq j i then w else unwrap_or (find id_cmp j (paired ids (map (width_among (map kind_of cs)) ids))) 0) ids'
+        let widths = same_numbers (width_among (map kind_of ds)) (λ j. if id_eq j i then w else unwrap_or (width_in was j) 0) ids'
         (λ j has. wide j has ∙ ap (λ n. if id_eq j i then w else n) (sym (width_read j))) in
         let rows = turned_rows 0 es in
         λ t. record { ids = ids'; widths = widths t; rows = rows t; room = room }

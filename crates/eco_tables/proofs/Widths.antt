@@ -200,8 +200,9 @@ kinds_one i zero some = absurd (omega arith)
 kinds_one i (suc w) some = refl
 
 -- one more column
-pub kinds_pushed : (k n : ℕ) (ids : List Id) (ws : List ℕ) (i d : Id) (w e : ℕ) → n ≡ suc k → k < length ids → k < length ws → i ≡ get_or ids k d → w ≡ get_or ws k e
-    → 0 < w → kinds_of (take k ids) (take k ws) ++ (i, w) ∷ [] ≡ kinds_of (take n ids) (take n ws)
+pub kinds_pushed : (k n : ℕ) (ids : List Id) (ws : List ℕ) (i d : Id) (w e : ℕ) → n ≡ suc k → k < length ids → k < length ws
+    → i ≡ get_or ids k d → w ≡ get_or ws k e → 0 < w
+    → kinds_of (take k ids) (take k ws) ++ (i, w) ∷ [] ≡ kinds_of (take n ids) (take n ws)
 kinds_pushed k n ids ws i d w e next in_ids in_ws is_i is_w some =
     sym (ap (λ m. kinds_of (take m ids) (take m ws)) next ∙ kinds_more k ids ws i d w e in_ids in_ws is_i is_w
     ∙ ap (λ ks. kinds_of (take k ids) (take k ws) ++ ks) (kinds_one i w some))

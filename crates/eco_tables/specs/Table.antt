@@ -59,6 +59,15 @@ rows_of ids columns entities = map (retyped_row ids) (rows_from columns 0 entiti
 abbrev pub width_among : List (Id × ℕ) → Id → ℕ
 width_among kinds i = unwrap_or (find id_cmp i kinds) 0
 
+-- the table under a type with these columns, the entities of its rows, and room
+abbrev pub table_of : List Id → List ColumnState → List Entity → ℕ → TableState
+table_of ids columns entities room = record {
+  ids = ids;
+  widths = map (width_among (map kind_of columns)) ids;
+  rows = rows_of ids columns entities;
+  room = room;
+}
+
 -- the ids that have a width which is not 0, with it
 abbrev pub kinds_of : List Id → List ℕ → List (Id × ℕ)
 kinds_of [] ws = []

@@ -79,7 +79,12 @@ without_rows t = record t { rows = []; room = 0 }
 
 -- the table under these ids, of which one may be new to it: that one is so wide and holds zeros, the others stay as they are
 abbrev pub turned : TableState → List Id → Id → ℕ → TableState
-turned t ids i w = record { ids = ids; widths = map (λ j. if id_eq j i then w else unwrap_or (width_in t j) 0) ids; rows = map (retyped_row ids) t.rows; room = t.room }
+turned t ids i w = record {
+  ids = ids;
+  widths = map (λ j. if id_eq j i then w else unwrap_or (width_in t j) 0) ids;
+  rows = map (retyped_row ids) t.rows;
+  room = t.room;
+}
 
 -- the type, where these rows are none
 abbrev pub rowless : TableState → List Row → Option (List Id)

@@ -35,7 +35,12 @@ impl Model for Column {
 
     ghost Value = { ColumnState };
 
-    ghost view = { λ c. record { id = c.id; width = width_of c.fields; values = values_of c.fields; room = room_of c.fields } };
+    ghost view = { λ c. record {
+      id = c.id;
+      width = width_of c.fields;
+      values = values_of c.fields;
+      room = room_of c.fields;
+    } };
 }
 
 // The same fields once more.
@@ -96,7 +101,8 @@ fn take_out<const N: usize>(rows: &mut Vec<[i64; N]>, row: usize)
 fn join<const N: usize>(rows: &mut Vec<[i64; N]>, source: &Vec<[i64; N]>)
     requires { vec_len rows.old + vec_len source.now ≤ vec_capacity rows.old }
     ensures values { map widened rows.new.items ≡ map widened rows.old.items ++ map widened source.now.items }
-    ensures room { vec_capacity rows.old - vec_len rows.old - vec_len source.now ≤ vec_capacity rows.new - vec_len rows.new }
+    ensures room { vec_capacity rows.old - vec_len rows.old - vec_len source.now
+        ≤ vec_capacity rows.new - vec_len rows.new }
 {
     let _room = rows.extend_from_slice(source.as_slice());
 }
@@ -106,7 +112,8 @@ fn join_zeros<const N: usize>(rows: &mut Vec<[i64; N]>, count: usize)
     requires few { N ≤ FIELD_COUNT }
     requires room { vec_len rows.old + count ≤ vec_capacity rows.old }
     ensures values { map widened rows.new.items ≡ map widened rows.old.items ++ replicate count zeros }
-    ensures room { vec_capacity rows.old - vec_len rows.old - count ≤ vec_capacity rows.new - vec_len rows.new }
+    ensures room { vec_capacity rows.old - vec_len rows.old - count
+        ≤ vec_capacity rows.new - vec_len rows.new }
 {
     let _room = rows.resize(rows.len() + count, [0; N]);
 }

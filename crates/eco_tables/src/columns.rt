@@ -205,8 +205,11 @@ pub fn join_all(columns: &mut [Column], source: &[Column], entities: &[Entity])
     requires ascending { IsTrue (is_ascending id_cmp (map (λ c. c.id) source.now)) }
     requires even { All (λ c. length c.values ≡ length entities.now) source.now }
     requires widths { ColumnsAgree columns.old source.now }
-    ensures same { map contents columns.new ≡ map contents (map (λ c. joined c (map (λ r. value_in r.held c.id) (rows_from source.now 0 entities.now))) columns.old) }
-    ensures kept { (b : ℕ) → All (λ c. b + length entities.now ≤ c.room) columns.old → All (λ c. b ≤ c.room) columns.new }
+    ensures same { map contents columns.new ≡ map contents
+        (map (λ c. joined c (map (λ r. value_in r.held c.id) (rows_from source.now 0 entities.now)))
+        columns.old) }
+    ensures kept { (b : ℕ) →
+        All (λ c. b + length entities.now ≤ c.room) columns.old → All (λ c. b ≤ c.room) columns.new }
 {
     for column in columns.iter_mut() {
         match find_column(source, column.id()) {

@@ -37,15 +37,15 @@ pub struct Table {
 }
 
 impl Model for Table {
-    ghost use Rattle.std.specs.Prelude.{map, vec_capacity};
-    ghost use Rattle.eco_tables.specs.Column.{kind_of};
-    ghost use Rattle.eco_tables.specs.Table.{TableState, rows_of, width_among, HasShape};
+    ghost use Rattle.std.specs.Prelude.{vec_capacity};
+    ghost use Rattle.eco_tables.specs.Table.{TableState, table_of, HasShape};
 
     ghost Value = { TableState };
 
-    ghost view = { λ t. record { ids = t.type_list; widths = map (width_among (map kind_of t.columns.items)) t.type_list; rows = rows_of t.type_list t.columns.items t.entities.items; room = t.room } };
+    ghost view = { λ t. table_of t.type_list t.columns.items t.entities.items t.room };
 
-    ghost invariant = { λ t. HasShape t.type_list t.entities.items (vec_capacity t.entities) t.columns.items t.room };
+    ghost invariant = { λ t.
+        HasShape t.type_list t.entities.items (vec_capacity t.entities) t.columns.items t.room };
 }
 
 impl Table {

@@ -230,7 +230,8 @@ impl Tables {
     pub fn set_value(&mut self, slot: usize, row: usize, id: Id, value: Value) -> bool
         requires row { row < length (table_in self.old slot).rows }
         requires fits { FitsId (table_in self.old slot) id value }
-        ensures written { Sets self.old self.new slot (Some (with_written (table_in self.old slot) row id value)) }
+        ensures written { Sets self.old self.new slot
+            (Some (with_written (table_in self.old slot) row id value)) }
         ensures had { result ≡ is_some (find id_cmp id (row_in self.old slot row).held) }
     {
         let Some(table) = &mut self.slots[slot] else {
@@ -304,7 +305,9 @@ fn move_in(slots: &mut [Option<Table>], from: usize, row: usize, to: usize) -> O
     requires row { row < length (table_in slots.old from).rows }
     requires room { 0 < (table_in slots.old to).room }
     requires widths { Agree (table_in slots.old to) (table_in slots.old from) }
-    ensures slots { slots.new ≡ slice_set (slice_set slots.old from (Some (without_row (table_in slots.old from) row))) to (Some (with_row (table_in slots.old to) (row_in slots.old from row))) }
+    ensures slots { slots.new ≡ slice_set
+        (slice_set slots.old from (Some (without_row (table_in slots.old from) row)))
+        to (Some (with_row (table_in slots.old to) (row_in slots.old from row))) }
     ensures moved { result ≡ slice_get (entities_of (without_row (table_in slots.old from) row).rows) row }
 {
     if from < to {
@@ -325,8 +328,10 @@ fn move_between(
     requires room { 0 < (unwrap_or target.old no_table).room }
     requires widths { Agree (unwrap_or target.old no_table) (unwrap_or source.old no_table) }
     ensures source { source.new ≡ Some (without_row (unwrap_or source.old no_table) row) }
-    ensures target { target.new ≡ Some (with_row (unwrap_or target.old no_table) (slice_index_or (unwrap_or source.old no_table).rows row no_row)) }
-    ensures moved { result ≡ slice_get (entities_of (without_row (unwrap_or source.old no_table) row).rows) row }
+    ensures target { target.new ≡ Some (with_row (unwrap_or target.old no_table)
+        (slice_index_or (unwrap_or source.old no_table).rows row no_row)) }
+    ensures moved { result ≡
+        slice_get (entities_of (without_row (unwrap_or source.old no_table) row).rows) row }
 {
     match (source, target) {
         (Some(source), Some(target)) => {
@@ -344,7 +349,9 @@ fn move_all_in(slots: &mut [Option<Table>], from: usize, to: usize)
     requires target { IsSome (slot_of slots.old to) }
     requires room { length (table_in slots.old from).rows ≤ (table_in slots.old to).room }
     requires widths { Agree (table_in slots.old to) (table_in slots.old from) }
-    ensures { slots.new ≡ slice_set (slice_set slots.old from (Some (without_rows (table_in slots.old from)))) to (Some (with_rows (table_in slots.old to) (table_in slots.old from).rows)) }
+    ensures { slots.new ≡ slice_set
+        (slice_set slots.old from (Some (without_rows (table_in slots.old from))))
+        to (Some (with_rows (table_in slots.old to) (table_in slots.old from).rows)) }
 {
     if from < to {
         let (low, high) = slots.split_at_mut(to);
@@ -362,7 +369,8 @@ fn move_all_between(source: &mut Option<Table>, target: &mut Option<Table>)
     requires room { length (unwrap_or source.old no_table).rows ≤ (unwrap_or target.old no_table).room }
     requires widths { Agree (unwrap_or target.old no_table) (unwrap_or source.old no_table) }
     ensures source { source.new ≡ Some (without_rows (unwrap_or source.old no_table)) }
-    ensures target { target.new ≡ Some (with_rows (unwrap_or target.old no_table) (unwrap_or source.old no_table).rows) }
+    ensures target { target.new ≡ Some
+        (with_rows (unwrap_or target.old no_table) (unwrap_or source.old no_table).rows) }
 {
     match (source, target) {
         (Some(source), Some(target)) => target.take_rows(source),

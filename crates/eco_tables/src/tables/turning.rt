@@ -16,7 +16,8 @@ impl Tables {
         requires absent { has_item id_cmp (table_in self.old slot).ids id ≡ false }
         requires width { width ≤ FIELD_COUNT }
         ensures ok { OnOk result (Sets self.old self.new slot
-            (Some (turned (table_in self.old slot) (with_item id_cmp (table_in self.old slot).ids id) id width))) }
+            (Some (turned (table_in self.old slot)
+            (with_item id_cmp (table_in self.old slot).ids id) id width))) }
         ensures err { OnErr result (Sets self.old self.new slot (slot_of self.old slot)) }
     {
         let Some(table) = &mut self.slots[slot] else {
@@ -30,7 +31,8 @@ impl Tables {
     pub fn lose(&mut self, slot: usize, id: Id)
         requires { IsSome (slot_of self.old slot) }
         ensures { Sets self.old self.new slot
-            (Some (turned (table_in self.old slot) (without_item id_cmp (table_in self.old slot).ids id) id 0)) }
+            (Some (turned (table_in self.old slot)
+            (without_item id_cmp (table_in self.old slot).ids id) id 0)) }
     {
         let Some(table) = &mut self.slots[slot] else {
             unreachable!()

@@ -9,7 +9,8 @@ loop-low-preserved-in-Less c = record {
   within = c.loop-low.invariant.within;
   inside = λ k d within is.
       let was = c.loop-low.invariant.inside k d within is in
-      let past = past_less c.args.columns.now _ k c.index-columns-middle.result d c.args.id c.requires (omega (arith, c.loop-low.invariant.within, c.loop-low-test.true))
+      let past = past_less c.args.columns.now _ k c.index-columns-middle.result d c.args.id c.requires
+      (omega (arith, c.loop-low.invariant.within, c.loop-low-test.true))
       (ap (λ x. id_cmp x c.args.id) (sym (c.id.ensures ∙ ap (λ x. x.id) c.index-columns-middle.is)) ∙ sym c.in-Less.ensures) is within in
       (omega (arith, past), was.1);
 }
@@ -32,4 +33,6 @@ loop-low-preserved c = record {
 
 pub returns-clause-absent : goal.returns-clause-absent
 returns-clause-absent c =
-    nowhere c.args.columns.now c.args.id (λ k d within is. let was = c.loop-low.invariant.inside k d within is in omega (arith, was.0, was.1, c.loop-low-test.false))
+    nowhere c.args.columns.now c.args.id (λ k d within is.
+    let was = c.loop-low.invariant.inside k d within is in
+    omega (arith, was.0, was.1, c.loop-low-test.false))

@@ -12,7 +12,8 @@ join-requires-clause-room c =
     let same = rest_at c.args.columns.now c.loop-column.columns c.loop-column.column-index c.column-item.result c.loop-column.invariant.rest in
     let long : length c.index-source-place.result.values ≡ length c.args.entities.now =
     ap (λ x. length x.values) c.index-source-place.is ∙ c.requires.even _ _ (place_within _ _ _ c.in-Some.ensures.found) in
-    let room : length c.args.entities.now ≤ (get_or c.args.columns.now c.loop-column.column-index c.column-item.result).room = c.requires.room _ _ (omega arith) in
+    let room : length c.args.entities.now ≤ (get_or c.args.columns.now c.loop-column.column-index c.column-item.result).room =
+    c.requires.room _ _ (omega arith) in
     rw (long, same) room
 
 pub join-requires-clause-width : goal.join-requires-clause-width
@@ -27,7 +28,8 @@ join-requires-clause-width c =
 pub join_zeros-requires : goal.join_zeros-requires
 join_zeros-requires c =
     let same = rest_at c.args.columns.now c.loop-column.columns c.loop-column.column-index c.column-item.result c.loop-column.invariant.rest in
-    let room : length c.args.entities.now ≤ (get_or c.args.columns.now c.loop-column.column-index c.column-item.result).room = c.requires.room _ _ (omega arith) in
+    let room : length c.args.entities.now ≤ (get_or c.args.columns.now c.loop-column.column-index c.column-item.result).room =
+    c.requires.room _ _ (omega arith) in
     rw same room
 
 pub loop-column-preserved : goal.loop-column-preserved

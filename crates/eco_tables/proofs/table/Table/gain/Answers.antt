@@ -2,7 +2,7 @@ use Rattle.std.proofs.Common.{◌≡◌, ◌≤◌, false, if◌then◌else◌, 
 use Rattle.eco_ids.specs.World.{zeros}
 use Rattle.eco_ids.specs.Order.{id_cmp, id_eq, has_item, with_item}
 use Rattle.eco_tables.specs.Column.{kind_of, with_column}
-use Rattle.eco_tables.specs.Table.{rows_of, width_among}
+use Rattle.eco_tables.specs.Table.{table_of, width_among}
 use Rattle.eco_tables.proofs.Turning.{more_held, more_width, shape_more, turned_table}
 use Rattle.eco_tables.proofs.table.Table.gain.Goals as goal
 
@@ -27,12 +27,14 @@ returns-clause-ok c =
     let cs = own.columns.items in
     let column = c.in_ok-column.column in
     let list : c.insert.new.self ≡ with_item id_cmp own.type_list c.args.id = c.in_ok-insert.ensures.ok in
-    let columns : c.insert_column.new.columns.items ≡ with_column cs column = c.insert_column.ensures ∙ ap (λ xs. with_column xs column) c.reserve.ensures.items in
+    let columns : c.insert_column.new.columns.items ≡ with_column cs column =
+    c.insert_column.ensures ∙ ap (λ xs. with_column xs column) c.reserve.ensures.items in
     let absent : has_item id_cmp own.type_list c.args.id ≡ false = rw (← c.self.view_is) at c.requires.absent in
     let lacks : has_item id_cmp own.type_list column.id ≡ false = ap (has_item id_cmp own.type_list) c.in_ok-column.ensures.id ∙ absent in
     rw (← c.self.view_is)
-    ((λ t. record { ids = list t; widths = map (width_among (map kind_of (columns t))) (list t); rows = rows_of (list t) (columns t) own.entities.items; room = own.room })
-    ∙ turned_table own.type_list cs c.self.invariant.kinds (with_item id_cmp own.type_list c.args.id) (with_column cs column) own.entities.items c.args.id c.args.width own.room
+    ((λ t. table_of (list t) (columns t) own.entities.items own.room)
+    ∙ turned_table own.type_list cs c.self.invariant.kinds (with_item id_cmp own.type_list c.args.id) (with_column cs column)
+    own.entities.items c.args.id c.args.width own.room
     (λ j has. more_width own.type_list cs c.self.invariant.kinds column lacks j
     ∙ (λ t. if id_eq j (c.in_ok-column.ensures.id t) then c.in_ok-column.ensures.width t else width_among (map kind_of cs) j))
     (λ k j has. more_held own.type_list cs c.self.invariant.kinds column lacks c.len.result c.in_ok-column.ensures.values k j))

@@ -1,9 +1,9 @@
-use Rattle.std.proofs.Common.{◌≡◌, ◌≤◌, ◌++◌, ◌+◌, ◌-◌, List, true, if◌then◌else◌, is_ok, ap, sym, ◌∙◌, arith, refl, length, map, take, drop}
+use Rattle.std.proofs.Common.{◌≡◌, ◌≤◌, ◌++◌, ◌+◌, ◌-◌, List, true, if◌then◌else◌, is_ok, ap, sym, ◌∙◌, arith, refl, length, map}
 use Rattle.std.specs.Vec.{vec_capacity}
 use Rattle.std.proofs.lemmas.List.{length-append, length-map}
-use Rattle.eco_tables.specs.Column.{ColumnState, contents, joined, kind_of}
-use Rattle.eco_tables.specs.Table.{retyped_row, rows_from, rows_of, width_among}
-use Rattle.eco_tables.proofs.Rows.{added_rows, ascends, columns_agree, contents_kinds, contents_rows, entities_of-rows, kinds_same, length-contents, length-rows, length-rows_of, refilled, same_held, same_rows, shape_joined, shape_reserved, values_held}
+use Rattle.eco_tables.specs.Column.{ColumnState, joined}
+use Rattle.eco_tables.specs.Table.{retyped_row, rows_from, rows_of, table_of, width_among}
+use Rattle.eco_tables.proofs.Rows.{added_rows, ascends, columns_agree, entities_of-rows, joined_columns, kinds_same, length-rows, length-rows_of, same_held, same_rows, same_table, shape_joined, shape_reserved, values_held}
 use Rattle.eco_tables.proofs.table.Table.join.Goals as goal
 
 pub join_all-requires-clause-room : goal.join_all-requires-clause-room
@@ -33,23 +33,23 @@ invariant_of-self c =
     let whole : List ColumnState = map (λ x. joined x (values_held rows x.id)) own.columns.items in
     let some : length source.entities.items ≤ own.room =
     rw (length-rows_of _ _ _ _ _ c.source.invariant) at (rw (← c.self.view_is, ← c.source.view_is) at c.requires.room) in
-    let same : map contents c.join_all.new.columns ≡ map contents whole =
-    c.join_all.ensures.same
-    ∙ (λ t. map contents (map (λ x. joined x (values_held (rows_from (c.as_slice.ensures.value t) 0 (c.as_slice-entities.ensures.value t)) x.id)) (c.as_mut_slice.ensures.value t))) in
-    let columns = refilled own.columns.len c.join_all.new.columns own.columns.items
-    (length-contents whole c.join_all.new.columns same ∙ length-map own.columns.items (λ x. joined x (values_held rows x.id))) (sym own.columns.ok.0) in
-    let capacity : length own.entities.items + length source.entities.items ≤ vec_capacity own.entities = omega (arith, some, c.self.invariant.rows_room) in
+    let kept = joined_columns own.columns.len c.join_all.new.columns c.as_mut_slice.result.now own.columns.items c.as_slice.result.now
+    source.columns.items c.as_slice-entities.result.now source.entities.items c.join_all.ensures.same c.as_mut_slice.ensures.value
+    c.as_slice.ensures.value c.as_slice-entities.ensures.value own.columns.ok.0 in
+    let capacity : length own.entities.items + length source.entities.items ≤ vec_capacity own.entities =
+    omega (arith, some, c.self.invariant.rows_room) in
     let ok : is_ok c.extend_from_slice-room.result ≡ true =
     c.extend_from_slice-room.ensures.succeeds (omega (arith, capacity, own.entities.ok.0, ap length c.as_slice-entities.ensures.value)) in
     let items : c.extend_from_slice-room.new.self.items ≡ own.entities.items ++ source.entities.items =
     c.extend_from_slice-room.ensures.items
     ∙ (λ t. if ok t then own.entities.items ++ (c.as_slice-entities.ensures.value t) else own.entities.items) in
-    let shape = shape_joined own.type_list own.entities.items (vec_capacity own.entities) own.columns.items own.room c.self.invariant (values_held rows) source.entities.items some
-    (λ i. length-map rows _ ∙ length-rows source.columns.items 0 source.entities.items) in
-    rw (columns, items, c.as_slice-entities.ensures.value)
-    (shape_reserved own.type_list (own.entities.items ++ source.entities.items) (vec_capacity own.entities) whole (own.room - length source.entities.items) shape
-    c.join_all.new.columns (vec_capacity c.extend_from_slice-room.new.self) (own.room - length source.entities.items) same
-    (c.join_all.ensures.kept (own.room - length source.entities.items)
+    let room = own.room - length source.entities.items in
+    let shape = shape_joined own.type_list own.entities.items (vec_capacity own.entities) own.columns.items own.room c.self.invariant
+    (values_held rows) source.entities.items some (λ i. length-map rows _ ∙ length-rows source.columns.items 0 source.entities.items) in
+    rw (kept.1, items, c.as_slice-entities.ensures.value)
+    (shape_reserved own.type_list (own.entities.items ++ source.entities.items) (vec_capacity own.entities) whole room shape
+    c.join_all.new.columns (vec_capacity c.extend_from_slice-room.new.self) room kept.0
+    (c.join_all.ensures.kept room
     (rw (c.as_mut_slice.ensures.value, c.as_slice-entities.ensures.value) (λ k d there. omega (arith, some, c.self.invariant.roomy k d there))))
     (omega (arith, some, c.self.invariant.rows_room, c.extend_from_slice-room.ensures.capacity, length-append own.entities.items source.entities.items)))
 
@@ -61,12 +61,11 @@ returns c =
     let whole : List ColumnState = map (λ x. joined x (values_held rows x.id)) own.columns.items in
     let some : length source.entities.items ≤ own.room =
     rw (length-rows_of _ _ _ _ _ c.source.invariant) at (rw (← c.self.view_is, ← c.source.view_is) at c.requires.room) in
-    let same : map contents c.join_all.new.columns ≡ map contents whole =
-    c.join_all.ensures.same
-    ∙ (λ t. map contents (map (λ x. joined x (values_held (rows_from (c.as_slice.ensures.value t) 0 (c.as_slice-entities.ensures.value t)) x.id)) (c.as_mut_slice.ensures.value t))) in
-    let columns = refilled own.columns.len c.join_all.new.columns own.columns.items
-    (length-contents whole c.join_all.new.columns same ∙ length-map own.columns.items (λ x. joined x (values_held rows x.id))) (sym own.columns.ok.0) in
-    let capacity : length own.entities.items + length source.entities.items ≤ vec_capacity own.entities = omega (arith, some, c.self.invariant.rows_room) in
+    let kept = joined_columns own.columns.len c.join_all.new.columns c.as_mut_slice.result.now own.columns.items c.as_slice.result.now
+    source.columns.items c.as_slice-entities.result.now source.entities.items c.join_all.ensures.same c.as_mut_slice.ensures.value
+    c.as_slice.ensures.value c.as_slice-entities.ensures.value own.columns.ok.0 in
+    let capacity : length own.entities.items + length source.entities.items ≤ vec_capacity own.entities =
+    omega (arith, some, c.self.invariant.rows_room) in
     let ok : is_ok c.extend_from_slice-room.result ≡ true =
     c.extend_from_slice-room.ensures.succeeds (omega (arith, capacity, own.entities.ok.0, ap length c.as_slice-entities.ensures.value)) in
     let items : c.extend_from_slice-room.new.self.items ≡ own.entities.items ++ source.entities.items =
@@ -74,17 +73,15 @@ returns c =
     ∙ (λ t. if ok t then own.entities.items ++ (c.as_slice-entities.ensures.value t) else own.entities.items) in
     let held = same_held own.type_list source.type_list own.columns.items source.columns.items c.self.invariant.kinds c.source.invariant.kinds
     (rw (← c.self.view_is, ← c.source.view_is) at c.requires.widths) in
-    let all : rows_of own.type_list (take own.columns.len (c.join_all.new.columns ++ drop (length c.join_all.new.columns) own.columns.items)) c.extend_from_slice-room.new.self.items
-    ≡ rows_of own.type_list own.columns.items own.entities.items
-    ++ map (retyped_row own.type_list) (rows_of source.type_list source.columns.items source.entities.items) =
-    (λ t. rows_of own.type_list (columns t) (items t))
-    ∙ ap (map (retyped_row own.type_list)) (contents_rows whole c.join_all.new.columns 0 (own.entities.items ++ source.entities.items) same)
-    ∙ ap (λ fs. rows_of own.type_list whole (own.entities.items ++ fs)) (sym (entities_of-rows source.columns.items 0 source.entities.items))
+    let kinds = kinds_same (λ x. joined x (values_held rows x.id)) (λ x. refl) own.columns.items in
+    let joined_rows =
+    ap (λ fs. rows_of own.type_list whole (own.entities.items ++ fs)) (sym (entities_of-rows source.columns.items 0 source.entities.items))
     ∙ added_rows own.type_list own.columns.items own.entities.items rows (retyped_row source.type_list) c.self.invariant.even
     (same_rows own.type_list source.type_list own.columns.items source.columns.items held 0 source.entities.items) in
-    let kinds = ap (map kind_of) columns ∙ contents_kinds whole c.join_all.new.columns same
-    ∙ kinds_same (λ x. joined x (values_held rows x.id)) (λ x. refl) own.columns.items in
     let count : length c.as_slice-entities.result.now ≡ length (rows_of source.type_list source.columns.items source.entities.items) =
     ap length c.as_slice-entities.ensures.value ∙ sym (length-rows_of _ _ _ _ _ c.source.invariant) in
+    let room = own.room - length (rows_of source.type_list source.columns.items source.entities.items) in
     rw (← c.self.view_is, ← c.source.view_is)
-    (λ t. record { ids = own.type_list; widths = map (width_among (kinds t)) own.type_list; rows = all t; room = own.room - count t })
+    ((λ t. table_of own.type_list (kept.1 t) (items t) (own.room - count t))
+    ∙ same_table own.type_list (own.entities.items ++ source.entities.items) whole c.join_all.new.columns room kept.0
+    ∙ (λ t. record { ids = own.type_list; widths = map (width_among (kinds t)) own.type_list; rows = joined_rows t; room = room }))

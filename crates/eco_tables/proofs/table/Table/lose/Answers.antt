@@ -1,7 +1,7 @@
-use Rattle.std.proofs.Common.{◌≡◌, map, ◌∙◌}
+use Rattle.std.proofs.Common.{◌≡◌, ◌∙◌}
 use Rattle.eco_ids.specs.Order.{id_cmp, without_item}
-use Rattle.eco_tables.specs.Column.{kind_of, without_column}
-use Rattle.eco_tables.specs.Table.{rows_of, width_among}
+use Rattle.eco_tables.specs.Column.{without_column}
+use Rattle.eco_tables.specs.Table.{table_of}
 use Rattle.eco_tables.proofs.Rows.{ascends}
 use Rattle.eco_tables.proofs.Turning.{fewer_held, fewer_wide, shape_fewer, turned_table}
 use Rattle.eco_tables.proofs.table.Table.lose.Goals as goal
@@ -19,6 +19,7 @@ returns c =
     let list : c.remove.new.self ≡ without_item id_cmp own.type_list c.args.id = c.remove.ensures.is in
     let columns : c.remove_column.new.columns.items ≡ without_column cs c.args.id = c.remove_column.ensures in
     rw (← c.self.view_is)
-    ((λ t. record { ids = list t; widths = map (width_among (map kind_of (columns t))) (list t); rows = rows_of (list t) (columns t) own.entities.items; room = own.room })
-    ∙ turned_table own.type_list cs c.self.invariant.kinds (without_item id_cmp own.type_list c.args.id) (without_column cs c.args.id) own.entities.items c.args.id 0 own.room
+    ((λ t. table_of (list t) (columns t) own.entities.items own.room)
+    ∙ turned_table own.type_list cs c.self.invariant.kinds (without_item id_cmp own.type_list c.args.id) (without_column cs c.args.id)
+    own.entities.items c.args.id 0 own.room
     (fewer_wide own.type_list cs c.self.invariant.kinds c.args.id) (fewer_held own.type_list cs c.self.invariant.kinds c.args.id))

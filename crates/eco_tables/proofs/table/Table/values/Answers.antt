@@ -13,7 +13,8 @@ returns-in_err-place-clause-none c =
 
 pub index-requires : goal.index-requires
 index-requires c =
-    rw c.self.inside.columns.ok.0 (place_within c.self.inside.columns.items c.in_ok-place.place c.args.id (rw c.as_slice.ensures.value at c.in_ok-place.ensures.found))
+    rw c.self.inside.columns.ok.0
+    (place_within c.self.inside.columns.items c.in_ok-place.place c.args.id (rw c.as_slice.ensures.value at c.in_ok-place.ensures.found))
 
 pub returns-clause-shown : goal.returns-clause-shown
 returns-clause-shown c =

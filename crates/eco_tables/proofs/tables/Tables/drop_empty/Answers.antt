@@ -7,4 +7,5 @@ invariant_of-self-2 c =
     let within = rowless_within c.self.inside.slots.items c.args.slot (rw (← c.self.view_is) at (sym c.if-not-is_rowless.ensures)) in
     let there = at_slot c.self.inside.slots.items c.args.slot c.index_mut.result.now c.in_ok-table.table c.index_mut.ensures.value within
     (sym c.take.ensures.value ∙ c.in_ok-table.was) in
-    rw (c.take.ensures.after, c.push_reserved.ensures.items, c.push_reserved.ensures.capacity) (dropped _ _ _ c.self.invariant c.args.slot c.in_ok-table.table there)
+    rw (c.take.ensures.after, c.push_reserved.ensures.items, c.push_reserved.ensures.capacity)
+    (dropped _ _ _ c.self.invariant c.args.slot c.in_ok-table.table there)

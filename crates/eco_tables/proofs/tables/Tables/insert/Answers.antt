@@ -17,6 +17,7 @@ returns-in-Some-clause-vacant c =
 pub returns-in-Some-clause-sets : goal.returns-in-Some-clause-sets
 returns-in-Some-clause-sets c =
     rw (← c.self.view_is)
-    (subst (λ t. Sets c.self.inside.slots.items (set c.self.inside.slots.items c.in-Some.slot (Some c.in_ok-table.table)) c.in-Some.slot (Some t)) c.in_ok-table.ensures
+    (subst (λ t. Sets c.self.inside.slots.items (set c.self.inside.slots.items c.in-Some.slot (Some c.in_ok-table.table)) c.in-Some.slot (Some t))
+    c.in_ok-table.ensures
     (sets_slot c.self.inside.slots.items c.in-Some.slot (Some c.in_ok-table.table)
     (reused_slot _ _ _ c.self.invariant c.pop.new.self.items c.in-Some.slot c.in-Some.ensures.items).0))

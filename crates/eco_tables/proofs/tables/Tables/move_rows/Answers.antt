@@ -21,7 +21,8 @@ invariant_of-self c =
     c.move_all_in.ensures
     ∙ ap (λ xs. set (set xs from (Some (without_rows (table_in xs from)))) to (Some (with_rows (table_in xs to) (table_in xs from).rows)))
     c.as_mut_slice.ensures.value in
-    let long : length c.move_all_in.new.slots ≡ length items = ap length slots ∙ length-set (set items from (Some left)) to (Some grown) ∙ length-set items from (Some left) in
+    let long : length c.move_all_in.new.slots ≡ length items =
+    ap length slots ∙ length-set (set items from (Some left)) to (Some grown) ∙ length-set items from (Some left) in
     rw (refilled c.self.inside.slots.len c.move_all_in.new.slots items long (sym c.self.inside.slots.ok.0), slots)
     (both_still items _ _ c.self.invariant from to left grown c.requires.apart (some_within items from some_from) (some_within items to some_to)
     some_from some_to (λ has. All-nil (HasIds (table_in items from).ids)) (joined_have (table_in items to) (table_in items from).rows))

@@ -9,4 +9,5 @@ pub invariant_of-self : goal.invariant_of-self
 invariant_of-self c =
     let within = room_within c.self.inside.slots.items c.args.slot (rw (← c.self.view_is) at c.requires) in
     let there = at_slot c.self.inside.slots.items c.args.slot c.index_mut.result.now c.in-Some.table c.index_mut.ensures.value within c.in-Some.is in
-    still _ _ _ c.self.invariant c.args.slot c.in-Some.table c.push_row.new.self there (λ has. subst RowsHaveIds (sym c.push_row.ensures) (joined_have c.in-Some.table (new_row c.args.entity ∷ []) has))
+    still _ _ _ c.self.invariant c.args.slot c.in-Some.table c.push_row.new.self there
+    (λ has. subst RowsHaveIds (sym c.push_row.ensures) (joined_have c.in-Some.table (new_row c.args.entity ∷ []) has))

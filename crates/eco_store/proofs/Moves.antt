@@ -179,7 +179,8 @@ module _ (P P' : ℕ → Option Seat) (s s' : List (Option TableState)) (i : ℕ
   take_seated =
       seated_removed P P' (row_at s) (row_at s') i p.generation p.slot p.row end_row no_row taken seated removes_row here
       (m_row P s s' i p moved seated here takes.rows.changed takes.filled) gone
-      (fixed_there P s s' i p moved seated here takes.rows.changed takes.filled P' fixed kept) (fixed_others P s s' i p moved seated here takes.rows.changed takes.filled P' fixed kept)
+      (fixed_there P s s' i p moved seated here takes.rows.changed takes.filled P' fixed kept)
+      (fixed_others P s s' i p moved seated here takes.rows.changed takes.filled P' fixed kept)
 
   pub take_others : (j : ℕ) → j ≢ i → option_map (seen (row_at s')) (P' j) ≡ option_map (seen (row_at s)) (P j)
   take_others j other =

@@ -30,7 +30,8 @@ own_needed : (w : Indexed Registration) (s : List (Option TableState)) (e : Enti
 own_needed w s e = rw (slice_get-map (map_state (record_for (row_at s))) w.indices e.index) (by (slice_get w.indices e.index))
   where
     by : (o : Option (IndexState Registration))
-        → fields_for (option_and_then (λ (r : Record). r.arity) (record_in (option_map (map_state (record_for (row_at s))) o) e.generation)) ≤ need_in o e.generation
+        → fields_for (option_and_then (λ (r : Record). r.arity) (record_in (option_map (map_state (record_for (row_at s))) o) e.generation))
+        ≤ need_in o e.generation
     by None = omega arith
     by (Some Retired) = omega arith
     by (Some (Free f)) = omega arith

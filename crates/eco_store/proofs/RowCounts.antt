@@ -41,7 +41,8 @@ module _ (w : Indexed Registration) (s : List (Option TableState)) (ruled : IsRu
 
   pub rows_bounded : length (table_in s n).rows ≤ 1048576
   rows_bounded =
-      let few : length (table_in s n).rows ≤ length w.indices = pigeonhole (length (table_in s n).rows) (length w.indices) (λ i. (row i).entity.index) known apart in
+      let few : length (table_in s n).rows ≤ length w.indices =
+      pigeonhole (length (table_in s n).rows) (length w.indices) (λ i. (row i).entity.index) known apart in
       omega (arith, few, ruled.within, ruled.limited)
 
 -- the row at which a living entity stands, and the one behind the last of a table, can be kept

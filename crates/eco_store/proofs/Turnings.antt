@@ -111,7 +111,8 @@ module _ (s s' : List (Option TableState)) (l l' : Lists) (n : ℕ) (i : Id) (id
         by : (c : Bool) → nat_eq n m ≡ c → cond (picks p && c) b (l p m) ≡ type_matches (type_at s' m) p
         by true e =
             let here : n ≡ m = (Decides-eqb n m).0 e in
-            ap (cond (picks p && true) b) (ap (l p) (sym here) ∙ before p) ∙ is p ∙ sym (ap (λ k. type_matches (type_at s' k) p) (sym here) ∙ ap (λ o. type_matches o p) has)
+            ap (cond (picks p && true) b) (ap (l p) (sym here) ∙ before p) ∙ is p
+            ∙ sym (ap (λ k. type_matches (type_at s' k) p) (sym here) ∙ ap (λ o. type_matches o p) has)
         by false e = neither (picks p) (l p m) ∙ elsewhere p m e
 
   pub index_gained : type_at s' n ≡ Some (with_item id_cmp ids i) → Turns true (matches_id i) l l' n → IsIdIndex (type_at s') l'
@@ -314,7 +315,8 @@ module _ {S E : Type 0} (s s' : List (Option TableState)) (m m' : HashMap (List 
         (way (same_ids u q) (same_ids u q ≡ false) (λ same. absurd (absent k (was ∙ ap Some (sym ((same_ids-Decides u q).0 same))))) (λ no_one. no_one))
         ∙ ap (λ b. cond b None (get same_ids m q))
         (way (same_ids t q) (same_ids t q ≡ false)
-        (λ same. absurd (apart (one k n (sym (found.types.there q k was) ∙ ap (get same_ids m) (sym ((same_ids-Decides t q).0 same)) ∙ found.types.there t n had))))
+        (λ same. absurd (apart (one k n
+        (sym (found.types.there q k was) ∙ ap (get same_ids m) (sym ((same_ids-Decides t q).0 same)) ∙ found.types.there t n had))))
         (λ no_one. no_one))
         ∙ found.types.there q k was);
   }

@@ -359,7 +359,8 @@ module _ (w : Indexed Registration) (s s1 : List (Option TableState)) (t : Trans
           arity = x.arity;
           held = (ap (λ o. held_at (row_at s) o) is ∙ ap held_of at) i;
         } in
-        let new : record_for (row_at s1) (placed_after t end count x) ≡ record { name = x.name; arity = x.arity; held = held_of (row_at s1 (after p).table (after p).row) } =
+        let new : record_for (row_at s1) (placed_after t end count x) ≡
+        record { name = x.name; arity = x.arity; held = held_of (row_at s1 (after p).table (after p).row) } =
         λ i. record { name = x.name; arity = x.arity; held = held_at (row_at s1) (option_map after (is i)) } in
         new ∙ elim (cases_eq p.table t.from) [
           | inl here ↦
@@ -370,7 +371,8 @@ module _ (w : Indexed Registration) (s s1 : List (Option TableState)) (t : Trans
               (λ i. record { name = x.name; arity = x.arity; held = held_of (row_stayed p r other at i) })
               ∙ sym (other_type change (record { name = x.name; arity = x.arity; held = r.held })
               (λ same. other (kinds p.table t.from (table_in s t.from).ids
-              (type_there s p.table (there_by_row s p.table p.row (slice_get_within (table_in s p.table).rows p.row r at)) ∙ ap Some (sym (row_type p r at) ∙ same))
+              (type_there s p.table (there_by_row s p.table p.row (slice_get_within (table_in s p.table).rows p.row r at))
+              ∙ ap Some (sym (row_type p r at) ∙ same))
               (type_there s t.from source))))
         ] ∙ ap (changed_record change) (sym old)
 

@@ -1,13 +1,13 @@
 //! The tables of a store, one for each type, found by type and by the patterns that match its ids.
 ghost use Rattle.std.specs.Prelude.{◌≡◌, ◌≢◌, ◌↔◌, ◌&&◌, nat_lt, nat_eq, filter, List, ℕ, ◌<◌, ◌≤◌, ◌∷◌, [], length, ◌++◌};
-ghost use Rattle.std.specs.Prelude.{slice_get, slice_set, Some, None, IsSome, IsTrue, IfOk, IfSome, IfNone, OnOk, OnErr, OnSome, is_some};
+ghost use Rattle.std.specs.Prelude.{slice_get, Some, None, IsSome, IsTrue, IfOk, IfSome, IfNone, OnOk, OnErr, OnSome, is_some};
 ghost use Rattle.std.specs.List.{list_any, IsDistinct};
 ghost use Rattle.std.specs.FinMap.Entries.{find};
 ghost use Rattle.eco_ids.specs.declared.id.Id.{Id as Ids};
 ghost use Rattle.eco_ids.specs.Order.{id_cmp};
-ghost use Rattle.eco_tables.specs.Column.{with_held};
 ghost use Rattle.eco_tables.specs.Table.{TableState, entities_of, empty_table};
-ghost use Rattle.eco_tables.specs.Tables.{slot_of, table_in, row_in, Sets, Moves, MovesAll, with_row, without_row, rowless_type};
+ghost use Rattle.eco_tables.specs.Tables.{slot_of, table_in, row_in, Sets, SetsRoom, Moves, MovesAll};
+ghost use Rattle.eco_tables.specs.Tables.{new_row, with_row, with_written, without_row, rowless_type};
 ghost use Rattle.eco_store.specs.Archetypes.{type_at, SameSlots, KeepsTypes, KeepsRoom, RowlessIn, RowlessBut};
 ghost use Rattle.eco_store.specs.Seats.{SameRows};
 ghost use Rattle.eco_store.specs.Widths.{FitsIn, KeepsWidths, StillCover};
@@ -63,7 +63,8 @@ impl Model for Archetypes {
 
     ghost view = { λ a. a.tables };
 
-    ghost invariant = { λ a. IsArchetypes a.tables a.by_type.slots (lists_of a.by_id.slots) a.edges.lists.items };
+    ghost invariant = { λ a.
+        IsArchetypes a.tables a.by_type.slots (lists_of a.by_id.slots) a.edges.lists.items };
 }
 
 impl Archetypes {
@@ -84,7 +85,8 @@ impl Archetypes {
     /// The tables, to read.
     pub fn tables(&self) -> &Tables
         ensures same { result.now ≡ self.now }
-        ensures kinds { (n m : ℕ) (ids : List Ids) → type_at self.now n ≡ Some ids → type_at self.now m ≡ Some ids → n ≡ m }
+        ensures kinds { (n m : ℕ) (ids : List Ids) →
+            type_at self.now n ≡ Some ids → type_at self.now m ≡ Some ids → n ≡ m }
     {
         &self.tables
     }
@@ -183,7 +185,8 @@ impl Archetypes {
     fn make(&mut self, entities: &EntityIndex, type_list: &TypeList) -> Result<usize, AllocError>
         requires { (n : ℕ) → type_at self.old n ≢ Some type_list.now }
         ensures vacant { IfOk result (λ n. slot_of self.old n ≡ None) }
-        ensures makes { IfOk result (λ n. Sets self.old self.new n (Some (empty_table type_list.now (table_in self.new n).widths))) }
+        ensures makes { IfOk result (λ n. Sets self.old self.new n
+            (Some (empty_table type_list.now (table_in self.new n).widths))) }
         ensures widths { OnOk result (StillCover entities.now self.old self.new) }
         ensures err { OnErr result (SameSlots self.old self.new) }
     {
@@ -235,7 +238,8 @@ impl Archetypes {
 
     /// Drops those tables in these slots that have no rows. No row changes. It takes no memory.
     pub fn drop_each(&mut self, slots: &[usize])
-        ensures rowless { (others : List ℕ) → RowlessIn self.old (slots.now ++ others) → RowlessIn self.new others }
+        ensures rowless { (others : List ℕ) →
+            RowlessIn self.old (slots.now ++ others) → RowlessIn self.new others }
         ensures rows { SameRows self.old self.new }
         ensures widths { KeepsWidths self.old self.new }
     {
@@ -248,7 +252,7 @@ impl Archetypes {
     #[inline]
     pub fn reserve_rows(&mut self, slot: usize, more: usize) -> Result<(), AllocError>
         requires { IsSome (slot_of self.old slot) }
-        ensures sets { Sets self.old self.new slot (Some (record (table_in self.old slot) { room = (table_in self.new slot).room })) }
+        ensures sets { SetsRoom self.old self.new slot }
         ensures kept { (table_in self.old slot).room ≤ (table_in self.new slot).room }
         ensures room { OnOk result (more ≤ (table_in self.new slot).room) }
         ensures rows { SameRows self.old self.new }
@@ -262,7 +266,8 @@ impl Archetypes {
     pub fn set_value(&mut self, slot: usize, row: usize, id: Id, value: Value) -> bool
         requires row { row < length (table_in self.old slot).rows }
         requires fits { FitsIn self.old id value }
-        ensures written { Sets self.old self.new slot (Some (record (table_in self.old slot) { rows = slice_set (table_in self.old slot).rows row (record { entity = (row_in self.old slot row).entity; held = with_held (row_in self.old slot row).held id value }) })) }
+        ensures written { Sets self.old self.new slot
+            (Some (with_written (table_in self.old slot) row id value)) }
         ensures had { result ≡ is_some (find id_cmp id (row_in self.old slot row).held) }
         ensures widths { KeepsWidths self.old self.new }
     {
@@ -273,7 +278,8 @@ impl Archetypes {
     #[inline]
     pub fn push_row(&mut self, slot: usize, entity: Entity)
         requires { 0 < (table_in self.old slot).room }
-        ensures row { Sets self.old self.new slot (Some (with_row (table_in self.old slot) (record { entity = entity; held = [] }))) }
+        ensures row { Sets self.old self.new slot
+            (Some (with_row (table_in self.old slot) (new_row entity))) }
         ensures widths { KeepsWidths self.old self.new }
     {
         self.tables.push_row(slot, entity);

@@ -61,7 +61,8 @@ impl Drop for Store {
 
 // What stands against a new entity of this name: its name, or that no index is left.
 fn check_new(entities: &EntityIndex, name: Option<&str>) -> Result<(), Refusal>
-    ensures { Opposes (unfit_name name_of entities.now (option_copied name.entry)) (next_entity entities.now) result }
+    ensures { Opposes (unfit_name name_of entities.now (option_copied name.entry))
+        (next_entity entities.now) result }
 {
     entities.check_name(name)?;
     match entities.next() {
@@ -136,7 +137,8 @@ impl Store {
 
     // The table in which a living entity stands, and its row.
     fn stand(&self, e: Entity) -> Option<(&Table, usize)>
-        ensures { MatchOption result (record_of self.now.entities e ≡ None) (λ x. Stands (record_of self.now.entities e) x.0.now x.1) }
+        ensures { MatchOption result (record_of self.now.entities e ≡ None)
+            (λ x. Stands (record_of self.now.entities e) x.0.now x.1) }
     {
         let place = self.entities.place_of(e)?;
         let table = self.layout.tables().get(place.table).unwrap();
@@ -174,7 +176,8 @@ impl Store {
     /// same type.
     pub fn tables(&self) -> &Tables
         ensures shown { IsShown self.now.entities result.now }
-        ensures kinds { (n m : ℕ) (ids : List Ids) → type_at result.now n ≡ Some ids → type_at result.now m ≡ Some ids → n ≡ m }
+        ensures kinds { (n m : ℕ) (ids : List Ids) →
+            type_at result.now n ≡ Some ids → type_at result.now m ≡ Some ids → n ≡ m }
     {
         let tables = self.layout.tables();
         tables.rows_have_ids();
@@ -184,7 +187,8 @@ impl Store {
     /// What stands against a new entity of this name, or none: `BadName` where it is no name, `NameTaken` where a living
     /// entity has it, and `NoMoreIds` where every index below the limit is in use or retired, in this order.
     pub fn check_new(&self, name: Option<&str>) -> Result<(), Refusal>
-        ensures { Opposes (unfit_name record_name self.now.entities (option_copied name.entry)) (next_entity self.now.entities) result }
+        ensures { Opposes (unfit_name record_name self.now.entities (option_copied name.entry))
+            (next_entity self.now.entities) result }
     {
         check_new(&self.entities, name)
     }
@@ -201,7 +205,8 @@ impl Store {
         arity: Option<u8>,
         type_list: &TypeList,
     ) -> Result<Entity, Refusal>
-        ensures step { Creates self.old.entities (option_copied name.entry) arity type_list.now result self.new.entities }
+        ensures step { Creates self.old.entities (option_copied name.entry) arity type_list.now
+            result self.new.entities }
         ensures unprepared { self.new.prepared ≡ [] }
     {
         // A place's row fits, as a table has no more rows than there are indices.

@@ -49,11 +49,13 @@ impl Transfer {
         requires apart { self.from ≢ self.to }
         requires source { IsSome (slot_of archetypes.old self.from) }
         requires target { IsSome (slot_of archetypes.old self.to) }
-        requires room { length (table_in archetypes.old self.from).rows ≤ (table_in archetypes.old self.to).room }
+        requires room { length (table_in archetypes.old self.from).rows
+            ≤ (table_in archetypes.old self.to).room }
         ensures store { IsStore entities.new archetypes.new }
         ensures covers { Covers (need entities.old) archetypes.old → Covers (need entities.new) archetypes.new }
         ensures pours { Pours archetypes.old archetypes.new self.from self.to }
-        ensures read { read entities.new archetypes.new ≡ after_change (read entities.old archetypes.old) (change_of archetypes.old self) }
+        ensures read { read entities.new archetypes.new
+            ≡ after_change (read entities.old archetypes.old) (change_of archetypes.old self) }
     {
         let tables = archetypes.tables();
         tables.rows_have_ids();
@@ -70,8 +72,10 @@ pub fn move_all(entities: &mut EntityIndex, archetypes: &mut Archetypes, transfe
     requires room { HasRoom archetypes.old transfers.now }
     ensures store { IsStore entities.new archetypes.new }
     ensures covers { Covers (need entities.old) archetypes.old → Covers (need entities.new) archetypes.new }
-    ensures read { read entities.new archetypes.new ≡ after_changes (read entities.old archetypes.old) (map (change_of archetypes.old) transfers.now) }
-    ensures rowless { (slots : List ℕ) → AreNamed slots transfers.now → RowlessIn archetypes.old slots → RowlessIn archetypes.new slots }
+    ensures read { read entities.new archetypes.new
+        ≡ after_changes (read entities.old archetypes.old) (map (change_of archetypes.old) transfers.now) }
+    ensures rowless { (slots : List ℕ) → AreNamed slots transfers.now →
+        RowlessIn archetypes.old slots → RowlessIn archetypes.new slots }
 {
     for transfer in transfers {
         transfer.move_rows(entities, archetypes);

@@ -45,7 +45,8 @@ fn list_all(
     by_type: &mut TypeMap,
     by_id: &mut IdIndex,
 ) -> Result<(), AllocError>
-    requires kinds { (n m : ℕ) (ids : List Ids) → type_at tables.now n ≡ Some ids → type_at tables.now m ≡ Some ids → n ≡ m }
+    requires kinds { (n m : ℕ) (ids : List Ids) →
+        type_at tables.now n ≡ Some ids → type_at tables.now m ≡ Some ids → n ≡ m }
     requires no_type { IsEmpty by_type.old.slots }
     requires no_slot { ListsNone (lists_of by_id.old.slots) }
     ensures types { OnOk result (IsTypeMap (type_at tables.now) by_type.new.slots) }

@@ -1,7 +1,7 @@
 //! The room that changes of many entities take, all of it before the first row moves.
 ghost use Rattle.std.specs.Prelude.{◌≤◌, ◌+◌, List, ℕ, Some, IsSome, OnOk};
 ghost use Rattle.std.specs.List.{All};
-ghost use Rattle.eco_tables.specs.Tables.{slot_of, table_in, Sets};
+ghost use Rattle.eco_tables.specs.Tables.{slot_of, table_in, Sets, SetsRoom};
 ghost use Rattle.eco_store.specs.Archetypes.{RowlessIn};
 ghost use Rattle.eco_store.specs.Seats.{SameRows};
 ghost use Rattle.eco_store.specs.Transfers.{HasRoom, SameTypes};
@@ -32,7 +32,7 @@ impl Archetypes {
     /// was there.
     pub fn reserve_more(&mut self, slot: usize, more: usize) -> Result<(), AllocError>
         requires { IsSome (slot_of self.old slot) }
-        ensures sets { Sets self.old self.new slot (Some (record (table_in self.old slot) { room = (table_in self.new slot).room })) }
+        ensures sets { SetsRoom self.old self.new slot }
         ensures kept { (table_in self.old slot).room ≤ (table_in self.new slot).room }
         ensures room { OnOk result ((table_in self.old slot).room + more ≤ (table_in self.new slot).room) }
         ensures types { SameTypes self.old self.new }

@@ -146,7 +146,8 @@ impl Archetypes {
 
     // The slots of the tables whose types have an id that the pattern matches, each once.
     fn listed(&self, pattern: Pattern) -> &[usize]
-        ensures listed { (n : ℕ) → list_any (nat_eq n) result.now ≡ type_matches (type_at self.now n) pattern }
+        ensures listed { (n : ℕ) →
+            list_any (nat_eq n) result.now ≡ type_matches (type_at self.now n) pattern }
         ensures distinct { IsDistinct nat_eq result.now }
     {
         self.by_id.slots(pattern)

@@ -27,7 +27,8 @@ impl Archetypes {
         id: Id,
     ) -> Result<bool, AllocError>
         requires { IsSome (slot_of self.old slot) }
-        ensures ok { IfOk result (MayTakeType self.old self.new slot (toggled (table_in self.old slot).ids id)) }
+        ensures ok { IfOk result
+            (MayTakeType self.old self.new slot (toggled (table_in self.old slot).ids id)) }
         ensures err { OnErr result (SameSlots self.old self.new) }
         ensures widths { StillCover entities.now self.old self.new }
     {
@@ -48,7 +49,8 @@ impl Archetypes {
     ) -> Result<bool, AllocError>
         requires there { IsSome (slot_of self.old slot) }
         requires alone { length (table_in self.old slot).rows ≡ 1 }
-        ensures ok { IfOk result (MayTakeType self.old self.new slot (toggled (table_in self.old slot).ids id)) }
+        ensures ok { IfOk result
+            (MayTakeType self.old self.new slot (toggled (table_in self.old slot).ids id)) }
         ensures err { OnErr result (SameSlots self.old self.new) }
         ensures widths { StillCover entities.now self.old self.new }
     {
@@ -103,7 +105,8 @@ fn toggle(
     requires agreed { AreAgreed tables.old }
     requires few { width ≤ 4 }
     requires width { FitsAll tables.old id width }
-    ensures ok { OnOk result (TakesType tables.old tables.new slot (toggled (table_in tables.old slot).ids id)) }
+    ensures ok { OnOk result
+        (TakesType tables.old tables.new slot (toggled (table_in tables.old slot).ids id)) }
     ensures err { OnErr result (SameSlots tables.old tables.new) }
     ensures index { IsIdIndex (type_at tables.new) (lists_of by_id.new.slots) }
     ensures agreed { AreAgreed tables.new }
@@ -131,7 +134,8 @@ fn gain(
     requires agreed { AreAgreed tables.old }
     requires few { width ≤ 4 }
     requires width { FitsAll tables.old id width }
-    ensures ok { OnOk result (TakesType tables.old tables.new slot (toggled (table_in tables.old slot).ids id)) }
+    ensures ok { OnOk result
+        (TakesType tables.old tables.new slot (toggled (table_in tables.old slot).ids id)) }
     ensures err { OnErr result (SameSlots tables.old tables.new) }
     ensures index { IsIdIndex (type_at tables.new) (lists_of by_id.new.slots) }
     ensures agreed { AreAgreed tables.new }

@@ -17,7 +17,8 @@ returns-then-has-clause-ok t c =
 pub returns-in-Err-clause-err : goal.returns-in-Err-clause-err
 returns-in-Err-clause-err t c =
     let m = c.args.self.now.slots in
-    turned_back c.in-Some.key.now (lists_of m) (lists_of c.add.new.self.slots) (lists_of c.join_keys-2.new.self.slots) (lists_of c.take.new.self.slots) c.args.slot
+    turned_back c.in-Some.key.now (lists_of m) (lists_of c.add.new.self.slots) (lists_of c.join_keys-2.new.self.slots)
+    (lists_of c.take.new.self.slots) c.args.slot
     (listed_as m c.in-Some.key.now c.args.slot false (sym c.has.ensures ∙ c.if-has.false)) c.in_ok-add.ensures.ok c.in-Err.ensures.err c.take.ensures
 
 pub returns-clause-ok : goal.returns-clause-ok
@@ -26,4 +27,5 @@ returns-clause-ok t c =
     let l2 = lists_of c.join_keys-2.new.self.slots in
     let keys : c.args.keys.now ≡ c.in-Some.key.now ∷ c.in-Some.others.now = c.in-Some.ensures.cases.0 in
     subst (λ ks. Turns true (has_one ks) l l2 c.args.slot) (sym keys)
-    (turns_both c.in-Some.key.now c.in-Some.others.now l (lists_of c.add.new.self.slots) l2 c.args.slot c.in_ok-add.ensures.ok c.in_default-join_keys.ensures.ok)
+    (turns_both c.in-Some.key.now c.in-Some.others.now l (lists_of c.add.new.self.slots) l2 c.args.slot
+    c.in_ok-add.ensures.ok c.in_default-join_keys.ensures.ok)

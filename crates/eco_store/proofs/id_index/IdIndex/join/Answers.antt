@@ -15,5 +15,6 @@ pub returns-in-Two-clause-ok : goal.returns-in-Two-clause-ok
 returns-in-Two-clause-ok c =
     let i = Two c.in-Two.relationship c.in-Two.target in
     rw c.in-Two.is (on_ok c.join_keys-in-Two.result
-    (turns_as true (has_one (keys_of i)) (matches_id i) (lists_of c.args.self.now.slots) (lists_of c.join_keys-in-Two.new.self.slots) c.args.slot (key_matches i))
+    (turns_as true (has_one (keys_of i)) (matches_id i) (lists_of c.args.self.now.slots) (lists_of c.join_keys-in-Two.new.self.slots)
+    c.args.slot (key_matches i))
     (rw c.keys_of_pair.ensures at c.join_keys-in-Two.ensures.ok))

@@ -33,14 +33,18 @@ pub invariant_of-self-then-stays : goal.invariant_of-self-then-stays
 invariant_of-self-then-stays c =
     let none = ap (λ (l : LayoutState). l.moves) c.self.view_is ∙ c.requires.unprepared in
     let s = c.self.inside.archetypes in
-    let takes = subst (MayTakeType s c.step_alone.new.self c.args.place.table (toggled (table_in s c.args.place.table).ids c.args.id)) c.if-stays.true c.in_ok-stays.ensures.ok in
+    let takes =
+    subst (MayTakeType s c.step_alone.new.self c.args.place.table (toggled (table_in s c.args.place.table).ids c.args.id))
+    c.if-stays.true c.in_ok-stays.ensures.ok in
     idle_laid _ _ c.self.invariant none _ (takes_rowless _ _ c.args.place.table _ takes.0 takes.1 (staying c.self.inside.prepared))
 
 pub returns-then-stays-clause-ok : goal.returns-then-stays-clause-ok
 returns-then-stays-clause-ok c =
     let s = c.self.inside.archetypes in
     let s1 = c.step_alone.new.self in
-    let takes = subst (MayTakeType s s1 c.args.place.table (toggled (table_in s c.args.place.table).ids c.args.id)) c.if-stays.true c.in_ok-stays.ensures.ok in
+    let takes =
+    subst (MayTakeType s s1 c.args.place.table (toggled (table_in s c.args.place.table).ids c.args.id))
+    c.if-stays.true c.in_ok-stays.ensures.ok in
     let there = rw (← c.self.view_is) at c.requires.row in
     let own = subst AllHaveIds c.tables.ensures.same c.rows_have_ids.ensures c.args.place.table c.args.place.row no_row there in
     rw (← c.self.view_is)
@@ -55,7 +59,8 @@ pub step-requires : goal.step-requires
 step-requires c =
     let s = c.self.inside.archetypes in
     let same : SameSlots s c.step_alone.new.self =
-    subst (MayTakeType s c.step_alone.new.self c.args.place.table (toggled (table_in s c.args.place.table).ids c.args.id)) c.if-stays.false c.in_ok-stays.ensures.ok in
+    subst (MayTakeType s c.step_alone.new.self c.args.place.table (toggled (table_in s c.args.place.table).ids c.args.id))
+    c.if-stays.false c.in_ok-stays.ensures.ok in
     subst IsSome (sym (same c.args.place.table)) (there_by_row _ c.args.place.table c.args.place.row (rw (← c.self.view_is) at c.requires.row))
 
 pub invariant_of-self-in_err-to : goal.invariant_of-self-in_err-to
@@ -63,7 +68,8 @@ invariant_of-self-in_err-to c =
     let none = ap (λ (l : LayoutState). l.moves) c.self.view_is ∙ c.requires.unprepared in
     let s = c.self.inside.archetypes in
     let same : SameSlots s c.step_alone.new.self =
-    subst (MayTakeType s c.step_alone.new.self c.args.place.table (toggled (table_in s c.args.place.table).ids c.args.id)) c.if-stays.false c.in_ok-stays.ensures.ok in
+    subst (MayTakeType s c.step_alone.new.self c.args.place.table (toggled (table_in s c.args.place.table).ids c.args.id))
+    c.if-stays.false c.in_ok-stays.ensures.ok in
     idle_laid _ _ c.self.invariant none _ (λ was.
     let slots = staying c.self.inside.prepared in c.in_err-to.ensures.rowless slots (rowless_slots _ _ slots same was))
 
@@ -71,7 +77,8 @@ pub returns-in_err-to-clause-err : goal.returns-in_err-to-clause-err
 returns-in_err-to-clause-err c =
     let s = c.self.inside.archetypes in
     let same : SameSlots s c.step_alone.new.self =
-    subst (MayTakeType s c.step_alone.new.self c.args.place.table (toggled (table_in s c.args.place.table).ids c.args.id)) c.if-stays.false c.in_ok-stays.ensures.ok in
+    subst (MayTakeType s c.step_alone.new.self c.args.place.table (toggled (table_in s c.args.place.table).ids c.args.id))
+    c.if-stays.false c.in_ok-stays.ensures.ok in
     rw (← c.self.view_is) (err_says c.from_residual-in_err-to.result (then_rows _ _ _ (rows_from_slots _ _ same) c.step.ensures.rows))
 
 pub returns-in_err-to-clause-widths : goal.returns-in_err-to-clause-widths
@@ -84,7 +91,8 @@ pub shift-moved-requires-clause-row : goal.shift-moved-requires-clause-row
 shift-moved-requires-clause-row c =
     let s = c.self.inside.archetypes in
     let same : SameSlots s c.step_alone.new.self =
-    subst (MayTakeType s c.step_alone.new.self c.args.place.table (toggled (table_in s c.args.place.table).ids c.args.id)) c.if-stays.false c.in_ok-stays.ensures.ok in
+    subst (MayTakeType s c.step_alone.new.self c.args.place.table (toggled (table_in s c.args.place.table).ids c.args.id))
+    c.if-stays.false c.in_ok-stays.ensures.ok in
     subst (λ R. c.args.place.row < length (R c.args.place.table)) (sym (rows_alike _ _ (then_rows _ _ _ (rows_from_slots _ _ same) c.step.ensures.rows)))
     (rw (← c.self.view_is) at c.requires.row)
 
@@ -94,7 +102,8 @@ release-requires c =
     let slots = staying c.self.inside.prepared in
     let s = c.self.inside.archetypes in
     let same : SameSlots s c.step_alone.new.self =
-    subst (MayTakeType s c.step_alone.new.self c.args.place.table (toggled (table_in s c.args.place.table).ids c.args.id)) c.if-stays.false c.in_ok-stays.ensures.ok in
+    subst (MayTakeType s c.step_alone.new.self c.args.place.table (toggled (table_in s c.args.place.table).ids c.args.id))
+    c.if-stays.false c.in_ok-stays.ensures.ok in
     let left = idle_leaves _ _ c.self.invariant none _ _ c.args.place.table c.args.place.row c.in_ok-to.to
     c.shift-moved.ensures.moves (λ was. c.in_ok-to.ensures.rowless slots (rowless_slots _ _ slots same was)) in
     record { ready = left.0; tidy = left.1 }
@@ -111,7 +120,8 @@ returns-clause-ok c =
     let s2 = c.step.new.self in
     let m = c.shift-moved.result in
     let same : SameSlots s s1 =
-    subst (MayTakeType s s1 c.args.place.table (toggled (table_in s c.args.place.table).ids c.args.id)) c.if-stays.false c.in_ok-stays.ensures.ok in
+    subst (MayTakeType s s1 c.args.place.table (toggled (table_in s c.args.place.table).ids c.args.id))
+    c.if-stays.false c.in_ok-stays.ensures.ok in
     let rows : SameRows s s2 = then_rows s s1 s2 (rows_from_slots s s1 same) c.step.ensures.rows in
     let there = rw (← c.self.view_is) at c.requires.row in
     let own = subst AllHaveIds c.tables.ensures.same c.rows_have_ids.ensures c.args.place.table c.args.place.row no_row there in

@@ -19,7 +19,8 @@ returns-clause-ready c =
     on_ok_weaker c.add.result
     (λ is. subst (IsReady s') (sym is)
     (ready_more s s' c.target.new.self c.args.next.now.entity c.in_ok-slot.slot _ c.in_ok-slot.ensures.ready c.in_ok-slot.ensures.stays
-    (there_as_typed s c.in_ok-slot.slot c.args.next.now.type_list c.in_ok-slot.ensures.typed) c.reserve_more.ensures.types c.reserve_more.ensures.sets c.in_ok-reserve_more.ensures.room))
+    (there_as_typed s c.in_ok-slot.slot c.args.next.now.type_list c.in_ok-slot.ensures.typed)
+    c.reserve_more.ensures.types c.reserve_more.ensures.sets c.in_ok-reserve_more.ensures.room))
     c.add.ensures.ok
 
 pub returns-clause-ok : goal.returns-clause-ok
@@ -28,6 +29,7 @@ returns-clause-ok c =
     let s' = c.reserve_more.new.self in
     on_ok_weaker c.add.result
     (λ is. ap (moves_of s') is
-    ∙ moves_more s s' c.target.new.self c.args.next.now.entity c.in_ok-slot.slot c.args.next.now.type_list c.in_ok-slot.ensures.typed c.reserve_more.ensures.types c.in_ok-slot.ensures.ready
+    ∙ moves_more s s' c.target.new.self c.args.next.now.entity c.in_ok-slot.slot c.args.next.now.type_list c.in_ok-slot.ensures.typed
+    c.reserve_more.ensures.types c.in_ok-slot.ensures.ready
     ∙ ap (λ ms. c.args.next.now ∷ ms) c.in_ok-slot.ensures.moves)
     c.add.ensures.ok

@@ -99,7 +99,8 @@ invariant_of-self-in-Ok-create_next c =
           rw c.set_place.ensures (births.created_store w _ s s1 _ c.in-Ok.place _ name c.args.arity c.self.invariant.store puts made.0 made.1);
       covers =
           placed_covers c.needs_never_grow.ensures _ _ _ c.in-Ok-create_next.created c.in-Ok.place c.set_place.ensures
-          (called c.needs_never_grow.ensures (Create (option_copied c.args.name) c.args.arity) _ c.create_next.new.self _ (c.create_next.result, c.create_next.ensures)
+          (called c.needs_never_grow.ensures (Create (option_copied c.args.name) c.args.arity) _ c.create_next.new.self _
+          (c.create_next.result, c.create_next.ensures)
           (c.push_row.ensures.widths c.self.invariant.covers));
     }
 
@@ -134,7 +135,8 @@ invariant_of-self-in-Err-create_next c =
       store =
           rw unmade.0 (same_store w s _ (put_back s _ _ c.in-Ok.place _ _ _ c.in-Ok.ensures.put c.take_row.ensures.rows) c.self.invariant.store);
       covers =
-          called c.needs_never_grow.ensures (Create (option_copied c.args.name) c.args.arity) _ c.create_next.new.self _ (c.create_next.result, c.create_next.ensures)
+          called c.needs_never_grow.ensures (Create (option_copied c.args.name) c.args.arity) _ c.create_next.new.self _
+          (c.create_next.result, c.create_next.ensures)
           (c.take_row.ensures.widths _ (c.push_row.ensures.widths c.self.invariant.covers));
     }
 

@@ -14,7 +14,8 @@ invariant_of-self-2 c =
     record {
       store =
           rw c.set_place.ensures
-          (births.made_alive_store w _ _ _ c.args.e c.in_ok-place.place [] None None c.self.invariant.store (rw c.empty.ensures at c.in_ok-place.ensures.put) free
+          (births.made_alive_store w _ _ _ c.args.e c.in_ok-place.place [] None None c.self.invariant.store
+          (rw c.empty.ensures at c.in_ok-place.ensures.put) free
           (rw free at c.make_alive.ensures).1);
       covers =
           placed_covers c.needs_never_grow.ensures _ _ _ c.args.e c.in_ok-place.place c.set_place.ensures
@@ -32,7 +33,8 @@ returns-clause-step c =
     (rw (births.is_free_at-read w s c.args.e ∙ free) (
       refl,
       ap (λ v. read v s1) c.set_place.ensures
-          ∙ births.made_alive_seen w _ s s1 c.args.e c.in_ok-place.place [] None None c.self.invariant.store (rw c.empty.ensures at c.in_ok-place.ensures.put) free
+          ∙ births.made_alive_seen w _ s s1 c.args.e c.in_ok-place.place [] None None c.self.invariant.store
+          (rw c.empty.ensures at c.in_ok-place.ensures.put) free
           (rw free at c.make_alive.ensures).1,
     ))
 

@@ -38,7 +38,8 @@ invariant_of-self-in-Some c = record {
       (subst (IsMoved _ _ c.unwrap-place.result c.args.type_list.now) c.in-Some.is c.in_ok-moved.ensures.ok));
   covers =
       placed_covers c.needs_never_grow.ensures _ _ _ c.args.e c.in-Some.moved.place c.set_place.ensures
-      (fixed_covers c.needs_never_grow.ensures c.self.inside.entities c.fix_place.new.entities _ c.in-Some.moved.filler c.unwrap-place.result c.fix_place.ensures (c.move_row.ensures.widths c.self.invariant.covers));
+      (fixed_covers c.needs_never_grow.ensures c.self.inside.entities c.fix_place.new.entities _ c.in-Some.moved.filler
+      c.unwrap-place.result c.fix_place.ensures (c.move_row.ensures.widths c.self.invariant.covers));
 }
 
 pub returns-in-Some-clause-ok : goal.returns-in-Some-clause-ok
@@ -67,7 +68,8 @@ returns-in-None-clause-ok c =
     ∙ changes.same_type c.self.inside.entities _ c.args.e c.unwrap-place.result _ c.self.invariant.store own stays.1 c.as_slice-ids.ensures.ascending)
 
 pub fix_place-requires-clause-fits : goal.fix_place-requires-clause-fits
-fix_place-requires-clause-fits c = own_fits c.self.inside.entities _ c.args.e c.unwrap-place.result c.rules.ensures c.self.invariant.store (sym c.place_of.ensures ∙ c.unwrap-place.ensures)
+fix_place-requires-clause-fits c =
+    own_fits c.self.inside.entities _ c.args.e c.unwrap-place.result c.rules.ensures c.self.invariant.store (sym c.place_of.ensures ∙ c.unwrap-place.ensures)
 
 pub set_place-requires-clause-fits : goal.set_place-requires-clause-fits
 set_place-requires-clause-fits c =

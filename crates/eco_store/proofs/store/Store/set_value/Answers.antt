@@ -8,7 +8,8 @@ use Rattle.eco_store.proofs.Needing.{fits_in}
 use Rattle.eco_store.proofs.store.Store.set_value.Goals as goal
 
 pub set_value-requires-clause-row : goal.set_value-requires-clause-row
-set_value-requires-clause-row c = row_within c.self.inside.entities _ c.args.e c.unwrap-place.result c.self.invariant.store (sym c.place_of.ensures ∙ c.unwrap-place.ensures)
+set_value-requires-clause-row c =
+    row_within c.self.inside.entities _ c.args.e c.unwrap-place.result c.self.invariant.store (sym c.place_of.ensures ∙ c.unwrap-place.ensures)
 
 pub set_value-requires-clause-fits : goal.set_value-requires-clause-fits
 set_value-requires-clause-fits c =

@@ -29,11 +29,13 @@ invariant_of-self c = record {
   covers =
       called c.needs_never_grow.ensures (Kill c.args.e) _ _ _ (
         rw c.fix_place.ensures
-            (changes.out_alive c.self.inside.entities _ _ c.args.e c.unwrap-place.result _ c.self.invariant.store (sym c.place_of.ensures ∙ c.unwrap-place.ensures)
+            (changes.out_alive c.self.inside.entities _ _ c.args.e c.unwrap-place.result _ c.self.invariant.store
+            (sym c.place_of.ensures ∙ c.unwrap-place.ensures)
             c.take_row-moved.ensures.rows),
         c.kill.ensures,
       )
-      (fixed_covers c.needs_never_grow.ensures c.self.inside.entities c.fix_place.new.entities _ c.take_row-moved.result c.unwrap-place.result c.fix_place.ensures (c.take_row-moved.ensures.widths _ c.self.invariant.covers));
+      (fixed_covers c.needs_never_grow.ensures c.self.inside.entities c.fix_place.new.entities _ c.take_row-moved.result
+      c.unwrap-place.result c.fix_place.ensures (c.take_row-moved.ensures.widths _ c.self.invariant.covers));
 }
 
 pub returns-clause-entities : goal.returns-clause-entities
@@ -43,4 +45,5 @@ returns-clause-entities c =
     c.take_row-moved.ensures.rows)
 
 pub fix_place-requires-clause-fits : goal.fix_place-requires-clause-fits
-fix_place-requires-clause-fits c = own_fits c.self.inside.entities _ c.args.e c.unwrap-place.result c.rules.ensures c.self.invariant.store (sym c.place_of.ensures ∙ c.unwrap-place.ensures)
+fix_place-requires-clause-fits c =
+    own_fits c.self.inside.entities _ c.args.e c.unwrap-place.result c.rules.ensures c.self.invariant.store (sym c.place_of.ensures ∙ c.unwrap-place.ensures)

@@ -15,7 +15,8 @@ returns-clause-store c =
     (whole_store c.args.entities.now c.args.archetypes.now c.move_rows.new.self c.args.self c.requires.store c.requires.apart c.move_rows.ensures.moves)
 
 pub returns-clause-covers : goal.returns-clause-covers
-returns-clause-covers c = λ was. c.move_rows.ensures.widths _ (moved_covers c.args.entities.now _ c.args.archetypes.now c.args.self _ _ c.place_rows.ensures was)
+returns-clause-covers c =
+    λ was. c.move_rows.ensures.widths _ (moved_covers c.args.entities.now _ c.args.archetypes.now c.args.self _ _ c.place_rows.ensures was)
 
 pub returns-clause-pours : goal.returns-clause-pours
 returns-clause-pours c =

@@ -72,7 +72,8 @@ need_put w i x y e was less =
     elim (cases_eq e.index i) [
       | inl same ↦
           let within : i < length w.indices = slice_get_within w.indices i y was in
-          let now : slice_get (slice_set w.indices i x) e.index ≡ Some x = ap (slice_get (slice_set w.indices i x)) same ∙ slice_get-set_same w.indices i x within in
+          let now : slice_get (slice_set w.indices i x) e.index ≡ Some x =
+          ap (slice_get (slice_set w.indices i x)) same ∙ slice_get-set_same w.indices i x within in
           let then_ : slice_get w.indices e.index ≡ Some y = ap (slice_get w.indices) same ∙ was in
           rw (now, then_) (less e.generation)
       | inr apart ↦

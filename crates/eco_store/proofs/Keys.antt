@@ -1,6 +1,6 @@
 -- Which patterns have a key, and how slots come to be listed under them.
 use Rattle.std.proofs.Common.{◌≡◌, ℕ, ◌<◌, ◌||◌, List, ◌∷◌, [], length, take, get_or, ◌+◌, Bool, true, false, cond, ◌&&◌, Option, None, Some, nat_eq, refl, sym, ap}
-use Rattle.std.proofs.Common.{◌∙◌, Result, Ok, Err, OnOk, OnErr, arith, zero, suc, if◌then◌else◌, inl, inr, ◌⊎◌}
+use Rattle.std.proofs.Common.{◌∙◌, arith, zero, suc, if◌then◌else◌, inl, inr, ◌⊎◌}
 use Rattle.std.specs.List.{list_any}
 use Rattle.std.specs.HashMap.{HashMap, get}
 use Rattle.std.proofs.lemmas.List.Folds.{list_any_more}
@@ -131,18 +131,6 @@ only_one (x ∷ y ∷ ns) slot only n =
 pub cond_twice : {X : Type 0} (b : Bool) (x y z : X) → cond b x (cond b y z) ≡ cond b x z
 cond_twice true x y z = refl
 cond_twice false x y z = refl
-
-pub on_ok : {T E P Q : Type 0} (r : Result T E) → (P → Q) → OnOk r P → OnOk r Q
-on_ok (Ok x) f h = f h
-on_ok (Err e) f h = h
-
-pub on_err : {T E P Q : Type 0} (r : Result T E) → (P → Q) → OnErr r P → OnErr r Q
-on_err (Ok x) f h = h
-on_err (Err e) f h = f h
-
-pub err_says : {T E Q : Type 0} (r : Result T E) → Q → OnErr r Q
-err_says (Ok x) q = tt
-err_says (Err e) q = q
 
 -- tests that agree turn the same
 pub turns_as : (b : Bool) (f g : Pattern → Bool) (l l' : Lists) (slot : ℕ) → ((p : Pattern) → f p ≡ g p) → Turns b f l l' slot → Turns b g l l' slot

@@ -1,15 +1,14 @@
 -- How wide an id is in the tables that have it.
-use Rattle.std.proofs.Common.{◌≡◌, ◌≤◌, ◌&&◌, ℕ, Bool, true, false, true≢false, cond, ◌||◌, IsTrue, IsSome, List, [], ◌∷◌, Option, None, Some, unwrap_or, option_map, refl, sym, ap, ◌∙◌, subst, arith}
-use Rattle.std.proofs.Common.{Ordering, Less, Equal, Greater, is_eq}
-use Rattle.std.specs.Ordering.{ordering_then}
+use Rattle.std.proofs.Common.{◌≡◌, ◌≤◌, ℕ, Bool, true, false, true≢false, cond, ◌||◌, IsTrue, IsSome, List, [], ◌∷◌, Option, None, Some, unwrap_or, option_map, refl, sym, ap, ◌∙◌, subst, arith}
 use Rattle.std.specs.FinMap.Entries.{find}
 use Rattle.std.specs.List.{list_any}
 use Rattle.eco_ids.specs.declared.id.Id.{Id}
 use Rattle.eco_ids.specs.declared.id.Id.TheVariants as id
 use Rattle.eco_ids.specs.Matching.{pattern_matches}
-use Rattle.eco_ids.specs.Order.{id_cmp, id_eq, entity_cmp, has_item}
+use Rattle.eco_ids.specs.Order.{id_cmp, id_eq, has_item}
 use Rattle.eco_ids.proofs.Exact.{id_eq_sym}
 use Rattle.eco_ids.proofs.Facts.{or_right}
+use Rattle.eco_ids.proofs.Pairs.{parts_are_same}
 use Rattle.eco_tables.specs.Table.{TableState, paired, width_in}
 use Rattle.eco_tables.specs.Tables.{slot_of, table_in, no_table}
 use Rattle.eco_store.specs.Archetypes.{type_at, type_matches}
@@ -20,12 +19,7 @@ matches_exactly : (i j : Id) → pattern_matches (exactly i) j ≡ id_eq i j
 matches_exactly (id.One e) (id.One x) = refl
 matches_exactly (id.One e) (id.Two s u) = refl
 matches_exactly (id.Two r t) (id.One x) = refl
-matches_exactly (id.Two r t) (id.Two s u) =
-    elim (entity_cmp r s) as (λ o. (is_eq o && is_eq (entity_cmp t u)) ≡ is_eq (ordering_then o (entity_cmp t u))) [
-      | Less ↦ refl
-      | Equal ↦ refl
-      | Greater ↦ refl
-    ]
+matches_exactly (id.Two r t) (id.Two s u) = parts_are_same r t s u
 
 -- a type with an id has one that only it matches
 any_has : (ids : List Id) (i : Id) → any_matches ids (exactly i) ≡ has_item id_cmp ids i

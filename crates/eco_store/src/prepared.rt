@@ -30,7 +30,8 @@ impl Model for Prepared {
 
     ghost Value = { PreparedState };
 
-    ghost view = { λ p. record { arrivals = reverse p.arrivals.entries; targets = p.targets.keys; idle = p.idle } };
+    ghost view = { λ p.
+        record { arrivals = reverse p.arrivals.entries; targets = p.targets.keys; idle = p.idle } };
 }
 
 impl Prepared {

@@ -52,7 +52,8 @@ impl Transfer {
         requires room { length (table_in archetypes.old self.from).rows
             ≤ (table_in archetypes.old self.to).room }
         ensures store { IsStore entities.new archetypes.new }
-        ensures covers { Covers (need entities.old) archetypes.old → Covers (need entities.new) archetypes.new }
+        ensures covers { Covers (need entities.old) archetypes.old →
+            Covers (need entities.new) archetypes.new }
         ensures pours { Pours archetypes.old archetypes.new self.from self.to }
         ensures read { read entities.new archetypes.new
             ≡ after_change (read entities.old archetypes.old) (change_of archetypes.old self) }

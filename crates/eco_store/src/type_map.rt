@@ -58,7 +58,8 @@ impl TypeMap {
     pub fn rename(&mut self, old: &TypeList, new: TypeList, slot: usize)
         requires { 0 < spare self.old.slots }
         ensures { (t : List Ids) → get same_ids self.new.slots t
-            ≡ cond (same_ids new t) (Some slot) (cond (same_ids old.now t) None (get same_ids self.old.slots t)) }
+            ≡ cond (same_ids new t) (Some slot)
+            (cond (same_ids old.now t) None (get same_ids self.old.slots t)) }
     {
         let _ = self.slots.swap_remove(old);
         let _ = self.slots.insert(new, slot).unwrap();

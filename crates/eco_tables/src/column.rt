@@ -254,7 +254,8 @@ impl Column {
     /// Zeros for more rows, in reserved room.
     pub fn join_zeros(&mut self, count: usize)
         requires { count ≤ self.old.room }
-        ensures values { self.new ≡ record (joined self.old (replicate count zeros)) { room = self.new.room } }
+        ensures values { self.new ≡
+            record (joined self.old (replicate count zeros)) { room = self.new.room } }
         ensures room { self.old.room ≤ self.new.room + count }
     {
         match &mut self.fields {

@@ -70,7 +70,8 @@ fn list(
 ) -> Result<(), AllocError>
     requires { (p : Patterns) → lists_of by_id.old.slots p slot ≡ false }
     ensures typed { OnOk result ((q : List Ids) →
-        get same_ids by_type.new.slots q ≡ cond (same_ids type_list.now q) (Some slot) (get same_ids by_type.old.slots q)) }
+        get same_ids by_type.new.slots q
+        ≡ cond (same_ids type_list.now q) (Some slot) (get same_ids by_type.old.slots q)) }
     ensures listed { OnOk result
         (Turns true (any_matches type_list.now) (lists_of by_id.old.slots) (lists_of by_id.new.slots) slot) }
 {

@@ -34,7 +34,8 @@ impl Archetypes {
         place: usize,
     ) -> Result<(), AllocError>
         requires place { IsPlace (T.groups test.now) group place }
-        requires found { IsAllFound (passes_with (T.test test.now) (earlier_in (T.groups test.now) group place))
+        requires found { IsAllFound
+            (passes_with (T.test test.now) (earlier_in (T.groups test.now) group place))
             self.now found.old.items }
         ensures ok { OnOk result
             (IsAllFound (passes_with (T.test test.now) (earlier_in (T.groups test.now) group (place + 1)))
@@ -59,7 +60,8 @@ impl Archetypes {
         requires listed { All
             (λ n. IsTrue (has_one_of (group_at (T.groups test.now) group) (type_at self.now n))) slots.now }
         ensures ok { OnOk result (found.new.items ≡ found.old.items ++ filter
-            (is_found_in (passes_without (T.test test.now) (earlier_in (T.groups test.now) group place)) self.now)
+            (is_found_in
+            (passes_without (T.test test.now) (earlier_in (T.groups test.now) group place)) self.now)
             slots.now) }
         ensures some { OnErr result (FindsSome (T.test test.now) self.now) }
     {

@@ -56,7 +56,8 @@ impl IdIndex {
     /// Takes a table's slot off the lists of all patterns that match the id and none of these others, which its type keeps.
     /// It takes no memory.
     pub fn leave(&mut self, id: Id, others: &[Id], slot: usize)
-        ensures { Turns false (is_own id others.now) (lists_of self.old.slots) (lists_of self.new.slots) slot }
+        ensures { Turns false (is_own id others.now)
+            (lists_of self.old.slots) (lists_of self.new.slots) slot }
     {
         match id {
             Id::One(entity) => self.leave_keys(&[Key::Single(entity)], others, slot),

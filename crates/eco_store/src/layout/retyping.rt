@@ -23,7 +23,8 @@ impl Layout {
         requires store { IsStore entities.old self.old.tables }
         requires one_way { IsOneWay changes.now }
         ensures store { IsStore entities.new self.new.tables }
-        ensures covers { Covers (need entities.old) self.old.tables → Covers (need entities.new) self.new.tables }
+        ensures covers { Covers (need entities.old) self.old.tables →
+            Covers (need entities.new) self.new.tables }
         ensures ok { OnOk result
             (read entities.new self.new.tables
             ≡ after_changes (read entities.old self.old.tables) changes.now) }

@@ -99,7 +99,8 @@ impl Prepared {
         requires tidy { RowlessIn archetypes.old (staying self.old) }
         ensures ready { OnOk result (IsReady archetypes.new self.new) }
         ensures tidy { RowlessIn archetypes.new (staying self.new) }
-        ensures ok { OnOk result (moves_of archetypes.new self.new ≡ next.now ∷ moves_of archetypes.old self.old) }
+        ensures ok { OnOk result
+            (moves_of archetypes.new self.new ≡ next.now ∷ moves_of archetypes.old self.old) }
         ensures rows { SameRows archetypes.old archetypes.new }
         ensures widths { StillCover entities.now archetypes.old archetypes.new }
     {
@@ -170,7 +171,8 @@ impl Prepared {
         ensures typed { IfOk result (λ n. type_at archetypes.new n ≡ Some type_list.now) }
         ensures stays { IfOk result (λ n. IsTrue (list_any (nat_eq n) self.new.targets)) }
         ensures kept { OnOk result (KeepsTypes archetypes.old archetypes.new) }
-        ensures grown { (n : ℕ) → IsTrue (list_any (nat_eq n) self.old.targets) → IsTrue (list_any (nat_eq n) self.new.targets) }
+        ensures grown { (n : ℕ) → IsTrue (list_any (nat_eq n) self.old.targets) →
+            IsTrue (list_any (nat_eq n) self.new.targets) }
         ensures arrivals { self.new.arrivals ≡ self.old.arrivals }
         ensures moves { OnOk result (moves_of archetypes.new self.new ≡ moves_of archetypes.old self.old) }
         ensures rows { SameRows archetypes.old archetypes.new }

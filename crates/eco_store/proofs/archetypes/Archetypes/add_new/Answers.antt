@@ -1,6 +1,6 @@
 use Rattle.std.proofs.Common.{sym, take, ◌∙◌}
 use Rattle.eco_store.specs.TypeTests.{group_at}
-use Rattle.eco_store.proofs.Keys.{err_says}
+use Rattle.eco_ids.proofs.Results.{err_says}
 use Rattle.eco_store.proofs.Searching.{new_found}
 use Rattle.eco_store.proofs.archetypes.Archetypes.add_new.Goals as goal
 

@@ -1,7 +1,7 @@
 use Rattle.std.proofs.Common.{◌≡◌, ◌∷◌, false, true, sym, subst, ◌∙◌}
 use Rattle.eco_store.specs.IdIndex.{Turns, has_one, lists_of}
 use Rattle.eco_store.proofs.Joinings.{listed_as, turned_back, turns_both, turns_listed}
-use Rattle.eco_store.proofs.Keys.{on_ok}
+use Rattle.eco_ids.proofs.Results.{on_ok}
 use Rattle.eco_store.proofs.id_index.IdIndex.+join_keys.Goals as goal
 
 pub returns-then-has-clause-ok : goal.returns-then-has-clause-ok

@@ -1,7 +1,8 @@
 use Rattle.std.proofs.Common.{true}
 use Rattle.eco_store.specs.IdIndex.{has_one, keys_of, lists_of, matches_id}
 use Rattle.eco_ids.specs.declared.id.Id.TheVariants.{One}
-use Rattle.eco_store.proofs.Keys.{key_matches, keeps_as, on_err, on_ok, own_keeps, own_turns, turns_as}
+use Rattle.eco_ids.proofs.Results.{on_err, on_ok}
+use Rattle.eco_store.proofs.Keys.{key_matches, keeps_as, own_keeps, own_turns, turns_as}
 use Rattle.eco_store.proofs.id_index.IdIndex.add_id.Goals as goal
 
 pub returns-in-One-clause-ok : goal.returns-in-One-clause-ok

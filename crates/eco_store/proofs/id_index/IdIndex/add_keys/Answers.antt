@@ -1,7 +1,8 @@
 use Rattle.std.proofs.Common.{true, arith}
 use Rattle.eco_store.specs.declared.id_index.key.Key.TheVariants.{AnyPair}
 use Rattle.eco_store.specs.IdIndex.{has_key, lists_of}
-use Rattle.eco_store.proofs.Keys.{err_says, kept_rest, turned_more}
+use Rattle.eco_ids.proofs.Results.{err_says}
+use Rattle.eco_store.proofs.Keys.{kept_rest, turned_more}
 use Rattle.eco_store.proofs.id_index.IdIndex.add_keys.Goals as goal
 
 pub loop-key-preserved : goal.loop-key-preserved

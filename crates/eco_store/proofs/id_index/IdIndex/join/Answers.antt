@@ -1,7 +1,8 @@
 use Rattle.std.proofs.Common.{true}
 use Rattle.eco_store.specs.IdIndex.{has_one, keys_of, lists_of, matches_id}
 use Rattle.eco_ids.specs.declared.id.Id.TheVariants.{One, Two}
-use Rattle.eco_store.proofs.Keys.{key_matches, on_ok, turns_as}
+use Rattle.eco_ids.proofs.Results.{on_ok}
+use Rattle.eco_store.proofs.Keys.{key_matches, turns_as}
 use Rattle.eco_store.proofs.id_index.IdIndex.join.Goals as goal
 
 pub returns-in-One-clause-ok : goal.returns-in-One-clause-ok

@@ -6,7 +6,7 @@ use Rattle.eco_store.specs.Layout.{LayoutState, rows_in, ids_at, MovesRow, Retyp
 use Rattle.eco_store.specs.Preparing.{staying}
 use Rattle.eco_store.specs.Seats.{SameRows}
 use Rattle.eco_store.proofs.ArchetypeLemmas.{rows_from_slots, then_rows, there_by_row}
-use Rattle.eco_store.proofs.Keys.{err_says}
+use Rattle.eco_ids.proofs.Results.{err_says}
 use Rattle.eco_store.proofs.LaidRows.{rows_alike, idle_laid, idle_leaves, idle_moves, still_laid}
 use Rattle.eco_store.proofs.StoreChanges.{typed_table}
 use Rattle.eco_store.proofs.Turnings.{rowless_slots, takes_row, takes_rowless}

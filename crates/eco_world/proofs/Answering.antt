@@ -4,7 +4,6 @@ use Rattle.std.proofs.Common.{◌<◌, arith, length, true≢false}
 use Rattle.std.specs.List.{list_any}
 use Rattle.std.specs.FinMap.Entries.{find, is_sorted, below_all}
 use Rattle.std.specs.Cmp.{tied_itself}
-use Rattle.std.specs.Ordering.{ordering_then}
 use Rattle.std.proofs.lemmas.Bool.Decides.{nat_tests}
 use Rattle.std.proofs.lemmas.List.{length-map}
 use Rattle.eco_ids.specs.declared.entity.Entity.{Entity}
@@ -15,7 +14,7 @@ use Rattle.eco_ids.specs.declared.value.Value.{Value}
 use Rattle.eco_ids.specs.Answer.{answer, is_least_match, same_filling, entries_of, choices, Row as Result}
 use Rattle.eco_ids.specs.Terms.{And, QueryTerm}
 use Rattle.eco_ids.specs.Matching.{pattern_matches}
-use Rattle.eco_ids.specs.Order.{id_cmp, id_eq, entity_cmp}
+use Rattle.eco_ids.specs.Order.{id_cmp, id_eq}
 use Rattle.eco_ids.specs.Indices.{IndexState, Retired, Free, Living, living, living_from, record_in}
 use Rattle.eco_ids.specs.World.{WorldState, Record, entities, record_of}
 use Rattle.eco_query.specs.Queries.{exactly}
@@ -23,6 +22,7 @@ use Rattle.eco_store.specs.Holders as store
 use Rattle.eco_store.specs.Holders.{has_match}
 use Rattle.eco_ids.proofs.Facts.{id_eq_is}
 use Rattle.eco_ids.proofs.IdOrder.{id_cmp_total}
+use Rattle.eco_ids.proofs.Pairs.{parts_are_same}
 use Rattle.eco_ids.proofs.States.{record_here}
 use Rattle.eco_ids.proofs.Ascending.{first_T, second_T}
 use Rattle.eco_world.specs.Queries.{term_of, holders, may_query}
@@ -33,13 +33,7 @@ pub matches_exactly : (i j : Id) → pattern_matches (exactly i) j ≡ id_eq i j
 matches_exactly (id.One e) (id.One x) = refl
 matches_exactly (id.One e) (id.Two s u) = refl
 matches_exactly (id.Two r t) (id.One x) = refl
-matches_exactly (id.Two r t) (id.Two s u) =
-    elim (entity_cmp r s) as (λ o. (is_eq o && is_eq (entity_cmp t u)) ≡ is_eq (ordering_then o (entity_cmp t u))) [
-      | Less ↦ refl
-      | Equal ↦ refl
-      | Greater ↦
-          refl
-    ]
+matches_exactly (id.Two r t) (id.Two s u) = parts_are_same r t s u
 
 no_less : (p : Pattern) (i j k : Id) → pattern_matches p k ≡ id_eq i k → IsTrue (id_eq i j) →
     (is_lt (id_cmp k j) && (pattern_matches p k && same_filling p k j)) ≡ false

@@ -214,8 +214,8 @@ module _ (w : WorldState) (e : Entity) (i : Id) (alive : is_alive w e ≡ true) 
 
       there : names_living w i ≡ true → has w e i ≡ true → Meets (Adds w e i) (step.may_add w e i) w (Err why) w
       there living has_it =
-          (elim (is_out_of_memory {A = Unit {0}} (Err why)) as (λ b. (IsTrue b → has w e i ≡ false) → MatchBool b (IsTrue (names_living w i)) (LeadsTo w e i (Err why)) →
-          MatchBool b (IsTrue (step.may_add w e i) × (w ≡ w)) (Adds w e i (Err why) w)) [
+          (elim (is_out_of_memory {A = Unit {0}} (Err why)) as (λ b. (IsTrue b → has w e i ≡ false) →
+          MatchBool b (IsTrue (names_living w i)) (LeadsTo w e i (Err why)) → MatchBool b (IsTrue (step.may_add w e i) × (w ≡ w)) (Adds w e i (Err why) w)) [
             | true ↦ λ lacks m. absurd (true≢false (sym has_it ∙ lacks refl))
             | false ↦ λ lacks m.
                 let own : IsOwnType w e (Err why) =

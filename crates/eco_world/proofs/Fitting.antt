@@ -33,7 +33,9 @@ pub fits_stored : (v : Indexed Record) (i : Id) (x : Value) → IsTrue (fits (wo
 fits_stored v (One e) x h = h
 fits_stored v (Two r t) x h = by (is_builtin (world_of v) r) h
   where
-    by : (b : Bool) → IsTrue ((length x.0 == FIELD_COUNT) && is_zero_past (unwrap_or (if b then None else option_or (store.own_arity v r) (store.own_arity v t)) 0) x)
+    by : (b : Bool)
+        → IsTrue ((length x.0 == FIELD_COUNT)
+        && is_zero_past (unwrap_or (if b then None else option_or (store.own_arity v r) (store.own_arity v t)) 0) x)
         → IsTrue (store.fits v (Two r t) x)
     by true fit = both _ _ (first _ _ fit) (all_past _ (unwrap_or (store.arity v (Two r t)) 0) x.0 (second (length x.0 == FIELD_COUNT) _ fit))
     by false fit = fit

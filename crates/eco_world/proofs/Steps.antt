@@ -1,6 +1,5 @@
 -- A call of the store, seen as a step of the world.
 use Rattle.std.proofs.Common.{◌≡◌, ℕ, Bool, true, false, not, ◌&&◌, List, [], ◌∷◌, Option, Result, Err, MatchOption, MatchBool, IsTrue, refl, sym, ap, subst}
-use Rattle.std.proofs.Common.{Ok, OnErr}
 use Rattle.eco_ids.specs.declared.entity.Entity.{Entity}
 use Rattle.eco_ids.specs.declared.refusal.Refusal.{Refusal}
 use Rattle.eco_ids.specs.declared.refusal.Refusal.TheVariants.{NotAlive, Reserved, BadName, NameTaken}
@@ -14,11 +13,6 @@ use Rattle.eco_ids.specs.Step.{Renames, may_rename, own_name, with_name}
 use Rattle.eco_ids.specs.World.{WorldState, Record, entities, OnEntities, is_alive}
 use Rattle.eco_world.specs.Actor.{IsUnfit}
 use Rattle.eco_world.specs.Worlds.{world_of}
-
--- what holds anyway holds of an error
-pub err_says : {A E Q : Type 0} (r : Result A E) → Q → OnErr r Q
-err_says (Ok x) q = tt
-err_says (Err e) q = q
 
 module _ {A : Type 0} (Step : Indexed Record → Result A Refusal → Indexed Record → Type 0) (may : Bool) (v new : Indexed Record) (r : Result A Refusal) where
   -- a call that meets a step of the entities meets it in the world

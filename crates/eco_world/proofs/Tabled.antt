@@ -331,7 +331,9 @@ module _ (w : WorldState) (slots : List (Option TableState)) (shown : IsShown (e
         table_in_slot (Some t) within = refl
 
     pub found_match : (t : ListedTable) → Contains (map (shown_at slots) ns) t → list_any (pattern_matches pattern) t.ids ≡ true
-    found_match t p = let slot = shown_to ns t p in subst (λ (x : ListedTable). list_any (pattern_matches pattern) x.ids ≡ true) slot.2 (found_rows slot.0 slot.1).1
+    found_match t p =
+        let slot = shown_to ns t p in
+        subst (λ (x : ListedTable). list_any (pattern_matches pattern) x.ids ≡ true) slot.2 (found_rows slot.0 slot.1).1
 
     -- where a table was found, somebody has an id that matches
     pub found_some : 0 < length ns → is_matched w pattern ≡ true

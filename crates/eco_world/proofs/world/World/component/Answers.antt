@@ -13,8 +13,10 @@ proper n more most = both (nat_le 1 n) (nat_le n 4) (le-leb 1 n more) (le-leb n 
 
 pub invariant_of-self : goal.invariant_of-self
 invariant_of-self c =
-    lawful_lifted (λ v. Makes record_name v (component_record (option_copied c.args.name) c.args.arity)) _ c.self.inside.store.entities c.create.new.self.entities c.create.result c.self.invariant
-    (c.steps_keep_lawful.ensures.component (option_copied c.args.name) c.args.arity _ _ _ (proper c.args.arity c.requires.at_least c.requires.at_most) c.self.invariant)
+    lawful_lifted (λ v. Makes record_name v (component_record (option_copied c.args.name) c.args.arity)) _
+    c.self.inside.store.entities c.create.new.self.entities c.create.result c.self.invariant
+    (c.steps_keep_lawful.ensures.component (option_copied c.args.name) c.args.arity _ _ _
+    (proper c.args.arity c.requires.at_least c.requires.at_most) c.self.invariant)
     (rw c.component_type-ids.ensures at c.create.ensures.step)
 
 pub returns : goal.returns

@@ -11,7 +11,8 @@ pub returns-in_err-target_type : goal.returns-in_err-target_type
 returns-in_err-target_type c =
     let p = err_from_is_err_and c.from_residual.result c.from_residual.ensures.1 in
     rw (p.1, p.2)
-    (opposed_add c.args.self.now c.args.entity c.args.id c.requires.alive c.requires.ordinary _ c.in_err-target_type.ensures.target c.in_err-target_type.ensures.memory)
+    (opposed_add c.args.self.now c.args.entity c.args.id c.requires.alive c.requires.ordinary _
+    c.in_err-target_type.ensures.target c.in_err-target_type.ensures.memory)
 
 pub returns-in-Own : goal.returns-in-Own
 returns-in-Own c =
@@ -37,7 +38,8 @@ returns-in_ok-step-in-With c =
 pub retype-requires-clause-lawful : goal.retype-requires-clause-lawful
 retype-requires-clause-lawful c =
     let w = c.args.self.now in
-    (found_other w c.args.entity c.args.id c.in-Other.ids c.requires.alive c.requires.ordinary c.is_lawful.ensures (c.steps_keep_lawful.ensures.add c.args.entity c.args.id)
+    (found_other w c.args.entity c.args.id c.in-Other.ids c.requires.alive c.requires.ordinary c.is_lawful.ensures
+    (c.steps_keep_lawful.ensures.add c.args.entity c.args.id)
     c.add_leaves_exactly.ensures (subst (λ t. FindsTarget w c.args.entity c.args.id (Ok t)) c.in-Other.is c.in_ok-target_type.ensures.target)
     (sym c.in_ok-target_type.ensures.own ∙ ap is_own c.in-Other.is)).lawful
 
@@ -45,6 +47,7 @@ pub returns-in_ok-retype-in-Other : goal.returns-in_ok-retype-in-Other
 returns-in_ok-retype-in-Other c =
     let w = c.args.self.now in
     subst (λ new. Adds w c.args.entity c.args.id (Ok tt) new) (sym c.in_ok-retype-in-Other.ensures.ok)
-    (found_other w c.args.entity c.args.id c.in-Other.ids c.requires.alive c.requires.ordinary c.is_lawful.ensures (c.steps_keep_lawful.ensures.add c.args.entity c.args.id)
+    (found_other w c.args.entity c.args.id c.in-Other.ids c.requires.alive c.requires.ordinary c.is_lawful.ensures
+    (c.steps_keep_lawful.ensures.add c.args.entity c.args.id)
     c.add_leaves_exactly.ensures (subst (λ t. FindsTarget w c.args.entity c.args.id (Ok t)) c.in-Other.is c.in_ok-target_type.ensures.target)
     (sym c.in_ok-target_type.ensures.own ∙ ap is_own c.in-Other.is)).adds

@@ -2,7 +2,7 @@ use Rattle.std.proofs.Common.{sym, ap, ◌∙◌, arith, map}
 use Rattle.std.proofs.lemmas.List.{take_all}
 use Rattle.eco_ids.specs.Answer.{answer}
 use Rattle.eco_world.proofs.Answering.{answer_is, holding, some_answer, some_left}
-use Rattle.eco_world.proofs.Steps.{err_says}
+use Rattle.eco_ids.proofs.Results.{err_says}
 use Rattle.eco_world.proofs.world.World.query.Goals as goal
 
 pub returns-clause-ok : goal.returns-clause-ok

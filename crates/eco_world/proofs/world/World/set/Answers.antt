@@ -18,13 +18,15 @@ returns-in_err-extend c =
     (refused_after c.args.self.now c.args.entity c.args.id c.args.value c.in_ok-check_set.ensures.ok c.is_lawful.ensures
     (c.steps_keep_lawful.ensures.set c.args.entity c.args.id c.args.value)
     (sym c.if-write.ensures.had) c.in_err-extend.field-0.0 c.extend.new.self
-    (extended c.args.self.now c.args.entity c.args.id c.args.value c.in_ok-check_set.ensures.ok (sym c.if-write.ensures.had) (Err c.in_err-extend.field-0.0) c.extend.new.self
+    (extended c.args.self.now c.args.entity c.args.id c.args.value c.in_ok-check_set.ensures.ok (sym c.if-write.ensures.had)
+    (Err c.in_err-extend.field-0.0) c.extend.new.self
     (subst (λ w. Meets (Adds w c.args.entity c.args.id) (may_add w c.args.entity c.args.id) w
     (Err c.in_err-extend.field-0.0) c.extend.new.self) c.if-write.ensures.written c.in_err-extend.ensures)))
 
 pub write-requires-2-clause-alive : goal.write-requires-2-clause-alive
 write-requires-2-clause-alive c =
-    let extends = extended c.args.self.now c.args.entity c.args.id c.args.value c.in_ok-check_set.ensures.ok (sym c.if-write.ensures.had) (Ok tt) c.extend.new.self
+    let extends = extended c.args.self.now c.args.entity c.args.id c.args.value c.in_ok-check_set.ensures.ok (sym c.if-write.ensures.had)
+    (Ok tt) c.extend.new.self
     (subst (λ w. Adds w c.args.entity c.args.id (Ok tt) c.extend.new.self) c.if-write.ensures.written c.in_ok-extend.ensures) in
     alive_after c.args.self.now c.args.entity c.args.id c.args.value c.in_ok-check_set.ensures.ok c.is_lawful.ensures
     (c.steps_keep_lawful.ensures.set c.args.entity c.args.id c.args.value)
@@ -32,7 +34,8 @@ write-requires-2-clause-alive c =
 
 pub write-requires-2-clause-lawful : goal.write-requires-2-clause-lawful
 write-requires-2-clause-lawful c = λ there.
-    let extends = extended c.args.self.now c.args.entity c.args.id c.args.value c.in_ok-check_set.ensures.ok (sym c.if-write.ensures.had) (Ok tt) c.extend.new.self
+    let extends = extended c.args.self.now c.args.entity c.args.id c.args.value c.in_ok-check_set.ensures.ok (sym c.if-write.ensures.had)
+    (Ok tt) c.extend.new.self
     (subst (λ w. Adds w c.args.entity c.args.id (Ok tt) c.extend.new.self) c.if-write.ensures.written c.in_ok-extend.ensures) in
     lawful_after c.args.self.now c.args.entity c.args.id c.args.value c.in_ok-check_set.ensures.ok c.is_lawful.ensures
     (c.steps_keep_lawful.ensures.set c.args.entity c.args.id c.args.value)
@@ -40,7 +43,8 @@ write-requires-2-clause-lawful c = λ there.
 
 pub write-requires-2-clause-fits : goal.write-requires-2-clause-fits
 write-requires-2-clause-fits c =
-    let extends = extended c.args.self.now c.args.entity c.args.id c.args.value c.in_ok-check_set.ensures.ok (sym c.if-write.ensures.had) (Ok tt) c.extend.new.self
+    let extends = extended c.args.self.now c.args.entity c.args.id c.args.value c.in_ok-check_set.ensures.ok (sym c.if-write.ensures.had)
+    (Ok tt) c.extend.new.self
     (subst (λ w. Adds w c.args.entity c.args.id (Ok tt) c.extend.new.self) c.if-write.ensures.written c.in_ok-extend.ensures) in
     written_fits c.extend.new.self c.args.entity c.args.id c.args.value
     (there_after c.args.self.now c.args.entity c.args.id c.args.value c.in_ok-check_set.ensures.ok c.is_lawful.ensures
@@ -52,7 +56,8 @@ write-requires-2-clause-fits c =
 
 pub returns : goal.returns
 returns c =
-    let extends = extended c.args.self.now c.args.entity c.args.id c.args.value c.in_ok-check_set.ensures.ok (sym c.if-write.ensures.had) (Ok tt) c.extend.new.self
+    let extends = extended c.args.self.now c.args.entity c.args.id c.args.value c.in_ok-check_set.ensures.ok (sym c.if-write.ensures.had)
+    (Ok tt) c.extend.new.self
     (subst (λ w. Adds w c.args.entity c.args.id (Ok tt) c.extend.new.self) c.if-write.ensures.written c.in_ok-extend.ensures) in
     let there = there_after c.args.self.now c.args.entity c.args.id c.args.value c.in_ok-check_set.ensures.ok c.is_lawful.ensures
     (c.steps_keep_lawful.ensures.set c.args.entity c.args.id c.args.value)

@@ -5,7 +5,7 @@ use Rattle.eco_ids.specs.Matching.{pattern_matches}
 use Rattle.eco_world.specs.Worlds.{world_of}
 use Rattle.eco_world.specs.Layouts.{HasTable, listed, listed_of, shown_at}
 use Rattle.eco_world.proofs.Tabled.{all_covered, found_covered, found_differ, found_match, found_some, found_there}
-use Rattle.eco_world.proofs.Steps.{err_says}
+use Rattle.eco_ids.proofs.Results.{err_says}
 use Rattle.eco_world.proofs.Layouts.{covers_moved, layout_around, same_type, sorted_tables, Covers}
 use Rattle.eco_world.proofs.world.World.tables_with.Goals as goal
 

@@ -5,21 +5,6 @@ use Rattle.eco_script.specs.Beginning.{IsBeginning}
 use Rattle.std.proofs.lemmas.List.{append-nil, take-append-drop}
 use Rattle.std.specs.Io.KnownBytes.{Appends, Consumes, Keeps}
 
-pub Consumes-nil : (a : Option (List ℕ)) → Consumes a a []
-Consumes-nil None = tt
-Consumes-nil (Some xs) = refl
-
-pub Consumes-more : (a b c : Option (List ℕ)) (xs ys : List ℕ) → Consumes a b xs → Consumes b c ys → Consumes a c (xs ++ ys)
-Consumes-more None b c xs ys p q = tt
-Consumes-more (Some u) None c xs ys p q = absurd p
-Consumes-more (Some u) (Some v) None xs ys p q = absurd q
-Consumes-more (Some u) (Some v) (Some w) xs ys p q = p ∙ ap (λ t. xs ++ t) q ∙ sym (append_assoc xs ys w)
-
-pub Appends-nil : (a b : Option (List ℕ)) → Keeps a b → Appends a b []
-Appends-nil None b k = tt
-Appends-nil (Some xs) None k = absurd k
-Appends-nil (Some xs) (Some ys) k = k ∙ sym (append-nil xs)
-
 pub Appends-more : (a b c : Option (List ℕ)) (xs ys : List ℕ) → Appends a b xs → Appends b c ys → Appends a c (xs ++ ys)
 Appends-more None b c xs ys p q = tt
 Appends-more (Some u) None c xs ys p q = absurd p
@@ -35,12 +20,6 @@ Appends-kept None b c xs p k = tt
 Appends-kept (Some u) None c xs p k = absurd p
 Appends-kept (Some u) (Some v) None xs p k = absurd k
 Appends-kept (Some u) (Some v) (Some w) xs p k = k ∙ p
-
-pub Keeps-more : (a b c : Option (List ℕ)) → Keeps a b → Keeps b c → Keeps a c
-Keeps-more None b c k l = tt
-Keeps-more (Some u) None c k l = absurd k
-Keeps-more (Some u) (Some v) None k l = absurd l
-Keeps-more (Some u) (Some v) (Some w) k l = l ∙ k
 
 -- the first bytes were written, and then none
 pub Appends-beginning : (n : ℕ) (bytes : List ℕ) (a b c : Option (List ℕ)) → Appends a b (take n bytes) → Keeps b c

@@ -356,7 +356,7 @@ fn living(slots: &[Slot], entity: Entity) -> Option<Slot>
 
 // The slot is at the index from now on, which is known or the first unknown one, and the index isn't free. An `Err` leaves
 // both.
-#[inline]
+#[inline(always)]
 fn put(
     slots: &mut Vec<Slot>,
     free: &mut FreeSet,

@@ -18,7 +18,8 @@ use Rattle.eco_entities.specs.declared.place.Place.{Place}
 use Rattle.eco_entities.specs.Registration.{Registration, name_of, newcomer, placed}
 use Rattle.eco_store.specs.Layout.{rows_in, PutsRow}
 use Rattle.eco_store.specs.Placing.{Opposes}
-use Rattle.eco_store.specs.Seats.{IsSeated, seat_of, row_at, seen, held_of}
+use Rattle.eco_store.specs.Seats.{IsSeated, seat_of, seen, held_of}
+use Rattle.eco_archetypes.specs.Archetypes.{row_at}
 use Rattle.eco_store.specs.Store.{Creates, record_name, record_for, read, seat_in, seat_at, HasPlace, IsStore, all_zeros, newborn}
 use Rattle.std.proofs.lemmas.Option.{slice_get-map}
 use Rattle.eco_store.proofs.Moves.{push_seated, push_others_seen, push_held}

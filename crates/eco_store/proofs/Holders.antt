@@ -13,24 +13,19 @@ use Rattle.eco_ids.specs.Indices.{Indexed, living, record_of}
 use Rattle.eco_ids.specs.Order.{entity_cmp, has_item, is_ascending}
 use Rattle.eco_tables.specs.Table.{Row, TableState, entities_of}
 use Rattle.eco_tables.specs.Tables.{no_table, slot_of, table_in}
-use Rattle.eco_store.specs.Archetypes.{is_found_by, FindsSome}
-use Rattle.eco_store.specs.Holders.{passes, entities_whose, standing_in}
-use Rattle.eco_store.specs.Seats.{row_at}
+use Rattle.eco_archetypes.specs.Archetypes.{is_found_by, FindsSome, standing_in, row_at}
+use Rattle.eco_store.specs.Holders.{passes, entities_whose}
 use Rattle.eco_store.specs.Store.{IsShown}
 use Rattle.eco_ids.proofs.Passing.{PassesOwn, own_from_passed, passed_ascend, passed_from_own, passes_some, some_passes}
 use Rattle.eco_ids.proofs.Ascending.{first, second}
 use Rattle.eco_ids.proofs.Facts.{or_right}
 use Rattle.eco_store.proofs.Sorting.{Apart, apart_append}
 use Rattle.eco_store.proofs.Values.{stands_type}
+use Rattle.eco_archetypes.proofs.Searching.{same_truth}
 
 pub first_row : (rows : List Row) → 0 < length rows → (r : Row) × (slice_get rows 0 ≡ Some r)
 first_row [] none = absurd (omega arith)
 first_row (r ∷ rows) some = (r, refl)
-
-pub same_truth : (a b : Bool) → (a ≡ true → b ≡ true) → (b ≡ true → a ≡ true) → a ≡ b
-same_truth true b f g = sym (f refl)
-same_truth false true f g = g refl
-same_truth false false f g = refl
 
 -- a row that is there stands within its table
 pub row_within : (rows : List Row) (k : ℕ) (r : Row) → slice_get rows k ≡ Some r → k < length rows

@@ -10,10 +10,9 @@ use Rattle.eco_ids.specs.declared.id.Id.{Id}
 use Rattle.eco_tables.specs.Table.{TableState, Row, retyped_row, entities_of}
 use Rattle.eco_tables.specs.Tables.{table_in, row_in, no_row, no_table, new_row, Sets, Moves, with_row, without_row}
 use Rattle.eco_entities.specs.declared.place.Place.{Place}
-use Rattle.eco_store.specs.Archetypes.{RowlessIn}
+use Rattle.eco_archetypes.specs.Archetypes.{RowlessIn, row_at, SameRows}
 use Rattle.eco_store.specs.Layout.{IsLaid, rows_in, SetsRows, PutsRow, TakesRow, MovesRow}
 use Rattle.eco_store.specs.Preparing.{PreparedState, nothing_prepared, staying, HasNoIdleTarget, IsReady, move_to, moves_of}
-use Rattle.eco_store.specs.Seats.{row_at, SameRows}
 use Rattle.eco_store.proofs.Pouring.{rows_same}
 use Rattle.eco_store.proofs.Readiness.{ready_nothing}
 use Rattle.eco_store.proofs.Rowless.{rowless_moved}

@@ -12,7 +12,8 @@ use Rattle.eco_tables.specs.Column.{retyped}
 use Rattle.eco_tables.specs.Table.{TableState, Row, retyped_row, entities_of}
 use Rattle.eco_tables.specs.Tables.{row_in, no_row, new_row as row_of}
 use Rattle.eco_ids.proofs.Lists.{not_equal}
-use Rattle.eco_store.specs.Seats.{Seat, IsSeated, entity_of, seat_of, row_at, held_of, seen}
+use Rattle.eco_store.specs.Seats.{Seat, IsSeated, entity_of, seat_of, held_of, seen}
+use Rattle.eco_archetypes.specs.Archetypes.{row_at}
 use Rattle.eco_store.proofs.SeatChanges.{Removed, Pushed, no_some, one_some, seated_removed, seated_pushed, removed_seen, pushed_seen}
 use Rattle.eco_store.proofs.RowChanges.{between_rows, moves_removes, moves_pushes, rows_removed, rows_pushed, swap_at_row, swap_at_last, is_equal}
 

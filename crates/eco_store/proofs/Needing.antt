@@ -19,12 +19,12 @@ use Rattle.eco_entities.specs.Registration.{Registration, placed}
 use Rattle.eco_entities.specs.Runs.{Call, SetPlace, LeadsTo}
 use Rattle.eco_store.specs.Placing.{fixed}
 use Rattle.eco_tables.specs.Table.{TableState, Row}
-use Rattle.eco_store.specs.Seats.{row_at}
+use Rattle.eco_archetypes.specs.Archetypes.{row_at}
 use Rattle.eco_store.specs.declared.transfer.Transfer.{Transfer}
 use Rattle.eco_store.specs.Transfers.{placed_after, with_places}
 use Rattle.eco_store.specs.Store.{arity, fits, own_arity, read, record_for}
-use Rattle.eco_store.specs.Widths.{Covers, FitsIn}
-use Rattle.eco_store.proofs.Widths.{lowered, zero_later}
+use Rattle.eco_archetypes.specs.Widths.{Covers, FitsIn}
+use Rattle.eco_archetypes.proofs.Widths.{lowered, zero_later}
 
 own_needed : (w : Indexed Registration) (s : List (Option TableState)) (e : Entity) → fields_for (own_arity (read w s) e) ≤ need_of w e
 own_needed w s e = rw (slice_get-map (map_state (record_for (row_at s))) w.indices e.index) (by (slice_get w.indices e.index))

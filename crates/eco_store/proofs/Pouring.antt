@@ -6,16 +6,14 @@ use Rattle.std.proofs.Math.ListN.{get_or-map}
 use Rattle.std.proofs.lemmas.Bool.{cases_eq}
 use Rattle.std.proofs.lemmas.List.{length-map, map-append}
 use Rattle.std.proofs.lemmas.List.Elements.{All-head, All-tail, All-push}
-use Rattle.eco_ids.specs.declared.id.Id.{Id}
 use Rattle.eco_tables.specs.Table.{TableState}
 use Rattle.eco_tables.specs.Tables.{slot_of, table_in, no_table, Sets}
 use Rattle.eco_ids.proofs.Lists.{not_equal}
-use Rattle.eco_store.proofs.ArchetypeLemmas.{type_there}
+use Rattle.eco_archetypes.proofs.ArchetypeLemmas.{type_there, there_by_type, there_as_typed}
 use Rattle.eco_store.specs.declared.transfer.Transfer.{Transfer}
 use Rattle.eco_store.specs.declared.type_change.TypeChange.{TypeChange}
-use Rattle.eco_store.specs.Archetypes.{type_at, KeepsTypes}
+use Rattle.eco_archetypes.specs.Archetypes.{type_at, KeepsTypes, SameRows}
 use Rattle.eco_store.specs.Retyping.{IsOneWay}
-use Rattle.eco_store.specs.Seats.{SameRows}
 use Rattle.eco_store.specs.Transfers.{change_of, IsPlan, due, HasRoom, Pours}
 use Rattle.eco_store.proofs.RowChanges.{is_equal}
 use Rattle.eco_store.proofs.Views.{ext_slice_get}
@@ -33,19 +31,8 @@ ids_by_type s n = by (slot_of s n)
 pub same_ids_in : (s s' : List (Option TableState)) (n : ℕ) → type_at s' n ≡ type_at s n → (table_in s' n).ids ≡ (table_in s n).ids
 same_ids_in s s' n same = ids_by_type s' n ∙ ap (λ o. unwrap_or o []) same ∙ sym (ids_by_type s n)
 
--- a slot that has a type has a table
-there_by_type : (s : List (Option TableState)) (n : ℕ) → is_some (type_at s n) ≡ is_some (slot_of s n)
-there_by_type s n = by (slot_of s n)
-  where
-    by : (o : Option TableState) → is_some (option_map (λ (t : TableState). t.ids) o) ≡ is_some o
-    by None = refl
-    by (Some t) = refl
-
 pub still_there : (s s' : List (Option TableState)) (n : ℕ) → type_at s' n ≡ type_at s n → IsSome (slot_of s n) → IsSome (slot_of s' n)
 still_there s s' n same there = sym (there_by_type s' n) ∙ ap is_some same ∙ there_by_type s n ∙ there
-
-pub there_as_typed : (s : List (Option TableState)) (n : ℕ) (ids : List Id) → type_at s n ≡ Some ids → IsSome (slot_of s n)
-there_as_typed s n ids typed = sym (there_by_type s n) ∙ ap is_some typed
 
 pub kept_type : (s s' : List (Option TableState)) (n : ℕ) → KeepsTypes s s' → IsSome (slot_of s n) → type_at s' n ≡ type_at s n
 kept_type s s' n keeps there = keeps n (table_in s n).ids (type_there s n there) ∙ sym (type_there s n there)

@@ -13,14 +13,12 @@ use Rattle.eco_tables.specs.Table.{TableState}
 use Rattle.eco_tables.specs.Tables.{slot_of, table_in, no_table, Sets, without_row}
 use Rattle.eco_ids.proofs.Lists.{not_equal}
 use Rattle.eco_store.specs.declared.moving.Move.{Move}
-use Rattle.eco_store.specs.Archetypes.{type_at, KeepsTypes, KeepsRoom, SameSlots}
+use Rattle.eco_archetypes.specs.Archetypes.{type_at, KeepsTypes, KeepsRoom, SameSlots, SameTypes}
 use Rattle.eco_store.specs.Preparing.{PreparedState, nothing_prepared, with_arrival, with_target, move_to, moves_of, has_move, AreOfDifferent, arriving}
 use Rattle.eco_store.specs.Preparing.{IsReady}
-use Rattle.eco_store.specs.Transfers.{SameTypes}
-use Rattle.eco_store.proofs.ArchetypeLemmas.{sets_types}
+use Rattle.eco_archetypes.proofs.ArchetypeLemmas.{sets_types, typed_table}
 use Rattle.eco_store.proofs.Pouring.{same_ids_in, still_there, kept_type}
 use Rattle.eco_store.proofs.RowChanges.{is_equal}
-use Rattle.eco_store.proofs.StoreChanges.{typed_table}
 use Rattle.std.proofs.lemmas.List.Folds.{list_any-append, list_any_none}
 use Rattle.std.proofs.lemmas.List.{get_or-drop, get_or_default, length-drop}
 use Rattle.eco_ids.proofs.Overlaps.{entity_eq_is}

@@ -12,7 +12,7 @@ use Rattle.eco_ids.specs.declared.id.Id.{Id}
 use Rattle.eco_entities.specs.declared.place.Place.{Place}
 use Rattle.eco_store.specs.Layout.{rows_in, MovesRow}
 use Rattle.eco_ids.proofs.Lists.{slice_get-push_last, slice_get-push_other, get_or-swap_remove, length-swap_remove, before, not_equal}
-use Rattle.eco_store.specs.Seats.{row_at}
+use Rattle.eco_archetypes.specs.Archetypes.{row_at}
 use Rattle.eco_store.proofs.SeatChanges.{Removed, Pushed}
 
 pub is_equal : (j k : ℕ) → j ≡ k → (j == k) ≡ true

@@ -8,16 +8,15 @@ use Rattle.std.proofs.lemmas.List.{length-append}
 use Rattle.eco_tables.specs.Table.{TableState, Row}
 use Rattle.eco_tables.specs.Tables.{slot_of, table_in, no_table, rowless, rowless_type, Sets, Moves, with_row}
 use Rattle.eco_ids.proofs.Lists.{not_equal}
-use Rattle.eco_store.specs.Archetypes.{is_rowless, RowlessIn}
-use Rattle.eco_store.specs.Seats.{SameRows}
+use Rattle.eco_archetypes.specs.Archetypes.{is_rowless, RowlessIn, SameRows, SameTypes}
 use Rattle.eco_store.specs.declared.transfer.Transfer.{Transfer}
-use Rattle.eco_store.specs.Transfers.{AreNamed, SameTypes, Pours}
+use Rattle.eco_store.specs.Transfers.{AreNamed, Pours}
 use Rattle.eco_store.specs.Preparing.{PreparedState, staying, with_target}
 use Rattle.eco_ids.proofs.Facts.{or_right}
-use Rattle.eco_store.proofs.ArchetypeLemmas.{type_there}
+use Rattle.eco_archetypes.proofs.ArchetypeLemmas.{type_there, there_as_typed}
 use Rattle.eco_store.proofs.Readiness.{is_targeted, still_targeted}
 use Rattle.std.proofs.lemmas.List.Folds.{list_any-append}
-use Rattle.eco_store.proofs.Pouring.{rows_same, there_as_typed}
+use Rattle.eco_store.proofs.Pouring.{rows_same}
 
 -- a table without rows is there, and has none
 pub rowless_there : (s : List (Option TableState)) (n : ℕ) → IsTrue (is_rowless s n) → IsSome (slot_of s n) × ((table_in s n).rows ≡ [])

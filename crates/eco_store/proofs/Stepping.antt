@@ -8,9 +8,10 @@ use Rattle.eco_entities.specs.declared.place.Place.{Place}
 use Rattle.eco_entities.specs.Registration.{Registration, own_place}
 use Rattle.eco_tables.specs.Table.{TableState, Row}
 use Rattle.eco_tables.specs.Tables.{no_row}
-use Rattle.eco_store.specs.Edges.{toggled}
+use Rattle.eco_archetypes.specs.Edges.{toggled}
 use Rattle.eco_store.specs.Layout.{ids_at, rows_in}
-use Rattle.eco_store.specs.Seats.{seat_of, row_at, held_of}
+use Rattle.eco_store.specs.Seats.{seat_of, held_of}
+use Rattle.eco_archetypes.specs.Archetypes.{row_at}
 use Rattle.eco_store.specs.Store.{IsStore, read, record_for, record_ids, held_at, with_toggled, with_type}
 use Rattle.eco_store.proofs.StoreChanges.{placed_record, read_record, seat_there}
 

@@ -10,7 +10,7 @@ use Rattle.eco_ids.specs.Indices.{changed, change_kept, with_record, Indexed, In
 use Rattle.eco_ids.specs.Indices.{map_state}
 use Rattle.eco_tables.specs.Column.{retyped}
 use Rattle.eco_tables.specs.Table.{TableState, Row}
-use Rattle.eco_tables.specs.Tables.{slot_of, table_in, row_in, no_row, no_table}
+use Rattle.eco_tables.specs.Tables.{table_in, row_in, no_row}
 use Rattle.std.specs.List.{list_all}
 use Rattle.std.specs.Option.{option_copied}
 use Rattle.std.specs.Ordering.{ordering_reverse}
@@ -22,14 +22,14 @@ use Rattle.eco_ids.proofs.Ascending.{first, second, less}
 use Rattle.eco_ids.proofs.IdOrder.{id_cmp_total}
 use Rattle.eco_tables.specs.Column.{value_in}
 use Rattle.eco_tables.specs.Table.{HasIds}
-use Rattle.eco_store.specs.Archetypes.{type_at, KeepsTypes}
-use Rattle.eco_store.specs.TypeMap.{same_ids}
+use Rattle.eco_archetypes.specs.Archetypes.{type_at, KeepsTypes, row_at, SameRows}
+use Rattle.eco_archetypes.specs.TypeMap.{same_ids}
 use Rattle.eco_ids.proofs.SameIds.{same_ids-Decides}
 use Rattle.eco_entities.specs.declared.place.Place.{Place}
 use Rattle.eco_entities.specs.Registration.{Registration, placed, own_place}
 use Rattle.eco_store.specs.Layout.{rows_in, TakesRow, MovesRow}
 use Rattle.eco_store.specs.Placing.{fixed}
-use Rattle.eco_store.specs.Seats.{IsSeated, seat_of, row_at, seen, held_of, SameRows}
+use Rattle.eco_store.specs.Seats.{IsSeated, seat_of, seen, held_of}
 use Rattle.eco_store.specs.Store.{record_for, held_at, read, seat_in, seat_at, seat_of_place, HasPlace, IsStore, with_type, record_ids, type_of}
 use Rattle.eco_store.proofs.SeatChanges.{one_some}
 use Rattle.std.proofs.lemmas.Option.{slice_get-map}
@@ -425,11 +425,3 @@ other_slot s s0 n to own ids had keeps typed differ same =
     let both : own ≡ ids = one_some (type_at s0 to) own ids (ap (type_at s0) (sym same) ∙ keeps n own had) typed in
     let equal : same_ids own ids ≡ true = (same_ids-Decides own ids).1 both in
     true≢false (sym equal ∙ differ)
-
--- the ids of the table in a slot of a type
-pub typed_table : (s : List (Option TableState)) (n : ℕ) (ids : List Id) → type_at s n ≡ Some ids → (table_in s n).ids ≡ ids
-typed_table s n ids = by (slot_of s n)
-  where
-    by : (o : Option TableState) → option_map (λ (t : TableState). t.ids) o ≡ Some ids → (unwrap_or o no_table).ids ≡ ids
-    by None h = absurd (cc)
-    by (Some t) h = cc

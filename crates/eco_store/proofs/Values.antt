@@ -23,7 +23,8 @@ use Rattle.eco_entities.specs.declared.place.Place.{Place}
 use Rattle.eco_ids.specs.Renaming.{own_name, unfit_rename, RenamesWith, may_rename}
 use Rattle.eco_ids.specs.Step.{with_name}
 use Rattle.eco_entities.specs.Registration.{Registration, name_of, own_place, renamed}
-use Rattle.eco_store.specs.Seats.{Seat, IsSeated, seat_of, row_at, seen, held_of}
+use Rattle.eco_store.specs.Seats.{Seat, IsSeated, seat_of, seen, held_of}
+use Rattle.eco_archetypes.specs.Archetypes.{row_at}
 use Rattle.eco_store.specs.Store.{record_for, record_name, held_at, held_by, read, seat_in, seat_at, HasPlace, IsStore, Stands, IsShown, seat_of_place}
 use Rattle.eco_store.proofs.SeatChanges.{no_some, one_some}
 use Rattle.std.proofs.lemmas.Option.{slice_get-map}

@@ -8,7 +8,8 @@ use Rattle.eco_ids.specs.Indices.{Indexed, IndexState, Retired, Free, Living, re
 use Rattle.eco_tables.specs.Table.{TableState, Row}
 use Rattle.eco_entities.specs.declared.place.Place.{Place}
 use Rattle.eco_entities.specs.Registration.{Registration}
-use Rattle.eco_store.specs.Seats.{row_at, seen}
+use Rattle.eco_archetypes.specs.Archetypes.{row_at}
+use Rattle.eco_store.specs.Seats.{seen}
 use Rattle.eco_store.specs.Store.{record_for, held_at, read, seat_in, seat_at, seat_of_place}
 use Rattle.std.proofs.lemmas.Option.{slice_get-map}
 

@@ -18,12 +18,12 @@ use Rattle.eco_tables.specs.Table.{TableState, Row, retyped_row, entities_of}
 use Rattle.eco_tables.specs.Tables.{slot_of, table_in, no_row, no_table, MovesAll, AllHaveIds}
 use Rattle.eco_store.specs.declared.transfer.Transfer.{Transfer}
 use Rattle.eco_store.specs.declared.type_change.TypeChange.{TypeChange}
-use Rattle.eco_store.specs.Archetypes.{type_at}
+use Rattle.eco_archetypes.specs.Archetypes.{type_at, row_at}
 use Rattle.eco_store.specs.Retyping.{changed_record, after_change}
-use Rattle.eco_store.specs.Seats.{Seat, entity_of, seat_of, row_at, held_of}
+use Rattle.eco_store.specs.Seats.{Seat, entity_of, seat_of, held_of}
 use Rattle.eco_store.specs.Store.{record_for, read, seat_in, seat_at, seat_of_place, held_at, HasPlace, IsStore}
 use Rattle.eco_store.specs.Transfers.{change_of, place_after, placed_after, with_places, Pours}
-use Rattle.eco_store.proofs.ArchetypeLemmas.{there_by_row, type_there, moves_all_types}
+use Rattle.eco_archetypes.proofs.ArchetypeLemmas.{there_by_row, type_there, moves_all_types}
 use Rattle.eco_store.proofs.Retyping.{other_type, own_type}
 use Rattle.eco_store.proofs.RowChanges.{is_equal}
 use Rattle.eco_store.proofs.RowCounts.{rows_bounded}

@@ -10,8 +10,8 @@ use Rattle.eco_tables.specs.Tables.{table_in, row_in, no_row, new_row, row_with}
 use Rattle.eco_entities.specs.declared.place.Place.{Place}
 use Rattle.eco_store.specs.declared.moving.Move.{Move}
 use Rattle.eco_store.specs.declared.layout.moves.Moved.{Moved}
-use Rattle.eco_store.specs.Archetypes.{RowlessIn}
-use Rattle.eco_store.specs.Edges.{toggled}
+use Rattle.eco_archetypes.specs.Archetypes.{RowlessIn}
+use Rattle.eco_archetypes.specs.Edges.{exchanged, toggled}
 use Rattle.eco_store.specs.Preparing.{PreparedState, staying, IsReady, HasNoIdleTarget}
 
 -- the tables in their slots, and the moves to come, the next one first
@@ -76,6 +76,10 @@ RetypesRow old new p ids =
 abbrev pub StepsRow : List (Option TableState) → List (Option TableState) → Place → Id → Option Moved → Type 0
 StepsRow old new p i None = RetypesRow (rows_in old) (rows_in new) p (toggled (ids_at old p) i)
 StepsRow old new p i (Some m) = MovesRow (rows_in old) (rows_in new) p m.place (toggled (ids_at old p) i) m.filler
+
+-- the row went to a table of the type that has the second id in the place of the first
+abbrev pub ExchangesRow : List (Option TableState) → List (Option TableState) → Place → Id → Id → Moved → Type 0
+ExchangesRow old new p i j m = MovesRow (rows_in old) (rows_in new) p m.place (exchanged (ids_at old p) i j) m.filler
 
 -- where the row stands now, and who fills its old place; none where it had the type
 abbrev pub IsMoved : (ℕ → List Row) → (ℕ → List Row) → Place → List Id → Option Moved → Type 0

@@ -1,9 +1,3 @@
-pub mod IdIndex
-pub mod TypeTests
-pub mod TypeMap
-pub mod Edges
-pub mod Widths
-pub mod Archetypes
 pub mod Seats
 pub mod Placing
 pub mod Store

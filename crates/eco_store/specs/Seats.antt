@@ -1,10 +1,9 @@
 -- Each living entity stands in one row, and its seat says which.
-use Rattle.std.specs.Prelude.{◌≡◌, ℕ, List, [], Option, None, Some, slice_get}
+use Rattle.std.specs.Prelude.{◌≡◌, ℕ, List, [], Option, None, Some}
 use Rattle.eco_ids.specs.declared.entity.Entity.{Entity}
 use Rattle.eco_ids.specs.declared.id.Id.{Id}
 use Rattle.eco_ids.specs.declared.value.Value.{Value}
-use Rattle.eco_tables.specs.Table.{TableState, Row}
-use Rattle.eco_tables.specs.Tables.{table_in}
+use Rattle.eco_tables.specs.Table.{Row}
 
 -- the generation of an index's living entity, and its row of the table in a slot
 pub record Seat : Type 0 where
@@ -19,14 +18,6 @@ entity_of i s = record { index = i; generation = s.generation }
 -- the seat of an entity in a row
 abbrev pub seat_of : Entity → ℕ → ℕ → Seat
 seat_of e n row = record { generation = e.generation; slot = n; row = row }
-
--- the row of the table in a slot, if it is there
-abbrev pub row_at : List (Option TableState) → ℕ → ℕ → Option Row
-row_at slots n row = slice_get (table_in slots n).rows row
-
--- each row is what and where it was
-abbrev pub SameRows : List (Option TableState) → List (Option TableState) → Type 0
-SameRows old new = (n row : ℕ) → row_at new n row ≡ row_at old n row
 
 -- what a row holds
 abbrev pub held_of : Option Row → List (Id × Value)

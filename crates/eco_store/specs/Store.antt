@@ -1,6 +1,7 @@
 -- A store: a record of each living entity, as the world has it, with no table in it.
 use Rattle.std.specs.Prelude.{◌≡◌, ℕ, ◌<◌, ◌==◌, nat_lt, Bool, ◌&&◌, false, Result, length, slice_index_or, List, [], map, slice_get, Option, None, Some, IsSome}
-use Rattle.std.specs.Prelude.{option_map, option_and_then, unwrap_or}
+use Rattle.std.specs.Prelude.{is_some, option_map, option_and_then, unwrap_or}
+use Rattle.std.specs.FinMap.Entries.{find}
 use Rattle.std.specs.Option.{option_or}
 use Rattle.eco_ids.specs.declared.entity.Entity.{Entity}
 use Rattle.eco_ids.specs.declared.id.Id.{Id}
@@ -11,6 +12,7 @@ use Rattle.eco_ids.specs.Data.{is_zero_past}
 use Rattle.eco_ids.specs.declared.refusal.Refusal.{Refusal}
 use Rattle.eco_ids.specs.Births.{Makes, may_make, Admits, may_admit, MakesAliveWith}
 use Rattle.eco_ids.specs.Indices.{is_free_at, Indexed, IndexState, Retired, Free, Living, record_of, map_state}
+use Rattle.eco_ids.specs.Order.{id_cmp}
 use Rattle.eco_ids.specs.Outcome.{Meets}
 use Rattle.eco_ids.specs.Renaming.{RenamesWith, may_rename}
 use Rattle.eco_ids.specs.Step.{with_name}
@@ -22,9 +24,10 @@ use Rattle.eco_entities.specs.Needs.{need}
 use Rattle.eco_entities.specs.Registration.{Registration}
 use Rattle.eco_tables.specs.Tables.{table_in}
 use Rattle.eco_store.specs.declared.moving.Move.{Move}
-use Rattle.eco_store.specs.Edges.{toggled}
-use Rattle.eco_store.specs.Seats.{Seat, IsSeated, row_at, held_of}
-use Rattle.eco_store.specs.Widths.{Covers}
+use Rattle.eco_archetypes.specs.Edges.{exchanged, toggled}
+use Rattle.eco_store.specs.Seats.{Seat, IsSeated, held_of}
+use Rattle.eco_archetypes.specs.Archetypes.{row_at}
+use Rattle.eco_archetypes.specs.Widths.{Covers}
 
 -- a store: a record of each living entity by its index, and the moves that were prepared and are not yet made, the next
 -- one first
@@ -52,6 +55,10 @@ own_arity w e = option_and_then (λ r. r.arity) (record_of w e)
 abbrev pub held_by : Indexed Record → Entity → List (Id × Value)
 held_by w e = unwrap_or (option_map (λ r. r.held) (record_of w e)) []
 
+-- a living entity has the id
+abbrev pub has : Indexed Record → Entity → Id → Bool
+has w e i = is_some (find id_cmp i (held_by w e))
+
 -- the ids of a record
 abbrev pub record_ids : Record → List Id
 record_ids r = map (λ p. p.0) r.held
@@ -67,6 +74,10 @@ with_type ids r = record r { held = retyped ids r.held }
 -- the id comes, with zeros, where it isn't there, and goes where it is; the other values stay
 abbrev pub with_toggled : Id → Record → Record
 with_toggled i r = with_type (toggled (record_ids r) i) r
+
+-- the second id comes, with zeros, in the place of the first; the other values stay
+abbrev pub with_exchanged : Id → Id → Record → Record
+with_exchanged i j r = with_type (exchanged (record_ids r) i j) r
 
 -- this value at the id, where it is there
 abbrev pub with_written : Id → Value → Record → Record

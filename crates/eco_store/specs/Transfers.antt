@@ -8,7 +8,7 @@ use Rattle.eco_tables.specs.Table.{TableState}
 use Rattle.eco_tables.specs.Tables.{slot_of, table_in}
 use Rattle.eco_store.specs.declared.transfer.Transfer.{Transfer}
 use Rattle.eco_store.specs.declared.type_change.TypeChange.{TypeChange}
-use Rattle.eco_store.specs.Archetypes.{type_at}
+use Rattle.eco_archetypes.specs.Archetypes.{SameTypes}
 
 -- the change of type that comes with it
 abbrev pub change_of : List (Option TableState) → Transfer → TypeChange
@@ -32,10 +32,6 @@ due slots (t ∷ ts) n = (if t.to == n then length (table_in slots t.from).rows 
 -- each slot has room for what the transfers bring
 abbrev pub HasRoom : List (Option TableState) → List Transfer → Type 0
 HasRoom slots transfers = (n : ℕ) → due slots transfers n ≤ (table_in slots n).room
-
--- each slot has the type that it had, or none as before
-abbrev pub SameTypes : List (Option TableState) → List (Option TableState) → Type 0
-SameTypes old new = (n : ℕ) → type_at new n ≡ type_at old n
 
 -- a table's rows went to another, which took no more room than they need
 pub record Pours (old new : List (Option TableState)) (from to : ℕ) : Type 0 where

@@ -4,14 +4,13 @@ ghost use Rattle.std.specs.FinMap.Entries.{find};
 ghost use Rattle.eco_ids.specs.declared.id.Id.{Id as Ids};
 ghost use Rattle.eco_ids.specs.Order.{id_cmp};
 ghost use Rattle.eco_tables.specs.Tables.{slot_of, row_in};
-ghost use Rattle.eco_store.specs.Archetypes.{type_at};
+ghost use Rattle.eco_archetypes.specs.Archetypes.{type_at, SameRows};
 ghost use Rattle.eco_store.specs.Layout.{rows_in, WritesRow, PutsRow, TakesRow};
 ghost use Rattle.eco_store.specs.Preparing.{is_next, moves_beside};
-ghost use Rattle.eco_store.specs.Seats.{SameRows};
-ghost use Rattle.eco_store.specs.Widths.{FitsIn, KeepsWidths, StillCover};
+ghost use Rattle.eco_archetypes.specs.Widths.{FitsIn, KeepsWidths, StillCover};
 
-use crate::archetypes::Archetypes;
 use crate::prepared::Prepared;
+use eco_archetypes::Archetypes;
 use eco_entities::{EntityIndex, Place};
 use eco_ids::{Entity, Id, TypeList, Value};
 use eco_tables::Tables;
@@ -19,6 +18,7 @@ use std::alloc::{AllocError, Global};
 use std::marker::Model;
 
 mod copying;
+mod exchanging;
 mod moves;
 mod preparing;
 mod retyping;

@@ -10,10 +10,6 @@
 //! where they are not known yet; whether an id is data is not known here.
 #![tactic(auto)]
 
-mod archetypes;
-mod edges;
-mod found;
-mod id_index;
 mod layout;
 mod moving;
 mod placing;
@@ -21,12 +17,9 @@ mod prepared;
 mod store;
 mod transfer;
 mod type_change;
-mod type_map;
-mod type_test;
 
+pub use eco_archetypes::{AllOf, Archetypes, Found, Naming, TypeTest};
 pub use eco_tables::{Table, Tables};
-pub use found::Found;
 pub use moving::Move;
 pub use store::Store;
 pub use type_change::TypeChange;
-pub use type_test::{AllOf, Naming, TypeTest};

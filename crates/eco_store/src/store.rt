@@ -7,7 +7,7 @@ ghost use Rattle.eco_ids.specs.Indices.{changed, is_alive, is_free_at, next_enti
 ghost use Rattle.eco_ids.specs.Names.{named_entity};
 ghost use Rattle.eco_ids.specs.Order.{id_cmp, is_ascending};
 ghost use Rattle.eco_ids.specs.Renaming.{own_name};
-ghost use Rattle.eco_store.specs.Archetypes.{type_at};
+ghost use Rattle.eco_archetypes.specs.Archetypes.{type_at};
 ghost use Rattle.eco_ids.specs.declared.id.Id.{Id as Ids};
 ghost use Rattle.eco_entities.specs.Registration.{entity_at, name_of};
 ghost use Rattle.eco_store.specs.Placing.{Opposes};
@@ -22,10 +22,12 @@ use std::alloc::Global;
 use std::marker::Model;
 
 mod copying;
+mod exchanging;
 mod moves;
 mod retyping;
 mod searching;
 mod stepping;
+mod viewing;
 
 /// A contract sees what is known of each index, of each living entity its name and its ids with their values, and the moves
 /// that were prepared and are not yet made. No table is seen.

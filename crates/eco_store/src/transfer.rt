@@ -1,16 +1,18 @@
 //! All rows of a table go to another, and their entities with them.
-ghost use Rattle.std.specs.Prelude.{◌≡◌, ◌≢◌, ◌≤◌, List, ℕ, length, map, IsSome};
+ghost use Rattle.std.specs.Prelude.{◌≡◌, ◌≢◌, ◌≤◌, List, ℕ, length, map, IsSome, OnOk};
+ghost use Rattle.std.specs.List.{All};
 ghost use Rattle.eco_tables.specs.Tables.{slot_of, table_in};
-ghost use Rattle.eco_store.specs.Archetypes.{RowlessIn};
+ghost use Rattle.eco_archetypes.specs.Archetypes.{RowlessIn, SameTypes, SameRows};
 ghost use Rattle.eco_store.specs.Retyping.{after_change, after_changes, IsOneWay};
 ghost use Rattle.eco_store.specs.Store.{IsStore, read};
 ghost use Rattle.eco_entities.specs.Needs.{need};
-ghost use Rattle.eco_store.specs.Widths.{Covers};
+ghost use Rattle.eco_archetypes.specs.Widths.{Covers, KeepsWidths};
 ghost use Rattle.eco_store.specs.Transfers.{change_of, with_places, IsPlan, HasRoom, Pours, AreNamed};
 
-use crate::archetypes::Archetypes;
+use eco_archetypes::Archetypes;
 use eco_entities::{EntityIndex, Place};
 use eco_tables::Tables;
+use std::alloc::AllocError;
 
 /// The slots of a table whose rows all go, and of the one that they go to.
 #[derive(Clone, Copy)]
@@ -81,4 +83,20 @@ pub fn move_all(entities: &mut EntityIndex, archetypes: &mut Archetypes, transfe
     for transfer in transfers {
         transfer.move_rows(entities, archetypes);
     }
+}
+
+/// Room for all that the transfers bring.
+pub fn take_room(archetypes: &mut Archetypes, transfers: &[Transfer]) -> Result<(), AllocError>
+    requires { All (λ transfer. IsSome (slot_of archetypes.old transfer.to)) transfers.now }
+    ensures room { OnOk result (HasRoom archetypes.new transfers.now) }
+    ensures types { SameTypes archetypes.old archetypes.new }
+    ensures rowless { (slots : List ℕ) → RowlessIn archetypes.old slots → RowlessIn archetypes.new slots }
+    ensures rows { SameRows archetypes.old archetypes.new }
+    ensures widths { KeepsWidths archetypes.old archetypes.new }
+{
+    for transfer in transfers {
+        let rows = archetypes.tables().row_count(transfer.from);
+        archetypes.reserve_more(transfer.to, rows)?;
+    }
+    Ok(())
 }

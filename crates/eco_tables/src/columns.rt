@@ -17,6 +17,7 @@ use std::cmp::Ordering;
 const FEW: usize = 8;
 
 /// Where the column of an id is.
+#[inline]
 pub fn find_column(columns: &[Column], id: Id) -> Option<usize>
     requires { IsTrue (is_ascending id_cmp (map (λ c. c.id) columns.now)) }
     ensures found { IfSome result (λ i. slice_get (map (λ c. c.id) columns.now) i ≡ Some id) }
@@ -29,13 +30,15 @@ pub fn find_column(columns: &[Column], id: Id) -> Option<usize>
 }
 
 // Where the column of an id is among a few.
+#[inline]
 fn find_among(columns: &[Column], id: Id) -> Option<usize>
     ensures { result ≡ position_from (λ c. id_eq c.id id) 0 columns.now }
 {
     columns.iter().position(|column| column.id().is(id))
 }
 
-// Where the column of an id is among many: by halves.
+// Where the column of an id is among many: by halves. Apart, so that a few columns cost no more than a look at each.
+#[inline(never)]
 fn find_by_halves(columns: &[Column], id: Id) -> Option<usize>
     requires { IsTrue (is_ascending id_cmp (map (λ c. c.id) columns.now)) }
     ensures found { IfSome result (λ i. slice_get (map (λ c. c.id) columns.now) i ≡ Some id) }

@@ -1,17 +1,13 @@
 -- The closure of an id is the walk of pairs of With from its head.
 use Rattle.std.proofs.lemmas.Grind.{common_steps}
 use Rattle.std.proofs.Common.{arith}
-use Rattle.std.proofs.Common.{◌≡◌, ℕ, ◌+◌, ◌<◌, ◌||◌, ◌↔◌, inl, inr, List, [], ◌∷◌, length, take, get_or, refl, sym, ap, ◌∙◌, subst, true≢false, IsTrue, Option}
-use Rattle.std.proofs.Common.{Some, None, is_some}
+use Rattle.std.proofs.Common.{◌≡◌, ℕ, ◌+◌, ◌<◌, ◌||◌, ◌↔◌, inl, inr, List, [], ◌∷◌, length, take, get_or, refl, sym, ap, ◌∙◌, subst, true≢false, IsTrue}
 use Rattle.std.proofs.lemmas.List.{take_more}
 use Rattle.eco_ids.specs.declared.entity.Entity.{Entity}
 use Rattle.eco_ids.specs.declared.entity.TheConstants.{WITH}
 use Rattle.eco_ids.specs.declared.id.Id.{Id}
 use Rattle.eco_ids.specs.declared.id.Id.TheVariants.{One, Two}
-use Rattle.eco_ids.specs.declared.pattern.Part.TheVariants.{Is, Any}
-use Rattle.eco_ids.specs.declared.pattern.Pattern.TheVariants.{Two as PairOf}
 use Rattle.eco_ids.specs.Least.{root, next}
-use Rattle.eco_ids.specs.Matching.{pattern_matches, IsLeastMatch}
 use Rattle.eco_ids.specs.Order.{id_cmp, id_eq, entity_cmp, entity_eq, has_item, is_ascending, Joins}
 use Rattle.eco_ids.specs.Step.{IsClosure}
 use Rattle.eco_ids.specs.Traits.{Brings, InClosure, Reaches}
@@ -21,22 +17,9 @@ use Rattle.std.proofs.lemmas.Bool.{or_left}
 use Rattle.std.proofs.Math.Bool.{or-false, or_comm}
 use Rattle.std.proofs.lemmas.List.{map-append}
 use Rattle.eco_ids.proofs.IdOrder.{same_id}
-use Rattle.eco_ids.proofs.Ascending.{first}
 use Rattle.eco_ids.proofs.Facts.{or_parts, or_right, id_eq_is, id_eq_itself}
 use Rattle.eco_ids.proofs.Overlaps.{entity_eq_is, entity_eq_itself}
 use Rattle.eco_traits.proofs.Members.{only, has_append}
-
--- ---- the pairs of With
-
-starts_with : (j : Id) → IsTrue (pattern_matches (PairOf (Is WITH) Any) j) → (x : Entity) × (j ≡ Two WITH x)
-starts_with (One e) h = absurd (true≢false (sym h))
-starts_with (Two r t) h = (t, ap (λ q. Two q t) (sym (entity_eq_is WITH r (first _ _ h))))
-
--- a search for one finds one where there is one
-pub with_found : (ids : List Id) (o : Option Id) → IsLeastMatch (PairOf (Is WITH) Any) ids o
-    → IsTrue (is_some o) ↔ ((x : Entity) × IsTrue (has_item id_cmp ids (Two WITH x)))
-with_found ids None none = (λ h. absurd (true≢false (sym h)), λ p. absurd (true≢false (none (Two WITH p.0) p.1)))
-with_found ids (Some i) found = (λ h. let pair = starts_with i found.1 in (pair.0, subst (λ j. IsTrue (has_item id_cmp ids j)) pair.1 found.0), λ p. refl)
 
 -- ---- the id with many heads
 

@@ -1,7 +1,7 @@
 -- The target of each pair that an entity has is among the known targets.
 use Rattle.std.proofs.lemmas.Grind.{common_steps}
 use Rattle.std.proofs.Common.{arith}
-use Rattle.std.proofs.Common.{◌≡◌, ℕ, zero, suc, true, false, cond, ◌||◌, List, [], ◌∷◌, slice_get, Some, is_some, IsTrue, refl, sym, subst, true≢false}
+use Rattle.std.proofs.Common.{◌≡◌, ℕ, zero, suc, true, false, cond, ◌||◌, List, [], ◌∷◌, slice_get, Some, is_some, IsTrue, refl, sym, ◌∙◌, subst, true≢false}
 use Rattle.std.specs.FinMap.Entries.{find}
 use Rattle.eco_ids.specs.declared.entity.Entity.{Entity}
 use Rattle.eco_ids.specs.declared.id.Id.{Id}
@@ -14,7 +14,9 @@ use Rattle.std.proofs.lemmas.Bool.{or_left}
 use Rattle.eco_ids.proofs.Facts.{or_right, id_eq_is}
 use Rattle.eco_ids.proofs.Keeps.{has_in}
 use Rattle.eco_ids.proofs.Overlaps.{entity_eq_itself}
-use Rattle.eco_traits.proofs.Members.{has_front, has_back}
+use Rattle.std.specs.List.{list_any}
+use Rattle.eco_ids.specs.contracts.entity.EntityPartialEq.TheImpl as entity_impl
+use Rattle.eco_traits.proofs.Members.{has_front, has_back, list_any-derived}
 use Rattle.eco_traits.specs.Known.{target_of, targets_in, targets_from, all_targets}
 
 held_target : (i : Id) (held : List (Id × Value)) → IsTrue (is_some (find id_cmp i held)) → IsTrue (has_item entity_cmp (targets_in held) (target_of i))
@@ -37,5 +39,5 @@ known_in (Free f ∷ rest) (suc n) g i h = known_in rest n g i h
 known_in (Living f r ∷ rest) (suc n) g i h = has_back entity_cmp (targets_in r.held) (targets_from rest) (target_of i) (known_in rest n g i h)
 
 -- the target of a pair that an entity has is among them
-pub target_is_known : (w : WorldState) (r a b : Entity) → IsTrue (has w a (Two r b)) → IsTrue (has_item entity_cmp (all_targets w) b)
-target_is_known w r a b h = known_in w.indices a.index a.generation (Two r b) h
+pub target_is_known : (w : WorldState) (r a b : Entity) → IsTrue (has w a (Two r b)) → IsTrue (list_any ((entity_impl.eq-value).it b) (all_targets w))
+target_is_known w r a b h = list_any-derived (all_targets w) b ∙ known_in w.indices a.index a.generation (Two r b) h

@@ -5,7 +5,7 @@ pub mod Members
 pub mod Plain
 pub mod Replaced
 pub mod Rows
-pub mod Search
 pub mod Verdicts
 pub mod Walks
 pub mod Targets
+pub mod Traits

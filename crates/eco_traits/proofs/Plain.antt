@@ -11,7 +11,7 @@ use Rattle.eco_ids.specs.declared.id.Id.{Id}
 use Rattle.eco_ids.specs.declared.id.Id.TheVariants.{One, Two}
 use Rattle.eco_ids.specs.Order.{id_cmp, is_ascending, with_item}
 use Rattle.eco_ids.specs.Step.{IsClosure, Judges, is_replaced}
-use Rattle.eco_ids.specs.World.{WorldState, has, is_exclusive, names_living, record_of}
+use Rattle.eco_ids.specs.World.{WorldState, has, is_alive, is_exclusive, names_living, record_of}
 use Rattle.eco_traits.specs.Closure.{head_of}
 use Rattle.eco_ids.proofs.Ascending.{first, second}
 use Rattle.eco_ids.proofs.Facts.{or_parts}
@@ -26,6 +26,11 @@ use Rattle.eco_traits.proofs.Walks.{has_listed}
 -- these are the ids of the entity of a single id, or of the relationship of a pair
 abbrev pub AreTraitsOf : WorldState → Id → List Id → Type 0
 AreTraitsOf w i ids = Some ids ≡ option_map type_of_record (record_of w (head_of i))
+
+-- it lives where each entity in the id does
+pub head_lives : (w : WorldState) (i : Id) → names_living w i ≡ true → is_alive w (head_of i) ≡ true
+head_lives w (One e) h = h
+head_lives w (Two r t) h = first _ _ h
 
 -- nothing comes along
 pub comes_alone : (w : WorldState) (i : Id) (ids : List Id) → AreTraitsOf w i ids → BringsNone ids → IsClosure w i (i ∷ [])

@@ -2,7 +2,7 @@
 use Rattle.std.proofs.Common.{◌≡◌, Bool, true, false, cond, not, ◌&&◌, ◌||◌, inl, inr, List, [], ◌∷◌, filter}
 use Rattle.std.proofs.Common.{find, refl, sym, ap, ◌∙◌, subst, true≢false, IsTrue, IsFalse, Option, Some, None, is_some, option_map, if◌then◌else◌}
 use Rattle.std.specs.List.{list_any}
-use Rattle.std.proofs.lemmas.Bool.{and_right, or_parts}
+use Rattle.std.proofs.lemmas.Bool.{and_right, or_left, or_parts, or_right}
 use Rattle.eco_ids.specs.declared.entity.Entity.{Entity}
 use Rattle.eco_ids.specs.declared.entity.TheConstants.{ACYCLIC, EXCLUSIVE}
 use Rattle.eco_ids.specs.declared.id.Id.{Id}
@@ -13,7 +13,7 @@ use Rattle.eco_ids.specs.Traits.{Reaches}
 use Rattle.eco_ids.specs.Least.{root, next}
 use Rattle.eco_ids.specs.World.{WorldState, has, is_acyclic, is_exclusive, names_living, record_of}
 use Rattle.eco_ids.proofs.Exact.{id_eq_sym}
-use Rattle.eco_ids.proofs.Facts.{id_eq_is, same_or_apart}
+use Rattle.eco_ids.proofs.Facts.{id_eq_is, id_eq_itself, same_or_apart}
 use Rattle.eco_ids.proofs.Gains.{same_relationship}
 use Rattle.eco_ids.proofs.IdOrder.{same_id}
 use Rattle.eco_ids.proofs.Overlaps.{entity_eq_is, entity_eq_itself}
@@ -41,6 +41,14 @@ module _ (p : Id → Bool) where
       elim (p x) as (λ b. (if b then Some x else find p xs) ≡ None → x ∷ xs ≡ cond (not b) (x ∷ filter (λ i. not (p i)) xs) (filter (λ i. not (p i)) xs)) [
         | true ↦ λ k. absurd (true≢false (ap is_some k))
         | false ↦ λ k. ap (λ ys. x ∷ ys) (none_goes xs k)
+      ] h
+
+  pub is_among : (ids : List Id) (first : Id) → find p ids ≡ Some first → has_item id_cmp ids first ≡ true
+  is_among [] first h = absurd (true≢false (sym (ap is_some h)))
+  is_among (x ∷ xs) first h =
+      elim (p x) as (λ b. (if b then Some x else find p xs) ≡ Some first → has_item id_cmp (x ∷ xs) first ≡ true) [
+        | true ↦ λ k. or_left (id_eq x first) (has_item id_cmp xs first) (subst (λ y. id_eq x y ≡ true) (some_is x first k) (id_eq_itself x))
+        | false ↦ λ k. or_right (id_eq x first) (has_item id_cmp xs first) (is_among xs first k)
       ] h
 
   tie : (a b : Bool) → (a && not b) ≡ false → (b ≡ true → a ≡ true) → b ≡ a

@@ -1,7 +1,7 @@
 -- What stands against a closure.
 use Rattle.std.proofs.lemmas.Grind.{common_steps}
 use Rattle.std.proofs.Common.{◌≡◌, ℕ, zero, suc, ◌+◌, ◌<◌, false, ◌||◌, ◌⊎◌, inl, inr, List, [], ◌∷◌, length, take, get_or, refl, sym, ap, ◌∙◌, subst}
-use Rattle.std.proofs.Common.{true≢false, IsTrue, Option, Some, None, MatchBool, option_map, is_lt, Less, Equal, Greater, arith}
+use Rattle.std.proofs.Common.{true≢false, IsTrue, Option, Some, None, option_map, is_lt, arith}
 use Rattle.std.proofs.lemmas.List.{take_more}
 use Rattle.std.specs.Cmp.{tied_itself}
 use Rattle.std.specs.List.{list_any}

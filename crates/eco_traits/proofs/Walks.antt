@@ -18,7 +18,9 @@ use Rattle.eco_ids.proofs.IdOrder.{same_entity}
 use Rattle.eco_ids.proofs.Exact.{keys, keys_find}
 use Rattle.eco_ids.proofs.Facts.{or_parts, or_right}
 use Rattle.eco_ids.proofs.Overlaps.{entity_eq_itself}
-use Rattle.eco_traits.proofs.Members.{only, has_append}
+use Rattle.std.specs.List.{list_any}
+use Rattle.eco_ids.specs.contracts.entity.EntityPartialEq.TheImpl as entity_impl
+use Rattle.eco_traits.proofs.Members.{only, has_append, list_any-derived}
 use Rattle.eco_traits.specs.Target.{type_of_record, target_by_pair}
 
 -- ---- what an entity has
@@ -64,10 +66,26 @@ pub from_other_roots : {A : Type 0} {P Q : A → Type 0} {L : A → A → Type 0
 from_other_roots f (root h) = root (f _ h)
 from_other_roots f (next member edge) = next (from_other_roots f member) edge
 
-alone_is : (from a : Entity) → a ≡ from → IsTrue (has_item entity_cmp (from ∷ []) a)
-alone_is from a e = or_left _ _ (subst (λ x. IsTrue (entity_eq from x)) (sym e) (entity_eq_itself from))
+-- a handle is among others by `==`
+abbrev pub is_one_of : List Entity → Entity → Bool
+is_one_of xs a = list_any ((entity_impl.eq-value).it a) xs
+
+alone_is : (from a : Entity) → a ≡ from → IsTrue (is_one_of (from ∷ []) a)
+alone_is from a e = list_any-derived (from ∷ []) a ∙ or_left _ _ (subst (λ x. IsTrue (entity_eq from x)) (sym e) (entity_eq_itself from))
 
 -- from the only root
 pub from_one : (w : WorldState) (r from b : Entity)
-    → Least (λ a. IsTrue (has_item entity_cmp (from ∷ []) a)) (λ c d. IsTrue (has w c (Two r d))) b ↔ Reaches w r from b
-from_one w r from b = (λ h. from_other_roots (λ a k. sym (only same_entity from a k)) h, λ h. from_other_roots (alone_is from) h)
+    → Least (λ a. IsTrue (is_one_of (from ∷ []) a)) (λ c d. IsTrue (has w c (Two r d))) b ↔ Reaches w r from b
+from_one w r from b = (
+  λ h. from_other_roots (λ a k. sym (only same_entity from a (sym (list_any-derived (from ∷ []) a) ∙ k))) h,
+  λ h. from_other_roots (alone_is from) h,
+)
+
+-- the targets of an entity's pairs come to others
+pub appended : (w : WorldState) (e r : Entity) (ids : List Id) (old new : List Entity) (b : Entity) → Some ids ≡ option_map type_of_record (record_of w e)
+    → has_item entity_cmp new b ≡ (has_item entity_cmp old b || has_item id_cmp ids (Two r b))
+    → IsTrue (is_one_of new b) ↔ (IsTrue (is_one_of old b) ⊎ IsTrue (has w e (Two r b)))
+appended w e r ids old new b own comes =
+    or_fact _ _ _
+    (list_any-derived new b ∙ comes ∙ ap (λ t. t || has_item id_cmp ids (Two r b)) (sym (list_any-derived old b))
+    ∙ ap (λ t. is_one_of old b || t) (sym (has_listed w e (Two r b) ids own)))

@@ -1,4 +1,4 @@
 pub mod Closure
 pub mod Known
-pub mod Search
 pub mod Target
+pub mod Prospect

@@ -11,7 +11,7 @@ use Rattle.eco_ids.specs.Outcome.{is_out_of_memory}
 use Rattle.eco_ids.specs.Step.{IsClosure, Judges, is_replaced, is_wrong_policy, with_closure}
 use Rattle.eco_ids.specs.Traits.{Reaches}
 use Rattle.eco_traits.specs.declared.target.Target.{Target}
-use Rattle.eco_traits.specs.declared.target.Target.TheVariants.{Own, With, Other}
+use Rattle.eco_traits.specs.declared.target.Target.TheVariants.{Own, With, Instead, Other}
 use Rattle.eco_ids.specs.World.{Record, WorldState, has, is_acyclic, names_living, record_of}
 
 -- the ids of a record
@@ -95,6 +95,11 @@ abbrev pub spared : Option Id → List Id → List Id
 spared None ids = ids
 spared (Some old) ids = without_item id_cmp ids old
 
+-- the one that is replaced is among the ids, if one is
+abbrev pub IsAmong : List Id → Option Id → Type 0
+IsAmong ids None = Unit {0}
+IsAmong ids (Some old) = has_item id_cmp ids old ≡ true
+
 -- an add of i to e, which has these ids, leads to them with i in the place of the one that is replaced, if one is
 abbrev pub Replaces : WorldState → Entity → Id → List Id → Option Id → Type 0
 Replaces w e i own replaced = LeadsTo w e i (Ok (with_item id_cmp (spared replaced own) i))
@@ -103,13 +108,22 @@ Replaces w e i own replaced = LeadsTo w e i (Ok (with_item id_cmp (spared replac
 abbrev pub type_meant : List Id → Id → Target → List Id
 type_meant own i Own = own
 type_meant own i With = with_item id_cmp own i
+type_meant own i (Instead old) = with_item id_cmp (without_item id_cmp own old) i
 type_meant own i (Other ids) = ids
 
 -- the target is the entity's own type
 abbrev pub is_own : Target → Bool
 is_own Own = true
 is_own With = false
+is_own (Instead old) = false
 is_own (Other ids) = false
+
+-- an id that gives its place up is one that e has
+abbrev pub TakesOwn : WorldState → Entity → Target → Type 0
+TakesOwn w e Own = Unit {0}
+TakesOwn w e With = Unit {0}
+TakesOwn w e (Instead old) = has w e old ≡ true
+TakesOwn w e (Other ids) = Unit {0}
 
 -- the type that an answer stands for, or the refusal
 abbrev pub type_answered : List Id → Id → Result Target Refusal → Result (List Id) Refusal

@@ -7,12 +7,14 @@ ghost use Rattle.eco_ids.specs.declared.id.Id.TheVariants.{Two};
 ghost use Rattle.eco_ids.specs.Order.{has_item, id_cmp, is_ascending};
 ghost use Rattle.eco_ids.specs.Step.{IsClosure};
 ghost use Rattle.eco_ids.specs.World.{has};
+ghost use Rattle.std.specs.List.{list_any};
 ghost use Rattle.eco_traits.specs.Closure as spec;
+ghost use Rattle.eco_traits.specs.Prospect.{is_with};
 
 use crate::holdings::Holdings;
 use crate::walk::reached;
 use eco_ids::entity::WITH;
-use eco_ids::{Entity, Id, Part, Pattern, TypeList};
+use eco_ids::{Entity, Id, TypeList};
 use std::alloc::{AllocError, Global};
 
 /// The least set of ids that holds the id and, for each pair (With, X) of the entity of a single id or the relationship
@@ -33,8 +35,9 @@ pub fn closure<H: Holdings>(alloc: Global, holdings: &H, id: Id) -> Result<TypeL
     with_heads(alloc, id, heads.as_slice())
 }
 
-// The entity whose pairs of With say what the id brings.
-fn head_of(id: Id) -> Entity
+/// The entity whose ids say how the id behaves, and what it brings: its own, or a pair's relationship.
+#[inline]
+pub(crate) fn head_of(id: Id) -> Entity
     ensures { result ≡ spec.head_of id }
 {
     match id {
@@ -66,8 +69,23 @@ fn has_with<H: Holdings>(holdings: &H, entity: Entity) -> bool
 pub(crate) fn brings_any(ids: &TypeList) -> bool
     ensures { IsTrue result ↔ ((x : EntityData) × IsTrue (has_item id_cmp ids.now (Two WITH_DATA x))) }
 {
-    ids.first_match(Pattern::Two(Part::Is(WITH), Part::Any))
-        .is_some()
+    any_with(ids.as_slice())
+}
+
+fn any_with(ids: &[Id]) -> bool
+    ensures { result ≡ list_any is_with ids.now }
+{
+    ids.iter().any(|id| is_with(*id))
+}
+
+// The id is a pair of With.
+fn is_with(id: Id) -> bool
+    ensures { result ≡ is_with id }
+{
+    match id {
+        Id::One(_) => false,
+        Id::Two(relationship, _) => relationship.is(WITH),
+    }
 }
 
 // The id with each of the heads in the place of its own.

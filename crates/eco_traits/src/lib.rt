@@ -4,13 +4,13 @@
 
 mod holdings;
 mod implied;
-mod least;
+mod prospect;
 mod target;
 mod verdict;
 mod walk;
 
 pub use holdings::Holdings;
 pub use implied::closure;
-pub use least::{Graph, is_in_least_set, least_set};
-pub use target::{Target, target_type};
+pub use prospect::{Prospect, foresee};
+pub use target::{Target, open_target, target_type};
 pub use walk::{has, reached, reaches};

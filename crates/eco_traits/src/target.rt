@@ -1,5 +1,5 @@
 //! The type that an add leads to.
-ghost use Rattle.std.specs.Prelude.{◌≡◌, ◌↔◌, ◌&&◌, false, IfOk, IfSome, IsFalse, IsTrue, Some, filter, find, fold, is_some, not, option_map, unwrap_or};
+ghost use Rattle.std.specs.Prelude.{◌≡◌, ◌↔◌, ◌&&◌, false, IfOk, IfSome, IsFalse, IsTrue, Some, filter, find, fold, is_some, not, option_map, true, unwrap_or};
 ghost use Rattle.std.specs.List.{list_any};
 ghost use Rattle.eco_ids.specs.Outcome.{is_out_of_memory};
 ghost use Rattle.eco_ids.specs.World.{has, is_alive as lives, record_of};
@@ -9,10 +9,11 @@ ghost use Rattle.eco_ids.specs.Step as step;
 ghost use Rattle.eco_ids.specs.World as world;
 ghost use Rattle.eco_traits.specs.Closure.{head_of};
 ghost use Rattle.eco_ids.specs.Traits.{Reaches};
-ghost use Rattle.eco_traits.specs.Target.{FindsTarget, FindsType, is_own, IsPlain, LacksTraits, Replaces, extended_by, left_by, spared, type_of_entity};
+ghost use Rattle.eco_traits.specs.Target.{FindsTarget, FindsType, is_own, IsAmong, TakesOwn, Replaces, extended_by, left_by, spared, type_of_entity};
 
 use crate::holdings::Holdings;
-use crate::implied::{brings_any, closure};
+use crate::implied::{brings_any, closure, head_of};
+use crate::prospect::{Prospect, foresee};
 use crate::verdict::{is_among, is_wrong_policy, verdict};
 use crate::walk::{has, has_pair_of, is_pair_of, may_reach};
 use eco_ids::entity::{ACYCLIC, EXCLUSIVE};
@@ -26,6 +27,8 @@ pub enum Target {
     Own,
     /// The type that the entity has, and the id alone.
     With,
+    /// The type that the entity has, and the id in the place of this one, which it has.
+    Instead(Id),
     /// Another type.
     Other(TypeList),
 }
@@ -54,24 +57,40 @@ pub fn target_type<H: Holdings>(
     requires { IsTrue (lives (H.world holdings.now) entity) }
     ensures target { FindsTarget (H.world holdings.now) entity id result }
     ensures own { IfOk result (λ target. is_own target ≡ has (H.world holdings.now) entity id) }
+    ensures there { IfOk result (TakesOwn (H.world holdings.now) entity) }
     ensures memory { IsTrue (is_out_of_memory result) → has (H.world holdings.now) entity id ≡ false }
 {
+    match foresee(holdings, entity, id) {
+        Prospect::Dead => Err(Refusal::DeadId),
+        Prospect::There => Ok(Target::Own),
+        Prospect::Alone => Ok(Target::With),
+        Prospect::Open => open_target(alloc, holdings, entity, id),
+    }
+}
+
+/// What [`target_type`] answers for an id of which no more than [`Prospect::Open`] is foreseen: the entity lacks it, and
+/// each entity in it lives. It is refused as there.
+#[tactic(auto, using(crate::proofs::Plain::head_lives))]
+pub fn open_target<H: Holdings>(
+    alloc: Global,
+    holdings: &H,
+    entity: Entity,
+    id: Id,
+) -> Result<Target, Refusal>
+    requires alive { IsTrue (lives (H.world holdings.now) entity) }
+    requires living { world.names_living (H.world holdings.now) id ≡ true }
+    requires absent { has (H.world holdings.now) entity id ≡ false }
+    ensures target { FindsTarget (H.world holdings.now) entity id result }
+    ensures own { IfOk result (λ target. is_own target ≡ has (H.world holdings.now) entity id) }
+    ensures there { IfOk result (TakesOwn (H.world holdings.now) entity) }
+{
     let own = holdings.type_of(entity).unwrap();
-    let Some(traits) = traits_of(holdings, id) else {
-        return Err(Refusal::DeadId);
-    };
-    if own.has(id) {
-        return Ok(Target::Own);
-    }
-    if is_plain(id, traits) {
-        return Ok(Target::With);
-    }
+    let traits = holdings.type_of(head_of(id)).unwrap();
     new_target(alloc, holdings, entity, own, id, traits)
 }
 
-// What `target_type` does with an id that is absent and isn't plain, apart, so that one that is needs no room for what this
-// one keeps. A pair of an exclusive relationship mostly takes the place of one other pair, and nothing else has to be known
-// for that.
+// What `open_target` does once it knows the types. A pair of an exclusive relationship mostly takes the place of one other
+// pair, and nothing else has to be known for that.
 #[inline(never)]
 fn new_target<H: Holdings>(
     alloc: Global,
@@ -87,6 +106,7 @@ fn new_target<H: Holdings>(
     requires traits { Some traits.now ≡ type_of_entity (H.world holdings.now) (head_of added) }
     ensures target { FindsTarget (H.world holdings.now) entity added result }
     ensures own { IfOk result (λ target. is_own target ≡ has (H.world holdings.now) entity added) }
+    ensures there { IfOk result (TakesOwn (H.world holdings.now) entity) }
 {
     let Some(replaced) = short_way(holdings, entity, own, added, traits) else {
         let ids = closed_type(alloc, holdings, entity, own, added, traits)?;
@@ -95,18 +115,7 @@ fn new_target<H: Holdings>(
     let Some(old) = replaced else {
         return Ok(Target::With);
     };
-    let ids = exchanged(own, old, added)?;
-    Ok(Target::Other(ids))
-}
-
-// The ids with one in the place of another.
-fn exchanged(own: &TypeList, old: Id, new: Id) -> Result<TypeList, AllocError>
-    ensures { IfOk result (λ ids. ids ≡ with_item id_cmp (spared (Some old) own.now) new) }
-{
-    let mut ids = own.try_copy()?;
-    ids.remove(old);
-    ids.insert(new)?;
-    Ok(ids)
+    Ok(Target::Instead(old))
 }
 
 // The pair that a new pair replaces, or none, where that is all that the new one does, and nothing stands against it. No
@@ -123,7 +132,8 @@ fn short_way<H: Holdings>(
     requires absent { IsFalse (world.has (H.world holdings.now) entity added) }
     requires own { Some own.now ≡ type_of_entity (H.world holdings.now) entity }
     requires traits { Some traits.now ≡ type_of_entity (H.world holdings.now) (head_of added) }
-    ensures { IfSome result (λ replaced. Replaces (H.world holdings.now) entity added own.now replaced) }
+    ensures among { IfSome result (IsAmong own.now) }
+    ensures replaces { IfSome result (λ replaced. Replaces (H.world holdings.now) entity added own.now replaced) }
 {
     match added {
         Id::One(_) => None,
@@ -151,7 +161,8 @@ fn short_pair<H: Holdings>(
     requires absent { IsFalse (world.has (H.world holdings.now) entity (Two relationship target)) }
     requires own { Some own.now ≡ type_of_entity (H.world holdings.now) entity }
     requires traits { Some traits.now ≡ type_of_entity (H.world holdings.now) relationship }
-    ensures { IfSome result
+    ensures among { IfSome result (IsAmong own.now) }
+    ensures replaces { IfSome result
         (λ replaced. Replaces (H.world holdings.now) entity (Two relationship target) own.now replaced) }
 {
     if is_wrong_policy(Id::Two(relationship, target)) {
@@ -188,6 +199,7 @@ fn may_close<H: Holdings>(
 fn replaced_by(own: &TypeList, relationship: Entity, traits: &TypeList) -> Option<Option<Id>>
     ensures left { IfSome result (λ replaced. spared replaced own.now
         ≡ filter (λ id. not (has_item id_cmp traits.now (One EXCLUSIVE) && step.is_pair_of relationship id)) own.now) }
+    ensures among { IfSome result (IsAmong own.now) }
     ensures ascending { IsTrue (is_ascending id_cmp own.now) }
 {
     let ids = own.as_slice();
@@ -243,25 +255,6 @@ fn closed_type<H: Holdings>(
     }
 }
 
-// The ids that say how the id behaves: those of the entity of a single id, or of the relationship of a pair; none where an
-// entity in the id isn't living.
-fn traits_of<H: Holdings>(holdings: &H, id: Id) -> Option<&TypeList>
-    ensures living { is_some result ≡ world.names_living (H.world holdings.now) id }
-    ensures traits { IfSome result (λ ids. Some ids.now
-        ≡ type_of_entity (H.world holdings.now) (head_of id)) }
-{
-    match id {
-        Id::One(entity) => holdings.type_of(entity),
-        Id::Two(relationship, target) => {
-            if holdings.type_of(target).is_some() {
-                holdings.type_of(relationship)
-            } else {
-                None
-            }
-        }
-    }
-}
-
 // The type that the entity has once the closure of the id came to it, or what stands against that.
 fn judged_type<H: Holdings>(
     alloc: Global,
@@ -281,23 +274,6 @@ fn judged_type<H: Holdings>(
         return Err(refusal);
     }
     Ok(extended(holdings, own, coming)?)
-}
-
-// Whether the id comes alone, replaces nothing, and nothing stands against it, as with most tags, components and pairs.
-fn is_plain(id: Id, traits: &TypeList) -> bool
-    ensures { IsTrue result ↔ IsPlain id traits.now }
-{
-    match id {
-        Id::One(single) => !single.is(EXCLUSIVE) && !single.is(ACYCLIC) && !brings_any(traits),
-        Id::Two(..) => !is_wrong_policy(id) && !has_trait(traits),
-    }
-}
-
-// Whether one of the ids says how pairs behave.
-fn has_trait(ids: &TypeList) -> bool
-    ensures { IsFalse result ↔ LacksTraits ids.now }
-{
-    ids.has(Id::One(EXCLUSIVE)) || ids.has(Id::One(ACYCLIC)) || brings_any(ids)
 }
 
 // What the closure does not replace, and the closure.

@@ -1,6 +1,9 @@
 //! Walks along the pairs of one relationship.
 ghost use Rattle.std.specs.Prelude.{◌≡◌, ◌||◌, ◌↔◌, IfOk, OnOk, IsFalse, IsTrue};
 ghost use Rattle.std.specs.List.{list_any};
+ghost use Rattle.std.proofs.Common.{sym, ◌∙◌};
+ghost use Rattle.eco_ids.proofs.Overlaps.{entity_eq_is};
+ghost use Rattle.eco_ids.specs.OrderLaws.{entity_ties};
 ghost use Rattle.eco_ids.specs.declared.entity.Entity.{Entity as EntityData};
 ghost use Rattle.eco_ids.specs.declared.id.Id.TheVariants.{Two};
 ghost use Rattle.eco_ids.specs.Order.{entity_cmp, has_item, id_cmp};
@@ -11,8 +14,8 @@ ghost use Rattle.eco_traits.specs.Known.{all_targets};
 ghost use Rattle.eco_traits.specs.Target.{AppendsTargets, IsReach, target_by_pair};
 
 use crate::holdings::Holdings;
-use crate::least::{Graph, is_in_least_set, least_set};
 use eco_ids::{Entity, Id};
+use eco_search::{Graph, is_in_least_set, least_set};
 use indexmap::IndexSet;
 use std::alloc::{AllocError, Global};
 
@@ -27,6 +30,8 @@ struct Pairs<'a, H> {
 }
 
 impl<H: Holdings> Graph for Pairs<'_, H> {
+    type Node = Entity;
+
     ghost nodes = { λ p. all_targets (H.world p.holdings.now) };
 
     ghost leads = { λ p a b. IsTrue (world_has (H.world p.holdings.now) a (Two p.relationship b)) };
@@ -38,6 +43,8 @@ impl<H: Holdings> Graph for Pairs<'_, H> {
         }
         Ok(())
     }
+
+    ghost same = { λ a b h. entity_eq_is a b (sym (entity_ties a b) ∙ h) };
 }
 
 fn append_targets(

@@ -1,5 +1,5 @@
 -- What the store makes of an entity's record, and what a step makes of it.
-use Rattle.std.proofs.Common.{◌≡◌, Bool, true, false, cond, ◌&&◌, T, List, [], ◌∷◌, Option, Some, None, option_map, unwrap_or, refl, sym, ap, ◌∙◌, subst, is_some, true≢false, IsTrue, IsFalse, MatchBool}
+use Rattle.std.proofs.Common.{◌≡◌, Bool, true, false, cond, ◌&&◌, T, List, [], ◌∷◌, Option, Some, None, option_map, unwrap_or, refl, sym, ap, ◌∙◌, subst, is_some, true≢false, IsTrue, IsFalse, MatchBool, Result, Ok, Err, OnOk, OnErr}
 use Rattle.std.specs.List.{list_any}
 use Rattle.std.specs.FinMap.Entries.{find, is_sorted}
 use Rattle.eco_ids.specs.declared.entity.Entity.{Entity}
@@ -15,10 +15,15 @@ use Rattle.eco_ids.proofs.Facts.{id_eq_is, not_both}
 use Rattle.eco_ids.proofs.Losses.{keeps_all, without_one}
 use Rattle.eco_ids.proofs.Records.{living_state}
 use Rattle.eco_ids.proofs.Lists.{set_own}
-use Rattle.eco_store.specs.Store.{record_ids, with_toggled, with_type, with_written}
+use Rattle.eco_store.specs.Store.{record_ids, with_exchanged, with_toggled, with_type, with_written}
 use Rattle.eco_traits.specs.Target.{type_of_entity, type_of_record}
 use Rattle.eco_world.specs.Removals.{type_of}
 use Rattle.eco_world.proofs.Held.{Held, find_keys, keys, none_written, retyped_without, written_is}
+
+-- what holds of either state that a call may leave holds of the one that it left
+pub by_result : {A B S : Type 0} (P : S → Type 0) (r : Result A B) (old new x : S) → OnOk r (new ≡ x) → OnErr r (new ≡ old) → P x → P old → P new
+by_result P (Ok a) old new x ok err done undone = subst P (sym ok) done
+by_result P (Err b) old new x ok err done undone = subst P (sym err) undone
 
 module _ (w : WorldState) (e : Entity) where
   -- changes that do the same to the entity's record
@@ -73,6 +78,13 @@ module _ (w : WorldState) (e : Entity) where
       ap (λ ids. with_type ids d)
       (ap (λ b. cond b (without_item id_cmp (record_ids d) i) (with_item id_cmp (record_ids d) i)) (lists_at i d at ∙ there)
       ∙ ap (λ held. without_item id_cmp (keys held) i) (sym (held_at d at))))
+
+  -- one comes in the place of another
+  pub exchanged_in : (i j : Id) →
+      changed w e (with_exchanged i j) ≡ changed w e (with_type (with_item id_cmp (without_item id_cmp (unwrap_or (type_of_entity w e) []) i) j))
+  exchanged_in i j =
+      changed_alike (with_exchanged i j) (with_type (with_item id_cmp (without_item id_cmp (unwrap_or (type_of_entity w e) []) i) j)) (λ d at.
+      ap (λ o. with_type (with_item id_cmp (without_item id_cmp (unwrap_or (option_map type_of_record o) []) i) j) d) (sym at))
 
   module _ (lawful : IsLawful w) where
     pub sorted_at : (d : Record) → record_of w e ≡ Some d → T (is_sorted id_cmp d.held)

@@ -14,7 +14,7 @@ use Rattle.eco_ids.specs.Builtin.{is_builtin}
 use Rattle.eco_ids.specs.Losses.{without, nobody}
 use Rattle.eco_ids.specs.Laws.{Keeps, AddsExactly, AddsOnce}
 use Rattle.eco_ids.specs.Lawful.{IsLawful}
-use Rattle.eco_ids.specs.Order.{id_cmp, has_item, with_item}
+use Rattle.eco_ids.specs.Order.{id_cmp, has_item, with_item, without_item}
 use Rattle.eco_ids.specs.Outcome.{Meets, Answers, Refuses, is_out_of_memory}
 use Rattle.eco_ids.specs.Step as step
 use Rattle.eco_ids.specs.Step.{changed, grown, with_value, with_closure, is_replaced, is_pair_of, IsClosure, Judges, Loses, Extends, Adds, unfit, unchanged, Sets, unfit_set, unfit_actor}
@@ -25,7 +25,7 @@ use Rattle.eco_ids.proofs.Steps.{grown_unchanged}
 use Rattle.eco_ids.proofs.Ascending.{second}
 use Rattle.eco_ids.proofs.Facts.{not_true}
 use Rattle.eco_store.specs.Store.{with_type}
-use Rattle.eco_traits.specs.declared.target.Target.TheVariants.{With}
+use Rattle.eco_traits.specs.declared.target.Target.TheVariants.{Instead, With}
 use Rattle.eco_traits.specs.Target.{ExtendsTo, FindsTarget, FindsType, IsOwnType, IsTypeWith, LeadsTo, type_of_entity, type_of_record}
 use Rattle.eco_tables.specs.Column.{value_in}
 use Rattle.eco_world.specs.Actor.{MaySet}
@@ -269,6 +269,11 @@ pub found_with : (w : WorldState) (e : Entity) (i : Id) → is_alive w e ≡ tru
     Keeps (λ v. Adds v e i) → AddsExactly → FindsTarget w e i (Ok With) → has w e i ≡ false →
     IsGrown w e i (with_item id_cmp (unwrap_or (type_of_entity w e) []) i)
 found_with w e i = found_other w e i (with_item id_cmp (unwrap_or (type_of_entity w e) []) i)
+
+pub found_instead : (w : WorldState) (e : Entity) (i old : Id) → is_alive w e ≡ true → is_builtin w e ≡ false → IsLawful w →
+    Keeps (λ v. Adds v e i) → AddsExactly → FindsTarget w e i (Ok (Instead old)) → has w e i ≡ false →
+    IsGrown w e i (with_item id_cmp (without_item id_cmp (unwrap_or (type_of_entity w e) []) old) i)
+found_instead w e i old = found_other w e i (with_item id_cmp (without_item id_cmp (unwrap_or (type_of_entity w e) []) old) i)
 
 -- ---- a set
 

@@ -1,5 +1,5 @@
 -- Values that fit an id in the world fit it in the store, and in the world that is written to.
-use Rattle.std.proofs.Common.{◌≡◌, ◌==◌, ◌&&◌, ℕ, zero, suc, Bool, true, false, IsTrue, List, [], ◌∷◌, drop, length, Option, None, Some, option_and_then, unwrap_or, if◌then◌else◌, cond, refl, sym, ap, ◌∙◌, inl, inr}
+use Rattle.std.proofs.Common.{◌≡◌, ◌==◌, ◌&&◌, ℕ, zero, suc, Bool, true, false, IsTrue, List, [], ◌∷◌, drop, length, None, Some, option_and_then, unwrap_or, if◌then◌else◌, cond, refl, sym, ap, ◌∙◌, inl, inr}
 use Rattle.std.specs.List.{list_all}
 use Rattle.std.specs.Option.{option_or}
 use Rattle.std.specs.FinMap.Entries.{find, put, find-put}

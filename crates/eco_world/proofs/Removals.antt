@@ -25,7 +25,7 @@ use Rattle.eco_query.specs.Queries.{exactly}
 use Rattle.eco_store.specs.declared.type_change.TypeChange.{TypeChange}
 use Rattle.eco_store.specs.Retyping.{after_change, after_changes, changed_record, IsOneWay, IsTypeWith}
 use Rattle.eco_store.specs.Store.{record_ids, with_type}
-use Rattle.eco_store.specs.TypeMap.{same_ids}
+use Rattle.eco_archetypes.specs.TypeMap.{same_ids}
 use Rattle.eco_tables.specs.Column.{retyped}
 use Rattle.eco_ids.proofs.Exact.{id_eq_sym}
 use Rattle.eco_world.specs.Removals.{TakesOut, TakesOutOfAll, type_of}

@@ -12,8 +12,7 @@ use Rattle.eco_ids.specs.Matching.{pattern_matches}
 use Rattle.eco_ids.specs.Order.{entity_cmp, has_item}
 use Rattle.eco_tables.specs.Table.{TableState, Row, HasIds, entities_of}
 use Rattle.eco_tables.specs.Tables.{no_row, no_table, slot_of, table_in}
-use Rattle.eco_store.specs.Archetypes.{is_found, type_at}
-use Rattle.eco_store.specs.Seats.{row_at}
+use Rattle.eco_archetypes.specs.Archetypes.{is_found, type_at, row_at}
 use Rattle.eco_store.specs.Store.{IsShown, Stands}
 use Rattle.eco_ids.proofs.Ascending.{both, first, second}
 use Rattle.eco_ids.proofs.Facts.{or_parts, or_right}

@@ -1,7 +1,7 @@
 //! The tables once more, where no move is to come.
 ghost use Rattle.std.specs.Prelude.{◌≡◌, [], IfOk};
-ghost use Rattle.eco_store.specs.Seats.{SameRows};
-ghost use Rattle.eco_store.specs.Widths.{KeepsWidths};
+ghost use Rattle.eco_archetypes.specs.Archetypes.{SameRows};
+ghost use Rattle.eco_archetypes.specs.Widths.{KeepsWidths};
 
 use crate::layout::Layout;
 use std::alloc::AllocError;

@@ -4,11 +4,11 @@ ghost use Rattle.eco_tables.specs.Table.{HasIds};
 ghost use Rattle.eco_tables.specs.Tables.{table_in, row_in, Moves};
 ghost use Rattle.eco_store.specs.Layout.{rows_in, IsMoved, MovesRow};
 ghost use Rattle.eco_store.specs.Preparing.{is_next, moves_left};
-ghost use Rattle.eco_store.specs.Seats.{SameRows};
-ghost use Rattle.eco_store.specs.Widths.{KeepsWidths, StillCover};
+ghost use Rattle.eco_archetypes.specs.Archetypes.{SameRows};
+ghost use Rattle.eco_archetypes.specs.Widths.{KeepsWidths, StillCover};
 
-use crate::archetypes::Archetypes;
 use crate::layout::Layout;
+use eco_archetypes::Archetypes;
 use eco_entities::{EntityIndex, Place};
 use eco_ids::{Entity, TypeList};
 use std::alloc::AllocError;

@@ -1,8 +1,8 @@
 //! Moves to come get their tables and their room, or are forgotten.
 ghost use Rattle.std.specs.Prelude.{◌≡◌, ◌∷◌, [], not, IsTrue, IsOk, OnOk, OnErr};
 ghost use Rattle.eco_store.specs.Preparing.{has_move, moves_beside, AreOfDifferent};
-ghost use Rattle.eco_store.specs.Seats.{SameRows};
-ghost use Rattle.eco_store.specs.Widths.{KeepsWidths, StillCover};
+ghost use Rattle.eco_archetypes.specs.Archetypes.{SameRows};
+ghost use Rattle.eco_archetypes.specs.Widths.{KeepsWidths, StillCover};
 
 use crate::layout::Layout;
 use crate::moving::Move;

@@ -3,7 +3,7 @@ ghost use Rattle.std.specs.Prelude.{◌≡◌, [], OnOk, OnErr};
 ghost use Rattle.eco_store.specs.Retyping.{after_changes, IsOneWay};
 ghost use Rattle.eco_store.specs.Store.{IsStore, read};
 ghost use Rattle.eco_entities.specs.Needs.{need};
-ghost use Rattle.eco_store.specs.Widths.{Covers};
+ghost use Rattle.eco_archetypes.specs.Widths.{Covers};
 
 use crate::layout::Layout;
 use crate::transfer::move_all;

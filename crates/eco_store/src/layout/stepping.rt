@@ -1,8 +1,8 @@
 //! A row goes to the table of the type that has an id more, or less.
 ghost use Rattle.std.specs.Prelude.{◌≡◌, ◌<◌, [], length, OnErr, IfOk};
 ghost use Rattle.eco_store.specs.Layout.{rows_in, StepsRow};
-ghost use Rattle.eco_store.specs.Seats.{SameRows};
-ghost use Rattle.eco_store.specs.Widths.{StillCover};
+ghost use Rattle.eco_archetypes.specs.Archetypes.{SameRows};
+ghost use Rattle.eco_archetypes.specs.Widths.{StillCover};
 
 use crate::layout::Layout;
 use crate::layout::moves::{Moved, shift};

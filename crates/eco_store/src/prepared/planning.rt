@@ -1,18 +1,17 @@
 //! The tables and the room of moves to come.
 ghost use Rattle.std.specs.Prelude.{◌≡◌, ◌∷◌, ℕ, Some, nat_eq, not, IsTrue, IfOk, OnOk};
 ghost use Rattle.std.specs.List.{list_any};
-ghost use Rattle.eco_store.specs.Archetypes.{type_at, KeepsTypes, RowlessIn};
+ghost use Rattle.eco_archetypes.specs.Archetypes.{type_at, KeepsTypes, RowlessIn, SameRows};
 ghost use Rattle.eco_store.specs.Layout.{IsLaid};
 ghost use Rattle.eco_store.specs.Preparing.{nothing_prepared, staying, moves_of, has_move, IsReady};
-ghost use Rattle.eco_store.specs.Seats.{SameRows};
 ghost use Rattle.eco_store.specs.Transfers.{AreNamed, IsPlan, HasRoom};
-ghost use Rattle.eco_store.specs.Widths.{KeepsWidths, StillCover};
+ghost use Rattle.eco_archetypes.specs.Widths.{KeepsWidths, StillCover};
 
-use crate::archetypes::Archetypes;
 use crate::moving::Move;
 use crate::prepared::Prepared;
-use crate::transfer::Transfer;
+use crate::transfer::{Transfer, take_room};
 use crate::type_change::TypeChange;
+use eco_archetypes::Archetypes;
 use eco_entities::EntityIndex;
 use eco_ids::TypeList;
 use std::alloc::AllocError;
@@ -128,7 +127,7 @@ impl Prepared {
         ensures widths { StillCover entities.now archetypes.old archetypes.new }
     {
         let transfers = self.find_tables(entities, archetypes, changes)?;
-        archetypes.take_room(&transfers)?;
+        take_room(archetypes, &transfers)?;
         Ok(transfers)
     }
 

@@ -4,14 +4,13 @@ ghost use Rattle.std.specs.List.{All, AllPairs, Contains, list_any, IsDistinct};
 ghost use Rattle.eco_ids.specs.Indices.{living};
 ghost use Rattle.eco_ids.specs.declared.id.Id.{Id as Ids};
 ghost use Rattle.eco_tables.specs.Tables.{slot_of, table_in};
-ghost use Rattle.eco_store.specs.Archetypes.{type_at, is_found, is_found_by};
+ghost use Rattle.eco_archetypes.specs.Archetypes.{type_at, is_found, is_found_by};
 ghost use Rattle.eco_store.specs.Holders.{passes, has_match, entities_whose, entities_with, is_holder, holders};
 ghost use Rattle.eco_store.specs.Retyping.{IsTypeBy, IsTypeWith};
 ghost use Rattle.eco_store.specs.Store.{IsShown};
 
-use crate::found::{Found, entities_in};
 use crate::store::Store;
-use crate::type_test::{Naming, TypeTest};
+use eco_archetypes::{Found, Naming, TypeTest, entities_in};
 use eco_ids::{Entity, Pattern, TypeList};
 use eco_tables::Tables;
 use std::alloc::{AllocError, Global};

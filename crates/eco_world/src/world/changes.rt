@@ -13,12 +13,12 @@ ghost use Rattle.eco_ids.specs.Outcome.{Meets};
 ghost use Rattle.eco_ids.specs.Step.{Adds, may_add, Clears, may_clear, Extends, Removes, may_remove, Renames, may_rename, Sets, may_set, changed, unchanged, with_value};
 ghost use Rattle.eco_ids.specs.World.{has, names_living, is_alive, record_of};
 ghost use Rattle.eco_world.specs.Actor.{IsUnfit, MaySet, MayNotSet};
-ghost use Rattle.eco_store.specs.Store.{record_ids, with_toggled, with_type};
+ghost use Rattle.eco_store.specs.Store.{record_ids, with_exchanged, with_toggled, with_type};
 
 use crate::world::World;
 use eco_ids::entity::{BUILTIN_COUNT, ON_DELETE, PANIC};
 use eco_ids::{Entity, Id, Refusal, TypeList, Value};
-use eco_traits::{Target, target_type};
+use eco_traits::{Prospect, Target, foresee, open_target};
 use std::alloc::{AllocError, Global};
 
 // Whether the fields past the first `arity` are 0.
@@ -94,7 +94,7 @@ impl World {
         ensures { Meets (Adds self.old entity id) (may_add self.old entity id) self.old result self.new }
     {
         self.check_actor(entity)?;
-        self.extend(entity, id)
+        self.gain(entity, id)
     }
 
     /// The entity has this value at the id from now on. An id that isn't there is added first, as by
@@ -113,7 +113,7 @@ impl World {
         if self.write(entity, id, value) {
             return Ok(());
         }
-        self.extend(entity, id)?;
+        self.gain(entity, id)?;
         self.write(entity, id, value);
         Ok(())
     }
@@ -191,8 +191,9 @@ impl World {
     }
 
     // The entity has an id from now on, with its closure, unless something stands against that. An `Err` leaves
-    // everything.
-    fn extend(&mut self, entity: Entity, id: Id) -> Result<(), Refusal>
+    // everything. Most adds are done after a look at two types.
+    #[inline(always)]
+    fn gain(&mut self, entity: Entity, id: Id) -> Result<(), Refusal>
         requires alive { is_alive self.old entity ≡ true }
         requires ordinary { is_builtin self.old entity ≡ false }
         ensures { Meets (Adds self.old entity id) (may_add self.old entity id) self.old result self.new }
@@ -200,9 +201,30 @@ impl World {
         eco_ids::laws::steps_keep_lawful();
         eco_ids::laws::add_leaves_exactly();
         self.is_lawful();
-        match target_type(self.alloc, self, entity, id)? {
+        match foresee(self, entity, id) {
+            Prospect::Dead => Err(Refusal::DeadId),
+            Prospect::There => Ok(()),
+            Prospect::Alone => Ok(self.step(entity, id)?),
+            Prospect::Open => self.extend(entity, id),
+        }
+    }
+
+    // What `gain` does where a look doesn't tell, apart, so that an add which it tells needs no room for what this one keeps.
+    #[inline(never)]
+    fn extend(&mut self, entity: Entity, id: Id) -> Result<(), Refusal>
+        requires alive { is_alive self.old entity ≡ true }
+        requires ordinary { is_builtin self.old entity ≡ false }
+        requires living { names_living self.old id ≡ true }
+        requires absent { has self.old entity id ≡ false }
+        ensures { Meets (Adds self.old entity id) (may_add self.old entity id) self.old result self.new }
+    {
+        eco_ids::laws::steps_keep_lawful();
+        eco_ids::laws::add_leaves_exactly();
+        self.is_lawful();
+        match open_target(self.alloc, self, entity, id)? {
             Target::Own => Ok(()),
             Target::With => Ok(self.step(entity, id)?),
+            Target::Instead(old) => Ok(self.exchange(entity, old, id)?),
             Target::Other(ids) => Ok(self.retype(entity, &ids)?),
         }
     }
@@ -229,6 +251,18 @@ impl World {
         ensures err { OnErr result (self.new ≡ self.old) }
     {
         self.store.step(entity, id)
+    }
+
+    // The entity has one id in the place of another, which it has. An `Err` leaves everything.
+    fn exchange(&mut self, entity: Entity, old: Id, new: Id) -> Result<(), AllocError>
+        requires alive { is_alive self.old entity ≡ true }
+        requires there { has self.old entity old ≡ true }
+        requires absent { has self.old entity new ≡ false }
+        requires lawful { IsLawful (changed self.old entity (with_exchanged old new)) }
+        ensures ok { OnOk result (self.new ≡ changed self.old entity (with_exchanged old new)) }
+        ensures err { OnErr result (self.new ≡ self.old) }
+    {
+        self.store.exchange(entity, old, new)
     }
 
     // The entity has these ids: those that were there keep their values, and new ones hold zeros. An `Err` leaves

@@ -1,10 +1,10 @@
 use Rattle.std.proofs.Common.{◌≡◌, ℕ, List, take, drop, map}
 use Rattle.eco_entities.specs.Needs.{need}
-use Rattle.eco_store.specs.Archetypes.{RowlessIn}
+use Rattle.eco_archetypes.specs.Archetypes.{RowlessIn, SameTypes}
 use Rattle.eco_store.specs.Retyping.{after_changes}
 use Rattle.eco_store.specs.Store.{IsStore, read}
-use Rattle.eco_store.specs.Transfers.{change_of, HasRoom, SameTypes, AreNamed}
-use Rattle.eco_store.specs.Widths.{Covers}
+use Rattle.eco_store.specs.Transfers.{change_of, HasRoom, AreNamed}
+use Rattle.eco_archetypes.specs.Widths.{Covers}
 use Rattle.eco_store.proofs.transfer.move_all.Given as goal
 
 abbrev pub invariant-loop-transfer : goal.invariant-loop-transfer

@@ -2,7 +2,7 @@ use Rattle.std.proofs.Common.{not, ◌&&◌, find, sym, ap, ◌∙◌}
 use Rattle.std.specs.List.{list_any}
 use Rattle.eco_ids.specs.Order.{id_eq}
 use Rattle.eco_ids.specs.Step.{is_pair_of}
-use Rattle.eco_traits.proofs.Replaced.{all_stay, some_goes, none_goes, one_goes}
+use Rattle.eco_traits.proofs.Replaced.{all_stay, is_among, some_goes, none_goes, one_goes}
 use Rattle.eco_traits.proofs.target.replaced_by.Goals as goal
 
 pub returns-then-not-has-clause-left : goal.returns-then-not-has-clause-left
@@ -21,3 +21,8 @@ returns-clause-left c =
     some_goes is_one _ c.args.own.now _ (sym c.has.ensures.is ∙ c.if-not-has.false)
     (one_goes is_one c.args.own.now c.in-Some.first (ap (find is_one) ids ∙ sym c.in-Some.ensures)
     (ap (list_any (λ id. is_one id && not (id_eq id c.in-Some.first))) ids ∙ sym c.has_other_pair_of.ensures ∙ c.if-has_other_pair_of.false))
+
+pub returns-clause-among : goal.returns-clause-among
+returns-clause-among c =
+    let is_one = is_pair_of c.args.relationship in
+    is_among is_one c.args.own.now c.in-Some.first (ap (find is_one) (sym c.as_slice-ids.ensures.ids) ∙ sym c.in-Some.ensures)

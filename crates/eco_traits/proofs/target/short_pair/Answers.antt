@@ -3,8 +3,8 @@ use Rattle.eco_traits.proofs.Members.{same_truth}
 use Rattle.eco_traits.proofs.Replaced.{replaces}
 use Rattle.eco_traits.proofs.target.short_pair.Goals as goal
 
-pub returns : goal.returns
-returns g c =
+pub returns-clause-replaces : goal.returns-clause-replaces
+returns-clause-replaces g c =
     replaces (g.H.Holdings.world c.args.holdings.now) c.args.relationship c.args.target c.args.traits.now c.requires.traits
     c.args.entity c.args.own.now c.in_ok-replaced.replaced c.requires.lives c.requires.absent c.requires.own c.replaced_by.ensures.ascending
     (sym c.is_wrong_policy.ensures ∙ c.if-is_wrong_policy.false)

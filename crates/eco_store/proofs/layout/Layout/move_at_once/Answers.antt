@@ -6,7 +6,8 @@ use Rattle.eco_store.specs.Layout.{LayoutState, rows_in, MovesRow}
 use Rattle.eco_store.specs.Preparing.{staying}
 use Rattle.eco_ids.proofs.SameIds.{same_ids-Decides}
 use Rattle.eco_store.proofs.LaidRows.{rows_alike, idle_laid, idle_leaves, idle_moves, still_laid}
-use Rattle.eco_store.proofs.StoreChanges.{other_slot, typed_table}
+use Rattle.eco_store.proofs.StoreChanges.{other_slot}
+use Rattle.eco_archetypes.proofs.ArchetypeLemmas.{typed_table}
 use Rattle.eco_store.proofs.layout.Layout.move_at_once.Goals as goal
 
 pub returns-then-eq-clause-ok : goal.returns-then-eq-clause-ok

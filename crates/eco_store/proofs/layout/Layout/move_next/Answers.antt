@@ -1,9 +1,9 @@
 use Rattle.std.proofs.Common.{◌≡◌, ◌∷◌, ◌<◌, length, Some, IsTrue, refl, sym, ap, subst, ◌∙◌}
 use Rattle.eco_tables.specs.Tables.{table_in, no_row, AllHaveIds}
 use Rattle.eco_store.specs.Layout.{rows_in, IsMoved, MovesRow}
-use Rattle.eco_store.specs.Archetypes.{RowlessIn}
+use Rattle.eco_archetypes.specs.Archetypes.{RowlessIn}
 use Rattle.eco_store.specs.Preparing.{staying, moves_of, is_next}
-use Rattle.eco_store.proofs.ArchetypeLemmas.{there_by_row}
+use Rattle.eco_archetypes.proofs.ArchetypeLemmas.{there_by_row}
 use Rattle.eco_store.proofs.LaidRows.{rows_alike}
 use Rattle.eco_store.proofs.Rowless.{rowless_beside, rowless_moved}
 use Rattle.eco_store.proofs.NextMoves.{next_type, next_left, rest_ready, rest_left, rest_ready_after}

@@ -1,7 +1,7 @@
 use Rattle.std.proofs.Common.{◌≡◌, ◌-◌, drop, length}
 use Rattle.eco_entities.specs.Needs.{need}
-use Rattle.eco_store.specs.Seats.{SameRows}
-use Rattle.eco_store.specs.Widths.{Covers}
+use Rattle.eco_archetypes.specs.Archetypes.{SameRows}
+use Rattle.eco_archetypes.specs.Widths.{Covers}
 use Rattle.eco_store.proofs.layout.Layout.prepare.Given as goal
 
 abbrev pub invariant-loop-done : goal.invariant-loop-done

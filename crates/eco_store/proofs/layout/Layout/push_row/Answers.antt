@@ -4,7 +4,7 @@ use Rattle.eco_store.specs.Layout.{LayoutState, rows_in, PutsRow}
 use Rattle.eco_store.specs.Preparing.{staying}
 use Rattle.eco_store.proofs.LaidRows.{rows_alike, row_puts, idle_laid, idle_moves}
 use Rattle.eco_store.proofs.Rowless.{rowless_filled}
-use Rattle.eco_store.proofs.StoreChanges.{typed_table}
+use Rattle.eco_archetypes.proofs.ArchetypeLemmas.{typed_table}
 use Rattle.eco_store.proofs.layout.Layout.push_row.Goals as goal
 
 pub invariant_of-self : goal.invariant_of-self

@@ -5,8 +5,8 @@ use Rattle.eco_ids.specs.Order.{id_cmp}
 use Rattle.eco_tables.specs.Tables.{no_row, no_table}
 use Rattle.eco_store.specs.Layout.{LayoutState, rows_in, WritesRow}
 use Rattle.eco_store.specs.Preparing.{staying}
-use Rattle.eco_store.specs.Widths.{Covers}
-use Rattle.eco_store.proofs.ArchetypeLemmas.{there_by_row}
+use Rattle.eco_archetypes.specs.Widths.{Covers}
+use Rattle.eco_archetypes.proofs.ArchetypeLemmas.{there_by_row}
 use Rattle.eco_store.proofs.LaidRows.{rows_alike, sets_rows, idle_laid, idle_moves}
 use Rattle.eco_store.proofs.Rowless.{rowless_rewritten}
 use Rattle.eco_store.proofs.layout.Layout.set_value.Goals as goal

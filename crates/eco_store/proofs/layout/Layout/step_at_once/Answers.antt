@@ -1,15 +1,13 @@
 use Rattle.std.proofs.Common.{[], ◌<◌, ◌≡◌, IsSome, length, unwrap_or, sym, ap, subst, ◌∙◌}
 use Rattle.eco_tables.specs.Tables.{no_row, no_table, table_in, AllHaveIds}
-use Rattle.eco_store.specs.Archetypes.{MayTakeType, SameSlots}
-use Rattle.eco_store.specs.Edges.{toggled}
+use Rattle.eco_archetypes.specs.Archetypes.{MayTakeType, SameSlots, SameRows}
+use Rattle.eco_archetypes.specs.Edges.{toggled}
 use Rattle.eco_store.specs.Layout.{LayoutState, rows_in, ids_at, MovesRow, RetypesRow}
 use Rattle.eco_store.specs.Preparing.{staying}
-use Rattle.eco_store.specs.Seats.{SameRows}
-use Rattle.eco_store.proofs.ArchetypeLemmas.{rows_from_slots, then_rows, there_by_row}
+use Rattle.eco_archetypes.proofs.ArchetypeLemmas.{rows_from_slots, then_rows, there_by_row, typed_table}
 use Rattle.eco_ids.proofs.Results.{err_says}
 use Rattle.eco_store.proofs.LaidRows.{rows_alike, idle_laid, idle_leaves, idle_moves, still_laid}
-use Rattle.eco_store.proofs.StoreChanges.{typed_table}
-use Rattle.eco_store.proofs.Turnings.{rowless_slots, takes_row, takes_rowless}
+use Rattle.eco_store.proofs.Taking.{rowless_slots, takes_row, takes_rowless}
 use Rattle.eco_store.proofs.layout.Layout.step_at_once.Goals as goal
 
 pub step_alone-requires : goal.step_alone-requires

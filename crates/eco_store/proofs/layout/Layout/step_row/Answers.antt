@@ -1,7 +1,8 @@
 use Rattle.std.proofs.Common.{◌<◌, length, sym, subst}
 use Rattle.eco_store.specs.Layout.{StepsRow}
 use Rattle.eco_store.proofs.LaidRows.{rows_alike}
-use Rattle.eco_store.proofs.Turnings.{if_ok, steps_from}
+use Rattle.eco_archetypes.proofs.Turnings.{if_ok}
+use Rattle.eco_store.proofs.Taking.{steps_from}
 use Rattle.eco_store.proofs.layout.Layout.step_row.Goals as goal
 
 pub step_at_once-requires-clause-row : goal.step_at_once-requires-clause-row

@@ -1,7 +1,7 @@
 use Rattle.std.proofs.Common.{◌<◌, length, sym, ap, subst, ◌∙◌}
 use Rattle.eco_store.specs.Layout.{LayoutState, rows_in, TakesRow}
 use Rattle.eco_store.specs.Preparing.{staying}
-use Rattle.eco_store.proofs.ArchetypeLemmas.{there_by_row}
+use Rattle.eco_archetypes.proofs.ArchetypeLemmas.{there_by_row}
 use Rattle.eco_store.proofs.LaidRows.{rows_alike, row_takes, still_laid}
 use Rattle.eco_store.proofs.Readiness.{ready_spared, moves_spared, spares_without}
 use Rattle.eco_store.proofs.Rowless.{rowless_emptied}

@@ -1,10 +1,10 @@
 use Rattle.std.proofs.Common.{◌++◌, ◌∷◌, [], sym, ap, subst, ◌∙◌}
-use Rattle.eco_store.specs.Archetypes.{RowlessIn}
+use Rattle.eco_archetypes.specs.Archetypes.{RowlessIn}
 use Rattle.eco_store.specs.Preparing.{staying, moves_of}
-use Rattle.eco_store.proofs.Copying.{copied_kept, copied_rows, copied_rowless}
+use Rattle.eco_archetypes.proofs.Copying.{copied_kept, copied_rows, copied_rowless}
 use Rattle.eco_store.proofs.LaidRows.{laid_nothing}
 use Rattle.eco_store.proofs.Rowless.{rowless_last}
-use Rattle.eco_store.proofs.Widths.{kept_widths}
+use Rattle.eco_archetypes.proofs.Widths.{kept_widths}
 use Rattle.eco_store.proofs.layout.Layout.try_copy.Goals as goal
 
 pub invariant_of-result : goal.invariant_of-result

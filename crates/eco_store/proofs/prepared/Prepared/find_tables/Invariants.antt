@@ -1,10 +1,9 @@
 use Rattle.std.proofs.Common.{take}
-use Rattle.eco_store.specs.Archetypes.{RowlessIn}
+use Rattle.eco_archetypes.specs.Archetypes.{RowlessIn, SameRows}
 use Rattle.eco_store.specs.Preparing.{staying, IsReady}
 use Rattle.eco_entities.specs.Needs.{need}
-use Rattle.eco_store.specs.Seats.{SameRows}
 use Rattle.eco_store.specs.Transfers.{AreNamed, IsPlan}
-use Rattle.eco_store.specs.Widths.{Covers}
+use Rattle.eco_archetypes.specs.Widths.{Covers}
 use Rattle.eco_store.proofs.prepared.Prepared.find_tables.Given as goal
 
 abbrev pub invariant-loop-change : goal.invariant-loop-change

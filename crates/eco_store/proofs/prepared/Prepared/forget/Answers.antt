@@ -1,5 +1,5 @@
 use Rattle.std.proofs.Common.{◌++◌, ◌∷◌, [], sym, ap, subst}
-use Rattle.eco_store.specs.Archetypes.{RowlessIn}
+use Rattle.eco_archetypes.specs.Archetypes.{RowlessIn}
 use Rattle.eco_store.proofs.LaidRows.{laid_nothing}
 use Rattle.eco_store.proofs.Rowless.{rowless_last}
 use Rattle.eco_store.proofs.prepared.Prepared.forget.Goals as goal

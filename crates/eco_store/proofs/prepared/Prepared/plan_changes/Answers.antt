@@ -9,7 +9,7 @@ returns-in_err-take_room-clause-tidy c = c.take_room.ensures.rowless (staying c.
 
 pub returns-clause-plan : goal.returns-clause-plan
 returns-clause-plan c =
-    plan_kept c.find_tables.new.archetypes c.take_room.new.self _ _ (λ n ids was. c.take_room.ensures.types n ∙ was) c.in_ok-transfers.ensures.plan
+    plan_kept c.find_tables.new.archetypes c.take_room.new.archetypes _ _ (λ n ids was. c.take_room.ensures.types n ∙ was) c.in_ok-transfers.ensures.plan
 
 pub returns-clause-named : goal.returns-clause-named
 returns-clause-named c =

@@ -3,7 +3,7 @@ use Rattle.std.specs.List.{list_any}
 use Rattle.std.proofs.lemmas.Result.{on_ok_weaker}
 use Rattle.eco_ids.specs.Order.{entity_eq}
 use Rattle.eco_store.specs.Preparing.{IsReady, moves_of}
-use Rattle.eco_store.proofs.Pouring.{there_as_typed}
+use Rattle.eco_archetypes.proofs.ArchetypeLemmas.{there_as_typed}
 use Rattle.eco_store.proofs.Readiness.{ready_more, moves_more, awaits_move}
 use Rattle.eco_store.proofs.prepared.Prepared.plan_move.Goals as goal
 

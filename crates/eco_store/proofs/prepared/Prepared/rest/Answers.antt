@@ -2,7 +2,7 @@ use Rattle.std.proofs.Common.{◌≡◌, ◌∷◌, false, IsTrue, nat_eq, sym, 
 use Rattle.std.specs.List.{list_any}
 use Rattle.eco_tables.specs.Tables.{slot_of, rowless_type}
 use Rattle.eco_ids.proofs.Facts.{or_right}
-use Rattle.eco_store.specs.Archetypes.{RowlessIn}
+use Rattle.eco_archetypes.specs.Archetypes.{RowlessIn}
 use Rattle.eco_store.specs.Preparing.{PreparedState}
 use Rattle.eco_store.proofs.Readiness.{ready_idle, ready_spared, moves_spared, spares_dropped}
 use Rattle.eco_store.proofs.Rowless.{rowless_turned, rowless_twice}

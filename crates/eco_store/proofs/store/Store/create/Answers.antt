@@ -5,7 +5,7 @@ use Rattle.eco_ids.specs.declared.refusal.Refusal.TheVariants.{NoMoreIds}
 use Rattle.eco_ids.specs.Births.{Makes}
 use Rattle.eco_entities.specs.Registration.{name_of, newcomer}
 use Rattle.eco_store.specs.Layout.{rows_in, PutsRow}
-use Rattle.eco_store.specs.Seats.{row_at}
+use Rattle.eco_archetypes.specs.Archetypes.{row_at}
 use Rattle.eco_store.specs.Store.{StoreState, record_for, record_name, newborn, read}
 use Rattle.eco_store.proofs.RowCounts.{end_fits}
 use Rattle.eco_store.proofs.BirthChanges as births

@@ -1,6 +1,6 @@
 use Rattle.std.proofs.Common.{refl, sym, ◌∙◌}
 use Rattle.eco_entities.specs.Registration.{name_of}
-use Rattle.eco_store.specs.Seats.{row_at}
+use Rattle.eco_archetypes.specs.Archetypes.{row_at}
 use Rattle.eco_store.specs.Store.{record_for, record_name}
 use Rattle.eco_store.proofs.Newborn.{named_entity-map}
 use Rattle.eco_store.proofs.store.Store.lookup.Goals as goal

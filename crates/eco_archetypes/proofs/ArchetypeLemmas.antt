@@ -1,0 +1,249 @@
+-- Tables are found exactly after a table was made, dropped or its rows changed.
+use Rattle.std.proofs.Common.{◌≡◌, ◌≢◌, ℕ, ◌<◌, Bool, true, false, cond, ◌&&◌, List, [], ◌∷◌, length, slice_get, Option, Some, None, option_map, unwrap_or}
+use Rattle.std.proofs.Common.{IsSome, nat_eq, refl, sym, ap, ◌∙◌, arith, inl, inr, is_some}
+use Rattle.std.specs.HashMap.{HashMap, get}
+use Rattle.std.proofs.lemmas.Bool.{cases_eq}
+use Rattle.std.proofs.lemmas.Bool.Decides.{Decides-eqb}
+use Rattle.eco_ids.specs.declared.pattern.Pattern.{Pattern}
+use Rattle.eco_ids.specs.declared.id.Id.{Id}
+use Rattle.eco_tables.specs.Table.{TableState, Row}
+use Rattle.eco_tables.specs.Tables.{slot_of, table_in, no_table, Sets, Moves, MovesAll, rowless, rowless_type}
+use Rattle.eco_archetypes.specs.TypeMap.{IsTypeMap, same_ids}
+use Rattle.eco_archetypes.specs.IdIndex.{Lists, any_matches, Turns}
+use Rattle.eco_archetypes.specs.Archetypes.{type_at, type_matches, IsIdIndex, IsArchetypes, SameSlots, SameRows}
+use Rattle.eco_archetypes.specs.Widths.{AreAgreed}
+use Rattle.eco_archetypes.specs.Edges.{toggled, Cuts, Links, SameEdges}
+use Rattle.eco_archetypes.proofs.Graphs.{graph_made, graph_cut, graph_linked}
+use Rattle.eco_archetypes.proofs.TypeMaps.{type_map-insert, type_map-remove}
+use Rattle.eco_archetypes.proofs.Widths.{kept_agreed, sets_kept}
+
+-- a slot whose table has a row, or room, has a table
+pub there_by_row : (s : List (Option TableState)) (n row : ℕ) → row < length (table_in s n).rows → IsSome (slot_of s n)
+there_by_row s n row = by (slot_of s n)
+  where
+    by : (o : Option TableState) → row < length (unwrap_or o no_table).rows → IsSome o
+    by None h = absurd (omega arith)
+    by (Some t) h = refl
+
+pub there_by_room : (s : List (Option TableState)) (n : ℕ) → 0 < (table_in s n).room → IsSome (slot_of s n)
+there_by_room s n = by (slot_of s n)
+  where
+    by : (o : Option TableState) → 0 < (unwrap_or o no_table).room → IsSome o
+    by None h = absurd (omega arith)
+    by (Some t) h = refl
+
+-- the type of a table that is there
+pub type_there : (s : List (Option TableState)) (n : ℕ) → IsSome (slot_of s n) → type_at s n ≡ Some (table_in s n).ids
+type_there s n = by (slot_of s n)
+  where
+    by : (o : Option TableState) → IsSome o → option_map (λ (t : TableState). t.ids) o ≡ Some (unwrap_or o no_table).ids
+    by None h = absurd (cc)
+    by (Some t) h = refl
+
+module _ (s s' : List (Option TableState)) where
+  -- where one table changes, and its type stays, no slot's type changes
+  pub sets_types : (n : ℕ) (t : TableState) → Sets s s' n (Some t) → IsSome (slot_of s n) → t.ids ≡ (table_in s n).ids
+      → (k : ℕ) → type_at s' k ≡ type_at s k
+  sets_types n t sets there same k =
+      elim (cases_eq k n) [
+        | inl here ↦
+            ap (type_at s') here ∙ ap (option_map (λ (x : TableState). x.ids)) sets.changed ∙ ap Some same ∙ sym (type_there s n there)
+            ∙ ap (type_at s) (sym here)
+        | inr other ↦ ap (option_map (λ (x : TableState). x.ids)) (sets.others k other)
+      ]
+
+  -- where two tables change, and their types stay, no slot's type changes
+  joined_types : (from to : ℕ) (t u : TableState) → slot_of s' from ≡ Some t → slot_of s' to ≡ Some u
+      → ((n : ℕ) → n ≢ from → n ≢ to → slot_of s' n ≡ slot_of s n) → type_at s from ≡ Some t.ids → type_at s to ≡ Some u.ids
+      → (k : ℕ) → type_at s' k ≡ type_at s k
+  joined_types from to t u source target others was_from was_to k =
+      elim (cases_eq k from) [
+        | inl here ↦ ap (type_at s') here ∙ ap (option_map (λ (x : TableState). x.ids)) source ∙ sym was_from ∙ ap (type_at s) (sym here)
+        | inr not_from ↦ elim (cases_eq k to) [
+          | inl here ↦ ap (type_at s') here ∙ ap (option_map (λ (x : TableState). x.ids)) target ∙ sym was_to ∙ ap (type_at s) (sym here)
+          | inr not_to ↦ ap (option_map (λ (x : TableState). x.ids)) (others k not_from not_to)
+        ]
+      ]
+
+  pub moves_types : (from row to : ℕ) → Moves s s' from row to → IsSome (slot_of s from) → IsSome (slot_of s to)
+      → (k : ℕ) → type_at s' k ≡ type_at s k
+  moves_types from row to moves there_from there_to =
+      joined_types from to _ _ moves.source moves.target moves.others (type_there s from there_from) (type_there s to there_to)
+
+  pub moves_all_types : (from to : ℕ) → MovesAll s s' from to → IsSome (slot_of s from) → IsSome (slot_of s to)
+      → (k : ℕ) → type_at s' k ≡ type_at s k
+  moves_all_types from to moves there_from there_to =
+      joined_types from to _ _ moves.source moves.target moves.others (type_there s from there_from) (type_there s to there_to)
+
+-- a type comes to a slot that had none, and the index lists the slot under the patterns of its ids
+pub index_made : (types types' : ℕ → Option (List Id)) (l l' : Lists) (n : ℕ) (ids : List Id) → ((k : ℕ) → k ≢ n → types' k ≡ types k)
+    → IsIdIndex types l → types' n ≡ Some ids → types n ≡ None → Turns true (any_matches ids) l l' n → IsIdIndex types' l'
+index_made types types' l l' n ids others matches now vacant turns f k = turns f k ∙ by (nat_eq n k) refl
+  where
+    either : (c x : Bool) → x ≡ false → cond (c && true) true x ≡ c
+    either true x h = refl
+    either false x h = h
+
+    neither : (c x : Bool) → cond (c && false) true x ≡ x
+    neither true x = refl
+    neither false x = refl
+
+    by : (b : Bool) → nat_eq n k ≡ b → cond (any_matches ids f && b) true (l f k) ≡ type_matches (types' k) f
+    by true e =
+        let here : n ≡ k = (Decides-eqb n k).0 e in
+        let was : l f k ≡ false = matches f k ∙ ap (λ o. type_matches o f) (sym (ap types here) ∙ vacant) in
+        either (any_matches ids f) (l f k) was ∙ sym (ap (λ o. type_matches o f) (sym (ap types' here) ∙ now))
+    by false e =
+        let apart : k ≢ n = λ h. let same : nat_eq n k ≡ true = (Decides-eqb n k).1 (sym h) in cc in
+        neither (any_matches ids f) (l f k) ∙ matches f k ∙ ap (λ o. type_matches o f) (sym (others k apart))
+
+module _ {S E : Type 0} (s s' : List (Option TableState)) (m m' : HashMap (List Id) ℕ S) (l l' : Lists) (g g' : List (HashMap Id ℕ E)) where
+  -- the same types are found by the same maps
+  pub found_same : IsArchetypes s m l g → ((k : ℕ) → type_at s' k ≡ type_at s k) → AreAgreed s' → IsArchetypes s' m l g
+  found_same found same agreed = record {
+    types = record {
+      found = λ t n e. same n ∙ found.types.found t n e;
+      there = λ t n e. found.types.there t n (sym (same n) ∙ e);
+    };
+    matches = λ f n. found.matches f n ∙ ap (λ o. type_matches o f) (sym (same n));
+    graph = λ n k i e. let was = found.graph n k i e in (was.0, same n ∙ was.1, same k ∙ was.2);
+    agreed = agreed;
+  }
+
+  -- two tables are joined by an id, of whose types one has it alone besides what the other has
+  pub found_linked : (a b : ℕ) (i : Id) (ids : List Id) → IsArchetypes s m l g → Links g g' a i b → type_at s a ≡ Some ids → type_at s b ≡ Some (toggled ids i)
+      → toggled (toggled ids i) i ≡ ids
+      → IsArchetypes s m l g'
+  found_linked a b i ids found links from to twice = record {
+    types = found.types;
+    matches = found.matches;
+    graph = graph_linked (type_at s) g g' a b i ids found.graph links from to twice;
+    agreed = found.agreed;
+  }
+
+  -- the same edges lead on
+  pub found_unlinked : IsArchetypes s m l g → SameEdges g g' → IsArchetypes s m l g'
+  found_unlinked found same = record {
+    types = found.types;
+    matches = found.matches;
+    graph = λ n k i e. found.graph n k i (sym (same n i) ∙ e);
+    agreed = found.agreed;
+  }
+
+  -- a new table is found
+  pub found_made : (n : ℕ) (t : TableState) → IsArchetypes s m l g → Sets s s' n (Some t) → slot_of s n ≡ None
+      → AreAgreed s' → ((k : ℕ) → type_at s k ≢ Some t.ids)
+      → ((q : List Id) → get same_ids m' q ≡ cond (same_ids t.ids q) (Some n) (get same_ids m q))
+      → Turns true (any_matches t.ids) l l' n
+      → IsArchetypes s' m' l' g
+  found_made n t found sets vacant agreed absent gets turns = record {
+    types =
+        type_map-insert (type_at s) (type_at s') m m' t.ids n (λ k other. ap (option_map (λ (x : TableState). x.ids)) (sets.others k other))
+        found.types (ap (option_map (λ (x : TableState). x.ids)) sets.changed) (ap (option_map (λ (x : TableState). x.ids)) vacant) absent gets;
+    matches =
+        index_made (type_at s) (type_at s') l l' n t.ids (λ k other. ap (option_map (λ (x : TableState). x.ids)) (sets.others k other))
+        found.matches (ap (option_map (λ (x : TableState). x.ids)) sets.changed) (ap (option_map (λ (x : TableState). x.ids)) vacant) turns;
+    graph = graph_made (type_at s) (type_at s') g n found.graph (ap (option_map (λ (x : TableState). x.ids)) vacant)
+        (λ k other. ap (option_map (λ (x : TableState). x.ids)) (sets.others k other));
+    agreed = agreed;
+  }
+
+  -- a table that was dropped is found no more
+  pub found_dropped : (n : ℕ) (ids : List Id) → IsArchetypes s m l g → Sets s s' n None → type_at s n ≡ Some ids
+      → ((q : List Id) → get same_ids m' q ≡ cond (same_ids ids q) None (get same_ids m q))
+      → Turns false (any_matches ids) l l' n
+      → Cuts g g' n
+      → IsArchetypes s' m' l' g'
+  found_dropped n ids found sets had gets turns cuts = record {
+    types =
+        type_map-remove (type_at s) (type_at s') m m' ids n (λ k other. ap (option_map (λ (x : TableState). x.ids)) (sets.others k other))
+        found.types (ap (option_map (λ (x : TableState). x.ids)) sets.changed) had gets;
+    matches = λ f k. turns f k ∙ by f k (nat_eq n k) refl;
+    graph = graph_cut (type_at s) (type_at s') g g' n found.graph cuts (λ k other. ap (option_map (λ (x : TableState). x.ids)) (sets.others k other));
+    agreed = kept_agreed s s' (sets_kept s s' n None sets (inr refl)) found.agreed;
+  }
+    where
+      by : (f : Pattern) (k : ℕ) (b : Bool) → nat_eq n k ≡ b → cond (any_matches ids f && b) false (l f k) ≡ type_matches (type_at s' k) f
+      by f k true e =
+          let here : n ≡ k = (Decides-eqb n k).0 e in
+          let was : l f k ≡ any_matches ids f = found.matches f k ∙ ap (λ j. type_matches (type_at s j) f) (sym here) ∙ ap (λ o. type_matches o f) had in
+          either (any_matches ids f) (l f k) was ∙ sym (ap (λ j. type_matches (type_at s' j) f) (sym here)
+          ∙ ap (λ o. type_matches (option_map (λ (x : TableState). x.ids) o) f) sets.changed)
+        where
+          either : (c x : Bool) → x ≡ c → cond (c && true) false x ≡ false
+          either true x h = refl
+          either false x h = h
+      by f k false e =
+          let apart : k ≢ n = λ h. let same : nat_eq n k ≡ true = (Decides-eqb n k).1 (sym h) in cc in
+          neither (any_matches ids f) (l f k) ∙ found.matches f k ∙ ap (λ o. type_matches (option_map (λ (x : TableState). x.ids) o) f)
+          (sym (sets.others k apart))
+        where
+          neither : (c x : Bool) → cond (c && false) false x ≡ x
+          neither true x = refl
+          neither false x = refl
+
+-- a table that was answered as without rows had that type
+pub rowless-type_at : (s : List (Option TableState)) (n : ℕ) (ids : List Id) → Some ids ≡ rowless_type (slot_of s n) → type_at s n ≡ Some ids
+rowless-type_at s n ids = by (slot_of s n)
+  where
+    of_rows : (t : TableState) (rows : List Row) → Some ids ≡ rowless t rows → ◌≡◌ {A = Option (List Id)} (Some t.ids) (Some ids)
+    of_rows t [] e = sym e
+    of_rows t (r ∷ rest) e = absurd (cc)
+
+    by : (o : Option TableState) → Some ids ≡ rowless_type o → option_map (λ (t : TableState). t.ids) o ≡ Some ids
+    by None e = absurd (cc)
+    by (Some t) e = of_rows t t.rows e
+
+-- the rows stay where one table changes, and its rows don't
+pub same_rows : (s s' : List (Option TableState)) (n : ℕ) (slot : Option TableState) → Sets s s' n slot
+    → (unwrap_or slot no_table).rows ≡ (table_in s n).rows → SameRows s s'
+same_rows s s' n slot sets same k row =
+    elim (cases_eq k n) [
+      | inl here ↦
+          ap (λ j. slice_get (table_in s' j).rows row) here ∙ ap (λ o. slice_get (unwrap_or o no_table).rows row) sets.changed
+          ∙ ap (λ rows. slice_get rows row) same
+          ∙ sym (ap (λ j. slice_get (table_in s j).rows row) here)
+      | inr other ↦ ap (λ o. slice_get (unwrap_or o no_table).rows row) (sets.others k other)
+    ]
+
+pub rows_from_slots : (s s' : List (Option TableState)) → SameSlots s s' → SameRows s s'
+rows_from_slots s s' same n row = ap (λ o. slice_get (unwrap_or o no_table).rows row) (same n)
+
+-- a table that was answered as without rows has none
+pub rowless-rows : (s : List (Option TableState)) (n : ℕ) (ids : List Id) → Some ids ≡ rowless_type (slot_of s n) → ◌≡◌ {A = List Row} [] (table_in s n).rows
+rowless-rows s n ids = by (slot_of s n)
+  where
+    of_rows : (t : TableState) (rows : List Row) → Some ids ≡ rowless t rows → [] ≡ rows
+    of_rows t [] e = refl
+    of_rows t (r ∷ rest) e = absurd (cc)
+
+    by : (o : Option TableState) → Some ids ≡ rowless_type o → [] ≡ (unwrap_or o no_table).rows
+    by None e = refl
+    by (Some t) e = of_rows t t.rows e
+
+pub then_rows : (s s' s2 : List (Option TableState)) → SameRows s s' → SameRows s' s2 → SameRows s s2
+then_rows s s' s2 a b n row = b n row ∙ a n row
+
+-- no two tables have the same type
+pub one_slot : {S : Type 0} (s : List (Option TableState)) (m : HashMap (List Id) ℕ S) → IsTypeMap (type_at s) m
+    → (n k : ℕ) (ids : List Id) → type_at s n ≡ Some ids → type_at s k ≡ Some ids → n ≡ k
+one_slot s m found n k ids a b = let both : ◌≡◌ {A = Option ℕ} (Some n) (Some k) = sym (found.there ids n a) ∙ found.there ids k b in cc
+
+-- the ids of the table in a slot of a type
+pub typed_table : (s : List (Option TableState)) (n : ℕ) (ids : List Id) → type_at s n ≡ Some ids → (table_in s n).ids ≡ ids
+typed_table s n ids = by (slot_of s n)
+  where
+    by : (o : Option TableState) → option_map (λ (t : TableState). t.ids) o ≡ Some ids → (unwrap_or o no_table).ids ≡ ids
+    by None h = absurd (cc)
+    by (Some t) h = cc
+
+-- a slot that has a type has a table
+pub there_by_type : (s : List (Option TableState)) (n : ℕ) → is_some (type_at s n) ≡ is_some (slot_of s n)
+there_by_type s n = by (slot_of s n)
+  where
+    by : (o : Option TableState) → is_some (option_map (λ (t : TableState). t.ids) o) ≡ is_some o
+    by None = refl
+    by (Some t) = refl
+
+pub there_as_typed : (s : List (Option TableState)) (n : ℕ) (ids : List Id) → type_at s n ≡ Some ids → IsSome (slot_of s n)
+there_as_typed s n ids typed = sym (there_by_type s n) ∙ ap is_some typed

@@ -1,0 +1,132 @@
+-- The tables up to a slot, and what they are found by.
+use Rattle.std.proofs.Common.{◌≡◌, ◌≢◌, ℕ, zero, suc, true, cond, ◌+◌, ◌<◌, ◌≤◌, List, [], ◌∷◌, take, slice_get, Option, Some, None, option_map, unwrap_or, is_some, refl, sym, ap, ◌∙◌, arith, inl, inr}
+use Rattle.std.specs.HashMap.{HashMap, get}
+use Rattle.std.proofs.lemmas.Bool.{cases_eq, cases_lt}
+use Rattle.eco_ids.specs.declared.id.Id.{Id}
+use Rattle.eco_tables.specs.Table.{TableState, Row}
+use Rattle.eco_tables.specs.Tables.{slot_of, no_table, with_room, without_room, rowless, rowless_type, Sets, AreCopies}
+use Rattle.eco_archetypes.specs.Archetypes.{type_at, type_matches, IsIdIndex, RowlessIn, SameRows}
+use Rattle.eco_archetypes.specs.IdIndex.{Lists, any_matches, Turns}
+use Rattle.eco_archetypes.specs.TypeMap.{same_ids, IsTypeMap}
+use Rattle.eco_archetypes.proofs.ArchetypeLemmas.{index_made}
+use Rattle.eco_archetypes.proofs.TypeMaps.{type_map-insert}
+use Rattle.eco_archetypes.proofs.Widths.{AreKept, kinds}
+
+abbrev Slots : Type 0
+Slots = List (Option TableState)
+
+pub taken_before : (s : Slots) (k n : ℕ) → n < k → slot_of (take k s) n ≡ slot_of s n
+taken_before s zero n before = absurd (omega arith)
+taken_before [] (suc k) n before = refl
+taken_before (x ∷ s) (suc k) zero before = refl
+taken_before (x ∷ s) (suc k) (suc n) before = taken_before s k n (omega arith)
+
+pub taken_past : (s : Slots) (k n : ℕ) → k ≤ n → slot_of (take k s) n ≡ None
+taken_past s zero n past = refl
+taken_past [] (suc k) n past = refl
+taken_past (x ∷ s) (suc k) zero past = absurd (omega arith)
+taken_past (x ∷ s) (suc k) (suc n) past = taken_past s k n (omega arith)
+
+-- one slot more
+pub taken_more : (s : Slots) (k : ℕ) (o : Option TableState) → slot_of s k ≡ o → Sets (take k s) (take (k + 1) s) k o
+taken_more s k o at = record {
+  changed = taken_before s (k + 1) k (omega arith) ∙ at;
+  others = λ n other. elim (cases_lt n k) [
+    | inl before ↦ taken_before s (k + 1) n (omega arith) ∙ sym (taken_before s k n before)
+    | inr past ↦ taken_past s (k + 1) n (above n other past) ∙ sym (taken_past s k n past)
+  ];
+}
+  where
+    above : (n : ℕ) → n ≢ k → k ≤ n → k + 1 ≤ n
+    above n other past = elim (cases_lt k n) [
+      | inl less ↦ omega (arith, less)
+      | inr most ↦ absurd (other (omega (arith, past, most)))
+    ]
+
+-- a slot that is one of those up to another
+pub taken_type : (s : Slots) (k n : ℕ) (ids : List Id) → type_at (take k s) n ≡ Some ids → type_at s n ≡ Some ids
+taken_type s k n ids typed = elim (cases_lt n k) [
+  | inl before ↦ sym (ap (option_map (λ (t : TableState). t.ids)) (taken_before s k n before)) ∙ typed
+  | inr past ↦
+      absurd (let bad : ◌≡◌ {A = Option (List Id)} None (Some ids) = sym (ap (option_map (λ (t : TableState). t.ids)) (taken_past s k n past)) ∙ typed in cc)
+]
+
+abbrev type_in : Option TableState → Option (List Id)
+type_in o = option_map (λ t. t.ids) o
+
+module _ {S : Type 0} (s : Slots) (k : ℕ) (m m' : HashMap (List Id) ℕ S) (l l' : Lists) where
+  -- a table more is listed
+  pub listed_more : (t : TableState) → slot_of s k ≡ Some t
+      → ((n j : ℕ) (ids : List Id) → type_at s n ≡ Some ids → type_at s j ≡ Some ids → n ≡ j)
+      → IsTypeMap (type_at (take k s)) m × IsIdIndex (type_at (take k s)) l
+      → ((q : List Id) → get same_ids m' q ≡ cond (same_ids t.ids q) (Some k) (get same_ids m q)) → Turns true (any_matches t.ids) l l' k
+      → IsTypeMap (type_at (take (k + 1) s)) m' × IsIdIndex (type_at (take (k + 1) s)) l'
+  listed_more t at kinds listed gets turns =
+      let sets = taken_more s k (Some t) at in
+      let others = λ (n : ℕ) (other : n ≢ k). ap type_in (sets.others n other) in
+      let now = ap type_in sets.changed in
+      let none = ap type_in (taken_past s k k (omega arith)) in (
+        type_map-insert (type_at (take k s)) (type_at (take (k + 1) s)) m m' t.ids k others listed.0 now none absent gets,
+        index_made (type_at (take k s)) (type_at (take (k + 1) s)) l l' k t.ids others listed.1 now none turns,
+      )
+    where
+      absent : (n : ℕ) → type_at (take k s) n ≢ Some t.ids
+      absent n was =
+          let same : n ≡ k = kinds n k t.ids (taken_type s k n t.ids was) (ap type_in at) in
+          let bad : ◌≡◌ {A = Option (List Id)} None (Some t.ids) = sym (ap type_in (taken_past s k n (omega (arith, same)))) ∙ was in cc
+
+  -- a slot without a table
+  pub listed_none : slot_of s k ≡ None → IsTypeMap (type_at (take k s)) m × IsIdIndex (type_at (take k s)) l
+      → IsTypeMap (type_at (take (k + 1) s)) m × IsIdIndex (type_at (take (k + 1) s)) l
+  listed_none at listed = (
+    record {
+      found = λ t n e. same n ∙ listed.0.found t n e;
+      there = λ t n e. listed.0.there t n (sym (same n) ∙ e);
+    },
+    λ p n. listed.1 p n ∙ ap (λ o. type_matches o p) (sym (same n)),
+  )
+    where
+      same : (n : ℕ) → type_at (take (k + 1) s) n ≡ type_at (take k s) n
+      same n =
+          let sets = taken_more s k None at in
+          elim (cases_eq n k) [
+            | inl here ↦
+                ap (type_at (take (k + 1) s)) here ∙ ap type_in sets.changed
+                ∙ sym (ap (type_at (take k s)) here ∙ ap type_in (taken_past s k k (omega arith)))
+            | inr other ↦ ap type_in (sets.others n other)
+          ]
+
+-- ---- tables and their copies
+
+module _ (s copies : Slots) (are : AreCopies s copies) where
+  pub copied_types : (n : ℕ) → type_at copies n ≡ type_at s n
+  copied_types n = ap type_in (are n) ∙ by (slot_of s n)
+    where
+      by : (o : Option TableState) → type_in (without_room o) ≡ type_in o
+      by None = refl
+      by (Some t) = refl
+
+  pub copied_rows : SameRows s copies
+  copied_rows n row = ap (λ o. slice_get (unwrap_or o no_table).rows row) (are n) ∙ by (slot_of s n)
+    where
+      by : (o : Option TableState) → slice_get (unwrap_or (without_room o) no_table).rows row ≡ slice_get (unwrap_or o no_table).rows row
+      by None = refl
+      by (Some t) = refl
+
+  pub copied_kept : AreKept s copies
+  copied_kept = record { each = λ n. inl (ap kinds (are n) ∙ by (slot_of s n)) }
+    where
+      by : (o : Option TableState) → kinds (without_room o) ≡ kinds o
+      by None = refl
+      by (Some t) = refl
+
+  pub copied_rowless : (slots : List ℕ) → RowlessIn s slots → RowlessIn copies slots
+  copied_rowless slots was n empty = was n (sym (ap (λ o. is_some (rowless_type o)) (are n) ∙ by (slot_of s n)) ∙ empty)
+    where
+      by_rows : (t : TableState) (rows : List Row) → is_some (rowless (with_room t 0) rows) ≡ is_some (rowless t rows)
+      by_rows t [] = refl
+      by_rows t (r ∷ rest) = refl
+
+      by : (o : Option TableState) → is_some (rowless_type (without_room o)) ≡ is_some (rowless_type o)
+      by None = refl
+      by (Some t) = by_rows t t.rows

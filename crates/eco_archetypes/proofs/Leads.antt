@@ -1,0 +1,76 @@
+-- Where the edge of an id leads.
+use Rattle.std.proofs.Common.{◌≡◌, ◌≢◌, ℕ, List, Option, Some, None, false, true≢false, is_some, option_map, IsSome, IsTrue, Result, Ok, Err, OnOk, OnErr, refl}
+use Rattle.std.proofs.Common.{sym, ap, ◌∙◌}
+use Rattle.std.specs.HashMap.{HashMap}
+use Rattle.eco_ids.specs.declared.id.Id.{Id}
+use Rattle.eco_ids.specs.Order.{id_cmp, is_ascending}
+use Rattle.eco_tables.specs.Table.{TableState}
+use Rattle.eco_tables.specs.Tables.{slot_of, table_in}
+use Rattle.eco_archetypes.specs.IdIndex.{Lists}
+use Rattle.eco_archetypes.specs.Archetypes.{type_at, IsArchetypes, KeepsTypes}
+use Rattle.eco_archetypes.specs.Edges.{edge, toggled, IsGraph, IsTwofold, Links, SameEdges}
+use Rattle.eco_archetypes.proofs.ArchetypeLemmas.{found_linked, found_unlinked, one_slot, type_there, there_as_typed, typed_table}
+use Rattle.eco_archetypes.proofs.Toggles.{toggled_other, twice}
+
+some_is : {X : Type 0} (x y : X) → Some x ≡ Some y → x ≡ y
+some_is x y e = cc
+
+some_none : {X P : Type 0} (x : X) → Some x ≡ None → P
+some_none x e = absurd (cc)
+
+pub none_is : {X : Type 0} (o : Option X) → is_some o ≡ false → o ≡ None
+none_is None h = refl
+none_is (Some x) h = absurd (true≢false h)
+
+-- tables of which one has the id more stand in two slots
+pub apart_by_type : (s : List (Option TableState)) (n m : ℕ) (i : Id) (ids : List Id) → type_at s n ≡ Some ids → type_at s m ≡ Some (toggled ids i) → n ≢ m
+apart_by_type s n m i ids from to same = toggled_other ids i (some_is _ _ (sym to ∙ sym (ap (type_at s) same) ∙ from))
+
+-- a table that was read has the type still
+pub stays_typed : (s0 s s' : List (Option TableState)) (n : ℕ) (t : TableState) (ids : List Id) → s0 ≡ s → slot_of s0 n ≡ Some t → ids ≡ t.ids → KeepsTypes s s'
+    → type_at s' n ≡ Some ids
+stays_typed s0 s s' n t ids same at is keeps =
+    keeps n ids (ap (λ x. type_at x n) (sym same) ∙ ap (option_map (λ (x : TableState). x.ids)) at ∙ ap Some (sym is))
+
+module _ {E : Type 0} (s : List (Option TableState)) (g : List (HashMap Id ℕ E)) (graph : IsGraph (type_at s) g) (n m : ℕ) (i : Id)
+    (leads : edge g n i ≡ Some m) where
+  pub lead_there : IsSome (slot_of s m)
+  lead_there = let was = graph n m i leads in there_as_typed s m (toggled was.0 i) was.2
+
+  pub lead_apart : n ≢ m
+  lead_apart = let was = graph n m i leads in apart_by_type s n m i was.0 was.1 was.2
+
+  pub lead_typed : type_at s m ≡ Some (toggled (table_in s n).ids i)
+  lead_typed = let was = graph n m i leads in was.2 ∙ ap (λ ids. Some (toggled ids i)) (sym (typed_table s n was.0 was.1))
+
+-- ---- an edge is stored
+
+module _ {S E : Type 0} (s : List (Option TableState)) (m : HashMap (List Id) ℕ S) (l : Lists)
+    (g : List (HashMap Id ℕ E)) (found : IsArchetypes s m l g) (from to : ℕ) (i : Id)
+    (there : IsSome (slot_of s from)) (up : IsTrue (is_ascending id_cmp (table_in s from).ids))
+    (typed : type_at s to ≡ Some (toggled (table_in s from).ids i)) where
+  abbrev own : List Id
+  own = (table_in s from).ids
+
+  pub link_apart : from ≢ to
+  link_apart = apart_by_type s from to i own (type_there s from there) typed
+
+  -- nor does an edge lead back, where none leads there
+  pub back_free : IsTwofold g → edge g from i ≡ None → edge g to i ≡ None
+  back_free twofold free = by (edge g to i) refl
+    where
+      by : (o : Option ℕ) → edge g to i ≡ o → o ≡ None
+      by None e = refl
+      by (Some k) e =
+          let was = found.graph to k i e in
+          let ids : was.0 ≡ toggled own i = some_is _ _ (sym was.1 ∙ typed) in
+          let back : type_at s k ≡ Some own = was.2 ∙ ap (λ xs. Some (toggled xs i)) ids ∙ ap Some (twice own i up) in
+          let same : k ≡ from = one_slot s m found.types k from own back (type_there s from there) in
+          some_none to (sym (ap (λ j. edge g j i) (sym same) ∙ twofold to k i e) ∙ free)
+
+  -- it is stored, or memory was refused
+  pub found_joined : (g' : List (HashMap Id ℕ E)) {A B : Type 0} (r : Result A B) → OnOk r (Links g g' from i to) → OnErr r (SameEdges g g')
+      → IsArchetypes s m l g'
+  found_joined g' (Ok x) links same =
+      found_linked s s m m l l g g' from to i own found links (type_there s from there) typed (twice own i up)
+  found_joined g' (Err x) links same = found_unlinked s s m m l l g g' found same

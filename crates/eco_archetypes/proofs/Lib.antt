@@ -1,0 +1,15 @@
+pub mod ArchetypeLemmas
+pub mod Copying
+pub mod Joinings
+pub mod Keys
+pub mod TypeMaps
+pub mod Listings
+pub mod Searching
+pub mod EdgeLists
+pub mod Graphs
+pub mod Toggles
+pub mod Turnings
+pub mod Leads
+pub mod Exchanges
+pub mod Widths
+pub mod NewWidths

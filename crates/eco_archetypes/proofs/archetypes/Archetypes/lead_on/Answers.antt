@@ -1,0 +1,25 @@
+use Rattle.std.proofs.Common.{◌≡◌, Some, ap, ◌∙◌}
+use Rattle.eco_tables.specs.Tables.{table_in}
+use Rattle.eco_archetypes.specs.Archetypes.{type_at}
+use Rattle.eco_archetypes.specs.Edges.{exchanged, toggled}
+use Rattle.eco_archetypes.proofs.ArchetypeLemmas.{type_there, typed_table}
+use Rattle.eco_archetypes.proofs.Exchanges.{exchanged_apart, in_two_steps}
+use Rattle.eco_archetypes.proofs.archetypes.Archetypes.lead_on.Goals as goal
+
+pub returns-clause-typed : goal.returns-clause-typed
+returns-clause-typed c =
+    let s = c.args.self.now in
+    let own = (table_in s c.args.slot).ids in
+    c.in_ok-to.ensures.typed
+    ∙ ap (λ ids. Some (toggled ids c.args.coming)) (typed_table s c.in_ok-between.between (toggled own c.args.leaving) c.in_ok-between.ensures.typed)
+    ∙ ap Some (in_two_steps own c.args.leaving c.args.coming c.requires.there c.requires.absent)
+
+pub returns-clause-apart : goal.returns-clause-apart
+returns-clause-apart c =
+    let s = c.args.self.now in
+    let own = (table_in s c.args.slot).ids in
+    let typed : type_at s c.in_ok-to.to ≡ Some (exchanged own c.args.leaving c.args.coming) =
+    c.in_ok-to.ensures.typed
+    ∙ ap (λ ids. Some (toggled ids c.args.coming)) (typed_table s c.in_ok-between.between (toggled own c.args.leaving) c.in_ok-between.ensures.typed)
+    ∙ ap Some (in_two_steps own c.args.leaving c.args.coming c.requires.there c.requires.absent) in
+    exchanged_apart s c.args.slot c.in_ok-to.to own c.args.leaving c.args.coming (type_there s c.args.slot c.requires.slot) typed c.requires.absent

@@ -1,0 +1,24 @@
+use Rattle.std.proofs.Common.{◌≡◌, ℕ, Option, Some, None, sym, ◌∙◌}
+use Rattle.eco_archetypes.proofs.ArchetypeLemmas.{one_slot}
+use Rattle.eco_archetypes.proofs.Copying.{copied_kept, copied_types}
+use Rattle.eco_archetypes.proofs.Widths.{kept_agreed}
+use Rattle.eco_archetypes.proofs.archetypes.Archetypes.try_copy.Goals as goal
+
+pub list_all-requires-clause-kinds : goal.list_all-requires-clause-kinds
+list_all-requires-clause-kinds c =
+    let s = c.self.inside.tables in
+    let same = copied_types s c.in_ok-tables.tables c.in_ok-tables.ensures in
+    λ n k ids a b. one_slot s c.self.inside.by_type.slots c.self.invariant.types n k ids (sym (same n) ∙ a) (sym (same k) ∙ b)
+
+pub invariant_of-result : goal.invariant_of-result
+invariant_of-result c = record {
+  types = c.in_ok-list_all.ensures.types;
+  matches = c.in_ok-list_all.ensures.matches;
+  graph = λ n m i e. absurd (let bad : ◌≡◌ {A = Option ℕ} None (Some m) = sym (c.new.ensures n i) ∙ e in cc);
+  agreed =
+      kept_agreed c.self.inside.tables c.in_ok-tables.tables (copied_kept c.self.inside.tables c.in_ok-tables.tables c.in_ok-tables.ensures)
+      c.self.invariant.agreed;
+}
+
+pub returns : goal.returns
+returns c = rw (← c.self.view_is) c.in_ok-tables.ensures

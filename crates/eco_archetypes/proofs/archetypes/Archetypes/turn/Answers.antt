@@ -1,0 +1,33 @@
+use Rattle.std.proofs.Common.{◌≡◌, Some, None, cond, option_map, ap, sym, subst, ◌∙◌}
+use Rattle.std.specs.Map.{lookup}
+use Rattle.std.specs.Option.{option_copied}
+use Rattle.eco_tables.specs.Table.{TableState}
+use Rattle.eco_tables.specs.Tables.{slot_of}
+use Rattle.eco_entities.specs.Needs.{need}
+use Rattle.eco_archetypes.specs.Archetypes.{TakesType, type_at}
+use Rattle.eco_archetypes.specs.IdIndex.{lists_of}
+use Rattle.eco_archetypes.specs.TypeMap.{same_ids}
+use Rattle.eco_archetypes.proofs.Turnings.{found_turned}
+use Rattle.eco_archetypes.proofs.archetypes.Archetypes.turn.Goals as goal
+
+pub invariant_of-self-2 : goal.invariant_of-self-2
+invariant_of-self-2 c =
+    let s = c.self.inside.tables in
+    let s1 = c.toggle.new.tables in
+    let old = c.in_ok-old.old in
+    let there : slot_of s c.args.slot ≡ Some c.unwrap.result.now = sym c.get.ensures ∙ ap option_copied c.unwrap.ensures in
+    let had : type_at s c.args.slot ≡ Some old =
+    ap (option_map (λ (t : TableState). t.ids)) there ∙ ap Some (sym c.type_list.ensures.ids ∙ sym c.in_ok-old.ensures.is) in
+    let takes : TakesType s s1 c.args.slot c.args.type_list =
+    subst (TakesType s s1 c.args.slot) (sym (rw (← c.self.view_is) at c.requires.typed)) c.in_ok-toggle.ensures.ok in
+    found_turned s s1 c.self.inside.by_type.slots c.rename.new.self.slots (lists_of c.self.inside.by_id.slots) (lists_of c.toggle.new.by_id.slots)
+    c.self.inside.edges.lists.items c.cut.new.self.lists.items c.args.slot old c.args.type_list c.self.invariant had takes
+    (rw (← c.self.view_is) at c.requires.absent)
+    (λ q. c.rename.ensures q
+    ∙ ap (λ es. cond (same_ids c.args.type_list q) (Some c.args.slot) (cond (same_ids old q) None (lookup (same_ids q) es))) c.reserve_one.ensures.same)
+    c.toggle.ensures.index c.cut.ensures c.toggle.ensures.agreed
+
+pub returns-clause-widths : goal.returns-clause-widths
+returns-clause-widths c =
+    rw (← c.self.view_is) (λ was.
+    c.toggle.ensures.widths (need c.args.entities.now) ((rw (← c.self.view_is) at c.width_of-width.ensures.covers) was) was)

@@ -1,0 +1,6 @@
+pub mod IdIndex
+pub mod TypeTests
+pub mod TypeMap
+pub mod Edges
+pub mod Widths
+pub mod Archetypes

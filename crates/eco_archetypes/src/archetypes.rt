@@ -1,0 +1,333 @@
+//! The tables of a store, one for each type, found by type and by the patterns that match its ids.
+ghost use Rattle.std.specs.Prelude.{◌≡◌, ◌≢◌, ◌↔◌, ◌&&◌, nat_lt, nat_eq, filter, List, ℕ, ◌<◌, ◌≤◌, ◌∷◌, [], length, ◌++◌};
+ghost use Rattle.std.specs.Prelude.{slice_get, Some, None, IsSome, IsTrue, IfOk, IfSome, IfNone, OnOk, OnErr, OnSome, is_some};
+ghost use Rattle.std.specs.List.{list_any, IsDistinct};
+ghost use Rattle.std.specs.FinMap.Entries.{find};
+ghost use Rattle.eco_ids.specs.declared.id.Id.{Id as Ids};
+ghost use Rattle.eco_ids.specs.Order.{id_cmp};
+ghost use Rattle.eco_tables.specs.Table.{TableState, entities_of, empty_table};
+ghost use Rattle.eco_tables.specs.Tables.{slot_of, table_in, row_in, Sets, SetsRoom, Moves, MovesAll};
+ghost use Rattle.eco_tables.specs.Tables.{new_row, with_row, with_written, without_row, rowless_type};
+ghost use Rattle.eco_archetypes.specs.Archetypes.{type_at, SameSlots, KeepsTypes, KeepsRoom, RowlessIn, RowlessBut, SameRows};
+ghost use Rattle.eco_archetypes.specs.TypeMap.{same_ids};
+ghost use Rattle.eco_archetypes.specs.Widths.{FitsIn, KeepsWidths, StillCover};
+
+use crate::edges::Edges;
+use crate::id_index::IdIndex;
+use crate::type_map::TypeMap;
+use eco_entities::EntityIndex;
+use eco_ids::{Entity, Id, TypeList, Value};
+use eco_tables::Tables;
+use std::alloc::{AllocError, Global};
+use std::marker::Model;
+
+mod copying;
+mod exchanging;
+mod preparing;
+mod searching;
+mod stepping;
+mod turning;
+mod widths;
+
+/// A contract sees the tables in their slots. No two tables have the same type.
+pub struct Archetypes {
+    alloc: Global,
+    tables: Tables,
+    by_type: TypeMap,
+    // The slot of the type that was asked for last.
+    last: usize,
+    by_id: IdIndex,
+    edges: Edges,
+}
+
+// By hand, so that dropping it is one call: a derived drop is proved anew at each early return of whoever holds it.
+impl Drop for Archetypes {
+    fn drop(self) {
+        let Archetypes {
+            alloc: _,
+            tables: _,
+            by_type: _,
+            last: _,
+            by_id: _,
+            edges: _,
+        } = self;
+    }
+}
+
+impl Model for Archetypes {
+    ghost use Rattle.std.specs.Prelude.{List, Option};
+    ghost use Rattle.eco_tables.specs.Table.{TableState};
+    ghost use Rattle.eco_archetypes.specs.Archetypes.{IsArchetypes};
+    ghost use Rattle.eco_archetypes.specs.IdIndex.{lists_of};
+
+    ghost Value = { List (Option TableState) };
+
+    ghost view = { λ a. a.tables };
+
+    ghost invariant = { λ a.
+        IsArchetypes a.tables a.by_type.slots (lists_of a.by_id.slots) a.edges.lists.items };
+}
+
+impl Archetypes {
+    /// No table.
+    pub fn new(alloc: Global) -> Archetypes
+        ensures { (n : ℕ) → slot_of result n ≡ None }
+    {
+        Archetypes {
+            alloc,
+            tables: Tables::new(alloc),
+            by_type: TypeMap::new(alloc),
+            last: 0,
+            by_id: IdIndex::new(alloc),
+            edges: Edges::new(alloc),
+        }
+    }
+
+    /// The tables, to read.
+    pub fn tables(&self) -> &Tables
+        ensures same { result.now ≡ self.now }
+        ensures kinds { (n m : ℕ) (ids : List Ids) →
+            type_at self.now n ≡ Some ids → type_at self.now m ≡ Some ids → n ≡ m }
+    {
+        &self.tables
+    }
+
+    // The slot of the table with a type. The type that was asked for last is compared before any is searched for, since many
+    // entities of one type are often made one after another.
+    #[inline]
+    fn find(&mut self, type_list: &TypeList) -> Option<usize>
+        ensures found { IfSome result (λ n. type_at self.old n ≡ Some type_list.now) }
+        ensures none { IfNone result ((n : ℕ) → type_at self.old n ≢ Some type_list.now) }
+        ensures same { self.new ≡ self.old }
+    {
+        if self.has_type(self.last, type_list) {
+            return Some(self.last);
+        }
+        self.look_up(type_list)
+    }
+
+    // What `find` does with another type than the last, apart, so that the last one costs no more than a look at it.
+    #[inline(never)]
+    fn look_up(&mut self, type_list: &TypeList) -> Option<usize>
+        ensures found { IfSome result (λ n. type_at self.old n ≡ Some type_list.now) }
+        ensures none { IfNone result ((n : ℕ) → type_at self.old n ≢ Some type_list.now) }
+        ensures same { self.new ≡ self.old }
+    {
+        let slot = self.by_type.find(type_list)?;
+        self.last = slot;
+        Some(slot)
+    }
+
+    // Whether there is a table in the slot, of this type.
+    #[inline]
+    fn has_type(&self, slot: usize, type_list: &TypeList) -> bool
+        ensures { IsTrue result ↔ (type_at self.now slot ≡ Some type_list.now) }
+    {
+        match self.tables.get(slot) {
+            Some(table) => are_same(table.type_list().as_slice(), type_list.as_slice()),
+            None => false,
+        }
+    }
+
+    /// The slot of the table with a type, with room for so many more rows. Where there is no table of the type, one without
+    /// rows is made. An `Err` comes where memory is refused, and then no table was made. No row changes.
+    #[inline(always)]
+    pub fn room_for(
+        &mut self,
+        entities: &EntityIndex,
+        type_list: &TypeList,
+        more: usize,
+    ) -> Result<usize, AllocError>
+        ensures typed { IfOk result (λ n. type_at self.new n ≡ Some type_list.now) }
+        ensures room { IfOk result (λ n. more ≤ (table_in self.new n).room) }
+        ensures kept { OnOk result (KeepsRoom self.old self.new) }
+        ensures rowless { RowlessBut self.old self.new result }
+        ensures rows { SameRows self.old self.new }
+        ensures types { KeepsTypes self.old self.new }
+        ensures widths { StillCover entities.now self.old self.new }
+    {
+        if let Some(slot) = self.find(type_list) {
+            self.reserve_rows(slot, more)?;
+            return Ok(slot);
+        }
+        self.make_with_room(entities, type_list, more)
+    }
+
+    // What `room_for` does where there is no table of the type. Rare beside finds.
+    #[cold]
+    #[inline(never)]
+    fn make_with_room(
+        &mut self,
+        entities: &EntityIndex,
+        type_list: &TypeList,
+        more: usize,
+    ) -> Result<usize, AllocError>
+        requires { (n : ℕ) → type_at self.old n ≢ Some type_list.now }
+        ensures typed { IfOk result (λ n. type_at self.new n ≡ Some type_list.now) }
+        ensures room { IfOk result (λ n. more ≤ (table_in self.new n).room) }
+        ensures kept { OnOk result (KeepsRoom self.old self.new) }
+        ensures rowless { RowlessBut self.old self.new result }
+        ensures rows { SameRows self.old self.new }
+        ensures types { KeepsTypes self.old self.new }
+        ensures widths { StillCover entities.now self.old self.new }
+    {
+        let slot = self.make(entities, type_list)?;
+        match self.reserve_rows(slot, more) {
+            Ok(()) => Ok(slot),
+            Err(refused) => {
+                self.drop_empty(slot);
+                Err(refused)
+            }
+        }
+    }
+
+    // A table without rows of a type that has none, in a slot that was empty. Every table is made here: what is to be told of
+    // new tables is told here.
+    fn make(&mut self, entities: &EntityIndex, type_list: &TypeList) -> Result<usize, AllocError>
+        requires { (n : ℕ) → type_at self.old n ≢ Some type_list.now }
+        ensures vacant { IfOk result (λ n. slot_of self.old n ≡ None) }
+        ensures makes { IfOk result (λ n. Sets self.old self.new n
+            (Some (empty_table type_list.now (table_in self.new n).widths))) }
+        ensures widths { OnOk result (StillCover entities.now self.old self.new) }
+        ensures err { OnErr result (SameSlots self.old self.new) }
+    {
+        let widths = self.widths_of(entities, type_list.as_slice())?;
+        let key = type_list.try_copy()?;
+        let kept = type_list.try_copy()?;
+        self.by_type.reserve_one()?;
+        let slot = self.tables.insert(kept, widths.as_slice())?;
+        match self.by_id.add_all(self.alloc, type_list.as_slice(), slot) {
+            Ok(()) => {
+                self.by_type.insert_reserved(key, slot);
+                Ok(slot)
+            }
+            Err(refused) => {
+                let _ = self.tables.drop_empty(slot);
+                Err(refused)
+            }
+        }
+    }
+
+    /// Drops the table in a slot if it has no rows: it is found no more. No row changes. It takes no memory.
+    pub fn drop_empty(&mut self, slot: usize)
+        ensures dropped { OnSome (rowless_type (slot_of self.old slot)) (Sets self.old self.new slot None) }
+        ensures kept { IfNone (rowless_type (slot_of self.old slot)) (SameSlots self.old self.new) }
+        ensures rowless { (slots : List ℕ) → RowlessIn self.old (slot ∷ slots) → RowlessIn self.new slots }
+        ensures rows { SameRows self.old self.new }
+        ensures widths { KeepsWidths self.old self.new }
+    {
+        if self.tables.is_rowless(slot) {
+            self.forget(slot);
+        }
+    }
+
+    // What `drop_empty` does, apart, so that a table with rows costs no more than a look at it. Every table is dropped here:
+    // what is to be told of dropped tables is told here.
+    #[cold]
+    #[inline(never)]
+    fn forget(&mut self, slot: usize)
+        ensures dropped { OnSome (rowless_type (slot_of self.old slot)) (Sets self.old self.new slot None) }
+        ensures kept { IfNone (rowless_type (slot_of self.old slot)) (SameSlots self.old self.new) }
+        ensures rows { SameRows self.old self.new }
+    {
+        if let Some(type_list) = self.tables.drop_empty(slot) {
+            self.by_type.remove(&type_list);
+            self.by_id.take_all(type_list.as_slice(), slot);
+            self.edges.cut(slot);
+        }
+    }
+
+    /// Drops those tables in these slots that have no rows. No row changes. It takes no memory.
+    pub fn drop_each(&mut self, slots: &[usize])
+        ensures rowless { (others : List ℕ) →
+            RowlessIn self.old (slots.now ++ others) → RowlessIn self.new others }
+        ensures rows { SameRows self.old self.new }
+        ensures widths { KeepsWidths self.old self.new }
+    {
+        for slot in slots {
+            self.drop_empty(*slot);
+        }
+    }
+
+    /// Room for more rows in a table. An `Err` keeps all rows and the room that was there.
+    #[inline]
+    pub(crate) fn reserve_rows(&mut self, slot: usize, more: usize) -> Result<(), AllocError>
+        requires { IsSome (slot_of self.old slot) }
+        ensures sets { SetsRoom self.old self.new slot }
+        ensures kept { (table_in self.old slot).room ≤ (table_in self.new slot).room }
+        ensures room { OnOk result (more ≤ (table_in self.new slot).room) }
+        ensures rows { SameRows self.old self.new }
+        ensures widths { KeepsWidths self.old self.new }
+    {
+        self.tables.reserve_rows(slot, more)
+    }
+
+    /// Writes the value of an id in a row, which has no more fields than the tables keep of it, and takes no memory. The answer
+    /// is whether the table's type has the id; where it lacks it nothing is written.
+    pub fn set_value(&mut self, slot: usize, row: usize, id: Id, value: Value) -> bool
+        requires row { row < length (table_in self.old slot).rows }
+        requires fits { FitsIn self.old id value }
+        ensures written { Sets self.old self.new slot
+            (Some (with_written (table_in self.old slot) row id value)) }
+        ensures had { result ≡ is_some (find id_cmp id (row_in self.old slot row).held) }
+        ensures widths { KeepsWidths self.old self.new }
+    {
+        self.tables.set_value(slot, row, id, value)
+    }
+
+    /// A row for a new entity, with zeros, in room that was reserved.
+    #[inline]
+    pub fn push_row(&mut self, slot: usize, entity: Entity)
+        requires { 0 < (table_in self.old slot).room }
+        ensures row { Sets self.old self.new slot
+            (Some (with_row (table_in self.old slot) (new_row entity))) }
+        ensures widths { KeepsWidths self.old self.new }
+    {
+        self.tables.push_row(slot, entity);
+    }
+
+    /// Takes a row out, and takes no memory. The answer is the entity that stands in its place now.
+    pub fn swap_out(&mut self, slot: usize, row: usize) -> Option<Entity>
+        requires { row < length (table_in self.old slot).rows }
+        ensures rows { Sets self.old self.new slot (Some (without_row (table_in self.old slot) row)) }
+        ensures moved { result ≡ slice_get (entities_of (table_in self.new slot).rows) row }
+        ensures widths { KeepsWidths self.old self.new }
+    {
+        self.tables.swap_out(slot, row)
+    }
+
+    /// Moves a row into room that was reserved in another table. The answer is the entity that stands in the hole now.
+    pub fn move_row(&mut self, from: usize, row: usize, to: usize) -> Option<Entity>
+        requires apart { from ≢ to }
+        requires row { row < length (table_in self.old from).rows }
+        requires room { 0 < (table_in self.old to).room }
+        ensures moves { Moves self.old self.new from row to }
+        ensures moved { result ≡ slice_get (entities_of (table_in self.new from).rows) row }
+        ensures widths { KeepsWidths self.old self.new }
+    {
+        self.tables.move_row(from, row, to)
+    }
+
+    /// Moves all rows of a table, in their order, to the end of another, into room that was reserved.
+    pub fn move_rows(&mut self, from: usize, to: usize)
+        requires apart { from ≢ to }
+        requires source { IsSome (slot_of self.old from) }
+        requires target { IsSome (slot_of self.old to) }
+        requires room { length (table_in self.old from).rows ≤ (table_in self.old to).room }
+        ensures moves { MovesAll self.old self.new from to }
+        ensures widths { KeepsWidths self.old self.new }
+    {
+        self.tables.move_rows(from, to);
+    }
+}
+
+// Whether two types have the same ids. Most entities are made without any, and two types without ids cost no call.
+#[inline]
+fn are_same(own: &[Id], other: &[Id]) -> bool
+    ensures { result ≡ same_ids own.now other.now }
+{
+    if own.is_empty() {
+        return other.is_empty();
+    }
+    own == other
+}

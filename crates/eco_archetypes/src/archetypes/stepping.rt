@@ -1,0 +1,100 @@
+//! The step from a type to the one that has an id more, or less.
+ghost use Rattle.std.specs.Prelude.{◌≡◌, ◌≢◌, ◌<◌, Some, IsSome, IsTrue, IfOk, IfSome};
+ghost use Rattle.eco_ids.specs.Order.{id_cmp, is_ascending};
+ghost use Rattle.eco_tables.specs.Tables.{slot_of, table_in};
+ghost use Rattle.eco_archetypes.specs.Archetypes.{type_at, RowlessBut, SameRows};
+ghost use Rattle.eco_archetypes.specs.Edges.{toggled};
+ghost use Rattle.eco_archetypes.specs.Widths.{StillCover};
+
+use crate::archetypes::Archetypes;
+use eco_entities::EntityIndex;
+use eco_ids::{Id, TypeList};
+use std::alloc::AllocError;
+
+// The type with the id, or without it where it has it.
+pub(super) fn toggled(type_list: &TypeList, id: Id) -> Result<TypeList, AllocError>
+    ensures is { IfOk result (λ ids. ids ≡ toggled type_list.now id) }
+    ensures ascending { IsTrue (is_ascending id_cmp type_list.now) }
+{
+    if type_list.has(id) {
+        type_list.without(id)
+    } else {
+        type_list.with(id)
+    }
+}
+
+impl Archetypes {
+    /// The slot of the table that an id leads to: its type has the id where that of the table in this slot lacks it, and
+    /// lacks it where that has it. The table has room for one more row, and where there was none it is made. An `Err` comes
+    /// where memory is refused, and then no table was made. No row changes.
+    pub fn step(&mut self, entities: &EntityIndex, slot: usize, id: Id) -> Result<usize, AllocError>
+        requires { IsSome (slot_of self.old slot) }
+        ensures typed { IfOk result
+            (λ n. type_at self.new n ≡ Some (toggled (table_in self.old slot).ids id)) }
+        ensures apart { IfOk result (λ n. slot ≢ n) }
+        ensures room { IfOk result (λ n. 0 < (table_in self.new n).room) }
+        ensures rowless { RowlessBut self.old self.new result }
+        ensures rows { SameRows self.old self.new }
+        ensures widths { StillCover entities.now self.old self.new }
+    {
+        match self.lead(slot, id) {
+            Some(to) => {
+                self.reserve_rows(to, 1)?;
+                Ok(to)
+            }
+            None => self.step_anew(entities, slot, id),
+        }
+    }
+
+    // The slot to which an edge leads, if one is stored.
+    pub(super) fn lead(&self, slot: usize, id: Id) -> Option<usize>
+        ensures there { IfSome result (λ n. IsSome (slot_of self.now n)) }
+        ensures apart { IfSome result (λ n. slot ≢ n) }
+        ensures typed { IfSome result
+            (λ n. type_at self.now n ≡ Some (toggled (table_in self.now slot).ids id)) }
+    {
+        let to = self.edges.get(slot, id)?;
+        Some(to)
+    }
+
+    // What `step` does where no edge is stored. One is stored where the table was there already: to one that this step makes, it
+    // may be the only one.
+    #[cold]
+    #[inline(never)]
+    fn step_anew(
+        &mut self,
+        entities: &EntityIndex,
+        slot: usize,
+        id: Id,
+    ) -> Result<usize, AllocError>
+        requires { IsSome (slot_of self.old slot) }
+        ensures typed { IfOk result
+            (λ n. type_at self.new n ≡ Some (toggled (table_in self.old slot).ids id)) }
+        ensures apart { IfOk result (λ n. slot ≢ n) }
+        ensures room { IfOk result (λ n. 0 < (table_in self.new n).room) }
+        ensures rowless { RowlessBut self.old self.new result }
+        ensures rows { SameRows self.old self.new }
+        ensures widths { StillCover entities.now self.old self.new }
+    {
+        let type_list = toggled(self.tables.get(slot).unwrap().type_list(), id)?;
+        let Some(to) = self.find(&type_list) else {
+            let made = self.make_with_room(entities, &type_list, 1)?;
+            return Ok(made);
+        };
+        self.link(slot, id, to);
+        self.reserve_rows(to, 1)?;
+        Ok(to)
+    }
+
+    // The id leads from either of the two tables to the other, unless memory is refused for that.
+    fn link(&mut self, from: usize, id: Id, to: usize)
+        requires from { IsSome (slot_of self.old from) }
+        requires ascending { IsTrue (is_ascending id_cmp (table_in self.old from).ids) }
+        requires to { type_at self.old to ≡ Some (toggled (table_in self.old from).ids id) }
+        ensures { self.new ≡ self.old }
+    {
+        if self.edges.get(from, id).is_none() {
+            let _linked = self.edges.link(from, id, to);
+        }
+    }
+}

@@ -1,0 +1,166 @@
+//! A table of one row takes the type of its next step where it stands: to make a table of that type, and to drop this one,
+//! would cost as much as the type has ids.
+ghost use Rattle.std.specs.Prelude.{◌≡◌, ◌≢◌, ◌≤◌, ℕ, length, Some, IsSome, true, false, IfOk, OnOk, OnErr};
+ghost use Rattle.eco_ids.specs.Order.{id_cmp, has_item};
+ghost use Rattle.eco_tables.specs.Tables.{slot_of, table_in};
+ghost use Rattle.eco_archetypes.specs.Archetypes.{type_at, IsIdIndex, TakesType, MayTakeType, SameSlots};
+ghost use Rattle.eco_archetypes.specs.Edges.{toggled};
+ghost use Rattle.eco_archetypes.specs.IdIndex.{lists_of};
+ghost use Rattle.eco_archetypes.specs.Widths.{AreAgreed, KeepsWidths, LetsGrow, StillCover, FitsAll};
+
+use crate::archetypes::Archetypes;
+use crate::archetypes::stepping::toggled;
+use crate::id_index::IdIndex;
+use eco_entities::EntityIndex;
+use eco_ids::{Id, TypeList};
+use eco_tables::Tables;
+use std::alloc::{AllocError, Global};
+
+impl Archetypes {
+    /// Where the table in a slot has one row, and there is no table of the type that has the id more, or less, it takes that
+    /// type, and the answer is true; else nothing changes. An `Err` comes where memory is refused, and then nothing has
+    /// changed.
+    pub fn step_alone(
+        &mut self,
+        entities: &EntityIndex,
+        slot: usize,
+        id: Id,
+    ) -> Result<bool, AllocError>
+        requires { IsSome (slot_of self.old slot) }
+        ensures ok { IfOk result
+            (MayTakeType self.old self.new slot (toggled (table_in self.old slot).ids id)) }
+        ensures err { OnErr result (SameSlots self.old self.new) }
+        ensures widths { StillCover entities.now self.old self.new }
+    {
+        if self.tables.row_count(slot) != 1 {
+            return Ok(false);
+        }
+        self.step_only_row(entities, slot, id)
+    }
+
+    // What `step_alone` does where the table has one row. Rare beside steps from tables of many.
+    #[cold]
+    #[inline(never)]
+    fn step_only_row(
+        &mut self,
+        entities: &EntityIndex,
+        slot: usize,
+        id: Id,
+    ) -> Result<bool, AllocError>
+        requires there { IsSome (slot_of self.old slot) }
+        requires alone { length (table_in self.old slot).rows ≡ 1 }
+        ensures ok { IfOk result
+            (MayTakeType self.old self.new slot (toggled (table_in self.old slot).ids id)) }
+        ensures err { OnErr result (SameSlots self.old self.new) }
+        ensures widths { StillCover entities.now self.old self.new }
+    {
+        if self.edges.get(slot, id).is_some() {
+            return Ok(false);
+        }
+        let type_list = toggled(self.tables.get(slot).unwrap().type_list(), id)?;
+        if self.find(&type_list).is_some() {
+            return Ok(false);
+        }
+        self.turn(entities, slot, id, type_list)?;
+        Ok(true)
+    }
+
+    // The table takes the type that has the id more, or less, which is this, and which no table has.
+    fn turn(
+        &mut self,
+        entities: &EntityIndex,
+        slot: usize,
+        id: Id,
+        type_list: TypeList,
+    ) -> Result<(), AllocError>
+        requires there { IsSome (slot_of self.old slot) }
+        requires typed { type_list ≡ toggled (table_in self.old slot).ids id }
+        requires absent { (n : ℕ) → type_at self.old n ≢ Some type_list }
+        ensures ok { OnOk result (TakesType self.old self.new slot type_list) }
+        ensures err { OnErr result (SameSlots self.old self.new) }
+        ensures widths { StillCover entities.now self.old self.new }
+    {
+        let width = self.width_of(entities, id);
+        let old = self.tables.get(slot).unwrap().type_list().try_copy()?;
+        self.by_type.reserve_one()?;
+        let tables = &mut self.tables;
+        toggle(tables, &mut self.by_id, self.alloc, slot, id, width)?;
+        self.by_type.rename(&old, type_list, slot);
+        self.edges.cut(slot);
+        Ok(())
+    }
+}
+
+// The type of a table has the id more, or less, and so has the index.
+fn toggle(
+    tables: &mut Tables,
+    by_id: &mut IdIndex,
+    alloc: Global,
+    slot: usize,
+    id: Id,
+    width: u8,
+) -> Result<(), AllocError>
+    requires there { IsSome (slot_of tables.old slot) }
+    requires index { IsIdIndex (type_at tables.old) (lists_of by_id.old.slots) }
+    requires agreed { AreAgreed tables.old }
+    requires few { width ≤ 4 }
+    requires width { FitsAll tables.old id width }
+    ensures ok { OnOk result
+        (TakesType tables.old tables.new slot (toggled (table_in tables.old slot).ids id)) }
+    ensures err { OnErr result (SameSlots tables.old tables.new) }
+    ensures index { IsIdIndex (type_at tables.new) (lists_of by_id.new.slots) }
+    ensures agreed { AreAgreed tables.new }
+    ensures widths { LetsGrow tables.old tables.new id width }
+{
+    if tables.get(slot).unwrap().type_list().has(id) {
+        lose(tables, by_id, slot, id);
+        Ok(())
+    } else {
+        gain(tables, by_id, alloc, slot, id, width)
+    }
+}
+
+fn gain(
+    tables: &mut Tables,
+    by_id: &mut IdIndex,
+    alloc: Global,
+    slot: usize,
+    id: Id,
+    width: u8,
+) -> Result<(), AllocError>
+    requires there { IsSome (slot_of tables.old slot) }
+    requires lacks { has_item id_cmp (table_in tables.old slot).ids id ≡ false }
+    requires index { IsIdIndex (type_at tables.old) (lists_of by_id.old.slots) }
+    requires agreed { AreAgreed tables.old }
+    requires few { width ≤ 4 }
+    requires width { FitsAll tables.old id width }
+    ensures ok { OnOk result
+        (TakesType tables.old tables.new slot (toggled (table_in tables.old slot).ids id)) }
+    ensures err { OnErr result (SameSlots tables.old tables.new) }
+    ensures index { IsIdIndex (type_at tables.new) (lists_of by_id.new.slots) }
+    ensures agreed { AreAgreed tables.new }
+    ensures widths { LetsGrow tables.old tables.new id width }
+{
+    tables.get(slot).unwrap().ids_have_widths();
+    by_id.join(alloc, id, slot)?;
+    if let Err(refused) = tables.gain(slot, id, width) {
+        by_id.leave(id, tables.get(slot).unwrap().type_list().as_slice(), slot);
+        return Err(refused);
+    }
+    Ok(())
+}
+
+fn lose(tables: &mut Tables, by_id: &mut IdIndex, slot: usize, id: Id)
+    requires there { IsSome (slot_of tables.old slot) }
+    requires has { has_item id_cmp (table_in tables.old slot).ids id ≡ true }
+    requires index { IsIdIndex (type_at tables.old) (lists_of by_id.old.slots) }
+    requires agreed { AreAgreed tables.old }
+    ensures turned { TakesType tables.old tables.new slot (toggled (table_in tables.old slot).ids id) }
+    ensures index { IsIdIndex (type_at tables.new) (lists_of by_id.new.slots) }
+    ensures agreed { AreAgreed tables.new }
+    ensures widths { KeepsWidths tables.old tables.new }
+{
+    tables.get(slot).unwrap().ids_have_widths();
+    tables.lose(slot, id);
+    by_id.leave(id, tables.get(slot).unwrap().type_list().as_slice(), slot);
+}

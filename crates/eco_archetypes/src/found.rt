@@ -1,0 +1,56 @@
+//! The tables that a pattern finds, and who stands in them.
+ghost use Rattle.std.specs.Prelude.{◌≡◌, ◌<◌, IfOk, OnErr, length};
+ghost use Rattle.std.specs.List.Sorted.{IsPermutation, IsSorted};
+ghost use Rattle.eco_ids.specs.Order.{entity_cmp};
+ghost use Rattle.eco_tables.specs.Table.{entities_of};
+ghost use Rattle.eco_tables.specs.Tables.{table_in};
+ghost use Rattle.eco_archetypes.specs.Archetypes.{standing_in};
+
+use eco_ids::Entity;
+use eco_tables::Tables;
+use std::alloc::{AllocError, Global};
+
+/// All tables of a store, and the slots of those that were found, each once, in any order.
+#[derive(Drop)]
+pub struct Found<'a> {
+    pub tables: &'a Tables,
+    pub slots: Vec<usize>,
+}
+
+/// The entities that stand in the tables in these slots, in their order. An `Err` comes where memory is refused, and never
+/// where there are no slots.
+pub fn entities_in(
+    alloc: Global,
+    tables: &Tables,
+    slots: &[usize],
+) -> Result<Vec<Entity>, AllocError>
+    ensures all { IfOk result (λ v. IsPermutation (standing_in tables.now slots.now) v.items) }
+    ensures sorted { IfOk result (λ v. IsSorted entity_cmp v.items) }
+    ensures some { OnErr result (0 < length slots.now) }
+{
+    let mut entities = gather(alloc, tables, slots)?;
+    entities.sort_unstable();
+    Ok(entities)
+}
+
+// The entities that stand in the tables in these slots, table by table.
+fn gather(alloc: Global, tables: &Tables, slots: &[usize]) -> Result<Vec<Entity>, AllocError>
+    ensures all { IfOk result (λ v. v.items ≡ standing_in tables.now slots.now) }
+    ensures some { OnErr result (0 < length slots.now) }
+{
+    let mut entities = Vec::new(alloc);
+    for slot in slots {
+        entities.extend_from_slice(entities_at(tables, *slot))?;
+    }
+    Ok(entities)
+}
+
+// The entities that stand in the table in a slot; none, where the slot is empty.
+fn entities_at(tables: &Tables, slot: usize) -> &[Entity]
+    ensures { result.now ≡ entities_of (table_in tables.now slot).rows }
+{
+    match tables.get(slot) {
+        Some(table) => table.rows(),
+        None => &[],
+    }
+}

@@ -1,0 +1,222 @@
+//! For each pattern, the slots of the tables whose types have an id that it matches.
+ghost use Rattle.std.specs.Prelude.{◌≡◌, ℕ, Some, true, false, nat_eq, OnOk, OnErr, IfSome, IfNone};
+ghost use Rattle.std.specs.List.{list_any, IsDistinct};
+ghost use Rattle.eco_ids.specs.Matching.{pattern_matches};
+ghost use Rattle.eco_ids.specs.declared.pattern.Pattern.{Pattern as Patterns};
+ghost use Rattle.eco_ids.specs.declared.id.Id.TheVariants.{Two};
+ghost use Rattle.eco_archetypes.specs.IdIndex.{KeepsNoEmpty, lists_of, ListsNone, ListsSame, Turns, HasTurned, KeepsRest, own_count};
+ghost use Rattle.eco_archetypes.specs.IdIndex.{has_key, has_one, keys_of, matches_id, any_matches, exactly};
+
+use crate::id_index::key::Key;
+use crate::id_index::slots::Slots;
+use eco_ids::{Entity, Id, Part, Pattern};
+use indexmap::IndexMap;
+use std::alloc::{AllocError, Global};
+
+mod key;
+mod shortest;
+mod slots;
+mod turning;
+
+/// No model: the crate's contracts read the one field. A key of which no slot is listed is not kept, so the index does not
+/// grow with the ids that types had once.
+#[derive(Drop)]
+pub struct IdIndex {
+    slots: IndexMap<Key, Slots>,
+    ghost full: { KeepsNoEmpty slots },
+}
+
+impl IdIndex {
+    /// No slot is listed.
+    pub fn new(alloc: Global) -> IdIndex
+        ensures { ListsNone (lists_of result.slots) }
+    {
+        IdIndex {
+            slots: IndexMap::new(alloc),
+        }
+    }
+
+    /// The slots that are listed under the pattern, each once.
+    pub fn slots(&self, pattern: Pattern) -> &[usize]
+        ensures listed { (n : ℕ) → list_any (nat_eq n) result.now ≡ lists_of self.now.slots pattern n }
+        ensures distinct { IsDistinct nat_eq result.now }
+    {
+        match self.slots.get(&Key::of(pattern)) {
+            Some(slots) => slots.as_slice(),
+            None => &[],
+        }
+    }
+
+    /// Whether the slot is listed under the pattern.
+    pub fn lists(&self, pattern: Pattern, slot: usize) -> bool
+        ensures { result ≡ lists_of self.now.slots pattern slot }
+    {
+        match self.slots.get(&Key::of(pattern)) {
+            Some(slots) => slots.has(slot),
+            None => false,
+        }
+    }
+
+    /// Some slot that is listed under the id, if there is one.
+    pub fn any(&self, id: Id) -> Option<usize>
+        ensures listed { IfSome result (λ n. lists_of self.now.slots (exactly id) n ≡ true) }
+        ensures none { IfNone result ((n : ℕ) → lists_of self.now.slots (exactly id) n ≡ false) }
+    {
+        self.slots(exactly(id)).first().copied()
+    }
+
+    // Lists the slot under the key. An `Err` changes nothing that is listed.
+    fn add(&mut self, alloc: Global, key: Key, slot: usize) -> Result<(), AllocError>
+        ensures ok { OnOk result
+            (Turns true (has_key key) (lists_of self.old.slots) (lists_of self.new.slots) slot) }
+        ensures err { OnErr result (ListsSame (lists_of self.old.slots) (lists_of self.new.slots)) }
+    {
+        if let Some(slots) = self.slots.get_mut(&key) {
+            return slots.add(alloc, slot);
+        }
+        self.slots.insert(key, Slots::One(slot))?;
+        Ok(())
+    }
+
+    // Takes the slot off the key's list, and with the last one the list. It takes no memory.
+    fn take(&mut self, key: Key, slot: usize)
+        ensures { Turns false (has_key key) (lists_of self.old.slots) (lists_of self.new.slots) slot }
+    {
+        let Some(slots) = self.slots.get_mut(&key) else {
+            return;
+        };
+        if slots.is_only(slot) {
+            let _ = self.slots.swap_remove(&key);
+        } else {
+            slots.take(slot);
+        }
+    }
+
+    fn add_keys(&mut self, alloc: Global, keys: &[Key], slot: usize) -> Result<(), AllocError>
+        ensures ok { OnOk result
+            (Turns true (has_one keys.now) (lists_of self.old.slots) (lists_of self.new.slots) slot) }
+        ensures err { OnErr result
+            (KeepsRest (has_one keys.now) (lists_of self.old.slots) (lists_of self.new.slots) slot) }
+    {
+        for key in keys {
+            self.add(alloc, *key, slot)?;
+        }
+        Ok(())
+    }
+
+    fn take_keys(&mut self, keys: &[Key], slot: usize)
+        ensures { Turns false (has_one keys.now) (lists_of self.old.slots) (lists_of self.new.slots) slot }
+    {
+        for key in keys {
+            self.take(*key, slot);
+        }
+    }
+
+    // Lists the slot under the keys of an id. Those that the id before it has too list the slot already.
+    fn add_id(
+        &mut self,
+        alloc: Global,
+        id: Id,
+        before: Option<Id>,
+        slot: usize,
+    ) -> Result<(), AllocError>
+        requires { HasTurned true before (lists_of self.old.slots) slot }
+        ensures ok { OnOk result
+            (Turns true (matches_id id) (lists_of self.old.slots) (lists_of self.new.slots) slot) }
+        ensures err { OnErr result
+            (KeepsRest (matches_id id) (lists_of self.old.slots) (lists_of self.new.slots) slot) }
+    {
+        match id {
+            Id::One(entity) => self.add_keys(alloc, &[Key::Single(entity)], slot),
+            Id::Two(relationship, target) => {
+                let keys = keys_of_pair(relationship, target);
+                self.add_keys(alloc, &keys[..own_count(before, relationship)], slot)
+            }
+        }
+    }
+
+    // Takes the slot off the lists of an id. Those that the id before it has too list the slot no more.
+    fn take_id(&mut self, id: Id, before: Option<Id>, slot: usize)
+        requires { HasTurned false before (lists_of self.old.slots) slot }
+        ensures { Turns false (matches_id id) (lists_of self.old.slots) (lists_of self.new.slots) slot }
+    {
+        match id {
+            Id::One(entity) => self.take_keys(&[Key::Single(entity)], slot),
+            Id::Two(relationship, target) => {
+                let keys = keys_of_pair(relationship, target);
+                self.take_keys(&keys[..own_count(before, relationship)], slot);
+            }
+        }
+    }
+
+    fn add_each(&mut self, alloc: Global, ids: &[Id], slot: usize) -> Result<(), AllocError>
+        ensures ok { OnOk result
+            (Turns true (any_matches ids.now) (lists_of self.old.slots) (lists_of self.new.slots) slot) }
+        ensures err { OnErr result
+            (KeepsRest (any_matches ids.now) (lists_of self.old.slots) (lists_of self.new.slots) slot) }
+    {
+        let mut before = None;
+        for id in ids {
+            self.add_id(alloc, *id, before, slot)?;
+            before = Some(*id);
+        }
+        Ok(())
+    }
+
+    /// Lists a new table's slot under all patterns that match one of these ids. An `Err` changes nothing that is listed.
+    pub fn add_all(&mut self, alloc: Global, ids: &[Id], slot: usize) -> Result<(), AllocError>
+        requires { (p : Patterns) → lists_of self.old.slots p slot ≡ false }
+        ensures ok { OnOk result
+            (Turns true (any_matches ids.now) (lists_of self.old.slots) (lists_of self.new.slots) slot) }
+        ensures err { OnErr result (ListsSame (lists_of self.old.slots) (lists_of self.new.slots)) }
+    {
+        let added = self.add_each(alloc, ids, slot);
+        if added.is_err() {
+            self.take_all(ids, slot);
+        }
+        added
+    }
+
+    /// Takes a table's slot off the lists of all patterns that match one of these ids. It takes no memory.
+    pub fn take_all(&mut self, ids: &[Id], slot: usize)
+        ensures { Turns false (any_matches ids.now) (lists_of self.old.slots) (lists_of self.new.slots) slot }
+    {
+        let mut before = None;
+        for id in ids {
+            self.take_id(*id, before, slot);
+            before = Some(*id);
+        }
+    }
+}
+
+// The pattern that an id alone matches.
+fn exactly(id: Id) -> Pattern
+    ensures { result ≡ exactly id }
+{
+    match id {
+        Id::One(entity) => Pattern::One(entity),
+        Id::Two(relationship, target) => Pattern::Two(Part::Is(relationship), Part::Is(target)),
+    }
+}
+
+// The keys of the patterns that match a pair.
+fn keys_of_pair(relationship: Entity, target: Entity) -> [Key; 4]
+    ensures { result ≡ keys_of (Two relationship target) }
+{
+    [
+        Key::Pair(relationship, target),
+        Key::Target(target),
+        Key::Relationship(relationship),
+        Key::AnyPair,
+    ]
+}
+
+// How many of the keys of a pair the id before it lacks: the pairs of a relationship stand beside each other in a type.
+fn own_count(before: Option<Id>, relationship: Entity) -> usize
+    ensures { result ≡ own_count before relationship }
+{
+    match before {
+        None | Some(Id::One(_)) => 4,
+        Some(Id::Two(own, _)) => { if own.is(relationship) { 2 } else { 3 } }
+    }
+}

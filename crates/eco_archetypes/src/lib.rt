@@ -1,0 +1,18 @@
+//! The tables of a store, one for each type, with all that finds them (Flecs manual, Quickstart: entities with the same
+//! components stand together in an archetype table).
+//!
+//! [`Archetypes`] has the tables in their slots. A type finds its table through a map, an id that comes or goes leads over an edge
+//! from a table to the next, and a pattern finds the tables whose types have an id that it matches through an index. Who asks for more
+//! than a pattern asks by a [`TypeTest`].
+#![tactic(auto)]
+
+mod archetypes;
+mod edges;
+mod found;
+mod id_index;
+mod type_map;
+mod type_test;
+
+pub use archetypes::Archetypes;
+pub use found::{Found, entities_in};
+pub use type_test::{AllOf, Naming, TypeTest};

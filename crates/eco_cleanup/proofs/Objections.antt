@@ -1,0 +1,155 @@
+-- The objection that is found is the least of all.
+use Rattle.std.proofs.Common.{◌≡◌, Bool, true, false, cond, not, ◌&&◌, ◌||◌, List, [], ◌∷◌, Option, Some, None, refl, sym, ap, IsTrue, Ordering, Less, Equal, Greater}
+use Rattle.std.proofs.lemmas.Cmp.{on_total, then_total}
+use Rattle.std.specs.Cmp.{IsTotalOrder}
+use Rattle.std.specs.List.{list_any}
+use Rattle.std.specs.Ordering.{is_le, ordering_then}
+use Rattle.eco_ids.specs.declared.entity.Entity.{Entity}
+use Rattle.eco_ids.specs.declared.entity.TheConstants.{ON_DELETE, ON_DELETE_TARGET, PANIC}
+use Rattle.eco_ids.specs.declared.id.Id.{Id}
+use Rattle.eco_ids.specs.declared.id.Id.TheVariants.{One, Two}
+use Rattle.eco_ids.specs.Cleanup.{policy}
+use Rattle.eco_ids.specs.Order.{entity_cmp, entity_eq, has_item}
+use Rattle.eco_ids.specs.World.{WorldState}
+use Rattle.eco_ids.proofs.Ascending.{both, first, second}
+use Rattle.eco_ids.proofs.IdOrder.{entity_cmp_total}
+use Rattle.eco_ids.proofs.Overlaps.{entity_eq_is, entity_eq_itself}
+use Rattle.eco_tables.specs.Table.{TableState, entities_of}
+use Rattle.eco_tables.specs.Tables.{table_in}
+use Rattle.eco_cleanup.specs.Firsts.{counted, former}
+use Rattle.eco_cleanup.specs.Nodes.{is_falling, is_member}
+use Rattle.eco_cleanup.specs.Objections.{first_objection, first_outside, first_protected, named_first, objection, objection_at, objection_cmp, objection_of, protects}
+use Rattle.eco_cleanup.specs.Policies.{names_on}
+use Rattle.eco_cleanup.specs.declared.node.Node.{Node}
+use Rattle.eco_cleanup.specs.declared.node.Node.TheVariants.{Member, Falling, Named}
+use Rattle.eco_cleanup.specs.declared.objection.Objection.{Objection}
+use Rattle.eco_cleanup.proofs.Firsts.{IsFirst, counted_first, first_alike, fold_first, former_first}
+
+pub objection_cmp_total : IsTotalOrder objection_cmp
+objection_cmp_total = then_total (on_total (λ o. o.holder) entity_cmp_total) (on_total (λ o. o.member) entity_cmp_total)
+
+shared : (p m a b : Bool) → ((p || (m && a)) || (m && b)) ≡ (p || (m && (a || b)))
+shared true m a b = refl
+shared false true a b = refl
+shared false false a b = refl
+
+-- a test that is asked of each
+spread_left : (m : Bool) {B : Type 0} (t : B → Bool) (bs : List B) → list_any (λ b. m && t b) bs ≡ (m && list_any t bs)
+spread_left true t bs = refl
+spread_left false t [] = refl
+spread_left false t (b ∷ bs) = spread_left false t bs
+
+spread_right : (m : Bool) {B : Type 0} (t : B → Bool) (bs : List B) → list_any (λ b. t b && m) bs ≡ (list_any t bs && m)
+spread_right m t [] = refl
+spread_right m t (b ∷ bs) = by (t b) (spread_right m t bs)
+  where
+    by : (x : Bool) → list_any (λ b. t b && m) bs ≡ (list_any t bs && m) → ((x && m) || list_any (λ b. t b && m) bs) ≡ ((x || list_any t bs) && m)
+    by false rest = rest
+    by true rest = absorbed m (list_any t bs) (list_any (λ b. t b && m) bs) rest
+      where
+        absorbed : (m any each : Bool) → each ≡ (any && m) → (m || each) ≡ m
+        absorbed true any each is = refl
+        absorbed false true each is = is
+        absorbed false false each is = is
+
+module _ (w : WorldState) (nodes : List Node) where
+  abbrev names_member : Id → Entity → Bool
+  names_member i m = is_member nodes m && names_on w PANIC m i
+
+  abbrev in_role : Entity → Entity → Entity → Entity → Bool
+  in_role e owner condition m = is_member nodes m && (entity_eq e m && entity_eq (policy w owner condition) PANIC)
+
+  role_first : (e owner condition : Entity) → IsFirst entity_cmp_total (in_role e owner condition) (counted e (protects w nodes e owner condition))
+  role_first e owner condition =
+      counted_first entity_cmp_total (in_role e owner condition) e (protects w nodes e owner condition)
+      (ap (λ t. is_member nodes e && (t && entity_eq (policy w owner condition) PANIC)) (entity_eq_itself e))
+      (λ b h. sym (entity_eq_is e b (first (entity_eq e b) (entity_eq (policy w owner condition) PANIC)
+      (second (is_member nodes b) (entity_eq e b && entity_eq (policy w owner condition) PANIC) h))))
+
+  named_first_is : (p : Entity → Bool) (one : Option Entity) (i : Id) → IsFirst entity_cmp_total p one
+      → IsFirst entity_cmp_total (λ m. p m || names_member i m) (named_first w nodes one i)
+  named_first_is p one (One x) f = former_first entity_cmp_total p (in_role x x ON_DELETE) one (counted x (protects w nodes x x ON_DELETE)) f (role_first x x ON_DELETE)
+  named_first_is p one (Two r t) f =
+      let head = counted r (protects w nodes r r ON_DELETE) in
+      let tail = counted t (protects w nodes t r ON_DELETE_TARGET) in
+      first_alike entity_cmp_total (λ m. (p m || in_role r r ON_DELETE m) || in_role t r ON_DELETE_TARGET m) (λ m. p m || names_member (Two r t) m)
+      (λ m. shared (p m) (is_member nodes m) (entity_eq r m && entity_eq (policy w r ON_DELETE) PANIC) (entity_eq t m && entity_eq (policy w r ON_DELETE_TARGET) PANIC))
+      (former entity_cmp (former entity_cmp one head) tail)
+      (former_first entity_cmp_total (λ m. p m || in_role r r ON_DELETE m) (in_role t r ON_DELETE_TARGET) (former entity_cmp one head) tail
+      (former_first entity_cmp_total p (in_role r r ON_DELETE) one head f (role_first r r ON_DELETE)) (role_first t r ON_DELETE_TARGET))
+
+  abbrev is_protected : List Id → Entity → Bool
+  is_protected ids m = is_member nodes m && list_any (names_on w PANIC m) ids
+
+  protected_first : (ids : List Id) → IsFirst entity_cmp_total (is_protected ids) (first_protected w nodes ids)
+  protected_first ids =
+      first_alike entity_cmp_total (λ m. false || list_any (λ i. names_member i m) ids) (is_protected ids)
+      (λ m. spread_left (is_member nodes m) (names_on w PANIC m) ids) (first_protected w nodes ids)
+      (fold_first entity_cmp_total (named_first w nodes) names_member named_first_is (λ m. false) None ids (λ m. refl))
+
+  abbrev stays_of : List Entity → Entity → Bool
+  stays_of es e = has_item entity_cmp es e && not (is_member nodes e)
+
+  abbrev one_stays : Entity → Entity → Bool
+  one_stays x e = entity_eq x e && not (is_member nodes e)
+
+  outside_first : (es : List Entity) → IsFirst entity_cmp_total (stays_of es) (first_outside nodes es)
+  outside_first es =
+      first_alike entity_cmp_total (λ e. false || list_any (λ x. one_stays x e) es) (stays_of es)
+      (λ e. spread_right (not (is_member nodes e)) (λ x. entity_eq x e) es) (first_outside nodes es)
+      (fold_first entity_cmp_total (λ one e. former entity_cmp one (counted e (not (is_member nodes e)))) one_stays step (λ e. false) None es (λ e. refl))
+    where
+      step : (p : Entity → Bool) (one : Option Entity) (x : Entity) → IsFirst entity_cmp_total p one
+          → IsFirst entity_cmp_total (λ e. p e || one_stays x e) (former entity_cmp one (counted x (not (is_member nodes x))))
+      step p one x f =
+          former_first entity_cmp_total p (one_stays x) one (counted x (not (is_member nodes x))) f
+          (counted_first entity_cmp_total (one_stays x) x (not (is_member nodes x)) (ap (λ t. t && not (is_member nodes x)) (entity_eq_itself x))
+          (λ b h. sym (entity_eq_is x b (first (entity_eq x b) (not (is_member nodes b)) h))))
+
+  -- ---- objections
+
+  le_then : (r s : Ordering) → IsTrue (is_le r) → IsTrue (is_le s) → IsTrue (is_le (ordering_then r s))
+  le_then Less s h k = refl
+  le_then Equal s h k = k
+  le_then Greater s h k = h
+
+  and_false : (a b : Bool) → b ≡ false → (a && b) ≡ false
+  and_false true b h = h
+  and_false false b h = refl
+
+  pair_first : (p q : Entity → Bool) (h m : Option Entity) → IsFirst entity_cmp_total p h → IsFirst entity_cmp_total q m
+      → IsFirst objection_cmp_total (λ o. p o.holder && q o.member) (objection w nodes h m)
+  pair_first p q None m f g = λ o. ap (λ t. t && q o.member) (f o.holder)
+  pair_first p q (Some h) None f g = λ o. and_false (p o.holder) (q o.member) (g o.member)
+  pair_first p q (Some h) (Some m) f g = (
+    both (p h) (q m) f.0 g.0,
+    λ o k. le_then (entity_cmp h o.holder) (entity_cmp m o.member) (f.1 o.holder (first (p o.holder) (q o.member) k)) (g.1 o.member (second (p o.holder) (q o.member) k)),
+  )
+
+  -- a holder of the table stays, and an id of its type names a member under the policy Panic
+  abbrev pub objects_at : TableState → Objection → Bool
+  objects_at t o = stays_of (entities_of t.rows) o.holder && is_protected t.ids o.member
+
+  abbrev pub objects : List (Option TableState) → Node → Objection → Bool
+  objects slots (Member e) o = false
+  objects slots (Falling n) o = false
+  objects slots (Named n) o = not (is_falling nodes n) && objects_at (table_in slots n) o
+
+  one_first : (slots : List (Option TableState)) (a : Node) → IsFirst objection_cmp_total (objects slots a) (objection_of w slots nodes a)
+  one_first slots (Member e) = λ o. refl
+  one_first slots (Falling n) = λ o. refl
+  one_first slots (Named n) =
+      elim (is_falling nodes n) as (λ b. IsFirst objection_cmp_total (λ o. not b && objects_at (table_in slots n) o)
+      (cond b None (objection_at w nodes (table_in slots n)))) [
+        | true ↦ λ o. refl
+        | false ↦ pair_first (stays_of (entities_of (table_in slots n).rows)) (is_protected (table_in slots n).ids)
+            (first_outside nodes (entities_of (table_in slots n).rows)) (first_protected w nodes (table_in slots n).ids)
+            (outside_first (entities_of (table_in slots n).rows)) (protected_first (table_in slots n).ids)
+      ]
+
+  pub objection_first : (slots : List (Option TableState))
+      → IsFirst objection_cmp_total (λ o. list_any (λ a. objects slots a o) nodes) (first_objection w slots nodes)
+  objection_first slots =
+      fold_first objection_cmp_total (λ one a. former objection_cmp one (objection_of w slots nodes a)) (objects slots)
+      (λ p one a f. former_first objection_cmp_total p (objects slots a) one (objection_of w slots nodes a) f (one_first slots a))
+      (λ o. false) None nodes (λ o. refl)

@@ -1,0 +1,10 @@
+use Rattle.std.proofs.Common.{◌≡◌, fold, take, None}
+use Rattle.eco_cleanup.specs.Firsts.{former}
+use Rattle.eco_cleanup.specs.Objections.{objection_cmp, objection_of}
+use Rattle.eco_cleanup.specs.Worlds.{world_of}
+use Rattle.eco_cleanup.proofs.ties.Ties.first_objection.Given as goal
+
+abbrev pub invariant-loop-node : goal.invariant-loop-node
+invariant-loop-node l =
+    l.first ≡ fold (λ first node. former objection_cmp first (objection_of (world_of l.self.store.now.entities) l.self.archetypes.now l.doomed.nodes.keys node))
+    None (take l.node-index l.node-items)

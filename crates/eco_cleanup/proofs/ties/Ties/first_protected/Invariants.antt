@@ -1,0 +1,7 @@
+use Rattle.std.proofs.Common.{◌≡◌, take}
+use Rattle.eco_cleanup.specs.Objections.{first_protected}
+use Rattle.eco_cleanup.specs.Worlds.{world_of}
+use Rattle.eco_cleanup.proofs.ties.Ties.first_protected.Given as goal
+
+abbrev pub invariant-loop-id : goal.invariant-loop-id
+invariant-loop-id l = l.first ≡ first_protected (world_of l.self.store.now.entities) l.doomed.nodes.keys (take l.id-index l.ids)

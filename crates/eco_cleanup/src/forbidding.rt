@@ -1,0 +1,93 @@
+//! Whether a policy forbids a delete.
+ghost use Rattle.std.specs.Prelude.{◌≡◌};
+ghost use Rattle.eco_tables.specs.Tables.{table_in};
+ghost use Rattle.eco_cleanup.specs.Objections.{first_objection, first_outside, first_protected, named_first, objection_at, objection_of, protects};
+ghost use Rattle.eco_cleanup.specs.Worlds.{world_of};
+
+use crate::doomed::Doomed;
+use crate::node::Node;
+use crate::objection::{Objection, first_of, lesser};
+use crate::policy::policy;
+use crate::ties::Ties;
+use eco_ids::entity::{ON_DELETE, ON_DELETE_TARGET, PANIC};
+use eco_ids::{Entity, Id};
+use eco_tables::Table;
+
+impl Ties<'_> {
+    /// The least objection to the deaths that were found: of the least holder, and for it of the least member. Each table
+    /// that names a member and does not fall is judged once. It takes no memory.
+    pub fn first_objection(&self, doomed: &Doomed) -> Option<Objection>
+        ensures { result ≡ first_objection (world_of self.now.store.now.entities) self.now.archetypes.now doomed.now.nodes.keys }
+    {
+        let mut first = None;
+        for node in doomed.nodes.as_slice() {
+            first = first_of(first, self.objection_of(doomed, *node));
+        }
+        first
+    }
+
+    fn objection_of(&self, doomed: &Doomed, node: Node) -> Option<Objection>
+        ensures { result ≡ objection_of (world_of self.now.store.now.entities) self.now.archetypes.now doomed.now.nodes.keys node }
+    {
+        match node {
+            Node::Named(slot) if !doomed.falls(slot) => {
+                let table = self.archetypes.tables().get(slot)?;
+                self.objection_at(doomed, table)
+            }
+            _ => None,
+        }
+    }
+
+    fn objection_at(&self, doomed: &Doomed, table: &Table) -> Option<Objection>
+        ensures { result ≡ objection_at (world_of self.now.store.now.entities) doomed.now.nodes.keys table.now }
+    {
+        let member = self.first_protected(doomed, table.type_list().as_slice())?;
+        let holder = doomed.first_outside(table.rows())?;
+        Some(Objection { holder, member })
+    }
+
+    // The least member that one of the ids names under the policy `Panic`.
+    fn first_protected(&self, doomed: &Doomed, ids: &[Id]) -> Option<Entity>
+        ensures { result ≡ first_protected (world_of self.now.store.now.entities) doomed.now.nodes.keys ids.now }
+    {
+        let mut first = None;
+        for id in ids {
+            first = self.named_first(doomed, first, *id);
+        }
+        first
+    }
+
+    // The least of the first and of the members that the id names so.
+    fn named_first(&self, doomed: &Doomed, first: Option<Entity>, id: Id) -> Option<Entity>
+        ensures { result ≡ named_first (world_of self.now.store.now.entities) doomed.now.nodes.keys first id }
+    {
+        match id {
+            Id::One(own) => lesser(first, own, self.protects(doomed, own, own, ON_DELETE)),
+            Id::Two(relationship, target) => {
+                let head = self.protects(doomed, relationship, relationship, ON_DELETE);
+                let tail = self.protects(doomed, target, relationship, ON_DELETE_TARGET);
+                lesser(lesser(first, relationship, head), target, tail)
+            }
+        }
+    }
+
+    // Whether the entity is a member, and the policy of the owner under the condition is `Panic`.
+    fn protects(&self, doomed: &Doomed, entity: Entity, owner: Entity, condition: Entity) -> bool
+        ensures { result ≡ protects (world_of self.now.store.now.entities) doomed.now.nodes.keys entity owner condition }
+    {
+        doomed.has(entity) && policy(self.store, owner, condition).is(PANIC)
+    }
+}
+
+impl Doomed {
+    // The least of the entities that do not die.
+    fn first_outside(&self, entities: &[Entity]) -> Option<Entity>
+        ensures { result ≡ first_outside self.now.nodes.keys entities.now }
+    {
+        let mut first = None;
+        for entity in entities {
+            first = lesser(first, *entity, !self.has(*entity));
+        }
+        first
+    }
+}

@@ -1,0 +1,13 @@
+//! What a search for the doomed finds.
+use eco_ids::Entity;
+
+/// An entity or a table that a search for the doomed came to.
+#[derive(Clone, Copy, Debug, PartialEq, Eq, Hash)]
+pub enum Node {
+    /// The entity dies.
+    Member(Entity),
+    /// All who stand in the table of this slot die.
+    Falling(usize),
+    /// The type of this slot's table names a member, and is not doomed by that.
+    Named(usize),
+}

@@ -1,0 +1,56 @@
+-- A table of one row that takes its next type, as a step of that row.
+use Rattle.std.proofs.Common.{◌≡◌, ℕ, List, [], ◌∷◌, map, length, get_or, set, refl, arith, zero, suc, ◌<◌, Option, unwrap_or, ap, ◌∙◌, true, false, true≢false}
+use Rattle.std.proofs.Common.{Some, None, is_some, IsTrue, sym, subst, inl, inr}
+use Rattle.std.proofs.lemmas.Bool.{cases_eq}
+use Rattle.std.proofs.lemmas.List.{length-map}
+use Rattle.eco_tables.specs.Table.{Row, TableState, retyped_row}
+use Rattle.eco_tables.specs.Tables.{no_table, no_row, slot_of, table_in, rowless, rowless_type}
+use Rattle.eco_ids.specs.declared.id.Id.{Id}
+use Rattle.eco_entities.specs.declared.place.Place.{Place}
+use Rattle.eco_store.specs.Layout.{rows_in, RetypesRow, MovesRow, SetsRows, StepsRow}
+use Rattle.eco_archetypes.specs.Archetypes.{TakesType, RowlessIn, is_rowless, SameSlots}
+use Rattle.eco_store.specs.declared.layout.moves.Moved.{Moved}
+use Rattle.eco_archetypes.specs.Edges.{toggled}
+
+pub retypes_one : (xs : List Row) (row : ℕ) (f : Row → Row) (d : Row) → length xs ≡ 1 → row < length xs → map f xs ≡ set xs row (f (get_or xs row d))
+retypes_one [] row f d alone within = absurd (omega (arith, within))
+retypes_one (x ∷ []) zero f d alone within = refl
+retypes_one (x ∷ []) (suc row) f d alone within = absurd (omega (arith, within))
+retypes_one (x ∷ y ∷ xs) row f d alone within = absurd (omega (arith, alone))
+
+pub takes_row : (s s' : List (Option TableState)) (p : Place) (ids : List Id) → TakesType s s' p.table ids → length (rows_in s p.table) ≡ 1
+    → p.row < length (rows_in s p.table) → RetypesRow (rows_in s) (rows_in s') p ids
+takes_row s s' p ids takes alone within = record {
+  changed = takes.rows ∙ retypes_one (rows_in s p.table) p.row (retyped_row ids) no_row alone within;
+  others = λ m other. ap (λ o. (unwrap_or o no_table).rows) (takes.others m other);
+}
+
+-- and no table is without rows that was not
+pub takes_rowless : (s s' : List (Option TableState)) (n : ℕ) (ids : List Id) → TakesType s s' n ids → length (table_in s n).rows ≡ 1
+    → (slots : List ℕ) → RowlessIn s slots → RowlessIn s' slots
+takes_rowless s s' n ids takes alone slots none k h = elim (cases_eq k n) [
+  | inl here ↦
+      absurd (has_row (slot_of s' n) (ap length takes.rows ∙ length-map (table_in s n).rows (retyped_row ids) ∙ alone)
+      (subst (λ j. IsTrue (is_rowless s' j)) here h))
+  | inr other ↦ none k (subst (λ o. IsTrue (is_some (rowless_type o))) (takes.others k other) h)
+]
+  where
+    of_rows : (t : TableState) (rows : List Row) → length rows ≡ 1 → IsTrue (is_some (rowless t rows)) → ⊥
+    of_rows t [] long h = absurd (omega (arith, long))
+    of_rows t (r ∷ rest) long h = true≢false (sym h)
+
+    has_row : (o : Option TableState) → length (unwrap_or o no_table).rows ≡ 1 → IsTrue (is_some (rowless_type o)) → ⊥
+    has_row None long h = true≢false (sym h)
+    has_row (Some t) long h = of_rows t t.rows long h
+
+pub rowless_slots : (s s' : List (Option TableState)) (xs : List ℕ) → SameSlots s s' → RowlessIn s xs → RowlessIn s' xs
+rowless_slots s s' xs same none k h = none k (subst (λ o. IsTrue (is_some (rowless_type o))) (same k) h)
+
+-- a step from where the rows were the same
+pub steps_from : (s s0 s1 : List (Option TableState)) (p : Place) (i : Id) → rows_in s0 ≡ rows_in s → (m : Option Moved)
+    → StepsRow s0 s1 p i m → StepsRow s s1 p i m
+steps_from s s0 s1 p i same None steps =
+    subst (λ R. SetsRows R (rows_in s1) p.table
+    (set (R p.table) p.row (retyped_row (toggled (map (λ x. x.0) (get_or (R p.table) p.row no_row).held) i) (get_or (R p.table) p.row no_row)))) same steps
+steps_from s s0 s1 p i same (Some m) steps =
+    subst (λ R. MovesRow R (rows_in s1) p m.place (toggled (map (λ x. x.0) (get_or (R p.table) p.row no_row).held) i) m.filler) same steps

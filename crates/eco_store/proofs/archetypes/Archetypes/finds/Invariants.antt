@@ -1,9 +1,0 @@
-use Rattle.std.proofs.Common.{◌≡◌, ℕ, false, take}
-use Rattle.eco_store.specs.Archetypes.{is_found_in}
-use Rattle.eco_store.specs.TypeTests.{group_at, passes_with}
-use Rattle.eco_store.proofs.archetypes.Archetypes.finds.Given as goal
-
-abbrev pub invariant-loop-place : goal.invariant-loop-place
-invariant-loop-place g l =
-    let ps = group_at (g.T.TypeTest.groups l.test) l.group in
-    (n : ℕ) → is_found_in (passes_with (g.T.TypeTest.test l.test) (take l.place ps)) l.fn.self n ≡ false

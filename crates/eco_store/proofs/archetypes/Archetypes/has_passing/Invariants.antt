@@ -1,7 +1,0 @@
-use Rattle.std.proofs.Common.{◌≡◌, false, take}
-use Rattle.std.specs.List.{list_any}
-use Rattle.eco_store.specs.Archetypes.{is_found_in}
-use Rattle.eco_store.proofs.archetypes.Archetypes.has_passing.Given as goal
-
-abbrev pub invariant-loop-slot : goal.invariant-loop-slot
-invariant-loop-slot g l = list_any (is_found_in (g.T.TypeTest.test l.test) l.fn.self) (take l.slot-index l.slots) ≡ false

@@ -1,8 +1,0 @@
-use Rattle.std.proofs.Common.{ap, ◌∙◌}
-use Rattle.eco_store.specs.Archetypes.{type_at, type_matches}
-use Rattle.eco_store.proofs.archetypes.Archetypes.listed.Goals as goal
-
-pub returns-clause-listed : goal.returns-clause-listed
-returns-clause-listed c n =
-    let p = c.args.pattern in
-    c.slots.ensures.listed n ∙ c.self.invariant.matches p n ∙ ap (λ ts. type_matches (type_at ts n) p) c.self.view_is

@@ -1,7 +1,0 @@
-use Rattle.std.proofs.Common.{take}
-use Rattle.eco_entities.specs.Needs.{need}
-use Rattle.eco_store.specs.Widths.{AreWidths}
-use Rattle.eco_store.proofs.archetypes.Archetypes.widths_of.Given as goal
-
-abbrev pub invariant-loop-id : goal.invariant-loop-id
-invariant-loop-id l = AreWidths (need l.entities) l.self (take l.id-index l.ids) l.widths.items

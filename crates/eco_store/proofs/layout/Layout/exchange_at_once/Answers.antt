@@ -1,0 +1,51 @@
+use Rattle.std.proofs.Common.{◌<◌, ◌≡◌, length, sym, ap, subst, ◌∙◌}
+use Rattle.eco_tables.specs.Tables.{no_row, table_in, AllHaveIds}
+use Rattle.eco_archetypes.specs.Edges.{exchanged}
+use Rattle.eco_store.specs.Layout.{LayoutState, rows_in, ids_at, MovesRow}
+use Rattle.eco_store.specs.Preparing.{staying}
+use Rattle.eco_store.proofs.LaidRows.{rows_alike, idle_laid, idle_leaves, idle_moves}
+use Rattle.eco_archetypes.proofs.ArchetypeLemmas.{typed_table}
+use Rattle.eco_store.proofs.layout.Layout.exchange_at_once.Goals as goal
+
+pub invariant_of-self : goal.invariant_of-self
+invariant_of-self c =
+    let none = ap (λ (l : LayoutState). l.moves) c.self.view_is ∙ c.requires.unprepared in
+    idle_laid _ _ c.self.invariant none _ (c.in_err-to.ensures.rowless (staying c.self.inside.prepared))
+
+pub returns-in_err-to-clause-unprepared : goal.returns-in_err-to-clause-unprepared
+returns-in_err-to-clause-unprepared c = idle_moves _ _ c.self.invariant (ap (λ (l : LayoutState). l.moves) c.self.view_is ∙ c.requires.unprepared) _
+
+pub shift-moved-requires-clause-row : goal.shift-moved-requires-clause-row
+shift-moved-requires-clause-row c =
+    subst (λ R. c.args.place.row < length (R c.args.place.table)) (sym (rows_alike _ _ c.exchange.ensures.rows)) (rw (← c.self.view_is) at c.requires.row)
+
+pub release-requires : goal.release-requires
+release-requires c =
+    let none = ap (λ (l : LayoutState). l.moves) c.self.view_is ∙ c.requires.unprepared in
+    let left = idle_leaves _ _ c.self.invariant none _ _ c.args.place.table c.args.place.row c.in_ok-to.to
+    c.shift-moved.ensures.moves (c.in_ok-to.ensures.rowless (staying c.self.inside.prepared)) in
+    record { ready = left.0; tidy = left.1 }
+
+pub returns-clause-ok : goal.returns-clause-ok
+returns-clause-ok c =
+    let s = c.self.inside.archetypes in
+    let s1 = c.exchange.new.self in
+    let m = c.shift-moved.result in
+    let i = c.args.leaving in
+    let j = c.args.coming in
+    let there = rw (← c.self.view_is) at c.requires.row in
+    let own = subst AllHaveIds c.tables.ensures.same c.rows_have_ids.ensures c.args.place.table c.args.place.row no_row there in
+    rw (← c.self.view_is)
+    (subst (λ R. MovesRow (rows_in s) R c.args.place m.place (exchanged (ids_at s c.args.place) i j) m.filler) (sym (rows_alike _ _ c.release.ensures.rows))
+    (subst (λ R. MovesRow R (rows_in c.shift-moved.new.archetypes) c.args.place m.place (exchanged (ids_at s c.args.place) i j) m.filler)
+    (rows_alike s s1 c.exchange.ensures.rows)
+    (subst (λ xs. MovesRow (rows_in s1) (rows_in c.shift-moved.new.archetypes) c.args.place m.place xs m.filler)
+    (typed_table s1 c.in_ok-to.to _ c.in_ok-to.ensures.typed ∙ ap (λ xs. exchanged xs i j) (sym own)) c.shift-moved.ensures.row)))
+
+pub returns-clause-unprepared : goal.returns-clause-unprepared
+returns-clause-unprepared c =
+    c.release.ensures.left ∙ idle_moves _ _ c.self.invariant (ap (λ (l : LayoutState). l.moves) c.self.view_is ∙ c.requires.unprepared) _
+
+pub returns-clause-widths : goal.returns-clause-widths
+returns-clause-widths c =
+    rw (← c.self.view_is) (λ was. c.release.ensures.widths _ (c.shift-moved.ensures.widths _ (c.exchange.ensures.widths was)))

@@ -1,0 +1,34 @@
+//! An entity gets one id in the place of another.
+ghost use Rattle.std.specs.Prelude.{◌≡◌, [], true, false, IsTrue, OnOk, OnErr};
+ghost use Rattle.eco_ids.specs.Indices.{changed, is_alive};
+ghost use Rattle.eco_store.specs.Store.{has, with_exchanged};
+
+use crate::placing::fix_place;
+use crate::store::Store;
+use eco_entities::laws::needs_never_grow;
+use eco_ids::{Entity, Id};
+use std::alloc::AllocError;
+
+impl Store {
+    /// Gives an entity an id that it lacks, with zeros, in the place of one that it has. The values of its other ids stay. An
+    /// `Err` comes where memory is refused, and then no entity has changed.
+    pub fn exchange(&mut self, e: Entity, leaving: Id, coming: Id) -> Result<(), AllocError>
+        requires alive { IsTrue (is_alive self.old.entities e) }
+        requires there { has self.old.entities e leaving ≡ true }
+        requires absent { has self.old.entities e coming ≡ false }
+        ensures ok { OnOk result (self.new.entities ≡ changed self.old.entities e (with_exchanged leaving coming)) }
+        ensures err { OnErr result (self.new.entities ≡ self.old.entities) }
+        ensures unprepared { self.new.prepared ≡ [] }
+    {
+        // A place's row fits, as a table has no more rows than there are indices.
+        self.entities.rules();
+        needs_never_grow();
+        let place = self.entities.place_of(e).unwrap();
+        let moved = self
+            .layout
+            .exchange_row(&self.entities, place, leaving, coming)?;
+        fix_place(&mut self.entities, moved.filler, place);
+        self.entities.set_place(e, moved.place);
+        Ok(())
+    }
+}

@@ -1,0 +1,56 @@
+-- Ids that say how pairs behave, among others.
+use Rattle.std.proofs.Common.{◌≡◌, ◌↔◌, Bool, true, false, inl, inr, List, refl, sym, ap, ◌∙◌, subst, true≢false, IsTrue, IsFalse}
+use Rattle.std.specs.List.{list_any}
+use Rattle.eco_ids.specs.declared.entity.Entity.{Entity}
+use Rattle.eco_ids.specs.declared.entity.TheConstants.{ACYCLIC, EXCLUSIVE, WITH}
+use Rattle.eco_ids.specs.declared.id.Id.{Id}
+use Rattle.eco_ids.specs.declared.id.Id.TheVariants.{One, Two}
+use Rattle.eco_ids.specs.Order.{id_cmp, id_eq, entity_eq, has_item}
+use Rattle.eco_ids.proofs.Facts.{any_is, id_eq_is, id_eq_itself, or_left, or_parts, or_right}
+use Rattle.eco_ids.proofs.Overlaps.{entity_eq_is, entity_eq_itself}
+use Rattle.eco_traits.specs.Prospect.{is_trait, is_with}
+use Rattle.eco_traits.specs.Target.{LacksTraits}
+
+-- what a member passes, one of them passes
+member : (p : Id → Bool) (ids : List Id) (j : Id) → IsTrue (has_item id_cmp ids j) → IsTrue (p j) → IsTrue (list_any p ids)
+member p ids j h is = let m = any_is (λ y. id_eq y j) ids h in m.2 p (subst (λ z. IsTrue (p z)) (sym (id_eq_is m.0 j m.1)) is)
+
+not_so : (b : Bool) → (IsTrue b → ⊥) → b ≡ false
+not_so true f = absurd (f refl)
+not_so false f = refl
+
+of_with : (i : Id) → IsTrue (is_with i) → (x : Entity) × (i ≡ Two WITH x)
+of_with (One c) h = absurd (true≢false (sym h))
+of_with (Two r t) h = (t, ap (λ q. Two q t) (entity_eq_is r WITH h))
+
+pub with_among : (ids : List Id) (b : Bool) → b ≡ list_any is_with ids → IsTrue b ↔ ((x : Entity) × IsTrue (has_item id_cmp ids (Two WITH x)))
+with_among ids b same = (
+  λ h.
+      let m = any_is is_with ids (sym same ∙ h) in
+      let pair = of_with m.0 m.1 in
+      (pair.0, m.2 (λ y. id_eq y (Two WITH pair.0)) (subst (λ i. IsTrue (id_eq m.0 i)) pair.1 (id_eq_itself m.0))),
+  λ pair. same ∙ member is_with ids (Two WITH pair.0) pair.1 (entity_eq_itself WITH),
+)
+
+lacks : (ids : List Id) → list_any is_trait ids ≡ false → (j : Id) → IsTrue (is_trait j) → has_item id_cmp ids j ≡ false
+lacks ids none j is = not_so (has_item id_cmp ids j) (λ h. true≢false (sym (member is_trait ids j h is) ∙ none))
+
+lacked : (ids : List Id) → LacksTraits ids → (i : Id) → IsTrue (is_trait i) → IsTrue (has_item id_cmp ids i) → ⊥
+lacked ids none (One c) is there =
+    elim (or_parts (entity_eq c EXCLUSIVE) (entity_eq c ACYCLIC) is) as (λ _. ⊥) [
+      | inl k ↦ true≢false (sym (subst (λ e. IsTrue (has_item id_cmp ids (One e))) (entity_eq_is c EXCLUSIVE k) there) ∙ none.0)
+      | inr k ↦ true≢false (sym (subst (λ e. IsTrue (has_item id_cmp ids (One e))) (entity_eq_is c ACYCLIC k) there) ∙ none.1)
+    ]
+lacked ids none (Two r t) is there =
+    true≢false (sym (subst (λ q. IsTrue (has_item id_cmp ids (Two q t))) (entity_eq_is r WITH is) there) ∙ none.2 t)
+
+pub traits_among : (ids : List Id) (b : Bool) → b ≡ list_any is_trait ids → IsFalse b ↔ LacksTraits ids
+traits_among ids b same = (
+  λ h.
+      let none = sym same ∙ h in (
+        lacks ids none (One EXCLUSIVE) (or_left _ (entity_eq EXCLUSIVE ACYCLIC) (entity_eq_itself EXCLUSIVE)),
+        lacks ids none (One ACYCLIC) (or_right (entity_eq ACYCLIC EXCLUSIVE) _ (entity_eq_itself ACYCLIC)),
+        λ x. lacks ids none (Two WITH x) (entity_eq_itself WITH),
+      ),
+  λ none. same ∙ not_so (list_any is_trait ids) (λ h. let m = any_is is_trait ids h in lacked ids none m.0 m.1 (m.2 (λ y. id_eq y m.0) (id_eq_itself m.0))),
+)

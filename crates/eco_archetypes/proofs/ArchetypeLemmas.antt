@@ -2,6 +2,7 @@
 use Rattle.std.proofs.Common.{◌≡◌, ◌≢◌, ℕ, ◌<◌, Bool, true, false, cond, ◌&&◌, List, [], ◌∷◌, length, slice_get, Option, Some, None, option_map, unwrap_or}
 use Rattle.std.proofs.Common.{IsSome, nat_eq, refl, sym, ap, ◌∙◌, arith, inl, inr, is_some}
 use Rattle.std.specs.HashMap.{HashMap, get}
+use Rattle.std.specs.Map.{lookup}
 use Rattle.std.proofs.lemmas.Bool.{cases_eq}
 use Rattle.std.proofs.lemmas.Bool.Decides.{Decides-eqb}
 use Rattle.eco_ids.specs.declared.pattern.Pattern.{Pattern}
@@ -106,6 +107,19 @@ module _ {S E : Type 0} (s s' : List (Option TableState)) (m m' : HashMap (List 
       there = λ t n e. found.types.there t n (sym (same n) ∙ e);
     };
     matches = λ f n. found.matches f n ∙ ap (λ o. type_matches o f) (sym (same n));
+    graph = λ n k i e. let was = found.graph n k i e in (was.0, same n ∙ was.1, same k ∙ was.2);
+    agreed = agreed;
+  }
+
+  -- the same types are found by maps that were made ready for more
+  pub found_kept : IsArchetypes s m l g → ((k : ℕ) → type_at s' k ≡ type_at s k) → m'.entries ≡ m.entries → IsIdIndex (type_at s') l'
+      → AreAgreed s' → IsArchetypes s' m' l' g
+  found_kept found same ready matches agreed = record {
+    types = record {
+      found = λ t n e. same n ∙ found.types.found t n (sym (ap (lookup (same_ids t)) ready) ∙ e);
+      there = λ t n e. ap (lookup (same_ids t)) ready ∙ found.types.there t n (sym (same n) ∙ e);
+    };
+    matches = matches;
     graph = λ n k i e. let was = found.graph n k i e in (was.0, same n ∙ was.1, same k ∙ was.2);
     agreed = agreed;
   }

@@ -197,3 +197,16 @@ module _ {S : Type 0} where
   pub cut_bare : (old new : List (HashMap Id ℕ S)) (slot : ℕ) → Cuts old new slot → (j : Id) → edge new slot j ≡ None
   cut_bare old new slot cuts j =
       cuts slot j ∙ ap (λ b. cond (b || leads_to slot (edge old slot j)) None (edge old slot j)) ((Decides-eqb slot slot).1 refl)
+
+-- an edge that was put where none was, and taken again
+pub put_taken : {S : Type 0} (g g1 g2 g3 g4 : List (HashMap Id ℕ S)) (n : ℕ) (i : Id) (to : ℕ) → edge g n i ≡ None → SameEdges g g1
+    → Puts g1 g2 n i (Some to) → SameEdges g2 g3 → Puts g3 g4 n i None → SameEdges g g4
+put_taken g g1 g2 g3 g4 n i to none covered put stayed taken k j =
+    taken k j ∙ by (nat_eq k n) (same_id i j) refl refl
+  where
+    by : (a b : Bool) → nat_eq k n ≡ a → same_id i j ≡ b → cond (a && b) None (edge g3 k j) ≡ edge g k j
+    by true true e f =
+        sym (ap (λ m. edge g m j) (same_slot k n e) ∙ sym (ap (edge g n) ((id_eq-Decides i j).0 f)) ∙ none)
+    by true false e f = stayed k j ∙ put k j ∙ ap (λ c. cond (c && same_id i j) (Some to) (edge g1 k j)) e
+        ∙ ap (λ c. cond c (Some to) (edge g1 k j)) f ∙ covered k j
+    by false b e f = stayed k j ∙ put k j ∙ ap (λ c. cond (c && same_id i j) (Some to) (edge g1 k j)) e ∙ covered k j

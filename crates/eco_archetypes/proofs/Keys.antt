@@ -1,6 +1,6 @@
 -- Which patterns have a key, and how slots come to be listed under them.
 use Rattle.std.proofs.Common.{◌≡◌, ℕ, ◌<◌, ◌||◌, List, ◌∷◌, [], length, take, get_or, ◌+◌, Bool, true, false, cond, ◌&&◌, Option, None, Some, nat_eq, refl, sym, ap}
-use Rattle.std.proofs.Common.{◌∙◌, arith, zero, suc, if◌then◌else◌, inl, inr, ◌⊎◌}
+use Rattle.std.proofs.Common.{◌∙◌, arith, zero, suc, if◌then◌else◌, inl, inr, ◌⊎◌, true≢false}
 use Rattle.std.specs.List.{list_any}
 use Rattle.std.specs.HashMap.{HashMap, get}
 use Rattle.std.proofs.lemmas.List.Folds.{list_any_more}
@@ -32,7 +32,7 @@ keys_same (Pair a b) (Pair c d) e =
 keys_same (Relationship a) (Relationship b) e = ap Relationship ((entity_eq-Decides a b).0 e)
 keys_same (Target a) (Target b) e = ap Target ((entity_eq-Decides a b).0 e)
 keys_same AnyPair AnyPair e = refl
-keys_same _ _ e = absurd (cc)
+keys_same _ _ e = absurd (true≢false (sym e))
 
 -- `==` of entities, as code and as definitions have it
 pub same_is : (a b : Entity) → (entity_impl.eq-value).it a b ≡ entity_eq b a
@@ -113,7 +113,7 @@ not_listed m k slot none p n = by (has_key k p) (nat_eq slot n) refl
 
 -- without the one slot that was there none is left
 pub only_one : (ns : List ℕ) (slot : ℕ) → is_only ns slot ≡ true → (n : ℕ) → false ≡ cond (nat_eq slot n) false (list_any (nat_eq n) ns)
-only_one [] slot only n = absurd (cc)
+only_one [] slot only n = absurd (true≢false (sym only))
 only_one (x ∷ []) slot only n = by (nat_eq slot n) (nat_eq n x) refl refl
   where
     here : slot ≡ x

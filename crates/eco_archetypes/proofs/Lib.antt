@@ -4,6 +4,7 @@ pub mod Joinings
 pub mod Keys
 pub mod TypeMaps
 pub mod Listings
+pub mod Makings
 pub mod Searching
 pub mod EdgeLists
 pub mod Graphs

@@ -1,7 +1,8 @@
 -- All tables once more, without room.
-use Rattle.std.proofs.Common.{◌≡◌, ℕ, zero, suc, ◌+◌, ◌≤◌, cond, List, [], ◌∷◌, length, Option, Some, None, unwrap_or, is_some, map, refl, sym, ap, ◌∙◌, arith, subst}
+use Rattle.std.proofs.Common.{◌≡◌, ℕ, zero, suc, ◌+◌, ◌≤◌, ◌<◌, ◌++◌, take, get_or, cond, List, [], ◌∷◌}
+use Rattle.std.proofs.Common.{length, Option, Some, None, unwrap_or, is_some, map, refl, sym, ap, ◌∙◌, arith, subst}
 use Rattle.std.specs.List.{count_by}
-use Rattle.std.proofs.lemmas.List.{length-map}
+use Rattle.std.proofs.lemmas.List.{length-map, map-append, take_more}
 use Rattle.std.proofs.lemmas.List.Recursion.{is_count_by}
 use Rattle.eco_tables.specs.Table.{TableState, RowsHaveIds}
 use Rattle.eco_tables.specs.Tables.{slot_of, no_table, without_room, AreSlots}
@@ -45,3 +46,10 @@ slots_copied slots vacant capacity room are ready =
     still : (o : Option TableState) → RowsHaveIds (unwrap_or o no_table) → RowsHaveIds (unwrap_or (without_room o) no_table)
     still None has = has
     still (Some t) has = has
+
+-- one more turn of a loop that copies what it is shown
+pub pushed_more : {X Y : Type 0} (f : X → Y) (xs : List X) (i : ℕ) (d : X) (ys : List Y) (y : Y) → i < length xs → ys ≡ map f (take i xs)
+    → y ≡ f (get_or xs i d) → ys ++ y ∷ [] ≡ map f (take (i + 1) xs)
+pushed_more f xs i d ys y within done is =
+    ap (λ zs. zs ++ y ∷ []) done ∙ ap (λ z. map f (take i xs) ++ z ∷ []) is ∙ sym (map-append f (take i xs) (get_or xs i d ∷ []))
+    ∙ sym (ap (map f) (take_more xs i d within))

@@ -1,4 +1,5 @@
-use Rattle.std.proofs.Common.{sym, take, ◌∙◌}
+use Rattle.std.proofs.Common.{arith, sym, take, ◌∙◌}
+use Rattle.std.proofs.lemmas.Grind.{common_steps}
 use Rattle.eco_archetypes.specs.TypeTests.{group_at}
 use Rattle.eco_ids.proofs.Results.{err_says}
 use Rattle.eco_archetypes.proofs.Searching.{new_found}
@@ -9,3 +10,9 @@ returns-in_err-push-clause-some g c =
     err_says c.from_residual.result
     (new_found (g.T.TypeTest.test c.args.test.now) (take c.args.place (group_at (g.T.TypeTest.groups c.args.test.now) c.args.group)) c.args.self.now _
     (sym c.is_new.ensures ∙ c.if-is_new.true))
+
+pub loop-slot-preserved : goal.loop-slot-preserved
+loop-slot-preserved g c = grind (arith, common_steps)
+
+pub returns-clause-ok : goal.returns-clause-ok
+returns-clause-ok g c = grind (arith, common_steps)

@@ -1,4 +1,4 @@
-use Rattle.std.proofs.Common.{Some, sym, ap, ◌∙◌, cond, subst, unwrap_or}
+use Rattle.std.proofs.Common.{Some, refl, sym, ap, ◌∙◌, cond, subst, unwrap_or}
 use Rattle.std.specs.Map.{lookup}
 use Rattle.eco_entities.specs.Needs.{need}
 use Rattle.eco_tables.specs.Table.{empty_table}
@@ -6,7 +6,7 @@ use Rattle.eco_tables.specs.Tables.{Sets, no_table}
 use Rattle.eco_archetypes.specs.TypeMap.{same_ids}
 use Rattle.eco_archetypes.specs.IdIndex.{lists_of}
 use Rattle.eco_archetypes.specs.Widths.{AreWidths}
-use Rattle.eco_archetypes.proofs.ArchetypeLemmas.{found_made}
+use Rattle.eco_archetypes.proofs.ArchetypeLemmas.{found_kept, found_made}
 use Rattle.eco_archetypes.proofs.Widths.{made_agreed, made_covers, widths_few, widths_lengths}
 use Rattle.eco_archetypes.proofs.archetypes.Archetypes.make.Goals as goal
 
@@ -59,3 +59,9 @@ returns-in-Ok-clause-widths c =
     let sets : Sets s s1 c.in_ok-slot.slot (Some (empty_table ids ws)) =
     rw (c.in_ok-kept.ensures.is, c.as_slice-2.ensures) at c.in_ok-slot.ensures.sets in
     rw (← c.self.view_is) (made_covers n s s1 c.in_ok-slot.slot ids ws sets widths)
+
+pub invariant_of-self : goal.invariant_of-self
+invariant_of-self c =
+    let l = lists_of c.self.inside.by_id.slots in
+    found_kept _ _ c.self.inside.by_type.slots _ l l c.self.inside.edges.lists.items c.self.inside.edges.lists.items c.self.invariant (λ k. refl)
+    c.reserve_one.ensures.same c.self.invariant.matches c.self.invariant.agreed

@@ -3,7 +3,8 @@ use Rattle.std.specs.Option.{option_copied}
 use Rattle.std.proofs.lemmas.Result.{err_from_is_err_and}
 use Rattle.eco_ids.specs.Order.{id_cmp, is_ascending}
 use Rattle.eco_tables.specs.Tables.{slot_of, table_in}
-use Rattle.eco_archetypes.specs.Archetypes.{type_at, RowlessIn}
+use Rattle.eco_archetypes.specs.Archetypes.{type_at, KeepsTypes, RowlessIn, SameRows}
+use Rattle.eco_archetypes.specs.Widths.{StillCover}
 use Rattle.eco_archetypes.specs.Edges.{toggled}
 use Rattle.eco_archetypes.proofs.Leads.{apart_by_type, stays_typed}
 use Rattle.eco_archetypes.proofs.ArchetypeLemmas.{typed_table}
@@ -43,3 +44,26 @@ returns-in_err-made-clause-rowless c =
 
 pub returns-in_default-clause-rowless : goal.returns-in_default-clause-rowless
 returns-in_default-clause-rowless c = λ slots was. c.in_ok-made.ensures.rowless slots (subst (λ s. RowlessIn s slots) (sym c.find.ensures.same) was)
+
+pub returns-in_err-made-clause-rows : goal.returns-in_err-made-clause-rows
+returns-in_err-made-clause-rows c = subst (λ s. SameRows s c.make_with_room.new.self) c.find.ensures.same c.make_with_room.ensures.rows
+
+pub returns-in_err-made-clause-widths : goal.returns-in_err-made-clause-widths
+returns-in_err-made-clause-widths c =
+    subst (λ s. StillCover c.args.entities.now s c.make_with_room.new.self) c.find.ensures.same c.make_with_room.ensures.widths
+
+pub returns-in_default-clause-apart : goal.returns-in_default-clause-apart
+returns-in_default-clause-apart c =
+    let own = c.type_list.result.now in
+    let s1 = c.make_with_room.new.self in
+    let kept = stays_typed c.self.inside.tables c.args.self.now s1 c.args.slot c.unwrap.result.now own c.self.view_is
+    (sym c.get.ensures ∙ ap option_copied c.unwrap.ensures) c.type_list.ensures.ids
+    (subst (λ s. KeepsTypes s s1) c.find.ensures.same c.make_with_room.ensures.types) in
+    apart_by_type s1 c.args.slot c.in_ok-made.made c.args.id own kept (c.in_ok-made.ensures.typed ∙ ap Some c.in_ok-type_list.ensures.is)
+
+pub returns-in_default-clause-rows : goal.returns-in_default-clause-rows
+returns-in_default-clause-rows c = subst (λ s. SameRows s c.make_with_room.new.self) c.find.ensures.same c.make_with_room.ensures.rows
+
+pub returns-in_default-clause-widths : goal.returns-in_default-clause-widths
+returns-in_default-clause-widths c =
+    subst (λ s. StillCover c.args.entities.now s c.make_with_room.new.self) c.find.ensures.same c.make_with_room.ensures.widths

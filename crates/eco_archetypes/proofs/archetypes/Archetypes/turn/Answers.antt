@@ -1,4 +1,4 @@
-use Rattle.std.proofs.Common.{◌≡◌, Some, None, cond, option_map, ap, sym, subst, ◌∙◌}
+use Rattle.std.proofs.Common.{◌≡◌, Some, None, cond, option_map, refl, ap, sym, subst, ◌∙◌}
 use Rattle.std.specs.Map.{lookup}
 use Rattle.std.specs.Option.{option_copied}
 use Rattle.eco_tables.specs.Table.{TableState}
@@ -7,6 +7,7 @@ use Rattle.eco_entities.specs.Needs.{need}
 use Rattle.eco_archetypes.specs.Archetypes.{TakesType, type_at}
 use Rattle.eco_archetypes.specs.IdIndex.{lists_of}
 use Rattle.eco_archetypes.specs.TypeMap.{same_ids}
+use Rattle.eco_archetypes.proofs.ArchetypeLemmas.{found_kept}
 use Rattle.eco_archetypes.proofs.Turnings.{found_turned}
 use Rattle.eco_archetypes.proofs.archetypes.Archetypes.turn.Goals as goal
 
@@ -31,3 +32,18 @@ pub returns-clause-widths : goal.returns-clause-widths
 returns-clause-widths c =
     rw (← c.self.view_is) (λ was.
     c.toggle.ensures.widths (need c.args.entities.now) ((rw (← c.self.view_is) at c.width_of-width.ensures.covers) was) was)
+
+pub invariant_of-self : goal.invariant_of-self
+invariant_of-self c =
+    let l = lists_of c.self.inside.by_id.slots in
+    found_kept _ _ c.self.inside.by_type.slots _ l l c.self.inside.edges.lists.items c.self.inside.edges.lists.items c.self.invariant (λ k. refl)
+    c.reserve_one.ensures.same c.self.invariant.matches c.self.invariant.agreed
+
+pub invariant_of-self-in_err-toggle : goal.invariant_of-self-in_err-toggle
+invariant_of-self-in_err-toggle c =
+    found_kept _ _ c.self.inside.by_type.slots _ (lists_of c.self.inside.by_id.slots) _ c.self.inside.edges.lists.items
+    c.self.inside.edges.lists.items c.self.invariant (λ k. ap (option_map (λ (t : TableState). t.ids)) (c.in_err-toggle.ensures.err k))
+    c.reserve_one.ensures.same c.toggle.ensures.index c.toggle.ensures.agreed
+
+pub toggle-requires-clause-width : goal.toggle-requires-clause-width
+toggle-requires-clause-width c = (rw (← c.self.view_is) at c.width_of-width.ensures.agrees)

@@ -1,0 +1,61 @@
+-- What holds after a table was made in a slot that was empty, got other room, and was dropped again.
+use Rattle.std.proofs.Common.{◌≡◌, ◌≢◌, ◌||◌, ℕ, List, ◌∷◌, Option, None, Some, OnSome, IfNone, IsSome, option_map, unwrap_or, is_some, nat_eq}
+use Rattle.std.proofs.Common.{refl, sym, ap, ◌∙◌, inl, inr}
+use Rattle.std.specs.List.{list_any}
+use Rattle.std.proofs.lemmas.Bool.{cases_eq}
+use Rattle.std.proofs.lemmas.Bool.Decides.{Decides-eqb}
+use Rattle.eco_ids.specs.declared.id.Id.{Id}
+use Rattle.eco_ids.proofs.Lists.{not_equal}
+use Rattle.eco_tables.specs.Table.{TableState, empty_table}
+use Rattle.eco_tables.specs.Tables.{slot_of, no_table, rowless_type, Sets, SetsRoom}
+use Rattle.eco_archetypes.specs.Archetypes.{type_at, KeepsTypes, RowlessIn, SameRows, SameSlots}
+use Rattle.eco_archetypes.proofs.ArchetypeLemmas.{same_rows, sets_types}
+
+module _ (s s' : List (Option TableState)) (n : ℕ) (slots : List ℕ) (slot : Option TableState) (sets : Sets s s' n slot) where
+  -- a table that may be without rows now
+  pub rowless_set : RowlessIn s slots → RowlessIn s' (n ∷ slots)
+  rowless_set was m empty =
+      elim (cases_eq m n) [
+        | inl here ↦ ap (λ b. b || list_any (nat_eq m) slots) ((Decides-eqb m n).1 here)
+        | inr other ↦
+            ap (λ b. b || list_any (nat_eq m) slots) (not_equal m n other)
+            ∙ was m (sym (ap (λ o. is_some (rowless_type o)) (sets.others m other)) ∙ empty)
+      ]
+
+  -- a table that might be without rows before
+  pub rowless_reset : RowlessIn s (n ∷ slots) → RowlessIn s' (n ∷ slots)
+  rowless_reset was m empty =
+      elim (cases_eq m n) [
+        | inl here ↦ ap (λ b. b || list_any (nat_eq m) slots) ((Decides-eqb m n).1 here)
+        | inr other ↦ was m (sym (ap (λ o. is_some (rowless_type o)) (sets.others m other)) ∙ empty)
+      ]
+
+-- a table comes to a slot that was empty
+module _ (s s' : List (Option TableState)) (n : ℕ) (ids : List Id) (ws : List ℕ) (vacant : slot_of s n ≡ None)
+    (sets : Sets s s' n (Some (empty_table ids ws))) where
+  pub made_there : IsSome (slot_of s' n)
+  made_there = ap is_some sets.changed
+
+  pub made_rows : SameRows s s'
+  made_rows = same_rows s s' n (Some (empty_table ids ws)) sets (sym (ap (λ o. (unwrap_or o no_table).rows) vacant))
+
+  apart_from_new : (k : ℕ) (own : List Id) → type_at s k ≡ Some own → k ≢ n
+  apart_from_new k own had here =
+      let bad : ◌≡◌ {A = Option (List Id)} None (Some own) = sym (ap (option_map (λ (t : TableState). t.ids)) vacant) ∙ sym (ap (type_at s) here) ∙ had in
+      absurd (cc)
+
+  pub made_types : KeepsTypes s s'
+  made_types k own had = ap (option_map (λ (t : TableState). t.ids)) (sets.others k (apart_from_new k own had)) ∙ had
+
+  module _ (s2 : List (Option TableState)) (room : SetsRoom s' s2 n) where
+    room_types : (k : ℕ) → type_at s2 k ≡ type_at s' k
+    room_types = sets_types s' s2 n _ room made_there refl
+
+    pub roomy_types : KeepsTypes s s2
+    roomy_types k own had = room_types k ∙ made_types k own had
+
+    -- and is dropped
+    pub dropped_types : (s3 : List (Option TableState)) (o : Option (List Id)) → OnSome o (Sets s2 s3 n None) → IfNone o (SameSlots s2 s3) → KeepsTypes s s3
+    dropped_types s3 None dropped kept k own had = ap (option_map (λ (t : TableState). t.ids)) (kept k) ∙ roomy_types k own had
+    dropped_types s3 (Some gone) dropped kept k own had =
+        ap (option_map (λ (t : TableState). t.ids)) (dropped.others k (apart_from_new k own had)) ∙ roomy_types k own had

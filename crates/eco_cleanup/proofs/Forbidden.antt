@@ -89,8 +89,14 @@ module _ (v : Indexed Record) (slots : List (Option TableState)) (shown : IsShow
       absurd (true≢false (sym ((exact (Member h)).1 (next ((exact (Falling n)).0 falling) standing)) ∙ outside))
   stays h n standing outside false falling = refl
 
+  pub spare : (h : Entity) (n : ℕ) → IsTrue (has_item entity_cmp (entities_of (table_in slots n).rows) h) → is_member keys h ≡ false → is_falling keys n ≡ false
+  spare h n standing outside = by (is_falling keys n) refl
+    where
+      by : (b : Bool) → is_falling keys n ≡ b → is_falling keys n ≡ false
+      by b is = is ∙ stays h n standing outside b is
+
   -- a table that names a member and stays is among those found
-  named_there : (m : Entity) (n : ℕ) → IsTrue (is_member keys m) → IsTrue (is_named slots m n) → is_falling keys n ≡ false
+  pub named_there : (m : Entity) (n : ℕ) → IsTrue (is_member keys m) → IsTrue (is_named slots m n) → is_falling keys n ≡ false
       → (b : Bool) → falls (world_of v) slots m n ≡ b → IsTrue (is_one_of keys (Named n))
   named_there m n member found spared true falling =
       absurd
@@ -124,12 +130,6 @@ module _ (v : Indexed Record) (slots : List (Option TableState)) (shown : IsShow
       let one = any_is ((node_impl.eq-value).it (Named n)) keys (named_there m n member found spared (falls (world_of v) slots m n) refl) in
       one.2 (λ a. objects (world_of v) keys slots a o)
       (subst (λ a. IsTrue (objects (world_of v) keys slots a o)) (node_same (Named n) one.0 one.1) objecting)
-    where
-      spare : (x : Entity) (n : ℕ) → IsTrue (has_item entity_cmp (entities_of (table_in slots n).rows) x) → is_member keys x ≡ false → is_falling keys n ≡ false
-      spare x n standing outside = by (is_falling keys n) refl
-        where
-          by : (b : Bool) → is_falling keys n ≡ b → is_falling keys n ≡ false
-          by b is = is ∙ stays x n standing outside b is
 
   -- ---- the least of them
 

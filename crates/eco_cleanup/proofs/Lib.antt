@@ -3,5 +3,8 @@ pub mod Firsts
 pub mod Forbidden
 pub mod Noted
 pub mod Objections
+pub mod Planned
 pub mod Roles
+pub mod Sparing
 pub mod Standing
+pub mod TakenOut

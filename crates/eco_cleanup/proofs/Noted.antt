@@ -35,7 +35,7 @@ joined old more b = list_any-append _ old more
 
 -- ---- members
 
-entity_eq_turns : (a b : Entity) → entity_eq a b ≡ entity_eq b a
+pub entity_eq_turns : (a b : Entity) → entity_eq a b ≡ entity_eq b a
 entity_eq_turns a b = by (entity_eq a b) (entity_eq b a) refl refl
   where
     by : (x y : Bool) → entity_eq a b ≡ x → entity_eq b a ≡ y → x ≡ y
@@ -136,7 +136,7 @@ module _ (w : WorldState) (slots : List (Option TableState)) (m : Entity) where
 
 -- ---- all nodes
 
-node_itself : (b : Node) → same_node b b ≡ true
+pub node_itself : (b : Node) → same_node b b ≡ true
 node_itself (Member e) = entity_ties e e ∙ entity_eq_itself e
 node_itself (Falling n) = (Decides-eqb n n).1 refl
 node_itself (Named n) = (Decides-eqb n n).1 refl

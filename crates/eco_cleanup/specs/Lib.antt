@@ -1,5 +1,6 @@
 pub mod Firsts
 pub mod Nodes
 pub mod Objections
+pub mod Plans
 pub mod Policies
 pub mod Worlds

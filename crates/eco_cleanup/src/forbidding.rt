@@ -1,7 +1,12 @@
 //! Whether a policy forbids a delete.
-ghost use Rattle.std.specs.Prelude.{◌≡◌};
+ghost use Rattle.std.specs.Prelude.{◌≡◌, List, IsTrue, IfOk};
+ghost use Rattle.eco_ids.specs.Cleanup.{IsDoomed as IsDoomedList};
+ghost use Rattle.eco_ids.specs.Order.{entity_cmp, has_item};
+ghost use Rattle.eco_ids.specs.declared.entity.Entity.{Entity as EntityData};
 ghost use Rattle.eco_tables.specs.Tables.{table_in};
-ghost use Rattle.eco_cleanup.specs.Objections.{first_objection, first_outside, first_protected, named_first, objection_at, objection_of, protects};
+ghost use Rattle.eco_store.specs.Store.{IsShown};
+ghost use Rattle.eco_cleanup.specs.Nodes.{IsSearch};
+ghost use Rattle.eco_cleanup.specs.Objections.{Answers, first_objection, first_outside, first_protected, named_first, objection_at, objection_of, protects};
 ghost use Rattle.eco_cleanup.specs.Worlds.{world_of};
 
 use crate::doomed::Doomed;
@@ -10,10 +15,31 @@ use crate::objection::{Objection, first_of, lesser};
 use crate::policy::policy;
 use crate::ties::Ties;
 use eco_ids::entity::{ON_DELETE, ON_DELETE_TARGET, PANIC};
-use eco_ids::{Entity, Id};
+use eco_ids::{Entity, Id, Refusal};
 use eco_tables::Table;
+use std::alloc::Global;
 
 impl Ties<'_> {
+    /// All that the deaths of the roots lead to, unless a policy forbids one of them: refused with `Panic` then, and last
+    /// with `OutOfMemory`.
+    pub fn judge(&self, alloc: Global, roots: &[Entity]) -> Result<Doomed, Refusal>
+        requires shown { IsShown self.now.store.now.entities self.now.archetypes.now }
+        ensures searched { IfOk result (λ d. IsSearch (world_of self.now.store.now.entities) self.now.archetypes.now roots.now
+            d.nodes.keys) }
+        ensures judged { (members : List EntityData)
+            → IsDoomedList (world_of self.now.store.now.entities) (λ x. IsTrue (has_item entity_cmp roots.now x)) members
+            → Answers (world_of self.now.store.now.entities) members result }
+    {
+        let doomed = self.search(alloc, roots)?;
+        match self.first_objection(&doomed) {
+            Some(objection) => Err(Refusal::Panic {
+                holder: objection.holder,
+                member: objection.member,
+            }),
+            None => Ok(doomed),
+        }
+    }
+
     /// The least objection to the deaths that were found: of the least holder, and for it of the least member. Each table
     /// that names a member and does not fall is judged once. It takes no memory.
     pub fn first_objection(&self, doomed: &Doomed) -> Option<Objection>

@@ -1,14 +1,18 @@
-//! What a delete takes (Flecs manual, "Component Traits", cleanup): the least set that the policies demand.
+//! Deletes (Flecs manual, "Component Traits", cleanup): who dies is the least set that the policies demand, and the others
+//! lose the ids that name the dead.
 #![tactic(auto)]
 
+mod deleting;
 mod doomed;
 mod forbidding;
 mod node;
 mod objection;
+mod plan;
 mod policy;
 mod role;
 mod ties;
 
-pub use doomed::{Doomed, find_doomed, judge_deaths};
+pub use deleting::{carry_out, delete};
+pub use doomed::Doomed;
 pub use node::Node;
 pub use objection::Objection;

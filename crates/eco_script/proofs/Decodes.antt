@@ -14,8 +14,8 @@ use Rattle.eco_script.specs.Decode.{items_list, list_in, each_in, name_in, numbe
 use Rattle.eco_script.specs.Decode.{step_of_two, step_of_three, step_of_words, step_in, script_of_parts, script_in}
 use Rattle.eco_script.specs.Script.{Script, IsScriptData, IsScript}
 use Rattle.serde_json.specs.Read.{read}
-use Rattle.eco_script.specs.Steps.{Step, create, component, add, remove, set, clear, remove_all, rename, has, get, show, list, query, IsIntegerData}
-use Rattle.eco_script.specs.Steps.{IsValueData, IsStepData, value_with, written, list_data, name_data}
+use Rattle.eco_script.specs.Steps.{Step, create, component, add, remove, set, clear, remove_all, delete, delete_with, rename, has, get, show, list, query}
+use Rattle.eco_script.specs.Steps.{IsIntegerData, IsValueData, IsStepData, value_with, written, list_data, name_data}
 use Rattle.eco_script.proofs.Values.{items_list-items_of, items_of-items_list, each_found, each_is}
 
 -- ---- what is written is found
@@ -53,6 +53,8 @@ step_found d (remove e i) is = rw is refl
 step_found d (set e i v) (value, is, of) = rw (is, value_found value v of) refl
 step_found d (clear e) is = rw is refl
 step_found d (remove_all i) is = rw is refl
+step_found d (delete e) is = rw is refl
+step_found d (delete_with i) is = rw is refl
 step_found d (rename e None) is = rw is refl
 step_found d (rename e (Some name)) is = rw is refl
 step_found d (has e i) is = rw is refl
@@ -203,8 +205,10 @@ one_is w d s e =
     chosen _ (bytes_eq w (codes "create")) _ _ s e (text_is (λ name. create (Some name)) w (codes "create") [] d s (λ t. refl))
     (λ f. chosen _ (bytes_eq w (codes "clear")) _ _ s f (text_is clear w (codes "clear") [] d s (λ t. refl))
     (λ g. chosen _ (bytes_eq w (codes "remove_all")) _ _ s g (text_is remove_all w (codes "remove_all") [] d s (λ t. refl))
-    (λ h. chosen _ (bytes_eq w (codes "show")) _ _ s h (text_is show w (codes "show") [] d s (λ t. refl))
-    (λ k. chosen _ (bytes_eq w (codes "query")) _ _ s k (text_is query w (codes "query") [] d s (λ t. refl)) (λ l. cc)))))
+    (λ h. chosen _ (bytes_eq w (codes "delete")) _ _ s h (text_is delete w (codes "delete") [] d s (λ t. refl))
+    (λ k. chosen _ (bytes_eq w (codes "delete_with")) _ _ s k (text_is delete_with w (codes "delete_with") [] d s (λ t. refl))
+    (λ l. chosen _ (bytes_eq w (codes "show")) _ _ s l (text_is show w (codes "show") [] d s (λ t. refl))
+    (λ m. chosen _ (bytes_eq w (codes "query")) _ _ s m (text_is query w (codes "query") [] d s (λ t. refl)) (λ n. cc)))))))
 
 component_is : (w x : List ℕ) (d : Data) (s : Step) → bytes_eq w (codes "component") ≡ true → option_map (component x) (number_in 1 LARGEST_ARITY d) ≡ Some s
     → IsStepData (written w (string x ∷ d ∷ [])) s

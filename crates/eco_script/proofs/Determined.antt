@@ -7,6 +7,7 @@ use Rattle.eco_ids.specs.declared.refusal.Refusal.{Refusal}
 use Rattle.eco_ids.specs.declared.refusal.Refusal.TheVariants.{NotAlive, OutOfMemory}
 use Rattle.eco_ids.specs.declared.value.Value.{Value}
 use Rattle.eco_ids.specs.Births.{Creates, MakesComponent}
+use Rattle.eco_ids.specs.Delete.{DeletesOne, DeletesWith}
 use Rattle.eco_ids.specs.Laws.{HasOneEnd}
 use Rattle.eco_ids.specs.Names.{lookup}
 use Rattle.eco_ids.specs.Outcome.{is_out_of_memory, Refuses, Answers, Meets}
@@ -64,6 +65,8 @@ pub record Laws : Type 0 where
   pub clear : (e : Entity) → HasOneEnd (λ w. Clears w e)
   pub rename : (e : Entity) (name : Option (List ℕ)) → HasOneEnd (λ w. Renames w e name)
   pub remove_all : (i : Id) → HasOneEnd (λ w. RemovesAll w i)
+  pub delete : (e : Entity) → HasOneEnd (λ w. DeletesOne w e)
+  pub delete_with : (i : Id) → HasOneEnd (λ w. DeletesWith w i)
 
 module _ (l : Laws) (w : WorldState) where
   on_entity : (text : List ℕ) (Goes : Entity → Result Reply Refusal → WorldState → Type 0) → ((x : Entity) → Once (Goes x)) → Once (OnEntity w text Goes)
@@ -93,6 +96,8 @@ module _ (l : Laws) (w : WorldState) where
   replies_once (step.set e i v) = on_entity e _ (λ x. on_id i _ (λ y. meets _ _ _ (l.set x y v w)))
   replies_once (step.clear e) = on_entity e _ (λ x. meets _ _ _ (l.clear x w))
   replies_once (step.remove_all i) = on_id i _ (λ y. meets _ _ _ (l.remove_all y w))
+  replies_once (step.delete e) = on_entity e _ (λ x. meets _ _ _ (l.delete x w))
+  replies_once (step.delete_with i) = on_id i _ (λ y. meets _ _ _ (l.delete_with y w))
   replies_once (step.rename e name) = on_entity e _ (λ x. meets _ _ _ (l.rename x name w))
   replies_once (step.has e i) = on_entity e _ (λ x. on_id i _ (λ y. answered _))
   replies_once (step.get e i) = on_entity e _ (λ x. on_id i _ (λ y. answered _))

@@ -8,6 +8,7 @@ use Rattle.eco_ids.specs.declared.refusal.Refusal.TheVariants.{NotAlive, DeadId,
 use Rattle.eco_ids.specs.Answer.{answer}
 use Rattle.eco_world.specs.Queries.{term_of}
 use Rattle.eco_ids.specs.Births.{Creates, may_create, MakesComponent, may_make_component, unfit_name}
+use Rattle.eco_ids.specs.Delete.{DeletesOne, may_delete, DeletesWith, may_delete_with}
 use Rattle.eco_ids.specs.Indices.{next_entity}
 use Rattle.eco_ids.specs.Indices as indexed
 use Rattle.eco_ids.specs.Losses.{without, nobody}
@@ -114,6 +115,18 @@ remove_all_ends w i = which (is_builtins w i) refl where
   which true e = (Err Reserved, w, rw e (refl, refl))
   which false e = (Ok tt, without w nobody (λ x j. id_eq j i), rw e (refl, refl))
 
+delete_ends : (w : WorldState) (e : Entity) → Ends (Meets (DeletesOne w e) (may_delete w e) w)
+delete_ends w e =
+    unless (DeletesOne w e) (may_delete w e) w (unfit_actor w e)
+    (plain_refusal ((not (is_alive w e), NotAlive) ∷ (is_builtin w e, Reserved) ∷ []) refl) (λ why eq. rw eq (refl, refl))
+    (λ fit. wanting (DeletesOne w e) (may_delete w e) w (rw fit refl))
+
+delete_with_ends : (w : WorldState) (i : Id) → Ends (Meets (DeletesWith w i) (may_delete_with w i) w)
+delete_with_ends w i = which (is_builtins w i) refl where
+  which : (b : Bool) → is_builtins w i ≡ b → Ends (Meets (DeletesWith w i) (may_delete_with w i) w)
+  which true e = (Err Reserved, w, rw e (refl, refl))
+  which false e = wanting (DeletesWith w i) (may_delete_with w i) w (rw e refl)
+
 rename_ends : (w : WorldState) (e : Entity) (name : Option (List ℕ)) → Ends (Meets (Renames w e name) (may_rename w e name) w)
 rename_ends w e name =
     unless (Renames w e name) (may_rename w e name) w (unfit_rename w e name)
@@ -164,6 +177,8 @@ module _ (texts : TextsRead) where
   replies_end w (step.set e i v) = on_entity w e _ (λ x. on_id w i _ (λ y. calls_end _ _ (set_ends w x y v)))
   replies_end w (step.clear e) = on_entity w e _ (λ x. calls_end _ _ (clear_ends w x))
   replies_end w (step.remove_all i) = on_id w i _ (λ y. calls_end _ _ (remove_all_ends w y))
+  replies_end w (step.delete e) = on_entity w e _ (λ x. calls_end _ _ (delete_ends w x))
+  replies_end w (step.delete_with i) = on_id w i _ (λ y. calls_end _ _ (delete_with_ends w y))
   replies_end w (step.rename e name) = on_entity w e _ (λ x. calls_end _ _ (rename_ends w x name))
   replies_end w (step.has e i) = on_entity w e _ (λ x. on_id w i _ (λ y. (Ok (truth (has w x y)), w, (refl, refl))))
   replies_end w (step.get e i) = on_entity w e _ (λ x. on_id w i _ (λ y. (Ok (got (shown_value w x y)), w, (refl, refl))))

@@ -7,7 +7,7 @@ use Rattle.serde_json.specs.Data.{Data, null, boolean, number, string, array, ob
 use Rattle.serde_json.specs.Find.{as_number, as_str, as_array, as_u64}
 use Rattle.eco_ids.specs.declared.value.TheConstants.{FIELD_COUNT, LARGEST_ARITY}
 use Rattle.eco_ids.specs.declared.value.Value.{Value}
-use Rattle.eco_script.specs.Steps.{Step, create, component, add, remove, set, clear, remove_all, rename, has, get, show, list, query, value_with}
+use Rattle.eco_script.specs.Steps.{Step, create, component, add, remove, set, clear, remove_all, delete, delete_with, rename, has, get, show, list, query, value_with}
 use Rattle.eco_script.specs.Script.{Script}
 
 -- items as a list
@@ -68,8 +68,10 @@ step_of_one word d =
     if bytes_eq word (codes "create") then option_map (λ name. create (Some name)) (as_str d)
     else (if bytes_eq word (codes "clear") then option_map clear (as_str d)
     else (if bytes_eq word (codes "remove_all") then option_map remove_all (as_str d)
+    else (if bytes_eq word (codes "delete") then option_map delete (as_str d)
+    else (if bytes_eq word (codes "delete_with") then option_map delete_with (as_str d)
     else (if bytes_eq word (codes "show") then option_map show (as_str d)
-    else (if bytes_eq word (codes "query") then option_map query (as_str d) else None))))
+    else (if bytes_eq word (codes "query") then option_map query (as_str d) else None))))))
 
 -- the step with this word, a text and one more argument
 abbrev pub step_of_two : List ℕ → List ℕ → Data → Option Step

@@ -6,6 +6,7 @@ use Rattle.eco_ids.specs.declared.refusal.Refusal.{Refusal}
 use Rattle.eco_ids.specs.declared.refusal.Refusal.TheVariants.{NotAlive}
 use Rattle.eco_ids.specs.Answer.{Row, answer}
 use Rattle.eco_ids.specs.Births.{Creates, may_create, MakesComponent, may_make_component}
+use Rattle.eco_ids.specs.Delete.{DeletesOne, may_delete, DeletesWith, may_delete_with}
 use Rattle.eco_ids.specs.Outcome.{Refuses, Answers, Meets}
 use Rattle.eco_ids.specs.Step.{Adds, may_add, Sets, may_set, Removes, may_remove, Clears, may_clear, RemovesAll, may_remove_all, Renames, may_rename}
 use Rattle.eco_ids.specs.World.{WorldState, has, is_alive, living}
@@ -58,6 +59,8 @@ Replies w (step.remove e i) = OnEntity w e (λ x. OnId w i (λ y. Calls (Meets (
 Replies w (step.set e i v) = OnEntity w e (λ x. OnId w i (λ y. Calls (Meets (Sets w x y v) (may_set w x y v) w) (λ _. done)))
 Replies w (step.clear e) = OnEntity w e (λ x. Calls (Meets (Clears w x) (may_clear w x) w) (λ _. done))
 Replies w (step.remove_all i) = OnId w i (λ y. Calls (Meets (RemovesAll w y) (may_remove_all w y) w) (λ _. done))
+Replies w (step.delete e) = OnEntity w e (λ x. Calls (Meets (DeletesOne w x) (may_delete w x) w) (λ _. done))
+Replies w (step.delete_with i) = OnId w i (λ y. Calls (Meets (DeletesWith w y) (may_delete_with w y) w) (λ _. done))
 Replies w (step.rename e name) = OnEntity w e (λ x. Calls (Meets (Renames w x name) (may_rename w x name) w) (λ _. done))
 Replies w (step.has e i) = OnEntity w e (λ x. OnId w i (λ y. Answers (truth (has w x y)) w))
 Replies w (step.get e i) = OnEntity w e (λ x. OnId w i (λ y. Answers (got (shown_value w x y)) w))

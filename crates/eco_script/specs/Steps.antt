@@ -18,6 +18,8 @@ pub data Step : Type 0 where
   set : List ℕ → List ℕ → Value → Step
   clear : List ℕ → Step
   remove_all : List ℕ → Step
+  delete : List ℕ → Step
+  delete_with : List ℕ → Step
   rename : List ℕ → Option (List ℕ) → Step
   has : List ℕ → List ℕ → Step
   get : List ℕ → List ℕ → Step
@@ -67,6 +69,8 @@ IsStepData d (remove entity id) = d ≡ written (codes "remove") (string entity 
 IsStepData d (set entity id v) = (value : Data) × (d ≡ written (codes "set") (string entity ∷ string id ∷ value ∷ [])) × IsValueData value v
 IsStepData d (clear entity) = d ≡ written (codes "clear") (string entity ∷ [])
 IsStepData d (remove_all id) = d ≡ written (codes "remove_all") (string id ∷ [])
+IsStepData d (delete entity) = d ≡ written (codes "delete") (string entity ∷ [])
+IsStepData d (delete_with id) = d ≡ written (codes "delete_with") (string id ∷ [])
 IsStepData d (rename entity name) = d ≡ written (codes "rename") (string entity ∷ name_data name ∷ [])
 IsStepData d (has entity id) = d ≡ written (codes "has") (string entity ∷ string id ∷ [])
 IsStepData d (get entity id) = d ≡ written (codes "get") (string entity ∷ string id ∷ [])

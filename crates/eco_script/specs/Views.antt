@@ -3,7 +3,7 @@ use Rattle.std.specs.Prelude.{map, option_map}
 use Rattle.eco_script.specs.Steps as script
 use Rattle.eco_script.specs.Script as whole
 use Rattle.eco_script.specs.declared.step.Step.{Step}
-use Rattle.eco_script.specs.declared.step.Step.TheVariants.{Create, Component, Add, Remove, Set, Clear, RemoveAll, Rename, Has, Get, Show, List, Query}
+use Rattle.eco_script.specs.declared.step.Step.TheVariants.{Create, Component, Add, Remove, Set, Clear, RemoveAll, Delete, DeleteWith, Rename, Has, Get, Show, List, Query}
 use Rattle.eco_script.specs.declared.script.Script.{Script}
 
 -- the step, with the texts that it borrows
@@ -15,6 +15,8 @@ step_view (Remove entity id) = script.remove entity.now id.now
 step_view (Set entity id value) = script.set entity.now id.now value
 step_view (Clear entity) = script.clear entity.now
 step_view (RemoveAll id) = script.remove_all id.now
+step_view (Delete entity) = script.delete entity.now
+step_view (DeleteWith id) = script.delete_with id.now
 step_view (Rename entity name) = script.rename entity.now (option_map (λ s. s.now) name)
 step_view (Has entity id) = script.has entity.now id.now
 step_view (Get entity id) = script.get entity.now id.now

@@ -87,6 +87,22 @@ fn remove_all(world: &mut World, id: &str) -> Result<Reply, Refusal>
     Ok(Reply::Done)
 }
 
+fn delete(world: &mut World, entity: &str) -> Result<Reply, Refusal>
+    ensures { Replies world.old (steps.delete entity.now) (answer_view result) world.new }
+{
+    let entity = read_entity(entity, world)?;
+    world.delete(entity)?;
+    Ok(Reply::Done)
+}
+
+fn delete_with(world: &mut World, id: &str) -> Result<Reply, Refusal>
+    ensures { Replies world.old (steps.delete_with id.now) (answer_view result) world.new }
+{
+    let id = read_id(id, world)?;
+    world.delete_with(id)?;
+    Ok(Reply::Done)
+}
+
 fn rename(world: &mut World, entity: &str, name: Option<&str>) -> Result<Reply, Refusal>
     ensures { Replies world.old (steps.rename entity.now (option_map (λ s. s.now) name.entry))
         (answer_view result) world.new }
@@ -148,6 +164,8 @@ pub fn perform(world: &mut World, step: &Step<'_>) -> Result<Reply, Refusal>
         Step::Set { entity, id, value } => set(world, entity, id, value),
         Step::Clear { entity } => clear(world, entity),
         Step::RemoveAll { id } => remove_all(world, id),
+        Step::Delete { entity } => delete(world, entity),
+        Step::DeleteWith { id } => delete_with(world, id),
         Step::Rename { entity, name } => rename(world, entity, name),
         Step::Has { entity, id } => has(world, entity, id),
         Step::Get { entity, id } => get(world, entity, id),

@@ -35,6 +35,12 @@ pub enum Step<'a> {
     RemoveAll {
         id: &'a str,
     },
+    Delete {
+        entity: &'a str,
+    },
+    DeleteWith {
+        id: &'a str,
+    },
     Rename {
         entity: &'a str,
         name: Option<&'a str>,
@@ -80,6 +86,8 @@ impl<'a> Step<'a> {
             "create" => Some(Step::Create(Some(text))),
             "clear" => Some(Step::Clear { entity: text }),
             "remove_all" => Some(Step::RemoveAll { id: text }),
+            "delete" => Some(Step::Delete { entity: text }),
+            "delete_with" => Some(Step::DeleteWith { id: text }),
             "show" => Some(Step::Show { entity: text }),
             "query" => Some(Step::Query { text }),
             _ => None,

@@ -22,3 +22,5 @@ pub mod Exchanges
 pub mod WholeMoves
 pub mod Needing
 pub mod Taking
+pub mod Dying
+pub mod Thinning

@@ -1,5 +1,5 @@
 -- The arity of an id, as the store shows it, is no more than the tables keep.
-use Rattle.std.proofs.Common.{◌≡◌, ◌≤◌, ◌==◌, ◌&&◌, ℕ, min, Bool, true, false, cond, IsTrue, IsSome, List, Option, None, Some, unwrap_or, option_map, option_and_then, if◌then◌else◌, refl, sym, ap, ◌∙◌, subst, arith, slice_get, is_some, nat_lt, MatchBool, Result}
+use Rattle.std.proofs.Common.{◌≡◌, ◌≤◌, ◌==◌, ◌&&◌, ℕ, Bool, true, false, cond, IsTrue, List, Option, None, Some, unwrap_or, option_map, option_and_then, if◌then◌else◌, refl, sym, ap, ◌∙◌, subst, arith, slice_get, is_some, nat_lt, MatchBool, Result}
 use Rattle.std.specs.Option.{option_or}
 use Rattle.std.proofs.lemmas.Option.{slice_get-map}
 use Rattle.eco_ids.specs.Births.{Admits, may_admit}
@@ -18,7 +18,7 @@ use Rattle.eco_entities.specs.Needs.{fields_for, need, need_in, need_of, NeedsNe
 use Rattle.eco_entities.specs.Registration.{Registration, placed}
 use Rattle.eco_entities.specs.Runs.{Call, SetPlace, LeadsTo}
 use Rattle.eco_store.specs.Placing.{fixed}
-use Rattle.eco_tables.specs.Table.{TableState, Row}
+use Rattle.eco_tables.specs.Table.{TableState}
 use Rattle.eco_archetypes.specs.Archetypes.{row_at}
 use Rattle.eco_store.specs.declared.transfer.Transfer.{Transfer}
 use Rattle.eco_store.specs.Transfers.{placed_after, with_places}

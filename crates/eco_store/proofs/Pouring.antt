@@ -43,26 +43,33 @@ change_kept s s' t from to = λ i. record { from = same_ids_in s s' t.from from 
 
 -- ---- plans
 
-changes_kept : (s s' : List (Option TableState)) (ts : List Transfer) → KeepsTypes s s' → All (λ t. IsSome (slot_of s t.from)) ts →
-    All (λ t. IsSome (slot_of s t.to)) ts
+pub changes_alike : (s s' : List (Option TableState)) (ts : List Transfer) → All (λ t. type_at s' t.from ≡ type_at s t.from) ts →
+    All (λ t. type_at s' t.to ≡ type_at s t.to) ts
     → map (change_of s') ts ≡ map (change_of s) ts
-changes_kept s s' [] keeps sources targets = refl
-changes_kept s s' (t ∷ ts) keeps sources targets =
-    let source = All-head (λ (x : Transfer). IsSome (slot_of s x.from)) t ts sources in
-    let target = All-head (λ (x : Transfer). IsSome (slot_of s x.to)) t ts targets in
-    let here = change_kept s s' t (kept_type s s' t.from keeps source) (kept_type s s' t.to keeps target) in
+changes_alike s s' [] sources targets = refl
+changes_alike s s' (t ∷ ts) sources targets =
+    let here =
+    change_kept s s' t (All-head (λ (x : Transfer). type_at s' x.from ≡ type_at s x.from) t ts sources)
+    (All-head (λ (x : Transfer). type_at s' x.to ≡ type_at s x.to) t ts targets) in
     let rest =
-    changes_kept s s' ts keeps (All-tail (λ (x : Transfer). IsSome (slot_of s x.from)) t ts sources)
-    (All-tail (λ (x : Transfer). IsSome (slot_of s x.to)) t ts targets) in
+    changes_alike s s' ts (All-tail (λ (x : Transfer). type_at s' x.from ≡ type_at s x.from) t ts sources)
+    (All-tail (λ (x : Transfer). type_at s' x.to ≡ type_at s x.to) t ts targets) in
     λ i. here i ∷ rest i
 
--- a plan stays one while no table goes
-pub plan_kept : (s s' : List (Option TableState)) (ts : List Transfer) (cs : List TypeChange) → KeepsTypes s s' → IsPlan s ts cs → IsPlan s' ts cs
-plan_kept s s' ts cs keeps plan = record {
-  sources = λ k d within. still_there s s' (get_or ts k d).from (kept_type s s' (get_or ts k d).from keeps (plan.sources k d within)) (plan.sources k d within);
-  targets = λ k d within. still_there s s' (get_or ts k d).to (kept_type s s' (get_or ts k d).to keeps (plan.targets k d within)) (plan.targets k d within);
-  types = changes_kept s s' ts keeps plan.sources plan.targets ∙ plan.types;
+-- a plan stays one while its tables keep their types
+pub plan_alike : (s s' : List (Option TableState)) (ts : List Transfer) (cs : List TypeChange) → All (λ t. type_at s' t.from ≡ type_at s t.from) ts
+    → All (λ t. type_at s' t.to ≡ type_at s t.to) ts → IsPlan s ts cs → IsPlan s' ts cs
+plan_alike s s' ts cs sources targets plan = record {
+  sources = λ k d within. still_there s s' (get_or ts k d).from (sources k d within) (plan.sources k d within);
+  targets = λ k d within. still_there s s' (get_or ts k d).to (targets k d within) (plan.targets k d within);
+  types = changes_alike s s' ts sources targets ∙ plan.types;
 }
+
+-- and so while no table goes
+pub plan_kept : (s s' : List (Option TableState)) (ts : List Transfer) (cs : List TypeChange) → KeepsTypes s s' → IsPlan s ts cs → IsPlan s' ts cs
+plan_kept s s' ts cs keeps plan =
+    plan_alike s s' ts cs (λ k d within. kept_type s s' (get_or ts k d).from keeps (plan.sources k d within))
+    (λ k d within. kept_type s s' (get_or ts k d).to keeps (plan.targets k d within)) plan
 
 pub plan_more : (s : List (Option TableState)) (ts : List Transfer) (cs : List TypeChange) (t : Transfer) (c : TypeChange) → IsPlan s ts cs
     → type_at s t.from ≡ Some c.from → type_at s t.to ≡ Some c.to → IsPlan s (ts ++ t ∷ []) (cs ++ c ∷ [])
@@ -99,8 +106,8 @@ brought_here s t n here = ap (λ b. if b then length (table_in s t.from).rows el
 brought_elsewhere : (s : List (Option TableState)) (t : Transfer) (n : ℕ) → n ≢ t.to → brought s t n ≡ 0
 brought_elsewhere s t n other = ap (λ b. if b then length (table_in s t.from).rows else 0) (not_equal t.to n (λ e. other (sym e)))
 
-due_fewer : (s s' : List (Option TableState)) (ts : List Transfer) (n : ℕ) → All (λ t. length (table_in s' t.from).rows ≤ length (table_in s t.from).rows) ts
-    → due s' ts n ≤ due s ts n
+pub due_fewer : (s s' : List (Option TableState)) (ts : List Transfer) (n : ℕ)
+    → All (λ t. length (table_in s' t.from).rows ≤ length (table_in s t.from).rows) ts → due s' ts n ≤ due s ts n
 due_fewer s s' [] n fewer = omega arith
 due_fewer s s' (t ∷ ts) n fewer =
     let here = All-head (λ (x : Transfer). length (table_in s' x.from).rows ≤ length (table_in s x.from).rows) t ts fewer in
@@ -112,7 +119,7 @@ due_fewer s s' (t ∷ ts) n fewer =
     by true here rest = omega arith
     by false here rest = omega arith
 
-due_none : (s : List (Option TableState)) (ts : List Transfer) (n : ℕ) → All (λ t. t.to ≢ n) ts → due s ts n ≡ 0
+pub due_none : (s : List (Option TableState)) (ts : List Transfer) (n : ℕ) → All (λ t. t.to ≢ n) ts → due s ts n ≡ 0
 due_none s [] n none = refl
 due_none s (t ∷ ts) n none =
     let rest = due_none s ts n (All-tail (λ (x : Transfer). x.to ≢ n) t ts none) in

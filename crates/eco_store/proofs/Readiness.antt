@@ -15,7 +15,7 @@ use Rattle.eco_ids.proofs.Lists.{not_equal}
 use Rattle.eco_store.specs.declared.moving.Move.{Move}
 use Rattle.eco_archetypes.specs.Archetypes.{type_at, KeepsTypes, KeepsRoom, SameSlots, SameTypes}
 use Rattle.eco_store.specs.Preparing.{PreparedState, nothing_prepared, with_arrival, with_target, move_to, moves_of, has_move, AreOfDifferent, arriving}
-use Rattle.eco_store.specs.Preparing.{IsReady}
+use Rattle.eco_store.specs.Preparing.{IsReady, SameIn}
 use Rattle.eco_archetypes.proofs.ArchetypeLemmas.{sets_types, typed_table}
 use Rattle.eco_store.proofs.Pouring.{same_ids_in, still_there, kept_type}
 use Rattle.eco_store.proofs.RowChanges.{is_equal}
@@ -23,13 +23,18 @@ use Rattle.std.proofs.lemmas.List.Folds.{list_any-append, list_any_none}
 use Rattle.std.proofs.lemmas.List.{get_or-drop, get_or_default, length-drop}
 use Rattle.eco_ids.proofs.Overlaps.{entity_eq_is}
 
--- nothing is ready in any tables
+-- no move is ready in any tables
+pub ready_none : (s : List (Option TableState)) (p : PreparedState) → p.arrivals ≡ [] → IsReady s p
+ready_none s p none = record {
+  there = subst (All (λ (a : Entity × ℕ). IsSome (slot_of s a.1))) (sym none) (All-nil (λ (a : Entity × ℕ). IsSome (slot_of s a.1)));
+  stays =
+      subst (All (λ (a : Entity × ℕ). IsTrue (list_any (nat_eq a.1) p.targets))) (sym none)
+      (All-nil (λ (a : Entity × ℕ). IsTrue (list_any (nat_eq a.1) p.targets)));
+  room = λ m. let nobody : arriving p.arrivals m ≡ 0 = ap (λ xs. arriving xs m) none in omega (arith, nobody);
+}
+
 pub ready_nothing : (s : List (Option TableState)) (p : PreparedState) (n : ℕ) → p ≡ nothing_prepared n → IsReady s p
-ready_nothing s p n is = subst (IsReady s) (sym is) (record {
-  there = All-nil (λ (a : Entity × ℕ). IsSome (slot_of s a.1));
-  stays = All-nil (λ (a : Entity × ℕ). IsTrue (list_any (nat_eq a.1) []));
-  room = λ m. omega arith;
-})
+ready_nothing s p n is = ready_none s p (ap (λ (q : PreparedState). q.arrivals) is)
 
 -- another table is the idle one
 pub ready_idle : (s : List (Option TableState)) (p : PreparedState) (n : ℕ) → IsReady s p → IsReady s (record p { idle = n })
@@ -202,6 +207,13 @@ spares_dropped s s' p n None ready free dropped kept = record {
       let same = ap (λ o. (unwrap_or o no_table).room) (kept (get_or p.arrivals k d).1) in
       omega (arith, same);
 }
+
+-- and the targets stay as they were
+pub same_targets : (s s' : List (Option TableState)) (targets : List ℕ) (n : ℕ) (o : Option (List Id)) → list_any (nat_eq n) targets ≡ false
+    → OnSome o (Sets s s' n None) → IfNone o (SameSlots s s') → SameIn s s' targets
+same_targets s s' targets n (Some ids) free dropped kept m among =
+    dropped.others m (λ same. true≢false (sym among ∙ ap (λ k. list_any (nat_eq k) targets) same ∙ free))
+same_targets s s' targets n None free dropped kept m among = kept m
 
 -- a row goes out of a table
 pub spares_without : (s s1 : List (Option TableState)) (p : PreparedState) (n row : ℕ) → IsSome (slot_of s n) →

@@ -1,5 +1,5 @@
 -- Which tables are without rows, after rows came and went.
-use Rattle.std.proofs.Common.{◌≡◌, ◌≢◌, ℕ, Bool, true, false, true≢false, ◌||◌, IsTrue, if◌then◌else◌, List, [], ◌∷◌, ◌++◌, length, Option, Some, None, unwrap_or, IsSome}
+use Rattle.std.proofs.Common.{◌≡◌, ◌≢◌, ℕ, Bool, true, false, true≢false, ◌||◌, IsTrue, List, [], ◌∷◌, ◌++◌, length, Option, Some, None, unwrap_or, IsSome}
 use Rattle.std.proofs.Common.{is_some, nat_eq, get_or, refl, sym, ap, subst, ◌∙◌, arith, inl, inr}
 use Rattle.std.specs.List.{list_any}
 use Rattle.std.proofs.lemmas.Bool.{cases_eq}

@@ -1,5 +1,5 @@
 -- A table of one row that takes its next type, as a step of that row.
-use Rattle.std.proofs.Common.{◌≡◌, ℕ, List, [], ◌∷◌, map, length, get_or, set, refl, arith, zero, suc, ◌<◌, Option, unwrap_or, ap, ◌∙◌, true, false, true≢false}
+use Rattle.std.proofs.Common.{◌≡◌, ℕ, List, [], ◌∷◌, map, length, get_or, set, refl, arith, zero, suc, ◌<◌, Option, unwrap_or, ap, ◌∙◌, true≢false}
 use Rattle.std.proofs.Common.{Some, None, is_some, IsTrue, sym, subst, inl, inr}
 use Rattle.std.proofs.lemmas.Bool.{cases_eq}
 use Rattle.std.proofs.lemmas.List.{length-map}

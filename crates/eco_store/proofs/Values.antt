@@ -203,6 +203,13 @@ record_of-read w s e =
     by (Some (Free g)) = refl
     by (Some (Living g r)) = with_test (e.generation == g) r
 
+pub alive_same : (w : Indexed Registration) (s : List (Option TableState)) (e : Entity) → is_alive (read w s) e ≡ is_alive w e
+alive_same w s e = ap is_some (record_of-read w s e) ∙ by (record_of w e)
+  where
+    by : (o : Option Registration) → is_some (option_map (record_for (row_at s)) o) ≡ is_some o
+    by None = refl
+    by (Some r) = refl
+
 pub map-set : {X Y : Type 0} (f : X → Y) (xs : List X) (i : ℕ) (x : X) → map f (set xs i x) ≡ set (map f xs) i (f x)
 map-set f [] i x = refl
 map-set f (y ∷ ys) zero x = refl
@@ -252,13 +259,6 @@ module _ (w : Indexed Registration) (s : List (Option TableState)) (e : Entity) 
             (Living e.generation (renamed name r)) t;
       }
 
-  alive_same : is_alive (read w s) e ≡ is_alive w e
-  alive_same = ap is_some (record_of-read w s e) ∙ by (record_of w e)
-    where
-      by : (o : Option Registration) → is_some (option_map (record_for (row_at s)) o) ≡ is_some o
-      by None = refl
-      by (Some r) = refl
-
   name_same : own_name record_name (read w s) e ≡ own_name name_of w e
   name_same = ap (option_and_then record_name) (record_of-read w s e) ∙ by (record_of w e)
     where
@@ -269,7 +269,7 @@ module _ (w : Indexed Registration) (s : List (Option TableState)) (e : Entity) 
   unfit_same : unfit_rename record_name (read w s) e false name ≡ unfit_rename name_of w e false name
   unfit_same = λ t.
       first_refusal
-      ((not (alive_same t), NotAlive) ∷ (false, Reserved) ∷ (not (is_proper name), BadName)
+      ((not (alive_same w s e t), NotAlive) ∷ (false, Reserved) ∷ (not (is_proper name), BadName)
       ∷ (not (is_same_name (name_same t) name) && is_borne-map (record_for (row_at s)) name_of record_name (λ a. refl) w name t, NameTaken) ∷ [])
 
   may_same : may_rename record_name (read w s) e false name ≡ may_rename name_of w e false name

@@ -2,6 +2,7 @@ pub mod Seats
 pub mod Placing
 pub mod Store
 pub mod Holders
+pub mod Deaths
 pub mod Retyping
 pub mod Transfers
 pub mod Preparing

@@ -46,6 +46,10 @@ pub record PreparedState : Type 0 where
   pub targets : List ℕ
   pub idle : ℕ
 
+-- each of these slots has what it had
+abbrev pub SameIn : List (Option TableState) → List (Option TableState) → List ℕ → Type 0
+SameIn old new slots = (n : ℕ) → IsTrue (list_any (nat_eq n) slots) → slot_of new n ≡ slot_of old n
+
 -- neither a move nor a target
 abbrev pub nothing_prepared : ℕ → PreparedState
 nothing_prepared idle = record { arrivals = []; targets = []; idle = idle }

@@ -8,7 +8,7 @@ use Rattle.eco_tables.specs.Table.{TableState}
 use Rattle.eco_tables.specs.Tables.{slot_of, table_in}
 use Rattle.eco_store.specs.declared.transfer.Transfer.{Transfer}
 use Rattle.eco_store.specs.declared.type_change.TypeChange.{TypeChange}
-use Rattle.eco_archetypes.specs.Archetypes.{SameTypes}
+use Rattle.eco_archetypes.specs.Archetypes.{type_at, SameTypes}
 
 -- the change of type that comes with it
 abbrev pub change_of : List (Option TableState) → Transfer → TypeChange
@@ -23,6 +23,12 @@ pub record IsPlan (slots : List (Option TableState)) (transfers : List Transfer)
   pub sources : All (λ t. IsSome (slot_of slots t.from)) transfers
   pub targets : All (λ t. IsSome (slot_of slots t.to)) transfers
   pub types : map (change_of slots) transfers ≡ changes
+
+-- the tables in some slots keep their types, and have no more rows and no less room
+pub record Thins (old new : List (Option TableState)) (slots : List ℕ) : Type 0 where
+  pub types : (n : ℕ) → IsTrue (list_any (nat_eq n) slots) → type_at new n ≡ type_at old n
+  pub rows : (n : ℕ) → IsTrue (list_any (nat_eq n) slots) → length (table_in new n).rows ≤ length (table_in old n).rows
+  pub room : (n : ℕ) → IsTrue (list_any (nat_eq n) slots) → (table_in old n).room ≤ (table_in new n).room
 
 -- how many rows the transfers bring to a slot
 abbrev pub due : List (Option TableState) → List Transfer → ℕ → ℕ

@@ -18,10 +18,10 @@ use std::alloc::{AllocError, Global};
 use std::marker::Model;
 
 mod copying;
+mod deaths;
 mod exchanging;
 mod moves;
 mod preparing;
-mod retyping;
 mod stepping;
 
 /// A contract sees the tables in their slots and the moves to come, the next one first. The moves have their tables and
@@ -137,9 +137,7 @@ impl Layout {
         ensures widths { KeepsWidths self.old.tables self.new.tables }
     {
         self.forget_awaited(entity);
-        let moved = self.archetypes.swap_out(place.table, place.row);
-        self.prepared.release(&mut self.archetypes, place.table);
-        moved
+        self.prepared.take_row(&mut self.archetypes, place)
     }
 
     /// Writes the value of an id in a row, which has no more fields than the tables keep of it, and takes no memory. The answer

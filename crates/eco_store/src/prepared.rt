@@ -10,6 +10,7 @@ use indexmap::{IndexMap, IndexSet};
 use std::alloc::{AllocError, Global};
 use std::marker::Model;
 
+mod leaving;
 mod planning;
 
 /// A contract sees who goes to which slot, the next one first, and the slots whose tables stay though they may be without

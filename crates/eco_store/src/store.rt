@@ -22,6 +22,7 @@ use std::alloc::Global;
 use std::marker::Model;
 
 mod copying;
+mod deaths;
 mod exchanging;
 mod moves;
 mod retyping;

@@ -11,14 +11,15 @@ use Rattle.eco_ids.specs.Losses.{keeping, without, nobody}
 use Rattle.eco_ids.specs.Order.{id_cmp, id_eq, entity_eq, has_item, with_item, without_item}
 use Rattle.eco_ids.specs.Step.{changed, with_value}
 use Rattle.eco_ids.specs.World.{WorldState, Record, entities, with_entities, has, held_by, is_alive, record_of, with_record}
+use Rattle.eco_ids.proofs.Exact.{keys_find}
 use Rattle.eco_ids.proofs.Facts.{id_eq_is, not_both}
 use Rattle.eco_ids.proofs.Losses.{keeps_all, without_one}
 use Rattle.eco_ids.proofs.Records.{living_state}
 use Rattle.eco_ids.proofs.Lists.{set_own}
 use Rattle.eco_store.specs.Store.{record_ids, with_exchanged, with_toggled, with_type, with_written}
 use Rattle.eco_traits.specs.Target.{type_of_entity, type_of_record}
-use Rattle.eco_world.specs.Removals.{type_of}
-use Rattle.eco_world.proofs.Held.{Held, find_keys, keys, none_written, retyped_without, written_is}
+use Rattle.eco_world.specs.Types.{type_of}
+use Rattle.eco_world.proofs.Held.{Held, keys, none_written, retyped_without, written_is}
 
 -- what holds of either state that a call may leave holds of the one that it left
 pub by_result : {A B S : Type 0} (P : S → Type 0) (r : Result A B) (old new x : S) → OnOk r (new ≡ x) → OnErr r (new ≡ old) → P x → P old → P new
@@ -60,7 +61,7 @@ module _ (w : WorldState) (e : Entity) where
       by d at j there false is = refl
 
   lists_at : (i : Id) (d : Record) → record_of w e ≡ Some d → has_item id_cmp (record_ids d) i ≡ has w e i
-  lists_at i d at = sym (find_keys d.held i) ∙ has_at i d at
+  lists_at i d at = sym (keys_find d.held i) ∙ has_at i d at
 
   -- an id that isn't there comes
   pub toggled_in : (i : Id) → has w e i ≡ false →

@@ -1,5 +1,5 @@
 -- Ids with values, in the order of the ids.
-use Rattle.std.proofs.Common.{◌≡◌, Bool, true, false, cond, not, ◌||◌, ◌&&◌, T, List, [], ◌∷◌, map, filter, Option, Some, None, option_map, unwrap_or, refl, sym, ap, ◌∙◌, subst, is_some, is_eq, is_lt, Ordering, Less, Equal, Greater, true≢false}
+use Rattle.std.proofs.Common.{◌≡◌, Bool, true, false, cond, not, ◌&&◌, T, List, [], ◌∷◌, map, Option, Some, None, option_map, unwrap_or, refl, sym, ap, ◌∙◌, subst, is_some, is_eq, is_lt, Ordering, Less, Equal, Greater, true≢false}
 use Rattle.std.proofs.lemmas.Option.{same_Some, none-some}
 use Rattle.std.specs.FinMap.Entries.{find, put, by_order, where_key, is_sorted, below_all, is_sorted-where_key, find-where_key}
 use Rattle.eco_ids.specs.declared.id.Id.{Id}
@@ -8,8 +8,8 @@ use Rattle.eco_ids.specs.Order.{id_cmp, id_eq, has_item, without_item}
 use Rattle.eco_ids.specs.declared.entity.Entity.{Entity}
 use Rattle.eco_ids.specs.World.{Record, WorldState, has, zeros, record_of}
 use Rattle.eco_traits.specs.Target.{type_of_record}
-use Rattle.eco_world.specs.Removals.{type_of}
-use Rattle.eco_ids.proofs.Exact.{id_eq_sym}
+use Rattle.eco_world.specs.Types.{type_of}
+use Rattle.eco_ids.proofs.Exact.{id_eq_sym, keys_find, keys_kept}
 use Rattle.eco_ids.proofs.Facts.{id_eq_is, id_eq_itself}
 use Rattle.eco_ids.proofs.IdOrder.{id_cmp_total, same_id}
 use Rattle.eco_ids.proofs.Ascending.{first_T, second_T}
@@ -20,17 +20,6 @@ Held = List (Id × Value)
 
 abbrev pub keys : Held → List Id
 keys = map (λ p. p.0)
-
--- a list of ids is found as it is searched
-pub find_keys : (held : Held) (i : Id) → is_some (find id_cmp i held) ≡ has_item id_cmp (keys held) i
-find_keys [] i = refl
-find_keys (p ∷ held) i =
-    ap (λ b. is_some (cond b (Some p.1) (find id_cmp i held))) (id_eq_sym i p.0)
-    ∙ elim (id_eq p.0 i) as (λ b. is_some (cond b (Some p.1) (find id_cmp i held)) ≡ (b || has_item id_cmp (keys held) i)) [
-      | true ↦ refl
-      | false ↦
-          find_keys held i
-    ]
 
 less : (o : Ordering) → T (is_lt o) → o ≡ Less
 less Less p = refl
@@ -83,14 +72,6 @@ kept_find test held i v at = go (test i) (sym (find-where_key id_cmp test i (ali
     go true e = e
     go false e = absurd (none-some v e)
 
-keys_kept : (test : Id → Bool) (held : Held) → keys (where_key id_cmp test held) ≡ filter test (keys held)
-keys_kept test [] = refl
-keys_kept test (p ∷ held) = elim (test p.0) as (λ b. keys (cond b (p ∷ where_key id_cmp test held) (where_key id_cmp test held))
-    ≡ cond b (p.0 ∷ filter test (keys held)) (filter test (keys held))) [
-      | true ↦ ap (λ ids. p.0 ∷ ids) (keys_kept test held)
-      | false ↦ keys_kept test held
-    ]
-
 -- an id goes from among the values as from among the ids
 pub retyped_without : (held : Held) (i : Id) → T (is_sorted id_cmp held) →
     retyped (without_item id_cmp (keys held) i) held ≡ where_key id_cmp (λ j. not (id_eq j i)) held
@@ -132,7 +113,7 @@ has_of o i = is_some (find id_cmp i (unwrap_or (option_map (λ r. r.held) o) [])
 
 has_of_some : (o : Option Record) (i : Id) (ids : List Id) → Some ids ≡ option_map type_of_record o → has_item id_cmp ids i ≡ has_of o i
 has_of_some None i ids e = absurd (none-some ids (sym e))
-has_of_some (Some d) i ids e = ap (λ xs. has_item id_cmp xs i) (same_Some ids (keys d.held) e) ∙ sym (find_keys d.held i)
+has_of_some (Some d) i ids e = ap (λ xs. has_item id_cmp xs i) (same_Some ids (keys d.held) e) ∙ sym (keys_find d.held i)
 
 -- a living entity has an id where its list of ids does
 pub has_listed : (w : WorldState) (e : Entity) (i : Id) (ids : List Id) → Some ids ≡ option_map type_of_record (record_of w e) →

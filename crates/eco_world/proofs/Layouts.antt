@@ -19,7 +19,7 @@ use Rattle.eco_ids.proofs.Facts.{or_right}
 use Rattle.eco_ids.proofs.IdOrder.{id_cmp_total, same_id}
 use Rattle.eco_world.specs.declared.table_rows.TableRows.{TableRows}
 use Rattle.eco_world.specs.Layouts.{IsByType, listed, listed_of}
-use Rattle.eco_world.specs.Removals.{type_of}
+use Rattle.eco_world.specs.Types.{type_of}
 
 -- ---- elements of a list
 

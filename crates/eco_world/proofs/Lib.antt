@@ -1,6 +1,7 @@
 pub mod Answering
 pub mod Asking
 pub mod Changes
+pub mod Deleting
 pub mod Extending
 pub mod Fitting
 pub mod Held
@@ -9,4 +10,5 @@ pub mod Removals
 pub mod Starting
 pub mod Steps
 pub mod Tabled
+pub mod Unheld
 pub mod Walk

@@ -22,7 +22,7 @@ use Rattle.eco_traits.specs.Target.{type_of_record}
 use Rattle.eco_ids.proofs.Passing.{passes_some}
 use Rattle.eco_world.specs.Queries.{is_matched}
 use Rattle.eco_world.specs.Layouts.{HasTable, shown_at, shown_of}
-use Rattle.eco_world.specs.Removals.{type_of}
+use Rattle.eco_world.specs.Types.{type_of}
 use Rattle.eco_world.proofs.Layouts.{or_left, Covers, IsTable, all_of, element_cases, here, no_element, same_ids, same_type, there}
 
 itself : (n : ℕ) → nat_eq n n ≡ true

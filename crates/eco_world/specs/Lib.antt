@@ -2,5 +2,5 @@ pub mod Actor
 pub mod Builtins
 pub mod Layouts
 pub mod Queries
-pub mod Removals
+pub mod Types
 pub mod Worlds

@@ -25,6 +25,7 @@ use std::marker::Model;
 
 mod bulk;
 mod changes;
+mod deletes;
 mod holdings;
 mod layout;
 

@@ -1,9 +1,9 @@
 //! The tables and the room of moves to come.
-ghost use Rattle.std.specs.Prelude.{◌≡◌, ◌∷◌, ℕ, Some, nat_eq, not, IsTrue, IfOk, OnOk};
+ghost use Rattle.std.specs.Prelude.{◌≡◌, ◌∷◌, [], ℕ, Some, nat_eq, not, IsTrue, IfOk, OnOk};
 ghost use Rattle.std.specs.List.{list_any};
 ghost use Rattle.eco_archetypes.specs.Archetypes.{type_at, KeepsTypes, RowlessIn, SameRows};
 ghost use Rattle.eco_store.specs.Layout.{IsLaid};
-ghost use Rattle.eco_store.specs.Preparing.{nothing_prepared, staying, moves_of, has_move, IsReady};
+ghost use Rattle.eco_store.specs.Preparing.{nothing_prepared, staying, moves_of, has_move, IsReady, SameIn};
 ghost use Rattle.eco_store.specs.Transfers.{AreNamed, IsPlan, HasRoom};
 ghost use Rattle.eco_archetypes.specs.Widths.{KeepsWidths, StillCover};
 
@@ -57,6 +57,7 @@ impl Prepared {
         ensures tidy { RowlessIn archetypes.new (staying self.new) }
         ensures same { self.new ≡ record self.old { idle = self.new.idle } }
         ensures left { moves_of archetypes.new self.new ≡ moves_of archetypes.old self.old }
+        ensures targets { SameIn archetypes.old archetypes.new self.old.targets }
         ensures rows { SameRows archetypes.old archetypes.new }
         ensures widths { KeepsWidths archetypes.old archetypes.new }
     {
@@ -76,6 +77,7 @@ impl Prepared {
         ensures tidy { RowlessIn archetypes.new (staying self.new) }
         ensures same { self.new ≡ record self.old { idle = slot } }
         ensures left { moves_of archetypes.new self.new ≡ moves_of archetypes.old self.old }
+        ensures targets { SameIn archetypes.old archetypes.new self.old.targets }
         ensures rows { SameRows archetypes.old archetypes.new }
         ensures widths { KeepsWidths archetypes.old archetypes.new }
     {
@@ -121,7 +123,8 @@ impl Prepared {
         requires tidy { RowlessIn archetypes.old (staying self.old) }
         ensures plan { IfOk result (λ transfers. IsPlan archetypes.new transfers.items changes.now) }
         ensures room { IfOk result (λ transfers. HasRoom archetypes.new transfers.items) }
-        ensures named { IfOk result (λ transfers. AreNamed (staying self.new) transfers.items) }
+        ensures named { IfOk result (λ transfers. AreNamed self.new.targets transfers.items) }
+        ensures unmoved { OnOk result (self.new.arrivals ≡ []) }
         ensures tidy { RowlessIn archetypes.new (staying self.new) }
         ensures rows { SameRows archetypes.old archetypes.new }
         ensures widths { StillCover entities.now archetypes.old archetypes.new }
@@ -142,6 +145,7 @@ impl Prepared {
         requires tidy { RowlessIn archetypes.old (staying self.old) }
         ensures plan { IfOk result (λ transfers. IsPlan archetypes.new transfers.items changes.now) }
         ensures named { IfOk result (λ transfers. AreNamed self.new.targets transfers.items) }
+        ensures arrivals { OnOk result (self.new.arrivals ≡ self.old.arrivals) }
         ensures tidy { RowlessIn archetypes.new (staying self.new) }
         ensures rows { SameRows archetypes.old archetypes.new }
         ensures widths { StillCover entities.now archetypes.old archetypes.new }

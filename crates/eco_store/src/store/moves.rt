@@ -1,7 +1,7 @@
-//! An entity gets another type, at once or as the next of prepared moves, or is taken out.
+//! An entity gets another type, at once or as the next of prepared moves.
 ghost use Rattle.std.specs.Prelude.{◌≡◌, [], Some, IsTrue, IsOk, OnOk, OnErr};
-ghost use Rattle.eco_ids.specs.Indices.{changed, is_alive, with_death};
-ghost use Rattle.eco_store.specs.Preparing.{is_next, moves_left, moves_beside, AreOfDifferent};
+ghost use Rattle.eco_ids.specs.Indices.{changed, is_alive};
+ghost use Rattle.eco_store.specs.Preparing.{is_next, moves_left, AreOfDifferent};
 ghost use Rattle.eco_store.specs.Store.{type_of, with_type};
 
 use crate::moving::Move;
@@ -50,20 +50,5 @@ impl Store {
             None => {}
         }
         Ok(())
-    }
-
-    /// The entity dies: its name is free, its row goes, and its index is free at the next generation or retired. It takes
-    /// no memory.
-    pub fn take_out(&mut self, e: Entity)
-        requires { IsTrue (is_alive self.old.entities e) }
-        ensures entities { self.new.entities ≡ with_death self.old.entities e }
-        ensures left { self.new.prepared ≡ moves_beside self.old.prepared e }
-    {
-        self.entities.rules();
-        needs_never_grow();
-        let place = self.entities.place_of(e).unwrap();
-        let moved = self.layout.take_row(e, place);
-        fix_place(&mut self.entities, moved, place);
-        self.entities.kill(e);
     }
 }

@@ -18,6 +18,6 @@ impl Store {
         ensures err { OnErr result (self.new.entities ≡ self.old.entities) }
         ensures unprepared { self.new.prepared ≡ [] }
     {
-        self.layout.retype_all(&mut self.entities, changes)
+        self.delete_all(&[], changes)
     }
 }

@@ -1,9 +1,11 @@
 //! The calls that change many entities at once.
-ghost use Rattle.std.specs.Prelude.{◌≡◌, IfOk};
+ghost use Rattle.std.specs.Prelude.{◌≡◌, [], IfOk};
 ghost use Rattle.eco_ids.specs.Builtin.{is_builtins};
+ghost use Rattle.eco_ids.specs.Order.{entity_cmp, has_item, id_eq};
 ghost use Rattle.eco_ids.specs.Outcome.{Meets};
 ghost use Rattle.eco_ids.specs.Step.{RemovesAll, is_held, may_remove_all};
-ghost use Rattle.eco_world.specs.Removals.{TakesOutOfAll};
+ghost use Rattle.eco_ids.specs.World.{entities};
+ghost use Rattle.eco_cleanup.specs.Plans.{TakesOutOfAll};
 
 use crate::world::World;
 use eco_ids::entity::BUILTIN_COUNT;
@@ -28,7 +30,7 @@ impl World {
         }
         if self.is_had(id) {
             let changes = self.changes_without(id)?;
-            self.store.retype_all(&changes)?;
+            eco_cleanup::carry_out(&mut self.store, &[], &changes)?;
         }
         Ok(())
     }
@@ -41,7 +43,7 @@ impl World {
     }
 
     // Whether a built-in has the id.
-    fn is_builtins(&self, id: Id) -> bool
+    pub(crate) fn is_builtins(&self, id: Id) -> bool
         ensures { result ≡ is_builtins self.now id }
     {
         for index in 0..BUILTIN_COUNT {
@@ -58,7 +60,8 @@ impl World {
 
     // The changes that take the id out of every type that has it.
     fn changes_without(&self, id: Id) -> Result<Vec<TypeChange>, AllocError>
-        ensures { IfOk result (λ changes. TakesOutOfAll self.now id changes.items) }
+        ensures { IfOk result (λ changes.
+            TakesOutOfAll (entities self.now) (has_item entity_cmp []) (λ j. id_eq j id) changes.items) }
     {
         let types = self.store.types_with(exactly(id))?;
         let mut changes = Vec::new(self.alloc);

@@ -161,7 +161,7 @@ impl World {
     }
 
     // Whether the entity may be changed: it lives, and it is no built-in.
-    fn check_actor(&self, entity: Entity) -> Result<(), Refusal>
+    pub(crate) fn check_actor(&self, entity: Entity) -> Result<(), Refusal>
         ensures ok { OnOk result ((is_alive self.now entity ≡ true) × (is_builtin self.now entity ≡ false)) }
         ensures err { IfErr result (IsUnfit self.now entity) }
     {

@@ -13,6 +13,8 @@ returns-clause-one c = text_once (record {
   clear = c.steps_have_one_end.ensures.clear;
   rename = c.steps_have_one_end.ensures.rename;
   remove_all = c.steps_have_one_end.ensures.remove_all;
+  delete = c.steps_have_one_end.ensures.delete;
+  delete_with = c.steps_have_one_end.ensures.delete_with;
 })
 
 pub returns-clause-may_be : goal.returns-clause-may_be

@@ -1,5 +1,5 @@
-use Rattle.std.proofs.Common.{◌<◌, ◌≡◌, length, sym, ap, subst, ◌∙◌}
-use Rattle.eco_tables.specs.Tables.{no_row, table_in, AllHaveIds}
+use Rattle.std.proofs.Common.{◌<◌, length, sym, ap, subst, ◌∙◌}
+use Rattle.eco_tables.specs.Tables.{no_row, AllHaveIds}
 use Rattle.eco_archetypes.specs.Edges.{exchanged}
 use Rattle.eco_store.specs.Layout.{LayoutState, rows_in, ids_at, MovesRow}
 use Rattle.eco_store.specs.Preparing.{staying}

@@ -1,7 +1,8 @@
 use Rattle.std.proofs.Common.{◌≡◌, ◌∷◌, ◌<◌, length, Some, IsTrue, refl, sym, ap, subst, ◌∙◌}
 use Rattle.eco_tables.specs.Tables.{table_in, no_row, AllHaveIds}
-use Rattle.eco_store.specs.Layout.{rows_in, IsMoved, MovesRow}
+use Rattle.eco_store.specs.Layout.{LayoutState, rows_in, IsMoved, MovesRow}
 use Rattle.eco_archetypes.specs.Archetypes.{RowlessIn}
+use Rattle.eco_archetypes.specs.Widths.{Covers}
 use Rattle.eco_store.specs.Preparing.{staying, moves_of, is_next}
 use Rattle.eco_archetypes.proofs.ArchetypeLemmas.{there_by_row}
 use Rattle.eco_store.proofs.LaidRows.{rows_alike}
@@ -97,3 +98,12 @@ returns-clause-left c =
       | else-place-to w ↦ rw w.self-inside-is refl
     ]
     ∙ next_left s p p' a c.args.entity ids first_is next)
+
+pub returns-clause-widths : goal.returns-clause-widths
+returns-clause-widths c = λ need was.
+    let had = subst (λ (l : LayoutState). Covers need l.tables) (sym c.self.view_is) was in
+    c.finish.ensures.widths need
+    (elim c.if-place-to.branch [
+      | then-place-to w ↦ rw w.self-inside-is (w.release.ensures.widths need (w.shift-moved.ensures.widths need had))
+      | else-place-to w ↦ rw w.self-inside-is had
+    ])

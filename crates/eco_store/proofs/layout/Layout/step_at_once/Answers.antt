@@ -1,4 +1,4 @@
-use Rattle.std.proofs.Common.{[], ◌<◌, ◌≡◌, IsSome, length, unwrap_or, sym, ap, subst, ◌∙◌}
+use Rattle.std.proofs.Common.{◌<◌, ◌≡◌, IsSome, length, unwrap_or, sym, ap, subst, ◌∙◌}
 use Rattle.eco_tables.specs.Tables.{no_row, no_table, table_in, AllHaveIds}
 use Rattle.eco_archetypes.specs.Archetypes.{MayTakeType, SameSlots, SameRows}
 use Rattle.eco_archetypes.specs.Edges.{toggled}

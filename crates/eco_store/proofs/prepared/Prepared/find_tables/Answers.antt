@@ -34,6 +34,7 @@ loop-change-preserved c =
           (All-push (λ (u : Transfer). IsTrue (list_any (nat_eq u.from) targets) × IsTrue (list_any (nat_eq u.to) targets)) ts t
           (λ k d within. (grown _ (c.loop-change.invariant.named k d within).0, grown _ (c.loop-change.invariant.named k d within).1))
           (c.in_ok-to.ensures.grown t.from c.in_ok-from.ensures.stays, c.in_ok-to.ensures.stays));
+      arrivals = c.in_ok-to.ensures.arrivals ∙ c.in_ok-from.ensures.arrivals ∙ c.loop-change.invariant.arrivals;
       rows = λ n k. c.in_ok-to.ensures.rows n k ∙ c.in_ok-from.ensures.rows n k ∙ c.loop-change.invariant.rows n k;
       widths = λ was. c.in_ok-to.ensures.widths (c.in_ok-from.ensures.widths (c.loop-change.invariant.widths was));
     }

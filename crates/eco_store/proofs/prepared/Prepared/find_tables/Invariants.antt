@@ -1,4 +1,4 @@
-use Rattle.std.proofs.Common.{take}
+use Rattle.std.proofs.Common.{◌≡◌, take}
 use Rattle.eco_archetypes.specs.Archetypes.{RowlessIn, SameRows}
 use Rattle.eco_store.specs.Preparing.{staying, IsReady}
 use Rattle.eco_entities.specs.Needs.{need}
@@ -12,6 +12,7 @@ invariant-loop-change l = record {
   tidy : RowlessIn l.archetypes (staying l.self);
   plan : IsPlan l.archetypes l.transfers.items (take l.change-index l.changes);
   named : AreNamed l.self.targets l.transfers.items;
+  arrivals : l.self.arrivals ≡ l.initial.self.arrivals;
   rows : SameRows l.initial.archetypes l.archetypes;
   widths : Covers (need l.entities) l.initial.archetypes → Covers (need l.entities) l.archetypes;
 }

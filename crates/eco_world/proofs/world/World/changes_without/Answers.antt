@@ -4,7 +4,6 @@ use Rattle.std.proofs.lemmas.List.{map-append}
 use Rattle.std.proofs.lemmas.List.Elements.{All-push}
 use Rattle.eco_ids.specs.Order.{id_cmp, without_item}
 use Rattle.eco_store.specs.declared.type_change.TypeChange.{TypeChange}
-use Rattle.eco_world.specs.Worlds.{world_of}
 use Rattle.eco_world.proofs.Removals.{taken_out_of_all}
 use Rattle.eco_world.proofs.world.World.changes_without.Goals as goal
 
@@ -38,7 +37,5 @@ returns c =
     sym (append-nil c.loop-ids.yielded) ∙ sym (c.loop-ids.invariant.rest ∙ ap (λ xs. c.loop-ids.yielded ++ xs) none)
     ∙ c.into_iter-ids-iterator.ensures.into_iter_gives.0 in
     rw (← c.self.view_is)
-    (taken_out_of_all (world_of c.self.inside.store.entities) c.args.id c.in_ok-types.types.items c.loop-ids.changes.items
-    (rw c.exactly.ensures at c.in_ok-types.ensures.listed)
-    (c.loop-ids.invariant.types ∙ all)
-    c.loop-ids.invariant.taken)
+    (taken_out_of_all c.self.inside.store.entities c.args.id c.in_ok-types.types.items c.loop-ids.changes.items c.self.invariant
+    (rw c.exactly.ensures at c.in_ok-types.ensures.listed) (c.loop-ids.invariant.types ∙ all) c.loop-ids.invariant.taken)

@@ -1,0 +1,206 @@
+-- What is found among the nodes is what a delete does.
+use Rattle.std.proofs.Common.{◌≡◌, ℕ, nat_lt, Bool, true, false, cond, length, ◌↔◌, ◌||◌, inl, inr, List, [], ◌∷◌, ◌++◌, map, flat_map, slice_get, Option, Some, None, unwrap_or, refl, sym, ap, ◌∙◌, subst, true≢false, IsTrue, IsFalse, arith}
+use Rattle.std.specs.List.{All, Contains, list_any}
+use Rattle.std.proofs.lemmas.List.{map-append}
+use Rattle.std.proofs.lemmas.List.Elements.{All-nil, All-cons, All-append, Contains-append_left, Contains-append_right}
+use Rattle.std.proofs.lemmas.Option.{none-some}
+use Rattle.eco_ids.specs.declared.entity.Entity.{Entity}
+use Rattle.eco_ids.specs.declared.id.Id.{Id}
+use Rattle.eco_ids.specs.declared.id.Id.TheVariants.{One, Two}
+use Rattle.eco_ids.specs.Cleanup.{Doomed, IsDoomed, after_delete, names_any}
+use Rattle.eco_ids.specs.Indices.{Indexed, record_of}
+use Rattle.eco_ids.specs.Losses.{without}
+use Rattle.eco_ids.specs.Least.{Least, root, next}
+use Rattle.eco_ids.specs.Order.{entity_cmp, entity_eq, has_item, names_entity}
+use Rattle.eco_ids.specs.OrderLaws.{entity_ties}
+use Rattle.eco_ids.specs.World.{Record}
+use Rattle.eco_ids.proofs.Ascending.{first, second}
+use Rattle.eco_ids.proofs.Facts.{or_left, or_parts, or_right}
+use Rattle.eco_ids.proofs.Overlaps.{entity_eq_is, entity_eq_itself}
+use Rattle.eco_tables.specs.Table.{RowsHaveIds, TableState, entities_of, Row}
+use Rattle.eco_tables.specs.Tables.{no_row, no_table, slot_of, table_in}
+use Rattle.eco_archetypes.specs.Archetypes.{is_found_by}
+use Rattle.eco_archetypes.specs.TypeTests.{names_any as any_names}
+use Rattle.eco_store.specs.Store.{IsShown, Stands, record_ids}
+use Rattle.eco_store.specs.declared.type_change.TypeChange.{TypeChange}
+use Rattle.eco_cleanup.specs.Nodes.{IsSearch, falls, is_falling, is_member, is_named, is_one_of, leads, node_same}
+use Rattle.eco_cleanup.specs.Plans.{Ascend, IsPlan, TakesOut, TakesOutOfAll, change_in, change_of, changes_of, dead_among, names_dead, spared}
+use Rattle.eco_cleanup.specs.Worlds.{world_of}
+use Rattle.eco_cleanup.specs.contracts.node.NodePartialEq.TheImpl as node_impl
+use Rattle.eco_cleanup.specs.declared.node.Node.{Node}
+use Rattle.eco_cleanup.specs.declared.node.Node.TheVariants.{Member, Falling, Named}
+use Rattle.eco_cleanup.proofs.Deaths.{doomed_exactly}
+use Rattle.eco_cleanup.proofs.Forbidden.{named_there, same_test, spare}
+use Rattle.eco_cleanup.proofs.Noted.{entity_eq_turns, no_slots, node_itself}
+use Rattle.eco_cleanup.proofs.Standing.{any_id, found_at, some_id, stands_among}
+
+-- ---- who dies
+
+pub dead_are : (nodes : List Node) (e : Entity) → has_item entity_cmp (dead_among nodes) e ≡ is_member nodes e
+dead_are [] e = refl
+dead_are (Member x ∷ nodes) e = λ t. (entity_eq_turns x e ∙ sym (entity_ties e x)) t || dead_are nodes e t
+dead_are (Falling n ∷ nodes) e = dead_are nodes e
+dead_are (Named n ∷ nodes) e = dead_are nodes e
+
+-- ids name the same whatever lists them
+pub named_alike : (dead others : List Entity) → ((e : Entity) → has_item entity_cmp dead e ≡ has_item entity_cmp others e)
+    → (i : Id) → names_any dead i ≡ names_any others i
+named_alike dead others same (One e) = same e
+named_alike dead others same (Two r t) = λ k. same r k || same t k
+
+named_by : (nodes : List Node) (i : Id) → names_dead nodes i ≡ names_any (dead_among nodes) i
+named_by nodes (One e) = sym (dead_are nodes e)
+named_by nodes (Two r t) = λ k. sym (dead_are nodes r) k || sym (dead_are nodes t) k
+
+-- an id names a member where a member is named by it
+member_named : (nodes : List Node) (m : Entity) (i : Id) → IsTrue (is_member nodes m) → IsTrue (names_entity i m) → IsTrue (names_dead nodes i)
+member_named nodes m (One e) member names = ap (is_member nodes) (entity_eq_is e m names) ∙ member
+member_named nodes m (Two r t) member names =
+    elim (or_parts (entity_eq r m) (entity_eq t m) names) as (λ _. IsTrue (is_member nodes r || is_member nodes t)) [
+      | inl head ↦ or_left (is_member nodes r) (is_member nodes t) (ap (is_member nodes) (entity_eq_is r m head) ∙ member)
+      | inr tail ↦ or_right (is_member nodes r) (is_member nodes t) (ap (is_member nodes) (entity_eq_is t m tail) ∙ member)
+    ]
+
+named_member : (nodes : List Node) (i : Id) → IsTrue (names_dead nodes i) → (m : Entity) × IsTrue (is_member nodes m) × IsTrue (names_entity i m)
+named_member nodes (One e) names = (e, names, entity_eq_itself e)
+named_member nodes (Two r t) names =
+    elim (or_parts (is_member nodes r) (is_member nodes t) names) as
+    (λ _. (m : Entity) × IsTrue (is_member nodes m) × IsTrue (entity_eq r m || entity_eq t m)) [
+      | inl head ↦ (r, head, or_left (entity_eq r r) (entity_eq t r) (entity_eq_itself r))
+      | inr tail ↦ (t, tail, or_right (entity_eq r t) (entity_eq t t) (entity_eq_itself t))
+    ]
+
+-- ---- the type of a record
+
+ids_standing : (o : Option Record) (t : TableState) (row : ℕ) (r : Record) → o ≡ Some r → Stands o t row → RowsHaveIds t → record_ids r ≡ t.ids
+ids_standing o t row r at stands own =
+    let there = subst (λ x. Stands x t row) at stands in
+    ap (map (λ p. p.0)) (there.held no_row) ∙ own row no_row there.within
+
+among_change : (nodes : List Node) (o : Option TableState) (k : ℕ) (r : Row) (b : Bool) (ids : List Id) → slice_get (unwrap_or o no_table).rows k ≡ Some r
+    → b ≡ false → ids ≡ (unwrap_or o no_table).ids → Contains (map (λ (c : TypeChange). c.from) (cond b [] (change_in nodes o))) ids
+among_change nodes None k r b ids at is same = absurd (none-some r at)
+among_change nodes (Some t) k r true ids at is same = absurd (true≢false is)
+among_change nodes (Some t) k r false ids at is same = (0, omega arith, sym same)
+
+module _ (v : Indexed Record) (slots : List (Option TableState)) (shown : IsShown v slots) (roots : List Entity) (keys : List Node)
+    (exact : IsSearch (world_of v) slots roots keys) where
+  abbrev Found : Node → Type 0
+  Found = Least (λ r. IsTrue (is_one_of (map Member roots) r)) (λ x b. IsTrue (leads (world_of v) slots x b))
+
+  -- a member led to a table that is named
+  abbrev IsLed : Node → Type 0
+  IsLed (Member e) = Unit {0}
+  IsLed (Falling n) = Unit {0}
+  IsLed (Named n) = (m : Entity) × IsTrue (is_member keys m) × IsTrue (is_named slots m n)
+
+  begins : (a : Node) → IsTrue (is_one_of (map Member roots) a) → IsLed a
+  begins (Member e) h = tt
+  begins (Falling n) h = tt
+  begins (Named n) h = absurd (true≢false (sym h ∙ no_slots roots (Named n) (λ e. refl)))
+
+  goes_on : (a b : Node) → Found a → IsTrue (leads (world_of v) slots a b) → IsLed b
+  goes_on a (Member e) found h = tt
+  goes_on a (Falling n) found h = tt
+  goes_on (Member m) (Named n) found h = (m, (exact (Member m)).1 found, first _ _ h)
+  goes_on (Falling k) (Named n) found h = absurd (true≢false (sym h))
+  goes_on (Named k) (Named n) found h = absurd (true≢false (sym h))
+
+  led : {a : Node} → Found a → IsLed a
+  led (root {a = a} h) = begins a h
+  led (next {a = a} {b = b} found edge) = goes_on a b found edge
+
+  -- ---- each change takes out
+
+  abbrev Takes : TypeChange → Type 0
+  Takes = TakesOut (names_dead keys)
+
+  taken_in : (o : Option TableState) (m : Entity) → IsTrue (is_member keys m) → IsTrue (is_found_by (λ ids. any_names ids m) o) → All Takes (change_in keys o)
+  taken_in None m member found = absurd (true≢false (sym found))
+  taken_in (Some t) m member found =
+      let named = some_id (λ i. names_entity i m) t.ids (second (nat_lt 0 (length t.rows)) (any_names t.ids m) found) in
+      All-cons Takes (record { from = t.ids; to = spared keys t.ids }) []
+      (record { there = any_id (names_dead keys) t.ids named.0 named.1 (member_named keys m named.0 member named.2); taken = refl }) (All-nil Takes)
+
+  taken_of : (a : Node) → IsTrue (is_one_of keys a) → All Takes (change_of slots keys a)
+  taken_of (Member e) there = All-nil Takes
+  taken_of (Falling n) there = All-nil Takes
+  taken_of (Named n) there =
+      let by_whom = led ((exact (Named n)).0 there) in
+      unless (is_falling keys n) (taken_in (slot_of slots n) by_whom.0 by_whom.1 by_whom.2)
+    where
+      unless : (b : Bool) → All Takes (change_in keys (slot_of slots n)) → All Takes (cond b [] (change_in keys (slot_of slots n)))
+      unless true all = All-nil Takes
+      unless false all = all
+
+  all_taken : (nodes : List Node) → ((a : Node) → IsTrue (is_one_of nodes a) → IsTrue (is_one_of keys a)) → All Takes (flat_map (change_of slots keys) nodes)
+  all_taken [] within = All-nil Takes
+  all_taken (a ∷ nodes) within =
+      All-append Takes (change_of slots keys a) (flat_map (change_of slots keys) nodes) (taken_of a (within a (or_left _ _ (node_itself a))))
+      (all_taken nodes (λ b there. within b (or_right _ _ there)))
+
+  -- ---- every type that has to change does
+
+  among_all : (nodes : List Node) (n : ℕ) (ids : List Id) → IsTrue (is_one_of nodes (Named n))
+      → Contains (map (λ (c : TypeChange). c.from) (change_of slots keys (Named n))) ids
+      → Contains (map (λ (c : TypeChange). c.from) (flat_map (change_of slots keys) nodes)) ids
+  among_all [] n ids there among = absurd (true≢false (sym there))
+  among_all (a ∷ nodes) n ids there among =
+      subst (λ xs. Contains xs ids) (sym (map-append (λ (c : TypeChange). c.from) (change_of slots keys a) (flat_map (change_of slots keys) nodes)))
+      (elim (or_parts ((node_impl.eq-value).it (Named n) a) (is_one_of nodes (Named n)) there) as
+      (λ _. Contains (froms (change_of slots keys a) ++ froms (flat_map (change_of slots keys) nodes)) ids) [
+        | inl same ↦ Contains-append_left (froms (change_of slots keys a)) (froms (flat_map (change_of slots keys) nodes)) ids
+            (subst (λ x. Contains (froms (change_of slots keys x)) ids) (node_same (Named n) a same) among)
+        | inr later ↦ Contains-append_right (froms (change_of slots keys a)) (froms (flat_map (change_of slots keys) nodes)) ids
+            (among_all nodes n ids later among)
+      ])
+    where
+      froms : List TypeChange → List (List Id)
+      froms = map (λ (c : TypeChange). c.from)
+
+  every_type : (e : Entity) (r : Record) → record_of v e ≡ Some r → IsFalse (is_member keys e) → IsTrue (list_any (names_dead keys) (record_ids r))
+      → Contains (map (λ (c : TypeChange). c.from) (changes_of slots keys)) (record_ids r)
+  every_type e r at outside some =
+      let row = shown.living e r at in
+      let n = row.0 in
+      let t = table_in slots n in
+      let same : record_ids r ≡ t.ids =
+      ids_standing (record_of v (row.2).entity) t row.1 r (ap (record_of v) row.4 ∙ at) (shown.rows n row.1 row.2 row.3) (shown.own n) in
+      let id = some_id (names_dead keys) t.ids (sym (ap (list_any (names_dead keys)) same) ∙ some) in
+      let m = named_member keys id.0 id.2 in
+      let named = found_at (λ ids. any_names ids m.0) (slot_of slots n) row.1 row.2 row.3 (any_id (λ i. names_entity i m.0) t.ids id.0 id.1 m.2) in
+      let standing = subst (λ x. IsTrue (has_item entity_cmp (entities_of t.rows) x)) row.4 (stands_among t.rows row.1 row.2 row.3) in
+      let stays = spare v slots shown (map Member roots) keys exact (dead_among keys) (dead_are keys) e n standing outside in
+      let there = named_there v slots shown (map Member roots) keys exact (dead_among keys) (dead_are keys) m.0 n m.1 named stays
+      (falls (world_of v) slots m.0 n) refl in
+      among_all keys n (record_ids r) there (among_change keys (slot_of slots n) row.1 row.2 (is_falling keys n) (record_ids r) row.3 stays same)
+
+  taken : Ascend (changes_of slots keys) → TakesOutOfAll v (has_item entity_cmp (dead_among keys)) (names_any (dead_among keys)) (changes_of slots keys)
+  taken ascend =
+      subst (λ dies. TakesOutOfAll v dies (names_any (dead_among keys)) (changes_of slots keys)) (λ t e. sym (dead_are keys e) t)
+      (subst (λ goes. TakesOutOfAll v (is_member keys) goes (changes_of slots keys)) (λ t i. named_by keys i t)
+      (record { each = all_taken keys (λ a there. there); ascend = ascend; all = every_type }))
+
+  pub planned : (dead : List Entity) (changes : List TypeChange) → dead ≡ dead_among keys → changes ≡ changes_of slots keys → Ascend changes
+      → IsPlan v (λ x. IsTrue (has_item entity_cmp roots x)) dead changes
+  planned dead changes who what ascend =
+      subst (λ es. IsPlan v (λ x. IsTrue (has_item entity_cmp roots x)) es changes) (sym who)
+      (subst (IsPlan v (λ x. IsTrue (has_item entity_cmp roots x)) (dead_among keys)) (sym what)
+      (record { doomed = doomed; taken = taken (subst Ascend what ascend) }))
+    where
+      doomed : (e : Entity) → IsTrue (has_item entity_cmp (dead_among keys) e) ↔ Doomed (world_of v) (λ x. IsTrue (has_item entity_cmp roots x)) e
+      doomed e =
+          let found = doomed_exactly v slots shown roots (map Member roots) keys refl exact e in
+          (λ h. found.0 (sym (dead_are keys e) ∙ h), λ d. dead_are keys e ∙ found.1 d)
+
+-- ---- whatever lists the members
+
+pub as_listed : (v : Indexed Record) (IsRoot : Entity → Type 0) (dead : List Entity) (changes : List TypeChange) → IsPlan v IsRoot dead changes
+    → (members : List Entity) → IsDoomed (world_of v) IsRoot members
+    → without (world_of v) (has_item entity_cmp dead) (λ e. names_any dead) ≡ after_delete (world_of v) members
+as_listed v IsRoot dead changes plan members list = λ t. without (world_of v) (λ e. same e t) (λ e i. named_alike dead members same i t)
+  where
+    same : (e : Entity) → has_item entity_cmp dead e ≡ has_item entity_cmp members e
+    same e =
+        same_test (has_item entity_cmp dead e) (has_item entity_cmp members e)
+        (λ h. (list.exact e).1 ((plan.doomed e).0 h), λ h. (plan.doomed e).1 ((list.exact e).0 h))

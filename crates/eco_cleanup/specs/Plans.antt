@@ -1,0 +1,78 @@
+-- What a delete does: who dies, and which types change; and how that is found among the nodes.
+use Rattle.std.specs.Prelude.{◌≡◌, Bool, not, ◌||◌, ◌↔◌, IsTrue, IsFalse, List, [], ◌∷◌, map, filter, flat_map, Option, None, Some, if◌then◌else◌}
+use Rattle.std.specs.List.{All, Contains, list_any}
+use Rattle.eco_ids.specs.declared.entity.Entity.{Entity}
+use Rattle.eco_ids.specs.declared.id.Id.{Id}
+use Rattle.eco_ids.specs.declared.id.Id.TheVariants.{One, Two}
+use Rattle.eco_ids.specs.Cleanup.{Doomed, names_any}
+use Rattle.eco_ids.specs.Indices.{Indexed, record_of}
+use Rattle.eco_ids.specs.Order.{entity_cmp, has_item, id_cmp, is_ascending}
+use Rattle.eco_ids.specs.World.{Record}
+use Rattle.eco_tables.specs.Table.{TableState}
+use Rattle.eco_tables.specs.Tables.{slot_of}
+use Rattle.eco_store.specs.Store.{record_ids}
+use Rattle.eco_store.specs.declared.type_change.TypeChange.{TypeChange}
+use Rattle.eco_cleanup.specs.Nodes.{is_falling, is_member}
+use Rattle.eco_cleanup.specs.Worlds.{world_of}
+use Rattle.eco_cleanup.specs.declared.node.Node.{Node}
+use Rattle.eco_cleanup.specs.declared.node.Node.TheVariants.{Member, Falling, Named}
+
+-- some id of the type goes, and the type changes into the same without the ids that go
+pub record TakesOut (goes : Id → Bool) (c : TypeChange) : Type 0 where
+  pub there : IsTrue (list_any goes c.from)
+  pub taken : c.to ≡ filter (λ i. not (goes i)) c.from
+
+-- the types that change ascend
+abbrev pub Ascend : List TypeChange → Type 0
+Ascend changes = All (λ c. IsTrue (is_ascending id_cmp c.from)) changes
+
+-- each change takes out what goes, and the type of every living entity that stays and has an id that goes is changed
+pub record TakesOutOfAll
+    (v : Indexed Record) (dies : Entity → Bool) (goes : Id → Bool) (changes : List TypeChange) : Type 0 where
+  pub each : All (TakesOut goes) changes
+  pub ascend : Ascend changes
+  pub all :
+      (e : Entity) (r : Record) → record_of v e ≡ Some r → IsFalse (dies e)
+      → IsTrue (list_any goes (record_ids r)) → Contains (map (λ c. c.from) changes) (record_ids r)
+
+-- those die whom a delete of the roots takes, and the changes take the ids that name them out of the types of the others
+pub record IsPlan
+    (v : Indexed Record) (IsRoot : Entity → Type 0) (dead : List Entity) (changes : List TypeChange) : Type 0 where
+  pub doomed : (e : Entity) → IsTrue (has_item entity_cmp dead e) ↔ Doomed (world_of v) IsRoot e
+  pub taken : TakesOutOfAll v (has_item entity_cmp dead) (names_any dead) changes
+
+-- ---- found among the nodes
+
+-- the entity of a node, where it is one
+abbrev pub dead_of : Node → List Entity
+dead_of (Member e) = e ∷ []
+dead_of (Falling n) = []
+dead_of (Named n) = []
+
+-- the entities among the nodes
+abbrev pub dead_among : List Node → List Entity
+dead_among nodes = flat_map dead_of nodes
+
+-- the id names one of them
+abbrev pub names_dead : List Node → Id → Bool
+names_dead nodes (One e) = is_member nodes e
+names_dead nodes (Two r t) = is_member nodes r || is_member nodes t
+
+-- the ids that name none of them
+abbrev pub spared : List Node → List Id → List Id
+spared nodes ids = filter (λ i. not (names_dead nodes i)) ids
+
+-- the table's type loses the others, where there is a table
+abbrev pub change_in : List Node → Option TableState → List TypeChange
+change_in nodes None = []
+change_in nodes (Some t) = record { from = t.ids; to = spared nodes t.ids } ∷ []
+
+-- likewise of a table that is named and does not fall
+abbrev pub change_of : List (Option TableState) → List Node → Node → List TypeChange
+change_of slots nodes (Member e) = []
+change_of slots nodes (Falling n) = []
+change_of slots nodes (Named n) = if is_falling nodes n then [] else change_in nodes (slot_of slots n)
+
+-- of all such tables
+abbrev pub changes_of : List (Option TableState) → List Node → List TypeChange
+changes_of slots nodes = flat_map (change_of slots nodes) nodes

@@ -1,0 +1,72 @@
+//! The delete itself: planned completely, then carried out at once.
+ghost use Rattle.std.specs.Prelude.{◌≡◌, Bool, true, List, IsTrue, IfOk, OnOk, OnErr};
+ghost use Rattle.eco_ids.specs.Cleanup.{Ends, IsDoomed as IsDoomedList};
+ghost use Rattle.eco_ids.specs.Losses.{without};
+ghost use Rattle.eco_ids.specs.Order.{entity_cmp, has_item};
+ghost use Rattle.eco_ids.specs.Outcome.{Meets};
+ghost use Rattle.eco_ids.specs.declared.entity.Entity.{Entity as EntityData};
+ghost use Rattle.eco_ids.specs.declared.id.Id.{Id as IdData};
+ghost use Rattle.eco_cleanup.specs.Objections.{Answers};
+ghost use Rattle.eco_cleanup.specs.Plans.{IsPlan, TakesOutOfAll};
+ghost use Rattle.eco_cleanup.specs.Worlds.{world_of};
+
+use crate::plan::Plan;
+use crate::ties::Ties;
+use eco_ids::{Entity, Refusal};
+use eco_store::{Store, TypeChange};
+use std::alloc::{AllocError, Global};
+
+/// The roots die with all that the policies demand: the least set that holds the roots and each holder of a member under
+/// the policy `Delete`. The others lose the ids that name the dead. All memory is taken before the first of them dies.
+///
+/// Refused with `Panic` exactly where an entity that would stay has an id that names a member in a role whose policy is
+/// `Panic`: it tells the least such holder, and the least such member for it. Last, refused with `OutOfMemory`. An `Err`
+/// leaves all entities as they were.
+pub fn delete(alloc: Global, store: &mut Store, roots: &[Entity]) -> Result<(), Refusal>
+    ensures { (members : List EntityData)
+        → IsDoomedList (world_of store.old.entities) (λ x. IsTrue (has_item entity_cmp roots.now x)) members
+        → Meets (Ends (world_of store.old.entities) members) true
+        (world_of store.old.entities) result (world_of store.new.entities) }
+{
+    let plan = plan_delete(alloc, store, roots)?;
+    carry_out(store, &plan.dead, &plan.changes)?;
+    Ok(())
+}
+
+/// These entities die, and ids go from all others: those that pass a test of ids, where each change takes them out of its
+/// type, and the type of whoever stays and has one of them is changed (`TakesOutOfAll`). All memory is taken before the
+/// first entity dies. An `Err` comes where memory is refused, and changes nothing.
+///
+/// A delete is the case where the ids go that name the dead.
+pub fn carry_out(
+    store: &mut Store,
+    dead: &[Entity],
+    changes: &[TypeChange],
+) -> Result<(), AllocError>
+    requires { (goes : IdData → Bool)
+        × TakesOutOfAll store.old.entities (has_item entity_cmp dead.now) goes changes.now }
+    ensures ok { (goes : IdData → Bool)
+        → TakesOutOfAll store.old.entities (has_item entity_cmp dead.now) goes changes.now
+        → OnOk result (world_of store.new.entities
+        ≡ without (world_of store.old.entities) (has_item entity_cmp dead.now) (λ e. goes)) }
+    ensures err { OnErr result (store.new.entities ≡ store.old.entities) }
+{
+    store.delete_all(dead, changes)
+}
+
+// What the delete does, unless a policy forbids it.
+fn plan_delete(alloc: Global, store: &Store, roots: &[Entity]) -> Result<Plan, Refusal>
+    ensures planned { IfOk result (λ p.
+        IsPlan store.now.entities (λ x. IsTrue (has_item entity_cmp roots.now x)) p.dead.items p.changes.items) }
+    ensures judged { (members : List EntityData)
+        → IsDoomedList (world_of store.now.entities) (λ x. IsTrue (has_item entity_cmp roots.now x)) members
+        → Answers (world_of store.now.entities) members result }
+{
+    let ties = Ties {
+        store,
+        archetypes: store.archetypes(),
+    };
+    let doomed = ties.judge(alloc, roots)?;
+    let plan = ties.plan(alloc, &doomed)?;
+    Ok(plan)
+}

@@ -1,0 +1,91 @@
+-- Tables that lose rows, and what that leaves of the plans over them.
+use Rattle.std.proofs.Common.{◌<◌, map, ◌≡◌, ℕ, ◌+◌, ◌-◌, ◌≤◌, Bool, true, false, true≢false, List, length, get_or, Option, Some, option_map, unwrap_or}
+use Rattle.std.proofs.Common.{IsSome, nat_eq, refl, sym, ap, subst, ◌∙◌, arith, inl, inr}
+use Rattle.std.specs.List.{list_any}
+use Rattle.std.proofs.lemmas.Bool.{cases_eq}
+use Rattle.eco_tables.specs.Table.{TableState}
+use Rattle.eco_tables.specs.Tables.{slot_of, table_in, no_table, no_row, Sets, without_row}
+use Rattle.eco_ids.proofs.Lists.{length-swap_remove}
+use Rattle.eco_archetypes.specs.Archetypes.{type_at}
+use Rattle.eco_archetypes.proofs.ArchetypeLemmas.{sets_types}
+use Rattle.eco_store.specs.declared.transfer.Transfer.{Transfer}
+use Rattle.eco_store.specs.declared.type_change.TypeChange.{TypeChange}
+use Rattle.eco_store.specs.Preparing.{SameIn}
+use Rattle.eco_store.specs.Transfers.{change_of, AreNamed, IsPlan, HasRoom, Thins, due}
+use Rattle.eco_store.proofs.Pouring.{changes_alike, plan_alike, due_fewer, due_none}
+
+pub thins_same : (s : List (Option TableState)) (slots : List ℕ) → Thins s s slots
+thins_same s slots = record { types = λ n among. refl; rows = λ n among. omega arith; room = λ n among. omega arith }
+
+pub thins_both : (s s1 s2 : List (Option TableState)) (slots : List ℕ) → Thins s s1 slots → Thins s1 s2 slots → Thins s s2 slots
+thins_both s s1 s2 slots a b = record {
+  types = λ n among. b.types n among ∙ a.types n among;
+  rows = λ n among. omega (arith, a.rows n among, b.rows n among);
+  room = λ n among. omega (arith, a.room n among, b.room n among);
+}
+
+-- a row went, and then tables outside of these slots may have gone
+pub thins_without : (s s1 s2 : List (Option TableState)) (n row : ℕ) (slots : List ℕ) → IsSome (slot_of s n)
+    → Sets s s1 n (Some (without_row (table_in s n) row)) → SameIn s1 s2 slots → Thins s s2 slots
+thins_without s s1 s2 n row slots there sets same = record {
+  types = λ m among. ap (option_map (λ (t : TableState). t.ids)) (same m among) ∙ sets_types s s1 n (without_row (table_in s n) row) sets there refl m;
+  rows = λ m among.
+      let now = ap (λ o. length (unwrap_or o no_table).rows) (same m among) in
+      omega (arith, now, fewer m);
+  room = λ m among.
+      let now = ap (λ o. (unwrap_or o no_table).room) (same m among) in
+      omega (arith, now, more m);
+}
+  where
+    fewer : (m : ℕ) → length (table_in s1 m).rows ≤ length (table_in s m).rows
+    fewer m =
+        elim (cases_eq m n) [
+          | inl here ↦
+              let less : length (table_in s1 n).rows ≡ length (table_in s n).rows - 1 =
+              ap (λ o. length (unwrap_or o no_table).rows) sets.changed ∙ length-swap_remove (table_in s n).rows row no_row in
+              let now : length (table_in s1 n).rows ≤ length (table_in s n).rows = omega (arith, less) in
+              subst (λ k. length (table_in s1 k).rows ≤ length (table_in s k).rows) (sym here) now
+          | inr other ↦
+              let stays = ap (λ o. length (unwrap_or o no_table).rows) (sets.others m other) in
+              omega (arith, stays)
+        ]
+
+    more : (m : ℕ) → (table_in s m).room ≤ (table_in s1 m).room
+    more m =
+        elim (cases_eq m n) [
+          | inl here ↦
+              let won : (table_in s1 n).room ≡ (table_in s n).room + 1 = ap (λ o. (unwrap_or o no_table).room) sets.changed in
+              let now : (table_in s n).room ≤ (table_in s1 n).room = omega (arith, won) in
+              subst (λ k. (table_in s k).room ≤ (table_in s1 k).room) (sym here) now
+          | inr other ↦
+              let stays = ap (λ o. (unwrap_or o no_table).room) (sets.others m other) in
+              omega (arith, stays)
+        ]
+
+module _ (s s' : List (Option TableState)) (slots : List ℕ) (ts : List Transfer) (thins : Thins s s' slots) (named : AreNamed slots ts) where
+  from : (k : ℕ) (d : Transfer) → k < length ts → type_at s' (get_or ts k d).from ≡ type_at s (get_or ts k d).from
+  from k d within = thins.types (get_or ts k d).from (named k d within).0
+
+  to : (k : ℕ) (d : Transfer) → k < length ts → type_at s' (get_or ts k d).to ≡ type_at s (get_or ts k d).to
+  to k d within = thins.types (get_or ts k d).to (named k d within).1
+
+  pub same_changes : map (change_of s') ts ≡ map (change_of s) ts
+  same_changes = changes_alike s s' ts from to
+
+  pub plan_thinned : (cs : List TypeChange) → IsPlan s ts cs → IsPlan s' ts (map (change_of s') ts)
+  plan_thinned cs plan =
+      let still = plan_alike s s' ts cs from to plan in
+      record { sources = still.sources; targets = still.targets; types = refl }
+
+  pub room_thinned : HasRoom s ts → HasRoom s' ts
+  room_thinned room n = by (list_any (nat_eq n) slots) refl
+    where
+      fewer : due s' ts n ≤ due s ts n
+      fewer = due_fewer s s' ts n (λ k d within. thins.rows (get_or ts k d).from (named k d within).0)
+
+      by : (b : Bool) → list_any (nat_eq n) slots ≡ b → due s' ts n ≤ (table_in s' n).room
+      by true among = omega (arith, fewer, room n, thins.room n among)
+      by false among =
+          let nothing : due s' ts n ≡ 0 = due_none s' ts n (λ k d within here.
+          true≢false (sym (named k d within).1 ∙ ap (λ m. list_any (nat_eq m) slots) here ∙ among)) in
+          omega (arith, nothing)

@@ -1,0 +1,44 @@
+use Rattle.std.proofs.Common.{sym, subst, ◌∙◌}
+use Rattle.eco_store.specs.Layout.{rows_in, TakesRow}
+use Rattle.eco_store.specs.Preparing.{staying}
+use Rattle.eco_archetypes.proofs.ArchetypeLemmas.{there_by_row}
+use Rattle.eco_store.proofs.LaidRows.{rows_alike, row_takes}
+use Rattle.eco_store.proofs.Readiness.{ready_spared, moves_spared, spares_without}
+use Rattle.eco_store.proofs.Rowless.{rowless_emptied}
+use Rattle.eco_store.proofs.Thinning.{thins_without}
+use Rattle.eco_store.proofs.prepared.Prepared.take_row.Goals as goal
+
+pub release-requires : goal.release-requires
+release-requires c =
+    let s = c.args.archetypes.now in
+    let p = c.args.self.now in
+    let place = c.args.place in
+    let there = there_by_row s place.table place.row c.requires.row in
+    record {
+      ready = ready_spared s _ p (spares_without s _ p place.table place.row there c.swap_out-moved.ensures.rows) c.requires.ready;
+      tidy = rowless_emptied s _ place.table (staying p) _ c.swap_out-moved.ensures.rows c.requires.tidy;
+    }
+
+pub returns-clause-rows : goal.returns-clause-rows
+returns-clause-rows c =
+    let s = c.args.archetypes.now in
+    let s1 = c.swap_out-moved.new.self in
+    let moved = c.swap_out-moved.result in
+    subst (λ R. TakesRow (rows_in s) R c.args.place moved) (sym (rows_alike s1 _ c.release.ensures.rows))
+    (row_takes s s1 c.args.place moved c.swap_out-moved.ensures.rows c.swap_out-moved.ensures.moved)
+
+pub returns-clause-left : goal.returns-clause-left
+returns-clause-left c =
+    let s = c.args.archetypes.now in
+    let p = c.args.self.now in
+    let place = c.args.place in
+    let there = there_by_row s place.table place.row c.requires.row in
+    c.release.ensures.left ∙ moves_spared s _ p (spares_without s _ p place.table place.row there c.swap_out-moved.ensures.rows)
+
+pub returns-clause-thins : goal.returns-clause-thins
+returns-clause-thins c =
+    let s = c.args.archetypes.now in
+    let place = c.args.place in
+    let there = there_by_row s place.table place.row c.requires.row in
+    thins_without s c.swap_out-moved.new.self c.release.new.archetypes place.table place.row c.args.self.now.targets there
+    c.swap_out-moved.ensures.rows c.release.ensures.targets

@@ -1,0 +1,105 @@
+//! Entities die, and their rows go; then whole tables move.
+ghost use Rattle.std.specs.Prelude.{◌≡◌, map, IsTrue};
+ghost use Rattle.eco_archetypes.specs.Archetypes.{RowlessIn};
+ghost use Rattle.eco_archetypes.specs.Widths.{Covers};
+ghost use Rattle.eco_entities.specs.Needs.{need};
+ghost use Rattle.eco_ids.specs.Indices.{is_alive, with_death};
+ghost use Rattle.eco_ids.specs.Order.{entity_cmp, has_item};
+ghost use Rattle.eco_store.specs.Deaths.{after_deaths};
+ghost use Rattle.eco_store.specs.Preparing.{staying, moves_of, IsReady};
+ghost use Rattle.eco_store.specs.Retyping.{after_changes, IsOneWay};
+ghost use Rattle.eco_store.specs.Store.{IsStore, read};
+ghost use Rattle.eco_store.specs.Transfers.{change_of, AreNamed, HasRoom, IsPlan, Thins};
+
+use crate::placing::fix_place;
+use crate::prepared::Prepared;
+use crate::transfer::{Transfer, move_all};
+use eco_archetypes::Archetypes;
+use eco_entities::EntityIndex;
+use eco_entities::laws::needs_never_grow;
+use eco_ids::Entity;
+
+/// The entity dies, and its row goes. A table that this leaves without rows stays as the idle one, or for moves to come. It
+/// takes no memory.
+pub fn kill(
+    entities: &mut EntityIndex,
+    archetypes: &mut Archetypes,
+    prepared: &mut Prepared,
+    entity: Entity,
+)
+    requires alive { IsTrue (is_alive entities.old entity) }
+    requires store { IsStore entities.old archetypes.old }
+    requires ready { IsReady archetypes.old prepared.old }
+    requires tidy { RowlessIn archetypes.old (staying prepared.old) }
+    ensures store { IsStore entities.new archetypes.new }
+    ensures covers { Covers (need entities.old) archetypes.old → Covers (need entities.new) archetypes.new }
+    ensures read { read entities.new archetypes.new ≡ with_death (read entities.old archetypes.old) entity }
+    ensures ready { IsReady archetypes.new prepared.new }
+    ensures tidy { RowlessIn archetypes.new (staying prepared.new) }
+    ensures same { prepared.new ≡ record prepared.old { idle = prepared.new.idle } }
+    ensures left { moves_of archetypes.new prepared.new ≡ moves_of archetypes.old prepared.old }
+    ensures thins { Thins archetypes.old archetypes.new prepared.old.targets }
+{
+    // A place's row fits, as a table has no more rows than there are indices.
+    entities.rules();
+    needs_never_grow();
+    let place = entities.place_of(entity).unwrap();
+    let moved = prepared.take_row(archetypes, place);
+    fix_place(entities, moved, place);
+    entities.kill(entity);
+}
+
+// Each of these entities that lives dies, and its row goes. It takes no memory.
+fn kill_all(
+    entities: &mut EntityIndex,
+    archetypes: &mut Archetypes,
+    prepared: &mut Prepared,
+    dead: &[Entity],
+)
+    requires store { IsStore entities.old archetypes.old }
+    requires ready { IsReady archetypes.old prepared.old }
+    requires tidy { RowlessIn archetypes.old (staying prepared.old) }
+    ensures store { IsStore entities.new archetypes.new }
+    ensures covers { Covers (need entities.old) archetypes.old → Covers (need entities.new) archetypes.new }
+    ensures read { read entities.new archetypes.new
+        ≡ after_deaths (read entities.old archetypes.old) (has_item entity_cmp dead.now) }
+    ensures ready { IsReady archetypes.new prepared.new }
+    ensures tidy { RowlessIn archetypes.new (staying prepared.new) }
+    ensures same { prepared.new ≡ record prepared.old { idle = prepared.new.idle } }
+    ensures left { moves_of archetypes.new prepared.new ≡ moves_of archetypes.old prepared.old }
+    ensures thins { Thins archetypes.old archetypes.new prepared.old.targets }
+{
+    for entity in dead {
+        // One that is named twice lives no more.
+        if entities.is_alive(*entity) {
+            kill(entities, archetypes, prepared, *entity);
+        }
+    }
+}
+
+/// Each of these entities that lives dies, and then the transfers are carried out, whose tables are targets. Each table that
+/// this leaves without rows is a target or the idle one. It takes no memory.
+pub fn carry_out(
+    entities: &mut EntityIndex,
+    archetypes: &mut Archetypes,
+    prepared: &mut Prepared,
+    dead: &[Entity],
+    transfers: &[Transfer],
+)
+    requires store { IsStore entities.old archetypes.old }
+    requires ready { IsReady archetypes.old prepared.old }
+    requires tidy { RowlessIn archetypes.old (staying prepared.old) }
+    requires plan { IsPlan archetypes.old transfers.now (map (change_of archetypes.old) transfers.now) }
+    requires one_way { IsOneWay (map (change_of archetypes.old) transfers.now) }
+    requires room { HasRoom archetypes.old transfers.now }
+    requires named { AreNamed prepared.old.targets transfers.now }
+    ensures store { IsStore entities.new archetypes.new }
+    ensures covers { Covers (need entities.old) archetypes.old → Covers (need entities.new) archetypes.new }
+    ensures read { read entities.new archetypes.new
+        ≡ after_changes (after_deaths (read entities.old archetypes.old) (has_item entity_cmp dead.now))
+        (map (change_of archetypes.old) transfers.now) }
+    ensures tidy { RowlessIn archetypes.new (staying prepared.new) }
+{
+    kill_all(entities, archetypes, prepared, dead);
+    move_all(entities, archetypes, transfers);
+}

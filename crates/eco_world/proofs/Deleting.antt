@@ -1,0 +1,90 @@
+-- The cleanup's answer, seen as a delete of the world.
+use Rattle.std.proofs.Common.{◌≡◌, Bool, true, false, true≢false, ◌↔◌, List, [], ◌∷◌, IsTrue, MatchBool, Result, sym, subst, is_some, inl, inr}
+use Rattle.std.specs.FinMap.Entries.{find}
+use Rattle.eco_ids.specs.declared.entity.Entity.{Entity}
+use Rattle.eco_ids.specs.declared.entity.TheConstants.{DELETE}
+use Rattle.eco_ids.specs.declared.id.Id.{Id}
+use Rattle.eco_ids.specs.declared.refusal.Refusal.{Refusal}
+use Rattle.eco_ids.specs.Builtin.{is_builtin, is_builtins}
+use Rattle.eco_ids.specs.Cleanup.{Deletes, Ends, HoldsOn, IsDoomed}
+use Rattle.eco_ids.specs.Delete.{DeletesOne, DeletesWith, may_delete, may_delete_with}
+use Rattle.eco_ids.specs.Lawful.{IsLawful}
+use Rattle.eco_ids.specs.Laws.{Keeps}
+use Rattle.eco_ids.specs.Least.{Least, root, next}
+use Rattle.eco_ids.specs.Order.{entity_cmp, entity_eq, has_item, id_cmp}
+use Rattle.eco_ids.specs.Outcome.{Meets, is_out_of_memory}
+use Rattle.eco_ids.specs.World.{WorldState, has, is_alive, entities, record_of}
+use Rattle.eco_ids.proofs.DeletesEnd.{deletes_end}
+use Rattle.eco_ids.proofs.Facts.{or_left, or_parts}
+use Rattle.eco_ids.proofs.Keeps.{entry_of, has_in}
+use Rattle.eco_ids.proofs.Listable.{decide_bool}
+use Rattle.eco_ids.proofs.LivingLists.{has_alive}
+use Rattle.eco_ids.proofs.Meaning.{least}
+use Rattle.eco_ids.proofs.Overlaps.{entity_eq_is, entity_eq_itself}
+use Rattle.eco_ids.proofs.Passing.{own_from_passed, passed_from_own}
+use Rattle.eco_world.specs.Queries.{holders}
+
+-- a call that meets a step which keeps the world lawful does so
+pub met_lawful : (Step : WorldState → Result (Unit {0}) Refusal → WorldState → Type 0) (may : WorldState → Bool) (w new : WorldState)
+    (r : Result (Unit {0}) Refusal) → Keeps Step → IsLawful w → Meets (Step w) (may w) w r new → IsLawful new
+met_lawful Step may w new r keeps was =
+    elim (is_out_of_memory r) as (λ b. MatchBool b (IsTrue (may w) × (new ≡ w)) (Step w r new) → IsLawful new) [
+      | true ↦ λ m. subst IsLawful (sym m.1) was
+      | false ↦ keeps w r new was
+    ]
+
+-- the same roots in other words take the same
+doomed_alike : (w : WorldState) (P Q : Entity → Type 0) (members : List Entity) → ((e : Entity) → P e ↔ Q e) → IsDoomed w P members → IsDoomed w Q members
+doomed_alike w P Q members same d = record {
+  ascending = d.ascending;
+  exact = λ e. (
+    λ h. least (Least Q (HoldsOn w DELETE)) (λ a p. root ((same a).0 p)) (λ a b member holds. next member holds) ((d.exact e).0 h),
+    λ h. (d.exact e).1 (least (Least P (HoldsOn w DELETE)) (λ a q. root ((same a).1 q)) (λ a b member holds. next member holds) h),
+  );
+}
+
+module _ (w new : WorldState) (r : Result (Unit {0}) Refusal) (roots : List Entity) (IsRoot : Entity → Type 0)
+    (same : (e : Entity) → IsTrue (has_item entity_cmp roots e) ↔ IsRoot e) (alive : (e : Entity) → IsRoot e → IsTrue (is_alive w e))
+    (ends : (members : List Entity) → IsDoomed w (λ e. IsTrue (has_item entity_cmp roots e)) members → Meets (Ends w members) true w r new) where
+  ended : (members : List Entity) → IsDoomed w IsRoot members → Meets (Ends w members) true w r new → Meets (Deletes w IsRoot) true w r new
+  ended members d =
+      elim (is_out_of_memory r) as (λ b. MatchBool b (IsTrue true × (new ≡ w)) (Ends w members r new) →
+      MatchBool b (IsTrue true × (new ≡ w)) (Deletes w IsRoot r new)) [
+        | true ↦ λ wanting. wanting
+        | false ↦ λ end. (members, d, end)
+      ]
+
+  deleted : Meets (Deletes w IsRoot) true w r new
+  deleted =
+      let known = deletes_end w (λ e. IsTrue (has_item entity_cmp roots e)) (λ e. decide_bool (has_item entity_cmp roots e)) (λ e h. alive e ((same e).0 h)) in
+      let members = known.2.0 in
+      ended members (doomed_alike w _ IsRoot members same known.2.1) (ends members known.2.1)
+
+-- e alone
+pub only : (e x : Entity) → IsTrue (has_item entity_cmp (e ∷ []) x) ↔ (x ≡ e)
+only e x = (
+  λ h. elim (or_parts (entity_eq e x) false h) as (λ _. x ≡ e) [ inl is ↦ sym (entity_eq_is e x is) | inr none ↦ absurd (true≢false (sym none)) ],
+  λ is. subst (λ y. IsTrue (has_item entity_cmp (e ∷ []) y)) (sym is) (or_left (entity_eq e e) false (entity_eq_itself e)),
+)
+
+-- the call with one root deletes it
+pub one_deleted : (w new : WorldState) (e : Entity) (r : Result (Unit {0}) Refusal) → is_alive w e ≡ true → is_builtin w e ≡ false
+    → ((members : List Entity) → IsDoomed w (λ x. IsTrue (has_item entity_cmp (e ∷ []) x)) members → Meets (Ends w members) true w r new)
+    → Meets (DeletesOne w e) (may_delete w e) w r new
+one_deleted w new e r lives ordinary ends =
+    rw (lives, ordinary) (deleted w new r (e ∷ []) (λ x. x ≡ e) (only e) (λ x is. subst (λ y. IsTrue (is_alive w y)) (sym is) lives) ends)
+
+-- those whom a search for the id finds have it
+found : (w : WorldState) (i : Id) (e : Entity) → IsTrue (has_item entity_cmp (holders w i) e) ↔ IsTrue (has w e i)
+found w i e = (
+  λ h. let own = own_from_passed (λ r. is_some (find id_cmp i r.held)) (entities w) e h in subst (λ o. IsTrue (has_in o i)) (sym own.1) own.2,
+  λ h. let own = entry_of (record_of w e) i h in
+      passed_from_own (λ r. is_some (find id_cmp i r.held)) (entities w) e (own.0, own.2, subst (λ o. IsTrue (has_in o i)) own.2 h),
+)
+
+-- the call with all who have the id as roots deletes them
+pub with_deleted : (w new : WorldState) (i : Id) (r : Result (Unit {0}) Refusal) (roots : List Entity) → roots ≡ holders w i → is_builtins w i ≡ false
+    → ((members : List Entity) → IsDoomed w (λ x. IsTrue (has_item entity_cmp roots x)) members → Meets (Ends w members) true w r new)
+    → Meets (DeletesWith w i) (may_delete_with w i) w r new
+with_deleted w new i r roots all ordinary ends =
+    rw ordinary (deleted w new r roots (λ x. IsTrue (has w x i)) (rw all (found w i)) (λ x. has_alive w x i) ends)

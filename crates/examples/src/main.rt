@@ -4,49 +4,111 @@
 
 use anyhow::Result;
 use eco_ids::entity::WITH;
-use eco_ids::{Id, Value};
+use eco_ids::{Entity, Id, Refusal, Value};
 use eco_world::{Query, World};
 
-fn run<R: Print + AllocGlobal>(rt: &R) -> Result<()> {
-    // At most 64 entities live at a time, the nine built-in ones included.
-    let mut world = World::new(rt.alloc(), 64)?;
+// What ships can be and have.
+#[derive(Clone, Copy)]
+struct Terms {
+    position: Entity,
+    ship: Entity,
+    afloat: Entity,
+    moored_at: Entity,
+    quay: Entity,
+}
 
-    // A component has values, here of two fields. Every entity can be used as a tag, or in a pair.
-    let position = world.component(Some("Position"), 2)?;
-    let ship = world.create(Some("Ship"))?;
-    let afloat = world.create(Some("Afloat"))?;
-    let moored_at = world.create(Some("MooredAt"))?;
-    let quay = world.create(Some("Quay"))?;
+// The ships.
+#[derive(Clone, Copy)]
+struct Fleet {
+    heron: Entity,
+    teal: Entity,
+}
 
+// A component has values, here of two fields. Every entity can be used as a tag, or in a pair.
+fn declare(world: &mut World) -> Result<Terms, Refusal> {
+    let terms = Terms {
+        position: world.component(Some("Position"), 2)?,
+        ship: world.create(Some("Ship"))?,
+        afloat: world.create(Some("Afloat"))?,
+        moored_at: world.create(Some("MooredAt"))?,
+        quay: world.create(Some("Quay"))?,
+    };
     // Whatever becomes a ship is afloat.
-    world.add(ship, Id::Two(WITH, afloat))?;
+    world.add(terms.ship, Id::Two(WITH, terms.afloat))?;
+    Ok(terms)
+}
 
+// Two ships: one is somewhere, and the other lies at the quay.
+fn launch(world: &mut World, terms: Terms) -> Result<Fleet, Refusal> {
     let heron = world.create(Some("Heron"))?;
     let teal = world.create(Some("Teal"))?;
-    world.add(heron, Id::One(ship))?;
-    world.add(teal, Id::One(ship))?;
-    world.set(heron, Id::One(position), Value([3, -4, 0, 0]))?;
-    world.add(teal, Id::Two(moored_at, quay))?;
+    world.add(heron, Id::One(terms.ship))?;
+    world.add(teal, Id::One(terms.ship))?;
+    world.set(heron, Id::One(terms.position), Value([3, -4, 0, 0]))?;
+    world.add(teal, Id::Two(terms.moored_at, terms.quay))?;
+    Ok(Fleet { heron, teal })
+}
 
-    for row in &world.query(&Query::new(Id::One(afloat)))? {
+// A query finds who has an id; its results ascend by entity.
+fn print_afloat<R: Print + AllocGlobal>(rt: &R, world: &World, terms: Terms) -> Result<()> {
+    let rows = world.query(&Query::new(Id::One(terms.afloat)))?;
+    for row in &rows {
         let entity = row.entity;
         let name = world.name_of(entity).unwrap_or("-");
         println!(rt; "{name} {entity} is afloat")?;
     }
-    if let Some(value) = world.get(heron, Id::One(position)) {
+    Ok(())
+}
+
+// What single entities have.
+fn print_ships<R: Print + AllocGlobal>(
+    rt: &R,
+    world: &World,
+    terms: Terms,
+    fleet: Fleet,
+) -> Result<()> {
+    if let Some(value) = world.get(fleet.heron, Id::One(terms.position)) {
         let fields = value.fields(2);
         println!(rt; "Heron is at {fields}")?;
     }
-    let moored = world.has(teal, Id::Two(moored_at, quay));
+    let moored = world.has(fleet.teal, Id::Two(terms.moored_at, terms.quay));
     println!(rt; "Teal is moored at the quay: {moored}")?;
+    Ok(())
+}
 
-    // A refusal says why, and changes nothing.
+// A refusal says why, and changes nothing.
+fn print_refusal<R: Print + AllocGlobal>(rt: &R, world: &mut World) -> Result<()> {
     if let Err(refusal) = world.create(Some("Teal")) {
         println!(rt; "a second Teal is refused: {refusal}")?;
     }
     Ok(())
 }
 
+// A delete takes what the policies say (here nothing else), and no id names the dead: whoever had one loses it.
+fn close_quay<R: Print + AllocGlobal>(
+    rt: &R,
+    world: &mut World,
+    terms: Terms,
+    fleet: Fleet,
+) -> Result<()> {
+    world.delete(terms.quay)?;
+    let moored = world.has(fleet.teal, Id::Two(terms.moored_at, terms.quay));
+    println!(rt; "the quay is gone, and Teal moored there: {moored}")?;
+    Ok(())
+}
+
+// The world is passed on by reference: a function that owns it would have its end to prove at each way out.
+fn show<R: Print + AllocGlobal>(rt: &R, world: &mut World) -> Result<()> {
+    let terms = declare(world)?;
+    let fleet = launch(world, terms)?;
+    print_afloat(rt, world, terms)?;
+    print_ships(rt, world, terms, fleet)?;
+    print_refusal(rt, world)?;
+    close_quay(rt, world, terms, fleet)
+}
+
 fn main(rt: HostRuntime) -> Result<()> {
-    run(&rt)
+    // At most 64 entities live at a time, the nine built-in ones included.
+    let mut world = World::new(rt.alloc(), 64)?;
+    show(&rt, &mut world)
 }

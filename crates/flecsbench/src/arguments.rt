@@ -42,43 +42,55 @@ fn option<'a>(
         .default_value(default)
 }
 
-// The command line that the program reads.
-fn command<'a>(alloc: Global) -> Result<Command<'a>, AllocError> {
-    let run = Arg::new(alloc, "run")
+fn run_flag<'a>(alloc: Global) -> Arg<'a> {
+    Arg::new(alloc, "run")
         .long("run")
         .help("Measures the cases; without it they are only listed")
-        .action(ArgAction::SetTrue);
-    let only = option(
+        .action(ArgAction::SetTrue)
+}
+
+fn only_option<'a>(alloc: Global) -> Arg<'a> {
+    option(
         alloc,
         "only",
         "PREFIX",
         "",
         "Leaves out the cases whose names begin otherwise",
-    );
-    let max = option(
+    )
+}
+
+fn max_option<'a>(alloc: Global) -> Arg<'a> {
+    option(
         alloc,
         "max",
         "N",
         "1000000",
         "Leaves out the sizes beyond this one",
     )
-    .value_parser(clap::value_parser!(u32));
-    let repeat = option(
+    .value_parser(clap::value_parser!(u32))
+}
+
+fn repeat_option<'a>(alloc: Global) -> Arg<'a> {
+    option(
         alloc,
         "repeat",
         "R",
         "5",
         "How often each case is measured; the best time counts",
     )
-    .value_parser(clap::value_parser!(u32).range(1..=1000));
-    Command::new(alloc, "flecsbench")
-        .about(
-            "Measures the calls of a world: a line for each case, with its name, its size and the nanoseconds of one call",
-        )
-        .arg(run)?
-        .arg(only)?
-        .arg(max)?
-        .arg(repeat)
+    .value_parser(clap::value_parser!(u32).range(1..=1000))
+}
+
+// The command line that the program reads. Each option is made where it is handed on: one that waits is proved to end well at
+// each early return before it.
+fn command<'a>(alloc: Global) -> Result<Command<'a>, AllocError> {
+    let command = Command::new(alloc, "flecsbench").about(
+        "Measures the calls of a world: a line for each case, with its name, its size and the nanoseconds of one call",
+    );
+    let command = command.arg(run_flag(alloc))?;
+    let command = command.arg(only_option(alloc))?;
+    let command = command.arg(max_option(alloc))?;
+    command.arg(repeat_option(alloc))
 }
 
 // What the words that were taken ask for. Each option has a default.

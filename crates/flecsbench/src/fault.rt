@@ -1,11 +1,10 @@
 //! Why the program stopped.
 use eco_ids::Refusal;
 use std::alloc::{AllocError, AllocFailed};
-use std::error::Error;
 use std::{fmt, io};
 
 /// Why there are no more lines.
-#[derive(Debug, Drop)]
+#[derive(Drop)]
 pub enum Fault {
     /// The command line asks for nothing that there is.
     BadArguments,
@@ -37,8 +36,6 @@ impl fmt::Display for Fault {
         }
     }
 }
-
-impl Error for Fault {}
 
 impl From<Refusal> for Fault {
     fn from(refusal: Refusal) -> Fault {

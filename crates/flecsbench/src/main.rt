@@ -4,11 +4,12 @@
 mod arguments;
 mod case;
 mod fault;
-mod measure;
+mod group;
 mod scene;
+mod start;
 
 use arguments::{Asked, Choice, read_arguments};
-use case::Case;
+use case::{CASES, Case, tenths_for_one};
 use fault::Fault;
 use std::process::ExitCode;
 use std::rt::Clock;
@@ -27,17 +28,18 @@ fn words(rt: &HostRuntime) -> io::Result<Vec<String>> {
 fn print_line<R: Print + Clock + AllocGlobal>(
     rt: &R,
     choice: &Choice,
-    case: Case,
+    case: &Case,
     size: u32,
 ) -> Result<(), Fault> {
+    let name = case.name();
     if choice.is_run {
         let time = case.best_time(rt, rt.alloc(), size, choice.repeat)?;
-        let tenths = measure::tenths_for_one(time, size);
+        let tenths = tenths_for_one(time, size);
         let whole = tenths / 10;
         let rest = tenths % 10;
-        println!(rt; "{case} {size} {whole}.{rest}")?;
+        println!(rt; "{name} {size} {whole}.{rest}")?;
     } else {
-        println!(rt; "{case} {size}")?;
+        println!(rt; "{name} {size}")?;
     }
     Ok(())
 }
@@ -46,40 +48,49 @@ fn print_line<R: Print + Clock + AllocGlobal>(
 fn print_case<R: Print + Clock + AllocGlobal>(
     rt: &R,
     choice: &Choice,
-    case: Case,
+    case: &Case,
 ) -> Result<(), Fault> {
-    let name = format!(in rt.alloc(); "{case}")?;
-    if !name.as_str().starts_with(choice.prefix) {
-        return Ok(());
-    }
-    for size in case.sizes() {
-        if *size <= choice.largest {
-            print_line(rt, choice, case, *size)?;
+    if case.name().starts_with(choice.prefix) {
+        for size in case.sizes() {
+            if *size <= choice.largest {
+                print_line(rt, choice, case, *size)?;
+            }
         }
     }
     Ok(())
 }
 
+// The lines of all cases that are chosen.
+fn print_cases(rt: &HostRuntime, choice: &Choice) -> Result<(), Fault> {
+    for case in CASES {
+        print_case(rt, choice, case)?;
+    }
+    Ok(())
+}
+
+// Does what the words ask for.
+fn answer(rt: &HostRuntime, words: &[&str]) -> Result<(), Fault> {
+    match read_arguments(rt.alloc(), words)? {
+        Asked::Cases(choice) => print_cases(rt, &choice),
+        Asked::Help(text) => {
+            rt.print(&text)?;
+            Ok(())
+        }
+    }
+}
+
 // Does what the command line asks for.
-fn answer(rt: &HostRuntime) -> Result<(), Fault> {
+fn run(rt: &HostRuntime) -> Result<(), Fault> {
     let owned = words(rt)?;
     let mut words = Vec::new(rt.alloc());
     for word in &owned {
         words.push(word.as_str())?;
     }
-    match read_arguments(rt.alloc(), words.as_slice())? {
-        Asked::Cases(choice) => {
-            for case in Case::ALL {
-                print_case(rt, &choice, case)?;
-            }
-        }
-        Asked::Help(text) => rt.print(text.as_str())?,
-    }
-    Ok(())
+    answer(rt, words.as_slice())
 }
 
 fn main(rt: HostRuntime) -> ExitCode {
-    match answer(&rt) {
+    match run(&rt) {
         Ok(()) => ExitCode::from(0),
         Err(fault) => {
             // The status tells it too, so a standard error that is shut changes nothing.

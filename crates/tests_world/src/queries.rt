@@ -92,8 +92,8 @@ fn reads(alloc: Global, query: &Query) -> bool {
         .is_ok_and(|patterns| patterns.as_slice() == READ.as_slice())
 }
 
-// The type of these ids.
-fn type_of(alloc: Global, ids: &[Id]) -> Result<TypeList, AllocError> {
+/// The type of these ids.
+pub fn type_of(alloc: Global, ids: &[Id]) -> Result<TypeList, AllocError> {
     let mut list = TypeList::empty(alloc);
     for id in ids {
         list = list.with(*id)?;

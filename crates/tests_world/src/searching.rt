@@ -1,21 +1,37 @@
 //! Who is found by a test of two patterns.
 use crate::layout::at;
-use eco_ids::{Entity, Id, Pattern, Refusal, TypeList};
+use crate::queries::type_of;
+use eco_ids::{Entity, Id, Pattern, Refusal};
 use eco_store::{AllOf, Store};
 use std::alloc::{AllocError, Global};
 
-// A store with entities of five types: three have the first entity as an id, two the second, and one has both.
-fn filled(alloc: Global) -> Result<Store, Refusal> {
-    let mut store = Store::new(alloc, 16);
-    let nothing = TypeList::empty(alloc);
-    let first = nothing.with(Id::One(at(0)))?;
-    let both = first.with(Id::One(at(1)))?;
-    let pair = first.with(Id::Two(at(0), at(1)))?;
-    let second = nothing.with(Id::One(at(1)))?;
-    for type_list in [&nothing, &nothing, &first, &second, &both, &pair] {
-        store.create(None, None, type_list)?;
+const FIRST: Entity = Entity {
+    index: 0,
+    generation: 0,
+};
+
+const SECOND: Entity = Entity {
+    index: 1,
+    generation: 0,
+};
+
+/// The types of six entities: three have the first entity as an id, two the second, and one has both.
+const TYPES: [&[Id]; 6] = [
+    &[],
+    &[],
+    &[Id::One(FIRST)],
+    &[Id::One(SECOND)],
+    &[Id::One(FIRST), Id::One(SECOND)],
+    &[Id::One(FIRST), Id::Two(FIRST, SECOND)],
+];
+
+// Makes an entity of each type.
+fn fill(alloc: Global, store: &mut Store) -> Result<(), Refusal> {
+    for ids in &TYPES {
+        let type_list = type_of(alloc, ids)?;
+        store.create(None, None, &type_list)?;
     }
-    Ok(store)
+    Ok(())
 }
 
 // Who has both ids.
@@ -28,16 +44,23 @@ fn holders(store: &Store, one: u32, other: u32) -> Result<Vec<Entity>, AllocErro
     store.entities_by(&test)
 }
 
-// Whether the fifth entity alone is found, whichever id comes first.
-fn finds_the_fifth(alloc: Global) -> Result<bool, Refusal> {
-    let store = filled(alloc)?;
-    let found = holders(&store, 0, 1)?;
-    let turned = holders(&store, 1, 0)?;
-    let expected = [at(4)];
-    Ok(found.as_slice() == expected.as_slice() && turned.as_slice() == expected.as_slice())
+// Whether the fifth entity alone has both ids.
+fn is_fifth(store: &Store, one: u32, other: u32) -> Result<bool, AllocError> {
+    Ok(holders(store, one, other)?.as_slice() == [at(4)].as_slice())
+}
+
+// Whether it is found, whichever id comes first.
+fn finds_the_fifth(alloc: Global, store: &mut Store) -> Result<bool, Refusal> {
+    fill(alloc, store)?;
+    Ok(is_fifth(store, 0, 1)? && is_fifth(store, 1, 0)?)
+}
+
+// Whether it is so in a new store.
+fn is_found(alloc: Global) -> bool {
+    finds_the_fifth(alloc, &mut Store::new(alloc, 16)) == Ok(true)
 }
 
 #[test]
 fn two_patterns_find_who_has_both(rt: HostRuntime) {
-    assert!(rt; finds_the_fifth(rt.alloc()) == Ok(true));
+    assert!(rt; is_found(rt.alloc()));
 }

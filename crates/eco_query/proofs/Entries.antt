@@ -1,6 +1,6 @@
 -- Where a slot has an entry.
 use Rattle.eco_ids.proofs.Common.{◌≡◌, Bool, true, false, ◌&&◌, ◌||◌, List, [], ◌∷◌, map, is_some, Some, None, filter, Option, option_to_list, refl, ap, ◌∙◌}
-use Rattle.eco_ids.proofs.Common.{arith, rules, tied_itself, IsTotalOrder, list_any, common_steps, is_least_match, same_filling, pattern_matches, id_cmp}
+use Rattle.eco_ids.proofs.Common.{arith, tied_itself, IsTotalOrder, list_any, common_steps, is_least_match, same_filling, pattern_matches, id_cmp}
 use Rattle.eco_ids.proofs.Common.{has_item}
 use Rattle.eco_ids.specs.declared.id.Id.{Id}
 use Rattle.eco_ids.specs.declared.pattern.Pattern.{Pattern}

@@ -8,9 +8,11 @@ pub mod Loops
 pub mod Matched
 pub mod Queried
 pub mod Readable
+pub mod Reread
 pub mod Rest
 pub mod Rows
 pub mod Runs
+pub mod SameQueries
 pub mod Skipped
 pub mod Spelled
 pub mod Stored

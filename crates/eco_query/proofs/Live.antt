@@ -6,7 +6,7 @@ use Rattle.eco_query.specs.Tokens.{Reference, name, handle, is_white, is_digit}
 use Rattle.eco_query.specs.Reader.Machine.{is_lone, Before, Role, whole, first, second, sole, takes_wildcard, Spot, slot, word, shut, body, atom, part, behind}
 use Rattle.eco_query.specs.Reader.Machine.{after, Point, at, letters, bar, name_of, hash, index, dot, generation, slots_with, others_with, begun, part_of}
 use Rattle.eco_query.specs.Reader.Machine.{is_prefix, is_front, part_or, atom_or, body_or, behind_atom, enter, move_at, move, advance, runs}
-use Rattle.eco_query.specs.Grammar.{WrittenPart, named, each, any, WrittenAtom, single, pair, WrittenSlot, access_word}
+use Rattle.eco_query.specs.Grammar.{WrittenPart, named, each, WrittenAtom, single, pair, WrittenSlot, access_word}
 use Rattle.eco_query.specs.declared.access.Access.{Access}
 use Rattle.eco_query.specs.declared.access.Access.TheVariants.{InOut}
 use Rattle.eco_query.specs.declared.point.Head.{Head}

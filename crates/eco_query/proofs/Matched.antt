@@ -1,7 +1,8 @@
--- Lists that are searched and mapped.
-use Rattle.eco_ids.proofs.Common.{◌≡◌, ◌+◌, Bool, true, false, ◌&&◌, ◌||◌, List, [], ◌∷◌, ◌++◌, map, is_some, if◌then◌else◌, Some, flat_map, refl, ap, list_any}
+-- Lists that are searched, mapped and joined.
+use Rattle.eco_ids.proofs.Common.{◌≡◌, ℕ, Bool, true, false, ◌&&◌, ◌||◌, List, [], ◌∷◌, ◌++◌, map, is_some, if◌then◌else◌, Some, flat_map, refl, ap, list_any}
 use Rattle.eco_ids.proofs.Common.{list_all}
 use Rattle.std.proofs.Common.{find}
+use Rattle.eco_query.specs.Canonical.{joined_by}
 
 pub is_some_find : {X : Type 0} (p : X → Bool) (xs : List X) → is_some (find p xs) ≡ list_any p xs
 is_some_find p [] = refl
@@ -14,3 +15,8 @@ list_all_map f p (x ∷ xs) = ap (λ c. p (f x) && c) (list_all_map f p xs)
 pub flat_map_map : {X Y Z : Type 0} (f : X → Y) (g : Y → List Z) (xs : List X) → flat_map g (map f xs) ≡ flat_map (λ x. g (f x)) xs
 flat_map_map f g [] = refl
 flat_map_map f g (x ∷ xs) = ap (λ zs. g (f x) ++ zs) (flat_map_map f g xs)
+
+pub joined_by_map : {X Y : Type 0} (between : List ℕ) (f : X → Y) (text : Y → List ℕ) (xs : List X)
+    → joined_by between text (map f xs) ≡ joined_by between (λ x. text (f x)) xs
+joined_by_map between f text [] = refl
+joined_by_map between f text (x ∷ xs) = ap (λ zs. text (f x) ++ zs) (flat_map_map f (λ y. between ++ text y) xs)

@@ -1,3 +1,4 @@
+pub mod Canonical
 pub mod Faults
 pub mod Grammar
 pub mod Queries

@@ -1,5 +1,5 @@
 //! From the atoms of a text to its query.
-ghost use Rattle.std.specs.Prelude.{◌≡◌, ◌⊎◌, [], Err, IfErr, IsOk, OnOk};
+ghost use Rattle.std.specs.Prelude.{◌≡◌, ◌⊎◌, [], Err, IfErr, IsOk, IsTrue, OnOk};
 ghost use Rattle.std.specs.List.{list_any};
 ghost use Rattle.eco_query.specs.Readings as reading;
 ghost use Rattle.eco_query.specs.Readings.{is_positive, slots_of};
@@ -9,7 +9,8 @@ ghost use Rattle.eco_query.specs.Reader.Marks.{AreProperMarks, AreWhole, slots_f
 use crate::last_term::{last_term, misplaces_last};
 use crate::names::Names;
 use crate::point::{Head, Mark};
-use crate::query::{Query, Slot};
+use crate::query::Query;
+use crate::slot::Slot;
 use eco_ids::Refusal;
 use std::alloc::Global;
 
@@ -96,6 +97,7 @@ pub fn check_names<N: Names>(marks: &[Mark<'_>], names: &N) -> Result<(), Refusa
 pub fn build_query<N: Names>(alloc: Global, marks: &[Mark<'_>], names: &N) -> Result<Query, Refusal>
     requires whole { AreWhole marks.now }
     requires proper { AreProperMarks marks.now }
+    requires positive { IsTrue (list_any (λ s. is_positive s.body) (slots_from [] marks.now)) }
     ensures { (result ≡ Err Refusal.OutOfMemory)
         ⊎ (result ≡ slots_of (N.entity_named names.now) (slots_from [] marks.now)) }
 {

@@ -9,7 +9,7 @@ ghost use Rattle.eco_query.specs.Queries.{term_view};
 
 use crate::names::Names;
 use crate::point::Head;
-use crate::query::Term;
+use crate::term::Term;
 use crate::written::WrittenAtom;
 use eco_ids::{Id, Pattern, Refusal};
 use std::alloc::Global;

@@ -1,8 +1,10 @@
 //! Laws of the texts: each function does nothing, and its contract is the law.
-ghost use Rattle.std.specs.Prelude.{ℕ, List, Option};
+ghost use Rattle.std.specs.Prelude.{ℕ, List, Ok, Option};
 ghost use Rattle.eco_ids.specs.declared.entity.Entity.{Entity};
+ghost use Rattle.eco_query.specs.Canonical.{query_text};
 ghost use Rattle.eco_query.specs.Grammar.{SpellsId, SpellsQuery, SpellsRef};
-ghost use Rattle.eco_query.specs.Readings.{ReadsAll, ReadsOnce, SpellsOnce, entity_at, id_of, query_of};
+ghost use Rattle.eco_query.specs.Queries.{IsQuery, QuerySlot};
+ghost use Rattle.eco_query.specs.Readings.{Reads, ReadsAll, ReadsOnce, SpellsOnce, entity_at, id_of, query_of};
 
 /// A text spells one thing at most.
 pub fn texts_spell_once()
@@ -25,4 +27,10 @@ pub fn texts_are_read()
         → ReadsAll SpellsRef (entity_at entity_named) }
     ensures id { (entity_named : List ℕ → Option Entity) → ReadsAll SpellsId (id_of entity_named) }
     ensures query { (entity_named : List ℕ → Option Entity) → ReadsAll SpellsQuery (query_of entity_named) }
+{}
+
+/// Under any names the canonical text of a query is read as that query.
+pub fn canonical_texts_are_read()
+    ensures { (slots : List QuerySlot) → IsQuery slots → (entity_named : List ℕ → Option Entity)
+        → Reads SpellsQuery (query_of entity_named) (query_text slots) (Ok slots) }
 {}

@@ -15,10 +15,14 @@ pub mod read;
 mod resolve;
 mod scan;
 mod skip;
+pub mod slot;
+pub mod term;
 mod terms;
 mod written;
 
 pub use access::Access;
 pub use names::Names;
-pub use query::{Query, Slot, Term, exactly};
+pub use query::Query;
 pub use read::{read_id, read_query, read_ref};
+pub use slot::Slot;
+pub use term::{Term, exactly};

@@ -1,37 +1,19 @@
 //! Queries: what their slots ask of an entity.
-ghost use Rattle.std.specs.Prelude.{◌≡◌, ◌++◌, IfOk, OnOk, flat_map, map};
-ghost use Rattle.std.specs.List.{list_all, list_any};
-ghost use Rattle.eco_ids.specs.Matching.{pattern_matches};
-ghost use Rattle.eco_ids.specs.Order.{has_item, id_cmp};
-ghost use Rattle.eco_query.specs.Queries as queries;
-ghost use Rattle.eco_query.specs.Queries.{term_view, holds, patterns_of};
+ghost use Rattle.std.specs.Prelude.{◌≡◌, ◌↔◌, IfOk, IsTrue, Some, codes, flat_map, map, string_bytes};
+ghost use Rattle.std.specs.List.{list_all};
+ghost use Rattle.eco_query.specs.Canonical.{joined_by, query_text, slot_text};
+ghost use Rattle.eco_query.specs.Queries.{holds, patterns_of, slot_view, term_view};
 
-use crate::access::Access;
-use eco_ids::{Id, Part, Pattern, TypeList};
+use crate::slot::Slot;
+use eco_ids::{Pattern, TypeList};
 use std::alloc::{AllocError, Global};
+use std::fmt;
 use std::marker::Model;
 
-/// What a slot asks of an entity (Flecs manual, Queries, "Operators").
-#[derive(Debug, Drop)]
-pub enum Term {
-    /// It has an id that matches.
-    And(Pattern),
-    /// It has no id that matches: `!`.
-    Not(Pattern),
-    /// It may have the id: `?`.
-    Optional(Id),
-    /// It has one of these ids: `||`. The first that it has counts.
-    Or(Vec<Id>),
-}
-
-/// A slot of a query: what it asks, and what a system may do with its entries.
-#[derive(Debug, Drop)]
-pub struct Slot {
-    pub access: Access,
-    pub term: Term,
-}
-
-/// A query: an entity answers it where each of its slots holds. A contract sees it as the list of its slots.
+/// A query: an entity answers it where each of its slots holds. Some slot asks for something that is there. A contract sees
+/// it as the list of its slots.
+///
+/// A query prints as its canonical text: its slots joined by `, `, entities as handles, as in `[in] #9.0, !#10.0, (#11.0, *)`.
 #[derive(Debug)]
 pub struct Query {
     slots: Vec<Slot>,
@@ -41,70 +23,6 @@ pub struct Query {
 impl Drop for Query {
     fn drop(self) {
         let Query { slots: _ } = self;
-    }
-}
-
-/// The pattern that an id alone matches.
-pub fn exactly(id: Id) -> Pattern
-    ensures { result ≡ queries.exactly id }
-{
-    match id {
-        Id::One(entity) => Pattern::One(entity),
-        Id::Two(relationship, target) => Pattern::Two(Part::Is(relationship), Part::Is(target)),
-    }
-}
-
-/// Whether one of a type's ids matches.
-#[tactic(auto, using(crate::proofs::Matched::is_some_find))]
-fn has_match(ids: &TypeList, pattern: Pattern) -> bool
-    ensures { result ≡ list_any (pattern_matches pattern) ids.now }
-{
-    ids.first_match(pattern).is_some()
-}
-
-/// Whether a type has one of some ids.
-fn has_one(ids: &TypeList, alternatives: &[Id]) -> bool
-    ensures { result ≡ list_any (has_item id_cmp ids.now) alternatives.now }
-{
-    alternatives.iter().any(|id| ids.has(*id))
-}
-
-/// Puts the patterns of some ids behind others.
-fn add_exactly(patterns: &mut Vec<Pattern>, ids: &[Id]) -> Result<(), AllocError>
-    ensures { OnOk result (patterns.new.items ≡ patterns.old.items ++ map queries.exactly ids.now) }
-{
-    for id in ids {
-        patterns.push(exactly(*id))?;
-    }
-    Ok(())
-}
-
-impl Slot {
-    /// Whether it holds on an entity of this type.
-    #[tactic(auto, using(crate::proofs::Entries::and_holds, crate::proofs::Entries::or_holds))]
-    pub fn holds(&self, ids: &TypeList) -> bool
-        ensures { result ≡ holds ids.now (term_view self.now.term) }
-    {
-        eco_ids::order::ids_are_ordered();
-        match &self.term {
-            Term::And(pattern) => has_match(ids, *pattern),
-            Term::Not(pattern) => !has_match(ids, *pattern),
-            Term::Optional(_) => true,
-            Term::Or(alternatives) => has_one(ids, alternatives),
-        }
-    }
-
-    // Puts the patterns that it reads behind others.
-    fn add_patterns(&self, patterns: &mut Vec<Pattern>) -> Result<(), AllocError>
-        ensures { OnOk result (patterns.new.items
-            ≡ patterns.old.items ++ patterns_of (term_view self.now.term)) }
-    {
-        match &self.term {
-            Term::And(pattern) | Term::Not(pattern) => patterns.push(*pattern)?,
-            Term::Optional(id) => patterns.push(exactly(*id))?,
-            Term::Or(alternatives) => add_exactly(patterns, alternatives)?,
-        }
-        Ok(())
     }
 }
 
@@ -122,28 +40,49 @@ fn patterns_read(slots: &[Slot], alloc: Global) -> Result<Vec<Pattern>, AllocErr
 {
     let mut patterns = Vec::new(alloc);
     for slot in slots {
-        slot.add_patterns(&mut patterns)?;
+        slot.term.add_patterns(&mut patterns)?;
     }
     Ok(patterns)
 }
 
+/// The same slots once more.
+fn copies(slots: &[Slot], alloc: Global) -> Result<Vec<Slot>, AllocError>
+    ensures { IfOk result (λ copies. map slot_view copies.items ≡ map slot_view slots.now) }
+{
+    let mut copies = Vec::with_capacity(alloc, slots.len())?;
+    for slot in slots {
+        copies.push(slot.try_copy(alloc)?)?;
+    }
+    Ok(copies)
+}
+
 impl Model for Query {
     ghost use Rattle.std.specs.Prelude.{List, map};
-    ghost use Rattle.eco_query.specs.Queries.{QuerySlot, slot_view};
+    ghost use Rattle.eco_query.specs.Queries.{HasPositive, QuerySlot, slot_view};
 
     ghost Value = { List QuerySlot };
 
     ghost view = { λ q. map slot_view q.slots.items };
+
+    ghost invariant = { λ q. HasPositive (map slot_view q.slots.items) };
 }
 
 impl Query {
-    ghost use Rattle.eco_query.specs.Queries.{matches_type, reads, slot_view};
+    ghost use Rattle.eco_query.specs.Queries.{HasPositive, matches_type, reads};
 
     /// Of its slots; only a reader of texts makes one.
     pub(crate) fn of_slots(slots: Vec<Slot>) -> Query
+        requires { HasPositive (map slot_view slots.items) }
         ensures { result ≡ map slot_view slots.items }
     {
         Query { slots }
+    }
+
+    /// Does nothing, and its contract says that some slot asks for something that is there: a plain term or alternatives.
+    pub fn is_positive(&self)
+        ensures { HasPositive self.now }
+    {
+        let _slots = &self.slots;
     }
 
     /// Its slots, in written order.
@@ -167,5 +106,56 @@ impl Query {
         ensures { IfOk result (λ patterns. patterns.items ≡ reads self.now) }
     {
         patterns_read(&self.slots, alloc)
+    }
+
+    /// The same query once more. `AllocError` is the want of memory for it.
+    pub fn try_copy(&self, alloc: Global) -> Result<Query, AllocError>
+        ensures { IfOk result (λ q. q ≡ self.now) }
+    {
+        Ok(Query {
+            slots: copies(&self.slots, alloc)?,
+        })
+    }
+
+    /// Whether it is this query: whether both have the same slots in the same order.
+    pub fn is(&self, other: &Query) -> bool
+        ensures { IsTrue result ↔ (self.now ≡ other.now) }
+    {
+        self.slots == other.slots
+    }
+
+    /// Its canonical text, as it prints. `AllocError` is the want of memory for it.
+    pub fn canonical_text(&self, alloc: Global) -> Result<String, AllocError>
+        ensures { IfOk result (λ text. string_bytes text ≡ query_text self.now) }
+    {
+        format!(in alloc; "{self}")
+    }
+}
+
+/// The slots of a query, joined by `, `.
+#[derive(Clone, Copy)]
+struct Slots<'a>(&'a [Slot]);
+
+impl fmt::Display for Slots<'_> {
+    ghost output = { λ slots. Some (joined_by (codes ", ") (λ s. slot_text (slot_view s)) slots.0.now) };
+
+    fn fmt<W: fmt::Write>(&self, f: &mut fmt::Formatter<W>) -> fmt::Result {
+        if let Some((first, rest)) = self.0.split_first() {
+            write!(f, "{first}")?;
+            for slot in rest {
+                write!(f, ", {slot}")?;
+            }
+        }
+        Ok(())
+    }
+}
+
+impl fmt::Display for Query {
+    ghost output = { λ query. Some (query_text query) };
+
+    #[tactic(auto, using(crate::proofs::Matched::joined_by_map))]
+    fn fmt<W: fmt::Write>(&self, f: &mut fmt::Formatter<W>) -> fmt::Result {
+        let slots = Slots(&self.slots);
+        write!(f, "{slots}")
     }
 }

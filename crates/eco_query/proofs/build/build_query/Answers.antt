@@ -5,7 +5,7 @@ use Rattle.eco_query.specs.Reader.Marks.{slots_from}
 use Rattle.eco_query.specs.declared.point.Mark.TheVariants.{Other, Slot}
 use Rattle.eco_query.specs.Reader.LastTerms.{last_of}
 use Rattle.eco_query.proofs.Stored.{some_of, some_of-more}
-use Rattle.eco_query.proofs.Built.{standing_at, other_known, other_unknown, last_known, last_unknown, standing_left, not_same, not_begin}
+use Rattle.eco_query.proofs.Built.{standing_at, other_known, other_unknown, last_known, last_unknown, standing_left, positive_end, not_same, not_begin}
 use Rattle.eco_query.proofs.build.build_query.Goals.{in-Same, in-Begin, in-Other+in_ok-id-in-Other+in_ok-push-in-Other}
 use Rattle.eco_query.proofs.build.build_query.Goals.{in-Slot+in_ok-last-in-Slot+in_ok-term-in-Slot+in_ok-push-in-Slot}
 use Rattle.eco_query.proofs.build.build_query.Goals as goal
@@ -30,6 +30,12 @@ returns-in_err-last-in-Slot g c =
     (ap (λ k. last_of (g.N.Names.entity_named c.args.names.now) c.in-Slot.head k (atom_view c.in-Slot.atom)) same ∙ sym c.last_term.ensures
     ∙ c.in_err-last-in-Slot.was) in
     inr (rw unknown (search rules))
+
+pub of_slots-requires : goal.of_slots-requires
+of_slots-requires g c =
+    let (xs, same, s) = c.loop-mark.invariant in
+    positive_end (g.N.Names.entity_named c.args.names.now) c.args.marks.now xs _ c.loop-mark.group.items c.loop-mark.mark-index s c.loop-mark-test.false
+    c.requires.positive
 
 pub loop-mark-preserved : goal.loop-mark-preserved
 loop-mark-preserved g c =

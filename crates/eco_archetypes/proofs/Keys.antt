@@ -18,6 +18,8 @@ use Rattle.eco_archetypes.specs.declared.id_index.key.Key.TheVariants.{Single, P
 use Rattle.eco_archetypes.specs.declared.id_index.slots.Slots.{Slots}
 use Rattle.eco_archetypes.specs.IdIndex.{own_count, matches_some, HasTurned}
 use Rattle.eco_archetypes.specs.IdIndex.{same_key, key_of, keys_of, has_key, has_one, matches_id, is_only, has_slot, is_empty, is_listed, lists_of, Lists}
+use Rattle.eco_archetypes.specs.declared.id_index.marks.Marks.{Marks}
+use Rattle.eco_archetypes.specs.Marks.{may_be_kept, AreMarked, KeepsMarks}
 use Rattle.eco_archetypes.specs.IdIndex.{Turns, KeepsRest, ListsSame, KeepsNoEmpty}
 use Rattle.eco_ids.proofs.Overlaps.{entity_eq_itself, entity_eq_is}
 use Rattle.eco_ids.proofs.SameIds.{entity_eq-Decides}
@@ -101,6 +103,22 @@ module _ {S : Type 0} (m m' : HashMap Key Slots S) (k : Key) (o : Option Slots)
       by : (c : Bool) → is_empty (cond c o (get same_key m q)) ≡ false
       by true = has
       by false = full q
+
+  -- no key is kept that may not, since this one may if it has slots now
+  pub still_marked : (marks : Marks) → AreMarked marks m → (may_be_kept marks k ≡ false → o ≡ None) → AreMarked marks m'
+  still_marked marks were none q unmarked = puts q ∙ by (same_key k q) refl
+    where
+      by : (c : Bool) → same_key k q ≡ c → cond c o (get same_key m q) ≡ None
+      by true same = none (ap (may_be_kept marks) (keys_same k q same) ∙ unmarked)
+      by false other = were q unmarked
+
+-- more marks do no harm
+pub more_marks : {S : Type 0} (old new : Marks) (m : HashMap Key Slots S) → KeepsMarks old new → AreMarked old m → AreMarked new m
+more_marks old new m keeps were k unmarked = by (may_be_kept old k) refl
+  where
+    by : (b : Bool) → may_be_kept old k ≡ b → get same_key m k ≡ None
+    by true might = absurd (true≢false (sym (keeps k might) ∙ unmarked))
+    by false might_not = were k might_not
 
 -- nothing to take away
 pub not_listed : {S : Type 0} (m : HashMap Key Slots S) (k : Key) (slot : ℕ) → get same_key m k ≡ None → Turns false (has_key k) (lists_of m) (lists_of m) slot

@@ -1,5 +1,5 @@
 -- How wide an id is in the tables that have it.
-use Rattle.std.proofs.Common.{◌≡◌, ◌≤◌, ℕ, Bool, true, false, true≢false, cond, ◌||◌, IsTrue, IsSome, List, [], ◌∷◌, Option, None, Some, unwrap_or, option_map, refl, sym, ap, ◌∙◌, subst, arith}
+use Rattle.std.proofs.Common.{◌≡◌, ◌≤◌, ℕ, Bool, true, false, true≢false, cond, ◌||◌, IsTrue, IsSome, List, [], ◌∷◌, Option, None, Some, unwrap_or, option_map, refl, sym, ap, ◌∙◌, arith}
 use Rattle.std.specs.FinMap.Entries.{find}
 use Rattle.std.specs.List.{list_any}
 use Rattle.eco_ids.specs.declared.id.Id.{Id}
@@ -13,7 +13,7 @@ use Rattle.eco_tables.specs.Table.{TableState, paired, width_in}
 use Rattle.eco_tables.specs.Tables.{slot_of, table_in, no_table}
 use Rattle.eco_archetypes.specs.Archetypes.{type_at, type_matches}
 use Rattle.eco_archetypes.specs.IdIndex.{any_matches, exactly}
-use Rattle.eco_archetypes.specs.Widths.{AreAgreed, Covers, IsWidth}
+use Rattle.eco_archetypes.specs.Widths.{AreAgreed, IsWidth}
 
 matches_exactly : (i j : Id) → pattern_matches (exactly i) j ≡ id_eq i j
 matches_exactly (id.One e) (id.One x) = refl

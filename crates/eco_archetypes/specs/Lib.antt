@@ -1,4 +1,5 @@
 pub mod IdIndex
+pub mod Marks
 pub mod TypeTests
 pub mod TypeMap
 pub mod Edges

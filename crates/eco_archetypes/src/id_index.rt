@@ -1,19 +1,25 @@
 //! For each pattern, the slots of the tables whose types have an id that it matches.
 ghost use Rattle.std.specs.Prelude.{◌≡◌, ℕ, Some, true, false, nat_eq, OnOk, OnErr, IfSome, IfNone};
+ghost use Rattle.std.specs.Option.{option_copied};
+ghost use Rattle.std.specs.HashMap.{get};
 ghost use Rattle.std.specs.List.{list_any, IsDistinct};
 ghost use Rattle.eco_ids.specs.Matching.{pattern_matches};
 ghost use Rattle.eco_ids.specs.declared.pattern.Pattern.{Pattern as Patterns};
 ghost use Rattle.eco_ids.specs.declared.id.Id.TheVariants.{Two};
-ghost use Rattle.eco_archetypes.specs.IdIndex.{KeepsNoEmpty, lists_of, ListsNone, ListsSame, Turns, HasTurned, KeepsRest, own_count};
+ghost use Rattle.eco_archetypes.specs.Marks.{AreMarked};
+ghost use Rattle.eco_archetypes.specs.IdIndex.{KeepsNoEmpty, same_key, lists_of, ListsNone, ListsSame, Turns, HasTurned, KeepsRest, own_count};
 ghost use Rattle.eco_archetypes.specs.IdIndex.{has_key, has_one, keys_of, matches_id, any_matches, exactly};
 
 use crate::id_index::key::Key;
+use crate::id_index::marks::Marks;
 use crate::id_index::slots::Slots;
 use eco_ids::{Entity, Id, Part, Pattern};
 use indexmap::IndexMap;
 use std::alloc::{AllocError, Global};
 
+mod flags;
 mod key;
+mod marks;
 mod shortest;
 mod slots;
 mod turning;
@@ -23,7 +29,9 @@ mod turning;
 #[derive(Drop)]
 pub struct IdIndex {
     slots: IndexMap<Key, Slots>,
+    marks: Marks,
     ghost full: { KeepsNoEmpty slots },
+    ghost marked: { AreMarked marks slots },
 }
 
 impl IdIndex {
@@ -33,15 +41,17 @@ impl IdIndex {
     {
         IdIndex {
             slots: IndexMap::new(alloc),
+            marks: Marks::new(alloc),
         }
     }
 
     /// The slots that are listed under the pattern, each once.
+    #[inline]
     pub fn slots(&self, pattern: Pattern) -> &[usize]
         ensures listed { (n : ℕ) → list_any (nat_eq n) result.now ≡ lists_of self.now.slots pattern n }
         ensures distinct { IsDistinct nat_eq result.now }
     {
-        match self.slots.get(&Key::of(pattern)) {
+        match self.kept(Key::of(pattern)) {
             Some(slots) => slots.as_slice(),
             None => &[],
         }
@@ -51,7 +61,7 @@ impl IdIndex {
     pub fn lists(&self, pattern: Pattern, slot: usize) -> bool
         ensures { result ≡ lists_of self.now.slots pattern slot }
     {
-        match self.slots.get(&Key::of(pattern)) {
+        match self.kept(Key::of(pattern)) {
             Some(slots) => slots.has(slot),
             None => false,
         }
@@ -65,12 +75,33 @@ impl IdIndex {
         self.slots(exactly(id)).first().copied()
     }
 
+    // The slots that are listed under the key, if there are any. Most entities are in no type, so mostly the marks tell.
+    #[inline]
+    fn kept(&self, key: Key) -> Option<&Slots>
+        ensures { option_copied result ≡ get same_key self.now.slots key }
+    {
+        if self.marks.may_keep(key) {
+            self.look_up(key)
+        } else {
+            None
+        }
+    }
+
+    // What `kept` does where the marks don't tell, apart, so that they cost no call.
+    #[inline(never)]
+    fn look_up(&self, key: Key) -> Option<&Slots>
+        ensures { option_copied result ≡ get same_key self.now.slots key }
+    {
+        self.slots.get(&key)
+    }
+
     // Lists the slot under the key. An `Err` changes nothing that is listed.
     fn add(&mut self, alloc: Global, key: Key, slot: usize) -> Result<(), AllocError>
         ensures ok { OnOk result
             (Turns true (has_key key) (lists_of self.old.slots) (lists_of self.new.slots) slot) }
         ensures err { OnErr result (ListsSame (lists_of self.old.slots) (lists_of self.new.slots)) }
     {
+        self.marks.mark(key)?;
         if let Some(slots) = self.slots.get_mut(&key) {
             return slots.add(alloc, slot);
         }

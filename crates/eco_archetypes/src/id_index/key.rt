@@ -21,6 +21,7 @@ pub enum Key {
 
 impl Key {
     /// The key of a pattern.
+    #[inline]
     pub fn of(pattern: Pattern) -> Key
         ensures { result ≡ key_of pattern }
     {

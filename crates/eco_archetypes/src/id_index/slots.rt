@@ -12,8 +12,8 @@ use std::slice;
 pub enum Slots {
     /// This slot.
     One(usize),
-    /// These slots. The last of them may be alone again.
-    Many(IndexSet<usize>),
+    /// These slots. The last of them may be alone again. The set is boxed, so that what the map moves about stays small.
+    Many(Box<IndexSet<usize>>),
 }
 
 impl Slots {
@@ -47,7 +47,7 @@ impl Slots {
         match self {
             Slots::One(own) => {
                 if *own != slot {
-                    *self = Slots::Many(set_of_two(alloc, *own, slot)?);
+                    *self = Slots::Many(Box::new(alloc, set_of_two(alloc, *own, slot)?)?);
                 }
             }
             Slots::Many(slots) => {

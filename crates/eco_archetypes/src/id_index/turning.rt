@@ -46,7 +46,7 @@ impl IdIndex {
     fn has(&self, key: Key, slot: usize) -> bool
         ensures { result ≡ is_listed self.now.slots key slot }
     {
-        match self.slots.get(&key) {
+        match self.kept(key) {
             Some(slots) => slots.has(slot),
             None => false,
         }

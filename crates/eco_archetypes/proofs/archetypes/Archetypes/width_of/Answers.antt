@@ -1,4 +1,4 @@
-use Rattle.std.proofs.Common.{◌≡◌, true, IsSome, sym, ap, ◌∙◌, subst, unwrap_or}
+use Rattle.std.proofs.Common.{◌≡◌, true, sym, ap, ◌∙◌, subst, unwrap_or}
 use Rattle.std.specs.Option.{option_copied}
 use Rattle.eco_entities.specs.Needs.{need}
 use Rattle.eco_ids.specs.Order.{id_cmp, has_item}

@@ -11,6 +11,7 @@ use Rattle.eco_tables.specs.Table.{TableState, Row, retyped_row, entities_of}
 use Rattle.eco_tables.specs.Tables.{table_in, row_in, no_row, no_table, new_row, Sets, Moves, with_row, without_row}
 use Rattle.eco_entities.specs.declared.place.Place.{Place}
 use Rattle.eco_archetypes.specs.Archetypes.{RowlessIn, row_at, SameRows}
+use Rattle.eco_store.specs.declared.moving.Move.{Move}
 use Rattle.eco_store.specs.Layout.{IsLaid, rows_in, SetsRows, PutsRow, TakesRow, MovesRow}
 use Rattle.eco_store.specs.Preparing.{PreparedState, nothing_prepared, staying, HasNoIdleTarget, IsReady, move_to, moves_of}
 use Rattle.eco_store.proofs.Pouring.{rows_same}
@@ -29,6 +30,15 @@ laid_nothing s p n nothing one = record {
   ready = ready_nothing s p n nothing;
   tidy = subst (λ (q : PreparedState). RowlessIn s (staying q)) (sym nothing) one;
   done = λ none_left. ap (λ (q : PreparedState). q.targets) nothing;
+}
+
+-- a move is to come, so tables may stay for it
+pub laid_more : (s : List (Option TableState)) (p : PreparedState) (m : Move) (ms : List Move) → moves_of s p ≡ m ∷ ms → IsReady s p
+    → RowlessIn s (staying p) → IsLaid s p
+laid_more s p m ms is ready tidy = record {
+  ready = ready;
+  tidy = tidy;
+  done = λ none. let bad : ◌≡◌ {A = List Move} [] (m ∷ ms) = sym (ap (map (move_to s)) none) ∙ is in absurd (cc);
 }
 
 pub sets_rows : (s s' : List (Option TableState)) (n : ℕ) (slot : Option TableState) → Sets s s' n slot

@@ -17,6 +17,7 @@ pub mod NextMoves
 pub mod RowCounts
 pub mod Rowless
 pub mod FoundTypes
+pub mod Ranking
 pub mod Stepping
 pub mod Exchanges
 pub mod WholeMoves

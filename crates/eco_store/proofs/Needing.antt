@@ -1,5 +1,6 @@
 -- The arity of an id, as the store shows it, is no more than the tables keep.
-use Rattle.std.proofs.Common.{◌≡◌, ◌≤◌, ◌==◌, ◌&&◌, ℕ, Bool, true, false, cond, IsTrue, List, Option, None, Some, unwrap_or, option_map, option_and_then, if◌then◌else◌, refl, sym, ap, ◌∙◌, subst, arith, slice_get, is_some, nat_lt, MatchBool, Result}
+use Rattle.std.proofs.Common.{◌≡◌, ◌≤◌, ◌==◌, ◌&&◌, ℕ, Bool, true, false, cond, IsTrue, List, Option, None, Some, unwrap_or, option_map, option_and_then}
+use Rattle.std.proofs.Common.{if◌then◌else◌, refl, sym, ap, ◌∙◌, subst, arith, slice_get, is_some, nat_lt, MatchBool, Result}
 use Rattle.std.specs.Option.{option_or}
 use Rattle.std.proofs.lemmas.Option.{slice_get-map}
 use Rattle.eco_ids.specs.Births.{Admits, may_admit}

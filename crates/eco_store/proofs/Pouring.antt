@@ -5,7 +5,7 @@ use Rattle.std.specs.List.{All}
 use Rattle.std.proofs.Math.ListN.{get_or-map}
 use Rattle.std.proofs.lemmas.Bool.{cases_eq}
 use Rattle.std.proofs.lemmas.List.{length-map, map-append}
-use Rattle.std.proofs.lemmas.List.Elements.{All-head, All-tail, All-push}
+use Rattle.std.proofs.lemmas.List.Elements.{All-head, All-nil, All-tail, All-push}
 use Rattle.eco_tables.specs.Table.{TableState}
 use Rattle.eco_tables.specs.Tables.{slot_of, table_in, no_table, Sets}
 use Rattle.eco_ids.proofs.Lists.{not_equal}
@@ -70,6 +70,14 @@ pub plan_kept : (s s' : List (Option TableState)) (ts : List Transfer) (cs : Lis
 plan_kept s s' ts cs keeps plan =
     plan_alike s s' ts cs (λ k d within. kept_type s s' (get_or ts k d).from keeps (plan.sources k d within))
     (λ k d within. kept_type s s' (get_or ts k d).to keeps (plan.targets k d within)) plan
+
+-- no transfer is a plan of no change
+pub plan_none : (s : List (Option TableState)) → IsPlan s [] []
+plan_none s = record {
+  sources = All-nil (λ (t : Transfer). IsSome (slot_of s t.from));
+  targets = All-nil (λ (t : Transfer). IsSome (slot_of s t.to));
+  types = refl;
+}
 
 pub plan_more : (s : List (Option TableState)) (ts : List Transfer) (cs : List TypeChange) (t : Transfer) (c : TypeChange) → IsPlan s ts cs
     → type_at s t.from ≡ Some c.from → type_at s t.to ≡ Some c.to → IsPlan s (ts ++ t ∷ []) (cs ++ c ∷ [])

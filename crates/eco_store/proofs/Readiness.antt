@@ -1,7 +1,8 @@
 -- Moves to come keep their tables and their room.
 use Rattle.std.proofs.Common.{◌≡◌, ◌≢◌, ◌⊎◌, ℕ, ◌+◌, ◌≤◌, ◌<◌, ◌==◌, Bool, true, false, true≢false, not, ◌||◌, IsTrue, if◌then◌else◌, List, [], ◌∷◌, ◌++◌, map}
 use Rattle.std.proofs.Common.{length, get_or, drop, Option, Some, None, option_map, unwrap_or, IsSome, OnSome, IfNone, nat_eq, refl, sym, ap, subst, ◌∙◌, arith}
-use Rattle.std.proofs.Common.{inl, inr}
+use Rattle.std.proofs.Common.{inl, inr, Result, Ok, Err, OnOk}
+use Rattle.std.specs.Prelude.{OnErr}
 use Rattle.std.specs.List.{All, list_any}
 use Rattle.std.proofs.lemmas.Bool.{cases_eq}
 use Rattle.std.proofs.lemmas.List.Kept.{AllPairs-cons}
@@ -15,7 +16,7 @@ use Rattle.eco_ids.proofs.Lists.{not_equal}
 use Rattle.eco_store.specs.declared.moving.Move.{Move}
 use Rattle.eco_archetypes.specs.Archetypes.{type_at, KeepsTypes, KeepsRoom, SameSlots, SameTypes}
 use Rattle.eco_store.specs.Preparing.{PreparedState, nothing_prepared, with_arrival, with_target, move_to, moves_of, has_move, AreOfDifferent, arriving}
-use Rattle.eco_store.specs.Preparing.{IsReady, SameIn}
+use Rattle.eco_store.specs.Preparing.{staying, IsReady, SameIn}
 use Rattle.eco_archetypes.proofs.ArchetypeLemmas.{sets_types, typed_table}
 use Rattle.eco_store.proofs.Pouring.{same_ids_in, still_there, kept_type}
 use Rattle.eco_store.proofs.RowChanges.{is_equal}
@@ -165,6 +166,12 @@ ready_more s s' p e n slot ready stays there types sets room = record {
   ];
 }
 
+-- whether a move was put before the others or refused, the same tables may be without rows
+pub staying_added : {T E : Type 0} (r : Result T E) (p p' : PreparedState) (a : Entity × ℕ) → OnOk r (p' ≡ with_arrival p a) → OnErr r (p' ≡ p)
+    → staying p' ≡ staying p
+staying_added (Ok x) p p' a done refused = ap staying done
+staying_added (Err e) p p' a done refused = ap staying refused
+
 -- the moves, with one more before them
 pub moves_more : (s s' : List (Option TableState)) (p : PreparedState) (e : Entity) (n : ℕ) (ids : List Id) → type_at s n ≡ Some ids → SameTypes s s' →
     IsReady s p
@@ -215,26 +222,26 @@ same_targets s s' targets n (Some ids) free dropped kept m among =
     dropped.others m (λ same. true≢false (sym among ∙ ap (λ k. list_any (nat_eq k) targets) same ∙ free))
 same_targets s s' targets n None free dropped kept m among = kept m
 
--- a row goes out of a table
+-- a row goes out of a table, and no table has less room
+pub room_won : (s s1 : List (Option TableState)) (n row : ℕ) → Sets s s1 n (Some (without_row (table_in s n) row)) → KeepsRoom s s1
+room_won s s1 n row sets m =
+    elim (cases_eq m n) [
+      | inl here ↦
+          let more : (table_in s1 n).room ≡ (table_in s n).room + 1 = ap (λ o. (unwrap_or o no_table).room) sets.changed in
+          let now : (table_in s n).room ≤ (table_in s1 n).room = omega (arith, more) in
+          subst (λ k. (table_in s k).room ≤ (table_in s1 k).room) (sym here) now
+      | inr other ↦
+          let same = ap (λ o. (unwrap_or o no_table).room) (sets.others m other) in
+          omega (arith, same)
+    ]
+
 pub spares_without : (s s1 : List (Option TableState)) (p : PreparedState) (n row : ℕ) → IsSome (slot_of s n) →
     Sets s s1 n (Some (without_row (table_in s n) row))
     → Spares s s1 p.arrivals
 spares_without s s1 p n row there sets = record {
   types = λ k d within. sets_types s s1 n (without_row (table_in s n) row) sets there refl (get_or p.arrivals k d).1;
-  rooms = λ k d within. by (get_or p.arrivals k d).1;
+  rooms = λ k d within. room_won s s1 n row sets (get_or p.arrivals k d).1;
 }
-  where
-    by : (m : ℕ) → (table_in s m).room ≤ (table_in s1 m).room
-    by m =
-        elim (cases_eq m n) [
-          | inl here ↦
-              let more : (table_in s1 n).room ≡ (table_in s n).room + 1 = ap (λ o. (unwrap_or o no_table).room) sets.changed in
-              let now : (table_in s n).room ≤ (table_in s1 n).room = omega (arith, more) in
-              subst (λ k. (table_in s k).room ≤ (table_in s1 k).room) (sym here) now
-          | inr other ↦
-              let same = ap (λ o. (unwrap_or o no_table).room) (sets.others m other) in
-              omega (arith, same)
-        ]
 
 -- two moves of different entities
 pub two_apart : (a b : Move) → a.entity ≢ b.entity → AreOfDifferent (a ∷ b ∷ [])

@@ -1,5 +1,5 @@
 -- Tables that lose rows, and what that leaves of the plans over them.
-use Rattle.std.proofs.Common.{◌<◌, map, ◌≡◌, ℕ, ◌+◌, ◌-◌, ◌≤◌, Bool, true, false, true≢false, List, length, get_or, Option, Some, option_map, unwrap_or}
+use Rattle.std.proofs.Common.{◌<◌, map, ◌≡◌, ℕ, ◌-◌, ◌≤◌, Bool, true, false, true≢false, List, length, get_or, Option, Some, option_map, unwrap_or}
 use Rattle.std.proofs.Common.{IsSome, nat_eq, refl, sym, ap, subst, ◌∙◌, arith, inl, inr}
 use Rattle.std.specs.List.{list_any}
 use Rattle.std.proofs.lemmas.Bool.{cases_eq}
@@ -13,6 +13,7 @@ use Rattle.eco_store.specs.declared.type_change.TypeChange.{TypeChange}
 use Rattle.eco_store.specs.Preparing.{SameIn}
 use Rattle.eco_store.specs.Transfers.{change_of, AreNamed, IsPlan, HasRoom, Thins, due}
 use Rattle.eco_store.proofs.Pouring.{changes_alike, plan_alike, due_fewer, due_none}
+use Rattle.eco_store.proofs.Readiness.{room_won}
 
 pub thins_same : (s : List (Option TableState)) (slots : List ℕ) → Thins s s slots
 thins_same s slots = record { types = λ n among. refl; rows = λ n among. omega arith; room = λ n among. omega arith }
@@ -34,7 +35,7 @@ thins_without s s1 s2 n row slots there sets same = record {
       omega (arith, now, fewer m);
   room = λ m among.
       let now = ap (λ o. (unwrap_or o no_table).room) (same m among) in
-      omega (arith, now, more m);
+      omega (arith, now, room_won s s1 n row sets m);
 }
   where
     fewer : (m : ℕ) → length (table_in s1 m).rows ≤ length (table_in s m).rows
@@ -47,18 +48,6 @@ thins_without s s1 s2 n row slots there sets same = record {
               subst (λ k. length (table_in s1 k).rows ≤ length (table_in s k).rows) (sym here) now
           | inr other ↦
               let stays = ap (λ o. length (unwrap_or o no_table).rows) (sets.others m other) in
-              omega (arith, stays)
-        ]
-
-    more : (m : ℕ) → (table_in s m).room ≤ (table_in s1 m).room
-    more m =
-        elim (cases_eq m n) [
-          | inl here ↦
-              let won : (table_in s1 n).room ≡ (table_in s n).room + 1 = ap (λ o. (unwrap_or o no_table).room) sets.changed in
-              let now : (table_in s n).room ≤ (table_in s1 n).room = omega (arith, won) in
-              subst (λ k. (table_in s k).room ≤ (table_in s1 k).room) (sym here) now
-          | inr other ↦
-              let stays = ap (λ o. (unwrap_or o no_table).room) (sets.others m other) in
               omega (arith, stays)
         ]
 

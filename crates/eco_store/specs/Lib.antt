@@ -1,6 +1,7 @@
 pub mod Seats
 pub mod Placing
 pub mod Store
+pub mod Ranking
 pub mod Holders
 pub mod Deaths
 pub mod Retyping

@@ -1,6 +1,6 @@
 -- A store: a record of each living entity, as the world has it, with no table in it.
-use Rattle.std.specs.Prelude.{◌≡◌, ℕ, ◌<◌, ◌==◌, nat_lt, Bool, ◌&&◌, false, Result, length, slice_index_or, List, [], map, slice_get, Option, None, Some, IsSome}
-use Rattle.std.specs.Prelude.{is_some, option_map, option_and_then, unwrap_or}
+use Rattle.std.specs.Prelude.{◌≡◌, ℕ, ◌<◌, ◌==◌, nat_lt, Bool, ◌&&◌, false, Result, length, slice_index_or, List, [], map, slice_get, Option, None, Some}
+use Rattle.std.specs.Prelude.{IsSome, is_some, option_map, option_and_then, unwrap_or}
 use Rattle.std.specs.FinMap.Entries.{find}
 use Rattle.std.specs.Option.{option_or}
 use Rattle.eco_ids.specs.declared.entity.Entity.{Entity}

@@ -3,7 +3,7 @@ ghost use Rattle.std.specs.Prelude.{◌≡◌, ◌≤◌, List, ℕ, [], length,
 ghost use Rattle.std.specs.Option.{option_copied};
 ghost use Rattle.std.specs.FinMap.Entries.{find};
 ghost use Rattle.eco_ids.specs.Births.{unfit_name, Makes};
-ghost use Rattle.eco_ids.specs.Indices.{changed, is_alive, is_free_at, next_entity, record_of};
+ghost use Rattle.eco_ids.specs.Indices.{changed, is_alive, next_entity, record_of};
 ghost use Rattle.eco_ids.specs.Names.{named_entity};
 ghost use Rattle.eco_ids.specs.Order.{id_cmp, is_ascending};
 ghost use Rattle.eco_ids.specs.Renaming.{own_name};
@@ -25,8 +25,8 @@ mod copying;
 mod deaths;
 mod exchanging;
 mod moves;
-mod retyping;
 mod searching;
+mod standing;
 mod stepping;
 mod viewing;
 

@@ -48,12 +48,15 @@ impl Layout {
         ensures rows { SameRows self.old.tables self.new.tables }
         ensures widths { StillCover entities.now self.old.tables self.new.tables }
     {
-        let planned = self
+        match self
             .prepared
-            .plan_move(entities, &mut self.archetypes, next);
-        if planned.is_err() {
-            self.prepared.forget(&mut self.archetypes);
+            .plan_move(entities, &mut self.archetypes, next)
+        {
+            Ok(()) => Ok(()),
+            Err(refused) => {
+                self.prepared.forget(&mut self.archetypes);
+                Err(refused)
+            }
         }
-        planned
     }
 }

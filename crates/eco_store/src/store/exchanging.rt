@@ -16,7 +16,8 @@ impl Store {
         requires alive { IsTrue (is_alive self.old.entities e) }
         requires there { has self.old.entities e leaving ≡ true }
         requires absent { has self.old.entities e coming ≡ false }
-        ensures ok { OnOk result (self.new.entities ≡ changed self.old.entities e (with_exchanged leaving coming)) }
+        ensures ok { OnOk result
+            (self.new.entities ≡ changed self.old.entities e (with_exchanged leaving coming)) }
         ensures err { OnErr result (self.new.entities ≡ self.old.entities) }
         ensures unprepared { self.new.prepared ≡ [] }
     {

@@ -26,8 +26,8 @@ impl Store {
     }
 
     /// Gives an entity another type: values of ids that both have stay, new ids hold zeros. It takes no memory and succeeds
-    /// where this is the first of the prepared moves, which is none of them from then on, or the type is its own. An `Err` comes where memory is
-    /// refused, and then no entity has changed.
+    /// where this is the first of the prepared moves, which is none of them from then on, or the type is its own. An `Err`
+    /// comes where memory is refused, and then no entity has changed.
     pub fn retype(&mut self, e: Entity, type_list: &TypeList) -> Result<(), AllocError>
         requires { IsTrue (is_alive self.old.entities e) }
         ensures ok { OnOk result (self.new.entities ≡ changed self.old.entities e (with_type type_list.now)) }

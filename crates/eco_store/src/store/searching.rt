@@ -1,5 +1,5 @@
 //! Entities, their tables and their types are found by tests of their ids.
-ghost use Rattle.std.specs.Prelude.{◌≡◌, ◌≢◌, ◌↔◌, nat_eq, List, ℕ, map, Some, IsSome, IsTrue, IfOk, OnErr};
+ghost use Rattle.std.specs.Prelude.{◌≡◌, ◌≢◌, ◌<◌, ◌↔◌, nat_eq, List, ℕ, length, map, Some, IsSome, IsTrue, IfOk, OnErr};
 ghost use Rattle.std.specs.List.{All, AllPairs, Contains, list_any, IsDistinct};
 ghost use Rattle.eco_ids.specs.Indices.{living};
 ghost use Rattle.eco_ids.specs.declared.id.Id.{Id as Ids};
@@ -15,10 +15,12 @@ use eco_ids::{Entity, Pattern, TypeList};
 use eco_tables::Tables;
 use std::alloc::{AllocError, Global};
 
-// The types of the tables in these slots.
+// The types of the tables in these slots. An `Err` comes where memory is refused, and never without slots.
 fn types_in(alloc: Global, tables: &Tables, slots: &[usize]) -> Result<Vec<TypeList>, AllocError>
     requires { All (λ slot. IsSome (slot_of tables.now slot)) slots.now }
-    ensures { IfOk result (λ types. types.items ≡ map (λ slot. (table_in tables.now slot).ids) slots.now) }
+    ensures all { IfOk result
+        (λ types. types.items ≡ map (λ slot. (table_in tables.now slot).ids) slots.now) }
+    ensures some { OnErr result (0 < length slots.now) }
 {
     let mut types = Vec::new(alloc);
     for slot in slots {
@@ -113,22 +115,27 @@ impl Store {
         self.entities_by(&Naming { entity: e })
     }
 
-    /// The types of living entities that pass the test, each once, in any order. An `Err` comes where memory is refused.
+    /// The types of living entities that pass the test, each once, in any order. An `Err` comes where memory is refused, and
+    /// never where nobody passes.
     pub fn types_by<T: TypeTest>(&self, test: &T) -> Result<Vec<TypeList>, AllocError>
         ensures listed { IfOk result (λ types. (ids : List Ids) →
             Contains types.items ids ↔ IsTypeBy self.now.entities (T.test test.now) ids) }
         ensures distinct { IfOk result (λ types. AllPairs (λ one other. one ≢ other) types.items) }
+        ensures some { OnErr result
+            (IsTrue (list_any (λ p. passes (T.test test.now) p.1) (living self.now.entities))) }
     {
         let found = self.tables_by(test)?;
         types_in(self.alloc, found.tables, &found.slots)
     }
 
     /// The types of living entities with an id that the pattern matches, each once, in any order. An `Err` comes where
-    /// memory is refused.
+    /// memory is refused, and never where nobody has such an id.
     pub fn types_with(&self, pattern: Pattern) -> Result<Vec<TypeList>, AllocError>
         ensures listed { IfOk result (λ types. (ids : List Ids) →
             Contains types.items ids ↔ IsTypeWith self.now.entities pattern ids) }
         ensures distinct { IfOk result (λ types. AllPairs (λ one other. one ≢ other) types.items) }
+        ensures some { OnErr result
+            (IsTrue (list_any (λ p. has_match pattern p.1) (living self.now.entities))) }
     {
         self.types_by(&pattern)
     }

@@ -1,10 +1,13 @@
-use Rattle.std.proofs.Common.{◌<◌, length, sym, ap, subst, ◌∙◌}
+use Rattle.std.proofs.Common.{◌≡◌, ◌<◌, true, false, length, sym, ap, subst, ◌∙◌}
+use Rattle.std.proofs.lemmas.Result.{err_from_is_err_and}
+use Rattle.eco_ids.specs.Order.{id_cmp, has_item}
+use Rattle.eco_ids.proofs.Results.{err_says}
 use Rattle.eco_tables.specs.Tables.{no_row, AllHaveIds}
 use Rattle.eco_archetypes.specs.Edges.{exchanged}
 use Rattle.eco_store.specs.Layout.{LayoutState, rows_in, ids_at, MovesRow}
 use Rattle.eco_store.specs.Preparing.{staying}
-use Rattle.eco_store.proofs.LaidRows.{rows_alike, idle_laid, idle_leaves, idle_moves}
-use Rattle.eco_archetypes.proofs.ArchetypeLemmas.{typed_table}
+use Rattle.eco_store.proofs.LaidRows.{rows_alike, idle_laid, idle_leaves, idle_moves, still_laid}
+use Rattle.eco_archetypes.proofs.ArchetypeLemmas.{there_by_row, typed_table}
 use Rattle.eco_store.proofs.layout.Layout.exchange_at_once.Goals as goal
 
 pub invariant_of-self : goal.invariant_of-self
@@ -49,3 +52,38 @@ returns-clause-unprepared c =
 pub returns-clause-widths : goal.returns-clause-widths
 returns-clause-widths c =
     rw (← c.self.view_is) (λ was. c.release.ensures.widths _ (c.shift-moved.ensures.widths _ (c.exchange.ensures.widths was)))
+
+pub exchange-requires-clause-slot : goal.exchange-requires-clause-slot
+exchange-requires-clause-slot c = there_by_row _ c.args.place.table c.args.place.row (rw (← c.self.view_is) at c.requires.row)
+
+pub exchange-requires-clause-there : goal.exchange-requires-clause-there
+exchange-requires-clause-there c =
+    let there = rw (← c.self.view_is) at c.requires.row in
+    let own = subst AllHaveIds c.tables.ensures.same c.rows_have_ids.ensures c.args.place.table c.args.place.row no_row there in
+    subst (λ ids. has_item id_cmp ids c.args.leaving ≡ true) own (rw (← c.self.view_is) at c.requires.there)
+
+pub exchange-requires-clause-absent : goal.exchange-requires-clause-absent
+exchange-requires-clause-absent c =
+    let there = rw (← c.self.view_is) at c.requires.row in
+    let own = subst AllHaveIds c.tables.ensures.same c.rows_have_ids.ensures c.args.place.table c.args.place.row no_row there in
+    subst (λ ids. has_item id_cmp ids c.args.coming ≡ false) own (rw (← c.self.view_is) at c.requires.absent)
+
+pub returns-in_err-to-clause-ok : goal.returns-in_err-to-clause-ok
+returns-in_err-to-clause-ok c = let p = err_from_is_err_and c.from_residual.result c.from_residual.ensures.1 in rw p.1 tt
+
+pub returns-in_err-to-clause-err : goal.returns-in_err-to-clause-err
+returns-in_err-to-clause-err c = rw (← c.self.view_is) (err_says c.from_residual.result c.exchange.ensures.rows)
+
+pub returns-in_err-to-clause-widths : goal.returns-in_err-to-clause-widths
+returns-in_err-to-clause-widths c = rw (← c.self.view_is) c.exchange.ensures.widths
+
+pub shift-moved-requires-clause-apart : goal.shift-moved-requires-clause-apart
+shift-moved-requires-clause-apart c = c.in_ok-to.ensures.apart
+
+pub shift-moved-requires-clause-room : goal.shift-moved-requires-clause-room
+shift-moved-requires-clause-room c = c.in_ok-to.ensures.room
+
+pub invariant_of-self-2 : goal.invariant_of-self-2
+invariant_of-self-2 c =
+    still_laid _ c.self.inside.prepared c.release.new.self c.release.ensures.same c.self.invariant.done
+    c.release.ensures.ready c.release.ensures.tidy

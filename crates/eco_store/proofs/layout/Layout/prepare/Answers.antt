@@ -1,5 +1,6 @@
 use Rattle.std.proofs.Common.{◌≡◌, ◌∷◌, ◌+◌, ◌-◌, drop, length, not, IsTrue, sym, ap, ◌∙◌, subst, arith}
 use Rattle.std.proofs.lemmas.List.{drop_more}
+use Rattle.eco_archetypes.proofs.ArchetypeLemmas.{then_rows}
 use Rattle.eco_store.specs.Preparing.{has_move}
 use Rattle.eco_store.proofs.Readiness.{none_later}
 use Rattle.eco_store.proofs.layout.Layout.prepare.Goals as goal
@@ -30,3 +31,17 @@ loop-done-preserved c =
       rows = λ n row. c.prepare_before.ensures.rows n row ∙ c.loop-done.invariant.rows n row;
       widths = λ was. c.prepare_before.ensures.widths (c.loop-done.invariant.widths was);
     }
+
+pub returns-in_err-prepare_before-clause-rows : goal.returns-in_err-prepare_before-clause-rows
+returns-in_err-prepare_before-clause-rows c =
+    then_rows _ _ _ c.forget.ensures.rows (then_rows _ _ _ c.loop-done.invariant.rows c.prepare_before.ensures.rows)
+
+pub returns-in_err-prepare_before-clause-widths : goal.returns-in_err-prepare_before-clause-widths
+returns-in_err-prepare_before-clause-widths c = λ was.
+    c.prepare_before.ensures.widths (c.loop-done.invariant.widths (c.forget.ensures.widths _ was))
+
+pub returns-clause-rows : goal.returns-clause-rows
+returns-clause-rows c = then_rows _ _ _ c.forget.ensures.rows c.loop-done.invariant.rows
+
+pub returns-clause-widths : goal.returns-clause-widths
+returns-clause-widths c = λ was. c.loop-done.invariant.widths (c.forget.ensures.widths _ was)

@@ -1,4 +1,5 @@
 use Rattle.std.proofs.Common.{◌<◌, ◌≡◌, IsSome, length, unwrap_or, sym, ap, subst, ◌∙◌}
+use Rattle.std.proofs.lemmas.Result.{err_from_is_err_and}
 use Rattle.eco_tables.specs.Tables.{no_row, no_table, table_in, AllHaveIds}
 use Rattle.eco_archetypes.specs.Archetypes.{MayTakeType, SameSlots, SameRows}
 use Rattle.eco_archetypes.specs.Edges.{toggled}
@@ -139,3 +140,22 @@ returns-clause-unprepared c =
 pub returns-clause-widths : goal.returns-clause-widths
 returns-clause-widths c =
     rw (← c.self.view_is) (λ was. c.release.ensures.widths _ (c.shift-moved.ensures.widths _ (c.step.ensures.widths (c.step_alone.ensures.widths was))))
+
+pub returns-in_err-stays-clause-ok : goal.returns-in_err-stays-clause-ok
+returns-in_err-stays-clause-ok c = let p = err_from_is_err_and c.from_residual.result c.from_residual.ensures.1 in rw p.1 tt
+
+pub returns-in_err-stays-clause-widths : goal.returns-in_err-stays-clause-widths
+returns-in_err-stays-clause-widths c = rw (← c.self.view_is) c.step_alone.ensures.widths
+
+pub returns-then-stays-clause-widths : goal.returns-then-stays-clause-widths
+returns-then-stays-clause-widths c = rw (← c.self.view_is) c.step_alone.ensures.widths
+
+pub returns-in_err-to-clause-ok : goal.returns-in_err-to-clause-ok
+returns-in_err-to-clause-ok c =
+    let p = err_from_is_err_and c.from_residual-in_err-to.result c.from_residual-in_err-to.ensures.1 in rw p.1 tt
+
+pub shift-moved-requires-clause-apart : goal.shift-moved-requires-clause-apart
+shift-moved-requires-clause-apart c = c.in_ok-to.ensures.apart
+
+pub shift-moved-requires-clause-room : goal.shift-moved-requires-clause-room
+shift-moved-requires-clause-room c = c.in_ok-to.ensures.room

@@ -1,6 +1,8 @@
-use Rattle.std.proofs.Common.{◌∙◌}
-use Rattle.eco_store.specs.Preparing.{staying}
+use Rattle.std.proofs.Common.{ap, ◌∙◌}
+use Rattle.eco_archetypes.proofs.ArchetypeLemmas.{then_rows}
+use Rattle.eco_store.specs.Preparing.{PreparedState, staying}
 use Rattle.eco_store.proofs.Pouring.{plan_kept}
+use Rattle.eco_store.proofs.Readiness.{ready_nothing}
 use Rattle.eco_store.proofs.prepared.Prepared.plan_changes.Goals as goal
 
 pub returns-in_err-take_room-clause-tidy : goal.returns-in_err-take_room-clause-tidy
@@ -12,3 +14,33 @@ returns-clause-plan c =
 
 pub returns-clause-tidy : goal.returns-clause-tidy
 returns-clause-tidy c = c.take_room.ensures.rowless (staying c.find_tables.new.self) c.in_ok-transfers.ensures.tidy
+
+pub find_tables-requires-clause-ready : goal.find_tables-requires-clause-ready
+find_tables-requires-clause-ready c = ready_nothing _ _ _ c.requires.nothing
+
+pub returns-in_err-transfers-clause-tidy : goal.returns-in_err-transfers-clause-tidy
+returns-in_err-transfers-clause-tidy c = c.find_tables.ensures.tidy
+
+pub returns-in_err-transfers-clause-rows : goal.returns-in_err-transfers-clause-rows
+returns-in_err-transfers-clause-rows c = c.find_tables.ensures.rows
+
+pub returns-in_err-transfers-clause-widths : goal.returns-in_err-transfers-clause-widths
+returns-in_err-transfers-clause-widths c = c.find_tables.ensures.widths
+
+pub returns-in_err-take_room-clause-rows : goal.returns-in_err-take_room-clause-rows
+returns-in_err-take_room-clause-rows c = then_rows _ _ _ c.find_tables.ensures.rows c.take_room.ensures.rows
+
+pub returns-in_err-take_room-clause-widths : goal.returns-in_err-take_room-clause-widths
+returns-in_err-take_room-clause-widths c = λ was. c.take_room.ensures.widths _ (c.find_tables.ensures.widths was)
+
+pub returns-clause-named : goal.returns-clause-named
+returns-clause-named c = c.in_ok-transfers.ensures.named
+
+pub returns-clause-unmoved : goal.returns-clause-unmoved
+returns-clause-unmoved c = c.in_ok-transfers.ensures.arrivals ∙ ap (λ (p : PreparedState). p.arrivals) c.requires.nothing
+
+pub returns-clause-rows : goal.returns-clause-rows
+returns-clause-rows c = then_rows _ _ _ c.find_tables.ensures.rows c.take_room.ensures.rows
+
+pub returns-clause-widths : goal.returns-clause-widths
+returns-clause-widths c = λ was. c.take_room.ensures.widths _ (c.find_tables.ensures.widths was)

@@ -1,7 +1,8 @@
-use Rattle.std.proofs.Common.{sym, ◌∙◌, ◌∷◌, nat_eq}
+use Rattle.std.proofs.Common.{sym, ap, ◌∙◌, ◌∷◌, nat_eq}
 use Rattle.std.specs.List.{list_any}
-use Rattle.eco_store.specs.Preparing.{staying}
-use Rattle.eco_store.proofs.Readiness.{ready_spared, moves_spared, spares_both, spares_kept, spares_other, still_targeted, targeted}
+use Rattle.eco_store.specs.Preparing.{PreparedState, staying}
+use Rattle.eco_archetypes.proofs.ArchetypeLemmas.{then_rows, there_as_typed}
+use Rattle.eco_store.proofs.Readiness.{is_targeted, ready_spared, moves_spared, spares_both, spares_kept, spares_other, still_targeted, targeted}
 use Rattle.eco_store.proofs.Rowless.{rowless_same, rowless_targeted}
 use Rattle.eco_store.proofs.prepared.Prepared.target.Goals as goal
 use Rattle.eco_ids.proofs.Facts.{not_true}
@@ -72,3 +73,64 @@ returns-in-Ok-false-clause-tidy c =
 
 pub returns-in-Ok-true-clause-grown : goal.returns-in-Ok-true-clause-grown
 returns-in-Ok-true-clause-grown c = rw c.in-Ok-true.ensures.ok (still_targeted c.args.self.now c.in_ok-slot.slot)
+
+-- what the table's slot, its types, rows and widths are after the three ways out
+pub returns-in-Ok-true-clause-typed : goal.returns-in-Ok-true-clause-typed
+returns-in-Ok-true-clause-typed c = c.waive.ensures.types c.in_ok-slot.slot ∙ c.in_ok-slot.ensures.typed
+
+pub returns-in-Ok-true-clause-stays : goal.returns-in-Ok-true-clause-stays
+returns-in-Ok-true-clause-stays c = rw c.in-Ok-true.ensures.ok (is_targeted c.args.self.now c.in_ok-slot.slot)
+
+pub returns-in-Ok-true-clause-kept : goal.returns-in-Ok-true-clause-kept
+returns-in-Ok-true-clause-kept c = λ n ids was. c.waive.ensures.types n ∙ c.in_ok-slot.ensures.types n ids was
+
+pub returns-in-Ok-true-clause-arrivals : goal.returns-in-Ok-true-clause-arrivals
+returns-in-Ok-true-clause-arrivals c = ap (λ (p : PreparedState). p.arrivals) c.in-Ok-true.ensures.ok
+
+pub returns-in-Ok-true-clause-rows : goal.returns-in-Ok-true-clause-rows
+returns-in-Ok-true-clause-rows c = then_rows _ _ _ c.room_for.ensures.rows c.waive.ensures.rows
+
+pub returns-in-Ok-true-clause-widths : goal.returns-in-Ok-true-clause-widths
+returns-in-Ok-true-clause-widths c = λ was. c.waive.ensures.widths _ (c.room_for.ensures.widths was)
+
+pub returns-in-Ok-false-clause-typed : goal.returns-in-Ok-false-clause-typed
+returns-in-Ok-false-clause-typed c = c.in_ok-slot.ensures.typed
+
+pub returns-in-Ok-false-clause-stays : goal.returns-in-Ok-false-clause-stays
+returns-in-Ok-false-clause-stays c = rw c.in-Ok-false.ensures.ok (is_targeted c.args.self.now c.in_ok-slot.slot)
+
+pub returns-in-Ok-false-clause-kept : goal.returns-in-Ok-false-clause-kept
+returns-in-Ok-false-clause-kept c = c.in_ok-slot.ensures.types
+
+pub returns-in-Ok-false-clause-grown : goal.returns-in-Ok-false-clause-grown
+returns-in-Ok-false-clause-grown c = rw c.in-Ok-false.ensures.ok (still_targeted c.args.self.now c.in_ok-slot.slot)
+
+pub returns-in-Ok-false-clause-arrivals : goal.returns-in-Ok-false-clause-arrivals
+returns-in-Ok-false-clause-arrivals c = ap (λ (p : PreparedState). p.arrivals) c.in-Ok-false.ensures.ok
+
+pub returns-in-Ok-false-clause-rows : goal.returns-in-Ok-false-clause-rows
+returns-in-Ok-false-clause-rows c = c.room_for.ensures.rows
+
+pub returns-in-Ok-false-clause-widths : goal.returns-in-Ok-false-clause-widths
+returns-in-Ok-false-clause-widths c = c.room_for.ensures.widths
+
+pub returns-in-Err-clause-grown : goal.returns-in-Err-clause-grown
+returns-in-Err-clause-grown c = rw c.in-Err.ensures.err (λ n was. was)
+
+pub returns-in-Err-clause-arrivals : goal.returns-in-Err-clause-arrivals
+returns-in-Err-clause-arrivals c = ap (λ (p : PreparedState). p.arrivals) c.in-Err.ensures.err
+
+pub returns-in-Err-clause-rows : goal.returns-in-Err-clause-rows
+returns-in-Err-clause-rows c = then_rows _ _ _ c.room_for.ensures.rows c.drop_empty.ensures.rows
+
+pub returns-in-Err-clause-widths : goal.returns-in-Err-clause-widths
+returns-in-Err-clause-widths c = λ was. c.drop_empty.ensures.widths _ (c.room_for.ensures.widths was)
+
+pub returns-in_err-slot-clause-rows : goal.returns-in_err-slot-clause-rows
+returns-in_err-slot-clause-rows c = c.room_for.ensures.rows
+
+pub returns-in_err-slot-clause-widths : goal.returns-in_err-slot-clause-widths
+returns-in_err-slot-clause-widths c = c.room_for.ensures.widths
+
+pub waive-requires : goal.waive-requires
+waive-requires c = there_as_typed c.room_for.new.self c.in_ok-slot.slot c.args.type_list.now c.in_ok-slot.ensures.typed

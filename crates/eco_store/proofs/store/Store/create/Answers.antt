@@ -156,3 +156,31 @@ returns-in-Err-create_next-clause-step c =
 pub set_place-requires-clause-fits : goal.set_place-requires-clause-fits
 set_place-requires-clause-fits c =
     end_fits c.self.inside.entities _ c.in-Ok.place.table _ c.rules.ensures c.self.invariant.store c.in-Ok.ensures.put.end
+
+pub invariant_of-self-in_default : goal.invariant_of-self-in_default
+invariant_of-self-in_default c = record {
+  store = same_store _ _ _ c.forget.ensures.rows c.self.invariant.store;
+  covers = c.forget.ensures.widths _ c.self.invariant.covers;
+}
+
+pub invariant_of-self-in-Err : goal.invariant_of-self-in-Err
+invariant_of-self-in-Err c = record {
+  store = same_store _ _ _ c.in-Err.ensures.err c.self.invariant.store;
+  covers = c.push_row.ensures.widths c.self.invariant.covers;
+}
+
+-- no move is left
+pub returns-in_err-check_name-clause-unprepared : goal.returns-in_err-check_name-clause-unprepared
+returns-in_err-check_name-clause-unprepared c = c.forget.ensures.unprepared
+
+pub returns-in_default-clause-unprepared : goal.returns-in_default-clause-unprepared
+returns-in_default-clause-unprepared c = c.forget.ensures.unprepared
+
+pub returns-in_err-check_new-in-Err-clause-unprepared : goal.returns-in_err-check_new-in-Err-clause-unprepared
+returns-in_err-check_new-in-Err-clause-unprepared c = c.push_row.ensures.unprepared
+
+pub returns-in-Err-clause-unprepared : goal.returns-in-Err-clause-unprepared
+returns-in-Err-clause-unprepared c = c.push_row.ensures.unprepared
+
+pub returns-in-Ok-create_next-clause-unprepared : goal.returns-in-Ok-create_next-clause-unprepared
+returns-in-Ok-create_next-clause-unprepared c = c.push_row.ensures.unprepared

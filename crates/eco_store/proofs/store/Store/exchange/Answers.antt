@@ -21,7 +21,8 @@ fix_place-requires-clause-living c =
     (sym c.place_of.ensures ∙ c.unwrap-place.ensures) c.in_ok-moved.ensures.ok
 
 pub fix_place-requires-clause-fits : goal.fix_place-requires-clause-fits
-fix_place-requires-clause-fits c = own_fits c.self.inside.entities _ c.args.e c.unwrap-place.result c.rules.ensures c.self.invariant.store (sym c.place_of.ensures ∙ c.unwrap-place.ensures)
+fix_place-requires-clause-fits c =
+    own_fits c.self.inside.entities _ c.args.e c.unwrap-place.result c.rules.ensures c.self.invariant.store (sym c.place_of.ensures ∙ c.unwrap-place.ensures)
 
 pub set_place-requires-clause-alive : goal.set_place-requires-clause-alive
 set_place-requires-clause-alive c =

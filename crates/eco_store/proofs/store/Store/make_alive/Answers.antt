@@ -1,11 +1,43 @@
-use Rattle.std.proofs.Common.{None, [], true, ◌≡◌, refl, ap, ◌∙◌, sym}
+use Rattle.std.proofs.Common.{None, [], true, false, ◌≡◌, refl, ap, ◌∙◌, sym}
 use Rattle.eco_ids.specs.Indices.{is_free_at}
 use Rattle.eco_store.specs.Store.{read}
 use Rattle.eco_store.proofs.RowCounts.{end_fits}
 use Rattle.eco_store.proofs.BirthChanges as births
+use Rattle.eco_store.proofs.StoreChanges.{same_read, same_store}
 use Rattle.eco_entities.specs.Runs.{MakeAlive}
 use Rattle.eco_store.proofs.Needing.{called, placed_covers}
 use Rattle.eco_store.proofs.store.Store.make_alive.Goals as goal
+
+-- the handle is taken
+pub invariant_of-self : goal.invariant_of-self
+invariant_of-self c = record {
+  store = same_store _ _ _ c.forget.ensures.rows c.self.invariant.store;
+  covers = c.forget.ensures.widths _ c.self.invariant.covers;
+}
+
+pub returns-then-not-is_free_at-clause-step : goal.returns-then-not-is_free_at-clause-step
+returns-then-not-is_free_at-clause-step c =
+    let w = c.self.inside.entities in
+    let s = c.self.inside.layout.tables in
+    let taken : is_free_at w c.args.e ≡ false = sym c.is_free_at.ensures ∙ c.if-not-is_free_at.true in
+    rw (← c.self.view_is) (rw (births.is_free_at-read w s c.args.e ∙ taken) (refl, same_read w s _ c.forget.ensures.rows))
+
+pub returns-then-not-is_free_at-clause-unprepared : goal.returns-then-not-is_free_at-clause-unprepared
+returns-then-not-is_free_at-clause-unprepared c = c.forget.ensures.unprepared
+
+-- no room is had
+pub invariant_of-self-in_err-place : goal.invariant_of-self-in_err-place
+invariant_of-self-in_err-place c = record {
+  store = same_store _ _ _ c.in_err-place.ensures.err c.self.invariant.store;
+  covers = c.push_row-2.ensures.widths c.self.invariant.covers;
+}
+
+pub returns-in_err-place-clause-unprepared : goal.returns-in_err-place-clause-unprepared
+returns-in_err-place-clause-unprepared c = c.push_row-2.ensures.unprepared
+
+-- it lives
+pub returns-clause-unprepared : goal.returns-clause-unprepared
+returns-clause-unprepared c = c.push_row-2.ensures.unprepared
 
 pub invariant_of-self-2 : goal.invariant_of-self-2
 invariant_of-self-2 c =

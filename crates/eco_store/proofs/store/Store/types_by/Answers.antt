@@ -2,6 +2,8 @@ use Rattle.std.proofs.Common.{◌≢◌, ◌↔◌, sym, subst}
 use Rattle.std.specs.List.{AllPairs, Contains}
 use Rattle.std.proofs.lemmas.Result.{IfOk-weaker}
 use Rattle.eco_store.specs.Retyping.{IsTypeBy}
+use Rattle.eco_ids.proofs.Results.{on_err}
+use Rattle.eco_store.proofs.Holders.{some_listed}
 use Rattle.eco_store.proofs.FoundTypes.{tables_there, types_apart, types_listed}
 use Rattle.eco_store.proofs.store.Store.types_by.Goals as goal
 
@@ -20,7 +22,7 @@ returns-clause-listed g c =
     IfOk-weaker c.types_in.result _ _
     (λ types is ids. subst (λ xs. Contains xs ids ↔ IsTypeBy w test ids) (sym is)
     (types_listed w found.tables.now test found.slots.items c.in_ok-found.ensures.shown c.in_ok-found.ensures.listed ids))
-    (rw c.deref.ensures.value at c.types_in.ensures)
+    (rw c.deref.ensures.value at c.types_in.ensures.all)
 
 pub returns-clause-distinct : goal.returns-clause-distinct
 returns-clause-distinct g c =
@@ -30,4 +32,12 @@ returns-clause-distinct g c =
     (λ types is. subst (AllPairs (λ one other. one ≢ other)) (sym is)
     (types_apart c.args.self.now.entities found.tables.now test found.slots.items c.in_ok-found.ensures.shown c.in_ok-found.ensures.listed
     c.in_ok-found.ensures.kinds c.in_ok-found.ensures.distinct))
-    (rw c.deref.ensures.value at c.types_in.ensures)
+    (rw c.deref.ensures.value at c.types_in.ensures.all)
+
+pub returns-clause-some : goal.returns-clause-some
+returns-clause-some g c =
+    let found = c.in_ok-found.found in
+    on_err c.types_in.result
+    (some_listed c.args.self.now.entities found.tables.now (g.T.TypeTest.test c.args.test.now) c.in_ok-found.ensures.shown found.slots.items
+    c.in_ok-found.ensures.listed)
+    (rw c.deref.ensures.value at c.types_in.ensures.some)

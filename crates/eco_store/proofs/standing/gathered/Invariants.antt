@@ -1,0 +1,6 @@
+use Rattle.std.proofs.Common.{◌≡◌, ◌++◌, drop}
+use Rattle.eco_store.specs.Ranking.{standings}
+use Rattle.eco_store.proofs.standing.gathered.Given as goal
+
+abbrev pub invariant-loop-place : goal.invariant-loop-place
+invariant-loop-place l = l.list.items ++ standings l.place l.tables (drop l.place l.slots) ≡ standings 0 l.tables l.slots

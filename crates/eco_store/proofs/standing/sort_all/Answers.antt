@@ -1,0 +1,7 @@
+use Rattle.std.proofs.Common.{rules}
+use Rattle.std.proofs.lemmas.List.Sorted.{answers_always}
+use Rattle.eco_store.specs.declared.standing.Standing.{Standing}
+use Rattle.eco_store.proofs.standing.sort_all.Goals as goal
+
+pub returns-clause-ascending : goal.returns-clause-ascending
+returns-clause-ascending c = c.sort_unstable_by_key.ensures.sorted (λ (s : Standing). s.entity) (answers_always _ _ _ (λ f a r q k. search rules))

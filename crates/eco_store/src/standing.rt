@@ -1,0 +1,126 @@
+//! Who stands in the tables of some slots.
+ghost use Rattle.std.specs.Prelude.{◌≡◌, ◌<◌, ◌++◌, length, map, IfOk, IsTrue, OnOk, OnErr};
+ghost use Rattle.std.specs.List.Sorted.{IsPermutation, IsSortedByKey};
+ghost use Rattle.eco_ids.specs.Order.{entity_cmp};
+ghost use Rattle.eco_tables.specs.Table.{entities_of};
+ghost use Rattle.eco_tables.specs.Tables.{table_in};
+ghost use Rattle.eco_store.specs.Ranking.{standings};
+ghost use Rattle.eco_store.specs.declared.standing.Standing.{Standing as Stands};
+
+use eco_ids::Entity;
+use eco_tables::Tables;
+use std::alloc::{AllocError, Global};
+
+/// An entity, and the place of its table among some.
+#[derive(Clone, Copy, Debug)]
+pub struct Standing {
+    pub entity: Entity,
+    pub place: usize,
+}
+
+/// All tables of a store, the slots of those that a test finds, each once, and all who stand in these, ascending, each with
+/// the place of its table among the slots.
+#[derive(Drop)]
+pub struct Standings<'a> {
+    pub tables: &'a Tables,
+    pub slots: Vec<usize>,
+    pub list: Vec<Standing>,
+}
+
+/// All who stand in the tables of these slots, ascending. An `Err` comes where memory is refused, and never where there are
+/// no slots.
+pub(crate) fn ranked(
+    alloc: Global,
+    tables: &Tables,
+    slots: &[usize],
+) -> Result<Vec<Standing>, AllocError>
+    ensures all { IfOk result (λ v. IsPermutation (standings 0 tables.now slots.now) v.items) }
+    ensures sorted { IfOk result (λ v. IsSortedByKey (λ (s : Stands). s.entity) entity_cmp v.items) }
+    ensures some { OnErr result (0 < length slots.now) }
+{
+    let mut list = gathered(alloc, tables, slots)?;
+    sort(&mut list);
+    Ok(list)
+}
+
+// The same, ascending. Rows that were made one after another mostly ascend as they stand, and nothing is to do.
+fn sort(list: &mut Vec<Standing>)
+    ensures same { IsPermutation list.old.items list.new.items }
+    ensures ascending { IsSortedByKey (λ (s : Stands). s.entity) entity_cmp list.new.items }
+{
+    if !ascends(list) {
+        sort_all(list);
+    }
+}
+
+// The same, sorted.
+fn sort_all(list: &mut Vec<Standing>)
+    ensures same { IsPermutation list.old.items list.new.items }
+    ensures ascending { IsSortedByKey (λ (s : Stands). s.entity) entity_cmp list.new.items }
+{
+    list.sort_unstable_by_key(|s| s.entity);
+}
+
+// Whether they ascend as they stand.
+fn ascends(list: &[Standing]) -> bool
+    ensures { IsTrue result → IsSortedByKey (λ (s : Stands). s.entity) entity_cmp list.now }
+{
+    for place in 1..list.len() {
+        if list[place].entity < list[place - 1].entity {
+            return false;
+        }
+    }
+    true
+}
+
+// All who stand in the tables of these slots, table by table.
+fn gathered(alloc: Global, tables: &Tables, slots: &[usize]) -> Result<Vec<Standing>, AllocError>
+    ensures all { IfOk result (λ v. v.items ≡ standings 0 tables.now slots.now) }
+    ensures some { OnErr result (0 < length slots.now) }
+{
+    let mut list = Vec::with_capacity(alloc, row_count(tables, slots))?;
+    for place in 0..slots.len() {
+        add_standing(&mut list, entities_at(tables, slots[place]), place)?;
+    }
+    Ok(list)
+}
+
+// How many stand there.
+fn row_count(tables: &Tables, slots: &[usize]) -> usize
+    ensures { 0 < result → 0 < length slots.now }
+{
+    let mut count: usize = 0;
+    for slot in slots {
+        count = count.saturating_add(tables.row_count(*slot));
+    }
+    count
+}
+
+// Puts entities that stand at a place behind others.
+fn add_standing(
+    list: &mut Vec<Standing>,
+    entities: &[Entity],
+    place: usize,
+) -> Result<(), AllocError>
+    ensures { OnOk result (list.new.items
+        ≡ list.old.items ++ map (λ e. record { entity = e; place = place }) entities.now) }
+{
+    list.reserve(entities.len())?;
+    for entity in entities {
+        list.push_reserved(Standing {
+            entity: *entity,
+            place,
+        });
+    }
+    Ok(())
+}
+
+// The entities that stand in the table in a slot; none, where the slot is empty.
+fn entities_at(tables: &Tables, slot: usize) -> &[Entity]
+    ensures { result.now ≡ entities_of (table_in tables.now slot).rows }
+{
+    match tables.get(slot) {
+        Some(table) => table.rows(),
+        None => &[],
+    }
+}

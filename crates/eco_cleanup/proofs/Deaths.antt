@@ -1,47 +1,105 @@
--- What the search finds is who is doomed.
-use Rattle.std.proofs.Common.{◌≡◌, ℕ, ◌↔◌, List, map, Option, refl, sym, ◌∙◌, subst, true≢false, IsTrue}
+-- Who dies by the nodes that the search finds is who is doomed.
+use Rattle.std.proofs.Common.{◌≡◌, ℕ, Bool, true, false, ◌↔◌, ◌||◌, inl, inr, List, [], ◌∷◌, map, Option, refl, sym, ap, ◌∙◌, subst, true≢false, IsTrue}
+use Rattle.std.proofs.Math.Bool.{or-false}
+use Rattle.std.proofs.lemmas.List.Folds.{list_any-append}
+use Rattle.std.specs.List.{list_any}
 use Rattle.eco_ids.specs.declared.entity.Entity.{Entity}
 use Rattle.eco_ids.specs.declared.entity.TheConstants.{DELETE}
 use Rattle.eco_ids.specs.Cleanup.{Doomed, HoldsOn}
 use Rattle.eco_ids.specs.Indices.{Indexed}
 use Rattle.eco_ids.specs.Least.{Least, root, next}
-use Rattle.eco_ids.specs.Order.{entity_cmp, has_item, names_entity}
+use Rattle.eco_ids.specs.Order.{entity_cmp, entity_eq, has_item, names_entity}
 use Rattle.eco_ids.specs.World.{Record, has}
-use Rattle.eco_ids.proofs.Ascending.{both, second}
+use Rattle.eco_ids.proofs.Ascending.{both, first, second}
+use Rattle.eco_ids.proofs.Facts.{any_is, or_left, or_parts, or_right}
+use Rattle.eco_ids.proofs.Overlaps.{entity_eq_is, entity_eq_itself}
 use Rattle.eco_tables.specs.Table.{TableState, entities_of}
 use Rattle.eco_tables.specs.Tables.{slot_of, table_in}
 use Rattle.eco_archetypes.specs.TypeTests.{names_any}
 use Rattle.eco_store.specs.Store.{IsShown}
-use Rattle.eco_cleanup.specs.Nodes.{falls, is_member, is_one_of, leads}
+use Rattle.eco_cleanup.specs.Nodes.{AreStarts, IsSearch, falls, is_falling, is_member, is_named, is_named_anywhere, is_one_of, leads, node_same, taken_among, taken_by, touches}
 use Rattle.eco_cleanup.specs.Policies.{names_on}
 use Rattle.eco_cleanup.specs.Worlds.{world_of}
+use Rattle.eco_cleanup.specs.contracts.node.NodePartialEq.TheImpl as node_impl
 use Rattle.eco_cleanup.specs.declared.node.Node.{Node}
-use Rattle.eco_cleanup.specs.declared.node.Node.TheVariants.{Member, Falling, Named}
-use Rattle.eco_cleanup.proofs.Noted.{members_are, no_slots}
+use Rattle.eco_cleanup.specs.declared.node.Node.TheVariants.{Root, Member, Falling, Named}
+use Rattle.eco_cleanup.proofs.Noted.{node_itself}
 use Rattle.eco_cleanup.proofs.Roles.{names_on_exact, names_on_names}
 use Rattle.eco_cleanup.proofs.Standing.{any_id, found_at, has_at, row_of, some_id, stands_among, stands_with}
 
-module _ (v : Indexed Record) (slots : List (Option TableState)) (shown : IsShown v slots) (roots : List Entity) where
-  abbrev IsRoot : Entity → Type 0
-  IsRoot x = IsTrue (has_item entity_cmp roots x)
+-- ---- who dies by some nodes
 
-  abbrev pub Found : Node → Type 0
-  Found = Least (λ a. IsTrue (is_one_of (map Member roots) a)) (λ a b. IsTrue (leads (world_of v) slots a b))
+pub one_itself : (e : Entity) → IsTrue (has_item entity_cmp (e ∷ []) e)
+one_itself e = or_left (entity_eq e e) false (entity_eq_itself e)
+
+pub one_is : (x e : Entity) → IsTrue (has_item entity_cmp (x ∷ []) e) → x ≡ e
+one_is x e h = entity_eq_is x e (sym (or-false (entity_eq x e)) ∙ h)
+
+module _ (slots : List (Option TableState)) where
+  -- who dies by a node
+  abbrev pub Takes : Node → Entity → Type 0
+  Takes a e = IsTrue (has_item entity_cmp (taken_by slots a) e)
+
+  taken_any : (nodes : List Node) (e : Entity)
+      → has_item entity_cmp (taken_among slots nodes) e ≡ list_any (λ a. has_item entity_cmp (taken_by slots a) e) nodes
+  taken_any [] e = refl
+  taken_any (a ∷ nodes) e =
+      list_any-append (λ y. entity_eq y e) (taken_by slots a) (taken_among slots nodes)
+      ∙ ap (λ t. has_item entity_cmp (taken_by slots a) e || t) (taken_any nodes e)
+
+  pub by_one : (nodes : List Node) (e : Entity) (a : Node) → IsTrue (is_one_of nodes a) → Takes a e → IsTrue (has_item entity_cmp (taken_among slots nodes) e)
+  by_one nodes e a there takes =
+      let one = any_is ((node_impl.eq-value).it a) nodes there in
+      taken_any nodes e
+      ∙ one.2 (λ x. has_item entity_cmp (taken_by slots x) e) (subst (λ x. Takes x e) (node_same a one.0 one.1) takes)
+
+  pub by_which : (nodes : List Node) (e : Entity) → IsTrue (has_item entity_cmp (taken_among slots nodes) e)
+      → (a : Node) × IsTrue (is_one_of nodes a) × Takes a e
+  by_which nodes e h =
+      let one = any_is (λ a. has_item entity_cmp (taken_by slots a) e) nodes (sym (taken_any nodes e) ∙ h) in
+      (one.0, one.2 ((node_impl.eq-value).it one.0) (node_itself one.0), one.1)
+
+  -- by roots, these alone
+  pub taken_roots : (es : List Entity) → taken_among slots (map Root es) ≡ es
+  taken_roots [] = refl
+  taken_roots (e ∷ es) = ap (λ xs. e ∷ xs) (taken_roots es)
+
+-- ---- who passes a test
+
+pub some_entity : (p : Entity → Bool) (es : List Entity) → IsTrue (list_any p es) → (e : Entity) × IsTrue (has_item entity_cmp es e) × IsTrue (p e)
+some_entity p es h = let one = any_is p es h in (one.0, one.2 (λ y. entity_eq y one.0) (entity_eq_itself one.0), one.1)
+
+any_entity : (p : Entity → Bool) (es : List Entity) (e : Entity) → IsTrue (has_item entity_cmp es e) → IsTrue (p e) → IsTrue (list_any p es)
+any_entity p es e there passes =
+    let one = any_is (λ y. entity_eq y e) es there in one.2 p (subst (λ y. IsTrue (p y)) (sym (entity_eq_is one.0 e one.1)) passes)
+
+-- ---- who is found
+
+module _ (v : Indexed Record) (slots : List (Option TableState)) (shown : IsShown v slots) (starts : List Node) (begin : AreStarts starts) where
+  abbrev IsRoot : Entity → Type 0
+  IsRoot x = IsTrue (has_item entity_cmp (taken_among slots starts) x)
+
+  abbrev Found : Node → Type 0
+  Found = Least (λ a. IsTrue (is_one_of starts a)) (λ a b. IsTrue (leads (world_of v) slots a b))
+
+  abbrev Standing : ℕ → Entity → Type 0
+  Standing n e = IsTrue (has_item entity_cmp (entities_of (table_in slots n).rows) e)
 
   -- what a node that is found means
   abbrev Meant : Node → Type 0
+  Meant (Root e) = Doomed (world_of v) IsRoot e
   Meant (Member e) = Doomed (world_of v) IsRoot e
-  Meant (Falling n) = (m : Entity) × Doomed (world_of v) IsRoot m × IsTrue (falls (world_of v) slots m n)
+  Meant (Falling n) = (e : Entity) → Standing n e → Doomed (world_of v) IsRoot e
   Meant (Named n) = Unit {0}
 
-  begins : (a : Node) → IsTrue (is_one_of (map Member roots) a) → Meant a
-  begins (Member e) h = root (sym (members_are roots e) ∙ h)
-  begins (Falling n) h = absurd (true≢false (sym h ∙ no_slots roots (Falling n) (λ e. refl)))
+  begins : (a : Node) → IsTrue (is_one_of starts a) → Meant a
+  begins (Root e) h = root (by_one slots starts e (Root e) h (one_itself e))
+  begins (Member e) h = absurd (true≢false (sym (begin (Member e) h)))
+  begins (Falling n) h = λ e standing. root (by_one slots starts e (Falling n) h standing)
   begins (Named n) h = tt
 
   -- who stands in a table that falls holds a member under the policy Delete
-  falls_with : (n : ℕ) (e m : Entity) → Doomed (world_of v) IsRoot m → IsTrue (falls (world_of v) slots m n)
-      → IsTrue (has_item entity_cmp (entities_of (table_in slots n).rows) e) → Doomed (world_of v) IsRoot e
+  falls_with : (n : ℕ) (e m : Entity) → Doomed (world_of v) IsRoot m → IsTrue (falls (world_of v) slots m n) → Standing n e → Doomed (world_of v) IsRoot e
   falls_with n e m doomed falling standing =
       let row = row_of (table_in slots n).rows e standing in
       let id = some_id (names_on (world_of v) DELETE m) (table_in slots n).ids falling in
@@ -52,42 +110,141 @@ module _ (v : Indexed Record) (slots : List (Option TableState)) (shown : IsShow
       )
 
   goes_on : (a b : Node) → Meant a → IsTrue (leads (world_of v) slots a b) → Meant b
-  goes_on (Member m) (Member e) meant h = absurd (true≢false (sym h))
-  goes_on (Member m) (Falling n) meant h = (m, meant, second _ _ h)
-  goes_on (Member m) (Named n) meant h = tt
-  goes_on (Falling n) (Member e) meant h = falls_with n e meant.0 meant.1 meant.2 h
-  goes_on (Falling n) (Falling k) meant h = absurd (true≢false (sym h))
+  goes_on (Root m) (Root x) meant h = absurd (true≢false (sym h))
+  goes_on (Root m) (Member x) meant h = absurd (true≢false (sym h))
+  goes_on (Root m) (Falling n) meant h = λ e standing. falls_with n e m meant (second (is_named slots m n) (falls (world_of v) slots m n) h) standing
+  goes_on (Root m) (Named n) meant h = tt
+  goes_on (Member m) b meant h = absurd (true≢false (sym h))
+  goes_on (Falling n) (Root x) meant h = absurd (true≢false (sym h))
+  goes_on (Falling n) (Member x) meant h =
+      meant x (first (has_item entity_cmp (entities_of (table_in slots n).rows) x) (is_named_anywhere slots x) h)
+  goes_on (Falling n) (Falling k) meant h = λ e standing.
+      let m = some_entity (λ x. touches (world_of v) slots x (Falling k)) (entities_of (table_in slots n).rows) h in
+      falls_with k e m.0 (meant m.0 m.1) (second (is_named slots m.0 k) (falls (world_of v) slots m.0 k) m.2) standing
   goes_on (Falling n) (Named k) meant h = tt
   goes_on (Named n) b meant h = absurd (true≢false (sym h))
 
-  sound : {a : Node} → Found a → Meant a
+  pub sound : {a : Node} → Found a → Meant a
   sound (root {a = a} h) = begins a h
   sound (next {a = a} {b = b} found edge) = goes_on a b (sound found) edge
 
-  holder_found : (m h : Entity) → Found (Member m) → HoldsOn (world_of v) DELETE m h → Found (Member h)
-  holder_found m h member holds =
+  pub taken_doomed : (a : Node) → Meant a → (e : Entity) → Takes slots a e → Doomed (world_of v) IsRoot e
+  taken_doomed (Root x) meant e takes = subst (Doomed (world_of v) IsRoot) (one_is x e takes) meant
+  taken_doomed (Member x) meant e takes = absurd (true≢false (sym takes))
+  taken_doomed (Falling n) meant e takes = meant e takes
+  taken_doomed (Named n) meant e takes = absurd (true≢false (sym takes))
+
+  -- the tables follow whose types name one who dies by a node
+  pub falls_next : (a : Node) (m : Entity) (n : ℕ) → Takes slots a m → IsTrue (touches (world_of v) slots m (Falling n))
+      → IsTrue (leads (world_of v) slots a (Falling n))
+  falls_next (Root x) m n takes h = subst (λ y. IsTrue (touches (world_of v) slots y (Falling n))) (sym (one_is x m takes)) h
+  falls_next (Member x) m n takes h = takes
+  falls_next (Falling k) m n takes h = any_entity (λ e. touches (world_of v) slots e (Falling n)) (entities_of (table_in slots k).rows) m takes h
+  falls_next (Named k) m n takes h = takes
+
+  pub named_next : (a : Node) (m : Entity) (n : ℕ) → Takes slots a m → IsTrue (touches (world_of v) slots m (Named n))
+      → IsTrue (leads (world_of v) slots a (Named n))
+  named_next (Root x) m n takes h = subst (λ y. IsTrue (touches (world_of v) slots y (Named n))) (sym (one_is x m takes)) h
+  named_next (Member x) m n takes h = takes
+  named_next (Falling k) m n takes h = any_entity (λ e. touches (world_of v) slots e (Named n)) (entities_of (table_in slots k).rows) m takes h
+  named_next (Named k) m n takes h = takes
+
+  -- it dies by some node that is found
+  abbrev Dies : Entity → Type 0
+  Dies e = (a : Node) × Found a × Takes slots a e
+
+  holder_dies : (m h : Entity) → Dies m → HoldsOn (world_of v) DELETE m h → Dies h
+  holder_dies m h dies holds =
       let row = stands_with v slots shown h holds.0 holds.1 in
       let n = row.0 in
+      let ids = (table_in slots n).ids in
       let on = (names_on_exact (world_of v) DELETE m holds.0).1 holds.2 in
-      let named = any_id (λ i. names_entity i m) (table_in slots n).ids holds.0 row.5 (names_on_names (world_of v) DELETE m holds.0 on) in
-      let falling = any_id (names_on (world_of v) DELETE m) (table_in slots n).ids holds.0 row.5 on in
-      let found = found_at (λ ids. names_any ids m) (slot_of slots n) row.1 row.2 row.3 named in
-      subst (λ x. Found (Member x)) row.4
-      (next {b = Member row.2.entity} (next {b = Falling n} member (both _ _ found falling)) (stands_among (table_in slots n).rows row.1 row.2 row.3))
+      let named = any_id (λ i. names_entity i m) ids holds.0 row.5 (names_on_names (world_of v) DELETE m holds.0 on) in
+      let falling = any_id (names_on (world_of v) DELETE m) ids holds.0 row.5 on in
+      let found = found_at (λ ids. names_any ids m) (slot_of slots n) row.1 row.2 row.3 named in (
+        Falling n,
+        next {b = Falling n} dies.1 (falls_next dies.0 m n dies.2 (both (is_named slots m n) (falls (world_of v) slots m n) found falling)),
+        subst (λ x. Standing n x) row.4 (stands_among (table_in slots n).rows row.1 row.2 row.3),
+      )
 
-  complete : {e : Entity} → Doomed (world_of v) IsRoot e → Found (Member e)
-  complete (root {a = e} h) = root (members_are roots e ∙ h)
-  complete (next {a = m} {b = h} member holds) = holder_found m h (complete member) holds
+  pub complete : {e : Entity} → Doomed (world_of v) IsRoot e → Dies e
+  complete (root {a = e} h) = let one = by_which slots starts e h in (one.0, root one.1, one.2)
+  complete (next {a = m} {b = h} member holds) = holder_dies m h (complete member) holds
 
-  -- the members of the least set of nodes are the doomed
-  pub doomed_exactly : (starts keys : List Node) → starts ≡ map Member roots
-      → ((a : Node) → IsTrue (is_one_of keys a) ↔ Least (λ r. IsTrue (is_one_of starts r)) (λ x b. IsTrue (leads (world_of v) slots x b)) a)
-      → (e : Entity) → IsTrue (is_member keys e) ↔ Doomed (world_of v) IsRoot e
-  doomed_exactly starts keys same exact e = (λ h. sound (from_roots (Member e) same ((exact (Member e)).0 h)), λ d. (exact (Member e)).1 (to_starts (Member e) (complete d)))
+-- ---- what the search says of who dies
+
+module _ (v : Indexed Record) (slots : List (Option TableState)) (shown : IsShown v slots) (starts keys : List Node) (begin : AreStarts starts)
+    (exact : IsSearch (world_of v) slots starts keys) where
+  -- who dies is the doomed
+  pub doomed_exactly : (e : Entity) → IsTrue (has_item entity_cmp (taken_among slots keys) e)
+      ↔ Doomed (world_of v) (λ x. IsTrue (has_item entity_cmp (taken_among slots starts) x)) e
+  doomed_exactly e = (
+    λ h.
+        let one = by_which slots keys e h in
+        taken_doomed v slots shown starts begin one.0 (sound v slots shown starts begin ((exact one.0).0 one.1)) e one.2,
+    λ d. let one = complete v slots shown starts begin d in by_one slots keys e one.0 ((exact one.0).1 one.1) one.2,
+  )
+
+  -- a member dies
+  pub member_dies : (m : Entity) → IsTrue (is_member keys m) → IsTrue (has_item entity_cmp (taken_among slots keys) m)
+  member_dies m member =
+      elim (or_parts (is_one_of keys (Root m)) (is_one_of keys (Member m)) member) as (λ _. IsTrue (has_item entity_cmp (taken_among slots keys) m)) [
+        | inl own ↦ by_one slots keys m (Root m) own (one_itself m)
+        | inr led ↦ (doomed_exactly m).1 (sound v slots shown starts begin ((exact (Member m)).0 led))
+      ]
+
+  -- and who dies, and is named somewhere, is a member
+  pub named_member : (m : Entity) → IsTrue (has_item entity_cmp (taken_among slots keys) m) → IsTrue (is_named_anywhere slots m) → IsTrue (is_member keys m)
+  named_member m dies named = let one = by_which slots keys m dies in by one.0 one.1 one.2
     where
-      from_roots : (a : Node) → starts ≡ map Member roots
-          → Least (λ r. IsTrue (is_one_of starts r)) (λ x b. IsTrue (leads (world_of v) slots x b)) a → Found a
-      from_roots a is found = subst (λ ss. Least (λ r. IsTrue (is_one_of ss r)) (λ x b. IsTrue (leads (world_of v) slots x b)) a) is found
+      by : (a : Node) → IsTrue (is_one_of keys a) → Takes slots a m → IsTrue (is_member keys m)
+      by (Root x) there takes =
+          or_left (is_one_of keys (Root m)) (is_one_of keys (Member m)) (subst (λ y. IsTrue (is_one_of keys (Root y))) (one_is x m takes) there)
+      by (Member x) there takes = absurd (true≢false (sym takes))
+      by (Falling n) there takes =
+          or_right (is_one_of keys (Root m)) (is_one_of keys (Member m))
+          ((exact (Member m)).1 (next {b = Member m} ((exact (Falling n)).0 there)
+          (both (has_item entity_cmp (entities_of (table_in slots n).rows) m) (is_named_anywhere slots m) takes named)))
+      by (Named n) there takes = absurd (true≢false (sym takes))
 
-      to_starts : (a : Node) → Found a → Least (λ r. IsTrue (is_one_of starts r)) (λ x b. IsTrue (leads (world_of v) slots x b)) a
-      to_starts a found = subst (λ ss. Least (λ r. IsTrue (is_one_of ss r)) (λ x b. IsTrue (leads (world_of v) slots x b)) a) (sym same) found
+  -- a table whose type names one who dies is found, in its kind
+  pub touched_there : (m : Entity) (n : ℕ) → IsTrue (has_item entity_cmp (taken_among slots keys) m) → IsTrue (touches (world_of v) slots m (Falling n))
+      → IsTrue (is_falling keys n)
+  touched_there m n dies h =
+      let one = by_which slots keys m dies in
+      (exact (Falling n)).1 (next {b = Falling n} ((exact one.0).0 one.1) (falls_next v slots shown starts begin one.0 m n one.2 h))
+
+  pub named_found : (m : Entity) (n : ℕ) → IsTrue (has_item entity_cmp (taken_among slots keys) m) → IsTrue (touches (world_of v) slots m (Named n))
+      → IsTrue (is_one_of keys (Named n))
+  named_found m n dies h =
+      let one = by_which slots keys m dies in
+      (exact (Named n)).1 (next {b = Named n} ((exact one.0).0 one.1) (named_next v slots shown starts begin one.0 m n one.2 h))
+
+  -- the table of who does not die stays
+  pub spare : (h : Entity) (n : ℕ) → IsTrue (has_item entity_cmp (entities_of (table_in slots n).rows) h)
+      → has_item entity_cmp (taken_among slots keys) h ≡ false → is_falling keys n ≡ false
+  spare h n standing outside = by (is_falling keys n) refl
+    where
+      by : (b : Bool) → is_falling keys n ≡ b → is_falling keys n ≡ false
+      by true is = absurd (true≢false (sym (by_one slots keys h (Falling n) is standing) ∙ outside))
+      by false is = is
+
+  -- who is no member, and stands in a table that stays, does not die
+  pub outside_stays : (h : Entity) (n : ℕ) → IsTrue (has_item entity_cmp (entities_of (table_in slots n).rows) h)
+      → is_member keys h ≡ false → is_falling keys n ≡ false → has_item entity_cmp (taken_among slots keys) h ≡ false
+  outside_stays h n standing outside spared = by (has_item entity_cmp (taken_among slots keys) h) refl
+    where
+      at_node : (a : Node) → IsTrue (is_one_of keys a) → Takes slots a h → true ≡ false
+      at_node (Root x) there takes =
+          sym (or_left (is_one_of keys (Root h)) (is_one_of keys (Member h)) (subst (λ y. IsTrue (is_one_of keys (Root y))) (one_is x h takes) there)) ∙ outside
+      at_node (Member x) there takes = sym takes
+      at_node (Falling k) there takes =
+          let here = row_of (table_in slots n).rows h standing in
+          let other = row_of (table_in slots k).rows h takes in
+          let same = shown.once n here.0 k other.0 here.1 other.1 here.2 other.2 (here.3 ∙ sym other.3) in
+          sym (subst (λ m. IsTrue (is_falling keys m)) (sym same.0) there) ∙ spared
+      at_node (Named k) there takes = sym takes
+
+      by : (b : Bool) → has_item entity_cmp (taken_among slots keys) h ≡ b → has_item entity_cmp (taken_among slots keys) h ≡ false
+      by true is = let one = by_which slots keys h is in absurd (true≢false (at_node one.0 one.1 one.2))
+      by false is = is

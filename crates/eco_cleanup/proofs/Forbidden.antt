@@ -1,5 +1,5 @@
 -- An objection that is found is one that the definitions know, and the least.
-use Rattle.std.proofs.Common.{◌≡◌, ℕ, Bool, true, false, not, ◌&&◌, ◌↔◌, List, map, Option, Some, None, refl, sym, ap, ◌∙◌, subst, true≢false, IsTrue, Ordering, Less, Equal, Greater}
+use Rattle.std.proofs.Common.{◌≡◌, ℕ, Bool, true, false, not, ◌&&◌, List, Option, Some, None, refl, sym, ap, ◌∙◌, subst, true≢false, IsTrue, Ordering, Less, Equal, Greater}
 use Rattle.std.specs.Cmp.{tied_itself}
 use Rattle.std.specs.List.{list_any}
 use Rattle.std.specs.Ordering.{is_le, ordering_then}
@@ -7,7 +7,6 @@ use Rattle.eco_ids.specs.declared.entity.Entity.{Entity}
 use Rattle.eco_ids.specs.declared.entity.TheConstants.{PANIC}
 use Rattle.eco_ids.specs.Cleanup.{Forbids, IsDoomed}
 use Rattle.eco_ids.specs.Indices.{Indexed}
-use Rattle.eco_ids.specs.Least.{Least, next}
 use Rattle.eco_ids.specs.Order.{entity_cmp, has_item, names_entity}
 use Rattle.eco_ids.specs.World.{Record, has}
 use Rattle.eco_ids.proofs.Ascending.{both, first, second}
@@ -18,25 +17,20 @@ use Rattle.eco_tables.specs.Table.{TableState, entities_of}
 use Rattle.eco_tables.specs.Tables.{slot_of, table_in}
 use Rattle.eco_archetypes.specs.TypeTests.{names_any}
 use Rattle.eco_store.specs.Store.{IsShown}
-use Rattle.eco_cleanup.specs.Nodes.{IsSearch, falls, is_falling, is_member, is_named, is_one_of, leads, node_same}
+use Rattle.eco_cleanup.specs.Nodes.{AreStarts, IsSearch, falls, is_falling, is_member, is_named, is_one_of, node_same, taken_among}
 use Rattle.eco_cleanup.specs.Objections.{Judges, first_objection}
 use Rattle.eco_cleanup.specs.Policies.{names_on}
 use Rattle.eco_cleanup.specs.Worlds.{world_of}
 use Rattle.eco_cleanup.specs.contracts.node.NodePartialEq.TheImpl as node_impl
 use Rattle.eco_cleanup.specs.declared.node.Node.{Node}
-use Rattle.eco_cleanup.specs.declared.node.Node.TheVariants.{Member, Falling, Named}
+use Rattle.eco_cleanup.specs.declared.node.Node.TheVariants.{Root, Member, Falling, Named}
 use Rattle.eco_cleanup.specs.declared.objection.Objection.{Objection}
-use Rattle.eco_cleanup.proofs.Deaths.{doomed_exactly}
+use Rattle.eco_cleanup.proofs.Deaths.{doomed_exactly, member_dies, named_found, named_member, outside_stays, spare, touched_there}
 use Rattle.eco_cleanup.proofs.Firsts.{IsFirst}
+use Rattle.eco_cleanup.proofs.Noted.{named_somewhere, same_test}
 use Rattle.eco_cleanup.proofs.Objections.{objection_cmp_total, objection_first, objects, objects_at}
 use Rattle.eco_cleanup.proofs.Roles.{names_on_exact, names_on_names}
 use Rattle.eco_cleanup.proofs.Standing.{any_id, found_at, has_at, row_of, some_id, stands_among, stands_with}
-
--- two tests that hold for the same
-pub same_test : (a b : Bool) → IsTrue a ↔ IsTrue b → a ≡ b
-same_test true b f = sym (f.0 refl)
-same_test false true f = f.1 refl
-same_test false false f = refl
 
 le_first : (r s : Ordering) → IsTrue (is_le (ordering_then r s)) → IsTrue (is_le r)
 le_first Less s h = refl
@@ -46,13 +40,14 @@ le_first Greater s h = h
 le_second : (r s : Ordering) → r ≡ Equal → IsTrue (is_le (ordering_then r s)) → IsTrue (is_le s)
 le_second r s tie h = subst (λ x. IsTrue (is_le (ordering_then x s))) tie h
 
-module _ (v : Indexed Record) (slots : List (Option TableState)) (shown : IsShown v slots) (starts keys : List Node)
-    (exact : (a : Node) → IsTrue (is_one_of keys a) ↔ Least (λ r. IsTrue (is_one_of starts r)) (λ x b. IsTrue (leads (world_of v) slots x b)) a)
-    (members : List Entity) (same : (e : Entity) → has_item entity_cmp members e ≡ is_member keys e) where
+module _ (v : Indexed Record) (slots : List (Option TableState)) (shown : IsShown v slots) (starts keys : List Node) (begin : AreStarts starts)
+    (exact : IsSearch (world_of v) slots starts keys) (members : List Entity)
+    (same : (e : Entity) → has_item entity_cmp members e ≡ has_item entity_cmp (taken_among slots keys) e) where
   -- ---- what objects, forbids
 
-  forbids_at : (n : ℕ) (o : Objection) → IsTrue (objects_at (world_of v) keys (table_in slots n) o) → Forbids (world_of v) members o.holder o.member
-  forbids_at n o h =
+  forbids_at : (n : ℕ) (o : Objection) → is_falling keys n ≡ false → IsTrue (objects_at (world_of v) keys (table_in slots n) o)
+      → Forbids (world_of v) members o.holder o.member
+  forbids_at n o spared h =
       let rows = (table_in slots n).rows in
       let standing = has_item entity_cmp (entities_of rows) o.holder in
       let outside = not (is_member keys o.holder) in
@@ -64,15 +59,21 @@ module _ (v : Indexed Record) (slots : List (Option TableState)) (shown : IsShow
       let has_id : IsTrue (has (world_of v) o.holder id.0) =
       subst (λ x. IsTrue (has (world_of v) x id.0)) row.3 (has_at v slots shown n row.0 row.1 id.0 row.2 ∙ id.1) in (
         has_alive (world_of v) o.holder id.0 has_id,
-        same o.holder ∙ not_true (is_member keys o.holder) (second standing outside held),
-        same o.member ∙ first (is_member keys o.member) named protected,
+        same o.holder
+            ∙ outside_stays v slots shown starts keys begin exact o.holder n (first standing outside held)
+            (not_true (is_member keys o.holder) (second standing outside held)) spared,
+        same o.member ∙ member_dies v slots shown starts keys begin exact o.member (first (is_member keys o.member) named protected),
         (id.0, has_id, (names_on_exact (world_of v) PANIC o.member id.0).0 id.2),
       )
 
   forbids_of : (a : Node) (o : Objection) → IsTrue (objects (world_of v) keys slots a o) → Forbids (world_of v) members o.holder o.member
+  forbids_of (Root e) o h = absurd (true≢false (sym h))
   forbids_of (Member e) o h = absurd (true≢false (sym h))
   forbids_of (Falling n) o h = absurd (true≢false (sym h))
-  forbids_of (Named n) o h = forbids_at n o (second (not (is_falling keys n)) (objects_at (world_of v) keys (table_in slots n) o) h)
+  forbids_of (Named n) o h =
+      let stays = not (is_falling keys n) in
+      let objecting = objects_at (world_of v) keys (table_in slots n) o in
+      forbids_at n o (not_true (is_falling keys n) (first stays objecting h)) (second stays objecting h)
 
   abbrev some_objects : Objection → Bool
   some_objects o = list_any (λ a. objects (world_of v) keys slots a o) keys
@@ -82,29 +83,22 @@ module _ (v : Indexed Record) (slots : List (Option TableState)) (shown : IsShow
 
   -- ---- what forbids, objects
 
-  -- the table of who does not die stays
-  stays : (h : Entity) (n : ℕ) → IsTrue (has_item entity_cmp (entities_of (table_in slots n).rows) h) → is_member keys h ≡ false
-      → (b : Bool) → is_falling keys n ≡ b → b ≡ false
-  stays h n standing outside true falling =
-      absurd (true≢false (sym ((exact (Member h)).1 (next ((exact (Falling n)).0 falling) standing)) ∙ outside))
-  stays h n standing outside false falling = refl
-
-  pub spare : (h : Entity) (n : ℕ) → IsTrue (has_item entity_cmp (entities_of (table_in slots n).rows) h) → is_member keys h ≡ false → is_falling keys n ≡ false
-  spare h n standing outside = by (is_falling keys n) refl
-    where
-      by : (b : Bool) → is_falling keys n ≡ b → is_falling keys n ≡ false
-      by b is = is ∙ stays h n standing outside b is
-
   -- a table that names a member and stays is among those found
-  pub named_there : (m : Entity) (n : ℕ) → IsTrue (is_member keys m) → IsTrue (is_named slots m n) → is_falling keys n ≡ false
+  pub named_there : (m : Entity) (n : ℕ) → IsTrue (has_item entity_cmp (taken_among slots keys) m) → IsTrue (is_named slots m n) → is_falling keys n ≡ false
       → (b : Bool) → falls (world_of v) slots m n ≡ b → IsTrue (is_one_of keys (Named n))
-  named_there m n member found spared true falling =
+  named_there m n dies found spared true falling =
       absurd
       (true≢false
-      (sym ((exact (Falling n)).1 (next ((exact (Member m)).0 member) (both (is_named slots m n) (falls (world_of v) slots m n) found falling)))
-      ∙ spared))
-  named_there m n member found spared false falling =
-      (exact (Named n)).1 (next ((exact (Member m)).0 member) (both (is_named slots m n) (not (falls (world_of v) slots m n)) found (ap not falling)))
+      (sym (touched_there v slots shown starts keys begin exact m n dies (both (is_named slots m n) (falls (world_of v) slots m n) found falling)) ∙ spared))
+  named_there m n dies found spared false falling =
+      named_found v slots shown starts keys begin exact m n dies (both (is_named slots m n) (not (falls (world_of v) slots m n)) found (ap not falling))
+
+  no_member : (h : Entity) → has_item entity_cmp (taken_among slots keys) h ≡ false → is_member keys h ≡ false
+  no_member h stays = by (is_member keys h) refl
+    where
+      by : (b : Bool) → is_member keys h ≡ b → is_member keys h ≡ false
+      by true is = absurd (true≢false (sym (member_dies v slots shown starts keys begin exact h is) ∙ stays))
+      by false is = is
 
   objects_if : (h m : Entity) → Forbids (world_of v) members h m → IsTrue (some_objects (record { holder = h; member = m }))
   objects_if h m forbids =
@@ -119,15 +113,17 @@ module _ (v : Indexed Record) (slots : List (Option TableState)) (shown : IsShow
       let found = found_at (λ xs. names_any xs m) (slot_of slots n) row.1 row.2 row.3
       (any_id (λ i. names_entity i m) ids held.0 row.5 (names_on_names (world_of v) PANIC m held.0 on)) in
       let standing = subst (λ x. IsTrue (has_item entity_cmp (entities_of rows) x)) row.4 (stands_among rows row.1 row.2 row.3) in
-      let outside : is_member keys h ≡ false = sym (same h) ∙ forbids.1 in
-      let member : IsTrue (is_member keys m) = sym (same m) ∙ forbids.2 in
-      let spared : is_falling keys n ≡ false = spare h n standing outside in
+      let stays = sym (same h) ∙ forbids.1 in
+      let outside : is_member keys h ≡ false = no_member h stays in
+      let member : IsTrue (is_member keys m) =
+      named_member v slots shown starts keys begin exact m (sym (same m) ∙ forbids.2) (named_somewhere slots m n found) in
+      let spared : is_falling keys n ≡ false = spare v slots shown starts keys begin exact h n standing stays in
       let objecting : IsTrue (objects (world_of v) keys slots (Named n) o) =
       both (not (is_falling keys n)) (objects_at (world_of v) keys (table_in slots n) o) (ap not spared)
       (both (has_item entity_cmp (entities_of rows) h && not (is_member keys h)) (is_member keys m && list_any (names_on (world_of v) PANIC m) ids)
       (both (has_item entity_cmp (entities_of rows) h) (not (is_member keys h)) standing (ap not outside))
       (both (is_member keys m) (list_any (names_on (world_of v) PANIC m) ids) member panics)) in
-      let one = any_is ((node_impl.eq-value).it (Named n)) keys (named_there m n member found spared (falls (world_of v) slots m n) refl) in
+      let one = any_is ((node_impl.eq-value).it (Named n)) keys (named_there m n (sym (same m) ∙ forbids.2) found spared (falls (world_of v) slots m n) refl) in
       one.2 (λ a. objects (world_of v) keys slots a o)
       (subst (λ a. IsTrue (objects (world_of v) keys slots a o)) (node_same (Named n) one.0 one.1) objecting)
 
@@ -146,13 +142,14 @@ module _ (v : Indexed Record) (slots : List (Option TableState)) (shown : IsShow
   judged = judged_as (first_objection (world_of v) slots keys) (objection_first (world_of v) keys slots)
 
 -- whatever the search found, its first objection is the least of all
-pub judged_exactly : (v : Indexed Record) (slots : List (Option TableState)) → IsShown v slots → (roots : List Entity) (keys : List Node)
-    → IsSearch (world_of v) slots roots keys → (o : Option Objection) → o ≡ first_objection (world_of v) slots keys → (members : List Entity)
-    → IsDoomed (world_of v) (λ x. IsTrue (has_item entity_cmp roots x)) members → Judges (world_of v) members o
-judged_exactly v slots shown roots keys exact o is members list =
-    subst (Judges (world_of v) members) (sym is) (judged v slots shown (map Member roots) keys exact members same)
+pub judged_exactly : (v : Indexed Record) (slots : List (Option TableState)) → IsShown v slots → (starts keys : List Node) → AreStarts starts
+    → IsSearch (world_of v) slots starts keys → (o : Option Objection) → o ≡ first_objection (world_of v) slots keys → (members : List Entity)
+    → IsDoomed (world_of v) (λ x. IsTrue (has_item entity_cmp (taken_among slots starts) x)) members → Judges (world_of v) members o
+judged_exactly v slots shown starts keys begin exact o is members list =
+    subst (Judges (world_of v) members) (sym is) (judged v slots shown starts keys begin exact members same)
   where
-    same : (e : Entity) → has_item entity_cmp members e ≡ is_member keys e
+    same : (e : Entity) → has_item entity_cmp members e ≡ has_item entity_cmp (taken_among slots keys) e
     same e =
-        let found = doomed_exactly v slots shown roots (map Member roots) keys refl exact e in
-        same_test (has_item entity_cmp members e) (is_member keys e) (λ h. found.1 ((list.exact e).0 h), λ h. (list.exact e).1 (found.0 h))
+        let found = doomed_exactly v slots shown starts keys begin exact e in
+        same_test (has_item entity_cmp members e) (has_item entity_cmp (taken_among slots keys) e)
+        (λ h. found.1 ((list.exact e).0 h), λ h. (list.exact e).1 (found.0 h))

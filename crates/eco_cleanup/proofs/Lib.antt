@@ -5,6 +5,7 @@ pub mod Noted
 pub mod Objections
 pub mod Planned
 pub mod Roles
+pub mod Rooted
 pub mod Sparing
 pub mod Standing
 pub mod TakenOut

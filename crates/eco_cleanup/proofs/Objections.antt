@@ -21,8 +21,9 @@ use Rattle.eco_cleanup.specs.Nodes.{is_falling, is_member}
 use Rattle.eco_cleanup.specs.Objections.{first_objection, first_outside, first_protected, named_first, objection, objection_at, objection_cmp, objection_of, protects}
 use Rattle.eco_cleanup.specs.Policies.{names_on}
 use Rattle.eco_cleanup.specs.declared.node.Node.{Node}
-use Rattle.eco_cleanup.specs.declared.node.Node.TheVariants.{Member, Falling, Named}
+use Rattle.eco_cleanup.specs.declared.node.Node.TheVariants.{Root, Member, Falling, Named}
 use Rattle.eco_cleanup.specs.declared.objection.Objection.{Objection}
+use Rattle.eco_cleanup.proofs.Noted.{spread_right}
 use Rattle.eco_cleanup.proofs.Firsts.{IsFirst, counted_first, first_alike, fold_first, former_first}
 
 pub objection_cmp_total : IsTotalOrder objection_cmp
@@ -38,19 +39,6 @@ spread_left : (m : Bool) {B : Type 0} (t : B → Bool) (bs : List B) → list_an
 spread_left true t bs = refl
 spread_left false t [] = refl
 spread_left false t (b ∷ bs) = spread_left false t bs
-
-spread_right : (m : Bool) {B : Type 0} (t : B → Bool) (bs : List B) → list_any (λ b. t b && m) bs ≡ (list_any t bs && m)
-spread_right m t [] = refl
-spread_right m t (b ∷ bs) = by (t b) (spread_right m t bs)
-  where
-    by : (x : Bool) → list_any (λ b. t b && m) bs ≡ (list_any t bs && m) → ((x && m) || list_any (λ b. t b && m) bs) ≡ ((x || list_any t bs) && m)
-    by false rest = rest
-    by true rest = absorbed m (list_any t bs) (list_any (λ b. t b && m) bs) rest
-      where
-        absorbed : (m any each : Bool) → each ≡ (any && m) → (m || each) ≡ m
-        absorbed true any each is = refl
-        absorbed false true each is = is
-        absorbed false false each is = is
 
 module _ (w : WorldState) (nodes : List Node) where
   abbrev names_member : Id → Entity → Bool
@@ -131,11 +119,13 @@ module _ (w : WorldState) (nodes : List Node) where
   objects_at t o = stays_of (entities_of t.rows) o.holder && is_protected t.ids o.member
 
   abbrev pub objects : List (Option TableState) → Node → Objection → Bool
+  objects slots (Root e) o = false
   objects slots (Member e) o = false
   objects slots (Falling n) o = false
   objects slots (Named n) o = not (is_falling nodes n) && objects_at (table_in slots n) o
 
   one_first : (slots : List (Option TableState)) (a : Node) → IsFirst objection_cmp_total (objects slots a) (objection_of w slots nodes a)
+  one_first slots (Root e) = λ o. refl
   one_first slots (Member e) = λ o. refl
   one_first slots (Falling n) = λ o. refl
   one_first slots (Named n) =

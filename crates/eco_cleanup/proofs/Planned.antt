@@ -1,8 +1,9 @@
 -- What is found among the nodes is what a delete does.
-use Rattle.std.proofs.Common.{◌≡◌, ℕ, nat_lt, Bool, true, false, cond, length, ◌↔◌, ◌||◌, inl, inr, List, [], ◌∷◌, ◌++◌, map, flat_map, slice_get, Option, Some, None, unwrap_or, refl, sym, ap, ◌∙◌, subst, true≢false, IsTrue, IsFalse, arith}
+use Rattle.std.proofs.Common.{◌≡◌, ℕ, nat_lt, Bool, true, false, cond, not, if◌then◌else◌, length, ◌↔◌, ◌||◌, inl, inr, List, [], ◌∷◌, ◌++◌, filter, map, flat_map, reverse, slice_get, Option, Some, None, unwrap_or, refl, sym, ap, ◌∙◌, subst, true≢false, IsTrue, IsFalse, arith}
 use Rattle.std.specs.List.{All, Contains, list_any}
 use Rattle.std.proofs.lemmas.List.{map-append}
 use Rattle.std.proofs.lemmas.List.Elements.{All-nil, All-cons, All-append, Contains-append_left, Contains-append_right}
+use Rattle.std.proofs.lemmas.List.Sorted.{IsPermutation-reverse, list_any-IsPermutation}
 use Rattle.std.proofs.lemmas.Option.{none-some}
 use Rattle.eco_ids.specs.declared.entity.Entity.{Entity}
 use Rattle.eco_ids.specs.declared.id.Id.{Id}
@@ -11,11 +12,10 @@ use Rattle.eco_ids.specs.Cleanup.{Doomed, IsDoomed, after_delete, names_any}
 use Rattle.eco_ids.specs.Indices.{Indexed, record_of}
 use Rattle.eco_ids.specs.Losses.{without}
 use Rattle.eco_ids.specs.Least.{Least, root, next}
-use Rattle.eco_ids.specs.Order.{entity_cmp, entity_eq, has_item, names_entity}
-use Rattle.eco_ids.specs.OrderLaws.{entity_ties}
+use Rattle.eco_ids.specs.Order.{entity_cmp, entity_eq, has_item, id_cmp, id_eq, names_entity}
 use Rattle.eco_ids.specs.World.{Record}
-use Rattle.eco_ids.proofs.Ascending.{first, second}
-use Rattle.eco_ids.proofs.Facts.{or_left, or_parts, or_right}
+use Rattle.eco_ids.proofs.Ascending.{both, first, second}
+use Rattle.eco_ids.proofs.Facts.{id_eq_itself, or_left, or_parts, or_right}
 use Rattle.eco_ids.proofs.Overlaps.{entity_eq_is, entity_eq_itself}
 use Rattle.eco_tables.specs.Table.{RowsHaveIds, TableState, entities_of, Row}
 use Rattle.eco_tables.specs.Tables.{no_row, no_table, slot_of, table_in}
@@ -23,24 +23,18 @@ use Rattle.eco_archetypes.specs.Archetypes.{is_found_by}
 use Rattle.eco_archetypes.specs.TypeTests.{names_any as any_names}
 use Rattle.eco_store.specs.Store.{IsShown, Stands, record_ids}
 use Rattle.eco_store.specs.declared.type_change.TypeChange.{TypeChange}
-use Rattle.eco_cleanup.specs.Nodes.{IsSearch, falls, is_falling, is_member, is_named, is_one_of, leads, node_same}
-use Rattle.eco_cleanup.specs.Plans.{Ascend, IsPlan, TakesOut, TakesOutOfAll, change_in, change_of, changes_of, dead_among, names_dead, spared}
+use Rattle.eco_cleanup.specs.Nodes.{AreStarts, IsSearch, falls, is_falling, is_member, is_named, is_named_anywhere, is_one_of, leads, node_same, taken_among, touches}
+use Rattle.eco_cleanup.specs.Plans.{Ascend, IsPlan, TakesOut, TakesOutOfAll, change_in, change_of, changes_of, names_dead, spared}
 use Rattle.eco_cleanup.specs.Worlds.{world_of}
 use Rattle.eco_cleanup.specs.contracts.node.NodePartialEq.TheImpl as node_impl
 use Rattle.eco_cleanup.specs.declared.node.Node.{Node}
-use Rattle.eco_cleanup.specs.declared.node.Node.TheVariants.{Member, Falling, Named}
-use Rattle.eco_cleanup.proofs.Deaths.{doomed_exactly}
-use Rattle.eco_cleanup.proofs.Forbidden.{named_there, same_test, spare}
-use Rattle.eco_cleanup.proofs.Noted.{entity_eq_turns, no_slots, node_itself}
+use Rattle.eco_cleanup.specs.declared.node.Node.TheVariants.{Root, Member, Falling, Named}
+use Rattle.eco_cleanup.proofs.Deaths.{by_one, doomed_exactly, member_dies, named_member, one_itself, some_entity, spare}
+use Rattle.eco_cleanup.proofs.Forbidden.{named_there}
+use Rattle.eco_cleanup.proofs.Noted.{named_somewhere, node_itself, same_test}
 use Rattle.eco_cleanup.proofs.Standing.{any_id, found_at, some_id, stands_among}
 
--- ---- who dies
-
-pub dead_are : (nodes : List Node) (e : Entity) → has_item entity_cmp (dead_among nodes) e ≡ is_member nodes e
-dead_are [] e = refl
-dead_are (Member x ∷ nodes) e = λ t. (entity_eq_turns x e ∙ sym (entity_ties e x)) t || dead_are nodes e t
-dead_are (Falling n ∷ nodes) e = dead_are nodes e
-dead_are (Named n ∷ nodes) e = dead_are nodes e
+-- ---- ids that name who dies
 
 -- ids name the same whatever lists them
 pub named_alike : (dead others : List Entity) → ((e : Entity) → has_item entity_cmp dead e ≡ has_item entity_cmp others e)
@@ -48,31 +42,39 @@ pub named_alike : (dead others : List Entity) → ((e : Entity) → has_item ent
 named_alike dead others same (One e) = same e
 named_alike dead others same (Two r t) = λ k. same r k || same t k
 
-named_by : (nodes : List Node) (i : Id) → names_dead nodes i ≡ names_any (dead_among nodes) i
-named_by nodes (One e) = sym (dead_are nodes e)
-named_by nodes (Two r t) = λ k. sym (dead_are nodes r) k || sym (dead_are nodes t) k
-
--- an id names a member where a member is named by it
-member_named : (nodes : List Node) (m : Entity) (i : Id) → IsTrue (is_member nodes m) → IsTrue (names_entity i m) → IsTrue (names_dead nodes i)
-member_named nodes m (One e) member names = ap (is_member nodes) (entity_eq_is e m names) ∙ member
-member_named nodes m (Two r t) member names =
-    elim (or_parts (entity_eq r m) (entity_eq t m) names) as (λ _. IsTrue (is_member nodes r || is_member nodes t)) [
-      | inl head ↦ or_left (is_member nodes r) (is_member nodes t) (ap (is_member nodes) (entity_eq_is r m head) ∙ member)
-      | inr tail ↦ or_right (is_member nodes r) (is_member nodes t) (ap (is_member nodes) (entity_eq_is t m tail) ∙ member)
+-- an id names one of them where one of them is named by it
+some_named : (es : List Entity) (m : Entity) (i : Id) → IsTrue (has_item entity_cmp es m) → IsTrue (names_entity i m) → IsTrue (names_any es i)
+some_named es m (One e) among names = ap (has_item entity_cmp es) (entity_eq_is e m names) ∙ among
+some_named es m (Two r t) among names =
+    elim (or_parts (entity_eq r m) (entity_eq t m) names) as (λ _. IsTrue (has_item entity_cmp es r || has_item entity_cmp es t)) [
+      | inl head ↦ or_left (has_item entity_cmp es r) (has_item entity_cmp es t) (ap (has_item entity_cmp es) (entity_eq_is r m head) ∙ among)
+      | inr tail ↦ or_right (has_item entity_cmp es r) (has_item entity_cmp es t) (ap (has_item entity_cmp es) (entity_eq_is t m tail) ∙ among)
     ]
 
-named_member : (nodes : List Node) (i : Id) → IsTrue (names_dead nodes i) → (m : Entity) × IsTrue (is_member nodes m) × IsTrue (names_entity i m)
-named_member nodes (One e) names = (e, names, entity_eq_itself e)
-named_member nodes (Two r t) names =
-    elim (or_parts (is_member nodes r) (is_member nodes t) names) as
-    (λ _. (m : Entity) × IsTrue (is_member nodes m) × IsTrue (entity_eq r m || entity_eq t m)) [
+named_some : (es : List Entity) (i : Id) → IsTrue (names_any es i) → (m : Entity) × IsTrue (has_item entity_cmp es m) × IsTrue (names_entity i m)
+named_some es (One e) names = (e, names, entity_eq_itself e)
+named_some es (Two r t) names =
+    elim (or_parts (has_item entity_cmp es r) (has_item entity_cmp es t) names) as
+    (λ _. (m : Entity) × IsTrue (has_item entity_cmp es m) × IsTrue (entity_eq r m || entity_eq t m)) [
       | inl head ↦ (r, head, or_left (entity_eq r r) (entity_eq t r) (entity_eq_itself r))
       | inr tail ↦ (t, tail, or_right (entity_eq r t) (entity_eq t t) (entity_eq_itself t))
     ]
 
+-- tests that agree on the ids of a list leave the same of it
+left_alike : (p q : Id → Bool) (ids : List Id) → ((i : Id) → IsTrue (has_item id_cmp ids i) → p i ≡ q i) → filter p ids ≡ filter q ids
+left_alike p q [] alike = refl
+left_alike p q (i ∷ ids) alike =
+    kept (left_alike p q ids (λ j there. alike j (or_right (id_eq i j) (has_item id_cmp ids j) there)))
+  where
+    same : p i ≡ q i
+    same = alike i (or_left (id_eq i i) (has_item id_cmp ids i) (id_eq_itself i))
+
+    kept : filter p ids ≡ filter q ids → filter p (i ∷ ids) ≡ filter q (i ∷ ids)
+    kept rest = (λ t. if same t then i ∷ rest t else rest t)
+
 -- ---- the type of a record
 
-ids_standing : (o : Option Record) (t : TableState) (row : ℕ) (r : Record) → o ≡ Some r → Stands o t row → RowsHaveIds t → record_ids r ≡ t.ids
+pub ids_standing : (o : Option Record) (t : TableState) (row : ℕ) (r : Record) → o ≡ Some r → Stands o t row → RowsHaveIds t → record_ids r ≡ t.ids
 ids_standing o t row r at stands own =
     let there = subst (λ x. Stands x t row) at stands in
     ap (map (λ p. p.0)) (there.held no_row) ∙ own row no_row there.within
@@ -83,27 +85,41 @@ among_change nodes None k r b ids at is same = absurd (none-some r at)
 among_change nodes (Some t) k r true ids at is same = absurd (true≢false is)
 among_change nodes (Some t) k r false ids at is same = (0, omega arith, sym same)
 
-module _ (v : Indexed Record) (slots : List (Option TableState)) (shown : IsShown v slots) (roots : List Entity) (keys : List Node)
-    (exact : IsSearch (world_of v) slots roots keys) where
+module _ (v : Indexed Record) (slots : List (Option TableState)) (shown : IsShown v slots) (starts keys : List Node) (begin : AreStarts starts)
+    (exact : IsSearch (world_of v) slots starts keys) where
   abbrev Found : Node → Type 0
-  Found = Least (λ r. IsTrue (is_one_of (map Member roots) r)) (λ x b. IsTrue (leads (world_of v) slots x b))
+  Found = Least (λ r. IsTrue (is_one_of starts r)) (λ x b. IsTrue (leads (world_of v) slots x b))
+
+  -- who dies
+  abbrev dying : List Entity
+  dying = taken_among slots keys
 
   -- a member led to a table that is named
   abbrev IsLed : Node → Type 0
+  IsLed (Root e) = Unit {0}
   IsLed (Member e) = Unit {0}
   IsLed (Falling n) = Unit {0}
-  IsLed (Named n) = (m : Entity) × IsTrue (is_member keys m) × IsTrue (is_named slots m n)
+  IsLed (Named n) = (m : Entity) × IsTrue (has_item entity_cmp dying m) × IsTrue (is_named slots m n)
 
-  begins : (a : Node) → IsTrue (is_one_of (map Member roots) a) → IsLed a
+  begins : (a : Node) → IsTrue (is_one_of starts a) → IsLed a
+  begins (Root e) h = tt
   begins (Member e) h = tt
   begins (Falling n) h = tt
-  begins (Named n) h = absurd (true≢false (sym h ∙ no_slots roots (Named n) (λ e. refl)))
+  begins (Named n) h = absurd (true≢false (sym (begin (Named n) h)))
 
   goes_on : (a b : Node) → Found a → IsTrue (leads (world_of v) slots a b) → IsLed b
+  goes_on a (Root e) found h = tt
   goes_on a (Member e) found h = tt
   goes_on a (Falling n) found h = tt
-  goes_on (Member m) (Named n) found h = (m, (exact (Member m)).1 found, first _ _ h)
-  goes_on (Falling k) (Named n) found h = absurd (true≢false (sym h))
+  goes_on (Root m) (Named n) found h =
+      (m, by_one slots keys m (Root m) ((exact (Root m)).1 found) (one_itself m), first (is_named slots m n) (not (falls (world_of v) slots m n)) h)
+  goes_on (Member m) (Named n) found h = absurd (true≢false (sym h))
+  goes_on (Falling k) (Named n) found h =
+      let m = some_entity (λ e. touches (world_of v) slots e (Named n)) (entities_of (table_in slots k).rows) h in (
+        m.0,
+        by_one slots keys m.0 (Falling k) ((exact (Falling k)).1 found) m.1,
+        first (is_named slots m.0 n) (not (falls (world_of v) slots m.0 n)) m.2,
+      )
   goes_on (Named k) (Named n) found h = absurd (true≢false (sym h))
 
   led : {a : Node} → Found a → IsLed a
@@ -112,22 +128,47 @@ module _ (v : Indexed Record) (slots : List (Option TableState)) (shown : IsShow
 
   -- ---- each change takes out
 
-  abbrev Takes : TypeChange → Type 0
-  Takes = TakesOut (names_dead keys)
+  -- of whom some table names, the members are those who die
+  members_die : (e : Entity) → IsTrue (is_named_anywhere slots e) → is_member keys e ≡ has_item entity_cmp dying e
+  members_die e named =
+      same_test (is_member keys e) (has_item entity_cmp dying e) (member_dies v slots shown starts keys begin exact e, λ h. named_member v slots shown starts keys begin exact e h named)
 
-  taken_in : (o : Option TableState) (m : Entity) → IsTrue (is_member keys m) → IsTrue (is_found_by (λ ids. any_names ids m) o) → All Takes (change_in keys o)
-  taken_in None m member found = absurd (true≢false (sym found))
-  taken_in (Some t) m member found =
+  -- so an id that is there names a member where it names who dies
+  names_alike : (i : Id) → ((e : Entity) → IsTrue (names_entity i e) → IsTrue (is_named_anywhere slots e)) → names_dead keys i ≡ names_any dying i
+  names_alike (One e) there = members_die e (there e (entity_eq_itself e))
+  names_alike (Two r t) there = λ k.
+      members_die r (there r (or_left (entity_eq r r) (entity_eq t r) (entity_eq_itself r))) k
+      || members_die t (there t (or_right (entity_eq r t) (entity_eq t t) (entity_eq_itself t))) k
+
+  abbrev Takes : TypeChange → Type 0
+  Takes = TakesOut (names_any dying)
+
+  taken_in : (n : ℕ) (o : Option TableState) → slot_of slots n ≡ o → (m : Entity) → IsTrue (has_item entity_cmp dying m)
+      → IsTrue (is_found_by (λ ids. any_names ids m) o) → All Takes (change_in keys o)
+  taken_in n None at m dies found = absurd (true≢false (sym found))
+  taken_in n (Some t) at m dies found =
       let named = some_id (λ i. names_entity i m) t.ids (second (nat_lt 0 (length t.rows)) (any_names t.ids m) found) in
       All-cons Takes (record { from = t.ids; to = spared keys t.ids }) []
-      (record { there = any_id (names_dead keys) t.ids named.0 named.1 (member_named keys m named.0 member named.2); taken = refl }) (All-nil Takes)
+      (record {
+        there =
+            any_id (names_any dying) t.ids named.0 named.1 (some_named dying m named.0 dies named.2);
+        taken = left_alike (λ i. not (names_dead keys i)) (λ i. not (names_any dying i)) t.ids (λ i there. ap not (names_alike i (anywhere i there)));
+      }) (All-nil Takes)
+    where
+      anywhere : (i : Id) → IsTrue (has_item id_cmp t.ids i) → (e : Entity) → IsTrue (names_entity i e) → IsTrue (is_named_anywhere slots e)
+      anywhere i there e names =
+          named_somewhere slots e n
+          (subst (λ x. IsTrue (is_found_by (λ ids. any_names ids e) x)) (sym at)
+          (both (nat_lt 0 (length t.rows)) (any_names t.ids e) (first (nat_lt 0 (length t.rows)) (any_names t.ids m) found)
+          (any_id (λ j. names_entity j e) t.ids i there names)))
 
   taken_of : (a : Node) → IsTrue (is_one_of keys a) → All Takes (change_of slots keys a)
+  taken_of (Root e) there = All-nil Takes
   taken_of (Member e) there = All-nil Takes
   taken_of (Falling n) there = All-nil Takes
   taken_of (Named n) there =
       let by_whom = led ((exact (Named n)).0 there) in
-      unless (is_falling keys n) (taken_in (slot_of slots n) by_whom.0 by_whom.1 by_whom.2)
+      unless (is_falling keys n) (taken_in n (slot_of slots n) refl by_whom.0 by_whom.1 by_whom.2)
     where
       unless : (b : Bool) → All Takes (change_in keys (slot_of slots n)) → All Takes (cond b [] (change_in keys (slot_of slots n)))
       unless true all = All-nil Takes
@@ -158,7 +199,7 @@ module _ (v : Indexed Record) (slots : List (Option TableState)) (shown : IsShow
       froms : List TypeChange → List (List Id)
       froms = map (λ (c : TypeChange). c.from)
 
-  every_type : (e : Entity) (r : Record) → record_of v e ≡ Some r → IsFalse (is_member keys e) → IsTrue (list_any (names_dead keys) (record_ids r))
+  every_type : (e : Entity) (r : Record) → record_of v e ≡ Some r → IsFalse (has_item entity_cmp dying e) → IsTrue (list_any (names_any dying) (record_ids r))
       → Contains (map (λ (c : TypeChange). c.from) (changes_of slots keys)) (record_ids r)
   every_type e r at outside some =
       let row = shown.living e r at in
@@ -166,32 +207,34 @@ module _ (v : Indexed Record) (slots : List (Option TableState)) (shown : IsShow
       let t = table_in slots n in
       let same : record_ids r ≡ t.ids =
       ids_standing (record_of v (row.2).entity) t row.1 r (ap (record_of v) row.4 ∙ at) (shown.rows n row.1 row.2 row.3) (shown.own n) in
-      let id = some_id (names_dead keys) t.ids (sym (ap (list_any (names_dead keys)) same) ∙ some) in
-      let m = named_member keys id.0 id.2 in
+      let id = some_id (names_any dying) t.ids (sym (ap (list_any (names_any dying)) same) ∙ some) in
+      let m = named_some dying id.0 id.2 in
       let named = found_at (λ ids. any_names ids m.0) (slot_of slots n) row.1 row.2 row.3 (any_id (λ i. names_entity i m.0) t.ids id.0 id.1 m.2) in
       let standing = subst (λ x. IsTrue (has_item entity_cmp (entities_of t.rows) x)) row.4 (stands_among t.rows row.1 row.2 row.3) in
-      let stays = spare v slots shown (map Member roots) keys exact (dead_among keys) (dead_are keys) e n standing outside in
-      let there = named_there v slots shown (map Member roots) keys exact (dead_among keys) (dead_are keys) m.0 n m.1 named stays
-      (falls (world_of v) slots m.0 n) refl in
+      let stays = spare v slots shown starts keys begin exact e n standing outside in
+      let there = named_there v slots shown starts keys begin exact dying (λ x. refl) m.0 n m.1 named stays (falls (world_of v) slots m.0 n) refl in
       among_all keys n (record_ids r) there (among_change keys (slot_of slots n) row.1 row.2 (is_falling keys n) (record_ids r) row.3 stays same)
 
-  taken : Ascend (changes_of slots keys) → TakesOutOfAll v (has_item entity_cmp (dead_among keys)) (names_any (dead_among keys)) (changes_of slots keys)
-  taken ascend =
-      subst (λ dies. TakesOutOfAll v dies (names_any (dead_among keys)) (changes_of slots keys)) (λ t e. sym (dead_are keys e) t)
-      (subst (λ goes. TakesOutOfAll v (is_member keys) goes (changes_of slots keys)) (λ t i. named_by keys i t)
-      (record { each = all_taken keys (λ a there. there); ascend = ascend; all = every_type }))
-
-  pub planned : (dead : List Entity) (changes : List TypeChange) → dead ≡ dead_among keys → changes ≡ changes_of slots keys → Ascend changes
-      → IsPlan v (λ x. IsTrue (has_item entity_cmp roots x)) dead changes
+  pub planned : (dead : List Entity) (changes : List TypeChange) → dead ≡ reverse dying → changes ≡ changes_of slots keys → Ascend changes
+      → IsPlan v (λ x. IsTrue (has_item entity_cmp (taken_among slots starts) x)) dead changes
   planned dead changes who what ascend =
-      subst (λ es. IsPlan v (λ x. IsTrue (has_item entity_cmp roots x)) es changes) (sym who)
-      (subst (IsPlan v (λ x. IsTrue (has_item entity_cmp roots x)) (dead_among keys)) (sym what)
-      (record { doomed = doomed; taken = taken (subst Ascend what ascend) }))
+      subst (IsPlan v (λ x. IsTrue (has_item entity_cmp (taken_among slots starts) x)) dead) (sym what) (record { doomed = doomed; taken = taken })
     where
-      doomed : (e : Entity) → IsTrue (has_item entity_cmp (dead_among keys) e) ↔ Doomed (world_of v) (λ x. IsTrue (has_item entity_cmp roots x)) e
+      listed : (e : Entity) → has_item entity_cmp dying e ≡ has_item entity_cmp dead e
+      listed e =
+          list_any-IsPermutation (λ y. entity_eq y e) dying (reverse dying) (IsPermutation-reverse dying)
+          ∙ sym (ap (λ es. has_item entity_cmp es e) who)
+
+      doomed : (e : Entity) → IsTrue (has_item entity_cmp dead e) ↔ Doomed (world_of v) (λ x. IsTrue (has_item entity_cmp (taken_among slots starts) x)) e
       doomed e =
-          let found = doomed_exactly v slots shown roots (map Member roots) keys refl exact e in
-          (λ h. found.0 (sym (dead_are keys e) ∙ h), λ d. dead_are keys e ∙ found.1 d)
+          let found = doomed_exactly v slots shown starts keys begin exact e in
+          (λ h. found.0 (listed e ∙ h), λ d. sym (listed e) ∙ found.1 d)
+
+      taken : TakesOutOfAll v (has_item entity_cmp dead) (names_any dead) (changes_of slots keys)
+      taken =
+          subst (λ dies. TakesOutOfAll v dies (names_any dead) (changes_of slots keys)) (λ t e. listed e t)
+          (subst (λ goes. TakesOutOfAll v (has_item entity_cmp dying) goes (changes_of slots keys)) (λ t i. named_alike dying dead listed i t)
+          (record { each = all_taken keys (λ a there. there); ascend = subst Ascend what ascend; all = every_type }))
 
 -- ---- whatever lists the members
 

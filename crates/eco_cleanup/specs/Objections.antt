@@ -16,7 +16,7 @@ use Rattle.eco_tables.specs.Tables.{table_in}
 use Rattle.eco_cleanup.specs.Firsts.{counted, former}
 use Rattle.eco_cleanup.specs.Nodes.{is_falling, is_member}
 use Rattle.eco_cleanup.specs.declared.node.Node.{Node}
-use Rattle.eco_cleanup.specs.declared.node.Node.TheVariants.{Member, Falling, Named}
+use Rattle.eco_cleanup.specs.declared.node.Node.TheVariants.{Root, Member, Falling, Named}
 use Rattle.eco_cleanup.specs.declared.objection.Objection.{Objection}
 
 -- by holder, then by member
@@ -55,6 +55,7 @@ module _ (w : WorldState) where
 
   -- only a table that names a member and does not fall may have one
   abbrev pub objection_of : List (Option TableState) → List Node → Node → Option Objection
+  objection_of slots nodes (Root e) = None
   objection_of slots nodes (Member e) = None
   objection_of slots nodes (Falling n) = None
   objection_of slots nodes (Named n) = if is_falling nodes n then None else objection_at nodes (table_in slots n)

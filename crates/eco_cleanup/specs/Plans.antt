@@ -15,7 +15,7 @@ use Rattle.eco_store.specs.declared.type_change.TypeChange.{TypeChange}
 use Rattle.eco_cleanup.specs.Nodes.{is_falling, is_member}
 use Rattle.eco_cleanup.specs.Worlds.{world_of}
 use Rattle.eco_cleanup.specs.declared.node.Node.{Node}
-use Rattle.eco_cleanup.specs.declared.node.Node.TheVariants.{Member, Falling, Named}
+use Rattle.eco_cleanup.specs.declared.node.Node.TheVariants.{Root, Member, Falling, Named}
 
 -- some id of the type goes, and the type changes into the same without the ids that go
 pub record TakesOut (goes : Id → Bool) (c : TypeChange) : Type 0 where
@@ -43,22 +43,12 @@ pub record IsPlan
 
 -- ---- found among the nodes
 
--- the entity of a node, where it is one
-abbrev pub dead_of : Node → List Entity
-dead_of (Member e) = e ∷ []
-dead_of (Falling n) = []
-dead_of (Named n) = []
-
--- the entities among the nodes
-abbrev pub dead_among : List Node → List Entity
-dead_among nodes = flat_map dead_of nodes
-
--- the id names one of them
+-- the id names a member
 abbrev pub names_dead : List Node → Id → Bool
 names_dead nodes (One e) = is_member nodes e
 names_dead nodes (Two r t) = is_member nodes r || is_member nodes t
 
--- the ids that name none of them
+-- the ids that name none
 abbrev pub spared : List Node → List Id → List Id
 spared nodes ids = filter (λ i. not (names_dead nodes i)) ids
 
@@ -69,6 +59,7 @@ change_in nodes (Some t) = record { from = t.ids; to = spared nodes t.ids } ∷ 
 
 -- likewise of a table that is named and does not fall
 abbrev pub change_of : List (Option TableState) → List Node → Node → List TypeChange
+change_of slots nodes (Root e) = []
 change_of slots nodes (Member e) = []
 change_of slots nodes (Falling n) = []
 change_of slots nodes (Named n) = if is_falling nodes n then [] else change_in nodes (slot_of slots n)

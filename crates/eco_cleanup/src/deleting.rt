@@ -1,18 +1,21 @@
 //! The delete itself: planned completely, then carried out at once.
-ghost use Rattle.std.specs.Prelude.{◌≡◌, Bool, true, List, IsTrue, IfOk, OnOk, OnErr};
+ghost use Rattle.std.specs.Prelude.{◌≡◌, Bool, true, List, map, IsTrue, IfOk, OnOk, OnErr};
 ghost use Rattle.eco_ids.specs.Cleanup.{Ends, IsDoomed as IsDoomedList};
 ghost use Rattle.eco_ids.specs.Losses.{without};
 ghost use Rattle.eco_ids.specs.Order.{entity_cmp, has_item};
 ghost use Rattle.eco_ids.specs.Outcome.{Meets};
 ghost use Rattle.eco_ids.specs.declared.entity.Entity.{Entity as EntityData};
 ghost use Rattle.eco_ids.specs.declared.id.Id.{Id as IdData};
+ghost use Rattle.eco_store.specs.Holders.{entities_with};
 ghost use Rattle.eco_cleanup.specs.Objections.{Answers};
 ghost use Rattle.eco_cleanup.specs.Plans.{IsPlan, TakesOutOfAll};
 ghost use Rattle.eco_cleanup.specs.Worlds.{world_of};
+ghost use Rattle.eco_cleanup.specs.declared.node.Node.TheVariants.{Root, Falling};
 
+use crate::node::Node;
 use crate::plan::Plan;
 use crate::ties::Ties;
-use eco_ids::{Entity, Refusal};
+use eco_ids::{Entity, Pattern, Refusal};
 use eco_store::{Store, TypeChange};
 use std::alloc::{AllocError, Global};
 
@@ -29,6 +32,20 @@ pub fn delete(alloc: Global, store: &mut Store, roots: &[Entity]) -> Result<(), 
         (world_of store.old.entities) result (world_of store.new.entities) }
 {
     let plan = plan_delete(alloc, store, roots)?;
+    carry_out(store, &plan.dead, &plan.changes)?;
+    Ok(())
+}
+
+/// All who have an id that the pattern matches die, with all that the policies demand, as by [`delete`]. Their tables fall
+/// whole.
+pub fn delete_with(alloc: Global, store: &mut Store, pattern: Pattern) -> Result<(), Refusal>
+    ensures { (members : List EntityData)
+        → IsDoomedList (world_of store.old.entities)
+        (λ x. IsTrue (has_item entity_cmp (entities_with store.old.entities pattern) x)) members
+        → Meets (Ends (world_of store.old.entities) members) true
+        (world_of store.old.entities) result (world_of store.new.entities) }
+{
+    let plan = plan_delete_with(alloc, store, pattern)?;
     carry_out(store, &plan.dead, &plan.changes)?;
     Ok(())
 }
@@ -62,11 +79,48 @@ fn plan_delete(alloc: Global, store: &Store, roots: &[Entity]) -> Result<Plan, R
         → IsDoomedList (world_of store.now.entities) (λ x. IsTrue (has_item entity_cmp roots.now x)) members
         → Answers (world_of store.now.entities) members result }
 {
+    let starts = nodes_of(alloc, roots)?;
     let ties = Ties {
         store,
         archetypes: store.archetypes(),
     };
-    let doomed = ties.judge(alloc, roots)?;
-    let plan = ties.plan(alloc, &doomed)?;
-    Ok(plan)
+    ties.plan(alloc, &starts)
+}
+
+// Each of these entities as a root.
+fn nodes_of(alloc: Global, entities: &[Entity]) -> Result<Vec<Node>, AllocError>
+    ensures { IfOk result (λ nodes. nodes.items ≡ map Root entities.now) }
+{
+    let mut nodes = Vec::new(alloc);
+    for entity in entities {
+        nodes.push(Node::Root(*entity))?;
+    }
+    Ok(nodes)
+}
+
+// What the delete of all who have such an id does, unless a policy forbids it.
+fn plan_delete_with(alloc: Global, store: &Store, pattern: Pattern) -> Result<Plan, Refusal>
+    ensures planned { IfOk result (λ p. IsPlan store.now.entities
+        (λ x. IsTrue (has_item entity_cmp (entities_with store.now.entities pattern) x)) p.dead.items p.changes.items) }
+    ensures judged { (members : List EntityData)
+        → IsDoomedList (world_of store.now.entities)
+        (λ x. IsTrue (has_item entity_cmp (entities_with store.now.entities pattern) x)) members
+        → Answers (world_of store.now.entities) members result }
+{
+    let archetypes = store.archetypes();
+    let slots = archetypes.tables_by(&pattern)?;
+    let starts = falling(alloc, &slots)?;
+    let ties = Ties { store, archetypes };
+    ties.plan(alloc, &starts)
+}
+
+// The tables in these slots, as tables that fall.
+fn falling(alloc: Global, slots: &[usize]) -> Result<Vec<Node>, AllocError>
+    ensures { IfOk result (λ nodes. nodes.items ≡ map Falling slots.now) }
+{
+    let mut nodes = Vec::new(alloc);
+    for slot in slots {
+        nodes.push(Node::Falling(*slot))?;
+    }
+    Ok(nodes)
 }

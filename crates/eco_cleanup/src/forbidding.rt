@@ -5,7 +5,7 @@ ghost use Rattle.eco_ids.specs.Order.{entity_cmp, has_item};
 ghost use Rattle.eco_ids.specs.declared.entity.Entity.{Entity as EntityData};
 ghost use Rattle.eco_tables.specs.Tables.{table_in};
 ghost use Rattle.eco_store.specs.Store.{IsShown};
-ghost use Rattle.eco_cleanup.specs.Nodes.{IsSearch};
+ghost use Rattle.eco_cleanup.specs.Nodes.{taken_among, AreStarts, IsSearch};
 ghost use Rattle.eco_cleanup.specs.Objections.{Answers, first_objection, first_outside, first_protected, named_first, objection_at, objection_of, protects};
 ghost use Rattle.eco_cleanup.specs.Worlds.{world_of};
 
@@ -20,17 +20,19 @@ use eco_tables::Table;
 use std::alloc::Global;
 
 impl Ties<'_> {
-    /// All that the deaths of the roots lead to, unless a policy forbids one of them: refused with `Panic` then, and last
-    /// with `OutOfMemory`.
-    pub fn judge(&self, alloc: Global, roots: &[Entity]) -> Result<Doomed, Refusal>
+    /// All that deaths by these nodes lead to, unless a policy forbids one of them: refused with `Panic` then, and last with
+    /// `OutOfMemory`.
+    pub fn judge(&self, alloc: Global, starts: &[Node]) -> Result<Doomed, Refusal>
         requires shown { IsShown self.now.store.now.entities self.now.archetypes.now }
-        ensures searched { IfOk result (λ d. IsSearch (world_of self.now.store.now.entities) self.now.archetypes.now roots.now
+        requires starts { AreStarts starts.now }
+        ensures searched { IfOk result (λ d. IsSearch (world_of self.now.store.now.entities) self.now.archetypes.now starts.now
             d.nodes.keys) }
         ensures judged { (members : List EntityData)
-            → IsDoomedList (world_of self.now.store.now.entities) (λ x. IsTrue (has_item entity_cmp roots.now x)) members
+            → IsDoomedList (world_of self.now.store.now.entities)
+            (λ x. IsTrue (has_item entity_cmp (taken_among self.now.archetypes.now starts.now) x)) members
             → Answers (world_of self.now.store.now.entities) members result }
     {
-        let doomed = self.search(alloc, roots)?;
+        let doomed = self.search(alloc, starts)?;
         match self.first_objection(&doomed) {
             Some(objection) => Err(Refusal::Panic {
                 holder: objection.holder,
@@ -106,7 +108,7 @@ impl Ties<'_> {
 }
 
 impl Doomed {
-    // The least of the entities that do not die.
+    // The least of the entities that are no members. Where they stand in a table that does not fall, those do not die.
     fn first_outside(&self, entities: &[Entity]) -> Option<Entity>
         ensures { result ≡ first_outside self.now.nodes.keys entities.now }
     {

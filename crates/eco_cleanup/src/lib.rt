@@ -12,7 +12,7 @@ mod policy;
 mod role;
 mod ties;
 
-pub use deleting::{carry_out, delete};
+pub use deleting::{carry_out, delete, delete_with};
 pub use doomed::Doomed;
 pub use node::Node;
 pub use objection::Objection;

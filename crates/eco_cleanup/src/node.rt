@@ -4,7 +4,9 @@ use eco_ids::Entity;
 /// An entity or a table that a search for the doomed came to.
 #[derive(Clone, Copy, Debug, PartialEq, Eq, Hash)]
 pub enum Node {
-    /// The entity dies.
+    /// The delete begins with the death of this entity.
+    Root(Entity),
+    /// The entity dies with the table in which it stands, and some table's type names it.
     Member(Entity),
     /// All who stand in the table of this slot die.
     Falling(usize),

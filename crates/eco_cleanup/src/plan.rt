@@ -1,13 +1,19 @@
 //! What a delete does, found before anything changes.
-ghost use Rattle.std.specs.Prelude.{◌≡◌, ◌++◌, IfOk, OnOk, IsTrue};
-ghost use Rattle.eco_ids.specs.Order.{id_cmp, is_ascending};
+ghost use Rattle.std.specs.Prelude.{◌≡◌, ◌++◌, List, reverse, IfOk, OnOk, IsTrue};
+ghost use Rattle.eco_ids.specs.Cleanup.{IsDoomed as IsDoomedList};
+ghost use Rattle.eco_ids.specs.Order.{entity_cmp, has_item, id_cmp, is_ascending};
+ghost use Rattle.eco_ids.specs.declared.entity.Entity.{Entity as EntityData};
 ghost use Rattle.eco_tables.specs.Tables.{slot_of};
-ghost use Rattle.eco_cleanup.specs.Plans.{Ascend, change_in, change_of, changes_of, dead_among, dead_of, names_dead, spared};
+ghost use Rattle.eco_store.specs.Store.{IsShown};
+ghost use Rattle.eco_cleanup.specs.Nodes.{taken_among, taken_by, AreStarts};
+ghost use Rattle.eco_cleanup.specs.Objections.{Answers};
+ghost use Rattle.eco_cleanup.specs.Plans.{Ascend, change_in, change_of, changes_of, names_dead, spared, IsPlan};
+ghost use Rattle.eco_cleanup.specs.Worlds.{world_of};
 
 use crate::doomed::Doomed;
 use crate::node::Node;
 use crate::ties::Ties;
-use eco_ids::{Entity, Id, TypeList};
+use eco_ids::{Entity, Id, Refusal, TypeList};
 use eco_store::TypeChange;
 use std::alloc::{AllocError, Global};
 
@@ -19,17 +25,60 @@ pub struct Plan {
 }
 
 impl Ties<'_> {
-    /// What the deaths that were found mean. Each table that names a member and does not fall changes its type once, for
-    /// all its rows. An `Err` comes where memory is refused.
-    pub fn plan(&self, alloc: Global, doomed: &Doomed) -> Result<Plan, AllocError>
-        ensures dead { IfOk result (λ p. p.dead.items ≡ dead_among doomed.now.nodes.keys) }
+    /// What deaths by these nodes do, unless a policy forbids it: refused with `Panic` then, and last with `OutOfMemory`.
+    pub fn plan(&self, alloc: Global, starts: &[Node]) -> Result<Plan, Refusal>
+        requires shown { IsShown self.now.store.now.entities self.now.archetypes.now }
+        requires starts { AreStarts starts.now }
+        ensures planned { IfOk result (λ p. IsPlan self.now.store.now.entities
+            (λ x. IsTrue (has_item entity_cmp (taken_among self.now.archetypes.now starts.now) x)) p.dead.items p.changes.items) }
+        ensures judged { (members : List EntityData)
+            → IsDoomedList (world_of self.now.store.now.entities)
+            (λ x. IsTrue (has_item entity_cmp (taken_among self.now.archetypes.now starts.now) x)) members
+            → Answers (world_of self.now.store.now.entities) members result }
+    {
+        let doomed = self.judge(alloc, starts)?;
+        let plan = self.plan_of(alloc, &doomed)?;
+        Ok(plan)
+    }
+
+    // What the deaths that were found mean. Each table that names a member and does not fall changes its type once, for
+    // all its rows. An `Err` comes where memory is refused.
+    fn plan_of(&self, alloc: Global, doomed: &Doomed) -> Result<Plan, AllocError>
+        ensures dead { IfOk result (λ p.
+            p.dead.items ≡ reverse (taken_among self.now.archetypes.now doomed.now.nodes.keys)) }
         ensures changes { IfOk result (λ p.
             p.changes.items ≡ changes_of self.now.archetypes.now doomed.now.nodes.keys) }
         ensures ascend { IfOk result (λ p. Ascend p.changes.items) }
     {
-        let dead = doomed.dead(alloc)?;
+        let dead = self.dead(alloc, doomed)?;
         let changes = self.changes(alloc, doomed)?;
         Ok(Plan { dead, changes })
+    }
+
+    // Who dies; a root may be listed twice. The rows of a table that falls come from the last to the first, so that each
+    // leaves from the end and no other row moves.
+    fn dead(&self, alloc: Global, doomed: &Doomed) -> Result<Vec<Entity>, AllocError>
+        ensures { IfOk result (λ es.
+            es.items ≡ reverse (taken_among self.now.archetypes.now doomed.now.nodes.keys)) }
+    {
+        let mut dead = Vec::new(alloc);
+        for node in doomed.nodes.as_slice() {
+            self.append_taken(*node, &mut dead)?;
+        }
+        dead.reverse();
+        Ok(dead)
+    }
+
+    // Who dies by the node.
+    fn append_taken(&self, node: Node, dead: &mut Vec<Entity>) -> Result<(), AllocError>
+        ensures { OnOk result (dead.new.items ≡ dead.old.items ++ taken_by self.now.archetypes.now node) }
+    {
+        match node {
+            Node::Root(entity) => dead.push(entity)?,
+            Node::Falling(slot) => dead.extend_from_slice(self.standing(slot))?,
+            Node::Member(_) | Node::Named(_) => {}
+        }
+        Ok(())
     }
 
     fn changes(&self, alloc: Global, doomed: &Doomed) -> Result<Vec<TypeChange>, AllocError>
@@ -79,29 +128,8 @@ impl Ties<'_> {
     }
 }
 
-// The entity of a node, where it is one.
-fn append_dead(node: Node, dead: &mut Vec<Entity>) -> Result<(), AllocError>
-    ensures { OnOk result (dead.new.items ≡ dead.old.items ++ dead_of node) }
-{
-    if let Node::Member(entity) = node {
-        dead.push(entity)?;
-    }
-    Ok(())
-}
-
 impl Doomed {
-    // The entities that die.
-    fn dead(&self, alloc: Global) -> Result<Vec<Entity>, AllocError>
-        ensures { IfOk result (λ es. es.items ≡ dead_among self.now.nodes.keys) }
-    {
-        let mut dead = Vec::new(alloc);
-        for node in self.nodes.as_slice() {
-            append_dead(*node, &mut dead)?;
-        }
-        Ok(dead)
-    }
-
-    // The list without the ids that name the dead.
+    // The list without the ids that name a member: where an id that some entity has names one who dies, that is a member.
     fn spared(&self, ids: &TypeList) -> Result<TypeList, AllocError>
         ensures spared { IfOk result (λ t. t ≡ spared self.now.nodes.keys ids.now) }
         ensures ascending { IfOk result (λ t. IsTrue (is_ascending id_cmp ids.now)) }
@@ -115,7 +143,7 @@ impl Doomed {
         Ok(kept)
     }
 
-    // Whether the id names one of the dead.
+    // Whether the id names a member.
     fn is_named_by(&self, id: Id) -> bool
         ensures { result ≡ names_dead self.now.nodes.keys id }
     {

@@ -1,8 +1,27 @@
-use Rattle.eco_cleanup.proofs.Planned.{planned}
+use Rattle.std.proofs.Common.{List, IfOk, IsTrue, sym, ap, ◌∙◌, subst}
+use Rattle.eco_ids.specs.Cleanup.{IsDoomed}
+use Rattle.eco_ids.specs.Order.{entity_cmp, has_item}
+use Rattle.eco_ids.specs.declared.entity.Entity.{Entity}
+use Rattle.eco_cleanup.specs.Nodes.{AreStarts, taken_among}
+use Rattle.eco_cleanup.specs.Objections.{Answers}
+use Rattle.eco_cleanup.specs.Plans.{IsPlan}
+use Rattle.eco_cleanup.specs.Worlds.{world_of}
+use Rattle.eco_cleanup.proofs.Deaths.{taken_roots}
+use Rattle.eco_cleanup.proofs.Noted.{roots_start}
 use Rattle.eco_cleanup.proofs.deleting.plan_delete.Goals as goal
+
+pub plan-requires-clause-starts : goal.plan-requires-clause-starts
+plan-requires-clause-starts c = subst AreStarts (sym (c.deref.ensures.value ∙ c.in_ok-starts.ensures)) (roots_start c.args.roots.now)
 
 pub returns-clause-planned : goal.returns-clause-planned
 returns-clause-planned c =
-    planned c.args.store.now.entities c.archetypes.result.now c.archetypes.ensures c.args.roots.now c.in_ok-doomed.doomed.nodes.keys
-    c.in_ok-doomed.ensures.searched c.in_ok-plan.plan.dead.items c.in_ok-plan.plan.changes.items c.in_ok-plan.ensures.dead c.in_ok-plan.ensures.changes
-    c.in_ok-plan.ensures.ascend
+    let slots = c.archetypes.result.now in
+    subst (λ es. IfOk c.plan.result (λ p. IsPlan c.args.store.now.entities (λ x. IsTrue (has_item entity_cmp es x)) p.dead.items p.changes.items))
+    (ap (taken_among slots) (c.deref.ensures.value ∙ c.in_ok-starts.ensures) ∙ taken_roots slots c.args.roots.now) c.plan.ensures.planned
+
+pub returns-clause-judged : goal.returns-clause-judged
+returns-clause-judged c =
+    let slots = c.archetypes.result.now in
+    let w = world_of c.args.store.now.entities in
+    subst (λ es. (members : List Entity) → IsDoomed w (λ x. IsTrue (has_item entity_cmp es x)) members → Answers w members c.plan.result)
+    (ap (taken_among slots) (c.deref.ensures.value ∙ c.in_ok-starts.ensures) ∙ taken_roots slots c.args.roots.now) c.plan.ensures.judged

@@ -1,0 +1,6 @@
+use Rattle.std.proofs.Common.{◌≡◌, map, take}
+use Rattle.eco_cleanup.specs.declared.node.Node.TheVariants.{Falling}
+use Rattle.eco_cleanup.proofs.deleting.falling.Given as goal
+
+abbrev pub invariant-loop-slot : goal.invariant-loop-slot
+invariant-loop-slot l = l.nodes.items ≡ map Falling (take l.slot-index l.slots)

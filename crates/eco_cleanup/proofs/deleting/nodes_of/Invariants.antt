@@ -1,0 +1,6 @@
+use Rattle.std.proofs.Common.{◌≡◌, map, take}
+use Rattle.eco_cleanup.specs.declared.node.Node.TheVariants.{Root}
+use Rattle.eco_cleanup.proofs.deleting.nodes_of.Given as goal
+
+abbrev pub invariant-loop-entity : goal.invariant-loop-entity
+invariant-loop-entity l = l.nodes.items ≡ map Root (take l.entity-index l.entities)

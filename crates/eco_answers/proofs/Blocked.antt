@@ -1,0 +1,185 @@
+-- Rows for the choices of blocks.
+use Rattle.eco_ids.proofs.Common.{◌≡◌, ℕ, zero, suc, ◌+◌, ◌-◌, ◌<◌, ◌≤◌, Bool, true, false, nat_lt, List, [], ◌∷◌, ◌++◌, map, flat_map, length, take, drop, get_or}
+use Rattle.eco_ids.proofs.Common.{Option, refl, sym, ap, ◌∙◌, subst, arith, append_assoc, append-nil, suc-add, length-append, length-drop, map-append}
+use Rattle.eco_ids.proofs.Common.{nat_tests, take-length, AllByRecursion, All}
+use Rattle.std.proofs.Common.{drop-cons}
+use Rattle.std.specs.List.{slice_index_or}
+use Rattle.std.proofs.Math.Seq.{drop-append_seam}
+use Rattle.std.proofs.lemmas.List.{take-append-le, drop-append-le}
+use Rattle.std.proofs.lemmas.List.Elements.{recursion_from_All, All-from_recursion}
+use Rattle.eco_ids.specs.Answer as answers
+use Rattle.eco_ids.specs.Terms.{QueryTerm}
+use Rattle.eco_ids.specs.declared.entity.Entity.{Entity}
+use Rattle.eco_ids.specs.declared.id.Id.{Id}
+use Rattle.eco_tables.specs.Table.{TableState}
+use Rattle.eco_tables.specs.Tables.{table_in}
+use Rattle.eco_store.specs.declared.standing.Standing.{Standing}
+use Rattle.eco_answers.specs.Flat.{IsEven}
+use Rattle.eco_answers.specs.declared.blocks.Block.{Block}
+use Rattle.eco_answers.specs.declared.blocks.Blocks.{Blocks}
+use Rattle.eco_answers.specs.Blocks.{AreBlocks, AreSingle, IsBlock, block_at, rows_in, rows_from, results, results_at, rows_of, shown}
+
+rows_more : (e : Entity) (first n : ℕ) → rows_from e first (suc n) ≡ rows_from e first n ++ record { entity = e; place = first + n } ∷ []
+rows_more e first zero = let k : first ≡ first + 0 = omega arith in ap (λ j. record { entity = e; place = j } ∷ []) k
+rows_more e first (suc n) =
+    let k : suc first + n ≡ first + suc n = omega arith in
+    ap (λ zs. record { entity = e; place = first } ∷ zs) (rows_more e (suc first) n)
+    ∙ ap (λ j. record { entity = e; place = first } ∷ (rows_from e (suc first) n ++ record { entity = e; place = j } ∷ [])) k
+
+-- one more choice has its row
+pub rows_step : (e : Entity) (first at : ℕ) (old rows more : List Standing) → first ≤ at → rows ≡ old ++ rows_from e first (at - first) → more ≡ rows ++ record { entity = e; place = at } ∷ [] →
+    more ≡ old ++ rows_from e first (at + 1 - first)
+rows_step e first at old rows more low so_far pushed =
+    let n : ℕ = at - first in
+    let k : first + n ≡ at = omega (arith, low) in
+    let m : suc n ≡ at + 1 - first = omega (arith, low) in
+    pushed ∙ ap (λ zs. zs ++ record { entity = e; place = at } ∷ []) so_far
+    ∙ append_assoc old (rows_from e first n) (record { entity = e; place = at } ∷ [])
+    ∙ ap (λ j. old ++ (rows_from e first n ++ record { entity = e; place = j } ∷ [])) (sym k)
+    ∙ ap (λ zs. old ++ zs) (sym (rows_more e first n))
+    ∙ ap (λ j. old ++ rows_from e first j) m
+
+-- the rows of a block show its choices
+pub rows_show : (all : List (List (Option Id))) (e : Entity) (first n : ℕ) → first + n ≤ length all →
+    map (shown all) (rows_from e first n) ≡ map (λ es. record { entity = e; entries = es }) (take n (drop first all))
+rows_show all e first zero within = refl
+rows_show all e first (suc n) within =
+    ap (λ zs. shown all (record { entity = e; place = first }) ∷ zs) (rows_show all e (suc first) n (omega (arith, within)))
+    ∙ ap (λ zs. map (λ es. record { entity = e; entries = es }) (take (suc n) zs)) (sym (drop-cons all first [] (omega (arith, within))))
+
+-- ---- together
+
+-- the rows of a block show the results of an entity with the ids whose choices it has
+block_shows : (all : List (List (Option Id))) (e : Entity) (b : Block) (ids : List Id) (terms : List QueryTerm) → IsBlock all (answers.choices ids terms) b →
+    map (shown all) (rows_in b e) ≡ results e ids terms
+block_shows all e b ids terms is =
+    rows_show all e b.first (b.end - b.first) (let r = is.rises in let w = is.within in omega (arith, r, w)) ∙ ap (map (λ es. record { entity = e; entries = es })) is.are
+
+-- where all stand at places of blocks, the rows show the results
+pub rows_shown : (tables : List (Option TableState)) (ns : List ℕ) (terms : List QueryTerm) (b : Blocks) → AreBlocks tables ns terms b →
+    (ss : List Standing) → AllByRecursion (λ (s : Standing). s.place < length ns) ss →
+    map (shown b.choices.all) (rows_of b.list.items ss) ≡ results_at tables ns terms ss
+rows_shown tables ns terms b are [] within = refl
+rows_shown tables ns terms b are (s ∷ ss) within =
+    let all = b.choices.all in
+    let block = block_at b.list.items s.place in
+    map-append (shown all) (rows_in block s.entity) (rows_of b.list.items ss)
+    ∙ ap (λ zs. zs ++ map (shown all) (rows_of b.list.items ss)) (block_shows all s.entity block (table_in tables (slice_index_or ns s.place 0)).ids terms (are.each s.place within.0))
+    ∙ ap (λ zs. results s.entity (table_in tables (slice_index_or ns s.place 0)).ids terms ++ zs) (rows_shown tables ns terms b are ss within.1)
+
+-- where each block is one choice, all who stand somewhere are the rows
+single_rows : (blocks : List Block) → AreSingle blocks → (ss : List Standing) → AllByRecursion (λ (s : Standing). s.place < length blocks) ss → rows_of blocks ss ≡ ss
+single_rows blocks single [] within = refl
+single_rows blocks single (s ∷ ss) within =
+    let one : s.place + 1 - s.place ≡ 1 = omega arith in
+    ap (λ b. rows_in b s.entity ++ rows_of blocks ss) (single s.place within.0)
+    ∙ ap (λ n. rows_from s.entity s.place n ++ rows_of blocks ss) one
+    ∙ ap (λ zs. s ∷ zs) (single_rows blocks single ss within.1)
+
+pub singles_are : (blocks : List Block) → AreSingle blocks → (ss : List Standing) → All (λ (s : Standing). s.place < length blocks) ss → ss ≡ rows_of blocks ss
+singles_are blocks single ss within = sym (single_rows blocks single ss (recursion_from_All (λ (s : Standing). s.place < length blocks) ss within))
+
+-- a block stays one where more choices come behind
+pub block_kept : (all more cs : List (List (Option Id))) (b : Block) → IsBlock all cs b → IsBlock (all ++ more) cs b
+block_kept all more cs b is =
+    let r = is.rises in
+    let w = is.within in
+    let cut = length-drop b.first all in
+    let long = length-append all more in
+    record {
+      rises = r;
+      within = omega (arith, w, long);
+      are =
+          ap (take (b.end - b.first)) (drop-append-le b.first all more (omega (arith, r, w)))
+          ∙ take-append-le (b.end - b.first) (drop b.first all) more (omega (arith, r, w, cut)) ∙ is.are;
+    }
+
+-- the choices that come behind are a block
+pub block_new : (all cs : List (List (Option Id))) (b : Block) → b ≡ record { first = length all; end = length (all ++ cs) } → IsBlock (all ++ cs) cs b
+block_new all cs b is = subst (IsBlock (all ++ cs) cs) (sym is) (record {
+  rises = let long = length-append all cs in omega (arith, long);
+  within = omega arith;
+  are =
+      ap (take (length (all ++ cs) - length all)) (drop-append_seam all cs)
+      ∙ (let long = length-append all cs in let k : length (all ++ cs) - length all ≡ length cs = omega (arith, long) in ap (λ n. take n cs) k)
+      ∙ take-length cs;
+})
+
+at_front : (bs : List Block) (b : Block) (k : ℕ) → k < length bs → block_at (bs ++ b ∷ []) k ≡ block_at bs k
+at_front [] b k lt = absurd (omega (arith, lt))
+at_front (c ∷ bs) b zero lt = refl
+at_front (c ∷ bs) b (suc k) lt = at_front bs b k (omega (arith, lt))
+
+at_end : (bs : List Block) (b : Block) → block_at (bs ++ b ∷ []) (length bs) ≡ b
+at_end [] b = refl
+at_end (c ∷ bs) b = at_end bs b
+
+-- one more block
+pub blocks_more : (cs : ℕ → List (List (Option Id))) (all : List (List (Option Id))) (bs : List Block) (i : ℕ) (b : Block) → length bs ≡ i →
+    ((k : ℕ) → k < i → IsBlock all (cs k) (block_at bs k)) → b ≡ record { first = length all; end = length (all ++ cs i) } →
+    (k : ℕ) → k < i + 1 → IsBlock (all ++ cs i) (cs k) (block_at (bs ++ b ∷ []) k)
+blocks_more cs all bs i b long each is k lt = by (nat_lt k i) refl
+  where
+    by : (c : Bool) → nat_lt k i ≡ c → IsBlock (all ++ cs i) (cs k) (block_at (bs ++ b ∷ []) k)
+    by true e =
+        let low : k < i = grind (arith, nat_tests) in
+        subst (IsBlock (all ++ cs i) (cs k)) (sym (at_front bs b k (omega (arith, low, long)))) (block_kept all (cs i) (cs k) (block_at bs k) (each k low))
+    by false e =
+        let high : i ≤ k = grind (arith, nat_tests) in
+        let same : k ≡ i = omega (arith, high, lt) in
+        subst (λ j. IsBlock (all ++ cs i) (cs j) (block_at (bs ++ b ∷ []) j)) (sym same)
+        (subst (IsBlock (all ++ cs i) (cs i)) (sym (ap (block_at (bs ++ b ∷ [])) (sym long) ∙ at_end bs b)) (block_new all (cs i) b is))
+
+-- ---- the results
+
+pub all_shown : (tables : List (Option TableState)) (ns : List ℕ) (terms : List QueryTerm) (b : Blocks) → AreBlocks tables ns terms b →
+    (ss : List Standing) → All (λ (s : Standing). s.place < length ns) ss → map (shown b.choices.all) (rows_of b.list.items ss) ≡ results_at tables ns terms ss
+all_shown tables ns terms b are ss within = rows_shown tables ns terms b are ss (recursion_from_All (λ (s : Standing). s.place < length ns) ss within)
+
+append_within : (n : ℕ) (xs ys : List Standing) → AllByRecursion (λ (s : Standing). s.place < n) xs → AllByRecursion (λ (s : Standing). s.place < n) ys
+    → AllByRecursion (λ (s : Standing). s.place < n) (xs ++ ys)
+append_within n [] ys one two = two
+append_within n (x ∷ xs) ys one two = (one.0, append_within n xs ys one.1 two)
+
+from_within : (e : Entity) (first n high : ℕ) → first + n ≤ high → AllByRecursion (λ (s : Standing). s.place < high) (rows_from e first n)
+from_within e first zero high le = tt
+from_within e first (suc n) high le = (omega (arith, le), from_within e (suc first) n high (omega (arith, le)))
+
+-- each row stands at the place of a choice
+pub rows_within : (tables : List (Option TableState)) (ns : List ℕ) (terms : List QueryTerm) (b : Blocks) → AreBlocks tables ns terms b →
+    (ss : List Standing) → All (λ (s : Standing). s.place < length ns) ss → All (λ (s : Standing). s.place < length b.choices.all) (rows_of b.list.items ss)
+rows_within tables ns terms b are ss within =
+    All-from_recursion (λ (s : Standing). s.place < length b.choices.all) (rows_of b.list.items ss)
+    (go ss (recursion_from_All (λ (s : Standing). s.place < length ns) ss within))
+  where
+    go : (ss : List Standing) → AllByRecursion (λ (s : Standing). s.place < length ns) ss
+        → AllByRecursion (λ (s : Standing). s.place < length b.choices.all) (rows_of b.list.items ss)
+    go [] within = tt
+    go (s ∷ ss) within =
+        let block = block_at b.list.items s.place in
+        let is = are.each s.place within.0 in
+        append_within (length b.choices.all) (rows_in block s.entity) (rows_of b.list.items ss)
+        (from_within s.entity block.first (block.end - block.first) (length b.choices.all) (let r = is.rises in let w = is.within in omega (arith, r, w)))
+        (go ss within.1)
+
+even_at : (w : ℕ) (all : List (List (Option Id))) → IsEven w all → (k : ℕ) → k < length all → length (slice_index_or all k []) ≡ w
+even_at w [] even k lt = absurd (omega (arith, lt))
+even_at w (x ∷ all) even zero lt = even.0
+even_at w (x ∷ all) even (suc k) lt = even_at w all even.1 k (omega (arith, lt))
+
+-- each row has as many entries as each choice
+pub rows_even : (w : ℕ) (all : List (List (Option Id))) → IsEven w all → (ss : List Standing) → All (λ (s : Standing). s.place < length all) ss
+    → All (λ (r : answers.Row). length r.entries ≡ w) (map (shown all) ss)
+rows_even w all even ss within =
+    All-from_recursion (λ (r : answers.Row). length r.entries ≡ w) (map (shown all) ss) (go ss (recursion_from_All (λ (s : Standing). s.place < length all) ss within))
+  where
+    go : (ss : List Standing) → AllByRecursion (λ (s : Standing). s.place < length all) ss → AllByRecursion (λ (r : answers.Row). length r.entries ≡ w) (map (shown all) ss)
+    go [] within = tt
+    go (s ∷ ss) within = (even_at w all even s.place within.0, go ss within.1)
+
+-- what holds of the places of rows holds of those that are left
+pub rest_within : (all : List (List (Option Id))) (rows : List Standing) (r : Standing) (rest : List Standing) → rows ≡ r ∷ rest
+    → All (λ (s : Standing). s.place < length all) rows → All (λ (s : Standing). s.place < length all) rest
+rest_within all rows r rest same within =
+    let whole : All (λ (s : Standing). s.place < length all) (r ∷ rest) = subst (λ ss. All (λ (s : Standing). s.place < length all) ss) same within in
+    λ k d lt. whole (suc k) d (omega (arith, lt))

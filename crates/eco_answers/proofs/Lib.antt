@@ -1,0 +1,4 @@
+pub mod Answered
+pub mod Blocked
+pub mod Chunked
+pub mod Groups

@@ -1,0 +1,5 @@
+pub mod Answers
+pub mod Blocks
+pub mod Flat
+pub mod Groups
+pub mod Worlds

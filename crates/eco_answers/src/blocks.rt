@@ -1,0 +1,128 @@
+//! The choices of several tables, one table's behind another's.
+ghost use Rattle.std.specs.Prelude.{◌≡◌, ◌<◌, ◌++◌, length, IfOk, IsSome, IsTrue, OnOk, OnErr};
+ghost use Rattle.std.specs.List.{All};
+ghost use Rattle.eco_ids.specs.Answer as answers;
+ghost use Rattle.eco_tables.specs.Tables.{slot_of};
+ghost use Rattle.eco_answers.specs.Answers.{asks};
+ghost use Rattle.eco_answers.specs.Blocks.{AreBlocks, AreSingle, rows_in, rows_of};
+
+use crate::choices::Choices;
+use crate::product::choices_of;
+use eco_ids::Entity;
+use eco_query::Slot;
+use eco_store::{Standing, Table, Tables};
+use std::alloc::{AllocError, Global};
+
+/// The choices of one table: from the first on, up to the end.
+#[derive(Clone, Copy, Debug)]
+pub struct Block {
+    pub first: usize,
+    pub end: usize,
+}
+
+/// The choices of some tables, and which are whose.
+#[derive(Debug, Drop)]
+pub struct Blocks {
+    pub choices: Choices,
+    pub list: Vec<Block>,
+}
+
+// Puts the choices of a table behind others.
+fn add_block(
+    alloc: Global,
+    table: &Table,
+    terms: &[Slot],
+    choices: &mut Choices,
+) -> Result<Block, AllocError>
+    requires some { 0 < length terms.now }
+    requires even { choices.old.width ≡ length terms.now }
+    ensures choices { OnOk result (choices.new ≡ record choices.old {
+      all = choices.old.all ++ answers.choices table.now.ids (asks terms.now);
+    }) }
+    ensures block { IfOk result (λ b. b
+        ≡ record { first = length choices.old.all; end = length choices.new.all }) }
+{
+    let first = choices.count();
+    let own = choices_of(alloc, terms, table.type_list())?;
+    choices.append(&own)?;
+    let end = choices.count();
+    Ok(Block { first, end })
+}
+
+/// The choices of the tables in these slots, each of which has one.
+pub fn blocks_of(
+    alloc: Global,
+    tables: &Tables,
+    slots: &[usize],
+    terms: &[Slot],
+) -> Result<Blocks, AllocError>
+    requires some { 0 < length terms.now }
+    requires there { All (λ n. IsSome (slot_of tables.now n)) slots.now }
+    ensures blocks { IfOk result (λ b. AreBlocks tables.now slots.now (asks terms.now) b) }
+    ensures width { IfOk result (λ b. b.choices.width ≡ length terms.now) }
+{
+    let mut choices = Choices::none(alloc, terms.len());
+    let mut list = Vec::with_capacity(alloc, slots.len())?;
+    for slot in slots {
+        let table = tables.get(*slot).unwrap();
+        list.push(add_block(alloc, table, terms, &mut choices)?)?;
+    }
+    Ok(Blocks { choices, list })
+}
+
+/// A row for each choice of each who stands somewhere, where the place of each is that of its block.
+pub fn rows_of(
+    alloc: Global,
+    standings: Vec<Standing>,
+    blocks: &[Block],
+) -> Result<Vec<Standing>, AllocError>
+    requires { All (λ s. s.place < length blocks.now) standings.items }
+    ensures { IfOk result (λ rows. rows.items ≡ rows_of blocks.now standings.items) }
+{
+    if are_single(blocks) {
+        // Each who stands somewhere is its own one row.
+        Ok(standings)
+    } else {
+        expanded(alloc, &standings, blocks)
+    }
+}
+
+// Whether each block is the one choice of its place.
+fn are_single(blocks: &[Block]) -> bool
+    ensures { IsTrue result → AreSingle blocks.now }
+{
+    for place in 0..blocks.len() {
+        let block = blocks[place];
+        if block.first != place || block.end != place + 1 {
+            return false;
+        }
+    }
+    true
+}
+
+// A row for each choice of each who stands somewhere.
+fn expanded(
+    alloc: Global,
+    standings: &[Standing],
+    blocks: &[Block],
+) -> Result<Vec<Standing>, AllocError>
+    ensures { IfOk result (λ rows. rows.items ≡ rows_of blocks.now standings.now) }
+{
+    let mut rows = Vec::with_capacity(alloc, standings.len())?;
+    for stands in standings {
+        if let Some(block) = blocks.get(stands.place) {
+            add_rows(&mut rows, stands.entity, *block)?;
+        }
+    }
+    Ok(rows)
+}
+
+// A row for each choice of a block.
+fn add_rows(rows: &mut Vec<Standing>, entity: Entity, block: Block) -> Result<(), AllocError>
+    ensures { OnOk result (rows.new.items ≡ rows.old.items ++ rows_in block entity) }
+{
+    for place in block.first..block.end {
+        rows.push(Standing { entity, place })?;
+    }
+    Ok(())
+}

@@ -1,0 +1,154 @@
+//! Choices of entries: lists of one width, kept one behind another.
+ghost use Rattle.std.specs.Prelude.{◌≡◌, ◌<◌, ◌≤◌, ◌*◌, ◌++◌, ◌∷◌, ◌+◌, [], Some, suc, length, map, flat_map, slice_get};
+ghost use Rattle.std.specs.Prelude.{IfOk, OnOk, OnErr};
+ghost use Rattle.eco_answers.specs.Flat.{chunks, IsEven};
+
+use eco_ids::Id;
+use std::alloc::{AllocError, Global};
+use std::marker::Model;
+
+/// Choices of entries, each of the same width. A contract sees the width and the list of them.
+#[derive(Debug)]
+pub struct Choices {
+    width: usize,
+    count: usize,
+    entries: Vec<Option<Id>>,
+}
+
+// By hand, so that dropping it is one call: a derived drop is proved anew at each early return of whoever holds it.
+impl Drop for Choices {
+    fn drop(self) {
+        let Choices {
+            width: _,
+            count: _,
+            entries: _,
+        } = self;
+    }
+}
+
+impl Model for Choices {
+    ghost use Rattle.std.specs.Prelude.{length, ◌*◌, ◌≡◌};
+    ghost use Rattle.eco_answers.specs.Flat.{ChoicesState, chunks};
+
+    ghost Value = { ChoicesState };
+
+    ghost view = { λ c. record { width = c.width; all = chunks c.count c.width c.entries.items } };
+
+    ghost invariant = { λ c. length c.entries.items ≡ c.count * c.width };
+}
+
+// One of so many lists of this width.
+fn chunk(entries: &[Option<Id>], count: usize, width: usize, place: usize) -> &[Option<Id>]
+    requires there { place < count }
+    requires within { place * width + width ≤ length entries.now }
+    ensures { slice_get (chunks count width entries.now) place ≡ Some result.now }
+{
+    let start = place * width;
+    &entries[start..start + width]
+}
+
+impl Choices {
+    /// The one choice of no entries.
+    pub fn one(alloc: Global) -> Choices
+        ensures { result ≡ record { width = 0; all = [] ∷ [] } }
+    {
+        Choices {
+            width: 0,
+            count: 1,
+            entries: Vec::new(alloc),
+        }
+    }
+
+    /// No choice, each to be of this width.
+    pub fn none(alloc: Global, width: usize) -> Choices
+        ensures { result ≡ record { width = width; all = [] } }
+    {
+        Choices {
+            width,
+            count: 0,
+            entries: Vec::new(alloc),
+        }
+    }
+
+    // Does nothing, and its contract says that each choice has the width.
+    fn is_even(&self)
+        ensures { IsEven self.now.width self.now.all }
+    {
+        let _entries = &self.entries;
+    }
+
+    /// How many entries each has.
+    pub fn width(&self) -> usize
+        ensures is { result ≡ self.now.width }
+        ensures even { IsEven self.now.width self.now.all }
+    {
+        self.is_even();
+        self.width
+    }
+
+    /// How many there are.
+    #[inline]
+    pub fn count(&self) -> usize
+        ensures { result ≡ length self.now.all }
+    {
+        self.count
+    }
+
+    /// The choice at a place.
+    pub fn get(&self, place: usize) -> &[Option<Id>]
+        requires { place < length self.now.all }
+        ensures { slice_get self.now.all place ≡ Some result.now }
+    {
+        chunk(&self.entries, self.count, self.width, place)
+    }
+
+    /// The choices with each of some entries in front of each.
+    pub fn led_by(
+        &self,
+        alloc: Global,
+        entries: &[Option<Id>],
+        width: usize,
+    ) -> Result<Choices, AllocError>
+        requires { width ≡ suc self.now.width }
+        ensures { IfOk result (λ c. c ≡ record {
+          width = width;
+          all = flat_map (λ e. map (λ x. e ∷ x) self.now.all) entries.now;
+        }) }
+    {
+        self.is_even();
+        let mut led = Vec::new(alloc);
+        for entry in entries {
+            self.add_led(*entry, &mut led)?;
+        }
+        let whole = led.as_slice();
+        let count = whole.len() / width;
+        Ok(Choices {
+            width,
+            count,
+            entries: led,
+        })
+    }
+
+    // Puts an entry in front of each choice, and these behind others.
+    fn add_led(&self, entry: Option<Id>, led: &mut Vec<Option<Id>>) -> Result<(), AllocError>
+        ensures { OnOk result (led.new.items ≡ led.old.items ++ flat_map (λ x. entry ∷ x) self.now.all) }
+    {
+        for place in 0..self.count() {
+            led.push(entry)?;
+            led.extend_from_slice(self.get(place))?;
+        }
+        Ok(())
+    }
+
+    /// Puts other choices of the same width behind these. An `Err` changes nothing.
+    pub fn append(&mut self, others: &Choices) -> Result<(), AllocError>
+        requires some { 0 < self.old.width }
+        requires even { others.now.width ≡ self.old.width }
+        ensures ok { OnOk result (self.new ≡ record self.old { all = self.old.all ++ others.now.all }) }
+        ensures err { OnErr result (self.new ≡ self.old) }
+    {
+        self.entries.extend_from_slice(&others.entries)?;
+        self.count += others.count;
+        Ok(())
+    }
+}

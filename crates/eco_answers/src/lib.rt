@@ -1,0 +1,14 @@
+//! What a query answers on a store: the entries are made once for each table, and all rows of a table share them.
+#![tactic(auto)]
+
+mod asking;
+mod blocks;
+mod choices;
+mod entries;
+mod iter;
+mod product;
+mod results;
+
+pub use asking::Asking;
+pub use iter::Iter;
+pub use results::{Results, results_of};

@@ -1,0 +1,145 @@
+//! The results of a query.
+ghost use Rattle.std.specs.Prelude.{◌≡◌, ◌==◌, ◌<◌, length, map, slice_get, IfOk, IsSome, OnErr, Some};
+ghost use Rattle.std.specs.List.{All};
+ghost use Rattle.eco_ids.specs.Answer as answers;
+ghost use Rattle.eco_ids.specs.Answer.{answer, Row as Rows};
+ghost use Rattle.eco_tables.specs.Tables.{slot_of};
+ghost use Rattle.eco_answers.specs.Answers.{asked, asks};
+ghost use Rattle.eco_answers.specs.Blocks.{results_at, shown};
+ghost use Rattle.eco_answers.specs.Worlds.{world_of};
+
+use crate::asking::Asking;
+use crate::blocks::{Blocks, blocks_of, rows_of};
+use crate::choices::Choices;
+use crate::iter::Iter;
+use eco_ids::{Entity, Id};
+use eco_query::{Query, Slot};
+use eco_store::{Standing, Standings, Store};
+use std::alloc::{AllocError, Global};
+use std::marker::Model;
+
+/// The results of a query, by entity and then by entries. A contract sees the list of them. The entities of one type share
+/// their entries.
+#[derive(Debug)]
+pub struct Results {
+    // Each with the place of its entries among the choices.
+    rows: Vec<Standing>,
+    choices: Choices,
+}
+
+// By hand, so that dropping it is one call: a derived drop is proved anew at each early return of whoever holds it.
+impl Drop for Results {
+    fn drop(self) {
+        let Results {
+            rows: _,
+            choices: _,
+        } = self;
+    }
+}
+
+impl Model for Results {
+    ghost use Rattle.std.specs.Prelude.{◌<◌, List, length, map};
+    ghost use Rattle.std.specs.List.{All};
+    ghost use Rattle.eco_ids.specs.Answer as answers;
+    ghost use Rattle.eco_answers.specs.Blocks.{shown};
+
+    ghost Value = { List answers.Row };
+
+    ghost view = { λ r. map (shown r.choices.all) r.rows.items };
+
+    ghost invariant = { λ r. All (λ s. s.place < length r.choices.all) r.rows.items };
+}
+
+impl Results {
+    // No result.
+    fn none(alloc: Global, width: usize) -> Results
+        ensures { length result ≡ 0 }
+    {
+        Results {
+            rows: Vec::new(alloc),
+            choices: Choices::none(alloc, width),
+        }
+    }
+
+    /// How many there are.
+    pub fn len(&self) -> usize
+        ensures { result ≡ length self.now }
+    {
+        self.rows.len()
+    }
+
+    /// Whether there are none.
+    pub fn is_empty(&self) -> bool
+        ensures { result ≡ (length self.now == 0) }
+    {
+        self.rows.is_empty()
+    }
+
+    /// How many entries each has: as many as the query has slots.
+    pub fn width(&self) -> usize
+        ensures { All (λ (r : Rows). length r.entries ≡ result) self.now }
+    {
+        self.choices.width()
+    }
+
+    /// One of them: the entity and its entries.
+    pub fn get(&self, place: usize) -> (Entity, &[Option<Id>])
+        requires { place < length self.now }
+        ensures { slice_get self.now place ≡ Some (record { entity = result.0; entries = result.1.now }) }
+    {
+        let row = self.rows[place];
+        (row.entity, self.choices.get(row.place))
+    }
+
+    /// All of them, in their order.
+    pub fn iter(&self) -> Iter<'_>
+        ensures { result ≡ self.now }
+    {
+        Iter::of(&self.rows, &self.choices)
+    }
+}
+
+// Rows, each with the choice at its place.
+fn with_rows(rows: Vec<Standing>, made: Blocks) -> Results
+    requires { All (λ s. s.place < length made.choices.all) rows.items }
+    ensures { result ≡ map (shown made.choices.all) rows.items }
+{
+    let Blocks { choices, list: _ } = made;
+    Results { rows, choices }
+}
+
+// The results of all who stand in the tables that were found.
+fn results_in(alloc: Global, found: Standings<'_>, terms: &[Slot]) -> Result<Results, AllocError>
+    requires some { 0 < length terms.now }
+    requires there { All (λ n. IsSome (slot_of found.tables.now n)) found.slots.items }
+    requires places { All (λ s. s.place < length found.slots.items) found.list.items }
+    ensures { IfOk result (λ r. r
+        ≡ results_at found.entry.tables.now found.entry.slots.items (asks terms.now) found.entry.list.items) }
+{
+    let made = blocks_of(alloc, found.tables, &found.slots, terms)?;
+    let Standings {
+        tables: _,
+        slots: _,
+        list,
+    } = found;
+    let rows = rows_of(alloc, list, &made.list)?;
+    Ok(with_rows(rows, made))
+}
+
+/// The results of the query on a store, by entity and then by entries: each living entity for which all slots hold, once
+/// for each choice of an entry for each slot.
+///
+/// The choices are made once for each table. Its time grows with the results, with the tables that the shortest group of
+/// the query's patterns finds, and with what sorting takes where the rows that are found do not ascend as they stand. An `Err`
+/// comes where memory is refused, and never where there is no result.
+pub fn results_of(alloc: Global, store: &Store, query: &Query) -> Result<Results, AllocError>
+    ensures all { IfOk result (λ r. r ≡ answer (world_of store.now.entities) (asked query.now)) }
+    ensures some { OnErr result (0 < length (answer (world_of store.now.entities) (asked query.now))) }
+{
+    query.is_positive();
+    let found = store.standing_by(&Asking { query })?;
+    if found.list.is_empty() {
+        return Ok(Results::none(alloc, query.slots().len()));
+    }
+    results_in(alloc, found, query.slots())
+}

@@ -1,5 +1,5 @@
 -- Where memory is never wanting, each step has one answer and leads to one world.
-use Rattle.std.proofs.Common.{◌≡◌, ℕ, Bool, true, false, List, [], ◌∷◌, ◌++◌, Option, Some, Result, Ok, Err, refl, ap, ◌∙◌, sym, subst, IsFalse, MatchResult}
+use Rattle.std.proofs.Common.{◌≡◌, ◌≢◌, ℕ, Bool, true, false, true≢false, inl, inr, List, [], ◌∷◌, ◌++◌, Option, Some, Result, Ok, Err, refl, ap, ◌∙◌, sym, subst, IsFalse, MatchResult}
 use Rattle.std.proofs.Common.{MatchBool}
 use Rattle.eco_ids.specs.declared.entity.Entity.{Entity}
 use Rattle.eco_ids.specs.declared.id.Id.{Id}
@@ -13,11 +13,12 @@ use Rattle.eco_ids.specs.Names.{lookup}
 use Rattle.eco_ids.specs.Outcome.{is_out_of_memory, Refuses, Answers, Meets}
 use Rattle.eco_ids.specs.Step.{Adds, Sets, Removes, Clears, RemovesAll, Renames}
 use Rattle.eco_ids.specs.World.{WorldState, is_alive}
-use Rattle.eco_query.specs.Grammar.{SpellsId, SpellsRef}
-use Rattle.eco_query.specs.Readings.{ReadsOnce, entity_at, id_of}
-use Rattle.eco_script.specs.References.{ReadsEntity, ReadsId}
-use Rattle.eco_script.specs.Replies.{Reply, shown, replied, Calls, On, OnEntity, OnId, Replies}
-use Rattle.eco_script.specs.Steps as step
+use Rattle.eco_query.specs.Grammar.{SpellsId, SpellsQuery, SpellsRef}
+use Rattle.eco_query.specs.Queries.{QuerySlot}
+use Rattle.eco_query.specs.Readings.{Reads, ReadsInMemory, ReadsOnce, entity_at, id_of, query_of}
+use Rattle.eco_script.specs.References.{ReadsEntity, ReadsId, ReadsQuery}
+use Rattle.eco_script.specs.Replies.{Reply, shown, replied, Calls, On, OnEntity, OnId, OnQuery, Replies}
+use Rattle.eco_steps.specs.Steps as step
 use Rattle.eco_script.specs.Text.{DoesInMemory, Text, TextInMemory, step_lines}
 
 -- one answer and one end at most, where it is not that memory was wanting
@@ -44,19 +45,36 @@ calls_once Call reply one r q new other f g (x, c, is) (y, d, at) =
     (replied_plain reply y ∙ ap is_out_of_memory (sym at) ∙ g) c d in
     (is ∙ ap (replied reply) same ∙ sym at, end)
 
+-- where a reading was refused for want of memory, so was the step
+wanted_none : {A : Type 0} (w : WorldState) (Goes : A → Result Reply Refusal → WorldState → Type 0) (r : Result Reply Refusal) (new : WorldState)
+    → IsFalse (is_out_of_memory r) → (n : Result A Refusal) → MatchResult n (λ x. Goes x r new) (λ why. Refuses why w r new) → n ≡ Err OutOfMemory → ⊥
+wanted_none w Goes r new f n c none =
+    let (a, b) = subst (λ k. MatchResult k (λ x. Goes x r new) (λ why. Refuses why w r new)) none c in
+    true≢false (sym (ap is_out_of_memory a) ∙ f)
+
+-- a text that is read in one way at most, where memory is never wanting for it
 on_once : {A : Type 0} (Reads : Result A Refusal → Type 0) (w : WorldState) (Goes : A → Result Reply Refusal → WorldState → Type 0)
-    → ((n m : Result A Refusal) → Reads n → Reads m → n ≡ m) → ((x : A) → Once (Goes x)) → Once (On Reads w Goes)
+    → ((n m : Result A Refusal) → n ≢ Err OutOfMemory → m ≢ Err OutOfMemory → Reads n → Reads m → n ≡ m)
+    → ((x : A) → Once (Goes x)) → Once (On Reads w Goes)
 on_once {A} Reads w Goes one goes r q new other f g (n, p, c) (m, h, d) =
-    same n c (subst (λ k. MatchResult k (λ x. Goes x q other) (λ why. Refuses why w q other)) (sym (one n m p h)) d) where
+    same n c (subst (λ k. MatchResult k (λ x. Goes x q other) (λ why. Refuses why w q other))
+    (sym (one n m (wanted_none w Goes r new f n c) (wanted_none w Goes q other g m d) p h)) d) where
       same : (n : Result A Refusal) → MatchResult n (λ x. Goes x r new) (λ why. Refuses why w r new)
           → MatchResult n (λ x. Goes x q other) (λ why. Refuses why w q other) → (r ≡ q) × (new ≡ other)
       same (Ok x) c d = goes x r q new other f g c d
       same (Err why) (a, b) (c, d) = (a ∙ sym c, b ∙ sym d)
 
+-- a reading that isn't refused for want of memory is one of the text alone
+in_memory : {X T : Type 0} {Spells : List ℕ → X → Type 0} {meaning : X → Result T Refusal} {text : List ℕ} (n : Result T Refusal) → n ≢ Err OutOfMemory
+    → ReadsInMemory Spells meaning text n → Reads Spells meaning text n
+in_memory n some (inl read) = read
+in_memory n some (inr (x, spelled, is, none)) = absurd (some none)
+
 -- the laws of what the steps stand on
 pub record Laws : Type 0 where
   pub refs : (entity_named : List ℕ → Option Entity) → ReadsOnce SpellsRef (entity_at entity_named)
   pub ids : (entity_named : List ℕ → Option Entity) → ReadsOnce SpellsId (id_of entity_named)
+  pub queries : (entity_named : List ℕ → Option Entity) → ReadsOnce SpellsQuery (query_of entity_named)
   pub create : (name : Option (List ℕ)) → HasOneEnd (λ w. Creates w name)
   pub component : (name : Option (List ℕ)) (fields : ℕ) → HasOneEnd (λ w. MakesComponent w name fields)
   pub add : (e : Entity) (i : Id) → HasOneEnd (λ w. Adds w e i)
@@ -71,11 +89,16 @@ pub record Laws : Type 0 where
 module _ (l : Laws) (w : WorldState) where
   on_entity : (text : List ℕ) (Goes : Entity → Result Reply Refusal → WorldState → Type 0) → ((x : Entity) → Once (Goes x)) → Once (OnEntity w text Goes)
   unfolding ReadsEntity
-  on_entity text Goes goes = on_once (ReadsEntity w text) w Goes (l.refs (lookup w) text) goes
+  on_entity text Goes goes = on_once (ReadsEntity w text) w Goes (λ n m _ _. l.refs (lookup w) text n m) goes
 
   on_id : (text : List ℕ) (Goes : Id → Result Reply Refusal → WorldState → Type 0) → ((x : Id) → Once (Goes x)) → Once (OnId w text Goes)
   unfolding ReadsId
-  on_id text Goes goes = on_once (ReadsId w text) w Goes (l.ids (lookup w) text) goes
+  on_id text Goes goes = on_once (ReadsId w text) w Goes (λ n m _ _. l.ids (lookup w) text n m) goes
+
+  on_query : (text : List ℕ) (Goes : List QuerySlot → Result Reply Refusal → WorldState → Type 0) → ((q : List QuerySlot) → Once (Goes q))
+      → Once (OnQuery w text Goes)
+  unfolding ReadsQuery
+  on_query text Goes goes = on_once (ReadsQuery w text) w Goes (λ n m p h a b. l.queries (lookup w) text n m (in_memory n p a) (in_memory m h b)) goes
 
   meets : {A : Type 0} (Step : Result A Refusal → WorldState → Type 0) (may : Bool) (reply : A → Reply)
       → ((r q : Result A Refusal) (new other : WorldState) → Step r new → Step q other → (r ≡ q) × (new ≡ other)) → Once (Calls (Meets Step may w) reply)
@@ -103,7 +126,7 @@ module _ (l : Laws) (w : WorldState) where
   replies_once (step.get e i) = on_entity e _ (λ x. on_id i _ (λ y. answered _))
   replies_once (step.show e) = on_entity e _ (λ x. show_once x (is_alive w x))
   replies_once step.list = meets_once _ _ w (answers_once _ w)
-  replies_once (step.query q) = on_id q _ (λ y. meets_once _ _ w (answers_once _ w))
+  replies_once (step.query text) = on_query text _ (λ q. meets_once _ _ w (answers_once _ w))
 
   does_once : (s : step.Step) (t u : List ℕ) (m n : WorldState) → DoesInMemory w s t m → DoesInMemory w s u n → (t ≡ u) × (m ≡ n)
   does_once s t u m n (r, p, f, e) (q, h, g, k) =

@@ -1,12 +1,12 @@
 -- Each step has some answer on every world: what it can't be done for, what it is done with, or that memory was wanting.
-use Rattle.std.proofs.Common.{◌≡◌, ℕ, Bool, true, false, not, ◌&&◌, List, [], ◌∷◌, map, Option, Some, None, Result, Ok, Err, is_some, refl, MatchBool, arith}
+use Rattle.std.proofs.Common.{◌≡◌, ℕ, Bool, true, false, not, ◌&&◌, List, [], ◌∷◌, map, Option, Some, None, Result, Ok, Err, is_some, inl, refl, MatchBool, arith}
 use Rattle.std.specs.List.{list_all}
 use Rattle.eco_ids.specs.declared.entity.Entity.{Entity}
 use Rattle.eco_ids.specs.declared.id.Id.{Id}
 use Rattle.eco_ids.specs.declared.refusal.Refusal.{Refusal}
 use Rattle.eco_ids.specs.declared.refusal.Refusal.TheVariants.{NotAlive, DeadId, Reserved, NotData, TooWide, BadName, NameTaken, NoMoreIds, OutOfMemory}
 use Rattle.eco_ids.specs.Answer.{answer}
-use Rattle.eco_world.specs.Queries.{term_of}
+use Rattle.eco_answers.specs.Answers.{asked}
 use Rattle.eco_ids.specs.Births.{Creates, may_create, MakesComponent, may_make_component, unfit_name}
 use Rattle.eco_ids.specs.Delete.{DeletesOne, may_delete, DeletesWith, may_delete_with}
 use Rattle.eco_ids.specs.Indices.{next_entity}
@@ -20,11 +20,12 @@ use Rattle.eco_ids.specs.Builtin.{is_builtin, is_builtins}
 use Rattle.eco_ids.specs.Data.{arity, fits}
 use Rattle.eco_ids.specs.declared.value.Value.{Value}
 use Rattle.eco_ids.specs.World.{WorldState, has, names_living, is_alive, living, entities}
-use Rattle.eco_query.specs.Grammar.{SpellsId, SpellsRef}
-use Rattle.eco_query.specs.Readings.{ReadsAll, entity_at, id_of}
-use Rattle.eco_script.specs.References.{ReadsEntity, ReadsId}
-use Rattle.eco_script.specs.Replies.{Reply, truth, got, shown, listed, found, replied, Calls, On, OnEntity, OnId, Replies}
-use Rattle.eco_script.specs.Steps as step
+use Rattle.eco_query.specs.Grammar.{SpellsId, SpellsQuery, SpellsRef}
+use Rattle.eco_query.specs.Queries.{QuerySlot}
+use Rattle.eco_query.specs.Readings.{ReadsAll, entity_at, id_of, query_of}
+use Rattle.eco_script.specs.References.{ReadsEntity, ReadsId, ReadsQuery}
+use Rattle.eco_script.specs.Replies.{Reply, truth, got, shown, listed, found, replied, Calls, On, OnEntity, OnId, OnQuery, Replies}
+use Rattle.eco_steps.specs.Steps as step
 use Rattle.eco_script.specs.Text.{Does, step_lines}
 use Rattle.eco_script.specs.Values.{shown_value}
 use Rattle.eco_ids.specs.Names.{lookup, is_proper, is_taken, is_same_name}
@@ -151,6 +152,7 @@ on_ends Reads w Goes (Err why, is) goes = (Err why, w, (Err why, is, (refl, refl
 pub record TextsRead : Type 0 where
   pub refs : (entity_named : List ℕ → Option Entity) → ReadsAll SpellsRef (entity_at entity_named)
   pub ids : (entity_named : List ℕ → Option Entity) → ReadsAll SpellsId (id_of entity_named)
+  pub queries : (entity_named : List ℕ → Option Entity) → ReadsAll SpellsQuery (query_of entity_named)
 
 module _ (texts : TextsRead) where
   reads_entity : (w : WorldState) (text : List ℕ) → (n : Result Entity Refusal) × ReadsEntity w text n
@@ -161,6 +163,10 @@ module _ (texts : TextsRead) where
   unfolding ReadsId
   reads_id w text = texts.ids (lookup w) text
 
+  reads_query : (w : WorldState) (text : List ℕ) → (n : Result (List QuerySlot) Refusal) × ReadsQuery w text n
+  unfolding ReadsQuery
+  reads_query w text = let (n, is) = texts.queries (lookup w) text in (n, inl is)
+
   on_entity : (w : WorldState) (text : List ℕ) (Goes : Entity → Result Reply Refusal → WorldState → Type 0)
       → ((x : Entity) → Ends (Goes x)) → Ends (OnEntity w text Goes)
   on_entity w text Goes goes = on_ends (ReadsEntity w text) w Goes (reads_entity w text) goes
@@ -168,6 +174,10 @@ module _ (texts : TextsRead) where
   on_id : (w : WorldState) (text : List ℕ) (Goes : Id → Result Reply Refusal → WorldState → Type 0)
       → ((x : Id) → Ends (Goes x)) → Ends (OnId w text Goes)
   on_id w text Goes goes = on_ends (ReadsId w text) w Goes (reads_id w text) goes
+
+  on_query : (w : WorldState) (text : List ℕ) (Goes : List QuerySlot → Result Reply Refusal → WorldState → Type 0)
+      → ((q : List QuerySlot) → Ends (Goes q)) → Ends (OnQuery w text Goes)
+  on_query w text Goes goes = on_ends (ReadsQuery w text) w Goes (reads_query w text) goes
 
   replies_end : (w : WorldState) (s : step.Step) → Ends (Replies w s)
   replies_end w (step.create name) = calls_end _ _ (create_ends w name)
@@ -184,7 +194,7 @@ module _ (texts : TextsRead) where
   replies_end w (step.get e i) = on_entity w e _ (λ x. on_id w i _ (λ y. (Ok (got (shown_value w x y)), w, (refl, refl))))
   replies_end w (step.show e) = on_entity w e _ (λ x. show_ends w x (is_alive w x))
   replies_end w step.list = (Ok (listed (map (λ p. p.0) (living w))), w, (refl, refl))
-  replies_end w (step.query q) = on_id w q _ (λ y. (Ok (found (answer w (term_of y))), w, (refl, refl)))
+  replies_end w (step.query text) = on_query w text _ (λ q. (Ok (found (answer w (asked q))), w, (refl, refl)))
 
   -- some lines, and some world after them
   pub some_step : (s : step.Step) (w : WorldState) → (t : List ℕ) × (e : WorldState) × Does w s t e

@@ -1,6 +1,4 @@
-pub mod Decodes
 pub mod Determined
 pub mod Devices
 pub mod Ends
 pub mod Runs
-pub mod Values

@@ -5,10 +5,12 @@ use Rattle.std.specs.Io.KnownBytes.{Appends, Consumes, IsAtEnd, Keeps}
 use Rattle.eco_script.specs.Run.{IsTextOf, WasNotRead}
 use Rattle.eco_script.proofs.Devices.{Appends-more}
 use Rattle.std.specs.Prelude.{◌⊎◌}
-use Rattle.eco_script.specs.Script.{Script, IsScript}
+use Rattle.serde_json.specs.Data.{Data}
+use Rattle.serde_json.specs.Read.{read}
+use Rattle.eco_steps.specs.Script.{Script, IsScript, IsScriptData}
 use Rattle.eco_ids.specs.World.{WorldState, first_world}
 use Rattle.eco_script.specs.Beginning.{IsBeginning}
-use Rattle.eco_script.specs.Steps.{Step}
+use Rattle.eco_steps.specs.Steps.{Step}
 use Rattle.eco_script.specs.Text.{Does, Text}
 use Rattle.eco_script.proofs.Ends.{TextsRead, some_step}
 
@@ -107,6 +109,10 @@ pub stopped_bytes : (bytes : List ℕ) (script : Script) (w : WorldState) (ss : 
     → Keeps a b ⊎ ((part : List ℕ) × (text : List ℕ) × IsTextOf bytes text × IsBeginning part text × Appends a b part)
 stopped_bytes bytes script w ss a b is at_start are (part, text, e, h, begin, k) =
     inr (part, text, text_of bytes script w e ss text is at_start are h, begin, k)
+
+-- bytes whose value is no script are none
+pub no_script_bytes : (bytes : List ℕ) (d : Data) → read bytes ≡ Some d → ((s : Script) → ¬ IsScriptData d s) → (s : Script) → ¬ IsScript bytes s
+no_script_bytes bytes d at none s (utf8, v, is, of) = let q : v ≡ d = cc in none s (rw q at of)
 
 -- what is said of the bytes that were read to the end is said of those that the reader had
 pub not_read_to_end : (left after : Option (List ℕ)) (bytes : List ℕ) (a b : Option (List ℕ)) → Consumes left after bytes → IsAtEnd after

@@ -1,7 +1,6 @@
 -- The program's replies, as those of the definitions.
-use Rattle.std.specs.Prelude.{map, option_map, Result}
+use Rattle.std.specs.Prelude.{option_map, Result}
 use Rattle.eco_ids.specs.declared.refusal.Refusal.{Refusal}
-use Rattle.eco_world.specs.Queries.{result_of}
 use Rattle.eco_script.specs.ShownViews.{shown_view}
 use Rattle.eco_script.specs.Replies as spec
 use Rattle.eco_script.specs.declared.reply.Reply.{Reply}
@@ -15,7 +14,7 @@ reply_view (Truth b) = spec.truth b
 reply_view (Got value) = spec.got (option_map shown_view value)
 reply_view (Shown e) = spec.shown e
 reply_view (Listed es) = spec.listed es.items
-reply_view (Found rows) = spec.found (map result_of rows.items)
+reply_view (Found results) = spec.found results
 
 -- the answer, with its reply so
 abbrev pub answer_view : Result Reply Refusal → Result spec.Reply Refusal

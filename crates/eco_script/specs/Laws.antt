@@ -1,13 +1,8 @@
--- The laws of scripts and of their texts, as the contracts of `src/laws.rt` cite them.
+-- The laws of the texts of scripts, as the contracts of `src/laws.rt` cite them.
 use Rattle.std.specs.Prelude.{◌≡◌, ℕ, List}
 use Rattle.eco_ids.specs.World.{WorldState}
-use Rattle.eco_script.specs.Script.{Script, IsScript}
-use Rattle.eco_script.specs.Steps.{Step}
+use Rattle.eco_steps.specs.Steps.{Step}
 use Rattle.eco_script.specs.Text.{Text, TextInMemory}
-
--- bytes are one script at most
-abbrev pub AreOneScript : Type 0
-AreOneScript = (bytes : List ℕ) (a b : Script) → IsScript bytes a → IsScript bytes b → a ≡ b
 
 -- where memory is never wanting, steps have one text at most, and lead to one world
 abbrev pub HaveOneText : Type 0

@@ -1,15 +1,11 @@
 pub mod Answers
 pub mod Beginning
-pub mod Decode
 pub mod Laws
 pub mod Lines
 pub mod References
 pub mod Replies
 pub mod Run
-pub mod Script
 pub mod ShownViews
 pub mod Statuses
-pub mod Steps
 pub mod Text
 pub mod Values
-pub mod Views

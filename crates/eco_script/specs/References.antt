@@ -5,8 +5,9 @@ use Rattle.eco_ids.specs.declared.id.Id.{Id}
 use Rattle.eco_ids.specs.declared.refusal.Refusal.{Refusal}
 use Rattle.eco_ids.specs.Names.{lookup}
 use Rattle.eco_ids.specs.World.{WorldState}
-use Rattle.eco_query.specs.Grammar.{SpellsId, SpellsRef}
-use Rattle.eco_query.specs.Readings.{Reads, entity_at, id_of}
+use Rattle.eco_query.specs.Grammar.{SpellsId, SpellsQuery, SpellsRef}
+use Rattle.eco_query.specs.Queries.{QuerySlot}
+use Rattle.eco_query.specs.Readings.{Reads, ReadsInMemory, entity_at, id_of, query_of}
 
 -- the text, a name or a handle with white space round it, names this entity, or is refused
 unfoldable pub ReadsEntity : WorldState → List ℕ → Result Entity Refusal → Type 0
@@ -15,3 +16,7 @@ ReadsEntity w text = Reads SpellsRef (entity_at (lookup w)) text
 -- the text, an entity or a pair of two with white space round it, names this id, or is refused
 unfoldable pub ReadsId : WorldState → List ℕ → Result Id Refusal → Type 0
 ReadsId w text = Reads SpellsId (id_of (lookup w)) text
+
+-- the text, slots joined by commas, spells this query, or is refused; memory may be wanting for what would be read else
+unfoldable pub ReadsQuery : WorldState → List ℕ → Result (List QuerySlot) Refusal → Type 0
+ReadsQuery w text = ReadsInMemory SpellsQuery (query_of (lookup w)) text

@@ -10,9 +10,11 @@ use Rattle.eco_ids.specs.Delete.{DeletesOne, may_delete, DeletesWith, may_delete
 use Rattle.eco_ids.specs.Outcome.{Refuses, Answers, Meets}
 use Rattle.eco_ids.specs.Step.{Adds, may_add, Sets, may_set, Removes, may_remove, Clears, may_clear, RemovesAll, may_remove_all, Renames, may_rename}
 use Rattle.eco_ids.specs.World.{WorldState, has, is_alive, living}
-use Rattle.eco_world.specs.Queries.{may_query, term_of}
-use Rattle.eco_script.specs.References.{ReadsEntity, ReadsId}
-use Rattle.eco_script.specs.Steps as step
+use Rattle.eco_query.specs.Queries.{QuerySlot}
+use Rattle.eco_answers.specs.Answers.{asked}
+use Rattle.eco_world.specs.Queries.{may_query}
+use Rattle.eco_script.specs.References.{ReadsEntity, ReadsId, ReadsQuery}
+use Rattle.eco_steps.specs.Steps as step
 use Rattle.eco_script.specs.Values.{Shown, shown_value}
 
 -- what a step answers where it is done: that it is done, who was made, whether it is so, a value or none, one entity, all
@@ -48,6 +50,10 @@ OnEntity w text = On (ReadsEntity w text) w
 abbrev pub OnId : WorldState → List ℕ → (Id → Result Reply Refusal → WorldState → Type 0) → Result Reply Refusal → WorldState → Type 0
 OnId w text = On (ReadsId w text) w
 
+-- the text is a query
+abbrev pub OnQuery : WorldState → List ℕ → (List QuerySlot → Result Reply Refusal → WorldState → Type 0) → Result Reply Refusal → WorldState → Type 0
+OnQuery w text = On (ReadsQuery w text) w
+
 -- what the step answers on a world, and the world after it. Texts are read from left to right, and the first that is refused
 -- is the step's refusal. A listing may find no memory, and so may a query that has a result.
 abbrev pub Replies : WorldState → step.Step → Result Reply Refusal → WorldState → Type 0
@@ -67,4 +73,4 @@ Replies w (step.get e i) = OnEntity w e (λ x. OnId w i (λ y. Answers (got (sho
 Replies w (step.show e) =
     OnEntity w e (λ x r new. MatchBool (is_alive w x) (Answers (shown x) w r new) (Refuses NotAlive w r new))
 Replies w step.list = Meets (Answers (listed (map (λ p. p.0) (living w))) w) true w
-Replies w (step.query q) = OnId w q (λ y. Meets (Answers (found (answer w (term_of y))) w) (may_query w (term_of y)) w)
+Replies w (step.query text) = OnQuery w text (λ q. Meets (Answers (found (answer w (asked q))) w) (may_query w (asked q)) w)

@@ -3,7 +3,7 @@ use Rattle.std.specs.Prelude.{◌⊎◌, ℕ, List, Option, Some, None, ⊤}
 use Rattle.std.specs.Io.KnownBytes.{Appends, Keeps}
 use Rattle.eco_ids.specs.World.{WorldState, first_world}
 use Rattle.eco_script.specs.Beginning.{IsBeginning}
-use Rattle.eco_script.specs.Script.{Script, IsScript}
+use Rattle.eco_steps.specs.Script.{Script, IsScript}
 use Rattle.eco_script.specs.Text.{Text}
 
 -- the bytes are a script, and the text is that of a run of it on a new world

@@ -11,7 +11,7 @@ use Rattle.eco_ids.specs.Text.{entity_text}
 use Rattle.eco_ids.specs.World.{WorldState, held_by}
 use Rattle.eco_script.specs.Lines.{entity_line, row_line, shown_text}
 use Rattle.eco_script.specs.Replies.{Reply, done, made, truth, got, shown, listed, found, Replies}
-use Rattle.eco_script.specs.Steps.{Step}
+use Rattle.eco_steps.specs.Steps.{Step}
 use Rattle.eco_script.specs.Values.{Shown, shown_value}
 
 -- the line of an entity, with what the world has of it

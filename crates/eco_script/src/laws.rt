@@ -1,10 +1,5 @@
-//! Laws of scripts and of their texts: each function does nothing, and its contract is the law.
-ghost use Rattle.eco_script.specs.Laws.{AreOneScript, HaveOneText, MayBeText};
-
-/// Bytes are one script at most.
-pub fn bytes_are_one_script()
-    ensures { AreOneScript }
-{}
+//! The laws of the texts that scripts have: a function that does nothing, and its contract is the laws.
+ghost use Rattle.eco_script.specs.Laws.{HaveOneText, MayBeText};
 
 /// The text of a run is determined, but for want of memory.
 pub fn runs_have_one_text()

@@ -1,8 +1,6 @@
 //! Scripts: read whole, run step by step on a world of their own, with the lines of each step written before the next.
 #![tactic(auto)]
 
-mod arguments;
-mod arity;
 pub mod counted;
 pub mod device;
 mod fault;
@@ -11,10 +9,8 @@ mod lines;
 mod perform;
 mod reply;
 pub mod run;
-mod script;
 mod shown_value;
 pub mod status;
-mod step;
 mod transfer;
 
 pub use counted::Counted;

@@ -2,17 +2,16 @@
 
 ghost use Rattle.std.specs.Prelude.{option_map};
 ghost use Rattle.eco_script.specs.Answers.{answer_view};
-ghost use Rattle.eco_script.specs.References.{ReadsEntity, ReadsId};
+ghost use Rattle.eco_script.specs.References.{ReadsEntity, ReadsId, ReadsQuery};
 ghost use Rattle.eco_script.specs.Replies.{Replies};
-ghost use Rattle.eco_script.specs.Steps as steps;
-ghost use Rattle.eco_script.specs.Views.{step_view};
+ghost use Rattle.eco_steps.specs.Steps as steps;
+ghost use Rattle.eco_steps.specs.Views.{step_view};
 
-use crate::arity::Arity;
 use crate::reply::Reply;
 use crate::shown_value::ShownValue;
-use crate::step::Step;
 use eco_ids::{Entity, Id, Refusal, Value};
 use eco_query::read_ref;
+use eco_steps::{Arity, Step};
 use eco_world::{Query, World};
 
 // The entity that a text names.
@@ -29,6 +28,14 @@ fn read_id(text: &str, world: &World) -> Result<Id, Refusal>
     ensures { ReadsId world.now text.now result }
 {
     eco_query::read_id(text, world)
+}
+
+// The query that a text spells.
+#[tactic(auto, unfolding(crate::specs::References::ReadsQuery))]
+fn read_query(text: &str, world: &World) -> Result<Query, Refusal>
+    ensures { ReadsQuery world.now text.now result }
+{
+    world.read_query(text)
 }
 
 fn create(world: &mut World, name: Option<&str>) -> Result<Reply, Refusal>
@@ -148,8 +155,8 @@ fn list(world: &World) -> Result<Reply, Refusal>
 fn query(world: &World, text: &str) -> Result<Reply, Refusal>
     ensures { Replies world.now (steps.query text.now) (answer_view result) world.now }
 {
-    let query = Query::new(read_id(text, world)?);
-    Ok(Reply::Found(world.query(&query)?))
+    let query = read_query(text, world)?;
+    Ok(Reply::Found(world.results(&query)?))
 }
 
 /// Runs a step on a world.

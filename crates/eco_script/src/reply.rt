@@ -1,15 +1,14 @@
 //! What the steps of a script answer.
 
-ghost use Rattle.std.specs.Prelude.{◌≡◌, ◌++◌, OnOk, string_bytes, flat_map, map};
+ghost use Rattle.std.specs.Prelude.{◌≡◌, ◌++◌, OnOk, string_bytes, flat_map};
 ghost use Rattle.eco_script.specs.Answers.{answer_view, reply_view};
-ghost use Rattle.eco_world.specs.Queries.{result_of};
 ghost use Rattle.eco_script.specs.Lines.{row_line};
 ghost use Rattle.eco_script.specs.Text.{line_of, reply_lines, step_lines};
 
 use crate::lines::{EntityLine, RowLine};
 use crate::shown_value::ShownValue;
 use eco_ids::{Entity, Refusal};
-use eco_world::{Row, World};
+use eco_world::{Results, World};
 use std::alloc::AllocError;
 
 /// What a step answers where it is done.
@@ -28,7 +27,7 @@ pub enum Reply {
     /// All living entities, ascending.
     Listed(Vec<Entity>),
     /// The results of a query, ascending.
-    Found(Vec<Row>),
+    Found(Results),
 }
 
 // Adds the lines of entities.
@@ -51,15 +50,13 @@ fn push_entity_lines(
 }
 
 // Adds the lines of results.
-fn push_row_lines(text: &mut String, rows: &[Row]) -> Result<(), AllocError>
+fn push_row_lines(text: &mut String, results: &Results) -> Result<(), AllocError>
     ensures { OnOk result (string_bytes text.new
-        ≡ string_bytes text.old ++ flat_map (λ r. row_line r.entity r.entries) (map result_of rows.now)) }
+        ≡ string_bytes text.old ++ flat_map (λ r. row_line r.entity r.entries) results.now) }
 {
-    for row in rows {
-        let line = RowLine {
-            entity: row.entity,
-            entries: row.entries.as_slice(),
-        };
+    for place in 0..results.len() {
+        let (entity, entries) = results.get(place);
+        let line = RowLine { entity, entries };
         write!(text, "{line}")?;
     }
     Ok(())
@@ -89,10 +86,10 @@ impl Reply {
                 write!(text, "ok {count}\n")?;
                 push_entity_lines(text, world, entities.as_slice())
             }
-            Reply::Found(rows) => {
-                let count = rows.len();
+            Reply::Found(results) => {
+                let count = results.len();
                 write!(text, "ok {count}\n")?;
-                push_row_lines(text, rows.as_slice())
+                push_row_lines(text, results)
             }
         }
     }

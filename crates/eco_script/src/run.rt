@@ -6,14 +6,13 @@ ghost use Rattle.eco_ids.specs.World.{WorldState};
 ghost use Rattle.eco_script.specs.Beginning.{IsBeginning};
 ghost use Rattle.eco_script.specs.Run.{Ran, WasNotRead, WasStopped};
 ghost use Rattle.eco_script.specs.Text.{Does, Text};
-ghost use Rattle.eco_script.specs.Views.{step_view};
+ghost use Rattle.eco_steps.specs.Views.{step_view};
 
 use crate::device::{DeviceFailed, ScriptReader, ScriptWriter};
 use crate::fault::Fault;
-use crate::script::Script;
 use crate::status::Status;
-use crate::step::Step;
 use crate::{perform, reply, transfer};
+use eco_steps::{ReadError, Script, Step};
 use eco_world::World;
 use serde_json::Value;
 use std::alloc::{AllocError, Global};
@@ -93,7 +92,11 @@ fn run_bytes<W: ScriptWriter>(alloc: Global, bytes: &[u8], writer: &mut W) -> Re
         Err(e) if e.is_memory() => return Err(Fault::Memory),
         Err(_) => return Err(Fault::NotRead),
     };
-    let script = Script::read(alloc, &value)?;
+    let script = match Script::read(alloc, &value) {
+        Ok(script) => script,
+        Err(ReadError::NotAScript) => return Err(Fault::NotRead),
+        Err(ReadError::OutOfMemory) => return Err(Fault::Memory),
+    };
     let Ok(mut world) = World::new(alloc, script.limit) else {
         return Err(Fault::Memory);
     };

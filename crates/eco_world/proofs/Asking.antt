@@ -16,7 +16,7 @@ use Rattle.eco_ids.proofs.Passing.{passes_some, some_passes}
 use Rattle.eco_ids.proofs.Keeps.{entry_of, has_in}
 use Rattle.eco_traits.specs.Target.{type_of_record}
 use Rattle.eco_query.specs.Queries.{exactly}
-use Rattle.eco_world.proofs.Answering.{exactly_held}
+use Rattle.eco_world.proofs.Holders.{exactly_held}
 use Rattle.eco_world.proofs.Held.{Held, keys}
 
 -- ---- a pair of a relationship

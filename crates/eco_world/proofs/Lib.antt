@@ -1,10 +1,10 @@
-pub mod Answering
 pub mod Asking
 pub mod Changes
 pub mod Deleting
 pub mod Extending
 pub mod Fitting
 pub mod Held
+pub mod Holders
 pub mod Layouts
 pub mod Removals
 pub mod Starting

@@ -25,7 +25,7 @@ use Rattle.eco_store.specs.Store.{record_ids}
 use Rattle.eco_store.specs.declared.type_change.TypeChange.{TypeChange}
 use Rattle.eco_cleanup.specs.Plans.{TakesOutOfAll}
 use Rattle.eco_world.specs.Worlds.{world_of}
-use Rattle.eco_world.proofs.Answering.{matches_exactly}
+use Rattle.eco_world.proofs.Holders.{matches_exactly}
 use Rattle.eco_world.proofs.Changes.{sorted_at}
 
 -- ---- the built-ins

@@ -6,13 +6,11 @@ use Rattle.std.proofs.lemmas.Option.{none-some, same_Some, slice_get_within}
 use Rattle.eco_ids.specs.World.{WorldState, entities, is_alive, living, record_of}
 use Rattle.eco_ids.specs.declared.entity.Entity.{Entity}
 use Rattle.eco_ids.specs.declared.id.Id.{Id}
-use Rattle.eco_ids.specs.declared.pattern.Pattern.{Pattern}
 use Rattle.eco_ids.specs.Layout.{ListedTable, is_distinct}
-use Rattle.eco_ids.specs.Matching.{pattern_matches}
 use Rattle.eco_ids.specs.Order.{entity_cmp, has_item}
 use Rattle.eco_tables.specs.Table.{TableState, Row, HasIds, entities_of}
 use Rattle.eco_tables.specs.Tables.{no_row, no_table, slot_of, table_in}
-use Rattle.eco_archetypes.specs.Archetypes.{is_found, type_at, row_at}
+use Rattle.eco_archetypes.specs.Archetypes.{is_found_by, type_at, row_at}
 use Rattle.eco_store.specs.Store.{IsShown, Stands}
 use Rattle.eco_ids.proofs.Ascending.{both, first, second}
 use Rattle.eco_ids.proofs.Facts.{or_parts, or_right}
@@ -20,7 +18,7 @@ use Rattle.eco_ids.proofs.Overlaps.{entity_eq_is}
 use Rattle.eco_ids.specs.World.{Record}
 use Rattle.eco_traits.specs.Target.{type_of_record}
 use Rattle.eco_ids.proofs.Passing.{passes_some}
-use Rattle.eco_world.specs.Queries.{is_matched}
+use Rattle.eco_world.specs.Queries.{is_passed}
 use Rattle.eco_world.specs.Layouts.{HasTable, shown_at, shown_of}
 use Rattle.eco_world.specs.Types.{type_of}
 use Rattle.eco_world.proofs.Layouts.{or_left, Covers, IsTable, all_of, element_cases, here, no_element, same_ids, same_type, there}
@@ -249,7 +247,7 @@ module _ (w : WorldState) (slots : List (Option TableState)) (shown : IsShown (e
       (found.0, subst (λ (x : TableState). 0 < length x.rows) (sym is) found.3, ap shown_of is ∙ found.4))
       (λ n some _. with_rows_from slots n (table_in slots n) (table_there (slot_of slots n) some) some)
 
-  -- ---- those that a pattern finds
+  -- ---- those that a test finds
 
   shown_to : (ns : List ℕ) (t : ListedTable) → Contains (map (shown_at slots) ns) t → (n : ℕ) × (list_any (nat_eq n) ns ≡ true) × (shown_at slots n ≡ t)
   shown_to [] t p = absurd (no_element t p)
@@ -298,13 +296,13 @@ module _ (w : WorldState) (slots : List (Option TableState)) (shown : IsShown (e
         apart ms differ.1 (λ k h. theirs k (or_right (nat_eq k m) (list_any (nat_eq k) ms) h)),
       )
 
-  module _ (pattern : Pattern) (ns : List ℕ) (found : (n : ℕ) → list_any (nat_eq n) ns ≡ is_found pattern (slot_of slots n)) where
+  module _ (passes : List Id → Bool) (ns : List ℕ) (found : (n : ℕ) → list_any (nat_eq n) ns ≡ is_found_by passes (slot_of slots n)) where
     found_rows : (n : ℕ) → list_any (nat_eq n) ns ≡ true → (0 < length (table_in slots n).rows)
-        × (list_any (pattern_matches pattern) (table_in slots n).ids ≡ true)
+        × (passes (table_in slots n).ids ≡ true)
     found_rows n h = found_in (slot_of slots n) (sym (found n) ∙ h)
       where
-        found_in : (o : Option TableState) → is_found pattern o ≡ true →
-            (0 < length (unwrap_or o no_table).rows) × (list_any (pattern_matches pattern) (unwrap_or o no_table).ids ≡ true)
+        found_in : (o : Option TableState) → is_found_by passes o ≡ true →
+            (0 < length (unwrap_or o no_table).rows) × (passes (unwrap_or o no_table).ids ≡ true)
         found_in None h = absurd (true≢false (sym h))
         found_in (Some t) h = (positive t (first _ _ h), second _ _ h)
           where
@@ -329,28 +327,28 @@ module _ (w : WorldState) (slots : List (Option TableState)) (shown : IsShown (e
         table_in_slot None within = absurd (omega arith)
         table_in_slot (Some t) within = refl
 
-    pub found_match : (t : ListedTable) → Contains (map (shown_at slots) ns) t → list_any (pattern_matches pattern) t.ids ≡ true
+    pub found_match : (t : ListedTable) → Contains (map (shown_at slots) ns) t → passes t.ids ≡ true
     found_match t p =
         let slot = shown_to ns t p in
-        subst (λ (x : ListedTable). list_any (pattern_matches pattern) x.ids ≡ true) slot.2 (found_rows slot.0 slot.1).1
+        subst (λ (x : ListedTable). passes x.ids ≡ true) slot.2 (found_rows slot.0 slot.1).1
 
     -- where a table was found, somebody has an id that matches
-    pub found_some : 0 < length ns → is_matched w pattern ≡ true
+    pub found_some : 0 < length ns → is_passed w passes ≡ true
     found_some some = by ns refl some
       where
-        by : (ms : List ℕ) → ms ≡ ns → 0 < length ms → is_matched w pattern ≡ true
+        by : (ms : List ℕ) → ms ≡ ns → 0 < length ms → is_passed w passes ≡ true
         by [] same some = absurd (omega arith)
         by (m ∷ ms) same some =
             let rows = found_rows m (ap (list_any (nat_eq m)) (sym same) ∙ or_left (nat_eq m m) (list_any (nat_eq m) ms) (itself m)) in
-            some_passes (list_any (pattern_matches pattern)) m rows.0 rows.1
+            some_passes passes m rows.0 rows.1
 
-    pub found_covered : Covers w (list_any (pattern_matches pattern)) (map (shown_at slots) ns)
-    found_covered = covers_of (list_any (pattern_matches pattern)) (map (shown_at slots) ns)
+    pub found_covered : Covers w passes (map (shown_at slots) ns)
+    found_covered = covers_of passes (map (shown_at slots) ns)
         (λ t p. let slot = shown_to ns t p in (slot.0, (found_rows slot.0 slot.1).0, slot.2))
         (λ n some passed. shown_from ns n (found n ∙ is n (slot_of slots n) some passed))
       where
-        is : (n : ℕ) (o : Option TableState) → 0 < length (unwrap_or o no_table).rows → list_any (pattern_matches pattern) (unwrap_or o no_table).ids ≡ true →
-            is_found pattern o ≡ true
+        is : (n : ℕ) (o : Option TableState) → 0 < length (unwrap_or o no_table).rows → passes (unwrap_or o no_table).ids ≡ true →
+            is_found_by passes o ≡ true
         is n None some passed = absurd (omega arith)
         is n (Some t) some passed = both _ _ positive passed
           where

@@ -1,11 +1,13 @@
 -- The tables that a world lists.
-use Rattle.std.specs.Prelude.{◌≡◌, ℕ, List, Option, IsSome, map}
+use Rattle.std.specs.Prelude.{◌≡◌, ℕ, Bool, List, Option, IsSome, filter, map}
 use Rattle.std.specs.List.Sorted.{IsSortedByKey}
 use Rattle.std.specs.Cmp.Lexicographic.{slice_cmp}
+use Rattle.eco_ids.specs.declared.id.Id.{Id}
 use Rattle.eco_ids.specs.declared.pattern.Pattern.{Pattern}
 use Rattle.eco_ids.specs.Layout.{ListedTable, IsLayout, tables_with}
 use Rattle.eco_ids.specs.Order.{id_cmp}
 use Rattle.eco_ids.specs.World.{WorldState}
+use Rattle.eco_query.specs.Queries.{QuerySlot, matches_type}
 use Rattle.eco_tables.specs.Table.{TableState, entities_of}
 use Rattle.eco_tables.specs.Tables.{slot_of, table_in}
 use Rattle.eco_world.specs.declared.table_rows.TableRows.{TableRows}
@@ -34,6 +36,14 @@ HasTable slots n = IsSome (slot_of slots n)
 abbrev pub IsByType : List TableRows → Type 0
 IsByType tables = IsSortedByKey (λ (t : TableRows). t.ids.now) (slice_cmp id_cmp) tables
 
+-- these are the tables of a layout of the world whose type passes
+abbrev pub ListsBy : WorldState → (List Id → Bool) → List ListedTable → Type 0
+ListsBy w passes tables = (layout : List ListedTable) × IsLayout w layout × (tables ≡ filter (λ t. passes t.ids) layout)
+
 -- these are the tables of a layout of the world whose type has an id that matches
 abbrev pub ListsWith : WorldState → Pattern → List ListedTable → Type 0
 ListsWith w p tables = (layout : List ListedTable) × IsLayout w layout × (tables ≡ tables_with p layout)
+
+-- these are the tables of a layout of the world whose type the query matches
+abbrev pub ListsOf : WorldState → List QuerySlot → List ListedTable → Type 0
+ListsOf w query = ListsBy w (λ ids. matches_type ids query)

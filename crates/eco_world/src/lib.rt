@@ -2,10 +2,12 @@
 #![tactic(auto)]
 
 mod builtins;
-mod query;
+mod row;
 mod table_rows;
 mod world;
 
-pub use query::{Query, Row};
+pub use eco_answers::Results;
+pub use eco_query::{Access, Query, Slot, Term};
+pub use row::Row;
 pub use table_rows::TableRows;
 pub use world::World;

@@ -3,7 +3,6 @@ ghost use Rattle.std.specs.Prelude.{◌≡◌, ◌≤◌, ◌<◌, false, IfErr,
 ghost use Rattle.std.specs.Option.{option_copied};
 ghost use Rattle.std.specs.FinMap.Entries.{find};
 ghost use Rattle.eco_ids.specs.declared.refusal.Refusal.TheVariants.{OutOfMemory};
-ghost use Rattle.eco_ids.specs.Answer.{answer};
 ghost use Rattle.eco_ids.specs.Data.{arity, arity_of, value_of};
 ghost use Rattle.eco_ids.specs.Lawful.{IsLawful};
 ghost use Rattle.eco_ids.specs.Names.{lookup};
@@ -12,10 +11,9 @@ ghost use Rattle.eco_ids.specs.Step.{own_name};
 ghost use Rattle.eco_ids.specs.World.{entities, first_world, has, held_by, is_alive, living, record_of};
 ghost use Rattle.eco_entities.specs.Registration.{entity_at};
 ghost use Rattle.eco_traits.specs.Target.{type_of_record};
-ghost use Rattle.eco_world.specs.Queries.{holders, is_matched, may_query, result_of};
+ghost use Rattle.eco_world.specs.Queries.{holders, is_matched};
 
 use crate::builtins::builtin_store;
-use crate::query::{Query, Row};
 use eco_ids::entity::BUILTIN_COUNT;
 use eco_ids::{Edition, Entity, Id, Pattern, Refusal, TypeList, Value};
 use eco_query::{Names, exactly};
@@ -28,6 +26,7 @@ mod changes;
 mod deletes;
 mod holdings;
 mod layout;
+mod queries;
 
 /// Entities, each with a name or none and with the ids that were added to it, where an id that is data has a value
 /// (Flecs manual, Quickstart).
@@ -178,26 +177,6 @@ impl World {
             }
         }
         Ok(entities)
-    }
-
-    /// The results of the query, ascending by entity: who has the id that it asks for (Flecs manual, Queries). Its time
-    /// grows with how many they are, and with the tables whose types name the id's entity.
-    ///
-    /// Refused with `OutOfMemory` alone, and never where it has no result.
-    pub fn query(&self, query: &Query) -> Result<Vec<Row>, Refusal>
-        ensures ok { IfOk result (λ rows. map result_of rows.items ≡ answer self.now query.now) }
-        ensures err { IfErr result (λ why. why ≡ OutOfMemory) }
-        ensures some { OnErr result (IsTrue (may_query self.now query.now)) }
-    {
-        self.is_lawful();
-        let alloc = self.alloc;
-        let id = query.id();
-        let holders = self.holders(id)?;
-        let mut rows = Vec::new(alloc);
-        for entity in &holders {
-            rows.push(Row::of_one(alloc, *entity, id)?)?;
-        }
-        Ok(rows)
     }
 
     // The ids of a living entity.

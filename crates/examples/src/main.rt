@@ -5,7 +5,7 @@
 use anyhow::Result;
 use eco_ids::entity::WITH;
 use eco_ids::{Entity, Id, Refusal, Value};
-use eco_world::{Query, World};
+use eco_world::World;
 
 // What ships can be and have.
 #[derive(Clone, Copy)]
@@ -15,6 +15,7 @@ struct Terms {
     afloat: Entity,
     moored_at: Entity,
     quay: Entity,
+    buoy: Entity,
 }
 
 // The ships.
@@ -32,30 +33,47 @@ fn declare(world: &mut World) -> Result<Terms, Refusal> {
         afloat: world.create(Some("Afloat"))?,
         moored_at: world.create(Some("MooredAt"))?,
         quay: world.create(Some("Quay"))?,
+        buoy: world.create(Some("Buoy"))?,
     };
     // Whatever becomes a ship is afloat.
     world.add(terms.ship, Id::Two(WITH, terms.afloat))?;
     Ok(terms)
 }
 
-// Two ships: one is somewhere, and the other lies at the quay.
+// Two ships: one is at sea, and the other lies at the quay and at a buoy.
 fn launch(world: &mut World, terms: Terms) -> Result<Fleet, Refusal> {
     let heron = world.create(Some("Heron"))?;
     let teal = world.create(Some("Teal"))?;
     world.add(heron, Id::One(terms.ship))?;
     world.add(teal, Id::One(terms.ship))?;
     world.set(heron, Id::One(terms.position), Value([3, -4, 0, 0]))?;
+    world.set(teal, Id::One(terms.position), Value([5, 6, 0, 0]))?;
     world.add(teal, Id::Two(terms.moored_at, terms.quay))?;
+    world.add(teal, Id::Two(terms.moored_at, terms.buoy))?;
     Ok(Fleet { heron, teal })
 }
 
 // A query finds who has an id; its results ascend by entity.
-fn print_afloat<R: Print + AllocGlobal>(rt: &R, world: &World, terms: Terms) -> Result<()> {
-    let rows = world.query(&Query::new(Id::One(terms.afloat)))?;
-    for row in &rows {
-        let entity = row.entity;
+fn print_afloat<R: Print + AllocGlobal>(rt: &R, world: &World) -> Result<()> {
+    let query = world.read_query("Afloat")?;
+    let results = world.results(&query)?;
+    for (entity, _) in results.iter() {
         let name = world.name_of(entity).unwrap_or("-");
         println!(rt; "{name} {entity} is afloat")?;
+    }
+    Ok(())
+}
+
+// Of several terms each has an entry in each result, in their order. `*` has a result for each target.
+fn print_moorings<R: Print + AllocGlobal>(rt: &R, world: &World) -> Result<()> {
+    let query = world.read_query("Ship, (MooredAt, *)")?;
+    let results = world.results(&query)?;
+    for (entity, entries) in results.iter() {
+        if let [_, Some(Id::Two(_, place))] = entries {
+            let name = world.name_of(entity).unwrap_or("-");
+            let place = world.name_of(*place).unwrap_or("-");
+            println!(rt; "{name} is moored at {place}")?;
+        }
     }
     Ok(())
 }
@@ -101,7 +119,8 @@ fn close_quay<R: Print + AllocGlobal>(
 fn show<R: Print + AllocGlobal>(rt: &R, world: &mut World) -> Result<()> {
     let terms = declare(world)?;
     let fleet = launch(world, terms)?;
-    print_afloat(rt, world, terms)?;
+    print_afloat(rt, world)?;
+    print_moorings(rt, world)?;
     print_ships(rt, world, terms, fleet)?;
     print_refusal(rt, world)?;
     close_quay(rt, world, terms, fleet)

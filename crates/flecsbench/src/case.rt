@@ -14,7 +14,7 @@ const PAIRS: &[u32] = &[10_000, 100_000];
 
 const MANY: &[u32] = &[100_000];
 
-const TARGETS: &[u32] = &[1_000];
+const SMALL: &[u32] = &[1_000];
 
 const CHAIN: &[u32] = &[20_000];
 
@@ -54,12 +54,7 @@ pub const CASES: &[Case] = &[
         Start::NextParent(10_000),
         Calls::Add,
     ),
-    Case(
-        "rel_many_targets",
-        TARGETS,
-        Start::OneLacksPairs,
-        Calls::Add,
-    ),
+    Case("rel_many_targets", SMALL, Start::OneLacksPairs, Calls::Add),
     Case(
         "chain_build_leaf_first",
         CHAIN,
@@ -76,13 +71,92 @@ pub const CASES: &[Case] = &[
     Case("wide_delete", MANY, Start::Parent, Calls::Delete),
     Case("bushy_delete", MANY, Start::TreeRoot, Calls::Delete),
     Case("strip_target", MANY, Start::Target, Calls::Delete),
-    Case("query_one/1", LARGE, Start::Tables(1), Calls::Query),
-    Case("query_one/100", LARGE, Start::Tables(100), Calls::Query),
+    Case("query_one/1", LARGE, Start::Tables(1, "P"), Calls::Results),
+    Case(
+        "query_one/100",
+        LARGE,
+        Start::Tables(100, "P"),
+        Calls::Results,
+    ),
     Case(
         "query_one/10000",
         LARGE,
-        Start::Tables(10_000),
-        Calls::Query,
+        Start::Tables(10_000, "P"),
+        Calls::Results,
+    ),
+    Case(
+        "query_two/1",
+        LARGE,
+        Start::Tables(1, "P, Q"),
+        Calls::Results,
+    ),
+    Case(
+        "query_two/100",
+        LARGE,
+        Start::Tables(100, "P, Q"),
+        Calls::Results,
+    ),
+    Case(
+        "query_two/10000",
+        LARGE,
+        Start::Tables(10_000, "P, Q"),
+        Calls::Results,
+    ),
+    Case(
+        "query_wild/1",
+        LARGE,
+        Start::Tables(1, "(Group, *)"),
+        Calls::Results,
+    ),
+    Case(
+        "query_wild/100",
+        LARGE,
+        Start::Tables(100, "(Group, *)"),
+        Calls::Results,
+    ),
+    Case(
+        "query_wild/10000",
+        LARGE,
+        Start::Tables(10_000, "(Group, *)"),
+        Calls::Results,
+    ),
+    Case(
+        "query_not/1",
+        LARGE,
+        Start::Tables(1, "P, !(Group, ChildOf)"),
+        Calls::Results,
+    ),
+    Case(
+        "query_not/100",
+        LARGE,
+        Start::Tables(100, "P, !(Group, ChildOf)"),
+        Calls::Results,
+    ),
+    Case(
+        "query_not/10000",
+        LARGE,
+        Start::Tables(10_000, "P, !(Group, ChildOf)"),
+        Calls::Results,
+    ),
+    Case("rows_one/1", LARGE, Start::Tables(1, "P"), Calls::Rows),
+    Case("rows_one/100", LARGE, Start::Tables(100, "P"), Calls::Rows),
+    Case(
+        "rows_one/10000",
+        LARGE,
+        Start::Tables(10_000, "P"),
+        Calls::Rows,
+    ),
+    Case(
+        "query_none",
+        SMALL,
+        Start::NobodyHas(10_000),
+        Calls::NoResults,
+    ),
+    Case(
+        "query_none",
+        SMALL,
+        Start::NobodyHas(100_000),
+        Calls::NoResults,
     ),
     Case("many_tags", DOUBLED, Start::OneLacksTags, Calls::Add),
     Case(
@@ -96,7 +170,7 @@ pub const CASES: &[Case] = &[
         "query_each_pair",
         DOUBLED,
         Start::HaveOwnPair,
-        Calls::QueryEach,
+        Calls::ReadEach,
     ),
 ];
 

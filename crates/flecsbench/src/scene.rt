@@ -1,17 +1,20 @@
 //! The worlds that cases are about, and the calls that are measured.
 use crate::group::{Group, Ids};
 use eco_ids::{Entity, Id, Refusal, Value};
-use eco_world::{Query, World};
+use eco_world::{Query, Results, World};
 use std::alloc::Global;
 use std::collections::HashMap;
 
 // All indices of a world lie below it.
 const LIMIT: u32 = 1_048_576;
 
-/// A world, and the entities and ids that a case is about, in the order of its calls.
+/// A world, and the entities and ids that a case is about, in the order of its calls, or the query that it asks.
 pub struct Scene {
     world: World,
     work: Vec<(Entity, Id)>,
+    query: Option<Query>,
+    // What the query has found; like the world, it is given up once the time was taken.
+    results: Option<Results>,
     // What the yardstick fills. It has nothing to do with the world.
     numbers: HashMap<u32, u32>,
 }
@@ -22,6 +25,8 @@ impl Drop for Scene {
         let Scene {
             world: _,
             work: _,
+            query: _,
+            results: _,
             numbers: _,
         } = self;
     }
@@ -50,10 +55,14 @@ pub enum Calls {
     Delete,
     /// All entities that have the first id are deleted by one call.
     DeleteWith,
-    /// One query for the first id, which so many entities have.
-    Query,
-    /// A query for each id, which one entity has.
-    QueryEach,
+    /// One answer of the query, which has so many results.
+    Results,
+    /// So many answers of the query, which has no result.
+    NoResults,
+    /// One answer of the query, which has so many results, each made as a row of its own.
+    Rows,
+    /// A query for each id, which one entity has: its text is read, and it is answered.
+    ReadEach,
 }
 
 impl Scene {
@@ -63,6 +72,8 @@ impl Scene {
         Ok(Scene {
             world,
             work: Vec::new(alloc),
+            query: None,
+            results: None,
             numbers: HashMap::new(alloc),
         })
     }
@@ -72,8 +83,10 @@ impl Scene {
         match calls {
             Calls::InsertNumbers => return self.insert_numbers(size),
             Calls::Get => return Ok(self.sum() == i64::from(size)),
-            Calls::Query => return Ok(self.count_by_query()? == size as usize),
-            Calls::QueryEach => return Ok(self.count_by_queries()? == size as usize),
+            Calls::Results => return Ok(self.find()? == size as usize),
+            Calls::NoResults => return Ok(self.find_often(size)? == 0),
+            Calls::Rows => return Ok(self.count_rows()? == size as usize),
+            Calls::ReadEach => return Ok(self.count_by_texts()? == size as usize),
             Calls::Create => self.create(size)?,
             Calls::Add => self.add()?,
             Calls::Remove => self.remove()?,
@@ -91,6 +104,17 @@ impl Scene {
         let first = self.world.high();
         self.create(count)?;
         Ok(Group::new(first, count))
+    }
+
+    /// Gives the group's first entity a name.
+    pub fn name(&mut self, group: Group, name: &str) -> Result<(), Refusal> {
+        self.world.rename(group.at(0), Some(name))
+    }
+
+    /// The calls are to be about this query.
+    pub fn ask(&mut self, text: &str) -> Result<(), Refusal> {
+        self.query = Some(self.world.read_query(text)?);
+        Ok(())
     }
 
     /// Makes a component of two fields.
@@ -206,21 +230,43 @@ impl Scene {
         sum
     }
 
-    // How many entities have the id, by a query whose results are all made.
-    fn count(&self, id: Id) -> Result<usize, Refusal> {
-        Ok(self.world.query(&Query::new(id))?.len())
+    // How many results the query has, which are all made.
+    fn find(&mut self) -> Result<usize, Refusal> {
+        let Some(query) = &self.query else {
+            return Ok(0);
+        };
+        let results = self.world.results(query)?;
+        let count = results.len();
+        self.results = Some(results);
+        Ok(count)
     }
 
-    // How many entities have the first id.
-    fn count_by_query(&self) -> Result<usize, Refusal> {
-        match self.work.first() {
-            Some((_, id)) => self.count(*id),
+    // How many results it has together, each time it is asked.
+    fn find_often(&mut self, times: u32) -> Result<usize, Refusal> {
+        let mut found = 0usize;
+        for _ in 0..times {
+            found = found.saturating_add(self.find()?);
+        }
+        Ok(found)
+    }
+
+    // How many rows the query has.
+    fn count_rows(&self) -> Result<usize, Refusal> {
+        match &self.query {
+            Some(query) => Ok(self.world.query(query)?.len()),
             None => Ok(0),
         }
     }
 
+    // How many entities have the id, by a query that is read first.
+    fn count(&self, id: Id) -> Result<usize, Refusal> {
+        let text = format!(in *self.work.allocator(); "{id}")?;
+        let query = self.world.read_query(text.as_str())?;
+        Ok(self.world.results(&query)?.len())
+    }
+
     // How many results queries for each of the ids have together.
-    fn count_by_queries(&self) -> Result<usize, Refusal> {
+    fn count_by_texts(&self) -> Result<usize, Refusal> {
         let mut found = 0usize;
         for (_, id) in &self.work {
             found = found.saturating_add(self.count(*id)?);

@@ -22,8 +22,12 @@ pub enum Start {
     HaveValue,
     /// N entities have values of two components, and lack a tag.
     HaveValues,
-    /// N entities have a component and a tag, and stand in so many tables.
-    Tables(u32),
+    /// N entities have the component P and the tag Q, and stand in so many tables, by their pairs of the relationship Group;
+    /// this is asked.
+    Tables(u32, &'static str),
+    /// So many entities each have a pair of one plain relationship with a target of its own; who has a parent and a certain tag
+    /// is asked, and nobody has that tag.
+    NobodyHas(u32),
     /// N entities each lack a pair of one plain relationship; so many targets take turns.
     LackPair(u32),
     /// N entities each lack a pair of one plain relationship with a target of its own.
@@ -67,7 +71,8 @@ impl Start {
             Start::LackValue => lack_value(scene, size),
             Start::HaveValue => have_value(scene, size),
             Start::HaveValues => have_values(scene, size),
-            Start::Tables(tables) => stand_in_tables(scene, size, tables),
+            Start::Tables(tables, text) => stand_in_tables(scene, size, tables, text),
+            Start::NobodyHas(entities) => ask_in_vain(scene, entities),
             Start::LackPair(targets) => lack_pair(scene, size, targets),
             Start::LackOwnPair => lack_pair(scene, size, size),
             Start::HaveOwnPair => have_own_pair(scene, size),
@@ -119,16 +124,41 @@ fn have_values(scene: &mut Scene, count: u32) -> Result<(), Refusal> {
     scene.plan(count, entities, Ids::Ones(tag))
 }
 
-// A relationship has so many targets, which take turns on the entities, so that these stand in as many tables.
-fn stand_in_tables(scene: &mut Scene, count: u32, table_count: u32) -> Result<(), Refusal> {
+// The relationship has so many targets, which take turns on the entities, so that these stand in as many tables.
+fn stand_in_tables(
+    scene: &mut Scene,
+    count: u32,
+    table_count: u32,
+    text: &str,
+) -> Result<(), Refusal> {
     let component = scene.make_component()?;
     let tag = scene.make(1)?;
     let group = scene.make(1)?;
+    name_terms(scene, component, tag, group)?;
     let targets = scene.make(table_count)?;
     let entities = scene.make(count)?;
     scene.add_each(count, entities, Ids::Twos(group, targets))?;
     scene.add_each(count, entities, Ids::Ones(tag))?;
-    scene.add_each(count, entities, Ids::Ones(component))
+    scene.add_each(count, entities, Ids::Ones(component))?;
+    scene.ask(text)
+}
+
+fn name_terms(
+    scene: &mut Scene,
+    component: Group,
+    tag: Group,
+    group: Group,
+) -> Result<(), Refusal> {
+    scene.name(component, "P")?;
+    scene.name(tag, "Q")?;
+    scene.name(group, "Group")
+}
+
+fn ask_in_vain(scene: &mut Scene, count: u32) -> Result<(), Refusal> {
+    have_own_pair(scene, count)?;
+    let tag = scene.make(1)?;
+    scene.name(tag, "Z")?;
+    scene.ask("Z, (ChildOf, *)")
 }
 
 fn lack_pair(scene: &mut Scene, count: u32, target_count: u32) -> Result<(), Refusal> {

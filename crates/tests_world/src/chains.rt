@@ -1,4 +1,4 @@
-//! A chain of parents is walked to its end, whether a cycle closes there or none does.
+//! A chain of parents is walked to its end, whether a cycle closes there or none does, and dies with its root.
 use eco_ids::entity::CHILD_OF;
 use eco_ids::{Entity, Id, Refusal};
 use eco_world::World;
@@ -53,4 +53,29 @@ fn is_cycle_refused(alloc: Global) -> bool {
 #[test]
 fn a_long_chain_is_walked(rt: HostRuntime) {
     assert!(rt; is_cycle_refused(rt.alloc()));
+}
+
+// How many live once the last parent of the chain was deleted, and who lives next.
+fn fallen(world: &mut World) -> Result<(usize, Entity), Refusal> {
+    create(world, 20_001)?;
+    link(world)?;
+    world.delete(at(20_009))?;
+    Ok((world.living()?.len(), world.create(None)?))
+}
+
+// Whether nobody but the built-ins is left, and the first index is free at its next generation.
+fn is_fallen(alloc: Global) -> bool {
+    let Ok(mut world) = World::new(alloc, 65_536) else {
+        return false;
+    };
+    let next = Entity {
+        index: 9,
+        generation: 1,
+    };
+    fallen(&mut world) == Ok((9, next))
+}
+
+#[test]
+fn a_long_chain_dies_at_once(rt: HostRuntime) {
+    assert!(rt; is_fallen(rt.alloc()));
 }

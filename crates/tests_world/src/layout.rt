@@ -1,6 +1,5 @@
 //! After each step of a long run the tables are those that a listing entity by entity gives.
-ghost use Rattle.std.specs.Prelude.{◌<◌};
-
+use crate::draws::Draws;
 use eco_ids::entity::{CHILD_OF, EXCLUSIVE};
 use eco_ids::{Entity, Id, Pattern, Refusal, Value};
 use eco_world::{TableRows, World};
@@ -56,23 +55,7 @@ pub fn agrees(alloc: Global, world: &World) -> Result<bool, AllocError> {
     Ok(are_in_order(&tables) && listed == held)
 }
 
-// Numbers that look random: a linear congruence.
-#[derive(Drop)]
-struct Draws(u64);
-
 impl Draws {
-    // A number below the count.
-    fn below(&mut self, count: u32) -> u32
-        requires { 0 < count }
-        ensures { result < count }
-    {
-        self.0 = self
-            .0
-            .wrapping_mul(6_364_136_223_846_793_005)
-            .wrapping_add(1_442_695_040_888_963_407);
-        (self.0 >> 33) as u32 % count
-    }
-
     // One of a dozen entities.
     fn entity(&mut self) -> Entity {
         at(15 + self.below(12))
@@ -121,7 +104,7 @@ fn take_step(world: &mut World, draws: &mut Draws) -> Result<(), Refusal> {
 // How many of so many steps are done and not refused, where the tables agree after each of them.
 fn done_steps(alloc: Global, world: &mut World, count: u32) -> Result<Option<u32>, Refusal> {
     prepare(world)?;
-    let mut draws = Draws(2026);
+    let mut draws = Draws::new(2026);
     let mut done = 0u32;
     for _ in 0..count {
         if take_step(world, &mut draws).is_ok() {

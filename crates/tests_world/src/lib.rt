@@ -2,11 +2,23 @@
 #![tactic(auto)]
 
 #[cfg(test)]
+mod answers;
+#[cfg(test)]
 mod chains;
+#[cfg(test)]
+mod draws;
+#[cfg(test)]
+mod filter;
+#[cfg(test)]
+mod generations;
+#[cfg(test)]
+mod hostile;
 #[cfg(test)]
 mod layout;
 #[cfg(test)]
 mod queries;
+#[cfg(test)]
+mod questions;
 #[cfg(test)]
 mod rounds;
 #[cfg(test)]

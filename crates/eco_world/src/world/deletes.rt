@@ -9,6 +9,7 @@ ghost use Rattle.eco_store.specs.Store.{record_ids};
 
 use crate::world::World;
 use eco_ids::{Entity, Id, Refusal};
+use eco_query::exactly;
 use eco_store::Naming;
 
 impl World {
@@ -43,8 +44,7 @@ impl World {
         if self.is_builtins(id) {
             return Err(Refusal::Reserved);
         }
-        let roots = self.holders(id)?;
-        eco_cleanup::delete(self.alloc, &mut self.store, &roots)
+        eco_cleanup::delete_with(self.alloc, &mut self.store, exactly(id))
     }
 
     // Whether some living entity has an id that names this one: where none has, its death touches no other.

@@ -2,13 +2,15 @@
 ghost use Rattle.std.specs.Prelude.{◌≡◌, ◌<◌, All, IfOk, IsTrue, length, map, OnErr};
 ghost use Rattle.std.specs.List.Sorted.{IsPermutation};
 ghost use Rattle.eco_ids.specs.Layout.{IsLayout};
-ghost use Rattle.eco_world.specs.Queries.{is_matched};
-ghost use Rattle.eco_world.specs.Layouts.{HasTable, IsByType, listed, ListsWith, shown_at};
+ghost use Rattle.eco_world.specs.Queries.{is_answered, is_matched, is_passed};
+ghost use Rattle.eco_world.specs.Layouts.{HasTable, IsByType, listed, ListsBy, ListsOf, ListsWith, shown_at};
 
 use crate::table_rows::TableRows;
 use crate::world::World;
+use eco_answers::Asking;
 use eco_ids::Pattern;
-use eco_store::Tables;
+use eco_query::Query;
+use eco_store::{Tables, TypeTest};
 use std::alloc::{AllocError, Global};
 
 impl World {
@@ -39,7 +41,27 @@ impl World {
         ensures all { IfOk result (λ tables. ListsWith self.now pattern (listed tables.items)) }
         ensures some { OnErr result (IsTrue (is_matched self.now pattern)) }
     {
-        let found = self.store.tables_with(pattern)?;
+        self.tables_by(&pattern)
+    }
+
+    /// The tables whose type the query matches, as [`tables`](World::tables) lists them (Flecs manual, Queries, archetypes):
+    /// those in which the entities of its results stand. Only tables are looked at whose types have an id that one plain term
+    /// or group of the query asks for.
+    ///
+    /// An `Err` comes where a growth of the list was refused, and never where no living entity's type matches.
+    pub fn tables_of(&self, query: &Query) -> Result<Vec<TableRows<'_>>, AllocError>
+        ensures all { IfOk result (λ tables. ListsOf self.now query.now (listed tables.items)) }
+        ensures some { OnErr result (IsTrue (is_answered self.now query.now)) }
+    {
+        self.tables_by(&Asking { query })
+    }
+
+    // The tables whose type passes the test.
+    fn tables_by<T: TypeTest>(&self, test: &T) -> Result<Vec<TableRows<'_>>, AllocError>
+        ensures all { IfOk result (λ tables. ListsBy self.now (T.test test.now) (listed tables.items)) }
+        ensures some { OnErr result (IsTrue (is_passed self.now (T.test test.now))) }
+    {
+        let found = self.store.tables_by(test)?;
         let mut tables = tables_in(self.alloc, found.tables, &found.slots)?;
         sort_by_type(&mut tables);
         Ok(tables)

@@ -5,6 +5,7 @@ pub returns-clause-one : goal.returns-clause-one
 returns-clause-one c = text_once (record {
   refs = c.texts_read_once.ensures.reference;
   ids = c.texts_read_once.ensures.id;
+  queries = c.texts_read_once.ensures.query;
   create = c.steps_have_one_end.ensures.create;
   component = c.steps_have_one_end.ensures.component;
   add = c.steps_have_one_end.ensures.add;

@@ -1,11 +1,11 @@
 use Rattle.std.proofs.Common.{rules, ◌+◌}
-use Rattle.eco_script.specs.Views.{step_view}
+use Rattle.eco_steps.specs.Views.{step_view}
 use Rattle.eco_script.proofs.Runs.{stopped_between, stopped_within, gathered_more, gathered_less}
 use Rattle.eco_script.proofs.run.run_steps.Goals as goal
 
 pub returns-in_default-clause-err : goal.returns-in_default-clause-err
 returns-in_default-clause-err g c = stopped_between step_view c.args.steps.now
-    (record { refs = c.texts_are_read.ensures.reference; ids = c.texts_are_read.ensures.id }) c.loop-step.step-index _ _ _ _ _ c.loop-step.invariant.ran
+    (record { refs = c.texts_are_read.ensures.reference; ids = c.texts_are_read.ensures.id; queries = c.texts_are_read.ensures.query }) c.loop-step.step-index _ _ _ _ _ c.loop-step.invariant.ran
 
 pub returns-in_default-write_many-clause-err : goal.returns-in_default-write_many-clause-err
 returns-in_default-write_many-clause-err g c =
@@ -13,7 +13,7 @@ returns-in_default-write_many-clause-err g c =
     let more = gathered_more step_view c.args.steps.now c.loop-step.step-index c.step-item.result _ _ _ _ _ _ _ lines c.loop-step-test.true
     c.step-item.is c.loop-step.invariant.ran does is in
     stopped_within step_view c.args.steps.now
-    (record { refs = c.texts_are_read.ensures.reference; ids = c.texts_are_read.ensures.id }) (c.loop-step.step-index + 1) _ _ _ _ _ _ more
+    (record { refs = c.texts_are_read.ensures.reference; ids = c.texts_are_read.ensures.id; queries = c.texts_are_read.ensures.query }) (c.loop-step.step-index + 1) _ _ _ _ _ _ more
     c.in_default-write_many.ensures.err
 
 pub loop-step-preserved : goal.loop-step-preserved
@@ -30,5 +30,5 @@ loop-step-preserved g c =
 pub returns-clause-err : goal.returns-clause-err
 returns-clause-err g c =
     stopped_within step_view c.args.steps.now
-    (record { refs = c.texts_are_read.ensures.reference; ids = c.texts_are_read.ensures.id }) c.loop-step.step-index _ _ _ _ _ _ c.loop-step.invariant.ran
+    (record { refs = c.texts_are_read.ensures.reference; ids = c.texts_are_read.ensures.id; queries = c.texts_are_read.ensures.query }) c.loop-step.step-index _ _ _ _ _ _ c.loop-step.invariant.ran
     (rw (c.as_bytes.ensures.value, c.as_str.ensures.value) at c.in-Err.ensures.err)

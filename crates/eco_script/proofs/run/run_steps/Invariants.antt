@@ -1,5 +1,5 @@
 use Rattle.std.proofs.Common.{◌≡◌, string_bytes}
-use Rattle.eco_script.specs.Views.{step_view}
+use Rattle.eco_steps.specs.Views.{step_view}
 use Rattle.eco_script.proofs.Runs.{Gathered}
 use Rattle.eco_script.proofs.run.run_steps.Given as goal
 

@@ -1,5 +1,0 @@
-use Rattle.eco_script.proofs.Decodes.{one_script}
-use Rattle.eco_script.proofs.laws.bytes_are_one_script.Goals as goal
-
-pub returns : goal.returns
-returns c = one_script

@@ -1,0 +1,128 @@
+-- How the program finds the script that a JSON value is, if it is one. The contracts of private functions speak of it;
+-- that it finds exactly the scripts is proved over it.
+use Rattle.std.specs.Prelude.{ℕ, ◌^◌, ◌&&◌, ℤ, pos, negsuc, List, [], ◌∷◌, length, codes, Option, Some, None, option_map, option_and_then, nat_le, nat_lt}
+use Rattle.std.specs.Prelude.{if◌then◌else◌}
+use Rattle.std.specs.Str.{bytes_eq}
+use Rattle.serde_json.specs.Data.{Data, null, boolean, number, string, array, object, Items, no_items, item, Num, unsigned, negative, float}
+use Rattle.serde_json.specs.Find.{as_number, as_str, as_array, as_u64}
+use Rattle.eco_ids.specs.declared.value.TheConstants.{FIELD_COUNT, LARGEST_ARITY}
+use Rattle.eco_ids.specs.declared.value.Value.{Value}
+use Rattle.eco_steps.specs.Steps.{Step, create, component, add, remove, set, clear, remove_all, delete, delete_with, rename, has, get, show, list, query, value_with}
+use Rattle.eco_steps.specs.Script.{Script}
+
+-- items as a list
+abbrev pub items_list : Items → List Data
+items_list no_items = []
+items_list (item d ds) = d ∷ items_list ds
+
+-- the items of a list
+abbrev pub list_in : Data → Option (List Data)
+list_in d = option_map items_list (as_array d)
+
+-- what is found in each of some values, if something is in each
+abbrev pub each_in : {A : Type 0} → (Data → Option A) → List Data → Option (List A)
+each_in find [] = Some []
+each_in find (d ∷ ds) = option_and_then (λ x. option_map (λ xs. x ∷ xs) (each_in find ds)) (find d)
+
+-- a whole number in a range
+abbrev pub number_in : ℕ → ℕ → Data → Option ℕ
+number_in low high d = option_and_then (λ n. if nat_le low n && nat_le n high then Some n else None) (option_and_then as_u64 (as_number d))
+
+-- a number that is whole and has 64 bits
+abbrev pub integer_of : Num → Option ℤ
+integer_of (unsigned n) = if nat_lt n (2 ^ 63) then Some (pos n) else None
+integer_of (negative (pos n)) = None
+integer_of (negative (negsuc n)) = if nat_lt n (2 ^ 63) then Some (negsuc n) else None
+integer_of (float x) = None
+
+-- a whole number of 64 bits
+abbrev pub integer_in : Data → Option ℤ
+integer_in d = option_and_then integer_of (as_number d)
+
+-- the value whose first fields are in a list of as many items
+abbrev pub value_of_items : List Data → Option Value
+value_of_items ds = if nat_le 1 (length ds) && nat_le (length ds) FIELD_COUNT then option_map value_with (each_in integer_in ds) else None
+
+-- the value of a component
+abbrev pub value_in : Data → Option Value
+value_in d = option_and_then value_of_items (list_in d)
+
+-- a name, or `null`
+abbrev pub name_in : Data → Option (Option (List ℕ))
+name_in null = Some None
+name_in (boolean b) = None
+name_in (number n) = None
+name_in (string s) = Some (Some s)
+name_in (array ds) = None
+name_in (object ms) = None
+
+-- the step with this word and no argument
+abbrev pub step_of_none : List ℕ → Option Step
+step_of_none word =
+    if bytes_eq word (codes "create") then Some (create None)
+    else (if bytes_eq word (codes "list") then Some list else None)
+
+-- the step with this word and one argument
+abbrev pub step_of_one : List ℕ → Data → Option Step
+step_of_one word d =
+    if bytes_eq word (codes "create") then option_map (λ name. create (Some name)) (as_str d)
+    else (if bytes_eq word (codes "clear") then option_map clear (as_str d)
+    else (if bytes_eq word (codes "remove_all") then option_map remove_all (as_str d)
+    else (if bytes_eq word (codes "delete") then option_map delete (as_str d)
+    else (if bytes_eq word (codes "delete_with") then option_map delete_with (as_str d)
+    else (if bytes_eq word (codes "show") then option_map show (as_str d)
+    else (if bytes_eq word (codes "query") then option_map query (as_str d) else None))))))
+
+-- the step with this word and two texts
+abbrev pub step_of_texts : List ℕ → List ℕ → List ℕ → Option Step
+step_of_texts word text other =
+    if bytes_eq word (codes "add") then Some (add text other)
+    else (if bytes_eq word (codes "remove") then Some (remove text other)
+    else (if bytes_eq word (codes "has") then Some (has text other)
+    else (if bytes_eq word (codes "get") then Some (get text other) else None)))
+
+-- the step with this word, a text and one more argument
+abbrev pub step_of_two : List ℕ → List ℕ → Data → Option Step
+step_of_two word text d =
+    if bytes_eq word (codes "component") then option_map (component text) (number_in 1 LARGEST_ARITY d)
+    else (if bytes_eq word (codes "rename") then option_map (rename text) (name_in d)
+    else option_and_then (step_of_texts word text) (as_str d))
+
+-- the step with this word, two texts and one more argument
+abbrev pub step_of_three : List ℕ → List ℕ → List ℕ → Data → Option Step
+step_of_three word text other d = if bytes_eq word (codes "set") then option_map (set text other) (value_in d) else None
+
+-- the step with this word and these arguments, by how many there are
+abbrev pub step_of : List ℕ → List Data → Option Step
+step_of w [] = step_of_none w
+step_of w (d ∷ []) = step_of_one w d
+step_of w (d ∷ e ∷ []) = option_and_then (λ text. step_of_two w text e) (as_str d)
+step_of w (d ∷ e ∷ f ∷ []) = option_and_then (λ text. option_and_then (λ other. step_of_three w text other f) (as_str e)) (as_str d)
+step_of w (d ∷ e ∷ f ∷ g ∷ ds) = None
+
+-- the step that a list of a word and its arguments is
+abbrev pub step_of_words : List Data → Option Step
+step_of_words [] = None
+step_of_words (word ∷ arguments) = option_and_then (λ w. step_of w arguments) (as_str word)
+
+-- the step that a value is
+abbrev pub step_in : Data → Option Step
+step_in d = option_and_then step_of_words (list_in d)
+
+-- the limit, and the items of the list of steps, of what has the three parts of a script
+abbrev pub parts_of : List Data → Option (ℕ × List Data)
+parts_of (version ∷ limit ∷ steps ∷ []) =
+    option_and_then (λ _. option_and_then (λ l. option_map (λ items. (l, items)) (list_in steps)) (number_in 9 1048576 limit)) (number_in 1 1 version)
+parts_of _ = None
+
+-- these parts of a value
+abbrev pub parts_in : Data → Option (ℕ × List Data)
+parts_in d = option_and_then parts_of (list_in d)
+
+-- the script of such parts
+abbrev pub script_of : ℕ × List Data → Option Script
+script_of p = option_map (λ ss. record { limit = p.0; steps = ss }) (each_in step_in p.1)
+
+-- the script that a value is
+abbrev pub script_in : Data → Option Script
+script_in d = option_and_then script_of (parts_in d)

@@ -1,0 +1,5 @@
+pub mod Decode
+pub mod Laws
+pub mod Script
+pub mod Steps
+pub mod Views

@@ -1,0 +1,168 @@
+//! Steps: which step a JSON value is.
+
+ghost use Rattle.std.specs.Prelude.{◌≡◌, map, option_map};
+ghost use Rattle.serde_json.specs.View.{view};
+ghost use Rattle.eco_steps.specs.Decode.{step_in, step_of, step_of_none, step_of_one, step_of_texts, step_of_two, step_of_three};
+
+use crate::arguments::{read_list, read_name, read_value};
+use crate::arity::Arity;
+use serde_json::Value;
+
+/// What a script may ask for, with the texts of the value that it was read from.
+#[derive(Clone, Copy)]
+pub enum Step<'a> {
+    Create(Option<&'a str>),
+    Component {
+        name: &'a str,
+        arity: Arity,
+    },
+    Add {
+        entity: &'a str,
+        id: &'a str,
+    },
+    Remove {
+        entity: &'a str,
+        id: &'a str,
+    },
+    Set {
+        entity: &'a str,
+        id: &'a str,
+        value: eco_ids::Value,
+    },
+    Clear {
+        entity: &'a str,
+    },
+    RemoveAll {
+        id: &'a str,
+    },
+    Delete {
+        entity: &'a str,
+    },
+    DeleteWith {
+        id: &'a str,
+    },
+    Rename {
+        entity: &'a str,
+        name: Option<&'a str>,
+    },
+    Has {
+        entity: &'a str,
+        id: &'a str,
+    },
+    Get {
+        entity: &'a str,
+        id: &'a str,
+    },
+    Show {
+        entity: &'a str,
+    },
+    List,
+    Query {
+        text: &'a str,
+    },
+}
+
+impl<'a> Step<'a> {
+    ghost use Rattle.eco_steps.specs.Views.{step_view};
+
+    // A step without arguments.
+    fn of_none(word: &str) -> Option<Step<'a>>
+        ensures { option_map step_view result ≡ step_of_none word.now }
+    {
+        let step = match word {
+            "create" => Step::Create(None),
+            "list" => Step::List,
+            _ => return None,
+        };
+        Some(step)
+    }
+
+    // A step with one argument.
+    fn of_one(word: &str, argument: &'a Value) -> Option<Step<'a>>
+        ensures { option_map step_view result ≡ step_of_one word.now (view argument.now) }
+    {
+        let text = argument.as_str()?;
+        match word {
+            "create" => Some(Step::Create(Some(text))),
+            "clear" => Some(Step::Clear { entity: text }),
+            "remove_all" => Some(Step::RemoveAll { id: text }),
+            "delete" => Some(Step::Delete { entity: text }),
+            "delete_with" => Some(Step::DeleteWith { id: text }),
+            "show" => Some(Step::Show { entity: text }),
+            "query" => Some(Step::Query { text }),
+            _ => None,
+        }
+    }
+
+    // A step with two texts.
+    fn of_texts(word: &str, entity: &'a str, id: &'a str) -> Option<Step<'a>>
+        ensures { option_map step_view result ≡ step_of_texts word.now entity.entry.now id.entry.now }
+    {
+        let step = match word {
+            "add" => Step::Add { entity, id },
+            "remove" => Step::Remove { entity, id },
+            "has" => Step::Has { entity, id },
+            "get" => Step::Get { entity, id },
+            _ => return None,
+        };
+        Some(step)
+    }
+
+    // A step with a text and another argument.
+    fn of_two(word: &str, text: &'a str, argument: &'a Value) -> Option<Step<'a>>
+        ensures { option_map step_view result ≡ step_of_two word.now text.entry.now (view argument.now) }
+    {
+        match word {
+            "component" => Some(Step::Component {
+                name: text,
+                arity: Arity::read(argument)?,
+            }),
+            "rename" => Some(Step::Rename {
+                entity: text,
+                name: read_name(argument)?,
+            }),
+            _ => Step::of_texts(word, text, argument.as_str()?),
+        }
+    }
+
+    // A step with two texts and another argument.
+    fn of_three(word: &str, entity: &'a str, id: &'a str, argument: &'a Value) -> Option<Step<'a>>
+        ensures { option_map step_view result
+            ≡ step_of_three word.now entity.entry.now id.entry.now (view argument.now) }
+    {
+        match word {
+            "set" => Some(Step::Set {
+                entity,
+                id,
+                value: read_value(argument)?,
+            }),
+            _ => None,
+        }
+    }
+
+    // A step with these arguments.
+    fn of(word: &str, arguments: &'a [Value]) -> Option<Step<'a>>
+        ensures { option_map step_view result ≡ step_of word.now (map view arguments.now) }
+    {
+        match arguments {
+            [] => Step::of_none(word),
+            [argument] => Step::of_one(word, argument),
+            [text, argument] => Step::of_two(word, text.as_str()?, argument),
+            [entity, id, argument] => Step::of_three(
+                word,
+                entity.as_str()?,
+                id.as_str()?,
+                argument,
+            ),
+            _ => None,
+        }
+    }
+
+    /// The step that a value is, if it is one.
+    pub(crate) fn read(value: &'a Value) -> Option<Step<'a>>
+        ensures { option_map step_view result ≡ step_in (view value.now) }
+    {
+        let (word, arguments) = read_list(value)?.split_first()?;
+        Step::of(word.as_str()?, arguments)
+    }
+}

@@ -1,0 +1,63 @@
+-- Who has an id, as a store finds them by the pattern of that id.
+use Rattle.std.proofs.Common.{if◌then◌else◌, ◌≡◌, Bool, true, false, cond, ◌||◌, List, [], ◌∷◌, map, filter, Some, refl, sym, ap, ◌∙◌, is_some, IsTrue}
+use Rattle.std.proofs.Common.{◌<◌, arith, length, true≢false}
+use Rattle.std.specs.List.{list_any}
+use Rattle.std.specs.FinMap.Entries.{find}
+use Rattle.std.proofs.lemmas.List.{length-map}
+use Rattle.eco_ids.specs.declared.entity.Entity.{Entity}
+use Rattle.eco_ids.specs.declared.id.Id.{Id}
+use Rattle.eco_ids.specs.declared.id.Id.TheVariants as id
+use Rattle.eco_ids.specs.declared.value.Value.{Value}
+use Rattle.eco_ids.specs.Matching.{pattern_matches}
+use Rattle.eco_ids.specs.Order.{id_cmp, id_eq}
+use Rattle.eco_ids.specs.Indices.{living}
+use Rattle.eco_ids.specs.World.{WorldState, Record, entities}
+use Rattle.eco_query.specs.Queries.{exactly}
+use Rattle.eco_store.specs.Holders as store
+use Rattle.eco_store.specs.Holders.{has_match}
+use Rattle.eco_ids.proofs.Pairs.{parts_are_same}
+use Rattle.eco_world.specs.Queries.{holders}
+use Rattle.eco_world.proofs.Held.{keys}
+
+-- the pattern matches the id alone
+pub matches_exactly : (i j : Id) → pattern_matches (exactly i) j ≡ id_eq i j
+matches_exactly (id.One e) (id.One x) = refl
+matches_exactly (id.One e) (id.Two s u) = refl
+matches_exactly (id.Two r t) (id.One x) = refl
+matches_exactly (id.Two r t) (id.Two s u) = parts_are_same r t s u
+
+-- the pattern of the id matches where the id is held
+pub exactly_held : (i : Id) (held : List (Id × Value)) → list_any (pattern_matches (exactly i)) (keys held) ≡ is_some (find id_cmp i held)
+exactly_held i [] = refl
+exactly_held i (h ∷ held) =
+    ap (λ b. b || list_any (pattern_matches (exactly i)) (keys held)) (matches_exactly i h.0)
+    ∙ elim (id_eq i h.0) as (λ b. (b || list_any (pattern_matches (exactly i)) (keys held)) ≡ is_some (cond b (Some h.1) (find id_cmp i held))) [
+      | true ↦
+          refl
+      | false ↦ exactly_held i held
+    ]
+
+found : (i : Id) (ps : List (Entity × Record)) → filter (λ (p : Entity × Record). has_match (exactly i) p.1) ps
+    ≡ filter (λ (p : Entity × Record). is_some (find id_cmp i p.1.held)) ps
+found i [] = refl
+found i (p ∷ ps) = λ t. if exactly_held i p.1.held t then p ∷ found i ps t else found i ps t
+
+-- whom the store finds by the id's pattern has the id in the world
+pub found_holders : (w : WorldState) (i : Id) → store.entities_with (entities w) (exactly i) ≡ holders w i
+found_holders w i = ap (map (λ (p : Entity × Record). p.0)) (found i (living (entities w)))
+
+some_kept : {X : Type 0} (test : X → Bool) (xs : List X) → IsTrue (list_any test xs) → 0 < length (filter test xs)
+some_kept test [] h = absurd (true≢false (sym h))
+some_kept test (x ∷ xs) h = by (test x) (some_kept test xs) h
+  where
+    by : (b : Bool) → (IsTrue (list_any test xs) → 0 < length (filter test xs)) → (b || list_any test xs) ≡ true →
+        0 < length (cond b (x ∷ filter test xs) (filter test xs))
+    by true rest h = omega arith
+    by false rest h = rest h
+
+-- where the store finds somebody, somebody has the id in the world
+pub some_holder : (w : WorldState) (i : Id) → IsTrue (list_any (λ (p : Entity × Record). has_match (exactly i) p.1) (living (entities w))) →
+    0 < length (holders w i)
+some_holder w i h =
+    let kept = some_kept (λ (p : Entity × Record). has_match (exactly i) p.1) (living (entities w)) h in
+    rw (← found_holders w i, length-map) kept

@@ -1,0 +1,46 @@
+use Rattle.std.proofs.Common.{◌≡◌, ◌∙◌, map, sym, ap, subst, All, Contains}
+use Rattle.std.specs.List.{IsDistinct}
+use Rattle.std.proofs.lemmas.List.Sorted.{Contains-permutation, IsPermutation-map, IsPermutation-sym}
+use Rattle.eco_world.specs.Worlds.{world_of}
+use Rattle.eco_world.specs.Layouts.{HasTable, listed, listed_of, shown_at}
+use Rattle.eco_world.proofs.Tabled.{all_covered, found_covered, found_differ, found_match, found_some, found_there}
+use Rattle.eco_ids.proofs.Results.{err_says}
+use Rattle.eco_world.proofs.Layouts.{covers_moved, layout_around, same_type, sorted_tables, Covers}
+use Rattle.eco_world.proofs.world.World.tables_by.Goals as goal
+
+pub tables_in-requires : goal.tables_in-requires
+tables_in-requires g c =
+    let found = c.in_ok-found.found in
+    subst (All (HasTable found.tables.now)) (sym c.deref.ensures.value)
+    (found_there (world_of c.self.inside.store.entities) found.tables.now c.in_ok-found.ensures.shown c.in_ok-found.ensures.kinds
+    (g.T.TypeTest.test c.args.test.now) found.slots.items c.in_ok-found.ensures.listed)
+
+pub returns-clause-all : goal.returns-clause-all
+returns-clause-all g c =
+    let slots = c.in_ok-found.found.tables.now in
+    let ns = c.in_ok-found.found.slots.items in
+    let shown = c.in_ok-found.ensures.shown in
+    let kinds = c.in_ok-found.ensures.kinds in
+    let old = c.in_ok-tables.tables.items in
+    let new = c.sort_by_type.new.tables.items in
+    let w = world_of c.self.inside.store.entities in
+    let passes = g.T.TypeTest.test c.args.test.now in
+    let all : listed old ≡ map (shown_at slots) ns = c.in_ok-tables.ensures.all ∙ ap (map (shown_at slots)) c.deref.ensures.value in
+    let moved = IsPermutation-map listed_of old new c.sort_by_type.ensures.same in
+    rw (← c.self.view_is)
+    (layout_around w passes (listed new) _
+    (sorted_tables old new c.sort_by_type.ensures.same c.sort_by_type.ensures.ordered
+    (subst (IsDistinct same_type) (sym all) (found_differ w slots shown kinds passes ns c.in_ok-found.ensures.listed c.in_ok-found.ensures.distinct)))
+    (covers_moved w passes (listed old) (listed new) moved
+    (subst (Covers w passes) (sym all) (found_covered w slots shown kinds passes ns c.in_ok-found.ensures.listed)))
+    (λ t p. found_match w slots shown kinds passes ns c.in_ok-found.ensures.listed t
+    (subst (λ ts. Contains ts t) all (Contains-permutation (listed new) (listed old) t (IsPermutation-sym (listed old) (listed new) moved) p)))
+    (all_covered w slots shown kinds))
+
+pub returns-in_err-tables-clause-some : goal.returns-in_err-tables-clause-some
+returns-in_err-tables-clause-some g c =
+    let found = c.in_ok-found.found in
+    rw (← c.self.view_is)
+    (err_says c.from_residual-in_err-tables.result
+    (found_some (world_of c.self.inside.store.entities) found.tables.now c.in_ok-found.ensures.shown c.in_ok-found.ensures.kinds
+    (g.T.TypeTest.test c.args.test.now) found.slots.items c.in_ok-found.ensures.listed (rw c.deref.ensures.value at c.in_err-tables.ensures.some)))

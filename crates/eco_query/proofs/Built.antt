@@ -1,18 +1,17 @@
 -- The loops from the atoms of a text to its query, each against the slots that the atoms make.
 use Rattle.eco_ids.proofs.Common.{◌≡◌, ℕ, zero, suc, ◌+◌, ◌<◌, ◌≤◌, Bool, true, false, ◌&&◌, ◌||◌, List, [], ◌∷◌, ◌++◌, length, get_or, drop, if◌then◌else◌}
-use Rattle.eco_ids.proofs.Common.{Some, None, Ok, Err, Option, Result, sym, refl, ap, ◌∙◌, subst, append_assoc, append-nil, add-one, arith, IsTrue, list_any, common_steps}
+use Rattle.eco_ids.proofs.Common.{Some, None, Ok, Err, Option, Result, sym, refl, ap, ◌∙◌, subst, append_assoc, append-nil, add-one, arith, list_any, common_steps}
 use Rattle.eco_ids.specs.declared.entity.Entity.{Entity}
 use Rattle.eco_ids.specs.declared.id.Id.{Id}
 use Rattle.eco_ids.specs.declared.refusal.Refusal.{Refusal}
 use Rattle.std.proofs.Common.{drop-cons}
 use Rattle.eco_ids.specs.Terms as terms
 use Rattle.eco_ids.specs.Terms.{QueryTerm}
-use Rattle.eco_query.specs.Grammar.{WrittenAtom, WrittenBody, absent, optional, alternatives, WrittenSlot, IsProperAtom}
+use Rattle.eco_query.specs.Grammar.{WrittenAtom, alternatives, WrittenSlot, IsProperAtom}
 use Rattle.eco_query.specs.Reader.Machine.{body_of}
 use Rattle.eco_query.specs.Reader.Points.{atom_view, is_bare_head}
-use Rattle.eco_query.specs.Queries.{QuerySlot, HasPositive}
-use Rattle.eco_query.specs.Queries.{is_positive as asks_there}
-use Rattle.eco_query.specs.Readings.{ok_map, ok_both, id_of, pattern_of, ids_of, term_of_body, slots_of, has_wildcard, misplaces_wildcard, is_positive}
+use Rattle.eco_query.specs.Queries.{QuerySlot}
+use Rattle.eco_query.specs.Readings.{ok_map, ok_both, id_of, ids_of, term_of_body, slots_of, has_wildcard, misplaces_wildcard, is_positive}
 use Rattle.eco_query.specs.Reader.Marks.{asks, slots_from, grouping, AreWhole, AreProperMarks}
 use Rattle.eco_query.specs.Reader.LastTerms.{last_of, misplaces_last, term_with, left_over}
 use Rattle.eco_query.specs.declared.written.WrittenAtom as written
@@ -204,39 +203,6 @@ module _ (entity_named : List ℕ → Option Entity) where
   pending_unknown xs (marks.Slot a Optional x ∷ ms) f s d g = cc
   pending_unknown xs (marks.Slot a Alone x ∷ ms) f s d g = cc
 
-  term_positive : {A : Type 0} (f : A → QueryTerm) (b : Bool) → ((a : A) → asks_there (f a) ≡ b) → (r : Result A Refusal) (t : QueryTerm) → ok_map f r ≡ Ok t
-      → b ≡ asks_there t
-  term_positive f b h (Err k) t e = cc
-  term_positive f b h (Ok a) t e = let same : f a ≡ t = cc in sym (h a) ∙ ap asks_there same
-
-  body_positive : (k : WrittenBody) (t : QueryTerm) → term_of_body entity_named k ≡ Ok t → is_positive k ≡ asks_there t
-  body_positive (absent x) t e = term_positive (λ p. terms.Not p) false (λ p. refl) (pattern_of entity_named x) t e
-  body_positive (optional x) t e = term_positive (λ i. terms.Optional i) false (λ i. refl) (id_of entity_named x) t e
-  body_positive (alternatives []) t e = let same : terms.Or [] ≡ t = cc in ap asks_there same
-  body_positive (alternatives (x ∷ [])) t e = term_positive (λ p. terms.And p) true (λ p. refl) (pattern_of entity_named x) t e
-  body_positive (alternatives (x ∷ y ∷ xs)) t e = term_positive (λ is. terms.Or is) true (λ is. refl) (ids_of entity_named (x ∷ y ∷ xs)) t e
-
-  -- the slots that are made ask for something that is there where those that are written do
-  pub slots_positive : (ss : List WrittenSlot) (qs : List QuerySlot) → slots_of entity_named ss ≡ Ok qs
-      → list_any (λ s. is_positive s.body) ss ≡ list_any (λ q. asks_there q.term) qs
-  slots_positive [] qs e = let none : [] ≡ qs = cc in ap (list_any (λ q. asks_there q.term)) none
-  slots_positive (s ∷ ss) qs e =
-      elim (term_of_body entity_named s.body) as
-      (λ r. term_of_body entity_named s.body ≡ r
-      → ok_both (λ t ts. t ∷ ts) (ok_map (λ a. let q : QuerySlot = record { access = s.access; term = a } in q) r) (slots_of entity_named ss) ≡ Ok qs
-      → list_any (λ s. is_positive s.body) (s ∷ ss) ≡ list_any (λ q. asks_there q.term) qs) [
-        | Err f ↦ λ d e. cc
-        | Ok t ↦ λ d e. elim (slots_of entity_named ss) as
-            (λ r. slots_of entity_named ss ≡ r
-            → ok_both (λ t ts. t ∷ ts) (Ok (let q : QuerySlot = record { access = s.access; term = t } in q)) r ≡ Ok qs
-            → list_any (λ s. is_positive s.body) (s ∷ ss) ≡ list_any (λ q. asks_there q.term) qs) [
-              | Err f ↦ λ c e. cc
-              | Ok ts ↦ λ c e.
-                  let same : (let q : QuerySlot = record { access = s.access; term = t } in q) ∷ ts ≡ qs = cc in
-                  rw (body_positive s.body t d, slots_positive ss ts c) (ap (list_any (λ q. asks_there q.term)) same)
-            ] refl e
-      ] refl e
-
 -- where a loop stands that looks up names: the slots that it made, the alternatives that are pending, and the atoms that are left
 pub record Standing (entity_named : List ℕ → Option Entity) (all : List Mark) (xs : List WrittenAtom) (ys : List QuerySlot) (group : List Id)
     (rest : List Mark) : Type 0 where
@@ -373,7 +339,3 @@ module _ (entity_named : List ℕ → Option Entity) (all : List Mark) (xs : Lis
   pub standing_end : Standing entity_named all xs ys group (drop i all) → length all ≤ i → slots_of entity_named (slots_from [] all) ≡ Ok ys
   standing_end s le =
       s.whole ∙ ap (λ rest. joined entity_named ys (slots_of entity_named (slots_from xs rest))) (past_end all i le) ∙ ap (λ qs. Ok qs) (append-nil ys)
-
-  pub positive_end : Standing entity_named all xs ys group (drop i all) → length all ≤ i → IsTrue (list_any (λ s. is_positive s.body) (slots_from [] all))
-      → HasPositive ys
-  positive_end s le p = subst IsTrue (slots_positive entity_named (slots_from [] all) ys (standing_end s le)) p

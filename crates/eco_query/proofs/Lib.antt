@@ -3,6 +3,7 @@ pub mod ByteTests
 pub mod Entries
 pub mod Fault
 pub mod Fronts
+pub mod Kept
 pub mod Live
 pub mod Loops
 pub mod Matched

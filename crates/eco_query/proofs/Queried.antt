@@ -1,10 +1,15 @@
 -- The refusals of a query, in their order.
-use Rattle.eco_ids.proofs.Common.{◌≡◌, ℕ, false, ◌&&◌, List, [], ◌∷◌, ◌++◌, length, Some, ap, ◌∙◌, subst}
+use Rattle.eco_ids.proofs.Common.{◌≡◌, ℕ, ◌≤◌, false, ◌&&◌, List, [], ◌∷◌, ◌++◌, length, Option, Result, Some, None, Err, sym, refl, ap, ◌∙◌, subst, inl, inr, lt-ltb}
+use Rattle.std.specs.Prelude.{IsOk}
+use Rattle.eco_ids.specs.declared.entity.Entity.{Entity}
+use Rattle.eco_ids.specs.declared.refusal.Refusal.{Refusal}
+use Rattle.eco_ids.specs.declared.refusal.Refusal.TheVariants.{TooManyTerms}
 use Rattle.eco_query.specs.Grammar.{WrittenAtom, single, pair, WrittenBody, absent, optional, alternatives, WrittenSlot, IsAtom, AreMore, IsBody, AreSlots}
 use Rattle.eco_query.specs.Grammar.{SpellsSlots, SpellsQuery, IsProperAtom}
 use Rattle.eco_query.specs.Reader.Machine.{body_of}
 use Rattle.eco_query.specs.Reader.Points.{atom_view, is_bare_head}
-use Rattle.eco_query.specs.Readings.{atoms_of}
+use Rattle.eco_query.specs.Queries.{QuerySlot}
+use Rattle.eco_query.specs.Readings.{atoms_of, count_atoms, query_of, InMemory, ReadsInMemory}
 use Rattle.eco_query.specs.Reader.Marks.{slots_from, grouping, HoldsSlots, AreProperMarks}
 use Rattle.eco_query.specs.declared.point.Mark.{Mark}
 use Rattle.eco_query.specs.declared.point.Mark.TheVariants as marks
@@ -83,3 +88,17 @@ marks_proper xs (marks.Slot a h x ∷ ms) g s =
 pub held_proper : (text : List ℕ) (slots : List WrittenSlot) (ms : List Mark) → SpellsQuery text slots → HoldsSlots (Some ms) slots → AreProperMarks ms
 held_proper text slots ms s (same, whole, count) =
     let (all, none) = marks_proper [] ms whole (subst AreProperSlots same (query_proper (length text) text slots s)) in all
+
+-- ---- what the atoms that are held are answered with
+
+pub held_few : (slots : List WrittenSlot) (ms : List Mark) → HoldsSlots (Some ms) slots → count_atoms (slots_from [] ms) ≤ 32
+held_few slots ms (same, whole, few) = subst (λ s. count_atoms s ≤ 32) same few
+
+module _ (entity_named : List ℕ → Option Entity) (text : List ℕ) (slots : List WrittenSlot) where
+  pub held_over : SpellsQuery text slots → HoldsSlots None slots → ReadsInMemory SpellsQuery (query_of entity_named) text (Err TooManyTerms)
+  held_over spelled many = inl (inl (slots, spelled, rw (lt-ltb 32 (count_atoms slots) many) refl))
+
+  pub held_answered : (ms : List Mark) (r : Result (List QuerySlot) Refusal) → SpellsQuery text slots → HoldsSlots (Some ms) slots
+      → InMemory (query_of entity_named (slots_from [] ms)) r → ReadsInMemory SpellsQuery (query_of entity_named) text r
+  held_answered ms r spelled (same, whole, few) (inl e) = inl (inl (slots, spelled, e ∙ ap (query_of entity_named) (sym same)))
+  held_answered ms r spelled (same, whole, few) (inr (ok, e)) = inr (slots, spelled, subst (λ s. IsOk (query_of entity_named s)) (sym same) ok, e)

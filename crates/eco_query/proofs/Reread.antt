@@ -20,7 +20,7 @@ use Rattle.eco_query.specs.Readings.{atoms_of, count_atoms, misplaces_wildcard, 
 use Rattle.eco_query.specs.Tokens.{handle, IsWhite}
 use Rattle.eco_query.specs.declared.access.Access.{Access}
 use Rattle.eco_query.specs.declared.access.Access.TheVariants.{In, Out, InOut, InOutNone}
-use Rattle.eco_query.proofs.Built.{slots_positive}
+use Rattle.eco_query.proofs.Kept.{slots_positive}
 
 behind : (xs ys : List ℕ) (n : ℕ) → length (xs ++ ys) ≤ n → length ys ≤ n
 behind xs ys n le = let long = length-append xs ys in omega arith

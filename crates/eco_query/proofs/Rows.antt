@@ -3,7 +3,15 @@ use Rattle.eco_ids.proofs.Common.{◌≡◌, ℕ, List, [], ◌∷◌, Some, cod
 use Rattle.eco_query.specs.Tokens.{name}
 use Rattle.eco_query.specs.Faults.{IsSpelled, IsFault}
 use Rattle.eco_query.specs.Grammar.{named, each, any, single, pair, absent, alternatives, WrittenSlot, SpellsQuery}
-use Rattle.eco_query.specs.declared.access.Access.TheVariants.{In, InOut}
+use Rattle.std.specs.Fmt.{digits}
+use Rattle.eco_ids.specs.Terms.{And, Not, Optional, Or}
+use Rattle.eco_ids.specs.declared.entity.Entity.{Entity}
+use Rattle.eco_ids.specs.declared.id.Id.TheVariants.{One, Two}
+use Rattle.eco_ids.specs.declared.pattern.Part.TheVariants.{Is, Each, Any}
+use Rattle.eco_ids.specs.declared.pattern.Pattern.TheVariants as pattern
+use Rattle.eco_query.specs.Canonical.{query_text}
+use Rattle.eco_query.specs.Queries.{QuerySlot}
+use Rattle.eco_query.specs.declared.access.Access.TheVariants.{In, Out, InOut, InOutNone}
 use Rattle.eco_query.specs.Reader.Machine.{Point, end, advance, runs, query_start}
 use Rattle.eco_query.proofs.Spelled.{query_fault}
 
@@ -42,3 +50,38 @@ row_last = runs advance (0, query_start) row_text
 
 row_end : option_and_then (λ s. end s.1) row_last ≡ Some row_slots
 row_end = refl
+
+-- ---- canonical texts
+
+abbrev row_first : Entity
+row_first = record { index = 9; generation = 0 }
+
+abbrev row_second : Entity
+row_second = record { index = 4294967295; generation = 65535 }
+
+row_one : query_text ((record { access = In; term = And (pattern.One row_first) }) ∷ []) ≡ codes "[in] #9.0"
+unfolding digits
+row_one = refl
+
+row_absent : query_text ((record { access = InOutNone; term = Not (pattern.Two (Is row_second) Each) }) ∷ []) ≡ codes "[none] !(#4294967295.65535, *)"
+unfolding digits
+row_absent = refl
+
+row_optional : query_text ((record { access = Out; term = Optional (Two row_first row_second) }) ∷ []) ≡ codes "[out] ?(#9.0, #4294967295.65535)"
+unfolding digits
+row_optional = refl
+
+row_group : query_text ((record { access = InOut; term = Or (One row_first ∷ Two row_first row_first ∷ One row_second ∷ []) }) ∷ [])
+    ≡ codes "#9.0 || (#9.0, #9.0) || #4294967295.65535"
+unfolding digits
+row_group = refl
+
+abbrev row_query : List QuerySlot
+row_query =
+    (record { access = InOut; term = And (pattern.Two Any (Is row_first)) })
+    ∷ (record { access = In; term = Optional (One row_first) })
+    ∷ (record { access = InOut; term = Not (pattern.Two Each Each) }) ∷ []
+
+row_joined : query_text row_query ≡ codes "(_, #9.0), [in] ?#9.0, !(*, *)"
+unfolding digits
+row_joined = refl

@@ -163,6 +163,10 @@ query_of entity_named slots =
     else (if not (list_any (λ s. is_positive s.body) slots) then Err NoPositive
     else slots_of entity_named slots))
 
+-- an answer, or that memory for what would be answered is wanting
+abbrev pub InMemory : {T : Type 0} → Result T Refusal → Result T Refusal → Type 0
+InMemory answer r = (r ≡ answer) ⊎ (IsOk answer × (r ≡ Err OutOfMemory))
+
 -- a text is answered likewise; memory may be wanting for what would be answered else
 abbrev pub ReadsInMemory : {X T : Type 0} → (List ℕ → X → Type 0) → (X → Result T Refusal)
     → List ℕ → Result T Refusal → Type 0

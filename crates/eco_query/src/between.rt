@@ -1,5 +1,5 @@
 //! What a byte does between tokens.
-ghost use Rattle.std.specs.Prelude.{◌≡◌, ◌+◌, ◌<◌, length, Option, IfSome, option_map, slice_index};
+ghost use Rattle.std.specs.Prelude.{◌≡◌, true, ◌+◌, ◌<◌, length, Option, IfSome, option_map, slice_index};
 ghost use Rattle.eco_query.specs.Reader.Machine as machine;
 ghost use Rattle.eco_query.specs.Reader.Machine.{part_or};
 ghost use Rattle.eco_query.specs.Reader.Points.{Draft, IsBegunAt, KeepsSlots, is_bare, is_bare_head, is_bare_role, is_bare_spot, atom_view, before_view, marked, or_point, role_view, spot_view, step_view};
@@ -124,6 +124,51 @@ fn step_to<'a>(point: Option<Point<'a>>, mark: Mark<'a>) -> Option<Step<'a>>
     })
 }
 
+/// Begins a slot.
+fn begin_slot<'a>(text: &'a [u8], at: usize) -> Option<Step<'a>>
+    requires within { at < length text.now }
+    ensures begun { IfSome result (λ s. IsBegunAt (at + 1) s.point) }
+    ensures slots { IfSome result (KeepsSlots true) }
+    ensures step { (d : Draft) → option_map (step_view text.now (at + 1) d) result
+        ≡ machine.enter at (machine.slot d.slots) (slice_index text.now at) }
+{
+    if text[at] == b'[' {
+        Some(Step::to(Point::At(Spot::Word)))
+    } else {
+        step_to(begin_body(text, at, Access::InOut), Mark::Begin)
+    }
+}
+
+/// Begins the word of an access.
+fn begin_word<'a>(text: &'a [u8], at: usize) -> Option<Step<'a>>
+    requires within { at < length text.now }
+    ensures begun { IfSome result (λ s. IsBegunAt (at + 1) s.point) }
+    ensures slots { IfSome result (KeepsSlots true) }
+    ensures step { (d : Draft) → option_map (step_view text.now (at + 1) d) result
+        ≡ machine.enter at (machine.word d.slots) (slice_index text.now at) }
+{
+    if matches!(text[at], b'i' | b'o' | b'n') {
+        Some(Step::to(Point::Letters(at)))
+    } else {
+        None
+    }
+}
+
+/// Ends an access.
+fn shut_access<'a>(text: &'a [u8], at: usize, access: Access) -> Option<Step<'a>>
+    requires within { at < length text.now }
+    ensures begun { IfSome result (λ s. IsBegunAt (at + 1) s.point) }
+    ensures slots { IfSome result (KeepsSlots true) }
+    ensures step { (d : Draft) → option_map (step_view text.now (at + 1) d) result
+        ≡ machine.enter at (machine.shut d.slots access) (slice_index text.now at) }
+{
+    if text[at] == b']' {
+        Some(Step::to(Point::At(Spot::Body(access))))
+    } else {
+        None
+    }
+}
+
 /// What a byte does between tokens that is no white space.
 pub fn enter<'a>(text: &'a [u8], at: usize, spot: Spot<'a>) -> Option<Step<'a>>
     requires within { at < length text.now }
@@ -132,18 +177,15 @@ pub fn enter<'a>(text: &'a [u8], at: usize, spot: Spot<'a>) -> Option<Step<'a>>
     ensures step { (d : Draft) → option_map (step_view text.now (at + 1) d) result
         ≡ machine.enter at (spot_view d spot.entry) (slice_index text.now at) }
 {
-    let byte = text[at];
     match spot {
-        Spot::Slot if byte == b'[' => Some(Step::to(Point::At(Spot::Word))),
-        Spot::Slot => step_to(begin_body(text, at, Access::InOut), Mark::Begin),
-        Spot::Word if matches!(byte, b'i' | b'o' | b'n') => Some(Step::to(Point::Letters(at))),
-        Spot::Shut(access) if byte == b']' => Some(Step::to(Point::At(Spot::Body(access)))),
+        Spot::Slot => begin_slot(text, at),
+        Spot::Word => begin_word(text, at),
+        Spot::Shut(access) => shut_access(text, at, access),
         Spot::Body(access) => step_to(begin_body(text, at, access), Mark::Begin),
         Spot::Atom(access, head) => step_to(begin_atom(text, at, access, head), Mark::Same),
         Spot::Part(role) => step_to(begin_part(text, at, role), Mark::Same),
         Spot::Behind(role, part) => behind_part(text, at, role, part),
         Spot::After(access, head, atom) => behind_atom(text, at, access, head, atom),
-        _ => None,
     }
 }
 

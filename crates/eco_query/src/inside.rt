@@ -55,6 +55,34 @@ fn advance_bar<'a>(
     }
 }
 
+/// What a byte behind a handle's `#` does.
+fn advance_hash<'a>(text: &'a [u8], at: usize, role: Role<'a>, from: usize) -> Option<Step<'a>>
+    requires within { at < length text.now }
+    ensures begun { IfSome result (λ s. IsBegunAt (at + 1) s.point) }
+    ensures slots { IfSome result (KeepsSlots (is_bare_role role.entry)) }
+    ensures step { IsMove text.now at (Point.Hash role.entry from) result }
+{
+    let index = u32::from(digit(text[at])?);
+    Some(Step::to(Point::Index(role, from, index)))
+}
+
+/// What a byte behind a handle's point does.
+fn advance_dot<'a>(
+    text: &'a [u8],
+    at: usize,
+    role: Role<'a>,
+    from: usize,
+    index: u32,
+) -> Option<Step<'a>>
+    requires within { at < length text.now }
+    ensures begun { IfSome result (λ s. IsBegunAt (at + 1) s.point) }
+    ensures slots { IfSome result (KeepsSlots (is_bare_role role.entry)) }
+    ensures step { IsMove text.now at (Point.Dot role.entry from index) result }
+{
+    let generation = u16::from(digit(text[at])?);
+    Some(Step::to(Point::Generation(role, from, index, generation)))
+}
+
 /// What a byte behind some of a handle's index does.
 fn advance_index<'a>(
     text: &'a [u8],
@@ -169,15 +197,9 @@ pub fn advance<'a>(text: &'a [u8], at: usize, point: Point<'a>) -> Option<Step<'
         Point::Letters(from) => advance_letters(text, at, from),
         Point::Bar(access, atom) => advance_bar(text, at, access, atom),
         Point::Name(role, from) => advance_name(text, at, role, from),
-        Point::Hash(role, from) => {
-            let index = u32::from(digit(text[at])?);
-            Some(Step::to(Point::Index(role, from, index)))
-        }
+        Point::Hash(role, from) => advance_hash(text, at, role, from),
         Point::Index(role, from, index) => advance_index(text, at, role, from, index),
-        Point::Dot(role, from, index) => {
-            let generation = u16::from(digit(text[at])?);
-            Some(Step::to(Point::Generation(role, from, index, generation)))
-        }
+        Point::Dot(role, from, index) => advance_dot(text, at, role, from, index),
         Point::Generation(role, from, index, generation) => {
             advance_generation(text, at, role, from, index, generation)
         }

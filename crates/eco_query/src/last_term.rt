@@ -3,12 +3,13 @@ ghost use Rattle.std.specs.Prelude.{◌≡◌, IfOk, IfErr};
 ghost use Rattle.eco_ids.specs.declared.refusal.Refusal.TheVariants.{OutOfMemory};
 ghost use Rattle.eco_query.specs.Grammar.{IsProperAtom};
 ghost use Rattle.eco_query.specs.Reader.LastTerms as last;
-ghost use Rattle.eco_query.specs.Reader.LastTerms.{term_with, last_of, left_over};
+ghost use Rattle.eco_query.specs.Reader.LastTerms.{IsLast, term_with, last_of, left_over};
 ghost use Rattle.eco_query.specs.Reader.Points.{atom_view};
 ghost use Rattle.eco_query.specs.Queries.{term_view};
 
 use crate::names::Names;
 use crate::point::Head;
+use crate::range::{id_is_in_range, pattern_is_in_range};
 use crate::term::Term;
 use crate::written::WrittenAtom;
 use eco_ids::{Id, Pattern, Refusal};
@@ -54,6 +55,16 @@ pub fn misplaces_last(head: Head, grouped: bool, atom: WrittenAtom<'_>) -> bool
 }
 
 impl LastTerm {
+    /// Does nothing, and its contract says that its numbers are in range.
+    pub fn is_in_range(self)
+        ensures { IsLast self }
+    {
+        match self {
+            LastTerm::And(pattern) | LastTerm::Not(pattern) => pattern_is_in_range(pattern),
+            LastTerm::Optional(id) | LastTerm::Alternative(id) => id_is_in_range(id),
+        }
+    }
+
     /// The term of the slot. It takes the alternatives before, if it is one more.
     pub fn into_term(self, alloc: Global, group: &mut Vec<Id>) -> Result<Term, Refusal>
         ensures term { IfOk result (λ t. term_view t ≡ term_with group.old.items self) }

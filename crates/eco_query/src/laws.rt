@@ -6,6 +6,8 @@ ghost use Rattle.eco_query.specs.Grammar.{SpellsId, SpellsQuery, SpellsRef};
 ghost use Rattle.eco_query.specs.Queries.{IsQuery, QuerySlot};
 ghost use Rattle.eco_query.specs.Readings.{Reads, ReadsAll, ReadsOnce, SpellsOnce, entity_at, id_of, query_of};
 
+use crate::query::Query;
+
 /// A text spells one thing at most.
 pub fn texts_spell_once()
     ensures reference { SpellsOnce SpellsRef }
@@ -29,8 +31,13 @@ pub fn texts_are_read()
     ensures query { (entity_named : List ℕ → Option Entity) → ReadsAll SpellsQuery (query_of entity_named) }
 {}
 
-/// Under any names the canonical text of a query is read as that query.
-pub fn canonical_texts_are_read()
-    ensures { (slots : List QuerySlot) → IsQuery slots → (entity_named : List ℕ → Option Entity)
+/// Under any names the canonical text of a query is read as that query, and so is that of any list of slots that keeps to
+/// what a query keeps to.
+pub fn canonical_texts_are_read(query: &Query)
+    ensures slots { (slots : List QuerySlot) → IsQuery slots → (entity_named : List ℕ → Option Entity)
         → Reads SpellsQuery (query_of entity_named) (query_text slots) (Ok slots) }
-{}
+    ensures query { (entity_named : List ℕ → Option Entity)
+        → Reads SpellsQuery (query_of entity_named) (query_text query.now) (Ok query.now) }
+{
+    query.is_well_made();
+}

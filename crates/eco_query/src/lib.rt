@@ -11,6 +11,7 @@ pub mod laws;
 pub mod names;
 mod point;
 pub mod query;
+mod range;
 pub mod read;
 mod resolve;
 mod scan;

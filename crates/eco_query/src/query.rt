@@ -10,8 +10,8 @@ use std::alloc::{AllocError, Global};
 use std::fmt;
 use std::marker::Model;
 
-/// A query: an entity answers it where each of its slots holds. Some slot asks for something that is there. A contract sees
-/// it as the list of its slots.
+/// A query: an entity answers it where each of its slots holds. It has at most 32 terms, each alternative counted, and some
+/// slot asks for something that is there. A contract sees it as the list of its slots.
 ///
 /// A query prints as its canonical text: its slots joined by `, `, entities as handles, as in `[in] #9.0, !#10.0, (#11.0, *)`.
 #[derive(Debug)]
@@ -58,24 +58,32 @@ fn copies(slots: &[Slot], alloc: Global) -> Result<Vec<Slot>, AllocError>
 
 impl Model for Query {
     ghost use Rattle.std.specs.Prelude.{List, map};
-    ghost use Rattle.eco_query.specs.Queries.{HasPositive, QuerySlot, slot_view};
+    ghost use Rattle.eco_query.specs.Queries.{IsQuery, QuerySlot, slot_view};
 
     ghost Value = { List QuerySlot };
 
     ghost view = { λ q. map slot_view q.slots.items };
 
-    ghost invariant = { λ q. HasPositive (map slot_view q.slots.items) };
+    ghost invariant = { λ q. IsQuery (map slot_view q.slots.items) };
 }
 
 impl Query {
-    ghost use Rattle.eco_query.specs.Queries.{HasPositive, matches_type, reads};
+    ghost use Rattle.eco_query.specs.Queries.{HasPositive, IsQuery, matches_type, reads};
 
     /// Of its slots; only a reader of texts makes one.
     pub(crate) fn of_slots(slots: Vec<Slot>) -> Query
-        requires { HasPositive (map slot_view slots.items) }
+        requires { IsQuery (map slot_view slots.items) }
         ensures { result ≡ map slot_view slots.items }
     {
         Query { slots }
+    }
+
+    /// Does nothing, and its contract says what each query keeps to: the numbers of its handles are in range, alternatives
+    /// are two or more, it has at most 32 terms, and some slot asks for something that is there.
+    pub fn is_well_made(&self)
+        ensures { IsQuery self.now }
+    {
+        let _slots = &self.slots;
     }
 
     /// Does nothing, and its contract says that some slot asks for something that is there: a plain term or alternatives.

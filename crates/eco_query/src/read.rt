@@ -3,7 +3,7 @@ ghost use Rattle.eco_query.specs.Grammar.{SpellsId, SpellsQuery, SpellsRef};
 ghost use Rattle.eco_query.specs.Readings.{Reads, ReadsInMemory, entity_at, id_of, query_of};
 
 use crate::access::Access;
-use crate::build::{build_query, check_names, has_positive, misplaces_wildcard};
+use crate::build::query_from;
 use crate::names::Names;
 use crate::point::{Head, Role, Spot};
 use crate::query::Query;
@@ -65,12 +65,5 @@ pub fn read_query<N: Names>(alloc: Global, text: &str, names: &N) -> Result<Quer
     let Some(marks) = terms.as_slice() else {
         return Err(Refusal::TooManyTerms);
     };
-    if misplaces_wildcard(marks) {
-        return Err(Refusal::WildcardHere);
-    }
-    if !has_positive(marks) {
-        return Err(Refusal::NoPositive);
-    }
-    check_names(marks, names)?;
-    build_query(alloc, marks, names)
+    query_from(alloc, marks, names)
 }

@@ -6,6 +6,7 @@ use Rattle.eco_ids.specs.declared.entity.Entity.{Entity}
 use Rattle.eco_ids.specs.declared.id.Id.{Id}
 use Rattle.eco_ids.specs.declared.refusal.Refusal.{Refusal}
 use Rattle.eco_query.specs.Grammar.{WrittenAtom}
+use Rattle.eco_query.specs.Queries.{IsPattern, exactly}
 use Rattle.eco_query.specs.Readings.{ok_map, id_of, pattern_of, has_wildcard, is_lone_wildcard}
 use Rattle.eco_query.specs.declared.point.Head.{Head}
 use Rattle.eco_query.specs.declared.point.Head.TheVariants as heads
@@ -36,6 +37,13 @@ term_with group (And p) = terms.And p
 term_with group (Not p) = terms.Not p
 term_with group (Optional i) = terms.Optional i
 term_with group (Alternative i) = terms.Or (group ++ i ∷ [])
+
+-- its numbers are in range
+abbrev pub IsLast : LastTerm → Type 0
+IsLast (And p) = IsPattern p
+IsLast (Not p) = IsPattern p
+IsLast (Optional i) = IsPattern (exactly i)
+IsLast (Alternative i) = IsPattern (exactly i)
 
 -- the alternatives that are left for the next slot
 abbrev pub left_over : List Id → LastTerm → List Id

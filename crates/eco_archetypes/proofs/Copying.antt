@@ -1,5 +1,6 @@
 -- The tables up to a slot, and what they are found by.
-use Rattle.std.proofs.Common.{◌≡◌, ◌≢◌, ℕ, zero, suc, true, cond, ◌+◌, ◌<◌, ◌≤◌, List, [], ◌∷◌, take, slice_get, Option, Some, None, option_map, unwrap_or, is_some, refl, sym, ap, ◌∙◌, arith, inl, inr}
+use Rattle.std.proofs.Common.{◌≡◌, ◌≢◌, ℕ, zero, suc, true, cond, ◌+◌, ◌<◌, ◌≤◌, List, [], ◌∷◌, take, slice_get, Option, Some, None, option_map, unwrap_or}
+use Rattle.std.proofs.Common.{is_some, refl, sym, ap, ◌∙◌, arith, inl, inr}
 use Rattle.std.specs.HashMap.{HashMap, get}
 use Rattle.std.proofs.lemmas.Bool.{cases_eq, cases_lt}
 use Rattle.eco_ids.specs.declared.id.Id.{Id}

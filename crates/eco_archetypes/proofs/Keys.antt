@@ -1,6 +1,6 @@
 -- Which patterns have a key, and how slots come to be listed under them.
-use Rattle.std.proofs.Common.{◌≡◌, ℕ, ◌<◌, ◌||◌, List, ◌∷◌, [], length, take, get_or, ◌+◌, Bool, true, false, cond, ◌&&◌, Option, None, Some, nat_eq, refl, sym, ap}
-use Rattle.std.proofs.Common.{◌∙◌, arith, zero, suc, if◌then◌else◌, inl, inr, ◌⊎◌, true≢false}
+use Rattle.std.proofs.Common.{◌≡◌, ℕ, ◌<◌, ◌||◌, List, ◌∷◌, [], length, take, get_or, ◌+◌, Bool, true, false, cond, ◌&&◌, Option, None, Some, nat_eq, refl}
+use Rattle.std.proofs.Common.{sym, ap, ◌∙◌, arith, zero, suc, if◌then◌else◌, inl, inr, ◌⊎◌, true≢false}
 use Rattle.std.specs.List.{list_any}
 use Rattle.std.specs.HashMap.{HashMap, get}
 use Rattle.std.proofs.lemmas.List.Folds.{list_any_more}

@@ -14,3 +14,5 @@ pub mod Leads
 pub mod Exchanges
 pub mod Widths
 pub mod NewWidths
+pub mod Named
+mod Places

@@ -1,5 +1,6 @@
 -- How wide an id is in the tables that have it.
-use Rattle.std.proofs.Common.{◌≡◌, ◌≤◌, ℕ, Bool, true, false, true≢false, cond, ◌||◌, IsTrue, IsSome, List, [], ◌∷◌, Option, None, Some, unwrap_or, option_map, refl, sym, ap, ◌∙◌, arith}
+use Rattle.std.proofs.Common.{◌≡◌, ◌≤◌, ℕ, Bool, true, false, true≢false, cond, ◌||◌, IsTrue, IsSome, List, [], ◌∷◌, Option, None, Some, unwrap_or}
+use Rattle.std.proofs.Common.{option_map, refl, sym, ap, ◌∙◌, arith}
 use Rattle.std.specs.FinMap.Entries.{find}
 use Rattle.std.specs.List.{list_any}
 use Rattle.eco_ids.specs.declared.id.Id.{Id}

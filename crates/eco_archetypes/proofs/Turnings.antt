@@ -1,5 +1,6 @@
 -- A table has one id more or less, where it stands.
-use Rattle.std.proofs.Common.{◌≡◌, ◌≢◌, ℕ, ◌==◌, Bool, true, false, true≢false, cond, not, ◌&&◌, ◌||◌, if◌then◌else◌, List, [], ◌∷◌, map, Option, Some, None, option_map, unwrap_or, IsSome, IsTrue, Result, Ok, Err, IfOk}
+use Rattle.std.proofs.Common.{◌≡◌, ◌≢◌, ℕ, ◌==◌, Bool, true, false, true≢false, cond, not, ◌&&◌, ◌||◌, if◌then◌else◌, List, [], ◌∷◌, map, Option, Some, None}
+use Rattle.std.proofs.Common.{option_map, unwrap_or, IsSome, IsTrue, Result, Ok, Err, IfOk}
 use Rattle.std.proofs.Common.{nat_eq, Less, Equal, Greater, refl, sym, ap, ◌∙◌, ◌≤◌, ◌⊎◌, inl, inr}
 use Rattle.std.specs.HashMap.{HashMap, get}
 use Rattle.std.specs.FinMap.Entries.{find, by_order}

@@ -1,6 +1,7 @@
 -- Tables keep what values may need, whatever is done to them.
 use Rattle.std.proofs.Common.{◌≡◌, ◌≢◌, ◌⊎◌, ◌++◌, ◌-◌, ◌≤◌, ◌<◌, ◌==◌, ◌&&◌, ℕ, zero, suc, ◌+◌, ℤ, pos, min, Bool, true, false, cond, IsTrue}
-use Rattle.std.proofs.Common.{List, [], ◌∷◌, length, replicate, take, drop, get_or, Option, None, Some, OnSome, IfNone, unwrap_or, refl, sym, ap, ◌∙◌, subst, arith, inl, inr, eqb-true}
+use Rattle.std.proofs.Common.{List, [], ◌∷◌, length, replicate, take, drop, get_or, Option, None, Some, OnSome, IfNone, unwrap_or, refl, sym, ap, ◌∙◌, subst}
+use Rattle.std.proofs.Common.{arith, inl, inr, eqb-true}
 use Rattle.std.proofs.lemmas.Bool.{cases_eq}
 use Rattle.std.proofs.lemmas.List.{length-take, length-drop, take-append-drop, take_more}
 use Rattle.std.proofs.lemmas.Map.Lookups.{exact_signed}

@@ -5,3 +5,4 @@ pub mod TypeMap
 pub mod Edges
 pub mod Widths
 pub mod Archetypes
+pub mod Naming

@@ -7,7 +7,7 @@ ghost use Rattle.eco_ids.specs.declared.id.Id.{Id as Ids};
 ghost use Rattle.eco_ids.specs.Order.{id_cmp};
 ghost use Rattle.eco_tables.specs.Table.{TableState, entities_of, empty_table};
 ghost use Rattle.eco_tables.specs.Tables.{slot_of, table_in, row_in, Sets, SetsRoom, Moves, MovesAll};
-ghost use Rattle.eco_tables.specs.Tables.{new_row, with_row, with_written, without_row, rowless_type};
+ghost use Rattle.eco_tables.specs.Tables.{cleared, new_row, with_row, with_written, without_row, rowless_type};
 ghost use Rattle.eco_archetypes.specs.Archetypes.{type_at, SameSlots, KeepsTypes, KeepsRoom, RowlessIn, RowlessBut, SameRows};
 ghost use Rattle.eco_archetypes.specs.TypeMap.{same_ids};
 ghost use Rattle.eco_archetypes.specs.Widths.{FitsIn, KeepsWidths, StillCover};
@@ -129,6 +129,24 @@ impl Archetypes {
         }
     }
 
+    /// The slot of the table with a type, and how many rows it has, where that type was asked for last and one more row
+    /// fits without memory.
+    #[inline]
+    pub fn last_with_room(&self, type_list: &TypeList) -> Option<(usize, usize)>
+        ensures typed { IfSome result (λ p. type_at self.now p.0 ≡ Some type_list.now) }
+        ensures room { IfSome result (λ p. 0 < (table_in self.now p.0).room) }
+        ensures row { IfSome result (λ p. p.1 ≡ length (table_in self.now p.0).rows) }
+    {
+        if !self.has_type(self.last, type_list) {
+            return None;
+        }
+        let table = self.tables.get(self.last)?;
+        if table.room() == 0 {
+            return None;
+        }
+        Some((self.last, table.row_count()))
+    }
+
     /// The slot of the table with a type, with room for so many more rows. Where there is no table of the type, one without
     /// rows is made. An `Err` comes where memory is refused, and then no table was made. No row changes.
     #[inline(always)]
@@ -150,7 +168,8 @@ impl Archetypes {
             self.reserve_rows(slot, more)?;
             return Ok(slot);
         }
-        self.make_with_room(entities, type_list, more)
+        let own = type_list.try_copy()?;
+        self.make_with_room(entities, own, more)
     }
 
     // What `room_for` does where there is no table of the type. Rare beside finds.
@@ -159,11 +178,11 @@ impl Archetypes {
     fn make_with_room(
         &mut self,
         entities: &EntityIndex,
-        type_list: &TypeList,
+        type_list: TypeList,
         more: usize,
     ) -> Result<usize, AllocError>
-        requires { (n : ℕ) → type_at self.old n ≢ Some type_list.now }
-        ensures typed { IfOk result (λ n. type_at self.new n ≡ Some type_list.now) }
+        requires { (n : ℕ) → type_at self.old n ≢ Some type_list }
+        ensures typed { IfOk result (λ n. type_at self.new n ≡ Some type_list) }
         ensures room { IfOk result (λ n. more ≤ (table_in self.new n).room) }
         ensures kept { OnOk result (KeepsRoom self.old self.new) }
         ensures rowless { RowlessBut self.old self.new result }
@@ -183,20 +202,19 @@ impl Archetypes {
 
     // A table without rows of a type that has none, in a slot that was empty. Every table is made here: what is to be told of
     // new tables is told here.
-    fn make(&mut self, entities: &EntityIndex, type_list: &TypeList) -> Result<usize, AllocError>
-        requires { (n : ℕ) → type_at self.old n ≢ Some type_list.now }
+    fn make(&mut self, entities: &EntityIndex, type_list: TypeList) -> Result<usize, AllocError>
+        requires { (n : ℕ) → type_at self.old n ≢ Some type_list }
         ensures vacant { IfOk result (λ n. slot_of self.old n ≡ None) }
         ensures makes { IfOk result (λ n. Sets self.old self.new n
-            (Some (empty_table type_list.now (table_in self.new n).widths))) }
+            (Some (empty_table type_list (table_in self.new n).widths))) }
         ensures widths { OnOk result (StillCover entities.now self.old self.new) }
         ensures err { OnErr result (SameSlots self.old self.new) }
     {
         let widths = self.widths_of(entities, type_list.as_slice())?;
         let key = type_list.try_copy()?;
-        let kept = type_list.try_copy()?;
         self.by_type.reserve_one()?;
-        let slot = self.tables.insert(kept, widths.as_slice())?;
-        match self.by_id.add_all(self.alloc, type_list.as_slice(), slot) {
+        let slot = self.tables.insert(type_list, widths.as_slice())?;
+        match self.by_id.add_all(self.alloc, key.as_slice(), slot) {
             Ok(()) => {
                 self.by_type.insert_reserved(key, slot);
                 Ok(slot)
@@ -294,6 +312,15 @@ impl Archetypes {
         ensures widths { KeepsWidths self.old self.new }
     {
         self.tables.swap_out(slot, row)
+    }
+
+    /// Takes all rows of a table out, and takes no memory. The table stays, and the room of its rows is won.
+    pub fn clear(&mut self, slot: usize)
+        requires { IsSome (slot_of self.old slot) }
+        ensures rows { Sets self.old self.new slot (Some (cleared (table_in self.old slot))) }
+        ensures widths { KeepsWidths self.old self.new }
+    {
+        self.tables.clear(slot);
     }
 
     /// Moves a row into room that was reserved in another table. The answer is the entity that stands in the hole now.

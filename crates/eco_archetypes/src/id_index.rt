@@ -20,6 +20,7 @@ use std::alloc::{AllocError, Global};
 mod flags;
 mod key;
 mod marks;
+mod names;
 mod shortest;
 mod slots;
 mod turning;
@@ -95,31 +96,36 @@ impl IdIndex {
         self.slots.get(&key)
     }
 
-    // Lists the slot under the key. An `Err` changes nothing that is listed.
+    // Lists the slot under the key. An `Err` changes nothing that is listed. The key is looked up once: it gets this slot alone,
+    // and where it had others before, they come back with this one among them.
     fn add(&mut self, alloc: Global, key: Key, slot: usize) -> Result<(), AllocError>
         ensures ok { OnOk result
             (Turns true (has_key key) (lists_of self.old.slots) (lists_of self.new.slots) slot) }
         ensures err { OnErr result (ListsSame (lists_of self.old.slots) (lists_of self.new.slots)) }
     {
         self.marks.mark(key)?;
-        if let Some(slots) = self.slots.get_mut(&key) {
-            return slots.add(alloc, slot);
-        }
-        self.slots.insert(key, Slots::One(slot))?;
-        Ok(())
+        let (place, before) = self.slots.insert_full(key, Slots::One(slot))?;
+        let Some(mut slots) = before else {
+            return Ok(());
+        };
+        let added = slots.add(alloc, slot);
+        let (_, own) = self.slots.pair_mut(place);
+        *own = slots;
+        added
     }
 
     // Takes the slot off the key's list, and with the last one the list. It takes no memory.
     fn take(&mut self, key: Key, slot: usize)
         ensures { Turns false (has_key key) (lists_of self.old.slots) (lists_of self.new.slots) slot }
     {
-        let Some(slots) = self.slots.get_mut(&key) else {
+        let Some((place, _, slots)) = self.slots.get_full(&key) else {
             return;
         };
         if slots.is_only(slot) {
-            let _ = self.slots.swap_remove(&key);
+            let _ = self.slots.swap_remove_index(place);
         } else {
-            slots.take(slot);
+            let (_, own) = self.slots.pair_mut(place);
+            own.take(slot);
         }
     }
 

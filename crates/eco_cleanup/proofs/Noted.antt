@@ -18,7 +18,10 @@ use Rattle.eco_ids.proofs.Overlaps.{entity_eq_is, entity_eq_itself}
 use Rattle.eco_tables.specs.Table.{TableState, entities_of}
 use Rattle.eco_tables.specs.Tables.{no_table, slot_of, table_in}
 use Rattle.eco_archetypes.specs.Archetypes.{FindsSome, IsAllFound, is_found_by}
+use Rattle.eco_archetypes.specs.Naming.{is_named_by_some}
 use Rattle.eco_archetypes.specs.TypeTests.{names_any}
+use Rattle.eco_archetypes.proofs.Listings.{distinct_none}
+use Rattle.eco_archetypes.proofs.Named.{none_names}
 use Rattle.eco_cleanup.specs.Nodes.{Appends, AreStarts, adds, all_nodes, falls, is_named_anywhere, is_one_of, leads, named_node, nodes_from, nodes_of, touches}
 use Rattle.eco_cleanup.specs.declared.node.Node.{Node}
 use Rattle.eco_cleanup.specs.declared.node.Node.TheVariants.{Root, Member, Falling, Named}
@@ -189,6 +192,10 @@ module _ (w : WorldState) (slots : List (Option TableState)) (m : Entity) where
           let at = found_slot (λ ids. names_any ids m) slots is in
           absurd (true≢false (sym at.1 ∙ sym (all.listed at.0) ∙ ap (λ ns. list_any (nat_eq at.0) ns) none))
       by false is = is
+
+  -- whom no type names has no table to be found
+  pub none_found : is_named_by_some slots m ≡ false → IsAllFound (λ ids. names_any ids m) slots []
+  none_found none = record { listed = λ n. sym (none_names slots m none n); distinct = distinct_none }
 
   pub none_adds : (found : List ℕ) → IsAllFound (λ ids. names_any ids m) slots found → found ≡ [] → (old : List Node) → Appends (adds w slots m) old old
   none_adds found all none old b = sym (or-false (is_one_of old b)) ∙ ap (λ t. is_one_of old b || t) (sym (nothing b))

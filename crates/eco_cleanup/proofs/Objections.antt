@@ -1,5 +1,6 @@
 -- The objection that is found is the least of all.
-use Rattle.std.proofs.Common.{◌≡◌, Bool, true, false, cond, not, ◌&&◌, ◌||◌, List, [], ◌∷◌, Option, Some, None, refl, sym, ap, IsTrue, Ordering, Less, Equal, Greater}
+use Rattle.std.proofs.Common.{◌≡◌, Bool, true, false, cond, not, ◌&&◌, ◌||◌, List, [], ◌∷◌, Option, Some, None, refl, sym, ap, IsTrue, Ordering, Less, Equal}
+use Rattle.std.proofs.Common.{Greater}
 use Rattle.std.proofs.lemmas.Cmp.{on_total, then_total}
 use Rattle.std.specs.Cmp.{IsTotalOrder}
 use Rattle.std.specs.List.{list_any}
@@ -18,7 +19,8 @@ use Rattle.eco_tables.specs.Table.{TableState, entities_of}
 use Rattle.eco_tables.specs.Tables.{table_in}
 use Rattle.eco_cleanup.specs.Firsts.{counted, former}
 use Rattle.eco_cleanup.specs.Nodes.{is_falling, is_member}
-use Rattle.eco_cleanup.specs.Objections.{first_objection, first_outside, first_protected, named_first, objection, objection_at, objection_cmp, objection_of, protects}
+use Rattle.eco_cleanup.specs.Objections.{first_objection, first_outside, first_protected, named_first, objection, objection_at, objection_cmp, objection_of}
+use Rattle.eco_cleanup.specs.Objections.{protects}
 use Rattle.eco_cleanup.specs.Policies.{names_on}
 use Rattle.eco_cleanup.specs.declared.node.Node.{Node}
 use Rattle.eco_cleanup.specs.declared.node.Node.TheVariants.{Root, Member, Falling, Named}
@@ -56,12 +58,14 @@ module _ (w : WorldState) (nodes : List Node) where
 
   named_first_is : (p : Entity → Bool) (one : Option Entity) (i : Id) → IsFirst entity_cmp_total p one
       → IsFirst entity_cmp_total (λ m. p m || names_member i m) (named_first w nodes one i)
-  named_first_is p one (One x) f = former_first entity_cmp_total p (in_role x x ON_DELETE) one (counted x (protects w nodes x x ON_DELETE)) f (role_first x x ON_DELETE)
+  named_first_is p one (One x) f = former_first entity_cmp_total p (in_role x x ON_DELETE) one (counted x (protects w nodes x x ON_DELETE)) f
+      (role_first x x ON_DELETE)
   named_first_is p one (Two r t) f =
       let head = counted r (protects w nodes r r ON_DELETE) in
       let tail = counted t (protects w nodes t r ON_DELETE_TARGET) in
       first_alike entity_cmp_total (λ m. (p m || in_role r r ON_DELETE m) || in_role t r ON_DELETE_TARGET m) (λ m. p m || names_member (Two r t) m)
-      (λ m. shared (p m) (is_member nodes m) (entity_eq r m && entity_eq (policy w r ON_DELETE) PANIC) (entity_eq t m && entity_eq (policy w r ON_DELETE_TARGET) PANIC))
+      (λ m. shared (p m) (is_member nodes m) (entity_eq r m && entity_eq (policy w r ON_DELETE) PANIC)
+      (entity_eq t m && entity_eq (policy w r ON_DELETE_TARGET) PANIC))
       (former entity_cmp (former entity_cmp one head) tail)
       (former_first entity_cmp_total (λ m. p m || in_role r r ON_DELETE m) (in_role t r ON_DELETE_TARGET) (former entity_cmp one head) tail
       (former_first entity_cmp_total p (in_role r r ON_DELETE) one head f (role_first r r ON_DELETE)) (role_first t r ON_DELETE_TARGET))
@@ -111,7 +115,8 @@ module _ (w : WorldState) (nodes : List Node) where
   pair_first p q (Some h) None f g = λ o. and_false (p o.holder) (q o.member) (g o.member)
   pair_first p q (Some h) (Some m) f g = (
     both (p h) (q m) f.0 g.0,
-    λ o k. le_then (entity_cmp h o.holder) (entity_cmp m o.member) (f.1 o.holder (first (p o.holder) (q o.member) k)) (g.1 o.member (second (p o.holder) (q o.member) k)),
+    λ o k. le_then (entity_cmp h o.holder) (entity_cmp m o.member) (f.1 o.holder (first (p o.holder) (q o.member) k))
+        (g.1 o.member (second (p o.holder) (q o.member) k)),
   )
 
   -- a holder of the table stays, and an id of its type names a member under the policy Panic

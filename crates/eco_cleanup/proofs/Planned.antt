@@ -1,9 +1,8 @@
 -- What is found among the nodes is what a delete does.
-use Rattle.std.proofs.Common.{◌≡◌, ℕ, nat_lt, Bool, true, false, cond, not, if◌then◌else◌, length, ◌↔◌, ◌||◌, inl, inr, List, [], ◌∷◌, ◌++◌, filter, map, flat_map, reverse, slice_get, Option, Some, None, unwrap_or, refl, sym, ap, ◌∙◌, subst, true≢false, IsTrue, IsFalse, arith}
+use Rattle.std.proofs.Common.{◌≡◌, ℕ, nat_lt, Bool, true, false, cond, not, if◌then◌else◌, length, ◌↔◌, ◌||◌, inl, inr, List, [], ◌∷◌, ◌++◌, filter, map, flat_map, slice_get, Option, Some, None, unwrap_or, refl, sym, ap, ◌∙◌, subst, true≢false, IsTrue, IsFalse, arith}
 use Rattle.std.specs.List.{All, Contains, list_any}
 use Rattle.std.proofs.lemmas.List.{map-append}
 use Rattle.std.proofs.lemmas.List.Elements.{All-nil, All-cons, All-append, Contains-append_left, Contains-append_right}
-use Rattle.std.proofs.lemmas.List.Sorted.{IsPermutation-reverse, list_any-IsPermutation}
 use Rattle.std.proofs.lemmas.Option.{none-some}
 use Rattle.eco_ids.specs.declared.entity.Entity.{Entity}
 use Rattle.eco_ids.specs.declared.id.Id.{Id}
@@ -25,7 +24,7 @@ use Rattle.eco_store.specs.Store.{IsShown, Stands, record_ids}
 use Rattle.eco_store.specs.declared.type_change.TypeChange.{TypeChange}
 use Rattle.eco_cleanup.specs.Nodes.{AreStarts, IsSearch, falls, is_falling, is_member, is_named, is_named_anywhere, is_one_of, leads, node_same, taken_among, touches}
 use Rattle.eco_cleanup.specs.Plans.{Ascend, IsPlan, TakesOut, TakesOutOfAll, change_in, change_of, changes_of, names_dead, spared}
-use Rattle.eco_cleanup.specs.Worlds.{world_of}
+use Rattle.eco_store.specs.Worlds.{world_of}
 use Rattle.eco_cleanup.specs.contracts.node.NodePartialEq.TheImpl as node_impl
 use Rattle.eco_cleanup.specs.declared.node.Node.{Node}
 use Rattle.eco_cleanup.specs.declared.node.Node.TheVariants.{Root, Member, Falling, Named}
@@ -215,15 +214,13 @@ module _ (v : Indexed Record) (slots : List (Option TableState)) (shown : IsShow
       let there = named_there v slots shown starts keys begin exact dying (λ x. refl) m.0 n m.1 named stays (falls (world_of v) slots m.0 n) refl in
       among_all keys n (record_ids r) there (among_change keys (slot_of slots n) row.1 row.2 (is_falling keys n) (record_ids r) row.3 stays same)
 
-  pub planned : (dead : List Entity) (changes : List TypeChange) → dead ≡ reverse dying → changes ≡ changes_of slots keys → Ascend changes
+  pub planned : (dead : List Entity) (changes : List TypeChange) → dead ≡ dying → changes ≡ changes_of slots keys → Ascend changes
       → IsPlan v (λ x. IsTrue (has_item entity_cmp (taken_among slots starts) x)) dead changes
   planned dead changes who what ascend =
       subst (IsPlan v (λ x. IsTrue (has_item entity_cmp (taken_among slots starts) x)) dead) (sym what) (record { doomed = doomed; taken = taken })
     where
       listed : (e : Entity) → has_item entity_cmp dying e ≡ has_item entity_cmp dead e
-      listed e =
-          list_any-IsPermutation (λ y. entity_eq y e) dying (reverse dying) (IsPermutation-reverse dying)
-          ∙ sym (ap (λ es. has_item entity_cmp es e) who)
+      listed e = sym (ap (λ es. has_item entity_cmp es e) who)
 
       doomed : (e : Entity) → IsTrue (has_item entity_cmp dead e) ↔ Doomed (world_of v) (λ x. IsTrue (has_item entity_cmp (taken_among slots starts) x)) e
       doomed e =

@@ -1,5 +1,6 @@
 -- Policies and roles, read off the ids of entities.
-use Rattle.std.proofs.Common.{◌≡◌, Bool, false, cond, ◌&&◌, ◌||◌, ◌↔◌, inl, inr, List, Option, Some, None, is_some, option_map, unwrap_or, refl, sym, ap, ◌∙◌, subst, true≢false, IsTrue}
+use Rattle.std.proofs.Common.{◌≡◌, Bool, false, cond, ◌&&◌, ◌||◌, ◌↔◌, inl, inr, List, Option, Some, None, is_some, option_map, unwrap_or, refl, sym, ap, ◌∙◌}
+use Rattle.std.proofs.Common.{subst, true≢false, IsTrue}
 use Rattle.std.proofs.lemmas.Bool.{or_left}
 use Rattle.eco_ids.specs.declared.entity.Entity.{Entity}
 use Rattle.eco_ids.specs.declared.entity.TheConstants.{ON_DELETE, ON_DELETE_TARGET, REMOVE, DELETE, PANIC}
@@ -30,7 +31,8 @@ chosen_alike : (f g : Id → Bool) (c : Entity) → ((i : Id) → f i ≡ g i) �
 chosen_alike f g c alike = λ t. cond (alike (Two c DELETE) t) DELETE (cond (alike (Two c PANIC) t) PANIC REMOVE)
 
 -- the policy of an entity that has these ids
-pub policy_of_ids : (w : WorldState) (e c : Entity) (ids : List Id) → Some ids ≡ option_map record_ids (record_of w e) → chosen (has_item id_cmp ids) c ≡ policy w e c
+pub policy_of_ids : (w : WorldState) (e c : Entity) (ids : List Id) → Some ids ≡ option_map record_ids (record_of w e)
+    → chosen (has_item id_cmp ids) c ≡ policy w e c
 policy_of_ids w e c ids own = chosen_alike (has_item id_cmp ids) (has w e) c (λ i. sym (has_of_some (record_of w e) i ids own))
 
 -- and of one that isn't living
@@ -56,7 +58,8 @@ names_on_exact w action member (One x) = pair_tested x member (policy w x ON_DEL
 names_on_exact w action member (Two r t) =
     let own = pair_tested r member (policy w r ON_DELETE) action in
     let target = pair_tested t member (policy w r ON_DELETE_TARGET) action in (
-      λ h. elim (or_parts (own_role w action member r) (target_role w action member r t) h) as (λ _. Names w action (Two r t) member) [ inl k ↦ inl (own.0 k) | inr k ↦ inr (target.0 k) ],
+      λ h. elim (or_parts (own_role w action member r) (target_role w action member r t) h) as (λ _. Names w action (Two r t) member)
+          [ inl k ↦ inl (own.0 k) | inr k ↦ inr (target.0 k) ],
       λ h. elim h as (λ _. IsTrue (names_on w action member (Two r t))) [ inl k ↦ or_left _ _ (own.1 k) | inr k ↦ or_right _ _ (target.1 k) ],
     )
 

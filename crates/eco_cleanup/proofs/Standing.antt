@@ -1,5 +1,6 @@
 -- Who stands in which table, and which ids that gives.
-use Rattle.std.proofs.Common.{◌≡◌, ℕ, zero, suc, Bool, nat_lt, List, [], ◌∷◌, length, slice_get, Option, Some, None, unwrap_or, refl, sym, ap, ◌∙◌, subst, true≢false, IsTrue, arith, inl, inr}
+use Rattle.std.proofs.Common.{◌≡◌, ℕ, zero, suc, Bool, nat_lt, List, [], ◌∷◌, length, slice_get, Option, Some, None, unwrap_or, refl, sym, ap, ◌∙◌, subst}
+use Rattle.std.proofs.Common.{true≢false, IsTrue, arith, inl, inr}
 use Rattle.std.specs.List.{list_any}
 use Rattle.std.proofs.lemmas.Bool.{or_left}
 use Rattle.std.proofs.lemmas.Bool.Decides.{nat_tests}
@@ -16,10 +17,9 @@ use Rattle.eco_ids.proofs.Keeps.{has_in}
 use Rattle.eco_ids.proofs.Overlaps.{entity_eq_is, entity_eq_itself}
 use Rattle.eco_tables.specs.Table.{Row, RowsHaveIds, TableState, entities_of}
 use Rattle.eco_tables.specs.Tables.{no_row, no_table, table_in}
-use Rattle.eco_archetypes.specs.Archetypes.{is_found_by}
-use Rattle.eco_archetypes.specs.Archetypes.{row_at}
+use Rattle.eco_archetypes.specs.Archetypes.{is_found_by, row_at}
 use Rattle.eco_store.specs.Store.{IsShown, Stands}
-use Rattle.eco_cleanup.specs.Worlds.{world_of}
+use Rattle.eco_store.specs.Worlds.{world_of}
 
 -- ---- ids of a type
 

@@ -1,5 +1,7 @@
 -- Entities die, and ids go from the types of the others.
-use Rattle.std.proofs.Common.{◌≡◌, ◌≢◌, ℕ, zero, suc, ◌+◌, ◌<◌, Bool, true, false, true≢false, cond, not, ◌||◌, ◌&&◌, T, List, [], ◌∷◌, map, filter, fold, length, get_or, slice_get, Some, None, unwrap_or, nat_lt, IsTrue, IsFalse, refl, sym, ap, ◌∙◌, subst, arith, is_eq, is_lt, Less, Equal, Greater}
+use Rattle.std.proofs.Common.{◌≡◌, ◌≢◌, ℕ, zero, suc, ◌+◌, ◌<◌, Bool, true, false, true≢false, cond, not, ◌||◌, ◌&&◌, T, List, [], ◌∷◌, map, filter, fold}
+use Rattle.std.proofs.Common.{length, get_or, slice_get, Some, None, unwrap_or, nat_lt, IsTrue, IsFalse, refl, sym, ap, ◌∙◌, subst, arith, is_eq, is_lt, Less}
+use Rattle.std.proofs.Common.{Equal, Greater}
 use Rattle.std.specs.List.{All, Contains, list_all, list_any}
 use Rattle.std.specs.FinMap.Entries.{find, where_key, is_sorted, below_all}
 use Rattle.std.proofs.lemmas.List.Elements.{All-contains, All-head, All-map, All-tail}

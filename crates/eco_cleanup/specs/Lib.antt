@@ -3,4 +3,3 @@ pub mod Nodes
 pub mod Objections
 pub mod Plans
 pub mod Policies
-pub mod Worlds

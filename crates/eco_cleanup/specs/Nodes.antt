@@ -1,5 +1,6 @@
 -- How deaths lead to deaths, table by table.
-use Rattle.std.proofs.Common.{◌≡◌, ℕ, Bool, true, false, not, ◌&&◌, ◌||◌, List, [], ◌∷◌, ◌++◌, map, flat_map, ◌+◌, unwrap_or, Option, ap, sym, ◌∙◌, true≢false, if◌then◌else◌, IsTrue}
+use Rattle.std.proofs.Common.{◌≡◌, ℕ, Bool, true, false, not, ◌&&◌, ◌||◌, List, [], ◌∷◌, ◌++◌, map, flat_map, ◌+◌, unwrap_or, Option, ap, sym, ◌∙◌}
+use Rattle.std.proofs.Common.{true≢false, if◌then◌else◌, IsTrue}
 use Rattle.std.specs.Prelude.{◌↔◌}
 use Rattle.std.specs.List.{list_any}
 use Rattle.std.proofs.lemmas.Bool.Decides.{Decides-eqb}

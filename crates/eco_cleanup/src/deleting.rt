@@ -9,7 +9,7 @@ ghost use Rattle.eco_ids.specs.declared.id.Id.{Id as IdData};
 ghost use Rattle.eco_store.specs.Holders.{entities_with};
 ghost use Rattle.eco_cleanup.specs.Objections.{Answers};
 ghost use Rattle.eco_cleanup.specs.Plans.{IsPlan, TakesOutOfAll};
-ghost use Rattle.eco_cleanup.specs.Worlds.{world_of};
+ghost use Rattle.eco_store.specs.Worlds.{world_of};
 ghost use Rattle.eco_cleanup.specs.declared.node.Node.TheVariants.{Root, Falling};
 
 use crate::node::Node;

@@ -1,5 +1,5 @@
 //! What a delete does, found before anything changes.
-ghost use Rattle.std.specs.Prelude.{◌≡◌, ◌++◌, List, reverse, IfOk, OnOk, IsTrue};
+ghost use Rattle.std.specs.Prelude.{◌≡◌, ◌++◌, List, IfOk, OnOk, IsTrue};
 ghost use Rattle.eco_ids.specs.Cleanup.{IsDoomed as IsDoomedList};
 ghost use Rattle.eco_ids.specs.Order.{entity_cmp, has_item, id_cmp, is_ascending};
 ghost use Rattle.eco_ids.specs.declared.entity.Entity.{Entity as EntityData};
@@ -8,7 +8,7 @@ ghost use Rattle.eco_store.specs.Store.{IsShown};
 ghost use Rattle.eco_cleanup.specs.Nodes.{taken_among, taken_by, AreStarts};
 ghost use Rattle.eco_cleanup.specs.Objections.{Answers};
 ghost use Rattle.eco_cleanup.specs.Plans.{Ascend, change_in, change_of, changes_of, names_dead, spared, IsPlan};
-ghost use Rattle.eco_cleanup.specs.Worlds.{world_of};
+ghost use Rattle.eco_store.specs.Worlds.{world_of};
 
 use crate::doomed::Doomed;
 use crate::node::Node;
@@ -45,7 +45,7 @@ impl Ties<'_> {
     // all its rows. An `Err` comes where memory is refused.
     fn plan_of(&self, alloc: Global, doomed: &Doomed) -> Result<Plan, AllocError>
         ensures dead { IfOk result (λ p.
-            p.dead.items ≡ reverse (taken_among self.now.archetypes.now doomed.now.nodes.keys)) }
+            p.dead.items ≡ taken_among self.now.archetypes.now doomed.now.nodes.keys) }
         ensures changes { IfOk result (λ p.
             p.changes.items ≡ changes_of self.now.archetypes.now doomed.now.nodes.keys) }
         ensures ascend { IfOk result (λ p. Ascend p.changes.items) }
@@ -55,17 +55,15 @@ impl Ties<'_> {
         Ok(Plan { dead, changes })
     }
 
-    // Who dies; a root may be listed twice. The rows of a table that falls come from the last to the first, so that each
-    // leaves from the end and no other row moves.
+    // Who dies; a root may be listed twice. The rows of a table that falls come in their order.
     fn dead(&self, alloc: Global, doomed: &Doomed) -> Result<Vec<Entity>, AllocError>
         ensures { IfOk result (λ es.
-            es.items ≡ reverse (taken_among self.now.archetypes.now doomed.now.nodes.keys)) }
+            es.items ≡ taken_among self.now.archetypes.now doomed.now.nodes.keys) }
     {
         let mut dead = Vec::new(alloc);
         for node in doomed.nodes.as_slice() {
             self.append_taken(*node, &mut dead)?;
         }
-        dead.reverse();
         Ok(dead)
     }
 

@@ -3,7 +3,7 @@ ghost use Rattle.std.specs.Prelude.{◌≡◌};
 ghost use Rattle.eco_ids.specs.Cleanup.{policy as policy_of};
 ghost use Rattle.eco_ids.specs.Order.{has_item, id_cmp};
 ghost use Rattle.eco_cleanup.specs.Policies.{chosen};
-ghost use Rattle.eco_cleanup.specs.Worlds.{world_of};
+ghost use Rattle.eco_store.specs.Worlds.{world_of};
 
 use eco_ids::entity::{DELETE, PANIC, REMOVE};
 use eco_ids::{Entity, Id, TypeList};

@@ -2,7 +2,7 @@
 ghost use Rattle.std.specs.Prelude.{◌≡◌};
 ghost use Rattle.std.specs.List.{list_any};
 ghost use Rattle.eco_cleanup.specs.Policies.{names_on};
-ghost use Rattle.eco_cleanup.specs.Worlds.{world_of};
+ghost use Rattle.eco_store.specs.Worlds.{world_of};
 
 use crate::policy::policy;
 use eco_ids::entity::{ON_DELETE, ON_DELETE_TARGET};

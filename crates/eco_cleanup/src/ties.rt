@@ -4,7 +4,7 @@ ghost use Rattle.eco_tables.specs.Table.{entities_of};
 ghost use Rattle.eco_tables.specs.Tables.{table_in};
 ghost use Rattle.eco_ids.specs.declared.entity.TheConstants.{DELETE as DELETE_DATA};
 ghost use Rattle.eco_cleanup.specs.Nodes.{adds, all_nodes, falls, leads, named_node, node_same, touches, Appends, IsSearch};
-ghost use Rattle.eco_cleanup.specs.Worlds.{world_of};
+ghost use Rattle.eco_store.specs.Worlds.{world_of};
 ghost use Rattle.eco_cleanup.specs.declared.node.Node.TheVariants.{Falling};
 
 use crate::doomed::Doomed;
@@ -56,6 +56,9 @@ impl Ties<'_> {
         ensures { OnOk result (Appends (touches (world_of self.now.store.now.entities) self.now.archetypes.now root)
             found.old.items found.new.items) }
     {
+        if !self.archetypes.is_named(root) {
+            return Ok(());
+        }
         let slots = self.archetypes.tables_by(&Naming { entity: root })?;
         self.append_tables(root, &slots, found)
     }
@@ -114,6 +117,10 @@ impl Ties<'_> {
         ensures { OnOk result (Appends (adds (world_of self.now.store.now.entities) self.now.archetypes.now entity)
             found.old.items found.new.items) }
     {
+        // Most who die are named nowhere, and a look at the marks tells that.
+        if !self.archetypes.is_named(entity) {
+            return Ok(());
+        }
         let slots = self.archetypes.tables_by(&Naming { entity })?;
         if slots.is_empty() {
             return Ok(());

@@ -2,7 +2,7 @@
 //!
 //! An entity is named by a handle: an index, and how often that index was used before. A handle that outlives its entity
 //! is never taken for the one who lives at its index now (Flecs manual, Entities and Components).
-ghost use Rattle.std.specs.Prelude.{◌≡◌, ◌↔◌, ◌≤◌, ◌<◌, ◌&&◌, nat_lt, true, [], length, Option, Some, None, IsTrue, IfOk, OnOk, OnErr, MatchOption};
+ghost use Rattle.std.specs.Prelude.{◌≡◌, ◌↔◌, ◌≤◌, ◌<◌, ◌&&◌, nat_lt, true, [], length, Option, Some, None, IsTrue, IfOk, IfSome, IfNone, OnOk, OnErr, MatchOption};
 ghost use Rattle.std.specs.Option.{option_copied};
 ghost use Rattle.eco_ids.specs.Births.{Admits, may_admit, Makes, MakesAliveWith, unfit_name};
 ghost use Rattle.eco_ids.specs.declared.entity.Entity.{Entity};
@@ -214,6 +214,22 @@ impl EntityIndex {
         Ok(entity)
     }
 
+    /// What [`create`](EntityIndex::create) does without a name, where it wants no memory and an index is left; the answer is the
+    /// entity, and it is kept at this place from the start. Else nothing changes.
+    ///
+    /// A row lies below 4,294,967,295.
+    #[inline]
+    pub fn create_in_room(&mut self, arity: Option<u8>, place: Place) -> Option<Entity>
+        requires { place.row < 4294967295 }
+        ensures next { IfSome result (λ e. next_entity self.old ≡ Some e) }
+        ensures some { IfSome result (λ e.
+            self.new ≡ with_new self.old e (placed place (newcomer None arity))) }
+        ensures none { IfNone result (self.new ≡ self.old) }
+    {
+        let entity = self.slots.settle_in_room(arity, place)?;
+        Some(entity)
+    }
+
     /// What stands against the name of a new entity: `BadName` where it is none, then `NameTaken` where a living entity has
     /// it.
     pub fn check_name(&self, name: Option<&str>) -> Result<(), Refusal>
@@ -312,6 +328,7 @@ impl EntityIndex {
 
     /// The living entity dies, and its name is free. Its index is free at the next generation; after generation 65,535 it
     /// is retired, and nobody lives there again. Takes no memory.
+    #[inline]
     pub fn kill(&mut self, entity: Entity)
         requires { IsTrue (is_alive self.old entity) }
         ensures { self.new ≡ with_death self.old entity }

@@ -1,5 +1,5 @@
 //! The set of free indices, as a bitmap of three levels.
-ghost use Rattle.std.specs.Prelude.{◌≡◌, ◌+◌, ◌-◌, ◌^◌, ◌<◌, ◌≤◌, true, false, List, [], ◌++◌, length, take, replicate, slice_set, IfOk, OnOk, OnErr};
+ghost use Rattle.std.specs.Prelude.{◌≡◌, ◌+◌, ◌-◌, ◌^◌, ◌<◌, ◌≤◌, true, false, IsTrue, IsFalse, List, [], ◌∷◌, ◌++◌, length, take, replicate, slice_set, IfOk, OnOk, OnErr};
 ghost use Rattle.std.specs.List.{position_from};
 
 use crate::level::{Level, WORD_BITS};
@@ -114,6 +114,21 @@ impl FreeSet {
             return Ok(());
         }
         self.grow_levels(count)
+    }
+
+    /// Knows one more index, which isn't free, where its words reach that far; else it stays as it is. The answer says
+    /// whether they do.
+    #[inline]
+    pub(crate) fn push_in_room(&mut self) -> bool
+        requires { length self.old + 1 < 2 ^ 32 }
+        ensures pushed { IsTrue result → self.new ≡ self.old ++ false ∷ [] }
+        ensures same { IsFalse result → self.new ≡ self.old }
+    {
+        if self.len == self.indices.len() * WORD_BITS {
+            return false;
+        }
+        self.len += 1;
+        true
     }
 
     // What `grow` does where the words that there are don't reach. Rare beside calls that do.

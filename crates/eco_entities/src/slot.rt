@@ -141,6 +141,22 @@ impl Slot {
         Slot::unplaced(generation, arity.unwrap_or(0), state)
     }
 
+    /// A new entity without name, at a place, with an arity or none.
+    #[inline]
+    pub(crate) fn settled(generation: u16, arity: Option<u8>, place: Place) -> Slot
+        requires { place.row < 4294967295 }
+        ensures { (label : Option (List ℕ)) → state_of label result
+            ≡ Living generation (placed place (newcomer None arity)) }
+    {
+        Slot {
+            table: place.table,
+            row: place.row as u32,
+            generation,
+            arity: arity.unwrap_or(0),
+            state: State::living(false, arity.is_some()),
+        }
+    }
+
     /// An entity lives there.
     #[inline]
     pub(crate) fn is_living(&self) -> bool

@@ -1,5 +1,5 @@
 //! The known indices: which of them live, are free or retired, and what is kept of the living.
-ghost use Rattle.std.specs.Prelude.{◌≡◌, ℕ, ◌+◌, ◌≤◌, ◌<◌, ◌&&◌, false, nat_lt, [], ◌++◌, replicate, vec_len, vec_capacity, length, slice_get, IsTrue, OnOk, OnErr, IfOk, Some, None, option_map, string_bytes};
+ghost use Rattle.std.specs.Prelude.{◌≡◌, ℕ, ◌+◌, ◌≤◌, ◌<◌, ◌&&◌, false, nat_lt, [], ◌++◌, replicate, vec_len, vec_capacity, length, slice_get, IsTrue, IsFalse, OnOk, OnErr, IfOk, IfSome, IfNone, Some, None, option_map, string_bytes};
 ghost use Rattle.eco_ids.specs.Births.{Admits, may_admit, MakesAliveWith};
 ghost use Rattle.eco_ids.specs.Indices.{changed, record_of, is_alive, is_free_at, next_entity, admitted, with_new, with_record, with_death};
 ghost use Rattle.eco_ids.specs.Outcome.{Meets};
@@ -176,6 +176,7 @@ impl Slots {
     }
 
     /// Who is made next: the lowest free index, else the first unknown one below the limit.
+    #[inline]
     pub(crate) fn next(&self) -> Option<Entity>
         ensures { result ≡ next_entity self.now }
     {
@@ -269,6 +270,25 @@ impl Slots {
         }
     }
 
+    /// The next entity lives at this place, with this arity and no name, where that wants no memory; the answer is the entity.
+    /// Else nothing changes.
+    #[inline]
+    pub(crate) fn settle_in_room(&mut self, arity: Option<u8>, place: Place) -> Option<Entity>
+        requires { place.row < 4294967295 }
+        ensures next { IfSome result (λ e. next_entity self.old ≡ Some e) }
+        ensures some { IfSome result (λ e.
+            self.new ≡ with_new self.old e (placed place (newcomer None arity))) }
+        ensures none { IfNone result (self.new ≡ self.old) }
+    {
+        let entity = self.next()?;
+        let slot = Slot::settled(entity.generation, arity, place);
+        let index = entity.index as usize;
+        if !put_in_room(&mut self.slots, &mut self.free, index, slot) {
+            return None;
+        }
+        Some(entity)
+    }
+
     /// A handle that is free lives, without name and arity.
     pub(crate) fn make_alive(&mut self, entity: Entity) -> Result<(), Refusal>
         ensures { MakesAliveWith self.old entity (newcomer None None) result self.new }
@@ -281,6 +301,7 @@ impl Slots {
     }
 
     /// The entity is dead, and its index is free at the next generation or retired.
+    #[inline]
     pub(crate) fn kill(&mut self, entity: Entity)
         requires { IsTrue (is_alive self.old entity) }
         ensures { self.new ≡ with_death self.old entity }
@@ -378,6 +399,27 @@ fn put(
     free.grow(1)?;
     slots.push_reserved(slot);
     Ok(())
+}
+
+// What `put` does, where it wants no memory. The answer says whether it does; if it would, both stay as they are.
+#[inline(always)]
+fn put_in_room(slots: &mut Vec<Slot>, free: &mut FreeSet, index: usize, slot: Slot) -> bool
+    requires { IsNextSlot index (length slots.old.items) (length free.old) }
+    ensures slots { IsTrue result → slots.new.items ≡ put_at index slot slots.old.items }
+    ensures free { IsTrue result → free.new ≡ put_at index false free.old }
+    ensures same_slots { IsFalse result → slots.new.items ≡ slots.old.items }
+    ensures same_free { IsFalse result → free.new ≡ free.old }
+{
+    if index < slots.len() {
+        free.remove(index);
+        slots[index] = slot;
+        return true;
+    }
+    if slots.len() == slots.capacity() || !free.push_in_room() {
+        return false;
+    }
+    slots.push_reserved(slot);
+    true
 }
 
 // Appends copies of a slot, for which there is room.

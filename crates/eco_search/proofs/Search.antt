@@ -1,6 +1,6 @@
 -- A search that asks its members in turn ends, with the least set.
-use Rattle.std.proofs.Common.{◌≡◌, ℕ, suc, ◌+◌, ◌-◌, ◌<◌, ◌≤◌, Bool, true, false, cond, ◌||◌, ◌↔◌, ◌⊎◌, inl, inr, List, [], ◌∷◌, ◌++◌, length, take, get_or, refl}
-use Rattle.std.proofs.Common.{sym, ap, ◌∙◌, subst, true≢false, IsTrue, arith, length-append, append_assoc}
+use Rattle.std.proofs.Common.{◌≡◌, ℕ, suc, ◌+◌, ◌-◌, ◌<◌, ◌≤◌, Bool, true, false, cond, ◌||◌, ◌↔◌, ◌⊎◌, inl, inr, List, [], ◌∷◌, ◌++◌, length, take, get_or}
+use Rattle.std.proofs.Common.{refl, sym, ap, ◌∙◌, subst, true≢false, IsTrue, arith, length-append, append_assoc}
 use Rattle.std.proofs.Math.Seq.{take-length}
 use Rattle.std.proofs.lemmas.List.{append-nil, take_more, take-append-le}
 use Rattle.std.proofs.lemmas.Bool.{or_left}
@@ -212,4 +212,5 @@ module _ {A : Type 0} (eq : A → A → Bool) (laws : IsEquivalence eq) (same : 
       let paid = noted_all_pays nodes members t.found t.within in
       let grown = noted_all_grows members t.found in
       let longer : length (insert_all eq members t.found) ≡ length members + length grown.0 = ap length grown.1 ∙ length-append members grown.0 in
-      subst (λ xs. left_of nodes xs + (length xs - (asked + 1)) < left_of nodes members + (length members - asked)) (sym t.noted) (omega (arith, paid, longer, l))
+      subst (λ xs. left_of nodes xs + (length xs - (asked + 1)) < left_of nodes members + (length members - asked)) (sym t.noted)
+      (omega (arith, paid, longer, l))

@@ -8,7 +8,7 @@ use Rattle.eco_ids.specs.declared.entity.Entity.{Entity}
 use Rattle.eco_ids.specs.declared.id.Id.{Id}
 use Rattle.eco_ids.specs.declared.refusal.Refusal.{Refusal}
 use Rattle.eco_ids.specs.declared.refusal.Refusal.TheVariants.{NoMoreIds}
-use Rattle.eco_ids.specs.Births.{Admits, may_admit, unfit_name}
+use Rattle.eco_ids.specs.Births.{Admits, may_admit, Makes, may_make, unfit_name}
 use Rattle.eco_ids.specs.Outcome.{Meets, is_out_of_memory, Answers, Refuses}
 use Rattle.eco_ids.specs.Indices.{changed, change_kept, Indexed, IndexState, Retired, Free, Living, with_record, with_new, next_entity, is_alive, is_free_at}
 use Rattle.eco_ids.specs.Indices.{is_free_in, map_state, admitted}
@@ -205,6 +205,36 @@ pub created_alive : (w w1 : Indexed Registration) (e : Entity) (name : Option (L
 created_alive w w1 e name arity next is =
     ap is_some (record_at w1 e (newcomer name arity) (ap (λ (v : Indexed Registration). slice_get v.indices e.index) is
     ∙ born_here w e (newcomer name arity) (next_is w e next).0))
+
+-- who is placed at once is as if placed later
+pub placed_new : (w : Indexed Registration) (e : Entity) (d : Registration) (p : Place) → next_entity w ≡ Some e
+    → with_new w e (placed p d) ≡ changed (with_new w e d) e (placed p)
+placed_new w e d p next =
+    let near = (next_is w e next).0 in
+    let r = placed p d in
+    let w1 = with_new w e d in
+    let here = born_here w e d near in
+    let indices : (with_new w e r).indices ≡ (with_record w1 e r).indices =
+    ext_slice_get (with_new w e r).indices (with_record w1 e r).indices
+    (λ j. elim (cases_eq j e.index) [
+      | inl h ↦ ap (slice_get (with_new w e r).indices) h ∙ born_here w e r near ∙ sym
+          (ap (slice_get (with_record w1 e r).indices) h
+          ∙ slice_get-set_there w1.indices e.index (Living e.generation r) (Living e.generation d) here)
+      | inr other ↦ born_other w e r near j other ∙ sym
+          (slice_get-set_other w1.indices e.index j (Living e.generation r) other ∙ born_other w e d near j other)
+    ]) in
+    let limits : (with_new w e r).limit ≡ w1.limit = born_limit w e r near ∙ sym (born_limit w e d near) in
+    (λ t. record { limit = limits t; indices = indices t })
+    ∙ sym (ap (change_kept w1 e (placed p)) (record_at w1 e d here))
+
+-- who has no name is made where somebody can be
+pub creates_unnamed : (w : Indexed Registration) (e : Entity) (arity : Option ℕ) → next_entity w ≡ Some e
+    → Meets (Makes name_of w (newcomer None arity)) (may_make name_of w None) w (Ok e) (with_new w e (newcomer None arity))
+creates_unnamed w e arity next =
+    let d = newcomer None arity in
+    let made : Result Entity Refusal = Ok e in
+    subst (λ n. MatchOption n (Refuses NoMoreIds w made (with_new w e d)) (λ x. Answers x (with_new w x d) made (with_new w e d)))
+    (sym next) (refl, refl)
 
 -- ---- an entity that is made alive
 module _ (w w1 : Indexed Registration) (s s1 : List (Option TableState)) (e : Entity) (place : Place) (ids : List Id) (name : Option (List ℕ))

@@ -1,8 +1,9 @@
 -- Many entities die, one after another.
-use Rattle.std.proofs.Common.{◌≡◌, ◌≢◌, ℕ, zero, suc, ◌+◌, ◌<◌, Bool, true, false, true≢false, ◌||◌, IsTrue, if◌then◌else◌, List, [], ◌∷◌, take, set, length}
-use Rattle.std.proofs.Common.{get_or, slice_get, Option, Some, None, option_map, is_some, nat_lt, refl, sym, ap, ◌∙◌, arith, inl, inr}
+use Rattle.std.proofs.Common.{◌≡◌, ◌≢◌, ℕ, zero, suc, ◌+◌, ◌<◌, Bool, true, false, true≢false, ◌||◌, IsTrue, if◌then◌else◌, List, [], ◌∷◌, ◌++◌, drop}
+use Rattle.std.proofs.Common.{take, set, length, get_or, slice_get, Option, Some, None, option_map, is_some, nat_lt, refl, sym, ap, ◌∙◌, arith, inl}
+use Rattle.std.proofs.Common.{inr}
 use Rattle.std.proofs.lemmas.Bool.{cases_eq}
-use Rattle.std.proofs.lemmas.List.{take_more}
+use Rattle.std.proofs.lemmas.List.{drop-take, take-append-drop, take-take, take_more}
 use Rattle.std.proofs.lemmas.List.Folds.{list_any-append}
 use Rattle.eco_ids.specs.declared.entity.Entity.{Entity}
 use Rattle.eco_ids.specs.Indices.{Indexed, IndexState, Retired, Free, Living, record_in, is_alive, with_death, map_from, raised}
@@ -153,3 +154,55 @@ nobody_dies w = λ t. record { limit = w.limit; indices = each 0 w.indices t }
     each : (n : ℕ) (xs : List (IndexState Record)) → map_from (death_at (has_item entity_cmp [])) n xs ≡ xs
     each n [] = refl
     each n (x ∷ xs) = let first = stays n x in let rest = each (n + 1) xs in λ t. first t ∷ rest t
+
+-- the first one, who lives, dies
+pub first_dies : (w : Indexed Record) (es : List Entity) (d : Entity) → 0 < length es → IsTrue (is_alive w (get_or es 0 d))
+    → after_deaths w (has_item entity_cmp (take 1 es)) ≡ with_death w (get_or es 0 d)
+first_dies w es d some lives =
+    let e = get_or es 0 d in
+    one_dies (has_item entity_cmp []) (has_item entity_cmp (take 1 es)) e (first_more es 0 d some) w (ap (λ v. is_alive v e) (nobody_dies w) ∙ lives)
+    ∙ ap (λ v. with_death v e) (nobody_dies w)
+
+-- nothing changes where it lives no more
+pub first_passes : (w : Indexed Record) (es : List Entity) (d : Entity) → 0 < length es → is_alive w (get_or es 0 d) ≡ false
+    → after_deaths w (has_item entity_cmp (take 1 es)) ≡ w
+first_passes w es d some dead =
+    let e = get_or es 0 d in
+    none_dies (has_item entity_cmp []) (has_item entity_cmp (take 1 es)) e (first_more es 0 d some) w (ap (λ v. is_alive v e) (nobody_dies w) ∙ dead)
+    ∙ nobody_dies w
+
+-- some die, and then others
+module _ (f g : Entity → Bool) where
+  stays_dead : (n h : ℕ) → death_at g n (raised h) ≡ raised h
+  stays_dead n h = by (nat_lt h 65535)
+    where
+      by : (b : Bool) → death_at g n (if b then Free (h + 1) else Retired) ≡ (if b then Free (h + 1) else Retired)
+      by true = refl
+      by false = refl
+
+  both_at : (n : ℕ) (x : IndexState Record) → death_at g n (death_at f n x) ≡ death_at (λ e. f e || g e) n x
+  both_at n Retired = refl
+  both_at n (Free h) = refl
+  both_at n (Living h r) = by (f e)
+    where
+      e : Entity
+      e = record { index = n; generation = h }
+
+      by : (b : Bool) → death_at g n (if b then raised h else Living h r) ≡ (if b || g e then raised h else Living h r)
+      by true = stays_dead n h
+      by false = refl
+
+  both_die : (n : ℕ) (xs : List (IndexState Record)) → map_from (death_at g) n (map_from (death_at f) n xs) ≡ map_from (death_at (λ e. f e || g e)) n xs
+  both_die n [] = refl
+  both_die n (x ∷ xs) = let first = both_at n x in let rest = both_die (n + 1) xs in λ t. first t ∷ rest t
+
+-- the first of some entities, and so many more
+pub more_die : (w : Indexed Record) (es : List Entity) (i n : ℕ) → after_deaths (after_deaths w (has_item entity_cmp (take i es)))
+    (has_item entity_cmp (take n (drop i es))) ≡ after_deaths w (has_item entity_cmp (take (i + n) es))
+more_die w es i n =
+    let f = has_item entity_cmp (take i es) in
+    let g = has_item entity_cmp (take n (drop i es)) in
+    let all : has_item entity_cmp (take (i + n) es) ≡ (λ e. f e || g e) =
+    ap (has_item entity_cmp) (sym (take-append-drop i (take (i + n) es)) ∙ (λ t. take-take i (i + n) es (omega arith) t ++ drop-take i n es t))
+    ∙ (λ t e. list_any-append (λ y. entity_eq y e) (take i es) (take n (drop i es)) t) in
+    (λ t. record { limit = w.limit; indices = both_die f g 0 w.indices t }) ∙ sym (ap (after_deaths w) all)

@@ -34,7 +34,7 @@ row_within (x ∷ rows) zero r at = omega arith
 row_within (x ∷ rows) (suc k) r at = let rest = row_within rows k r at in omega (arith, rest)
 
 -- the table has rows and a match exactly where it is found
-is_found_there : (test : List Id → Bool) (o : Option TableState) → 0 < length (unwrap_or o no_table).rows → test (unwrap_or o no_table).ids ≡ true →
+pub is_found_there : (test : List Id → Bool) (o : Option TableState) → 0 < length (unwrap_or o no_table).rows → test (unwrap_or o no_table).ids ≡ true →
     is_found_by test o ≡ true
 is_found_there test None rows matches = absurd (omega arith)
 is_found_there test (Some t) rows matches = let some : nat_lt 0 (length t.rows) ≡ true = grind (arith, nat_tests) in ap (λ b. b && test t.ids) some ∙ matches

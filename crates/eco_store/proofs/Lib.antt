@@ -24,4 +24,6 @@ pub mod WholeMoves
 pub mod Needing
 pub mod Taking
 pub mod Dying
+pub mod Clearing
 pub mod Thinning
+pub mod IndexWalk

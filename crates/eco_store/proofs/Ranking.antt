@@ -1,5 +1,5 @@
 -- Who stands in the tables that a test finds, by entity, are those who pass.
-use Rattle.std.proofs.Common.{◌≡◌, ℕ, zero, suc, ◌+◌, ◌<◌, Bool, true, ◌||◌, IsTrue, nat_eq, List, [], ◌∷◌, ◌++◌, map, length, drop, slice_get, get_or, Option, Some, None}
+use Rattle.std.proofs.Common.{◌≡◌, ℕ, suc, ◌+◌, ◌<◌, Bool, true, ◌||◌, nat_eq, List, [], ◌∷◌, ◌++◌, map, length, drop, slice_get, get_or, Option, Some, None}
 use Rattle.std.proofs.Common.{IsSome, refl, sym, ap, ◌∙◌, subst, arith, is_lt, add-one, drop-cons, append_assoc, option_map, true≢false}
 use Rattle.std.specs.Prelude.{slice_index_or}
 use Rattle.std.specs.List.{All, AllByRecursion, IsDistinct, list_any}
@@ -8,7 +8,7 @@ use Rattle.std.specs.Cmp.{IsTotalOrder}
 use Rattle.std.specs.FinMap.{IsAntisymmetric}
 use Rattle.std.proofs.lemmas.Bool.Decides.{Decides-eqb}
 use Rattle.std.proofs.lemmas.List.{get_or-map, length-map, map-append}
-use Rattle.std.proofs.lemmas.List.Elements.{All-append, All-from_recursion}
+use Rattle.std.proofs.lemmas.List.Elements.{All-from_recursion}
 use Rattle.std.proofs.lemmas.List.Sorted.{All-permutation, IsPermutation-map}
 use Rattle.eco_ids.specs.World.{Record}
 use Rattle.eco_ids.specs.declared.entity.Entity.{Entity}
@@ -18,10 +18,10 @@ use Rattle.eco_ids.specs.Order.{entity_cmp, AscendingAreSets}
 use Rattle.eco_ids.proofs.Facts.{or_right}
 use Rattle.eco_tables.specs.Table.{Row, TableState, entities_of}
 use Rattle.eco_tables.specs.Tables.{slot_of, table_in}
-use Rattle.eco_archetypes.specs.Archetypes.{is_found_by, standing_in, row_at}
+use Rattle.eco_archetypes.specs.Archetypes.{is_found_by, standing_in}
 use Rattle.eco_store.specs.Holders.{entities_whose}
 use Rattle.eco_store.specs.Ranking.{standings, StandsIn}
-use Rattle.eco_store.specs.Store.{IsShown, record_ids, type_of}
+use Rattle.eco_store.specs.Store.{IsShown, record_ids}
 use Rattle.eco_store.specs.declared.standing.Standing.{Standing}
 use Rattle.eco_store.proofs.Holders.{found_matches, row_kept, standing_apart, standing_whose, whose_ascend}
 use Rattle.eco_store.proofs.Sorting.{sorted_is}
@@ -36,10 +36,12 @@ placed : (i : ℕ) (es : List Entity) → map (λ (s : Standing). s.entity) (map
 placed i [] = refl
 placed i (e ∷ es) = ap (λ zs. e ∷ zs) (placed i es)
 
-standings_entities : (i : ℕ) (tables : List (Option TableState)) (ns : List ℕ) → map (λ (s : Standing). s.entity) (standings i tables ns) ≡ standing_in tables ns
+standings_entities : (i : ℕ) (tables : List (Option TableState)) (ns : List ℕ)
+    → map (λ (s : Standing). s.entity) (standings i tables ns) ≡ standing_in tables ns
 standings_entities i tables [] = refl
 standings_entities i tables (n ∷ ns) =
-    map-append (λ (s : Standing). s.entity) (map (λ e. let s : Standing = record { entity = e; place = i } in s) (entities_of (table_in tables n).rows)) (standings (suc i) tables ns)
+    map-append (λ (s : Standing). s.entity)
+    (map (λ e. let s : Standing = record { entity = e; place = i } in s) (entities_of (table_in tables n).rows)) (standings (suc i) tables ns)
     ∙ ap (λ zs. zs ++ map (λ (s : Standing). s.entity) (standings (suc i) tables ns)) (placed i (entities_of (table_in tables n).rows))
     ∙ ap (λ zs. entities_of (table_in tables n).rows ++ zs) (standings_entities (suc i) tables ns)
 

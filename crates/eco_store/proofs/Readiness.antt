@@ -11,7 +11,7 @@ use Rattle.eco_ids.specs.declared.entity.Entity.{Entity}
 use Rattle.eco_ids.specs.declared.id.Id.{Id}
 use Rattle.eco_ids.specs.Order.{entity_eq}
 use Rattle.eco_tables.specs.Table.{TableState}
-use Rattle.eco_tables.specs.Tables.{slot_of, table_in, no_table, Sets, without_row}
+use Rattle.eco_tables.specs.Tables.{slot_of, table_in, no_table, Sets}
 use Rattle.eco_ids.proofs.Lists.{not_equal}
 use Rattle.eco_store.specs.declared.moving.Move.{Move}
 use Rattle.eco_archetypes.specs.Archetypes.{type_at, KeepsTypes, KeepsRoom, SameSlots, SameTypes}
@@ -222,25 +222,25 @@ same_targets s s' targets n (Some ids) free dropped kept m among =
     dropped.others m (λ same. true≢false (sym among ∙ ap (λ k. list_any (nat_eq k) targets) same ∙ free))
 same_targets s s' targets n None free dropped kept m among = kept m
 
--- a row goes out of a table, and no table has less room
-pub room_won : (s s1 : List (Option TableState)) (n row : ℕ) → Sets s s1 n (Some (without_row (table_in s n) row)) → KeepsRoom s s1
-room_won s s1 n row sets m =
+-- a table changes and has no less room, and so has none
+pub room_won : (s s1 : List (Option TableState)) (n : ℕ) (t : TableState) → Sets s s1 n (Some t) → (table_in s n).room ≤ t.room → KeepsRoom s s1
+room_won s s1 n t sets more m =
     elim (cases_eq m n) [
       | inl here ↦
-          let more : (table_in s1 n).room ≡ (table_in s n).room + 1 = ap (λ o. (unwrap_or o no_table).room) sets.changed in
-          let now : (table_in s n).room ≤ (table_in s1 n).room = omega (arith, more) in
-          subst (λ k. (table_in s k).room ≤ (table_in s1 k).room) (sym here) now
+          let now : (table_in s1 n).room ≡ t.room = ap (λ o. (unwrap_or o no_table).room) sets.changed in
+          let kept : (table_in s n).room ≤ (table_in s1 n).room = omega (arith, now, more) in
+          subst (λ k. (table_in s k).room ≤ (table_in s1 k).room) (sym here) kept
       | inr other ↦
           let same = ap (λ o. (unwrap_or o no_table).room) (sets.others m other) in
           omega (arith, same)
     ]
 
-pub spares_without : (s s1 : List (Option TableState)) (p : PreparedState) (n row : ℕ) → IsSome (slot_of s n) →
-    Sets s s1 n (Some (without_row (table_in s n) row))
-    → Spares s s1 p.arrivals
-spares_without s s1 p n row there sets = record {
-  types = λ k d within. sets_types s s1 n (without_row (table_in s n) row) sets there refl (get_or p.arrivals k d).1;
-  rooms = λ k d within. room_won s s1 n row sets (get_or p.arrivals k d).1;
+-- rows go out of a table
+pub spares_without : (s s1 : List (Option TableState)) (p : PreparedState) (n : ℕ) (t : TableState) → IsSome (slot_of s n) → Sets s s1 n (Some t)
+    → t.ids ≡ (table_in s n).ids → (table_in s n).room ≤ t.room → Spares s s1 p.arrivals
+spares_without s s1 p n t there sets typed more = record {
+  types = λ k d within. sets_types s s1 n t sets there typed (get_or p.arrivals k d).1;
+  rooms = λ k d within. room_won s s1 n t sets more (get_or p.arrivals k d).1;
 }
 
 -- two moves of different entities

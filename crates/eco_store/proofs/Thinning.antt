@@ -1,11 +1,10 @@
 -- Tables that lose rows, and what that leaves of the plans over them.
-use Rattle.std.proofs.Common.{◌<◌, map, ◌≡◌, ℕ, ◌-◌, ◌≤◌, Bool, true, false, true≢false, List, length, get_or, Option, Some, option_map, unwrap_or}
+use Rattle.std.proofs.Common.{◌<◌, map, ◌≡◌, ℕ, ◌≤◌, Bool, true, false, true≢false, List, length, get_or, Option, Some, option_map, unwrap_or}
 use Rattle.std.proofs.Common.{IsSome, nat_eq, refl, sym, ap, subst, ◌∙◌, arith, inl, inr}
 use Rattle.std.specs.List.{list_any}
 use Rattle.std.proofs.lemmas.Bool.{cases_eq}
 use Rattle.eco_tables.specs.Table.{TableState}
-use Rattle.eco_tables.specs.Tables.{slot_of, table_in, no_table, no_row, Sets, without_row}
-use Rattle.eco_ids.proofs.Lists.{length-swap_remove}
+use Rattle.eco_tables.specs.Tables.{slot_of, table_in, no_table, Sets}
 use Rattle.eco_archetypes.specs.Archetypes.{type_at}
 use Rattle.eco_archetypes.proofs.ArchetypeLemmas.{sets_types}
 use Rattle.eco_store.specs.declared.transfer.Transfer.{Transfer}
@@ -25,27 +24,26 @@ thins_both s s1 s2 slots a b = record {
   room = λ n among. omega (arith, a.room n among, b.room n among);
 }
 
--- a row went, and then tables outside of these slots may have gone
-pub thins_without : (s s1 s2 : List (Option TableState)) (n row : ℕ) (slots : List ℕ) → IsSome (slot_of s n)
-    → Sets s s1 n (Some (without_row (table_in s n) row)) → SameIn s1 s2 slots → Thins s s2 slots
-thins_without s s1 s2 n row slots there sets same = record {
-  types = λ m among. ap (option_map (λ (t : TableState). t.ids)) (same m among) ∙ sets_types s s1 n (without_row (table_in s n) row) sets there refl m;
+-- rows of a table went, and then tables outside of these slots may have gone
+pub thins_without : (s s1 s2 : List (Option TableState)) (n : ℕ) (t : TableState) (slots : List ℕ) → IsSome (slot_of s n) → Sets s s1 n (Some t)
+    → t.ids ≡ (table_in s n).ids → length t.rows ≤ length (table_in s n).rows → (table_in s n).room ≤ t.room → SameIn s1 s2 slots → Thins s s2 slots
+thins_without s s1 s2 n t slots there sets typed less more same = record {
+  types = λ m among. ap (option_map (λ (u : TableState). u.ids)) (same m among) ∙ sets_types s s1 n t sets there typed m;
   rows = λ m among.
       let now = ap (λ o. length (unwrap_or o no_table).rows) (same m among) in
       omega (arith, now, fewer m);
   room = λ m among.
       let now = ap (λ o. (unwrap_or o no_table).room) (same m among) in
-      omega (arith, now, room_won s s1 n row sets m);
+      omega (arith, now, room_won s s1 n t sets more m);
 }
   where
     fewer : (m : ℕ) → length (table_in s1 m).rows ≤ length (table_in s m).rows
     fewer m =
         elim (cases_eq m n) [
           | inl here ↦
-              let less : length (table_in s1 n).rows ≡ length (table_in s n).rows - 1 =
-              ap (λ o. length (unwrap_or o no_table).rows) sets.changed ∙ length-swap_remove (table_in s n).rows row no_row in
-              let now : length (table_in s1 n).rows ≤ length (table_in s n).rows = omega (arith, less) in
-              subst (λ k. length (table_in s1 k).rows ≤ length (table_in s k).rows) (sym here) now
+              let now : length (table_in s1 n).rows ≡ length t.rows = ap (λ o. length (unwrap_or o no_table).rows) sets.changed in
+              let none_more : length (table_in s1 n).rows ≤ length (table_in s n).rows = omega (arith, now, less) in
+              subst (λ k. length (table_in s1 k).rows ≤ length (table_in s k).rows) (sym here) none_more
           | inr other ↦
               let stays = ap (λ o. length (unwrap_or o no_table).rows) (sets.others m other) in
               omega (arith, stays)

@@ -8,3 +8,4 @@ pub mod Retyping
 pub mod Transfers
 pub mod Preparing
 pub mod Layout
+pub mod Worlds

@@ -11,6 +11,7 @@ ghost use Rattle.eco_store.specs.Retyping.{after_changes, IsOneWay};
 ghost use Rattle.eco_store.specs.Store.{IsStore, read};
 ghost use Rattle.eco_store.specs.Transfers.{change_of, AreNamed, HasRoom, IsPlan, Thins};
 
+use crate::deaths::whole_tables::kill_next;
 use crate::placing::fix_place;
 use crate::prepared::Prepared;
 use crate::transfer::{Transfer, move_all};
@@ -18,6 +19,8 @@ use eco_archetypes::Archetypes;
 use eco_entities::EntityIndex;
 use eco_entities::laws::needs_never_grow;
 use eco_ids::Entity;
+
+mod whole_tables;
 
 /// The entity dies, and its row goes. A table that this leaves without rows stays as the idle one, or for moves to come. It
 /// takes no memory.
@@ -69,11 +72,9 @@ fn kill_all(
     ensures left { moves_of archetypes.new prepared.new ≡ moves_of archetypes.old prepared.old }
     ensures thins { Thins archetypes.old archetypes.new prepared.old.targets }
 {
-    for entity in dead {
-        // One that is named twice lives no more.
-        if entities.is_alive(*entity) {
-            kill(entities, archetypes, prepared, *entity);
-        }
+    let mut done = 0;
+    while done < dead.len() {
+        done += kill_next(entities, archetypes, prepared, &dead[done..]);
     }
 }
 

@@ -1,9 +1,9 @@
 //! The tables of a store, with the moves that are prepared over them.
-ghost use Rattle.std.specs.Prelude.{◌≡◌, ◌<◌, List, ℕ, [], length, Some, None, is_some, IfOk, OnErr};
+ghost use Rattle.std.specs.Prelude.{◌≡◌, ◌<◌, List, ℕ, [], length, Some, None, is_some, IfOk, IfSome, OnErr};
 ghost use Rattle.std.specs.FinMap.Entries.{find};
 ghost use Rattle.eco_ids.specs.declared.id.Id.{Id as Ids};
 ghost use Rattle.eco_ids.specs.Order.{id_cmp};
-ghost use Rattle.eco_tables.specs.Tables.{slot_of, row_in};
+ghost use Rattle.eco_tables.specs.Tables.{slot_of, row_in, table_in};
 ghost use Rattle.eco_archetypes.specs.Archetypes.{type_at, SameRows};
 ghost use Rattle.eco_store.specs.Layout.{rows_in, WritesRow, PutsRow, TakesRow};
 ghost use Rattle.eco_store.specs.Preparing.{is_next, moves_beside};
@@ -126,6 +126,36 @@ impl Layout {
         let row = self.archetypes.tables().row_count(table);
         self.archetypes.push_row(table, entity);
         Ok(Place { table, row })
+    }
+
+    /// Where the next row of a type would be, where no move is to come, that type was asked for last and its table has room
+    /// for one more row.
+    #[inline]
+    pub fn next_place(&self, type_list: &TypeList) -> Option<Place>
+        ensures idle { IfSome result (λ _. self.now.moves ≡ []) }
+        ensures typed { IfSome result (λ p. type_at self.now.tables p.table ≡ Some type_list.now) }
+        ensures room { IfSome result (λ p. 0 < (table_in self.now.tables p.table).room) }
+        ensures end { IfSome result (λ p. p.row ≡ length (rows_in self.now.tables p.table)) }
+    {
+        if !self.prepared.is_idle() {
+            return None;
+        }
+        let (table, row) = self.archetypes.last_with_room(type_list)?;
+        Some(Place { table, row })
+    }
+
+    /// A row for a new entity at that place, in the room that is there.
+    #[inline]
+    pub fn fill_place(&mut self, entity: Entity, place: Place)
+        requires idle { self.old.moves ≡ [] }
+        requires room { 0 < (table_in self.old.tables place.table).room }
+        requires end { place.row ≡ length (rows_in self.old.tables place.table) }
+        ensures put { (ids : List Ids) → type_at self.old.tables place.table ≡ Some ids →
+            PutsRow (rows_in self.old.tables) (rows_in self.new.tables) place entity ids }
+        ensures unprepared { self.new.moves ≡ [] }
+        ensures widths { KeepsWidths self.old.tables self.new.tables }
+    {
+        self.archetypes.push_row(place.table, entity);
     }
 
     /// Takes the row of an entity out. The answer is the entity that stands in its place now. If the entity has a move to

@@ -19,6 +19,7 @@ mod standing;
 mod store;
 mod transfer;
 mod type_change;
+mod walking;
 
 pub use eco_archetypes::{AllOf, Archetypes, Found, Naming, TypeTest};
 pub use eco_tables::{Table, Tables};

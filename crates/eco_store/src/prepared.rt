@@ -75,6 +75,7 @@ impl Prepared {
     }
 
     /// Whether the entity has a move to come.
+    #[inline]
     pub fn awaits(&self, entity: Entity) -> bool
         ensures { result ≡ list_any (λ a. entity_eq entity a.0) self.now.arrivals }
     {

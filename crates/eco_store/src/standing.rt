@@ -66,7 +66,7 @@ fn ascends(list: &[Standing]) -> bool
     ensures { IsTrue result → IsSortedByKey (λ (s : Stands). s.entity) entity_cmp list.now }
 {
     for place in 1..list.len() {
-        if list[place].entity < list[place - 1].entity {
+        if list[place].entity.index <= list[place - 1].entity.index {
             return false;
         }
     }
@@ -86,7 +86,7 @@ fn gathered(alloc: Global, tables: &Tables, slots: &[usize]) -> Result<Vec<Stand
 }
 
 // How many stand there.
-fn row_count(tables: &Tables, slots: &[usize]) -> usize
+pub(crate) fn row_count(tables: &Tables, slots: &[usize]) -> usize
     ensures { 0 < result → 0 < length slots.now }
 {
     let mut count: usize = 0;

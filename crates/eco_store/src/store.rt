@@ -1,5 +1,5 @@
 //! The store of a world: each living entity with its name, its ids and their values.
-ghost use Rattle.std.specs.Prelude.{◌≡◌, ◌≤◌, List, ℕ, [], length, None, Some, is_some, IsTrue, MatchOption, map};
+ghost use Rattle.std.specs.Prelude.{◌≡◌, ◌≤◌, List, ℕ, [], length, None, Some, Ok, is_some, IfSome, IfNone, IsTrue, MatchOption, map};
 ghost use Rattle.std.specs.Option.{option_copied};
 ghost use Rattle.std.specs.FinMap.Entries.{find};
 ghost use Rattle.eco_ids.specs.Births.{unfit_name, Makes};
@@ -203,6 +203,45 @@ impl Store {
     /// where every index below the limit is in use or retired, in this order; then with `OutOfMemory` where memory is
     /// refused. A refusal changes nothing.
     pub fn create(
+        &mut self,
+        name: Option<&str>,
+        arity: Option<u8>,
+        type_list: &TypeList,
+    ) -> Result<Entity, Refusal>
+        ensures step { Creates self.old.entities (option_copied name.entry) arity type_list.now
+            result self.new.entities }
+        ensures unprepared { self.new.prepared ≡ [] }
+    {
+        // Most entities have no name, and are made one after another with the same ids.
+        if name.is_none() {
+            if let Some(entity) = self.create_in_room(arity, type_list) {
+                return Ok(entity);
+            }
+        }
+        self.create_at_length(name, arity, type_list)
+    }
+
+    // What `create` does without a name, where that wants no memory, the type is the one that was asked for last, and no move
+    // is to come; the answer is the entity. Else nothing changes.
+    #[inline]
+    fn create_in_room(&mut self, arity: Option<u8>, type_list: &TypeList) -> Option<Entity>
+        ensures step { IfSome result (λ e.
+            Creates self.old.entities None arity type_list.now (Ok e) self.new.entities) }
+        ensures unprepared { IfSome result (λ _. self.new.prepared ≡ []) }
+        ensures none { IfNone result (self.new ≡ self.old) }
+    {
+        // A place's row fits, as a table has no more rows than there are indices.
+        self.entities.rules();
+        needs_never_grow();
+        let place = self.layout.next_place(type_list)?;
+        let entity = self.entities.create_in_room(arity, place)?;
+        self.layout.fill_place(entity, place);
+        Some(entity)
+    }
+
+    // What `create` does in any case.
+    #[inline(never)]
+    fn create_at_length(
         &mut self,
         name: Option<&str>,
         arity: Option<u8>,

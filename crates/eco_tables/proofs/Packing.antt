@@ -1,5 +1,6 @@
 -- What is kept of values, under the whole values.
-use Rattle.std.proofs.Common.{◌≡◌, ℕ, ℤ, ◌-◌, ◌+◌, ◌++◌, ◌≤◌, ◌<◌, Bool, true, if◌then◌else◌, zero, suc, List, length, get_or, set, take, map, refl, sym, ap, ◌∙◌, arith, pos, replicate}
+use Rattle.std.proofs.Common.{◌≡◌, ℕ, ℤ, ◌-◌, ◌+◌, ◌++◌, ◌≤◌, ◌<◌, Bool, true, if◌then◌else◌, zero, suc, List, length, get_or, set, take, map, refl, sym, ap}
+use Rattle.std.proofs.Common.{◌∙◌, arith, pos, replicate}
 use Rattle.std.specs.List.{swap_remove}
 use Rattle.std.proofs.lemmas.List.{map-set, get_or-map, length-map, take-map, take_at, take_all, map-append}
 use Rattle.eco_ids.specs.declared.value.Value.{Value}

@@ -1,7 +1,9 @@
 -- Rows, as columns keep them.
-use Rattle.std.proofs.Common.{◌≡◌, ◌≢◌, ℕ, zero, suc, ◌+◌, ◌-◌, ◌<◌, ◌≤◌, Bool, true, false, if◌then◌else◌, List, [], ◌∷◌, ◌++◌, map, length, get_or, set, take, drop, slice_get, replicate, Option, Some, None, unwrap_or, is_some, IsTrue, refl, sym, ap, ◌∙◌, arith, inl, inr, true≢false}
+use Rattle.std.proofs.Common.{◌≡◌, ◌≢◌, ℕ, zero, suc, ◌+◌, ◌-◌, ◌<◌, ◌≤◌, Bool, true, false, if◌then◌else◌, List, [], ◌∷◌, ◌++◌, map, length, get_or, set}
+use Rattle.std.proofs.Common.{take, drop, slice_get, replicate, Option, Some, None, unwrap_or, is_some, IsTrue, refl, sym, ap, ◌∙◌, arith, inl, inr, true≢false}
 use Rattle.std.specs.List.{All, swap_remove}
-use Rattle.std.proofs.lemmas.List.{ext_get_or, get_or-set_same, get_or-set_other, get_or_append_left, get_or-append_right, get_or-replicate, length-replicate, length-map, length-set, get_or-map, length-append, map-append, map-set, take_all, drop_all, append-nil}
+use Rattle.std.proofs.lemmas.List.{ext_get_or, get_or-set_same, get_or-set_other, get_or_append_left, get_or-append_right, get_or-replicate, length-replicate}
+use Rattle.std.proofs.lemmas.List.{length-map, length-set, get_or-map, length-append, map-append, map-set, take_all, drop_all, append-nil}
 use Rattle.std.proofs.lemmas.List.Elements.{All-head, All-tail, All-map}
 use Rattle.std.proofs.lemmas.Bool.{cases_eq}
 use Rattle.eco_ids.specs.declared.entity.Entity.{Entity}
@@ -11,7 +13,8 @@ use Rattle.eco_ids.specs.World.{zeros}
 use Rattle.std.specs.FinMap.Entries.{find}
 use Rattle.eco_ids.specs.Order.{id_cmp, id_eq, has_item, is_ascending}
 use Rattle.eco_ids.proofs.Lists.{before, before_within, get_or-swap_remove, keys_paired, length-swap_remove}
-use Rattle.eco_tables.specs.Column.{ColumnState, Fits, held_in, value_in, contents, kind_of, joined, emptied, with_removed, with_value, with_held, written, retyped}
+use Rattle.eco_tables.specs.Column.{ColumnState, Fits, held_in, value_in, contents, kind_of, joined, emptied, with_removed, with_value, with_held, written}
+use Rattle.eco_tables.specs.Column.{retyped}
 use Rattle.eco_tables.specs.Table.{Row, rows_from, rows_of, retyped_row, table_of, paired, width_among, AreKinds, HasShape, ColumnsAgree, entities_of, HasIds}
 use Rattle.eco_tables.proofs.Held.{found_at, find-absent, place_within, has_place}
 use Rattle.eco_tables.proofs.Widths.{find-each, value-retyped, same_within, retyped-written, value-written, value-other, width-each, width-none}
@@ -560,6 +563,14 @@ module _ (ids : List Id) (es : List Entity) (capacity : ℕ) (cs : List ColumnSt
     even = All-map (λ c. length c.values ≡ 0) emptied cs (λ k d in_cs. refl);
     roomy = All-map (λ c. 0 ≤ c.room) emptied cs (λ k d in_cs. omega arith);
     rows_room = omega arith;
+  }
+
+  pub shape_cleared : HasShape ids [] capacity (map emptied cs) (room + length es)
+  shape_cleared = record {
+    kinds = rw (kinds_same emptied (λ c. refl) cs) shape.kinds;
+    even = All-map (λ c. length c.values ≡ 0) emptied cs (λ k d in_cs. refl);
+    roomy = All-map (λ c. room + length es ≤ c.room) emptied cs (λ k d in_cs. omega (arith, shape.roomy k d in_cs, shape.even k d in_cs));
+    rows_room = omega (arith, shape.rows_room);
   }
 
   pub shape_written : (row : ℕ) (i : Id) (v : Value) → HasShape ids es capacity (map (λ c. written c row i v) cs) room

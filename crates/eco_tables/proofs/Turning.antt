@@ -1,6 +1,8 @@
 -- A table under another type: one column comes to the others, or goes.
-use Rattle.std.proofs.Common.{◌≡◌, ℕ, zero, suc, ◌+◌, ◌≤◌, ◌<◌, Bool, true, false, not, cond, ◌&&◌, ◌||◌, if◌then◌else◌, List, [], ◌∷◌, map, filter, length, get_or, insert, remove}
-use Rattle.std.proofs.Common.{replicate, slice_get, Option, Some, None, unwrap_or, refl, sym, ap, ◌∙◌, subst, arith, IsTrue, true≢false, is_eq, is_lt, Less, Equal, Greater}
+use Rattle.std.proofs.Common.{◌≡◌, ℕ, zero, suc, ◌+◌, ◌≤◌, ◌<◌, Bool, true, false, not, cond, ◌&&◌, ◌||◌, if◌then◌else◌, List, [], ◌∷◌, map, filter, length}
+use Rattle.std.proofs.Common.{get_or, insert, remove}
+use Rattle.std.proofs.Common.{replicate, slice_get, Option, Some, None, unwrap_or, refl, sym, ap, ◌∙◌, subst, arith, IsTrue, true≢false, is_eq, is_lt, Less}
+use Rattle.std.proofs.Common.{Equal, Greater}
 use Rattle.std.specs.List.{All, position_from}
 use Rattle.std.specs.FinMap.Entries.{find, by_order}
 use Rattle.std.proofs.lemmas.List.{length-replicate}

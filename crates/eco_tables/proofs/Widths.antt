@@ -1,5 +1,6 @@
 -- Which ids have columns, how wide those are, and what a row holds under other types.
-use Rattle.std.proofs.Common.{◌≡◌, ℕ, zero, suc, ◌<◌, ◌≤◌, Bool, true, false, ◌||◌, if◌then◌else◌, List, [], ◌∷◌, ◌++◌, map, length, get_or, take, Some, None, unwrap_or, refl, sym, ap, ◌∙◌, arith, IsTrue, true≢false}
+use Rattle.std.proofs.Common.{◌≡◌, ℕ, zero, suc, ◌<◌, ◌≤◌, Bool, true, false, ◌||◌, if◌then◌else◌, List, [], ◌∷◌, ◌++◌, map, length, get_or, take, Some, None}
+use Rattle.std.proofs.Common.{unwrap_or, refl, sym, ap, ◌∙◌, arith, IsTrue, true≢false}
 use Rattle.std.specs.List.{list_all}
 use Rattle.std.specs.Ordering.{is_lt}
 use Rattle.std.proofs.lemmas.List.{append-nil}

@@ -1,5 +1,6 @@
 -- Tables in slots.
-use Rattle.std.specs.Prelude.{◌≡◌, ◌≢◌, ℕ, ◌-◌, ◌+◌, ◌≤◌, ◌<◌, List, [], ◌∷◌, ◌++◌, Option, None, Some, length, map, count_by, is_some, slice_index_or, slice_set, unwrap_or, if◌then◌else◌, option_map}
+use Rattle.std.specs.Prelude.{◌≡◌, ◌≢◌, ℕ, ◌-◌, ◌+◌, ◌≤◌, ◌<◌, List, [], ◌∷◌, ◌++◌, Option, None, Some, length, map, count_by, is_some, slice_index_or}
+use Rattle.std.specs.Prelude.{slice_set, unwrap_or, if◌then◌else◌, option_map}
 use Rattle.std.specs.List.{swap_remove, All}
 use Rattle.eco_ids.specs.declared.entity.Entity.{Entity}
 use Rattle.eco_ids.specs.declared.id.Id.{Id}
@@ -72,6 +73,10 @@ with_row t r = with_rows t (r ∷ [])
 -- the table without the row, whose place the last one takes; the room of one row is won
 abbrev pub without_row : TableState → ℕ → TableState
 without_row t row = record t { rows = swap_remove t.rows row no_row; room = t.room + 1 }
+
+-- the table without rows, whose room is won
+abbrev pub cleared : TableState → TableState
+cleared t = record t { rows = []; room = t.room + length t.rows }
 
 -- the table without rows; no room is promised in it any more
 abbrev pub without_rows : TableState → TableState

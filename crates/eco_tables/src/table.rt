@@ -7,7 +7,7 @@ ghost use Rattle.eco_ids.specs.Order.{id_cmp, has_item};
 ghost use Rattle.eco_ids.specs.World.{zeros};
 ghost use Rattle.eco_tables.specs.Column.{value_in, with_held, retyped};
 ghost use Rattle.eco_tables.specs.Table.{TableState, Row, entities_of, HasIds, Agree, FitsId, width_in, empty_table};
-ghost use Rattle.eco_tables.specs.Tables.{new_row, no_row, with_room, with_row, with_rows, with_written, without_row, without_rows};
+ghost use Rattle.eco_tables.specs.Tables.{cleared, new_row, no_row, with_room, with_row, with_rows, with_written, without_row, without_rows};
 ghost use Rattle.eco_tables.specs.Values.{shown};
 
 use crate::column::Column;
@@ -119,6 +119,14 @@ impl Table {
         ensures { result ≡ length self.now.rows }
     {
         self.entities.len()
+    }
+
+    /// So many more rows fit without memory.
+    #[inline]
+    pub fn room(&self) -> usize
+        ensures { result ≡ self.now.room }
+    {
+        self.room
     }
 
     /// The values of an id, row by row. None where the id has no column: then its value is zeros in each row whose type has
@@ -285,6 +293,15 @@ impl Table {
         ensures { self.new ≡ without_rows self.old }
     {
         self.room = 0;
+        self.entities.clear();
+        clear(self.columns.as_mut_slice());
+    }
+
+    /// All rows go, and their room is won: the memory stays the table's, and the next rows go there. It takes no memory.
+    pub fn clear(&mut self)
+        ensures { self.new ≡ cleared self.old }
+    {
+        self.room += self.entities.len();
         self.entities.clear();
         clear(self.columns.as_mut_slice());
     }

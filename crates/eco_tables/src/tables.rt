@@ -6,7 +6,7 @@ ghost use Rattle.eco_tables.specs.Column.{value_in, with_held};
 ghost use Rattle.std.specs.List.{All};
 ghost use Rattle.std.specs.Slice.Iter.{iter_rest};
 ghost use Rattle.eco_tables.specs.Table.{TableState, Row, entities_of, empty_table, Agree, FitsId, RowsHaveIds};
-ghost use Rattle.eco_tables.specs.Tables.{slot_of, table_in, row_in, no_row, Sets, SetsRoom, Moves, MovesAll, new_row, with_room, with_row, with_rows, with_written, without_row, without_rows, no_table, rowless_type, AllHaveIds};
+ghost use Rattle.eco_tables.specs.Tables.{slot_of, table_in, row_in, no_row, Sets, SetsRoom, Moves, MovesAll, cleared, new_row, with_room, with_row, with_rows, with_written, without_row, without_rows, no_table, rowless_type, AllHaveIds};
 
 use crate::table::Table;
 use eco_ids::{Entity, Id, TypeList, Value};
@@ -262,6 +262,17 @@ impl Tables {
             unreachable!()
         };
         table.swap_out(row)
+    }
+
+    /// All rows of a table go, and their room is won. The table stays, and so does its memory. It takes no memory.
+    pub fn clear(&mut self, slot: usize)
+        requires { IsSome (slot_of self.old slot) }
+        ensures { Sets self.old self.new slot (Some (cleared (table_in self.old slot))) }
+    {
+        let Some(table) = &mut self.slots[slot] else {
+            unreachable!()
+        };
+        table.clear();
     }
 
     /// Moves a row into room that was reserved in another table, where it is the last row. Values of ids that both types

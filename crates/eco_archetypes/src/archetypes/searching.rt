@@ -2,11 +2,12 @@
 ghost use Rattle.std.specs.Prelude.{◌≡◌, ℕ, nat_eq, ◌+◌, ◌<◌, ◌↔◌, ◌++◌, filter, length, IsTrue, IfOk, OnOk, OnErr};
 ghost use Rattle.std.specs.List.{All, list_any, IsDistinct};
 ghost use Rattle.eco_archetypes.specs.Archetypes.{is_found_in, FindsSome, IsAllFound, has_one_of, type_at, type_matches};
+ghost use Rattle.eco_archetypes.specs.Naming.{is_named_by_some};
 ghost use Rattle.eco_archetypes.specs.TypeTests.{IsPlace, earlier_in, group_at, passes_with, passes_without};
 
 use crate::archetypes::Archetypes;
 use crate::type_test::TypeTest;
-use eco_ids::Pattern;
+use eco_ids::{Entity, Pattern};
 use std::alloc::AllocError;
 
 impl Archetypes {
@@ -144,6 +145,15 @@ impl Archetypes {
             }
         }
         false
+    }
+
+    /// Whether an id of some table's type names the entity. Where none does, no table is looked at, and mostly the marks of
+    /// the index tell so at once. It takes no memory.
+    #[inline]
+    pub fn is_named(&self, entity: Entity) -> bool
+        ensures { result ≡ is_named_by_some self.now entity }
+    {
+        self.by_id.names(entity)
     }
 
     // The slots of the tables whose types have an id that the pattern matches, each once.

@@ -78,7 +78,7 @@ impl Archetypes {
     {
         let type_list = toggled(self.tables.get(slot).unwrap().type_list(), id)?;
         let Some(to) = self.find(&type_list) else {
-            let made = self.make_with_room(entities, &type_list, 1)?;
+            let made = self.make_with_room(entities, type_list, 1)?;
             return Ok(made);
         };
         self.link(slot, id, to);

@@ -12,6 +12,7 @@ use std::alloc::AllocError;
 
 impl Layout {
     /// No move is to come from then on, if the entity has one. It takes no memory.
+    #[inline]
     pub fn forget_awaited(&mut self, entity: Entity)
         ensures left { self.new.moves ≡ moves_beside self.old.moves entity }
         ensures rows { SameRows self.old.tables self.new.tables }

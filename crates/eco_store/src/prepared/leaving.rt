@@ -1,8 +1,9 @@
-//! A row leaves the tables.
-ghost use Rattle.std.specs.Prelude.{◌≡◌, ◌<◌, length};
+//! Rows leave the tables.
+ghost use Rattle.std.specs.Prelude.{◌≡◌, ◌<◌, [], length, IsSome};
+ghost use Rattle.eco_tables.specs.Tables.{slot_of};
 ghost use Rattle.eco_archetypes.specs.Archetypes.{RowlessIn};
 ghost use Rattle.eco_archetypes.specs.Widths.{KeepsWidths};
-ghost use Rattle.eco_store.specs.Layout.{rows_in, TakesRow};
+ghost use Rattle.eco_store.specs.Layout.{rows_in, SetsRows, TakesRow};
 ghost use Rattle.eco_store.specs.Preparing.{staying, moves_of, IsReady};
 ghost use Rattle.eco_store.specs.Transfers.{Thins};
 
@@ -29,5 +30,22 @@ impl Prepared {
         let moved = archetypes.swap_out(place.table, place.row);
         self.release(archetypes, place.table);
         moved
+    }
+
+    /// Takes all rows of a table out. The table stays as the idle one, or for moves to come. It takes no memory.
+    pub fn take_rows(&mut self, archetypes: &mut Archetypes, slot: usize)
+        requires there { IsSome (slot_of archetypes.old slot) }
+        requires ready { IsReady archetypes.old self.old }
+        requires tidy { RowlessIn archetypes.old (staying self.old) }
+        ensures rows { SetsRows (rows_in archetypes.old) (rows_in archetypes.new) slot [] }
+        ensures ready { IsReady archetypes.new self.new }
+        ensures tidy { RowlessIn archetypes.new (staying self.new) }
+        ensures same { self.new ≡ record self.old { idle = self.new.idle } }
+        ensures left { moves_of archetypes.new self.new ≡ moves_of archetypes.old self.old }
+        ensures thins { Thins archetypes.old archetypes.new self.old.targets }
+        ensures widths { KeepsWidths archetypes.old archetypes.new }
+    {
+        archetypes.clear(slot);
+        self.release(archetypes, slot);
     }
 }

@@ -73,6 +73,16 @@ impl Store {
         self.layout.archetypes().finds(test)
     }
 
+    /// Whether some living entity has an id that names this one. Where none has, mostly the marks of the index tell so, and no
+    /// table is looked at. It takes no memory.
+    pub fn is_named(&self, entity: Entity) -> bool
+        ensures { result ≡ list_any (λ p. is_holder entity p.1) (living self.now.entities) }
+    {
+        self.layout.tables().rows_have_ids();
+        let archetypes = self.layout.archetypes();
+        archetypes.is_named(entity) && archetypes.finds(&Naming { entity })
+    }
+
     /// Whether some living entity has an id that the pattern matches. It looks at one table that has rows, and at tables
     /// without rows before it. It takes no memory.
     pub fn is_held(&self, pattern: Pattern) -> bool

@@ -1,16 +1,54 @@
 //! Who passes a test of their ids, each with its table.
-ghost use Rattle.std.specs.Prelude.{◌≡◌, map, IsSome, IsTrue, IfOk, OnErr};
+ghost use Rattle.std.specs.Prelude.{◌≡◌, ◌<◌, Bool, List, length, map, IsSome, IsTrue, IfOk, OnErr};
 ghost use Rattle.std.specs.List.{All, list_any};
+ghost use Rattle.eco_archetypes.specs.Archetypes.{IsAllFound};
 ghost use Rattle.eco_ids.specs.Indices.{living};
+ghost use Rattle.eco_ids.specs.declared.id.Id.{Id as Ids};
 ghost use Rattle.eco_tables.specs.Tables.{slot_of};
 ghost use Rattle.eco_store.specs.Holders.{passes, entities_whose};
 ghost use Rattle.eco_store.specs.Ranking.{StandsIn};
+ghost use Rattle.eco_store.specs.Store.{read, IsStore};
 ghost use Rattle.eco_store.specs.declared.standing.Standing.{Standing as Stands};
 
-use crate::standing::{Standings, ranked};
+use crate::standing::{Standing, Standings, ranked, row_count};
 use crate::store::Store;
-use eco_archetypes::{Found, TypeTest};
-use std::alloc::AllocError;
+use crate::walking::walked;
+use eco_archetypes::TypeTest;
+use eco_entities::EntityIndex;
+use eco_tables::Tables;
+use std::alloc::{AllocError, Global};
+
+// So many indices cost no more to look at than one entity to sort.
+const INDICES_PER_ENTITY: usize = 16;
+
+// All who stand in the tables of these slots, ascending: by a walk over the indices where they are many of those who live,
+// and else by sorting them. An `Err` comes where memory is refused, and never where there are no slots.
+fn standing_in(
+    alloc: Global,
+    entities: &EntityIndex,
+    tables: &Tables,
+    slots: &[usize],
+) -> Result<Vec<Standing>, AllocError>
+    requires store { IsStore entities.now tables.now }
+    requires there { All (λ n. IsSome (slot_of tables.now n)) slots.now }
+    ensures all { IfOk result (λ v. (test : List Ids → Bool) → IsAllFound test tables.now slots.now
+        → map (λ (x : Stands). x.entity) v.items ≡ entities_whose (read entities.now tables.now) test) }
+    ensures placed { IfOk result (λ v. All
+        (StandsIn (read entities.now tables.now) tables.now slots.now) v.items) }
+    ensures some { OnErr result (0 < length slots.now) }
+{
+    eco_ids::order::handles_are_ordered();
+    eco_ids::order::ascending_lists_are_sets();
+    tables.rows_have_ids();
+    let count = row_count(tables, slots);
+    let indices = entities.high() as usize;
+    // The rows of one table mostly ascend as they stand.
+    if slots.len() > 1 && indices / INDICES_PER_ENTITY <= count {
+        walked(alloc, entities, tables.slot_count(), slots, count)
+    } else {
+        ranked(alloc, tables, slots)
+    }
+}
 
 impl Store {
     /// The living entities whose types pass the test, ascending, each with the place of its table among those that the test
@@ -25,11 +63,10 @@ impl Store {
         ensures some { OnErr result
             (IsTrue (list_any (λ p. passes (T.test test.now) p.1) (living self.now.entities))) }
     {
-        eco_ids::order::handles_are_ordered();
-        eco_ids::order::ascending_lists_are_sets();
-        let found = self.tables_by(test)?;
-        let list = ranked(self.alloc, found.tables, &found.slots)?;
-        let Found { tables, slots } = found;
+        let tables = self.layout.tables();
+        tables.rows_have_ids();
+        let slots = self.layout.archetypes().tables_by(test)?;
+        let list = standing_in(self.alloc, &self.entities, tables, &slots)?;
         Ok(Standings {
             tables,
             slots,

@@ -1,7 +1,7 @@
 use Rattle.std.proofs.Common.{ap, ◌∙◌}
 use Rattle.eco_ids.specs.Order.{entity_cmp, has_item}
 use Rattle.eco_ids.proofs.Results.{on_ok}
-use Rattle.eco_cleanup.specs.Worlds.{world_of}
+use Rattle.eco_store.specs.Worlds.{world_of}
 use Rattle.eco_cleanup.proofs.TakenOut.{all_left, taken_one_way}
 use Rattle.eco_cleanup.proofs.deleting.carry_out.Goals as goal
 
@@ -13,3 +13,6 @@ returns-clause-ok c = λ goes takes.
     on_ok c.delete_all.result
     (λ is. ap world_of (is ∙ all_left c.args.store.now.entities (has_item entity_cmp c.args.dead.now) goes c.args.changes.now takes))
     c.delete_all.ensures.ok
+
+pub returns-clause-err : goal.returns-clause-err
+returns-clause-err c = c.delete_all.ensures.err

@@ -5,7 +5,7 @@ use Rattle.eco_ids.specs.declared.entity.Entity.{Entity}
 use Rattle.eco_cleanup.specs.Nodes.{AreStarts, taken_among}
 use Rattle.eco_cleanup.specs.Objections.{Answers}
 use Rattle.eco_cleanup.specs.Plans.{IsPlan}
-use Rattle.eco_cleanup.specs.Worlds.{world_of}
+use Rattle.eco_store.specs.Worlds.{world_of}
 use Rattle.eco_cleanup.proofs.Deaths.{taken_roots}
 use Rattle.eco_cleanup.proofs.Noted.{roots_start}
 use Rattle.eco_cleanup.proofs.deleting.plan_delete.Goals as goal

@@ -1,20 +1,16 @@
-use Rattle.std.proofs.Common.{◌+◌, take, get_or, refl, sym, ap, subst, ◌∙◌}
-use Rattle.std.proofs.lemmas.List.{take_all}
-use Rattle.eco_ids.specs.declared.entity.Entity.{Entity}
-use Rattle.eco_ids.specs.Indices.{is_alive, with_death}
+use Rattle.std.proofs.Common.{◌≡◌, ◌-◌, length, take, drop, refl, sym, ap, subst, ◌∙◌, arith}
+use Rattle.std.proofs.lemmas.List.{length-drop, take_all}
 use Rattle.eco_ids.specs.Order.{entity_cmp, has_item}
 use Rattle.eco_store.specs.Deaths.{after_deaths}
 use Rattle.eco_store.specs.Preparing.{PreparedState}
 use Rattle.eco_store.specs.Store.{read}
 use Rattle.eco_store.specs.Transfers.{Thins}
-use Rattle.eco_store.proofs.Dying.{one_dies, none_dies, first_more, nobody_dies}
+use Rattle.eco_store.proofs.Dying.{more_die, nobody_dies}
 use Rattle.eco_store.proofs.Thinning.{thins_same, thins_both}
-use Rattle.eco_store.proofs.Values.{alive_same}
-use Rattle.eco_store.proofs.deaths.kill_all.Goals.{then-is_alive, else-is_alive}
 use Rattle.eco_store.proofs.deaths.kill_all.Goals as goal
 
-pub loop-entity-init : goal.loop-entity-init
-loop-entity-init c = record {
+pub loop-done-init : goal.loop-done-init
+loop-done-init c = record {
   store = c.requires.store;
   covers = λ was. was;
   read = sym (nobody_dies (read c.args.entities.now c.args.archetypes.now));
@@ -25,49 +21,33 @@ loop-entity-init c = record {
   thins = thins_same c.args.archetypes.now c.args.prepared.now.targets;
 }
 
-pub loop-entity-preserved : goal.loop-entity-preserved
-loop-entity-preserved c =
-    let i = c.loop-entity.entity-index in
+pub loop-done-preserved : goal.loop-done-preserved
+loop-done-preserved c =
     let es = c.args.dead.now in
-    let none : Entity = record { index = 0; generation = 0 } in
-    let e = get_or es i none in
-    let was = c.loop-entity.invariant in
-    let w0 = read c.args.entities.now c.args.archetypes.now in
-    let before = has_item entity_cmp (take i es) in
-    let now = has_item entity_cmp (take (i + 1) es) in
-    let more = first_more es i none c.loop-entity-test.true in
-    let seen = sym (ap (λ w. is_alive w e) was.read) ∙ alive_same c.loop-entity.entities c.loop-entity.archetypes e ∙ sym c.is_alive.ensures in
-    elim c.if-is_alive.branch [
-      | then-is_alive w ↦
-          rw (w.entities-is, w.archetypes-is, w.prepared-is)
-          (record {
-            store = w.kill.ensures.store;
-            covers = λ kept. w.kill.ensures.covers (was.covers kept);
-            read = w.kill.ensures.read ∙ (λ t. with_death (was.read t) e) ∙ sym (one_dies before now e more w0 (seen ∙ w.if-is_alive.true));
-            ready = w.kill.ensures.ready;
-            tidy = w.kill.ensures.tidy;
-            same = w.kill.ensures.same ∙ ap (λ (q : PreparedState). record q { idle = w.kill.new.prepared.idle }) was.same;
-            left = w.kill.ensures.left ∙ was.left;
-            thins =
-                thins_both c.args.archetypes.now c.loop-entity.archetypes w.kill.new.archetypes c.args.prepared.now.targets was.thins
-                (subst (Thins c.loop-entity.archetypes w.kill.new.archetypes) (ap (λ (q : PreparedState). q.targets) was.same) w.kill.ensures.thins);
-          })
-      | else-is_alive w ↦
-          rw (w.entities-is, w.archetypes-is, w.prepared-is)
-          (record {
-            store = was.store;
-            covers = was.covers;
-            read = was.read ∙ sym (none_dies before now e more w0 (seen ∙ w.if-is_alive.false));
-            ready = was.ready;
-            tidy = was.tidy;
-            same = was.same;
-            left = was.left;
-            thins = was.thins;
-          })
-    ]
+    let done = c.loop-done.done in
+    let was = c.loop-done.invariant in
+    let next = c.kill_next-done.ensures in
+    let s = c.loop-done.archetypes in
+    let s1 = c.kill_next-done.new.archetypes in
+    let rest : take (length es - done) (drop done es) ≡ drop done es =
+    take_all (length es - done) (drop done es) (let long = length-drop done es in omega (arith, long)) in
+    record {
+      store = next.store;
+      covers = λ kept. next.covers (was.covers kept);
+      read =
+          next.read ∙ (λ t. after_deaths (was.read t) (has_item entity_cmp (take c.kill_next-done.result (rest t))))
+          ∙ more_die (read c.args.entities.now c.args.archetypes.now) es done c.kill_next-done.result;
+      ready = next.ready;
+      tidy = next.tidy;
+      same = next.same ∙ ap (λ (q : PreparedState). record q { idle = c.kill_next-done.new.prepared.idle }) was.same;
+      left = next.left ∙ was.left;
+      thins =
+          thins_both c.args.archetypes.now s s1 c.args.prepared.now.targets was.thins
+          (subst (Thins s s1) (ap (λ (q : PreparedState). q.targets) was.same) next.thins);
+    }
 
 pub returns-clause-read : goal.returns-clause-read
 returns-clause-read c =
     let w0 = read c.args.entities.now c.args.archetypes.now in
-    c.loop-entity.invariant.read
-    ∙ ap (λ es. after_deaths w0 (has_item entity_cmp es)) (take_all c.loop-entity.entity-index c.args.dead.now c.loop-entity-test.false)
+    c.loop-done.invariant.read
+    ∙ ap (λ es. after_deaths w0 (has_item entity_cmp es)) (take_all c.loop-done.done c.args.dead.now c.loop-done-test.false)

@@ -1,4 +1,4 @@
-use Rattle.std.proofs.Common.{◌≡◌, take}
+use Rattle.std.proofs.Common.{◌≡◌, ◌-◌, length, take}
 use Rattle.eco_archetypes.specs.Archetypes.{RowlessIn}
 use Rattle.eco_archetypes.specs.Widths.{Covers}
 use Rattle.eco_entities.specs.Needs.{need}
@@ -9,15 +9,18 @@ use Rattle.eco_store.specs.Store.{IsStore, read}
 use Rattle.eco_store.specs.Transfers.{Thins}
 use Rattle.eco_store.proofs.deaths.kill_all.Given as goal
 
-abbrev pub invariant-loop-entity : goal.invariant-loop-entity
-invariant-loop-entity l = record {
+abbrev pub invariant-loop-done : goal.invariant-loop-done
+invariant-loop-done l = record {
   store : IsStore l.entities l.archetypes;
   covers : Covers (need l.initial.entities) l.initial.archetypes → Covers (need l.entities) l.archetypes;
   read : read l.entities l.archetypes
-      ≡ after_deaths (read l.initial.entities l.initial.archetypes) (has_item entity_cmp (take l.entity-index l.dead));
+      ≡ after_deaths (read l.initial.entities l.initial.archetypes) (has_item entity_cmp (take l.done l.dead));
   ready : IsReady l.archetypes l.prepared;
   tidy : RowlessIn l.archetypes (staying l.prepared);
   same : l.prepared ≡ record l.initial.prepared { idle = l.prepared.idle };
   left : moves_of l.archetypes l.prepared ≡ moves_of l.initial.archetypes l.initial.prepared;
   thins : Thins l.initial.archetypes l.archetypes l.initial.prepared.targets;
 }
+
+abbrev pub decreases-loop-done : goal.decreases-loop-done
+decreases-loop-done l = length l.dead - l.done

@@ -1,13 +1,19 @@
 use Rattle.std.proofs.Common.{◌≡◌, ◌++◌, List, [], ◌∷◌, eqb-true, length, map, nat_eq, refl, sym, ap, ◌∙◌, true≢false, arith}
 use Rattle.eco_ids.proofs.Results.{on_ok}
 use Rattle.eco_cleanup.specs.Nodes.{named_node}
-use Rattle.eco_cleanup.specs.Worlds.{world_of}
-use Rattle.eco_cleanup.proofs.Noted.{none_adds, some_adds}
+use Rattle.eco_store.specs.Worlds.{world_of}
+use Rattle.eco_cleanup.proofs.Noted.{none_adds, none_found, some_adds}
 use Rattle.eco_cleanup.proofs.ties.Ties.append_row.Goals as goal
 
 nothing : {A : Type 0} (xs : List A) → length xs ≡ 0 → xs ≡ []
 nothing [] none = refl
 nothing (x ∷ xs) none = absurd (omega (arith, none))
+
+pub returns-then-not-is_named : goal.returns-then-not-is_named
+returns-then-not-is_named c =
+    let w = world_of c.args.self.now.store.now.entities in
+    let slots = c.args.self.now.archetypes.now in
+    none_adds w slots c.args.entity [] (none_found w slots c.args.entity (sym c.is_named.ensures ∙ c.if-not-is_named.true)) refl c.args.found.now.items
 
 pub returns-then-is_empty : goal.returns-then-is_empty
 returns-then-is_empty c =

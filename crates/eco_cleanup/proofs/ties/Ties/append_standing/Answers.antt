@@ -2,7 +2,7 @@ use Rattle.std.proofs.Common.{◌≡◌, ◌||◌, length, take, ap, ◌∙◌, 
 use Rattle.std.proofs.Math.Seq.{take-length}
 use Rattle.std.specs.List.{list_any}
 use Rattle.eco_cleanup.specs.Nodes.{adds, is_one_of}
-use Rattle.eco_cleanup.specs.Worlds.{world_of}
+use Rattle.eco_store.specs.Worlds.{world_of}
 use Rattle.eco_cleanup.proofs.Noted.{one_more, standing_come}
 use Rattle.eco_cleanup.proofs.ties.Ties.append_standing.Goals as goal
 

@@ -1,7 +1,7 @@
 use Rattle.std.proofs.Common.{◌≡◌, ◌||◌, take}
 use Rattle.std.specs.List.{list_any}
 use Rattle.eco_cleanup.specs.Nodes.{adds, is_one_of}
-use Rattle.eco_cleanup.specs.Worlds.{world_of}
+use Rattle.eco_store.specs.Worlds.{world_of}
 use Rattle.eco_cleanup.specs.declared.node.Node.{Node}
 use Rattle.eco_cleanup.proofs.ties.Ties.append_standing.Given as goal
 

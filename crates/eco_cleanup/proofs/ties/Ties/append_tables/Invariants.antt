@@ -1,6 +1,6 @@
 use Rattle.std.proofs.Common.{◌≡◌, ◌++◌, map, take}
 use Rattle.eco_cleanup.specs.Nodes.{named_node}
-use Rattle.eco_cleanup.specs.Worlds.{world_of}
+use Rattle.eco_store.specs.Worlds.{world_of}
 use Rattle.eco_cleanup.proofs.ties.Ties.append_tables.Given as goal
 
 abbrev pub invariant-loop-slot : goal.invariant-loop-slot

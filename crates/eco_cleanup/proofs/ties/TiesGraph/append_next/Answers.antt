@@ -1,4 +1,4 @@
-use Rattle.eco_cleanup.specs.Worlds.{world_of}
+use Rattle.eco_store.specs.Worlds.{world_of}
 use Rattle.eco_cleanup.specs.declared.node.Node.TheVariants.{Root, Falling}
 use Rattle.eco_ids.proofs.Results.{on_ok}
 use Rattle.eco_cleanup.proofs.Noted.{all_known, come_of}

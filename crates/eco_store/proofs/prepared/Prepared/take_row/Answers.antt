@@ -1,4 +1,6 @@
-use Rattle.std.proofs.Common.{sym, subst, ◌∙◌}
+use Rattle.std.proofs.Common.{refl, sym, subst, ◌∙◌, arith}
+use Rattle.eco_ids.proofs.Lists.{length-swap_remove}
+use Rattle.eco_tables.specs.Tables.{no_row, table_in, without_row}
 use Rattle.eco_store.specs.Layout.{rows_in, TakesRow}
 use Rattle.eco_store.specs.Preparing.{staying}
 use Rattle.eco_archetypes.proofs.ArchetypeLemmas.{there_by_row}
@@ -14,8 +16,9 @@ release-requires c =
     let p = c.args.self.now in
     let place = c.args.place in
     let there = there_by_row s place.table place.row c.requires.row in
+    let t = without_row (table_in s place.table) place.row in
     record {
-      ready = ready_spared s _ p (spares_without s _ p place.table place.row there c.swap_out-moved.ensures.rows) c.requires.ready;
+      ready = ready_spared s _ p (spares_without s _ p place.table t there c.swap_out-moved.ensures.rows refl (omega arith)) c.requires.ready;
       tidy = rowless_emptied s _ place.table (staying p) _ c.swap_out-moved.ensures.rows c.requires.tidy;
     }
 
@@ -33,12 +36,15 @@ returns-clause-left c =
     let p = c.args.self.now in
     let place = c.args.place in
     let there = there_by_row s place.table place.row c.requires.row in
-    c.release.ensures.left ∙ moves_spared s _ p (spares_without s _ p place.table place.row there c.swap_out-moved.ensures.rows)
+    let t = without_row (table_in s place.table) place.row in
+    c.release.ensures.left ∙ moves_spared s _ p (spares_without s _ p place.table t there c.swap_out-moved.ensures.rows refl (omega arith))
 
 pub returns-clause-thins : goal.returns-clause-thins
 returns-clause-thins c =
     let s = c.args.archetypes.now in
     let place = c.args.place in
     let there = there_by_row s place.table place.row c.requires.row in
-    thins_without s c.swap_out-moved.new.self c.release.new.archetypes place.table place.row c.args.self.now.targets there
-    c.swap_out-moved.ensures.rows c.release.ensures.targets
+    let t = without_row (table_in s place.table) place.row in
+    let less = length-swap_remove (rows_in s place.table) place.row no_row in
+    thins_without s c.swap_out-moved.new.self c.release.new.archetypes place.table t c.args.self.now.targets there
+    c.swap_out-moved.ensures.rows refl (omega (arith, less)) (omega arith) c.release.ensures.targets

@@ -3,7 +3,8 @@ use Rattle.std.specs.Vec.{vec_capacity}
 use Rattle.std.proofs.lemmas.List.{length-append, length-map}
 use Rattle.eco_tables.specs.Column.{ColumnState, joined}
 use Rattle.eco_tables.specs.Table.{retyped_row, rows_from, rows_of, table_of, width_among}
-use Rattle.eco_tables.proofs.Rows.{added_rows, ascends, columns_agree, entities_of-rows, joined_columns, kinds_same, length-rows, length-rows_of, same_held, same_rows, same_table, shape_joined, shape_reserved, values_held}
+use Rattle.eco_tables.proofs.Rows.{added_rows, ascends, columns_agree, entities_of-rows, joined_columns, kinds_same, length-rows, length-rows_of, same_held}
+use Rattle.eco_tables.proofs.Rows.{same_rows, same_table, shape_joined, shape_reserved, values_held}
 use Rattle.eco_tables.proofs.table.Table.join.Goals as goal
 
 pub join_all-requires-clause-room : goal.join_all-requires-clause-room

@@ -1,0 +1,10 @@
+use Rattle.std.proofs.Common.{ap, ◌∙◌}
+use Rattle.eco_archetypes.specs.IdIndex.{lists_of}
+use Rattle.eco_archetypes.specs.Naming.{is_named_by_some}
+use Rattle.eco_archetypes.proofs.Named.{listed_named}
+use Rattle.eco_archetypes.proofs.archetypes.Archetypes.is_named.Goals as goal
+
+pub returns : goal.returns
+returns c =
+    listed_named c.self.inside.tables (lists_of c.self.inside.by_id.slots) c.args.entity c.self.invariant.matches c.names.result c.names.ensures
+    ∙ ap (λ slots. is_named_by_some slots c.args.entity) c.self.view_is

@@ -1,10 +1,10 @@
 -- Those who pass as a query's test, each with the ids of its table, give the answer.
-use Rattle.eco_ids.proofs.Common.{◌≡◌, ℕ, zero, suc, ◌+◌, ◌<◌, Bool, true, false, true≢false, cond, ◌&&◌, ◌||◌, List, [], ◌∷◌, ◌++◌, map, flat_map, filter, length}
-use Rattle.eco_ids.proofs.Common.{slice_get, Option, Some, None, option_map, unwrap_or, refl, sym, ap, ◌∙◌, subst, arith, length-append, length-map, list_any, list_all}
+use Rattle.eco_ids.proofs.Common.{◌≡◌, ℕ, suc, ◌+◌, ◌<◌, Bool, true, false, true≢false, cond, ◌&&◌, ◌||◌, List, [], ◌∷◌, ◌++◌, map, flat_map, filter}
+use Rattle.eco_ids.proofs.Common.{length}
+use Rattle.eco_ids.proofs.Common.{slice_get, Option, Some, option_map, unwrap_or, refl, sym, ap, ◌∙◌, arith, length-append, length-map, list_any}
 use Rattle.eco_ids.proofs.Common.{All, AllByRecursion}
-use Rattle.std.specs.List.{slice_index_or}
 use Rattle.std.proofs.lemmas.List.{nil_from_length}
-use Rattle.std.proofs.lemmas.List.Elements.{recursion_from_All, All-from_recursion}
+use Rattle.std.proofs.lemmas.List.Elements.{recursion_from_All}
 use Rattle.eco_ids.specs.Answer as answers
 use Rattle.eco_ids.specs.Answer.{answer, choices, entries_of}
 use Rattle.eco_ids.specs.Terms.{QueryTerm}
@@ -16,14 +16,13 @@ use Rattle.eco_ids.proofs.States.{record_at}
 use Rattle.eco_query.specs.declared.slot.Slot.{Slot}
 use Rattle.eco_query.specs.Queries.{QuerySlot, has_any, holds, matches_type, slot_view, term_view}
 use Rattle.eco_tables.specs.Table.{TableState}
-use Rattle.eco_tables.specs.Tables.{table_in}
 use Rattle.eco_store.specs.Holders.{entities_whose, passes}
 use Rattle.eco_store.specs.Ranking.{StandsIn}
 use Rattle.eco_store.specs.Store.{record_ids, type_of}
 use Rattle.eco_store.specs.declared.standing.Standing.{Standing}
 use Rattle.eco_answers.specs.Answers.{asked, asks}
 use Rattle.eco_answers.specs.Blocks.{results, results_at}
-use Rattle.eco_answers.specs.Worlds.{world_of}
+use Rattle.eco_store.specs.Worlds.{world_of}
 
 -- ---- which ids have a choice
 
@@ -82,7 +81,8 @@ answer_passing q (p ∷ ps) = by (answer_passing q ps) (passing q p) refl
     by : flat_map (of_one q) (filter (passing q) ps) ≡ flat_map (of_one q) ps → (b : Bool) → passing q p ≡ b
         → flat_map (of_one q) (cond b (p ∷ filter (passing q) ps) (filter (passing q) ps)) ≡ of_one q p ++ flat_map (of_one q) ps
     by rest true e = ap (λ zs. of_one q p ++ zs) rest
-    by rest false e = rest ∙ ap (λ (cs : List (List (Option Id))). map (λ es. let r : answers.Row = record { entity = p.0; entries = es } in r) cs ++ flat_map (of_one q) ps)
+    by rest false e = rest
+        ∙ ap (λ (cs : List (List (Option Id))). map (λ es. let r : answers.Row = record { entity = p.0; entries = es } in r) cs ++ flat_map (of_one q) ps)
         (sym (no_choice (record_ids p.1) q e))
 
 -- where one passes there is a result
@@ -147,7 +147,8 @@ HasAt w n xs = (k g : ℕ) (r : Record) → slice_get xs k ≡ Some (Living g r)
 one_on : (w : Indexed Record) (n : ℕ) (x : IndexState Record) (xs : List (IndexState Record)) → HasAt w n (x ∷ xs) → HasAt w (n + 1) xs
 one_on w n x xs h = λ k g r at. let e : n + 1 + k ≡ n + suc k = omega arith in ap (λ j. record_of w (record { index = j; generation = g })) e ∙ h (suc k) g r at
 
-living_kept : (w : Indexed Record) (n : ℕ) (xs : List (IndexState Record)) → HasAt w n xs → AllByRecursion (λ (p : Kept). record_of w p.0 ≡ Some p.1) (living_from n xs)
+living_kept : (w : Indexed Record) (n : ℕ) (xs : List (IndexState Record)) → HasAt w n xs
+    → AllByRecursion (λ (p : Kept). record_of w p.0 ≡ Some p.1) (living_from n xs)
 living_kept w n [] h = tt
 living_kept w n (Retired ∷ xs) h = living_kept w (n + 1) xs (one_on w n Retired xs h)
 living_kept w n (Free f ∷ xs) h = living_kept w (n + 1) xs (one_on w n (Free f) xs h)
@@ -159,7 +160,8 @@ living_kept w n (Living f b ∷ xs) h = (
 all_kept : (w : Indexed Record) → AllByRecursion (λ (p : Kept). record_of w p.0 ≡ Some p.1) (living w)
 all_kept w =
     living_kept w 0 w.indices
-    (λ k g r at. let e : 0 + k ≡ k = omega arith in ap (λ j. record_of w (record { index = j; generation = g })) e ∙ record_at w (record { index = k; generation = g }) r at)
+    (λ k g r at. let e : 0 + k ≡ k = omega arith in ap (λ j. record_of w (record { index = j; generation = g })) e
+    ∙ record_at w (record { index = k; generation = g }) r at)
 
 -- all who pass, each with the ids of the table at its place, give the answer
 pub standings_answer : (w : Indexed Record) (tables : List (Option TableState)) (ns : List ℕ) (q : List QuerySlot) (ss : List Standing)

@@ -1,6 +1,6 @@
 -- Rows for the choices of blocks.
-use Rattle.eco_ids.proofs.Common.{◌≡◌, ℕ, zero, suc, ◌+◌, ◌-◌, ◌<◌, ◌≤◌, Bool, true, false, nat_lt, List, [], ◌∷◌, ◌++◌, map, flat_map, length, take, drop, get_or}
-use Rattle.eco_ids.proofs.Common.{Option, refl, sym, ap, ◌∙◌, subst, arith, append_assoc, append-nil, suc-add, length-append, length-drop, map-append}
+use Rattle.eco_ids.proofs.Common.{◌≡◌, ℕ, zero, suc, ◌+◌, ◌-◌, ◌<◌, ◌≤◌, Bool, true, false, nat_lt, List, [], ◌∷◌, ◌++◌, map, length, take, drop}
+use Rattle.eco_ids.proofs.Common.{Option, refl, sym, ap, ◌∙◌, subst, arith, append_assoc, length-append, length-drop, map-append}
 use Rattle.eco_ids.proofs.Common.{nat_tests, take-length, AllByRecursion, All}
 use Rattle.std.proofs.Common.{drop-cons}
 use Rattle.std.specs.List.{slice_index_or}
@@ -27,7 +27,8 @@ rows_more e first (suc n) =
     ∙ ap (λ j. record { entity = e; place = first } ∷ (rows_from e (suc first) n ++ record { entity = e; place = j } ∷ [])) k
 
 -- one more choice has its row
-pub rows_step : (e : Entity) (first at : ℕ) (old rows more : List Standing) → first ≤ at → rows ≡ old ++ rows_from e first (at - first) → more ≡ rows ++ record { entity = e; place = at } ∷ [] →
+pub rows_step : (e : Entity) (first at : ℕ) (old rows more : List Standing) → first ≤ at → rows ≡ old ++ rows_from e first (at - first)
+    → more ≡ rows ++ record { entity = e; place = at } ∷ [] →
     more ≡ old ++ rows_from e first (at + 1 - first)
 rows_step e first at old rows more low so_far pushed =
     let n : ℕ = at - first in
@@ -53,7 +54,8 @@ rows_show all e first (suc n) within =
 block_shows : (all : List (List (Option Id))) (e : Entity) (b : Block) (ids : List Id) (terms : List QueryTerm) → IsBlock all (answers.choices ids terms) b →
     map (shown all) (rows_in b e) ≡ results e ids terms
 block_shows all e b ids terms is =
-    rows_show all e b.first (b.end - b.first) (let r = is.rises in let w = is.within in omega (arith, r, w)) ∙ ap (map (λ es. record { entity = e; entries = es })) is.are
+    rows_show all e b.first (b.end - b.first) (let r = is.rises in let w = is.within in omega (arith, r, w))
+    ∙ ap (map (λ es. record { entity = e; entries = es })) is.are
 
 -- where all stand at places of blocks, the rows show the results
 pub rows_shown : (tables : List (Option TableState)) (ns : List ℕ) (terms : List QueryTerm) (b : Blocks) → AreBlocks tables ns terms b →
@@ -64,11 +66,13 @@ rows_shown tables ns terms b are (s ∷ ss) within =
     let all = b.choices.all in
     let block = block_at b.list.items s.place in
     map-append (shown all) (rows_in block s.entity) (rows_of b.list.items ss)
-    ∙ ap (λ zs. zs ++ map (shown all) (rows_of b.list.items ss)) (block_shows all s.entity block (table_in tables (slice_index_or ns s.place 0)).ids terms (are.each s.place within.0))
+    ∙ ap (λ zs. zs ++ map (shown all) (rows_of b.list.items ss))
+    (block_shows all s.entity block (table_in tables (slice_index_or ns s.place 0)).ids terms (are.each s.place within.0))
     ∙ ap (λ zs. results s.entity (table_in tables (slice_index_or ns s.place 0)).ids terms ++ zs) (rows_shown tables ns terms b are ss within.1)
 
 -- where each block is one choice, all who stand somewhere are the rows
-single_rows : (blocks : List Block) → AreSingle blocks → (ss : List Standing) → AllByRecursion (λ (s : Standing). s.place < length blocks) ss → rows_of blocks ss ≡ ss
+single_rows : (blocks : List Block) → AreSingle blocks → (ss : List Standing) → AllByRecursion (λ (s : Standing). s.place < length blocks) ss
+    → rows_of blocks ss ≡ ss
 single_rows blocks single [] within = refl
 single_rows blocks single (s ∷ ss) within =
     let one : s.place + 1 - s.place ≡ 1 = omega arith in
@@ -171,9 +175,11 @@ even_at w (x ∷ all) even (suc k) lt = even_at w all even.1 k (omega (arith, lt
 pub rows_even : (w : ℕ) (all : List (List (Option Id))) → IsEven w all → (ss : List Standing) → All (λ (s : Standing). s.place < length all) ss
     → All (λ (r : answers.Row). length r.entries ≡ w) (map (shown all) ss)
 rows_even w all even ss within =
-    All-from_recursion (λ (r : answers.Row). length r.entries ≡ w) (map (shown all) ss) (go ss (recursion_from_All (λ (s : Standing). s.place < length all) ss within))
+    All-from_recursion (λ (r : answers.Row). length r.entries ≡ w) (map (shown all) ss)
+    (go ss (recursion_from_All (λ (s : Standing). s.place < length all) ss within))
   where
-    go : (ss : List Standing) → AllByRecursion (λ (s : Standing). s.place < length all) ss → AllByRecursion (λ (r : answers.Row). length r.entries ≡ w) (map (shown all) ss)
+    go : (ss : List Standing) → AllByRecursion (λ (s : Standing). s.place < length all) ss
+        → AllByRecursion (λ (r : answers.Row). length r.entries ≡ w) (map (shown all) ss)
     go [] within = tt
     go (s ∷ ss) within = (even_at w all even s.place within.0, go ss within.1)
 

@@ -1,6 +1,8 @@
 -- Lists of one width, one behind another.
-use Rattle.std.proofs.Common.{◌≡◌, ℕ, zero, suc, ◌+◌, ◌*◌, ◌/◌, ◌-◌, ◌<◌, ◌≤◌, List, [], ◌∷◌, ◌++◌, length, take, drop, map, slice_get, get_or, Some, refl, sym, ap, ◌∙◌, arith, subst, add-one, suc-add, append_assoc, length-append}
+use Rattle.std.proofs.Common.{◌≡◌, ℕ, zero, suc, ◌+◌, ◌*◌, ◌/◌, ◌<◌, ◌≤◌, List, [], ◌∷◌, ◌++◌, length, take, drop, map, slice_get, get_or, Some, refl}
+use Rattle.std.proofs.Common.{sym, ap, ◌∙◌, arith, suc-add, append_assoc, length-append}
 use Rattle.std.specs.Prelude.{flat_map}
+use Rattle.eco_ids.proofs.Common.{take-length}
 use Rattle.std.proofs.Math.Nat.{mul-le-mul_right, suc-mul, mul-div_cancel, le-mul_of_pos_right}
 use Rattle.std.proofs.Math.Seq.{drop-append_seam, take-append_seam}
 use Rattle.std.proofs.lemmas.List.{take-append-le, drop-append-le, length-take-le, length-drop, take_more, append-nil}
@@ -10,9 +12,11 @@ use Rattle.std.proofs.lemmas.Option.{get_or_from_slice_get, slice_get_within}
 use Rattle.eco_answers.specs.Flat.{chunks, IsEven}
 
 -- the lists of some items, and of one more
-pub flat_map-more : {X Y : Type 0} (f : X → List Y) (xs : List X) (p : ℕ) (d : X) → p < length xs → flat_map f (take (p + 1) xs) ≡ flat_map f (take p xs) ++ f (get_or xs p d)
+pub flat_map-more : {X Y : Type 0} (f : X → List Y) (xs : List X) (p : ℕ) (d : X) → p < length xs
+    → flat_map f (take (p + 1) xs) ≡ flat_map f (take p xs) ++ f (get_or xs p d)
 flat_map-more f xs p d lt =
-    ap (flat_map f) (take_more xs p d lt) ∙ flat_map-append f (take p xs) (get_or xs p d ∷ []) ∙ ap (λ ys. flat_map f (take p xs) ++ ys) (append-nil (f (get_or xs p d)))
+    ap (flat_map f) (take_more xs p d lt) ∙ flat_map-append f (take p xs) (get_or xs p d ∷ [])
+    ∙ ap (λ ys. flat_map f (take p xs) ++ ys) (append-nil (f (get_or xs p d)))
 
 -- the lists joined
 abbrev pub joined : {X : Type 0} → List (List X) → List X
@@ -61,6 +65,10 @@ chunks_append (suc n) m w xs ys e =
     ∙ ap (λ z. z ∷ chunks (n + m) w (drop w (xs ++ ys))) (take-append-le w xs ys long)
     ∙ ap (λ z. take w xs ∷ chunks (n + m) w z) (drop-append-le w xs ys long)
     ∙ ap (λ z. take w xs ∷ z) (chunks_append n m w (drop w xs) ys (omega (arith, e, s, cut)))
+
+-- one list of its own length
+pub chunk_alone : {X : Type 0} (w : ℕ) (xs : List X) → length xs ≡ w → chunks 1 w xs ≡ xs ∷ []
+chunk_alone w xs e = ap (λ k. take k xs ∷ []) (sym e) ∙ ap (λ ys. ys ∷ []) (take-length xs)
 
 pub chunks_even : {X : Type 0} (n w : ℕ) (xs : List X) → length xs ≡ n * w → IsEven w (chunks n w xs)
 chunks_even zero w xs e = tt
@@ -112,28 +120,34 @@ lists_joined (e ∷ es) cs =
     ∙ ap (λ zs. flat_map (λ x. e ∷ x) cs ++ zs) (lists_joined es cs)
 
 -- so many lists come out
-led_count : {X : Type 0} (w : ℕ) (es : List X) (cs : List (List X)) (xs : List X) → IsEven w cs → xs ≡ flat_map (λ e. flat_map (λ x. e ∷ x) cs) es → length xs ≡ length (led_lists es cs) * suc w
+led_count : {X : Type 0} (w : ℕ) (es : List X) (cs : List (List X)) (xs : List X) → IsEven w cs → xs ≡ flat_map (λ e. flat_map (λ x. e ∷ x) cs) es
+    → length xs ≡ length (led_lists es cs) * suc w
 led_count w es cs xs even is = ap length (is ∙ sym (lists_joined es cs)) ∙ length_joined (suc w) (led_lists es cs) (lists_even w es cs even)
 
-led_divided : {X : Type 0} (w : ℕ) (es : List X) (cs : List (List X)) (xs : List X) → IsEven w cs → xs ≡ flat_map (λ e. flat_map (λ x. e ∷ x) cs) es → length xs / suc w ≡ length (led_lists es cs)
+led_divided : {X : Type 0} (w : ℕ) (es : List X) (cs : List (List X)) (xs : List X) → IsEven w cs → xs ≡ flat_map (λ e. flat_map (λ x. e ∷ x) cs) es
+    → length xs / suc w ≡ length (led_lists es cs)
 led_divided w es cs xs even is = ap (λ k. k / suc w) (led_count w es cs xs even is) ∙ mul-div_cancel (length (led_lists es cs)) (omega arith)
 
-pub led_length : {X : Type 0} (w : ℕ) (es : List X) (cs : List (List X)) (xs : List X) → IsEven w cs → xs ≡ flat_map (λ e. flat_map (λ x. e ∷ x) cs) es → length xs ≡ (length xs / suc w) * suc w
+pub led_length : {X : Type 0} (w : ℕ) (es : List X) (cs : List (List X)) (xs : List X) → IsEven w cs → xs ≡ flat_map (λ e. flat_map (λ x. e ∷ x) cs) es
+    → length xs ≡ (length xs / suc w) * suc w
 led_length w es cs xs even is = led_count w es cs xs even is ∙ ap (λ k. k * suc w) (sym (led_divided w es cs xs even is))
 
-pub led_chunks : {X : Type 0} (w : ℕ) (es : List X) (cs : List (List X)) (xs : List X) → IsEven w cs → xs ≡ flat_map (λ e. flat_map (λ x. e ∷ x) cs) es → chunks (length xs / suc w) (suc w) xs ≡ led_lists es cs
+pub led_chunks : {X : Type 0} (w : ℕ) (es : List X) (cs : List (List X)) (xs : List X) → IsEven w cs → xs ≡ flat_map (λ e. flat_map (λ x. e ∷ x) cs) es
+    → chunks (length xs / suc w) (suc w) xs ≡ led_lists es cs
 led_chunks w es cs xs even is =
     ap (λ k. chunks k (suc w) xs) (led_divided w es cs xs even is)
     ∙ ap (chunks (length (led_lists es cs)) (suc w)) (is ∙ sym (lists_joined es cs))
     ∙ chunks_joined (suc w) (led_lists es cs) (lists_even w es cs even)
 
-pub led_more : {X : Type 0} (e : X) (cs : List (List X)) (p : ℕ) (c xs base : List X) → slice_get cs p ≡ Some c → xs ≡ base ++ flat_map (λ x. e ∷ x) (take p cs) → (xs ++ e ∷ []) ++ c ≡ base ++ flat_map (λ x. e ∷ x) (take (p + 1) cs)
+pub led_more : {X : Type 0} (e : X) (cs : List (List X)) (p : ℕ) (c xs base : List X) → slice_get cs p ≡ Some c
+    → xs ≡ base ++ flat_map (λ x. e ∷ x) (take p cs) → (xs ++ e ∷ []) ++ c ≡ base ++ flat_map (λ x. e ∷ x) (take (p + 1) cs)
 led_more e cs p c xs base at is =
     append_assoc xs (e ∷ []) c
     ∙ ap (λ zs. zs ++ e ∷ c) is
     ∙ append_assoc base (flat_map (λ x. e ∷ x) (take p cs)) (e ∷ c)
     ∙ ap (λ zs. base ++ zs)
-    (sym (flat_map-more (λ x. e ∷ x) cs p c (slice_get_within cs p c at) ∙ ap (λ z. flat_map (λ x. e ∷ x) (take p cs) ++ e ∷ z) (get_or_from_slice_get cs p c c at)))
+    (sym (flat_map-more (λ x. e ∷ x) cs p c (slice_get_within cs p c at)
+    ∙ ap (λ z. flat_map (λ x. e ∷ x) (take p cs) ++ e ∷ z) (get_or_from_slice_get cs p c c at)))
 
 -- there are no more lists than items in them
 pub count_within : (n m w k : ℕ) → 0 < w → k ≡ n * w + m * w → n + m ≤ k

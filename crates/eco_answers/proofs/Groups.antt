@@ -1,15 +1,14 @@
 -- A type that fulfils all slots has an id for each that asks for something to be there.
-use Rattle.eco_ids.proofs.Common.{◌≡◌, ℕ, zero, suc, ◌<◌, Bool, true, false, true≢false, cond, ◌&&◌, ◌||◌, IsTrue, List, [], ◌∷◌, map, filter, length, slice_get, get_or}
-use Rattle.eco_ids.proofs.Common.{length-map, none-some, same_Some, MatchOption, option_copied}
-use Rattle.std.proofs.Common.{Bor, IsSome}
-use Rattle.eco_ids.proofs.Common.{Option, Some, None, refl, sym, ap, ◌∙◌, subst, arith, common_steps, list_any, list_all, option_to_list, option_map}
-use Rattle.eco_ids.proofs.Common.{All, AllByRecursion, has_item, id_cmp, is_least_match, pattern_matches}
+use Rattle.eco_ids.proofs.Common.{◌≡◌, ℕ, zero, suc, ◌<◌, Bool, true, false, true≢false, cond, ◌&&◌, ◌||◌, IsTrue, List, [], ◌∷◌, map, filter, length}
+use Rattle.eco_ids.proofs.Common.{slice_get, length-map, none-some, same_Some, option_copied}
+use Rattle.std.proofs.Common.{Bor}
+use Rattle.eco_ids.proofs.Common.{Option, Some, None, refl, sym, ap, ◌∙◌, subst, arith, list_any, option_to_list}
+use Rattle.eco_ids.proofs.Common.{AllByRecursion, has_item, id_cmp, pattern_matches}
 use Rattle.std.specs.Prelude.{find}
 use Rattle.std.proofs.lemmas.List.Elements.{All-from_recursion}
 use Rattle.eco_ids.specs.Terms.{QueryTerm, And, Not, Optional, Or}
 use Rattle.eco_ids.specs.declared.id.Id.{Id}
 use Rattle.eco_ids.specs.declared.id.Id.TheVariants as id
-use Rattle.eco_ids.specs.declared.pattern.Pattern.{Pattern}
 use Rattle.eco_ids.specs.Order.{id_eq}
 use Rattle.eco_ids.proofs.Ascending.{first, second}
 use Rattle.eco_ids.proofs.Facts.{id_eq_is, or_left, or_right}
@@ -17,7 +16,7 @@ use Rattle.eco_ids.proofs.Overlaps.{entity_eq_itself}
 use Rattle.eco_query.specs.declared.slot.Slot.{Slot}
 use Rattle.eco_query.specs.Queries.{QuerySlot, exactly, has_any, holds, is_positive, matches_type, patterns_of, slot_view, term_view}
 use Rattle.eco_archetypes.specs.IdIndex.{any_matches}
-use Rattle.eco_archetypes.specs.TypeTests.{AreNeeded, IsPlace, group_at, matches_one}
+use Rattle.eco_archetypes.specs.TypeTests.{AreNeeded, group_at, matches_one}
 use Rattle.eco_answers.specs.Groups.{groups_of}
 
 -- what is among those that pass two tests passes the first
@@ -81,14 +80,16 @@ groups_needed q = λ ids h. All-from_recursion (λ ps. IsTrue (matches_one ps id
 
 -- ---- the groups of the code's own slots
 
-pub groups_view : (slots : List Slot) → groups_of (map slot_view slots) ≡ map (λ s. patterns_of (term_view s.term)) (filter (λ s. is_positive (term_view s.term)) slots)
+pub groups_view : (slots : List Slot)
+    → groups_of (map slot_view slots) ≡ map (λ s. patterns_of (term_view s.term)) (filter (λ s. is_positive (term_view s.term)) slots)
 groups_view [] = refl
 groups_view (s ∷ slots) = by (groups_view slots) (is_positive (term_view s.term))
   where
     by : groups_of (map slot_view slots) ≡ map (λ s. patterns_of (term_view s.term)) (filter (λ s. is_positive (term_view s.term)) slots) → (b : Bool)
         → map (λ (s : QuerySlot). patterns_of s.term) (cond b (slot_view s ∷ filter (λ s. is_positive s.term) (map slot_view slots))
         (filter (λ s. is_positive s.term) (map slot_view slots)))
-        ≡ map (λ s. patterns_of (term_view s.term)) (cond b (s ∷ filter (λ s. is_positive (term_view s.term)) slots) (filter (λ s. is_positive (term_view s.term)) slots))
+        ≡ map (λ s. patterns_of (term_view s.term))
+        (cond b (s ∷ filter (λ s. is_positive (term_view s.term)) slots) (filter (λ s. is_positive (term_view s.term)) slots))
     by rest true = ap (λ zs. patterns_of (term_view s.term) ∷ zs) rest
     by rest false = rest
 
@@ -110,7 +111,8 @@ pub groups_length : (slots : List Slot) → length (positives slots) ≡ length 
 groups_length slots = sym (ap length (groups_view slots) ∙ length-map (positives slots) (λ s. patterns_of (term_view s.term)))
 
 -- the group at a place is what the slot there reads
-pub group_is : (slots : List Slot) (q : List QuerySlot) → map slot_view slots ≡ q → (k : ℕ) (o : Option (Bor Slot)) → option_copied o ≡ slice_get (positives slots) k
+pub group_is : (slots : List Slot) (q : List QuerySlot) → map slot_view slots ≡ q → (k : ℕ) (o : Option (Bor Slot))
+    → option_copied o ≡ slice_get (positives slots) k
     → k < length (groups_of q) → (s : Bor Slot) × (o ≡ Some s) × (group_at (groups_of q) k ≡ patterns_of (term_view s.now.term))
 group_is slots q same k o at there =
     let own : k < length (positives slots) = subst (λ n. k < n) (sym (groups_length slots ∙ ap (λ q. length (groups_of q)) same)) there in

@@ -2,3 +2,4 @@ pub mod Answered
 pub mod Blocked
 pub mod Chunked
 pub mod Groups
+pub mod Only

@@ -2,4 +2,3 @@ pub mod Answers
 pub mod Blocks
 pub mod Flat
 pub mod Groups
-pub mod Worlds

@@ -7,8 +7,8 @@ ghost use Rattle.eco_answers.specs.Answers.{asks};
 ghost use Rattle.eco_answers.specs.Blocks.{AreBlocks, AreSingle, rows_in, rows_of};
 
 use crate::choices::Choices;
-use crate::product::choices_of;
-use eco_ids::Entity;
+use crate::product::{choices_of, find_only};
+use eco_ids::{Entity, Id};
 use eco_query::Slot;
 use eco_store::{Standing, Table, Tables};
 use std::alloc::{AllocError, Global};
@@ -27,12 +27,13 @@ pub struct Blocks {
     pub list: Vec<Block>,
 }
 
-// Puts the choices of a table behind others.
+// Puts the choices of a table behind others. What the buffer has does not matter.
 fn add_block(
     alloc: Global,
     table: &Table,
     terms: &[Slot],
     choices: &mut Choices,
+    buffer: &mut Vec<Option<Id>>,
 ) -> Result<Block, AllocError>
     requires some { 0 < length terms.now }
     requires even { choices.old.width ≡ length terms.now }
@@ -43,8 +44,12 @@ fn add_block(
         ≡ record { first = length choices.old.all; end = length choices.new.all }) }
 {
     let first = choices.count();
-    let own = choices_of(alloc, terms, table.type_list())?;
-    choices.append(&own)?;
+    if find_only(terms, table.type_list(), buffer)? {
+        choices.push(buffer)?;
+    } else {
+        let own = choices_of(alloc, terms, table.type_list())?;
+        choices.append(&own)?;
+    }
     let end = choices.count();
     Ok(Block { first, end })
 }
@@ -63,9 +68,10 @@ pub fn blocks_of(
 {
     let mut choices = Choices::none(alloc, terms.len());
     let mut list = Vec::with_capacity(alloc, slots.len())?;
+    let mut buffer = Vec::new(alloc);
     for slot in slots {
         let table = tables.get(*slot).unwrap();
-        list.push(add_block(alloc, table, terms, &mut choices)?)?;
+        list.push(add_block(alloc, table, terms, &mut choices, &mut buffer)?)?;
     }
     Ok(Blocks { choices, list })
 }

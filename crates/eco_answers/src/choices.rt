@@ -140,6 +140,18 @@ impl Choices {
         Ok(())
     }
 
+    /// Puts a choice of the same width behind these. An `Err` changes nothing.
+    pub fn push(&mut self, choice: &[Option<Id>]) -> Result<(), AllocError>
+        requires some { 0 < self.old.width }
+        requires even { length choice.now ≡ self.old.width }
+        ensures ok { OnOk result (self.new ≡ record self.old { all = self.old.all ++ choice.now ∷ [] }) }
+        ensures err { OnErr result (self.new ≡ self.old) }
+    {
+        self.entries.extend_from_slice(choice)?;
+        self.count += 1;
+        Ok(())
+    }
+
     /// Puts other choices of the same width behind these. An `Err` changes nothing.
     pub fn append(&mut self, others: &Choices) -> Result<(), AllocError>
         requires some { 0 < self.old.width }

@@ -6,7 +6,7 @@ ghost use Rattle.eco_ids.specs.Answer.{answer, Row as Rows};
 ghost use Rattle.eco_tables.specs.Tables.{slot_of};
 ghost use Rattle.eco_answers.specs.Answers.{asked, asks};
 ghost use Rattle.eco_answers.specs.Blocks.{results_at, shown};
-ghost use Rattle.eco_answers.specs.Worlds.{world_of};
+ghost use Rattle.eco_store.specs.Worlds.{world_of};
 
 use crate::asking::Asking;
 use crate::blocks::{Blocks, blocks_of, rows_of};
@@ -129,9 +129,10 @@ fn results_in(alloc: Global, found: Standings<'_>, terms: &[Slot]) -> Result<Res
 /// The results of the query on a store, by entity and then by entries: each living entity for which all slots hold, once
 /// for each choice of an entry for each slot.
 ///
-/// The choices are made once for each table. Its time grows with the results, with the tables that the shortest group of
-/// the query's patterns finds, and with what sorting takes where the rows that are found do not ascend as they stand. An `Err`
-/// comes where memory is refused, and never where there is no result.
+/// The choices are made once for each table. Its time grows with the results and with the tables that the shortest group of
+/// the query's patterns finds. Rows of several tables come into order by a walk over the known indices where these are at
+/// most some sixteen times as many, and by sorting where the rows are few among them. An `Err` comes where memory is
+/// refused, and never where there is no result.
 pub fn results_of(alloc: Global, store: &Store, query: &Query) -> Result<Results, AllocError>
     ensures all { IfOk result (λ r. r ≡ answer (world_of store.now.entities) (asked query.now)) }
     ensures some { OnErr result (0 < length (answer (world_of store.now.entities) (asked query.now))) }

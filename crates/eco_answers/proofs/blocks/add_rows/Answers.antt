@@ -1,4 +1,4 @@
-use Rattle.std.proofs.Common.{◌≡◌, ◌++◌, ◌-◌, [], sym, ap, ◌∙◌, arith, append-nil}
+use Rattle.std.proofs.Common.{◌≡◌, ◌++◌, ◌-◌, sym, ap, ◌∙◌, arith, append-nil}
 use Rattle.eco_answers.specs.Blocks.{rows_from}
 use Rattle.eco_answers.proofs.Blocked.{rows_step}
 use Rattle.eco_answers.proofs.blocks.add_rows.Goals as goal
@@ -20,5 +20,6 @@ loop-place-preserved c = record {
 
 pub returns : goal.returns
 returns c =
-    let all : c.loop-place.place - c.args.block.first ≡ c.args.block.end - c.args.block.first = omega (arith, c.loop-place.invariant.within, c.loop-place-test.false) in
+    let all : c.loop-place.place - c.args.block.first ≡ c.args.block.end - c.args.block.first =
+    omega (arith, c.loop-place.invariant.within, c.loop-place-test.false) in
     c.loop-place.invariant.made ∙ ap (λ n. c.args.rows.now.items ++ rows_from c.args.entity c.args.block.first n) all

@@ -1,4 +1,4 @@
-use Rattle.std.proofs.Common.{◌≡◌, ◌<◌, ap, ◌∙◌, length, arith, rules}
+use Rattle.std.proofs.Common.{◌<◌, ap, ◌∙◌, length, arith, rules}
 use Rattle.std.proofs.lemmas.Result.{IfOk-weaker}
 use Rattle.eco_ids.proofs.Results.{err_says}
 use Rattle.eco_answers.specs.Blocks.{results_at}
@@ -21,7 +21,8 @@ returns-clause-all c =
     IfOk-weaker c.results_in.result _ _
     (λ r is. is
     ∙ ap (λ ts. results_at found.tables.now found.slots.items ts found.list.items) (asks_asked c.slots-2.result.now c.args.query.now c.slots-2.ensures)
-    ∙ standings_answer c.args.store.now.entities found.tables.now found.slots.items c.args.query.now found.list.items c.in_ok-found.ensures.all c.in_ok-found.ensures.placed)
+    ∙ standings_answer c.args.store.now.entities found.tables.now found.slots.items c.args.query.now found.list.items c.in_ok-found.ensures.all
+    c.in_ok-found.ensures.placed)
     c.results_in.ensures
 
 pub returns-clause-some : goal.returns-clause-some

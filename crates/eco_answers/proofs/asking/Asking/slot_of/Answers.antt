@@ -1,4 +1,4 @@
-use Rattle.std.proofs.Common.{◌≡◌, Some, Option, Bor, sym, ◌∙◌, subst}
+use Rattle.std.proofs.Common.{◌≡◌, Option, Bor, sym, ◌∙◌, subst}
 use Rattle.std.specs.Prelude.{IsSome}
 use Rattle.eco_query.specs.declared.slot.Slot.{Slot}
 use Rattle.eco_query.specs.Queries.{patterns_of, term_view}

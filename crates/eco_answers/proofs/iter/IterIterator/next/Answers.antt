@@ -1,4 +1,4 @@
-use Rattle.std.proofs.Common.{◌≡◌, ◌∷◌, [], map, sym, ap, ◌∙◌}
+use Rattle.std.proofs.Common.{◌∷◌, [], map, sym, ap, ◌∙◌}
 use Rattle.std.proofs.lemmas.Option.{get_or_from_slice_get}
 use Rattle.std.specs.Slice.Iter.{iter_rest}
 use Rattle.eco_ids.specs.Answer as answers

@@ -1,5 +1,6 @@
 -- An add is the type that it leads to, and a set is an add and a write.
-use Rattle.std.proofs.Common.{◌≡◌, Bool, true, false, cond, not, ◌&&◌, List, [], Option, Some, None, option_map, unwrap_or, refl, sym, ap, ◌∙◌, subst, is_some, true≢false, IsTrue, MatchOption, MatchBool, Result, Ok, Err, OnOk}
+use Rattle.std.proofs.Common.{◌≡◌, Bool, true, false, cond, not, ◌&&◌, List, [], Option, Some, None, option_map, unwrap_or, refl, sym, ap, ◌∙◌, subst}
+use Rattle.std.proofs.Common.{is_some, true≢false, IsTrue, MatchOption, MatchBool, Result, Ok, Err, OnOk}
 use Rattle.std.specs.List.{list_any}
 use Rattle.std.specs.Option.{option_or}
 use Rattle.std.proofs.lemmas.Option.{same_Some, none-some}
@@ -17,7 +18,8 @@ use Rattle.eco_ids.specs.Lawful.{IsLawful}
 use Rattle.eco_ids.specs.Order.{id_cmp, has_item, with_item, without_item}
 use Rattle.eco_ids.specs.Outcome.{Meets, Answers, Refuses, is_out_of_memory}
 use Rattle.eco_ids.specs.Step as step
-use Rattle.eco_ids.specs.Step.{changed, grown, with_value, with_closure, is_replaced, is_pair_of, IsClosure, Judges, Loses, Extends, Adds, unfit, unchanged, Sets, unfit_set, unfit_actor}
+use Rattle.eco_ids.specs.Step.{changed, grown, with_value, with_closure, is_replaced, is_pair_of, IsClosure, Judges, Loses, Extends, Adds, unfit, unchanged}
+use Rattle.eco_ids.specs.Step.{Sets, unfit_set, unfit_actor}
 use Rattle.eco_ids.specs.World.{WorldState, Record, zeros, has, names_living, is_exclusive, record_of, with_record, is_alive}
 use Rattle.eco_ids.proofs.Keeps.{some_of}
 use Rattle.eco_ids.proofs.Records.{changed_is, write_change}

@@ -1,5 +1,6 @@
 -- Values that fit an id in the world fit it in the store, and in the world that is written to.
-use Rattle.std.proofs.Common.{◌≡◌, ◌==◌, ◌&&◌, ℕ, zero, suc, Bool, true, false, IsTrue, List, [], ◌∷◌, drop, length, None, Some, option_and_then, unwrap_or, if◌then◌else◌, cond, refl, sym, ap, ◌∙◌, inl, inr}
+use Rattle.std.proofs.Common.{◌≡◌, ◌==◌, ◌&&◌, ℕ, zero, suc, Bool, true, false, IsTrue, List, [], ◌∷◌, drop, length, None, Some, option_and_then, unwrap_or}
+use Rattle.std.proofs.Common.{if◌then◌else◌, cond, refl, sym, ap, ◌∙◌, inl, inr}
 use Rattle.std.specs.List.{list_all}
 use Rattle.std.specs.Option.{option_or}
 use Rattle.std.specs.FinMap.Entries.{find, put, find-put}
@@ -21,7 +22,7 @@ use Rattle.eco_ids.proofs.IdOrder.{id_cmp_total}
 use Rattle.eco_ids.proofs.Keeps.{Named, entry_of, fits_still}
 use Rattle.eco_ids.proofs.Records.{write_change}
 use Rattle.eco_store.specs.Store as store
-use Rattle.eco_world.specs.Worlds.{world_of}
+use Rattle.eco_store.specs.Worlds.{world_of}
 
 all_past : {X : Type 0} (t : X → Bool) (n : ℕ) (xs : List X) → IsTrue (list_all t xs) → IsTrue (list_all t (drop n xs))
 all_past t zero xs all = all

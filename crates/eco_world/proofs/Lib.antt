@@ -6,6 +6,8 @@ pub mod Fitting
 pub mod Held
 pub mod Holders
 pub mod Layouts
+pub mod Merging
+pub mod Lending
 pub mod Removals
 pub mod Starting
 pub mod Steps

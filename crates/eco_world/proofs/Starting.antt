@@ -1,5 +1,6 @@
 -- The built-ins are made one by one, and nothing but memory stands against that.
-use Rattle.std.proofs.Common.{◌≡◌, ℕ, zero, suc, ◌+◌, ◌<◌, ◌≤◌, Bool, cond, List, [], ◌∷◌, ◌++◌, length, take, Option, Some, None, Ok, Err, Result, MatchOption, nat_lt, refl, sym, ap, ◌∙◌, subst, arith, lt-ltb, le-ltb, add-one}
+use Rattle.std.proofs.Common.{◌≡◌, ℕ, zero, suc, ◌+◌, ◌<◌, ◌≤◌, Bool, cond, List, [], ◌∷◌, ◌++◌, length, take, Option, Some, None, Ok, Err, Result}
+use Rattle.std.proofs.Common.{MatchOption, nat_lt, refl, sym, ap, ◌∙◌, subst, arith, lt-ltb, le-ltb, add-one}
 use Rattle.std.specs.Option.{option_or}
 use Rattle.eco_ids.specs.declared.entity.Entity.{Entity}
 use Rattle.eco_ids.specs.declared.id.Id.{Id}

@@ -12,7 +12,7 @@ use Rattle.eco_ids.specs.Outcome.{Meets, Answers, Refuses, first_refusal, is_out
 use Rattle.eco_ids.specs.Step.{Renames, may_rename, own_name, with_name}
 use Rattle.eco_ids.specs.World.{WorldState, Record, entities, OnEntities, is_alive}
 use Rattle.eco_world.specs.Actor.{IsUnfit}
-use Rattle.eco_world.specs.Worlds.{world_of}
+use Rattle.eco_store.specs.Worlds.{world_of}
 
 module _ {A : Type 0} (Step : Indexed Record → Result A Refusal → Indexed Record → Type 0) (may : Bool) (v new : Indexed Record) (r : Result A Refusal) where
   -- a call that meets a step of the entities meets it in the world

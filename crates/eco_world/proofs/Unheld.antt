@@ -28,7 +28,7 @@ use Rattle.eco_ids.proofs.Meaning.{least}
 use Rattle.eco_ids.proofs.Overlaps.{entity_eq_itself}
 use Rattle.eco_ids.proofs.Passing.{passes_some}
 use Rattle.eco_ids.proofs.States.{living_at, record_at}
-use Rattle.eco_world.specs.Worlds.{world_of}
+use Rattle.eco_store.specs.Worlds.{world_of}
 use Rattle.eco_world.proofs.Deleting.{only}
 
 -- an id of the record names the entity

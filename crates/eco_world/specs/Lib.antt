@@ -1,6 +1,6 @@
 pub mod Actor
 pub mod Builtins
 pub mod Layouts
+pub mod Merging
 pub mod Queries
 pub mod Types
-pub mod Worlds

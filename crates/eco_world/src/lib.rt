@@ -2,12 +2,16 @@
 #![tactic(auto)]
 
 mod builtins;
+mod report;
 mod row;
 mod table_rows;
 mod world;
 
 pub use eco_answers::Results;
 pub use eco_query::{Access, Query, Slot, Term};
+pub use eco_stages::{Command, Stage};
+pub use eco_tables::Values;
+pub use report::Report;
 pub use row::Row;
 pub use table_rows::TableRows;
 pub use world::World;

@@ -26,6 +26,7 @@ mod changes;
 mod deletes;
 mod holdings;
 mod layout;
+mod merging;
 mod queries;
 
 /// Entities, each with a name or none and with the ids that were added to it, where an id that is data has a value
@@ -52,7 +53,7 @@ impl Model for World {
     ghost Value = { WorldState };
 
     ghost use Rattle.eco_ids.specs.Lawful.{IsLawful};
-    ghost use Rattle.eco_world.specs.Worlds.{world_of};
+    ghost use Rattle.eco_store.specs.Worlds.{world_of};
 
     ghost view = { λ w. world_of w.store.entities };
 

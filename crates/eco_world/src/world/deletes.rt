@@ -10,7 +10,6 @@ ghost use Rattle.eco_store.specs.Store.{record_ids};
 use crate::world::World;
 use eco_ids::{Entity, Id, Refusal};
 use eco_query::exactly;
-use eco_store::Naming;
 
 impl World {
     /// The entity dies, and with it whoever the cleanup policies take: each holder of one who dies, under an id that names
@@ -51,6 +50,6 @@ impl World {
     fn is_named(&self, entity: Entity) -> bool
         ensures { result ≡ list_any (λ p. names_any (record_ids p.1) entity) (living self.now) }
     {
-        self.store.is_held_by(&Naming { entity })
+        self.store.is_named(entity)
     }
 }

@@ -3,7 +3,7 @@ ghost use Rattle.std.specs.Prelude.{◌≡◌, ◌<◌, All, IfOk, IsTrue, lengt
 ghost use Rattle.std.specs.List.Sorted.{IsPermutation};
 ghost use Rattle.eco_ids.specs.Layout.{IsLayout};
 ghost use Rattle.eco_world.specs.Queries.{is_answered, is_matched, is_passed};
-ghost use Rattle.eco_world.specs.Layouts.{HasTable, IsByType, listed, ListsBy, ListsOf, ListsWith, shown_at};
+ghost use Rattle.eco_world.specs.Layouts.{HasTable, IsByType, lent, lent_at, LendsValues, listed, ListsBy, ListsOf, ListsWith, shown_at};
 
 use crate::table_rows::TableRows;
 use crate::world::World;
@@ -15,11 +15,12 @@ use std::alloc::{AllocError, Global};
 
 impl World {
     /// The tables of the world (Flecs manual, Queries, archetypes): each type that some living entity has, with all who
-    /// have it. Types ascend as lists of ids: the first id that differs decides, and a beginning comes first.
+    /// have it and their values. Types ascend as lists of ids: the first id that differs decides, and a beginning comes first.
     ///
     /// An `Err` comes where a growth of the list was refused.
     pub fn tables(&self) -> Result<Vec<TableRows<'_>>, AllocError>
-        ensures { IfOk result (λ tables. IsLayout self.now (listed tables.items)) }
+        ensures layout { IfOk result (λ tables. IsLayout self.now (listed tables.items)) }
+        ensures values { IfOk result (λ tables. All (LendsValues self.now) tables.items) }
     {
         let mut tables = Vec::new(self.alloc);
         for slot in self.store.tables().iter() {
@@ -39,6 +40,7 @@ impl World {
     /// An `Err` comes where a growth of the list was refused, and never where nobody has such an id.
     pub fn tables_with(&self, pattern: Pattern) -> Result<Vec<TableRows<'_>>, AllocError>
         ensures all { IfOk result (λ tables. ListsWith self.now pattern (listed tables.items)) }
+        ensures values { IfOk result (λ tables. All (LendsValues self.now) tables.items) }
         ensures some { OnErr result (IsTrue (is_matched self.now pattern)) }
     {
         self.tables_by(&pattern)
@@ -51,6 +53,7 @@ impl World {
     /// An `Err` comes where a growth of the list was refused, and never where no living entity's type matches.
     pub fn tables_of(&self, query: &Query) -> Result<Vec<TableRows<'_>>, AllocError>
         ensures all { IfOk result (λ tables. ListsOf self.now query.now (listed tables.items)) }
+        ensures values { IfOk result (λ tables. All (LendsValues self.now) tables.items) }
         ensures some { OnErr result (IsTrue (is_answered self.now query.now)) }
     {
         self.tables_by(&Asking { query })
@@ -59,6 +62,7 @@ impl World {
     // The tables whose type passes the test.
     fn tables_by<T: TypeTest>(&self, test: &T) -> Result<Vec<TableRows<'_>>, AllocError>
         ensures all { IfOk result (λ tables. ListsBy self.now (T.test test.now) (listed tables.items)) }
+        ensures values { IfOk result (λ tables. All (LendsValues self.now) tables.items) }
         ensures some { OnErr result (IsTrue (is_passed self.now (T.test test.now))) }
     {
         let found = self.store.tables_by(test)?;
@@ -76,6 +80,7 @@ fn tables_in<'a>(
 ) -> Result<Vec<TableRows<'a>>, AllocError>
     requires { All (HasTable tables.now) slots.now }
     ensures all { IfOk result (λ found. listed found.items ≡ map (shown_at tables.now) slots.now) }
+    ensures lent { IfOk result (λ found. map lent found.items ≡ map (lent_at tables.now) slots.now) }
     ensures some { OnErr result (0 < length slots.now) }
 {
     let mut found = Vec::new(alloc);

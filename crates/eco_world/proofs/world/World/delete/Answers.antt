@@ -4,7 +4,7 @@ use Rattle.eco_ids.specs.Builtin.{is_builtin}
 use Rattle.eco_ids.specs.Cleanup.{Deletes}
 use Rattle.eco_ids.specs.Delete.{DeletesOne, may_delete}
 use Rattle.eco_ids.specs.World.{WorldState, is_alive}
-use Rattle.eco_world.specs.Worlds.{world_of}
+use Rattle.eco_store.specs.Worlds.{world_of}
 use Rattle.eco_world.proofs.Deleting.{met_lawful, one_deleted}
 use Rattle.eco_world.proofs.Steps.{refused}
 use Rattle.eco_world.proofs.Unheld.{is_named, taken_out}

@@ -1,9 +1,9 @@
-use Rattle.std.proofs.Common.{◌≡◌, sym, ap, ◌∙◌}
+use Rattle.std.proofs.Common.{sym, ap, ◌∙◌}
 use Rattle.eco_ids.specs.Builtin.{is_builtins}
 use Rattle.eco_ids.specs.Delete.{DeletesWith, may_delete_with}
 use Rattle.eco_ids.specs.World.{WorldState}
 use Rattle.eco_store.specs.Holders.{entities_with}
-use Rattle.eco_world.specs.Worlds.{world_of}
+use Rattle.eco_store.specs.Worlds.{world_of}
 use Rattle.eco_world.proofs.Holders.{found_holders}
 use Rattle.eco_world.proofs.Deleting.{met_lawful, with_deleted}
 use Rattle.eco_world.proofs.world.World.delete_with.Goals as goal

@@ -1,5 +1,5 @@
 use Rattle.eco_ids.specs.Lawful.{IsLawful}
-use Rattle.eco_world.specs.Worlds.{world_of}
+use Rattle.eco_store.specs.Worlds.{world_of}
 use Rattle.eco_world.proofs.Changes.{by_result}
 use Rattle.eco_world.proofs.world.World.exchange.Goals as goal
 

@@ -46,16 +46,19 @@ exchange-requires-clause-lawful c =
     let w = c.args.self.now in
     let absent = sym c.in_ok-open_target.ensures.own ∙ ap is_own c.in-Instead.is in
     subst IsLawful (sym (exchanged_in w c.args.entity c.in-Instead.old c.args.id))
-    (found_instead w c.args.entity c.args.id c.in-Instead.old c.requires.alive c.requires.ordinary c.is_lawful.ensures (c.steps_keep_lawful.ensures.add c.args.entity c.args.id)
-    c.add_leaves_exactly.ensures (subst (λ t. FindsTarget w c.args.entity c.args.id (Ok t)) c.in-Instead.is c.in_ok-open_target.ensures.target) absent).lawful
+    (found_instead w c.args.entity c.args.id c.in-Instead.old c.requires.alive c.requires.ordinary c.is_lawful.ensures
+    (c.steps_keep_lawful.ensures.add c.args.entity c.args.id) c.add_leaves_exactly.ensures
+    (subst (λ t. FindsTarget w c.args.entity c.args.id (Ok t)) c.in-Instead.is c.in_ok-open_target.ensures.target) absent).lawful
 
 pub returns-in_ok-exchange-in-Instead : goal.returns-in_ok-exchange-in-Instead
 returns-in_ok-exchange-in-Instead c =
     let w = c.args.self.now in
     let absent = sym c.in_ok-open_target.ensures.own ∙ ap is_own c.in-Instead.is in
-    subst (λ new. Adds w c.args.entity c.args.id (Ok tt) new) (sym (c.in_ok-exchange-in-Instead.ensures.ok ∙ exchanged_in w c.args.entity c.in-Instead.old c.args.id))
-    (found_instead w c.args.entity c.args.id c.in-Instead.old c.requires.alive c.requires.ordinary c.is_lawful.ensures (c.steps_keep_lawful.ensures.add c.args.entity c.args.id)
-    c.add_leaves_exactly.ensures (subst (λ t. FindsTarget w c.args.entity c.args.id (Ok t)) c.in-Instead.is c.in_ok-open_target.ensures.target) absent).adds
+    subst (λ new. Adds w c.args.entity c.args.id (Ok tt) new)
+    (sym (c.in_ok-exchange-in-Instead.ensures.ok ∙ exchanged_in w c.args.entity c.in-Instead.old c.args.id))
+    (found_instead w c.args.entity c.args.id c.in-Instead.old c.requires.alive c.requires.ordinary c.is_lawful.ensures
+    (c.steps_keep_lawful.ensures.add c.args.entity c.args.id) c.add_leaves_exactly.ensures
+    (subst (λ t. FindsTarget w c.args.entity c.args.id (Ok t)) c.in-Instead.is c.in_ok-open_target.ensures.target) absent).adds
 
 pub retype-requires-clause-lawful : goal.retype-requires-clause-lawful
 retype-requires-clause-lawful c =

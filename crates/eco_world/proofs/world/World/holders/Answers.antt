@@ -2,7 +2,7 @@ use Rattle.std.proofs.Common.{◌∙◌, ap}
 use Rattle.std.proofs.lemmas.Result.{IfOk-weaker, on_err_weaker}
 use Rattle.eco_store.specs.Holders.{entities_with}
 use Rattle.eco_world.proofs.Holders.{found_holders, some_holder}
-use Rattle.eco_world.specs.Worlds.{world_of}
+use Rattle.eco_store.specs.Worlds.{world_of}
 use Rattle.eco_world.proofs.world.World.holders.Goals as goal
 
 pub returns-clause-all : goal.returns-clause-all

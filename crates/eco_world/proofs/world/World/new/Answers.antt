@@ -1,7 +1,7 @@
 use Rattle.std.proofs.Common.{sym, ap, subst}
 use Rattle.eco_ids.specs.declared.edition.Edition.TheVariants.{First}
 use Rattle.eco_ids.specs.Lawful.{IsLawful}
-use Rattle.eco_world.specs.Worlds.{world_of}
+use Rattle.eco_store.specs.Worlds.{world_of}
 use Rattle.eco_world.proofs.world.World.new.Goals as goal
 
 pub invariant_of-result : goal.invariant_of-result

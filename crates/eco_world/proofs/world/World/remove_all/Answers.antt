@@ -1,6 +1,6 @@
 use Rattle.std.proofs.Common.{Ok, refl, sym, ◌∙◌}
 use Rattle.eco_ids.specs.Order.{id_eq}
-use Rattle.eco_world.specs.Worlds.{world_of}
+use Rattle.eco_store.specs.Worlds.{world_of}
 use Rattle.eco_world.proofs.Asking.{none_has}
 use Rattle.eco_world.proofs.Removals.{nobody_loses, removed_all}
 use Rattle.eco_world.proofs.world.World.remove_all.Goals as goal

@@ -8,7 +8,7 @@ use Rattle.eco_ids.specs.Step.{with_name}
 use Rattle.eco_ids.specs.World.{WorldState}
 use Rattle.eco_store.specs.Store.{record_name}
 use Rattle.eco_world.proofs.Steps.{lawful_lifted, lifted, rename_refused}
-use Rattle.eco_world.specs.Worlds.{world_of}
+use Rattle.eco_store.specs.Worlds.{world_of}
 use Rattle.eco_world.proofs.world.World.rename.Goals as goal
 
 pub returns-in_err-check_actor : goal.returns-in_err-check_actor

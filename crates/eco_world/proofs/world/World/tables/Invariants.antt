@@ -1,8 +1,11 @@
-use Rattle.std.proofs.Common.{◌≡◌, ◌++◌}
+use Rattle.std.proofs.Common.{◌≡◌, ◌++◌, map}
 use Rattle.std.specs.Slice.Iter.{iter_rest}
-use Rattle.eco_world.specs.Layouts.{listed}
+use Rattle.eco_world.specs.Layouts.{lent, listed}
+use Rattle.eco_world.proofs.Lending.{lent_rows}
 use Rattle.eco_world.proofs.Tabled.{with_rows}
 use Rattle.eco_world.proofs.world.World.tables.Given as goal
 
 abbrev pub invariant-loop-slot : goal.invariant-loop-slot
-invariant-loop-slot l = listed l.tables.items ++ with_rows (iter_rest l.slot-iterator) ≡ with_rows (iter_rest l.initial.slot-iterator)
+invariant-loop-slot l =
+    (listed l.tables.items ++ with_rows (iter_rest l.slot-iterator) ≡ with_rows (iter_rest l.initial.slot-iterator))
+    × (map lent l.tables.items ++ lent_rows (iter_rest l.slot-iterator) ≡ lent_rows (iter_rest l.initial.slot-iterator))

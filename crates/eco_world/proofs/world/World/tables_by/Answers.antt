@@ -1,8 +1,9 @@
 use Rattle.std.proofs.Common.{◌≡◌, ◌∙◌, map, sym, ap, subst, All, Contains}
 use Rattle.std.specs.List.{IsDistinct}
 use Rattle.std.proofs.lemmas.List.Sorted.{Contains-permutation, IsPermutation-map, IsPermutation-sym}
-use Rattle.eco_world.specs.Worlds.{world_of}
-use Rattle.eco_world.specs.Layouts.{HasTable, listed, listed_of, shown_at}
+use Rattle.eco_store.specs.Worlds.{world_of}
+use Rattle.eco_world.specs.Layouts.{HasTable, lent, lent_at, listed, listed_of, shown_at}
+use Rattle.eco_world.proofs.Lending.{all_lend, in_slots}
 use Rattle.eco_world.proofs.Tabled.{all_covered, found_covered, found_differ, found_match, found_some, found_there}
 use Rattle.eco_ids.proofs.Results.{err_says}
 use Rattle.eco_world.proofs.Layouts.{covers_moved, layout_around, same_type, sorted_tables, Covers}
@@ -36,6 +37,16 @@ returns-clause-all g c =
     (λ t p. found_match w slots shown kinds passes ns c.in_ok-found.ensures.listed t
     (subst (λ ts. Contains ts t) all (Contains-permutation (listed new) (listed old) t (IsPermutation-sym (listed old) (listed new) moved) p)))
     (all_covered w slots shown kinds))
+
+pub returns-clause-values : goal.returns-clause-values
+returns-clause-values g c =
+    let slots = c.in_ok-found.found.tables.now in
+    let ns = c.in_ok-found.found.slots.items in
+    let old = c.in_ok-tables.tables.items in
+    let all : map lent old ≡ map (lent_at slots) ns = c.in_ok-tables.ensures.lent ∙ ap (map (lent_at slots)) c.deref.ensures.value in
+    rw (← c.self.view_is)
+    (all_lend (world_of c.self.inside.store.entities) slots c.in_ok-found.ensures.shown old c.sort_by_type.new.tables.items c.sort_by_type.ensures.same
+    (λ x p. in_slots slots ns x (subst (λ xs. Contains xs x) all p)))
 
 pub returns-in_err-tables-clause-some : goal.returns-in_err-tables-clause-some
 returns-in_err-tables-clause-some g c =

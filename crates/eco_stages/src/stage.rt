@@ -1,0 +1,83 @@
+//! A list of commands.
+ghost use Rattle.std.specs.Prelude.{◌≡◌, ◌==◌, ◌++◌, ◌∷◌, [], length, IfErr, OnErr, OnOk};
+ghost use Rattle.eco_stages.specs.Commands.{command_of, commands_of};
+
+use crate::command::Command;
+use std::alloc::Global;
+use std::marker::Model;
+
+/// Commands in the order in which they were recorded. Whoever records needs the stage alone, no world: so threads record side
+/// by side, each in a stage of its own, and a merge runs all of them (Flecs manual, Systems, staging).
+#[derive(Debug)]
+pub struct Stage {
+    commands: Vec<Command>,
+}
+
+// By hand, so that dropping it is one call: a derived drop is proved anew at each early return of whoever holds it.
+impl Drop for Stage {
+    fn drop(self) {
+        let Stage { commands: _ } = self;
+    }
+}
+
+impl Model for Stage {
+    ghost use Rattle.std.specs.Prelude.{List};
+    ghost use Rattle.eco_ids.specs.Run.{Command};
+    ghost use Rattle.eco_stages.specs.Commands.{commands_of};
+
+    ghost Value = { List Command };
+
+    ghost view = { λ s. commands_of s.commands.items };
+}
+
+impl Stage {
+    /// No command. What is recorded takes its memory from `alloc`.
+    pub fn new(alloc: Global) -> Stage
+        ensures { result ≡ [] }
+    {
+        Stage {
+            commands: Vec::new(alloc),
+        }
+    }
+
+    /// The command comes last. Where no memory is left for it, it is handed back and the stage is as it was.
+    pub fn record(&mut self, command: Command) -> Result<(), Command>
+        ensures ok { OnOk result (self.new ≡ self.old ++ command_of command ∷ []) }
+        ensures back { IfErr result (λ refused. refused ≡ command) }
+        ensures err { OnErr result (self.new ≡ self.old) }
+    {
+        if self.commands.reserve(1).is_err() {
+            return Err(command);
+        }
+        self.commands.push_reserved(command);
+        Ok(())
+    }
+
+    /// The commands, in their order.
+    pub fn commands(&self) -> &[Command]
+        ensures { commands_of result.now ≡ self.now }
+    {
+        self.commands.as_slice()
+    }
+
+    /// How many commands there are.
+    pub fn len(&self) -> usize
+        ensures { result ≡ length self.now }
+    {
+        self.commands.len()
+    }
+
+    /// Whether there is none.
+    pub fn is_empty(&self) -> bool
+        ensures { result ≡ (length self.now == 0) }
+    {
+        self.commands.is_empty()
+    }
+
+    /// Takes all commands out, as after a merge of them. The memory stays for those of the next frame.
+    pub fn clear(&mut self)
+        ensures { self.new ≡ [] }
+    {
+        self.commands.clear();
+    }
+}

@@ -1,0 +1,9 @@
+use Rattle.std.proofs.Common.{◌≤◌, ◌<◌, ◌-◌, ◌^◌, length, take}
+use Rattle.eco_world.specs.Merging.{all_commands}
+use Rattle.eco_world.proofs.world.merging.room_for.Given as goal
+
+abbrev pub invariant-loop-stage : goal.invariant-loop-stage
+invariant-loop-stage l = record {
+  most : l.count ≤ length (all_commands (take l.stage-index l.stages));
+  least : l.count < 2 ^ 64 - 1 → length (all_commands (take l.stage-index l.stages)) ≤ l.count;
+}

@@ -1,4 +1,5 @@
 pub mod Determined
 pub mod Devices
 pub mod Ends
+pub mod Joined
 pub mod Runs

@@ -1,6 +1,7 @@
 -- One step after another, and steps that nothing keeps from running.
-use Rattle.std.proofs.Common.{◌≡◌, ℕ, ◌+◌, ◌<◌, List, [], ◌∷◌, ◌++◌, length, map, take, drop, get_or, Option, Some, None, refl, ap, ◌∙◌, sym, append_assoc, inr}
-use Rattle.std.proofs.lemmas.List.{append-nil, take_more, map-append, take-append-drop}
+use Rattle.std.proofs.Common.{subst, ◌≤◌, ◌≡◌, ℕ, ◌+◌, ◌<◌, List, [], ◌∷◌, ◌++◌, length, map, take, drop, get_or, Option, Some, None, refl, ap, ◌∙◌, sym}
+use Rattle.std.proofs.Common.{append_assoc, inr}
+use Rattle.std.proofs.lemmas.List.{append-nil, take_all, take_more, map-append, take-append-drop}
 use Rattle.std.specs.Io.KnownBytes.{Appends, Consumes, IsAtEnd, Keeps}
 use Rattle.eco_script.specs.Run.{IsTextOf, WasNotRead}
 use Rattle.eco_script.proofs.Devices.{Appends-more}
@@ -74,6 +75,12 @@ module _ {X : Type 0} (f : X → Step) (xs : List X) where
   gathered_less i w m a b c rest part left is (done, p, h) k =
       let whole : done ++ rest ≡ (done ++ part) ++ left = ap (λ t. done ++ t) is ∙ sym (append_assoc done part left) in
       (done ++ part, rw (← whole) p, Appends-more a b c done part h k)
+
+  -- all steps were run, and the rest was written
+  pub gathered_all : (i : ℕ) (w e : WorldState) (a b c : Option (List ℕ)) (rest : List ℕ) → length xs ≤ i → Gathered i w e a b rest → Appends b c rest
+      → (text : List ℕ) × Text w (map f xs) text e × Appends a c text
+  gathered_all i w e a b c rest end (done, p, h) k =
+      (done ++ rest, subst (λ ys. Text w (map f ys) (done ++ rest) e) (take_all i xs end) p, Appends-more a b c done rest h k)
 
   -- the run stops between two steps
   pub stopped_between : TextsRead → (i : ℕ) (w m : WorldState) (a b : Option (List ℕ)) (rest : List ℕ) → Gathered i w m a b rest → Stopped w a b

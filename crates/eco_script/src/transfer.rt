@@ -29,9 +29,11 @@ pub fn read_all<R: ScriptReader>(alloc: Global, reader: &mut R) -> Result<Vec<u8
     for _made in 0..MOST_READS {
         match reader.read(&mut chunk) {
             Ok(0) => return Ok(bytes),
-            Ok(n) => bytes
-                .extend_from_slice(&chunk[..n])
-                .map_err(|_| Fault::Memory)?,
+            Ok(n) => {
+                let Ok(()) = bytes.extend_from_slice(&chunk[..n]) else {
+                    return Err(Fault::Memory);
+                };
+            }
             Err(_) => return Err(Fault::Device),
         }
     }

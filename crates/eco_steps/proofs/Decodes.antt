@@ -1,9 +1,13 @@
 -- What is found in a value is exactly the script that it is.
-use Rattle.std.proofs.Common.{◌≡◌, ◌≤◌, ◌^◌, ◌<◌, ◌-◌, ℕ, ℤ, pos, negsuc, Bool, true, false, List, [], ◌∷◌, ◌++◌, length, take, drop, replicate, map, nat_lt}
-use Rattle.std.proofs.Common.{nat_le, ◌&&◌, Option, Some, None, option_map, option_and_then, if◌then◌else◌, refl, ap, sym, ◌∙◌, codes, arith}
+use Rattle.std.proofs.Common.{◌≡◌, ◌+◌, ◌≤◌, ◌^◌, ◌<◌, ◌-◌, ℕ, ℤ, pos, negsuc, Bool, true, false, List, [], ◌∷◌, ◌++◌, length, take, drop, replicate, map}
+use Rattle.std.proofs.Common.{nat_lt, nat_le, ◌&&◌, Option, Some, None, option_map, option_and_then, if◌then◌else◌, refl, ap, sym, ◌∙◌, codes, arith}
+use Rattle.std.proofs.Common.{get_or, set as set_at, to_z, of_z}
+use Rattle.std.specs.Int.{w64}
 use Rattle.std.specs.List.{AllZip}
 use Rattle.std.specs.Str.{bytes_eq}
-use Rattle.std.proofs.lemmas.List.{append-nil, drop_all, length-map, take-append-drop}
+use Rattle.std.proofs.lemmas.Int.{to_z-of_z}
+use Rattle.std.proofs.lemmas.List.{append-nil, drop_all, drop-drop, drop-replicate, drop-set-lt, length-drop, length-map, length-replicate, take-append-drop}
+use Rattle.std.proofs.lemmas.List.{take_more_set}
 use Rattle.std.proofs.lemmas.Slice.Eq.{bytes_eq-Decides}
 use Rattle.std.proofs.lemmas.Option.{option_and_then_some}
 use Rattle.serde_json.specs.Data.{Data, null, boolean, number, string, array, object, unsigned, negative, float}
@@ -13,10 +17,9 @@ use Rattle.eco_ids.specs.declared.value.Value.{Value}
 use Rattle.eco_steps.specs.Decode.{items_list, list_in, each_in, name_in, number_in, integer_in, value_of_items, value_in, step_of_none, step_of_one}
 use Rattle.eco_steps.specs.Decode.{step_of_texts, step_of_two, step_of_three, step_of, step_of_words, step_in, parts_of, parts_in, script_of, script_in}
 use Rattle.eco_steps.specs.Script.{Script, IsScriptData, IsScript}
-use Rattle.serde_json.specs.Read.{read}
 use Rattle.eco_steps.specs.Steps.{Step, create, component, add, remove, set, clear, remove_all, delete, delete_with, rename, has, get, show, list, query}
 use Rattle.eco_steps.specs.Steps.{IsIntegerData, IsValueData, IsStepData, value_with, written, list_data, name_data}
-use Rattle.eco_steps.proofs.Values.{items_list-items_of, items_of-items_list, each_found, each_is}
+use Rattle.eco_steps.proofs.Values.{items_list-items_of, items_of-items_list, each_found, each_is, one_more}
 
 -- ---- what is written is found
 
@@ -177,6 +180,34 @@ value_read_all f items d fields i count low high is found zeros =
     let all : each_in integer_in (map f items) ≡ Some (take i fields) =
     found ∙ ap (λ xs. option_map (λ zs. take i fields ++ zs) (each_in integer_in (map f xs))) none ∙ ap Some (append-nil (take i fields)) in
     sym (value_read (map f items) fields i (omega arith) (omega arith) (omega arith) all zeros) ∙ ap (λ o. option_and_then value_of_items o) is
+
+neither : (b : Bool) → let none : Option Value = None in none ≡ (if b then none else none)
+neither true = refl
+neither false = refl
+
+-- one more field was read, into the place of a zero
+pub field_read : {X : Type 0} (f : X → Data) (items : List X) (i : ℕ) (item : X) (fields : List ℤ) (z : ℤ) → i < length items
+    → length items ≤ FIELD_COUNT → Some z ≡ integer_in (f (get_or items i item))
+    → each_in integer_in (map f items) ≡ option_map (λ zs. take i fields ++ zs) (each_in integer_in (map f (drop i items)))
+    → drop i fields ≡ replicate (FIELD_COUNT - i) (pos 0)
+    → let new = set_at fields i (to_z w64 (of_z w64 z)) in
+    (each_in integer_in (map f items) ≡ option_map (λ zs. take (i + 1) new ++ zs) (each_in integer_in (map f (drop (i + 1) items))))
+    × (drop (i + 1) new ≡ replicate (FIELD_COUNT - (i + 1)) (pos 0))
+field_read f items i item fields z there small is found zeros =
+    let kept : to_z w64 (of_z w64 z) ≡ z = to_z-of_z w64 z (integer_is (f (get_or items i item)) z (sym is)).1 in
+    let left = sym (length-drop i fields) ∙ ap (λ xs. length xs) zeros ∙ length-replicate (FIELD_COUNT - i) (pos 0) in
+    let behind : drop (i + 1) fields ≡ replicate (FIELD_COUNT - i - 1) (pos 0) =
+    sym (drop-drop 1 i fields) ∙ ap (λ xs. drop 1 xs) zeros ∙ drop-replicate 1 (FIELD_COUNT - i) (pos 0) in
+    let count : FIELD_COUNT - i - 1 ≡ FIELD_COUNT - (i + 1) = omega arith in
+    rw kept (
+      one_more f integer_in items i item (take i fields) (take (i + 1) (set_at fields i z)) z there is (take_more_set fields i z (omega arith)) found,
+      drop-set-lt (i + 1) fields i z (omega arith) ∙ behind ∙ ap (λ n. replicate n (pos 0)) count,
+    )
+
+-- where an item is no field, the value is none
+pub no_value : {X : Type 0} (f : X → Data) (items : List X) (d : Data) → Some (map f items) ≡ list_in d → each_in integer_in (map f items) ≡ None
+    → None ≡ value_in d
+no_value f items d is none = rw (← is, none) (neither (nat_le 1 (length (map f items)) && nat_le (length (map f items)) FIELD_COUNT))
 
 -- an argument that is a text, and the step that is made of it
 with_text : (make : List ℕ → Step) (d : Data) (s : Step) → option_map make (as_str d) ≡ Some s → (t : List ℕ) × (d ≡ string t) × (s ≡ make t)

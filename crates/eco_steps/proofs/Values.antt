@@ -2,7 +2,7 @@
 use Rattle.std.proofs.Common.{◌≡◌, ℕ, ◌+◌, ◌<◌, List, [], ◌∷◌, ◌++◌, length, map, drop, get_or, Option, Some, None, option_map, option_and_then, refl, ap, sym}
 use Rattle.std.proofs.Common.{◌∙◌, append_assoc}
 use Rattle.std.specs.List.{AllZip}
-use Rattle.std.proofs.lemmas.List.{drop_more, map-append}
+use Rattle.std.proofs.lemmas.List.{drop_more}
 use Rattle.std.proofs.lemmas.Option.{option_and_then_some}
 use Rattle.serde_json.specs.Data.{Data, Items, no_items, item}
 use Rattle.serde_json.specs.View.{items_of}
@@ -37,19 +37,32 @@ module _ {A : Type 0} (find : Data → Option A) (Is : Data → A → Type 0) wh
       option_and_then_some (λ x. option_map (λ ys. x ∷ ys) (each_in find ds)) (find d) xs e
       (λ x is h. each_more d ds x (each_in find ds) xs (one d x is) (λ ys n. each_is one ds ys n) h)
 
--- what was found so far, and what is found in the rest, are all; one more was found
-module _ {V A B : Type 0} (view : V → Data) (find : Data → Option A) (f : B → A) where
-  in_front : (old new : List B) (x : B) (o : Option (List A)) → new ≡ old ++ x ∷ []
-      → option_map (λ xs. map f old ++ xs) (option_map (λ xs. f x ∷ xs) o) ≡ option_map (λ xs. map f new ++ xs) o
-  in_front old new x None is = refl
-  in_front old new x (Some xs) is =
-      rw is (ap Some (sym (ap (λ ys. ys ++ xs) (map-append f old (x ∷ [])) ∙ append_assoc (map f old) (f x ∷ []) xs)))
+-- what was found so far, and what is found in the rest, are all
+module _ {V A : Type 0} (view : V → Data) (find : Data → Option A) where
+  -- the item at hand, and those behind it
+  next_of : (vs : List V) (i : ℕ) (d : V) → i < length vs
+      → each_in find (map view (drop i vs))
+      ≡ option_and_then (λ y. option_map (λ ys. y ∷ ys) (each_in find (map view (drop (i + 1) vs)))) (find (view (get_or vs i d)))
+  next_of vs i d there = ap (λ (ws : List V). each_in find (map view ws)) (drop_more vs i d there)
 
-  pub one_more : (vs : List V) (i : ℕ) (d : V) (old new : List B) (x : B) → i < length vs → Some (f x) ≡ find (view (get_or vs i d)) → new ≡ old ++ x ∷ []
-      → each_in find (map view vs) ≡ option_map (λ xs. map f old ++ xs) (each_in find (map view (drop i vs)))
-      → each_in find (map view vs) ≡ option_map (λ xs. map f new ++ xs) (each_in find (map view (drop (i + 1) vs)))
+  in_front : (old new : List A) (x : A) (o : Option (List A)) → new ≡ old ++ x ∷ []
+      → option_map (λ xs. old ++ xs) (option_map (λ xs. x ∷ xs) o) ≡ option_map (λ xs. new ++ xs) o
+  in_front old new x None is = refl
+  in_front old new x (Some xs) is = rw is (ap Some (sym (append_assoc old (x ∷ []) xs)))
+
+  -- one more was found
+  pub one_more : (vs : List V) (i : ℕ) (d : V) (old new : List A) (x : A) → i < length vs → Some x ≡ find (view (get_or vs i d)) → new ≡ old ++ x ∷ []
+      → each_in find (map view vs) ≡ option_map (λ xs. old ++ xs) (each_in find (map view (drop i vs)))
+      → each_in find (map view vs) ≡ option_map (λ xs. new ++ xs) (each_in find (map view (drop (i + 1) vs)))
   one_more vs i d old new x there found is was =
-      was ∙ ap (λ (ws : List V). option_map (λ xs. map f old ++ xs) (each_in find (map view ws))) (drop_more vs i d there)
-      ∙ ap (λ (o : Option A). option_map (λ xs. map f old ++ xs)
-      (option_and_then (λ y. option_map (λ ys. y ∷ ys) (each_in find (map view (drop (i + 1) vs)))) o)) (sym found)
-      ∙ in_front old new x (each_in find (map view (drop (i + 1) vs))) is
+      let rest = each_in find (map view (drop (i + 1) vs)) in
+      was ∙ ap (option_map (λ xs. old ++ xs)) (next_of vs i d there ∙ ap (option_and_then (λ y. option_map (λ ys. y ∷ ys) rest)) (sym found))
+      ∙ in_front old new x rest is
+
+  -- in one nothing was found
+  pub none_more : (vs : List V) (i : ℕ) (d : V) (old : List A) → i < length vs → None ≡ find (view (get_or vs i d))
+      → each_in find (map view vs) ≡ option_map (λ xs. old ++ xs) (each_in find (map view (drop i vs)))
+      → each_in find (map view vs) ≡ None
+  none_more vs i d old there missing was =
+      let rest = each_in find (map view (drop (i + 1) vs)) in
+      was ∙ ap (option_map (λ xs. old ++ xs)) (next_of vs i d there ∙ ap (option_and_then (λ y. option_map (λ ys. y ∷ ys) rest)) (sym missing))

@@ -7,7 +7,8 @@ use Rattle.serde_json.specs.Data.{Data, null, boolean, number, string, array, ob
 use Rattle.serde_json.specs.Find.{as_number, as_str, as_array, as_u64}
 use Rattle.eco_ids.specs.declared.value.TheConstants.{FIELD_COUNT, LARGEST_ARITY}
 use Rattle.eco_ids.specs.declared.value.Value.{Value}
-use Rattle.eco_steps.specs.Steps.{Step, create, component, add, remove, set, clear, remove_all, delete, delete_with, rename, has, get, show, list, query, value_with}
+use Rattle.eco_steps.specs.Steps.{Step, create, component, add, remove, set, clear, remove_all, delete, delete_with, rename, has, get, show, list, query}
+use Rattle.eco_steps.specs.Steps.{value_with}
 use Rattle.eco_steps.specs.Script.{Script}
 
 -- items as a list

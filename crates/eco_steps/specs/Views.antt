@@ -3,7 +3,8 @@ use Rattle.std.specs.Prelude.{map, option_map}
 use Rattle.eco_steps.specs.Steps as script
 use Rattle.eco_steps.specs.Script as whole
 use Rattle.eco_steps.specs.declared.step.Step.{Step}
-use Rattle.eco_steps.specs.declared.step.Step.TheVariants.{Create, Component, Add, Remove, Set, Clear, RemoveAll, Delete, DeleteWith, Rename, Has, Get, Show, List, Query}
+use Rattle.eco_steps.specs.declared.step.Step.TheVariants.{Create, Component, Add, Remove, Set, Clear, RemoveAll, Delete, DeleteWith, Rename, Has, Get, Show}
+use Rattle.eco_steps.specs.declared.step.Step.TheVariants.{List, Query}
 use Rattle.eco_steps.specs.declared.script.Script.{Script}
 
 -- the step, with the texts that it borrows

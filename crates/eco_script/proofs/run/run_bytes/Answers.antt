@@ -1,5 +1,5 @@
 use Rattle.std.proofs.Common.{Err, ap, map}
-use Rattle.std.proofs.lemmas.Result.{err_from_is_err_and, on_ok_weaker, on_err_weaker}
+use Rattle.std.proofs.lemmas.Result.{on_ok_weaker, on_err_weaker}
 use Rattle.serde_json.specs.View.{view}
 use Rattle.eco_steps.specs.Views.{step_view, script_view}
 use Rattle.eco_script.proofs.Devices.{Keeps-same}

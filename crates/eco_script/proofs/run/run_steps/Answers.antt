@@ -1,11 +1,17 @@
-use Rattle.std.proofs.Common.{rules, ◌+◌}
+use Rattle.std.proofs.Common.{[], refl, ap, ◌+◌, ◌∙◌}
 use Rattle.eco_steps.specs.Views.{step_view}
-use Rattle.eco_script.proofs.Runs.{stopped_between, stopped_within, gathered_more, gathered_less}
+use Rattle.eco_script.proofs.Devices.{Appends-none}
+use Rattle.eco_script.proofs.Runs.{stopped_between, stopped_within, gathered_all, gathered_more, gathered_less}
 use Rattle.eco_script.proofs.run.run_steps.Goals as goal
 
+pub loop-step-init : goal.loop-step-init
+loop-step-init g c = record { ran = ([], (c.new-text.ensures.bytes, refl), Appends-none _); counted = refl }
+
 pub returns-in_default-clause-err : goal.returns-in_default-clause-err
-returns-in_default-clause-err g c = stopped_between step_view c.args.steps.now
-    (record { refs = c.texts_are_read.ensures.reference; ids = c.texts_are_read.ensures.id; queries = c.texts_are_read.ensures.query }) c.loop-step.step-index _ _ _ _ _ c.loop-step.invariant.ran
+returns-in_default-clause-err g c =
+    stopped_between step_view c.args.steps.now
+    (record { refs = c.texts_are_read.ensures.reference; ids = c.texts_are_read.ensures.id; queries = c.texts_are_read.ensures.query })
+    c.loop-step.step-index _ _ _ _ _ c.loop-step.invariant.ran
 
 pub returns-in_default-write_many-clause-err : goal.returns-in_default-write_many-clause-err
 returns-in_default-write_many-clause-err g c =
@@ -13,7 +19,8 @@ returns-in_default-write_many-clause-err g c =
     let more = gathered_more step_view c.args.steps.now c.loop-step.step-index c.step-item.result _ _ _ _ _ _ _ lines c.loop-step-test.true
     c.step-item.is c.loop-step.invariant.ran does is in
     stopped_within step_view c.args.steps.now
-    (record { refs = c.texts_are_read.ensures.reference; ids = c.texts_are_read.ensures.id; queries = c.texts_are_read.ensures.query }) (c.loop-step.step-index + 1) _ _ _ _ _ _ more
+    (record { refs = c.texts_are_read.ensures.reference; ids = c.texts_are_read.ensures.id; queries = c.texts_are_read.ensures.query })
+    (c.loop-step.step-index + 1) _ _ _ _ _ _ more
     c.in_default-write_many.ensures.err
 
 pub loop-step-preserved : goal.loop-step-preserved
@@ -24,11 +31,24 @@ loop-step-preserved g c =
     let (part, parts, wrote) = c.in-Ok-write_many.ensures.ok in
     record {
       ran = gathered_less step_view c.args.steps.now (c.loop-step.step-index + 1) _ _ _ _ _ _ part _ parts more wrote;
-      counted = search rules;
+      counted = c.in-Ok-write_many.ensures.counts_none ∙ c.loop-step.invariant.counted;
     }
 
 pub returns-clause-err : goal.returns-clause-err
 returns-clause-err g c =
     stopped_within step_view c.args.steps.now
-    (record { refs = c.texts_are_read.ensures.reference; ids = c.texts_are_read.ensures.id; queries = c.texts_are_read.ensures.query }) c.loop-step.step-index _ _ _ _ _ _ c.loop-step.invariant.ran
+    (record { refs = c.texts_are_read.ensures.reference; ids = c.texts_are_read.ensures.id; queries = c.texts_are_read.ensures.query })
+    c.loop-step.step-index _ _ _ _ _ _ c.loop-step.invariant.ran
     (rw (c.as_bytes.ensures.value, c.as_str.ensures.value) at c.in-Err.ensures.err)
+
+pub returns-in_default-write_many-clause-device : goal.returns-in_default-write_many-clause-device
+returns-in_default-write_many-clause-device g c = λ _.
+    c.in_default-write_many.ensures.counts_one ∙ ap (λ n. n + 1) c.loop-step.invariant.counted
+
+pub returns-in-Ok-write_all-clause-ok : goal.returns-in-Ok-write_all-clause-ok
+returns-in-Ok-write_all-clause-ok g c =
+    gathered_all step_view c.args.steps.now c.loop-step.step-index _ _ _ _ _ _ c.loop-step-test.false c.loop-step.invariant.ran
+    (rw (c.as_bytes.ensures.value, c.as_str.ensures.value) at c.in-Ok-write_all.ensures.ok)
+
+pub returns-clause-device : goal.returns-clause-device
+returns-clause-device g c = λ _. c.in-Err.ensures.counts_one ∙ ap (λ n. n + 1) c.loop-step.invariant.counted

@@ -1,16 +1,17 @@
-//! The world's calls by example: ships, which are afloat because they are ships, where they are, and where they
-//! lie.
+//! The world's calls by example: ships, which are afloat because they are ships, where they are and where they sail, and where
+//! they lie.
 #![tactic(auto)]
 
 use anyhow::Result;
 use eco_ids::entity::WITH;
 use eco_ids::{Entity, Id, Refusal, Value};
-use eco_world::World;
+use eco_world::{TableRows, Values, World};
 
 // What ships can be and have.
 #[derive(Clone, Copy)]
 struct Terms {
     position: Entity,
+    velocity: Entity,
     ship: Entity,
     afloat: Entity,
     moored_at: Entity,
@@ -29,6 +30,7 @@ struct Fleet {
 fn declare(world: &mut World) -> Result<Terms, Refusal> {
     let terms = Terms {
         position: world.component(Some("Position"), 2)?,
+        velocity: world.component(Some("Velocity"), 2)?,
         ship: world.create(Some("Ship"))?,
         afloat: world.create(Some("Afloat"))?,
         moored_at: world.create(Some("MooredAt"))?,
@@ -48,6 +50,7 @@ fn launch(world: &mut World, terms: Terms) -> Result<Fleet, Refusal> {
     world.add(teal, Id::One(terms.ship))?;
     world.set(heron, Id::One(terms.position), Value([3, -4, 0, 0]))?;
     world.set(teal, Id::One(terms.position), Value([5, 6, 0, 0]))?;
+    world.set(heron, Id::One(terms.velocity), Value([1, 2, 0, 0]))?;
     world.add(teal, Id::Two(terms.moored_at, terms.quay))?;
     world.add(teal, Id::Two(terms.moored_at, terms.buoy))?;
     Ok(Fleet { heron, teal })
@@ -74,6 +77,36 @@ fn print_moorings<R: Print + AllocGlobal>(rt: &R, world: &World) -> Result<()> {
             let place = world.name_of(*place).unwrap_or("-");
             println!(rt; "{name} is moored at {place}")?;
         }
+    }
+    Ok(())
+}
+
+// Where the ships of one table are an hour later: columns are slices, with the same place for an entity in each of them.
+fn print_courses<R: Print + AllocGlobal>(
+    rt: &R,
+    world: &World,
+    terms: Terms,
+    table: &TableRows<'_>,
+) -> Result<()> {
+    let (Some(Values::Two(positions)), Some(Values::Two(velocities))) = (
+        table.values(Id::One(terms.position)),
+        table.values(Id::One(terms.velocity)),
+    ) else {
+        return Ok(());
+    };
+    for ((entity, at), by) in table.entities.iter().zip(positions).zip(velocities) {
+        let name = world.name_of(*entity).unwrap_or("-");
+        let (east, north) = (at[0].wrapping_add(by[0]), at[1].wrapping_add(by[1]));
+        println!(rt; "{name} will be at {east} {north}")?;
+    }
+    Ok(())
+}
+
+// A query finds tables too: those of all entities that have the same ids, with their values in columns.
+fn print_all_courses<R: Print + AllocGlobal>(rt: &R, world: &World, terms: Terms) -> Result<()> {
+    let query = world.read_query("Position, Velocity")?;
+    for table in &world.tables_of(&query)? {
+        print_courses(rt, world, terms, table)?;
     }
     Ok(())
 }
@@ -122,6 +155,7 @@ fn show<R: Print + AllocGlobal>(rt: &R, world: &mut World) -> Result<()> {
     print_afloat(rt, world)?;
     print_moorings(rt, world)?;
     print_ships(rt, world, terms, fleet)?;
+    print_all_courses(rt, world, terms)?;
     print_refusal(rt, world)?;
     close_quay(rt, world, terms, fleet)
 }

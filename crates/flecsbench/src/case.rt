@@ -146,6 +146,20 @@ pub const CASES: &[Case] = &[
         Start::Tables(10_000, "P"),
         Calls::Rows,
     ),
+    Case("slice_sum", LARGE, Start::Rows, Calls::SumSlice),
+    Case("columns_sum/1", LARGE, Start::Columns(1), Calls::SumColumns),
+    Case(
+        "columns_sum/100",
+        LARGE,
+        Start::Columns(100),
+        Calls::SumColumns,
+    ),
+    Case(
+        "columns_sum/10000",
+        LARGE,
+        Start::Columns(10_000),
+        Calls::SumColumns,
+    ),
     Case(
         "query_none",
         SMALL,
@@ -158,6 +172,9 @@ pub const CASES: &[Case] = &[
         Start::NobodyHas(100_000),
         Calls::NoResults,
     ),
+    Case("merge_add", MANY, Start::RecordedAdds, Calls::Merge),
+    Case("merge_set", MANY, Start::RecordedSets, Calls::Merge),
+    Case("merge_spawn", MANY, Start::RecordedSpawns, Calls::Merge),
     Case("many_tags", DOUBLED, Start::OneLacksTags, Calls::Add),
     Case(
         "rel_add_to_used",

@@ -1,7 +1,7 @@
 //! The worlds that cases are about, and the calls that are measured.
 use crate::group::{Group, Ids};
 use eco_ids::{Entity, Id, Refusal, Value};
-use eco_world::{Query, Results, World};
+use eco_world::{Command, Query, Results, Stage, Values, World};
 use std::alloc::Global;
 use std::collections::HashMap;
 
@@ -15,8 +15,12 @@ pub struct Scene {
     query: Option<Query>,
     // What the query has found; like the world, it is given up once the time was taken.
     results: Option<Results>,
-    // What the yardstick fills. It has nothing to do with the world.
+    // What the yardsticks fill and go through. They have nothing to do with the world.
     numbers: HashMap<u32, u32>,
+    rows: Vec<[i64; 2]>,
+    // What a merge does, and how many indices it admits first.
+    stages: [Stage; 1],
+    admitted: u32,
 }
 
 // By hand, so that dropping it is one call: a derived drop is proved anew at each early return of whoever holds it.
@@ -28,6 +32,9 @@ impl Drop for Scene {
             query: _,
             results: _,
             numbers: _,
+            rows: _,
+            stages: _,
+            admitted: _,
         } = self;
     }
 }
@@ -49,12 +56,18 @@ pub enum Calls {
     Set,
     /// The value of each id of its entity is read, of which the first field is 1.
     Get,
+    /// The first fields of a plain slice of rows are added up, each of which is 1: the yardstick for columns.
+    SumSlice,
+    /// The first fields of the first id's values are added up, table by table, each of which is 1.
+    SumColumns,
     /// The first id is removed from all entities by one call.
     RemoveAll,
     /// Each entity is deleted.
     Delete,
     /// All entities that have the first id are deleted by one call.
     DeleteWith,
+    /// One merge of the stage, which has so many commands.
+    Merge,
     /// One answer of the query, which has so many results.
     Results,
     /// So many answers of the query, which has no result.
@@ -63,6 +76,39 @@ pub enum Calls {
     Rows,
     /// A query for each id, which one entity has: its text is read, and it is answered.
     ReadEach,
+}
+
+// The sum of the first fields.
+fn sum_first(rows: &[[i64; 2]]) -> i64 {
+    let mut sum: i64 = 0;
+    for row in rows {
+        sum = sum.wrapping_add(row[0]);
+    }
+    sum
+}
+
+// The command comes last.
+fn record(stage: &mut Stage, command: Command) -> Result<(), Refusal> {
+    match stage.record(command) {
+        Ok(()) => Ok(()),
+        Err(_) => Err(Refusal::OutOfMemory),
+    }
+}
+
+// The stage adds each id to its entity.
+fn record_adds(stage: &mut Stage, work: &[(Entity, Id)]) -> Result<(), Refusal> {
+    for (entity, id) in work {
+        record(stage, Command::Add(*entity, *id))?;
+    }
+    Ok(())
+}
+
+// The stage sets each id of its entity to the value.
+fn record_sets(stage: &mut Stage, work: &[(Entity, Id)], value: Value) -> Result<(), Refusal> {
+    for (entity, id) in work {
+        record(stage, Command::Set(*entity, *id, value))?;
+    }
+    Ok(())
 }
 
 impl Scene {
@@ -75,6 +121,9 @@ impl Scene {
             query: None,
             results: None,
             numbers: HashMap::new(alloc),
+            rows: Vec::new(alloc),
+            stages: [Stage::new(alloc)],
+            admitted: 0,
         })
     }
 
@@ -83,6 +132,9 @@ impl Scene {
         match calls {
             Calls::InsertNumbers => return self.insert_numbers(size),
             Calls::Get => return Ok(self.sum() == i64::from(size)),
+            Calls::SumSlice => return Ok(sum_first(&self.rows) == i64::from(size)),
+            Calls::SumColumns => return Ok(self.sum_columns()? == i64::from(size)),
+            Calls::Merge => return Ok(self.merge()? == size as usize),
             Calls::Results => return Ok(self.find()? == size as usize),
             Calls::NoResults => return Ok(self.find_often(size)? == 0),
             Calls::Rows => return Ok(self.count_rows()? == size as usize),
@@ -109,6 +161,14 @@ impl Scene {
     /// Gives the group's first entity a name.
     pub fn name(&mut self, group: Group, name: &str) -> Result<(), Refusal> {
         self.world.rename(group.at(0), Some(name))
+    }
+
+    /// Makes so many plain rows.
+    pub fn make_rows(&mut self, count: u32) -> Result<(), Refusal> {
+        for _ in 0..count {
+            self.rows.push([1, 2])?;
+        }
+        Ok(())
     }
 
     /// The calls are to be about this query.
@@ -170,6 +230,42 @@ impl Scene {
         self.set(value)
     }
 
+    /// Records that each id is added to its entity.
+    pub fn record_adds(&mut self) -> Result<(), Refusal> {
+        record_adds(&mut self.stages[0], &self.work)
+    }
+
+    /// Records that each id of its entity is set to the value.
+    pub fn record_sets(&mut self, value: Value) -> Result<(), Refusal> {
+        record_sets(&mut self.stages[0], &self.work, value)
+    }
+
+    /// Records that so many fresh entities live, get the tag and the value, and die.
+    pub fn record_spawns(
+        &mut self,
+        count: u32,
+        tag: Group,
+        component: Group,
+        value: Value,
+    ) -> Result<(), Refusal> {
+        let fresh = Group::new(self.world.high(), count);
+        self.admitted = count;
+        for turn in 0..count {
+            let entity = fresh.at(turn);
+            let stage = &mut self.stages[0];
+            record(stage, Command::Create(entity))?;
+            record(stage, Command::Add(entity, Id::One(tag.at(0))))?;
+            record(stage, Command::Set(entity, Id::One(component.at(0)), value))?;
+            record(stage, Command::Delete(entity))?;
+        }
+        Ok(())
+    }
+
+    // Merges the stage, and answers how many commands ran.
+    fn merge(&mut self) -> Result<usize, Refusal> {
+        Ok(self.world.merge(self.admitted, &self.stages)?.len())
+    }
+
     /// Deletes each entity.
     pub fn delete(&mut self) -> Result<(), Refusal> {
         for (entity, _) in &self.work {
@@ -228,6 +324,20 @@ impl Scene {
             }
         }
         sum
+    }
+
+    // The sum of the first fields of the first id's values, of all tables of the query.
+    fn sum_columns(&self) -> Result<i64, Refusal> {
+        let (Some(query), Some((_, id))) = (&self.query, self.work.first()) else {
+            return Ok(0);
+        };
+        let mut sum: i64 = 0;
+        for table in &self.world.tables_of(query)? {
+            if let Some(Values::Two(rows)) = table.values(*id) {
+                sum = sum.wrapping_add(sum_first(rows));
+            }
+        }
+        Ok(sum)
     }
 
     // How many results the query has, which are all made.

@@ -1,6 +1,6 @@
 //! What the measured part of a case begins with.
 use crate::group::{Group, Ids};
-use crate::scene::Scene;
+use crate::scene::{Calls, Scene};
 use eco_ids::entity::{CHILD_OF, EXCLUSIVE};
 use eco_ids::{Refusal, Value};
 
@@ -25,6 +25,10 @@ pub enum Start {
     /// N entities have the component P and the tag Q, and stand in so many tables, by their pairs of the relationship Group;
     /// this is asked.
     Tables(u32, &'static str),
+    /// The same, and the first field of each value of P is 1; P is asked. All values were read once.
+    Columns(u32),
+    /// A plain list has N rows of two numbers, and the first one of each is 1.
+    Rows,
     /// So many entities each have a pair of one plain relationship with a target of its own; who has a parent and a certain tag
     /// is asked, and nobody has that tag.
     NobodyHas(u32),
@@ -58,6 +62,12 @@ pub enum Start {
     TreeRoot,
     /// A target, of which N entities have the pair of a plain relationship.
     Target,
+    /// A stage adds a tag to each of N entities.
+    RecordedAdds,
+    /// A stage sets the value of each of N entities that have one.
+    RecordedSets,
+    /// A stage makes N/4 entities, and gives each a tag and a value before it deletes it.
+    RecordedSpawns,
 }
 
 impl Start {
@@ -72,6 +82,8 @@ impl Start {
             Start::HaveValue => have_value(scene, size),
             Start::HaveValues => have_values(scene, size),
             Start::Tables(tables, text) => stand_in_tables(scene, size, tables, text),
+            Start::Columns(tables) => have_columns(scene, size, tables),
+            Start::Rows => scene.make_rows(size),
             Start::NobodyHas(entities) => ask_in_vain(scene, entities),
             Start::LackPair(targets) => lack_pair(scene, size, targets),
             Start::LackOwnPair => lack_pair(scene, size, size),
@@ -88,6 +100,9 @@ impl Start {
             Start::Parent => be_parent(scene, size),
             Start::TreeRoot => be_tree_root(scene, size),
             Start::Target => be_target(scene, size),
+            Start::RecordedAdds => record_adds(scene, size),
+            Start::RecordedSets => record_sets(scene, size),
+            Start::RecordedSpawns => record_spawns(scene, size / 4),
         }
     }
 }
@@ -112,6 +127,22 @@ fn lack_value(scene: &mut Scene, count: u32) -> Result<(), Refusal> {
 fn have_value(scene: &mut Scene, count: u32) -> Result<(), Refusal> {
     lack_value(scene, count)?;
     scene.set(Value([1, 2, 0, 0]))
+}
+
+fn record_adds(scene: &mut Scene, count: u32) -> Result<(), Refusal> {
+    lack_tag(scene, count)?;
+    scene.record_adds()
+}
+
+fn record_sets(scene: &mut Scene, count: u32) -> Result<(), Refusal> {
+    have_value(scene, count)?;
+    scene.record_sets(Value([1, 2, 0, 0]))
+}
+
+fn record_spawns(scene: &mut Scene, count: u32) -> Result<(), Refusal> {
+    let tag = scene.make(1)?;
+    let component = scene.make_component()?;
+    scene.record_spawns(count, tag, component, Value([1, 2, 0, 0]))
 }
 
 fn have_values(scene: &mut Scene, count: u32) -> Result<(), Refusal> {
@@ -141,6 +172,14 @@ fn stand_in_tables(
     scene.add_each(count, entities, Ids::Ones(tag))?;
     scene.add_each(count, entities, Ids::Ones(component))?;
     scene.ask(text)
+}
+
+fn have_columns(scene: &mut Scene, count: u32, table_count: u32) -> Result<(), Refusal> {
+    stand_in_tables(scene, count, table_count, "P")?;
+    scene.set(Value([1, 2, 0, 0]))?;
+    // Like plain rows, which were just written, they are at hand.
+    let _is_right = scene.call(Calls::SumColumns, count)?;
+    Ok(())
 }
 
 fn name_terms(

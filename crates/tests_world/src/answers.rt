@@ -4,7 +4,7 @@ use crate::filter::{count_choices, is_choice};
 use crate::questions::{Question, draw_entity, draw_id, draw_question};
 use eco_ids::{Entity, Id, Refusal, Value};
 use eco_query::Term;
-use eco_world::{Results, Row, TableRows, World};
+use eco_world::{Query, Results, Row, TableRows, World};
 use std::alloc::Global;
 
 // One step about the living. It may be refused.
@@ -79,19 +79,36 @@ fn count_in_tables(world: &World, terms: &[Term], tables: &[TableRows<'_>]) -> O
     })
 }
 
+// Whether the results are so many choices, and the rows are the results.
+fn has_results(
+    world: &World,
+    terms: &[Term],
+    query: &Query,
+    count: usize,
+) -> Result<bool, Refusal> {
+    let results = world.results(query)?;
+    let is_right = results.len() == count && are_choices(world, terms, &results);
+    Ok(is_right && are_rows(&results, &world.query(query)?))
+}
+
+// Whether the tables have so many entities, each of which has choices.
+fn has_tables(
+    world: &World,
+    terms: &[Term],
+    query: &Query,
+    entities: usize,
+) -> Result<bool, Refusal> {
+    let tables = world.tables_of(query)?;
+    Ok(count_in_tables(world, terms, &tables) == Some(entities))
+}
+
 // How many results the question has, if they are what the filter finds, as the rows are and the tables.
 fn answered(world: &World, question: &Question) -> Result<Option<usize>, Refusal> {
     let query = world.read_query(question.text.as_str())?;
-    let results = world.results(&query)?;
-    let rows = world.query(&query)?;
-    let tables = world.tables_of(&query)?;
-    let living = world.living()?;
     let terms = question.terms.as_slice();
-    let (count, entities) = counts(world, terms, &living);
-    let is_right = results.len() == count
-        && are_choices(world, terms, &results)
-        && are_rows(&results, &rows)
-        && count_in_tables(world, terms, &tables) == Some(entities);
+    let (count, entities) = counts(world, terms, &world.living()?);
+    let is_right = has_results(world, terms, &query, count)?
+        && has_tables(world, terms, &query, entities)?;
     Ok(is_right.then_some(count))
 }
 

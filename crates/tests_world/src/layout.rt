@@ -2,7 +2,7 @@
 use crate::draws::Draws;
 use eco_ids::entity::{CHILD_OF, EXCLUSIVE};
 use eco_ids::{Entity, Id, Pattern, Refusal, Value};
-use eco_world::{TableRows, World};
+use eco_world::{TableRows, Values, World};
 use std::alloc::{AllocError, Global};
 
 /// The entity of generation 0 at the index.
@@ -117,11 +117,39 @@ fn done_steps(alloc: Global, world: &mut World, count: u32) -> Result<Option<u32
     Ok(Some(done))
 }
 
-// Whether the tables agree after each of 600 steps, of which more than 400 are done, and those of a component are found.
+// Whether the table lends the values of an id of two fields, one for each entity.
+fn lends(world: &World, table: &TableRows<'_>, id: Id) -> bool {
+    let Some(Values::Two(rows)) = table.values(id) else {
+        return false;
+    };
+    let is_own = |entity: &Entity, row: &[i64; 2]| {
+        world
+            .get(*entity, id)
+            .is_some_and(|value| value.0[0] == row[0] && value.0[1] == row[1])
+    };
+    rows.len() == table.entities.len()
+        && table
+            .entities
+            .iter()
+            .zip(rows)
+            .all(|(entity, row)| is_own(entity, row))
+}
+
+// Whether tables are found that have a component of two fields, and lend its values.
+fn are_lent(world: &World) -> Result<bool, AllocError> {
+    let found = world.tables_with(Pattern::One(at(9)))?;
+    Ok(
+        !found.is_empty()
+            && found
+                .iter()
+                .all(|table| lends(world, table, Id::One(at(9)))),
+    )
+}
+
+// Whether the tables agree after each of 600 steps, of which more than 400 are done, and those of a component lend its values.
 fn is_kept(alloc: Global, world: &mut World) -> Result<bool, Refusal> {
     let done = done_steps(alloc, world, 600)?;
-    let found = world.tables_with(Pattern::One(at(9)))?.len();
-    Ok(done.is_some_and(|done| done > 400) && found > 0)
+    Ok(done.is_some_and(|done| done > 400) && are_lent(world)?)
 }
 
 // Whether they are so in a new world.

@@ -16,6 +16,8 @@ mod hostile;
 #[cfg(test)]
 mod layout;
 #[cfg(test)]
+mod merging;
+#[cfg(test)]
 mod queries;
 #[cfg(test)]
 mod questions;

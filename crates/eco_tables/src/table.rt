@@ -211,7 +211,18 @@ impl Table {
         ensures ready { more ≡ 0 → IsOk result }
     {
         // A sum that is too large for a number is more than memory can hold, and refused like any other.
-        self.reserve(self.room.saturating_add(more))
+        let wanted = self.room.saturating_add(more);
+        self.reserve(wanted)?;
+        self.promise(wanted);
+        Ok(())
+    }
+
+    // Only so much room is promised: if all that the memory grew by were, each promise would double what the one before took.
+    fn promise(&mut self, room: usize)
+        requires { room ≤ self.old.room }
+        ensures { self.new ≡ with_room self.old room }
+    {
+        self.room = room;
     }
 
     /// Takes the promise of room back. The memory stays the table's, and the next rows go there.

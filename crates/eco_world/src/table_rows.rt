@@ -34,7 +34,7 @@ impl<'a> TableRows<'a> {
     }
 
     /// The values of an id, one for each of the entities and in their order. A slice has so many fields of each value as are
-    /// kept of the id: those past them are 0. None where none are kept: the type lacks the id, or the id is no data.
+    /// kept of the id: those past them are 0. None where the table keeps none, as where its type lacks the id.
     pub fn values(&self, id: Id) -> Option<Values<'a>>
         ensures shown { IfSome result (λ values. shown values ≡ lent_by self.now id) }
         ensures none { IfNone result (fields_kept self.now id ≡ 0) }

@@ -1,11 +1,12 @@
 -- All who stand in a table die, the one in the last row first, and then the table is without rows.
 use Rattle.std.proofs.Common.{◌≡◌, ◌≢◌, ℕ, zero, suc, ◌+◌, ◌-◌, ◌<◌, ◌≤◌, ◌||◌, ◌++◌, Bool, true, false, IsTrue, IsSome, List, [], ◌∷◌, length, take}
 use Rattle.std.proofs.Common.{drop, set, get_or, slice_get, Option, Some, None, is_some, option_and_then, unwrap_or, refl, sym, ap, subst, ◌∙◌, arith}
-use Rattle.std.proofs.Common.{add-one, inl, inr}
+use Rattle.std.proofs.Common.{add-one, inl, inr, true≢false}
 use Rattle.std.specs.List.{swap_remove}
 use Rattle.std.proofs.Math.ListN.{drop_of_length-le}
 use Rattle.std.proofs.Math.Seq.{drop-cons, take-append_seam}
-use Rattle.std.proofs.lemmas.Bool.{cases_eq}
+use Rattle.std.proofs.lemmas.Bool.{cases_eq, cases_lt}
+use Rattle.std.proofs.lemmas.List.{get_or-set_same, get_or-set_other, get_or_past}
 use Rattle.std.proofs.lemmas.List.{get_or-map, get_or-take, length-append, length-map, length-take-le, take-take, take_all}
 use Rattle.std.proofs.lemmas.Option.{none-some, slice_get-get_or, slice_get_past}
 use Rattle.indexmap.proofs.MapLemmas.{swap_remove_last}
@@ -15,7 +16,6 @@ use Rattle.eco_ids.specs.Order.{entity_cmp, entity_eq, has_item}
 use Rattle.eco_ids.proofs.States.{living_at, record_at}
 use Rattle.eco_tables.specs.Table.{TableState, Row, entities_of}
 use Rattle.eco_tables.specs.Tables.{slot_of, table_in, no_row, no_table, Sets}
-use Rattle.eco_tables.proofs.Slots.{sets_slot, some_within}
 use Rattle.eco_entities.specs.declared.place.Place.{Place}
 use Rattle.eco_entities.specs.Registration.{Registration, own_place}
 use Rattle.eco_archetypes.specs.Archetypes.{row_at, SameRows}
@@ -92,8 +92,17 @@ module _ (w : Indexed Registration) (s : List (Option TableState)) (n : ℕ) (is
   abbrev pub cut : ℕ → List (Option TableState)
   cut k = set s n (Some (shortened k))
 
+  within : n < length s
+  within = elim (cases_lt n (length s)) [
+    | inl lt ↦ lt
+    | inr past ↦ absurd (true≢false (sym there ∙ ap is_some (get_or_past s n None past)))
+  ]
+
   cut_sets : (k : ℕ) → Sets s (cut k) n (Some (shortened k))
-  cut_sets k = sets_slot s n (Some (shortened k)) (some_within s n there)
+  cut_sets k = record {
+    changed = get_or-set_same s n (Some (shortened k)) None within;
+    others = λ m other. get_or-set_other s n m (Some (shortened k)) None other;
+  }
 
   pub cut_here : (k : ℕ) → rows_in (cut k) n ≡ take k rows
   cut_here k = ap (λ o. (unwrap_or o no_table).rows) (cut_sets k).changed

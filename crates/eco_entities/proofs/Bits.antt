@@ -104,29 +104,22 @@ word-without_bit_other ws k w ne = rw get_or-set_other
 -- a bit set below is set above
 pub summarizes-with_bit : (lower upper : List ℕ) (k : ℕ) → Summarizes lower upper → k / 64 < length lower → k / 64 / 64 < length upper →
     Summarizes (with_bit lower k) (with_bit upper (k / 64))
-summarizes-with_bit lower upper k s l u = grind (
-  arith,
-  common_steps,
-  cases_eq,
-  has_bit-with_bit_same,
-  word_of_bit,
-  lt-ltb,
-  has_bit-with_bit_other,
-  word-with_bit_other,
-)
+summarizes-with_bit lower upper k s l u = record {
+  exact = λ w. elim (cases_eq w (k / 64)) [
+    | inl e ↦ rw e (has_bit-with_bit_same upper (k / 64) u ∙ sym (lt-ltb _ _ (word_of_bit (with_bit lower k) k (has_bit-with_bit_same lower k l))))
+    | inr apart ↦ has_bit-with_bit_other upper (k / 64) w apart u ∙ s.exact w ∙ ap (nat_lt 0) (sym (word-with_bit_other lower k w apart))
+  ];
+}
 
 -- the last bit of a word is cleared above too
 pub summarizes_emptied : (lower upper : List ℕ) (k : ℕ) → Summarizes lower upper → get_or (without_bit lower k) (k / 64) 0 ≡ 0 → k / 64 / 64 < length upper →
     Summarizes (without_bit lower k) (without_bit upper (k / 64))
-summarizes_emptied lower upper k s z u = grind (
-  arith,
-  common_steps,
-  cases_eq,
-  has_bit-without_bit_same,
-  le-ltb,
-  has_bit-without_bit_other,
-  word-without_bit_other,
-)
+summarizes_emptied lower upper k s z u = record {
+  exact = λ w. elim (cases_eq w (k / 64)) [
+    | inl e ↦ rw e (has_bit-without_bit_same upper (k / 64) u ∙ ap (nat_lt 0) (sym z))
+    | inr apart ↦ has_bit-without_bit_other upper (k / 64) w apart u ∙ s.exact w ∙ ap (nat_lt 0) (sym (word-without_bit_other lower k w apart))
+  ];
+}
 
 -- clearing a bit adds none
 pub word-without_bit_le : (ws : List ℕ) (k : ℕ) → k / 64 < length ws → get_or (without_bit ws k) (k / 64) 0 ≤ get_or ws (k / 64) 0
@@ -136,7 +129,15 @@ word-without_bit_le ws k l = rw get_or-set_same (and_le_l _ _)
 -- a word that keeps a bit stays marked
 pub summarizes_kept : (lower upper : List ℕ) (k : ℕ) → Summarizes lower upper → (get_or (without_bit lower k) (k / 64) 0 ≡ 0 → ⊥) → k / 64 < length lower →
     Summarizes (without_bit lower k) upper
-summarizes_kept lower upper k s ne l = grind (arith, common_steps, cases_eq, word-without_bit_le, lt-ltb, word-without_bit_other)
+summarizes_kept lower upper k s ne l = record {
+  exact = λ w. elim (cases_eq w (k / 64)) [
+    | inl e ↦
+        let new : 0 < get_or (without_bit lower k) (k / 64) 0 = omega (arith, ne) in
+        let old : 0 < get_or lower (k / 64) 0 = omega (arith, word-without_bit_le lower k l) in
+        rw e (s.exact (k / 64) ∙ lt-ltb _ _ old ∙ sym (lt-ltb _ _ new))
+    | inr apart ↦ s.exact w ∙ ap (nat_lt 0) (sym (word-without_bit_other lower k w apart))
+  ];
+}
 
 -- the lowest bit of the first word that has any
 
@@ -149,7 +150,12 @@ lowest_of_first ws at f fits =
     let place : (at * 64 + trailing_zeros w64 (get_or ws at 0)) % 64 ≡ trailing_zeros w64 (get_or ws at 0) = omega arith in
     record {
       set = has_bit_one ws _ (rw (word, place) found.1);
-      below = λ j l. grind (arith, common_steps, cases_lt, has_bit_of_zero, has_bit_zero);
+      below = λ j l. elim (cases_lt (j / 64) at) [
+        | inl before ↦ has_bit_of_zero ws j (f.before (j / 64) before)
+        | inr after ↦
+            let here : j / 64 ≡ at = omega arith in
+            has_bit_zero ws j (rw here (found.2 (j % 64) (omega arith)))
+      ];
     }
 
 -- a range
@@ -242,14 +248,17 @@ pub summarizes-appended_above : (n : ℕ) (lower upper upper' : List ℕ) → Su
 summarizes-appended_above n lower upper upper' s a = record { exact = λ w. has_bit-appended n upper upper' w a ∙ s.exact w }
 
 pub summarizes-appended_below : (n : ℕ) (lower lower' upper : List ℕ) → Summarizes lower upper → lower' ≡ lower ++ replicate n 0 → Summarizes lower' upper
-summarizes-appended_below n lower lower' upper s a = grind (arith, common_steps, get_or-zeros)
+summarizes-appended_below n lower lower' upper s a = record {
+  exact = λ w. s.exact w ∙ ap (nat_lt 0) (sym (ap (λ ws. get_or ws w 0) a ∙ get_or-zeros lower n w));
+}
 
 -- one level down
 
 -- the lowest bit above names the first word below that has a bit
 -- what has no bit above has none below
 pub none_of_none : (lower upper : List ℕ) (k : ℕ) → Summarizes lower upper → ((w : ℕ) → has_bit upper w ≡ false) → has_bit lower k ≡ false
-none_of_none lower upper k s none = grind (arith, common_steps, ltb-false, has_bit_of_zero)
+none_of_none lower upper k s none =
+    has_bit_of_zero lower k (omega (arith, ltb-false 0 (get_or lower (k / 64) 0) (sym (s.exact (k / 64)) ∙ none (k / 64))))
 
 -- the place of a word with a bit lies within the words
 pub within_of_word : (ws : List ℕ) (w : ℕ) → 0 < get_or ws w 0 → w < length ws
@@ -266,12 +275,16 @@ zeros_after x ws (suc k) z below = below k (omega arith)
 
 first_later : (n x : ℕ) (ws : List ℕ) (r : Option ℕ) → x ≡ 0 → FirstFrom (n + 1) ws r → FirstFrom n (x ∷ ws) r
 first_later n x ws None z rest = λ k. zeros_after x ws k z (λ j l. rest j)
-first_later n x ws (Some p) z rest = grind (arith, common_steps, zeros_after)
+first_later n x ws (Some p) z rest =
+    let e : p - n ≡ suc (p - (n + 1)) = omega (arith, rest.0) in
+    (omega (arith, rest.0), rw e rest.1, λ k l. zeros_after x ws k z (λ j h. rest.2 j (omega (arith, l, h, e))))
 
 first_here : (n x : ℕ) (ws : List ℕ) (b : Bool) → nat_lt 0 x ≡ b → FirstFrom (n + 1) ws (position_from (λ w. nat_lt 0 w) (n + 1) ws) →
     FirstFrom n (x ∷ ws) (cond b (Some n) (position_from (λ w. nat_lt 0 w) (n + 1) ws))
-first_here n x ws true e rest = grind (arith, common_steps, ltb-true)
-first_here n x ws false e rest = grind (arith, common_steps, first_later, ltb-false)
+first_here n x ws true e rest =
+    let z : n - n ≡ 0 = omega arith in
+    (omega arith, rw z (ltb-true 0 x e), λ k l. absurd (omega (arith, l)))
+first_here n x ws false e rest = first_later n x ws _ (omega (arith, ltb-false 0 x e)) rest
 
 pub first_from : (n : ℕ) (ws : List ℕ) → FirstFrom n ws (position_from (λ w. nat_lt 0 w) n ws)
 first_from n [] = λ k. refl
@@ -279,7 +292,7 @@ first_from n (x ∷ ws) = first_here n x ws (nat_lt 0 x) refl (first_from (n + 1
 
 first_is : (ws : List ℕ) (r : Option ℕ) → FirstFrom 0 ws r → MatchOption r ((k : ℕ) → get_or ws k 0 ≡ 0) (IsFirstWord ws)
 first_is ws None f = f
-first_is ws (Some p) f = grind (arith, common_steps)
+first_is ws (Some p) f = let e : p - 0 ≡ p = omega arith in record { marked = rw e at f.1; before = rw e at f.2 }
 
 pub first_word_or_none : (ws : List ℕ) (r : Option ℕ) → r ≡ position_from (λ w. nat_lt 0 w) 0 ws → MatchOption r ((k : ℕ) → get_or ws k 0 ≡ 0) (IsFirstWord ws)
 first_word_or_none ws r e = first_is ws r (rw e (first_from 0 ws))

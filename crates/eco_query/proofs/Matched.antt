@@ -1,5 +1,6 @@
 -- Lists that are searched, mapped and joined.
-use Rattle.eco_ids.proofs.Common.{◌≡◌, ℕ, Bool, true, false, ◌&&◌, ◌||◌, List, [], ◌∷◌, ◌++◌, length, map, is_some, if◌then◌else◌, Some, flat_map, refl, ap, list_any}
+use Rattle.eco_ids.proofs.Common.{◌≡◌, ℕ, Bool, true, false, ◌&&◌, ◌||◌, List, [], ◌∷◌, ◌++◌, length, map, is_some, if◌then◌else◌, Some, flat_map, refl}
+use Rattle.eco_ids.proofs.Common.{ap, list_any}
 use Rattle.eco_ids.proofs.Common.{◌+◌, ◌<◌, take, get_or, take_more, map-append, append_assoc, append-nil, sym, ◌∙◌}
 use Rattle.std.proofs.lemmas.Grind.{flat_map-append}
 use Rattle.eco_ids.proofs.Common.{list_all}

@@ -1,5 +1,6 @@
 -- The refusals of a query, in their order.
-use Rattle.eco_ids.proofs.Common.{◌≡◌, ℕ, ◌≤◌, false, ◌&&◌, List, [], ◌∷◌, ◌++◌, length, Option, Result, Some, None, Err, sym, refl, ap, ◌∙◌, subst, inl, inr, lt-ltb}
+use Rattle.eco_ids.proofs.Common.{◌≡◌, ℕ, ◌≤◌, false, ◌&&◌, List, [], ◌∷◌, ◌++◌, length, Option, Result, Some, None, Err, sym, refl, ap, ◌∙◌, subst, inl}
+use Rattle.eco_ids.proofs.Common.{inr, lt-ltb}
 use Rattle.std.specs.Prelude.{IsOk}
 use Rattle.eco_ids.specs.declared.entity.Entity.{Entity}
 use Rattle.eco_ids.specs.declared.refusal.Refusal.{Refusal}

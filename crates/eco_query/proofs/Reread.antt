@@ -1,6 +1,7 @@
 -- The canonical text of a query spells that query.
 use Rattle.eco_ids.proofs.Common.{◌≡◌, ℕ, suc, ◌-◌, ◌≤◌, true, false, List, [], ◌∷◌, ◌++◌, length, nat_lt, flat_map, codes}
-use Rattle.eco_ids.proofs.Common.{Ok, Option, sym, refl, ap, ◌∙◌, subst, inl, inr, append_assoc, arith, length-append, length-map, le-ltb, list_any, AllByRecursion}
+use Rattle.eco_ids.proofs.Common.{Ok, Option, sym, refl, ap, ◌∙◌, subst, inl, inr, append_assoc, arith, length-append, length-map, le-ltb, list_any}
+use Rattle.eco_ids.proofs.Common.{AllByRecursion}
 use Rattle.eco_ids.specs.declared.entity.Entity.{Entity}
 use Rattle.eco_ids.specs.declared.id.Id.{Id}
 use Rattle.eco_ids.specs.declared.id.Id.TheVariants.{One, Two}
@@ -94,7 +95,10 @@ module _ (size : ℕ) where
       let a = part_text p ++ b in
       let inside : length a ≤ size = behind (codes "(") a size (subst (λ u. length u ≤ size) same le) in
       let last : length (part_text q ++ d) ≤ size = behind (codes ", ") (part_text q ++ d) size (behind (part_text p) b size inside) in
-      (a, b, part_text q ++ d, d, ([], refl, same), part_spelled p [] b refl hp inside, (codes " ", refl, refl), part_spelled q [] d refl hq last, (white, w, refl))
+      (
+        a, b, part_text q ++ d, d, ([], refl, same), part_spelled p [] b refl hp inside, (codes " ", refl, refl), part_spelled q [] d refl hq last,
+        (white, w, refl),
+      )
 
   more_spelled : (i : Id) (is : List Id) (v : List ℕ) → AllByRecursion (λ j. IsPattern (exactly j)) (i ∷ is)
       → length ((id_text i ++ others_text is) ++ v) ≤ size
@@ -155,7 +159,8 @@ module _ (size : ℕ) where
         body_spelled t v h (behind (codes "[none] ") u size le),
       )
 
-  slots_spelled : (ss : List QuerySlot) → AllByRecursion (λ s. IsTerm s.term) ss → length (more_text ss) ≤ size → AreSlots size (more_text ss) (slots_written ss)
+  slots_spelled : (ss : List QuerySlot) → AllByRecursion (λ s. IsTerm s.term) ss → length (more_text ss) ≤ size
+      → AreSlots size (more_text ss) (slots_written ss)
   slots_spelled [] h le = refl
   slots_spelled (s ∷ ss) (h, hs) le =
       let here : length (slot_text s ++ more_text ss) ≤ size = behind (codes ", ") (slot_text s ++ more_text ss) size le in (
@@ -264,5 +269,6 @@ query_reread ss q entity_named =
     let ws = slots_written size ss in
     let means = slots_mean size entity_named ss q.terms in
     let few : count_atoms ws ≤ 32 = subst (λ n. n ≤ 32) (sym (count_slots size ss)) q.few in
-    let known = query_known entity_named ws ss (le-ltb 32 (count_atoms ws) few) (slots_placed size ss q.terms) (slots_positive entity_named ws ss means ∙ q.positive) means in
+    let known = query_known entity_named ws ss (le-ltb 32 (count_atoms ws) few) (slots_placed size ss q.terms)
+    (slots_positive entity_named ws ss means ∙ q.positive) means in
     inl (ws, spelled_again ss q, sym known)

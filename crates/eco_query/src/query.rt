@@ -1,5 +1,5 @@
 //! Queries: what their slots ask of an entity.
-ghost use Rattle.std.specs.Prelude.{◌≡◌, ◌↔◌, IfOk, IsTrue, Some, codes, flat_map, map, string_bytes};
+ghost use Rattle.std.specs.Prelude.{◌≡◌, ◌↔◌, ◌++◌, IfOk, IsTrue, Some, codes, flat_map, map, string_bytes};
 ghost use Rattle.std.specs.List.{list_all};
 ghost use Rattle.eco_query.specs.Canonical.{joined_by, query_text, slot_text};
 ghost use Rattle.eco_query.specs.Queries.{holds, patterns_of, slot_view, term_view};
@@ -149,10 +149,24 @@ impl fmt::Display for Slots<'_> {
 
     fn fmt<W: fmt::Write>(&self, f: &mut fmt::Formatter<W>) -> fmt::Result {
         if let Some((first, rest)) = self.0.split_first() {
-            write!(f, "{first}")?;
-            for slot in rest {
-                write!(f, ", {slot}")?;
-            }
+            let others = Others(rest);
+            return write!(f, "{first}{others}");
+        }
+        Ok(())
+    }
+}
+
+// The slots of a query behind its first, each behind `, `.
+#[derive(Drop)]
+struct Others<'a>(&'a [Slot]);
+
+impl fmt::Display for Others<'_> {
+    ghost output = { λ others. Some
+        (flat_map (λ s. codes ", " ++ slot_text (slot_view s)) others.0.now) };
+
+    fn fmt<W: fmt::Write>(&self, f: &mut fmt::Formatter<W>) -> fmt::Result {
+        for slot in self.0 {
+            write!(f, ", {slot}")?;
         }
         Ok(())
     }

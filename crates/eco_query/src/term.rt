@@ -1,8 +1,9 @@
 //! What a slot of a query asks of an entity.
-ghost use Rattle.std.specs.Prelude.{◌≡◌, ◌++◌, IfOk, OnOk, Some, map};
+ghost use Rattle.std.specs.Prelude.{◌≡◌, ◌++◌, IfOk, OnOk, Some, codes, flat_map, map};
 ghost use Rattle.std.specs.List.{list_any};
 ghost use Rattle.eco_ids.specs.Matching.{pattern_matches};
 ghost use Rattle.eco_ids.specs.Order.{has_item, id_cmp};
+ghost use Rattle.eco_ids.specs.Text.{id_text};
 ghost use Rattle.eco_query.specs.Canonical.{alternatives_text, term_text};
 ghost use Rattle.eco_query.specs.Queries as queries;
 ghost use Rattle.eco_query.specs.Queries.{term_view, holds, patterns_of};
@@ -111,10 +112,23 @@ impl fmt::Display for Alternatives<'_> {
 
     fn fmt<W: fmt::Write>(&self, f: &mut fmt::Formatter<W>) -> fmt::Result {
         if let Some((first, rest)) = self.0.split_first() {
-            write!(f, "{first}")?;
-            for id in rest {
-                write!(f, " || {id}")?;
-            }
+            let others = Others(rest);
+            return write!(f, "{first}{others}");
+        }
+        Ok(())
+    }
+}
+
+// The ids of a group behind its first, each behind ` || `.
+#[derive(Drop)]
+struct Others<'a>(&'a [Id]);
+
+impl fmt::Display for Others<'_> {
+    ghost output = { λ others. Some (flat_map (λ i. codes " || " ++ id_text i) others.0.now) };
+
+    fn fmt<W: fmt::Write>(&self, f: &mut fmt::Formatter<W>) -> fmt::Result {
+        for id in self.0 {
+            write!(f, " || {id}")?;
         }
         Ok(())
     }

@@ -1,5 +1,5 @@
 //! The least set that holds the roots and whatever its members lead to.
-ghost use Rattle.std.specs.Prelude.{◌≡◌, ◌<◌, ◌↔◌, true, length, List, IfOk, OnOk, IsTrue};
+ghost use Rattle.std.specs.Prelude.{◌≡◌, ◌<◌, ◌↔◌, [], true, length, List, IfOk, OnOk, IsTrue};
 ghost use Rattle.indexmap.specs.IndexSet.{insert_all};
 ghost use Rattle.eco_search.specs.Search.{Appends, Covers, IsInLeast, IsLeastSet, IsTurn};
 
@@ -61,13 +61,27 @@ pub fn is_in_least_set<G: Graph>(
 {
     let mut members = IndexSet::new(alloc);
     let mut found = Vec::new(alloc);
-    note_all(&mut members, roots)?;
+    is_found(graph, roots, goal, &mut members, &mut found)
+}
+
+// Whether a search that begins with no member finds the node.
+fn is_found<G: Graph>(
+    graph: &G,
+    roots: &[G::Node],
+    goal: G::Node,
+    members: &mut IndexSet<G::Node>,
+    found: &mut Vec<G::Node>,
+) -> Result<bool, AllocError>
+    requires { members.old.keys ≡ [] }
+    ensures { IfOk result (λ b. IsTrue b ↔ IsInLeast G.Node.eq (G.leads graph.now) roots.now goal) }
+{
+    note_all(members, roots)?;
     let mut asked = 0;
     while !members.contains(&goal) {
         if asked == members.len() {
             return Ok(false);
         }
-        ask(graph, &mut members, asked, &mut found)?;
+        ask(graph, members, asked, found)?;
         asked += 1;
     }
     Ok(true)

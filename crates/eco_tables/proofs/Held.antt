@@ -4,7 +4,7 @@ use Rattle.std.proofs.Common.{slice_get, Option, Some, None, refl, sym, ap, ◌�
 use Rattle.std.specs.List.{All, list_all, position_from}
 use Rattle.std.specs.Cmp.{tied_itself}
 use Rattle.std.specs.Ordering.{ordering_reverse, is_lt, is_eq}
-use Rattle.std.proofs.lemmas.List.{drop-set-lt, get_or_default, get_or-map, length-map, map-set, take_more_set}
+use Rattle.std.proofs.lemmas.List.{append-nil, drop-set-lt, drop_all, take_all, get_or_default, get_or-map, length-map, map-set, take_more_set}
 use Rattle.std.proofs.lemmas.List.Elements.{All-set, All-push}
 use Rattle.std.proofs.lemmas.Bool.{cases_order}
 use Rattle.std.proofs.lemmas.List.Edits.{map_over_more}
@@ -131,6 +131,20 @@ pub mapped_more : {X : Type 0} (f : X → X) (xs ys : List X) (i : ℕ) (d y : X
     → set ys i y ≡ map f (take (i + 1) xs) ++ drop (i + 1) xs
 mapped_more f xs ys i d y within same done is =
     rw is (map_over_more f xs ys i (get_or ys i d) within done (get_or_default ys i d (get_or ys i d) (omega arith)))
+
+-- what such a loop did not reach yet, and that in the end it reached all
+pub not_yet : {X : Type 0} (f : X → X) (xs ys : List X) (i : ℕ) (d : X) → i < length xs → ys ≡ map f (take i xs) ++ drop i xs
+    → get_or ys i d ≡ get_or xs i d
+not_yet {X = X} f xs ys i d within done = ap (λ zs. get_or zs i d) done ∙ at xs i within
+  where
+    at : (zs : List X) (k : ℕ) → k < length zs → get_or (map f (take k zs) ++ drop k zs) k d ≡ get_or zs k d
+    at [] k h = absurd (omega arith)
+    at (z ∷ zs) zero h = refl
+    at (z ∷ zs) (suc k) h = at zs k (omega arith)
+
+pub mapped_all : {X : Type 0} (f : X → X) (xs ys : List X) (i : ℕ) → length xs ≤ i → ys ≡ map f (take i xs) ++ drop i xs → ys ≡ map f xs
+mapped_all f xs ys i past done =
+    done ∙ ap (λ zs. map f zs ++ drop i xs) (take_all i xs past) ∙ ap (λ zs. map f xs ++ zs) (drop_all i xs past) ∙ append-nil (map f xs)
 
 -- one more turn of a loop that takes room
 pub contents_kept : (ys : List ColumnState) (i : ℕ) (d y : ColumnState) → contents y ≡ contents (get_or ys i d) → map contents (set ys i y) ≡ map contents ys

@@ -1,5 +1,6 @@
 -- A machine that reads a text byte by byte, and stops at the first byte that no sentence has there.
-use Rattle.std.specs.Prelude.{◌≡◌, ◌⊎◌, ◌<◌, take, slice_index, ℕ, ◌+◌, ◌-◌, ◌*◌, ◌==◌, ◌||◌, ◌&&◌, Bool, true, false, not, List, [], ◌∷◌, ◌++◌, length, codes, Option, Some, None, option_map, option_and_then, nat_lt, nat_le, if◌then◌else◌}
+use Rattle.std.specs.Prelude.{◌≡◌, ◌⊎◌, ◌<◌, take, slice_index, ℕ, ◌+◌, ◌-◌, ◌*◌, ◌==◌, ◌||◌, ◌&&◌, Bool, true, false, not, List, [], ◌∷◌, ◌++◌, length}
+use Rattle.std.specs.Prelude.{codes, Option, Some, None, option_map, option_and_then, nat_lt, nat_le, if◌then◌else◌}
 use Rattle.std.specs.Str.{bytes_eq}
 use Rattle.eco_ids.specs.Names.{may_begin, may_follow}
 use Rattle.eco_query.specs.Tokens.{name, handle, is_white, is_digit}

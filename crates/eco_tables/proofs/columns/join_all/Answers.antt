@@ -1,11 +1,17 @@
-use Rattle.std.proofs.Common.{◌≡◌, ◌≤◌, ◌<◌, ◌++◌, arith, ap, sym, ◌∙◌, get_or, length}
+use Rattle.std.proofs.Common.{◌≡◌, ◌≤◌, ◌<◌, ◌++◌, arith, ap, sym, ◌∙◌, get_or, length, map, take, drop, refl}
 use Rattle.std.proofs.lemmas.List.{take_all}
-use Rattle.eco_tables.specs.Column.{contents, joined}
+use Rattle.eco_tables.specs.Column.{ColumnState, contents, joined}
 use Rattle.eco_tables.specs.Table.{rows_from}
-use Rattle.eco_tables.proofs.Held.{joined_more, place_id, place_within, rest_at, rest_more, room_more}
+use Rattle.eco_tables.proofs.Held.{joined_more, mapped_all, place_id, place_within, rest_at, rest_more, room_more}
 use Rattle.eco_tables.proofs.Rows.{values_absent, values_at, values_held}
 use Rattle.eco_tables.proofs.columns.join_all.Goals.{in-Some, in-None}
 use Rattle.eco_tables.proofs.columns.join_all.Goals as goal
+
+pub find_column-requires : goal.find_column-requires
+find_column-requires c = c.requires.ascending
+
+pub bounds-source-place : goal.bounds-source-place
+bounds-source-place c = place_within _ _ _ c.in-Some.ensures.found
 
 pub join-requires-clause-room : goal.join-requires-clause-room
 join-requires-clause-room c =
@@ -72,3 +78,10 @@ loop-column-preserved c =
 
 pub returns-clause-kept : goal.returns-clause-kept
 returns-clause-kept c = λ b h. rw (take_all c.loop-column.column-index c.loop-column.columns (omega arith)) at (c.loop-column.invariant.room b h)
+
+pub returns-clause-same : goal.returns-clause-same
+returns-clause-same c =
+    let xs = c.args.columns.now in
+    let f = λ (x : ColumnState). joined x (values_held (rows_from c.args.source.now 0 c.args.entities.now) x.id) in
+    let k = c.loop-column.column-index in
+    c.loop-column.invariant.same ∙ ap (map contents) (mapped_all f xs (map f (take k xs) ++ drop k xs) k (omega arith) refl)

@@ -1,9 +1,50 @@
-use Rattle.std.proofs.Common.{arith, ap, sym, ◌∙◌, get_or, unwrap_or}
+use Rattle.std.proofs.Common.{◌≡◌, ◌<◌, arith, ap, sym, ◌∙◌, get_or, length, unwrap_or, refl}
 use Rattle.eco_ids.specs.World.{zeros}
-use Rattle.eco_tables.specs.Column.{pushed, value_in, held_in}
-use Rattle.eco_tables.proofs.Held.{find-absent, found_at, mapped_more}
+use Rattle.eco_tables.specs.Column.{ColumnState, pushed, value_in, held_in}
+use Rattle.eco_tables.proofs.Held.{find-absent, found_at, mapped_all, mapped_more, not_yet, place_id, place_within}
 use Rattle.eco_tables.proofs.columns.push_from.Goals.{in-Some, in-None}
 use Rattle.eco_tables.proofs.columns.push_from.Goals as goal
+
+pub find_near-requires : goal.find_near-requires
+find_near-requires c = c.requires.ascending
+
+pub bounds-source-place : goal.bounds-source-place
+bounds-source-place c = place_within _ _ _ c.in-Some.ensures.found
+
+pub push_from-requires-clause-room : goal.push_from-requires-clause-room
+push_from-requires-clause-room c =
+    let k = c.loop-column.column-index in
+    let f = λ (x : ColumnState). pushed x (value_in (held_in c.args.source.now c.args.row) x.id) in
+    let same = not_yet f c.args.columns.now c.loop-column.columns k c.column-item.result (omega arith) c.loop-column.invariant in
+    let room : 0 < (get_or c.args.columns.now k c.column-item.result).room = c.requires.room _ _ (omega arith) in
+    rw same room
+
+pub push_from-requires-clause-row : goal.push_from-requires-clause-row
+push_from-requires-clause-row c =
+    let row : c.args.row < length (get_or c.args.source.now c.in-Some.place c.index-source-place.result).values =
+    c.requires.row _ _ (place_within _ _ _ c.in-Some.ensures.found) in
+    rw c.index-source-place.is row
+
+pub push_from-requires-clause-width : goal.push_from-requires-clause-width
+push_from-requires-clause-width c =
+    let k = c.loop-column.column-index in
+    let f = λ (x : ColumnState). pushed x (value_in (held_in c.args.source.now c.args.row) x.id) in
+    let same = not_yet f c.args.columns.now c.loop-column.columns k c.column-item.result (omega arith) c.loop-column.invariant in
+    ap (λ x. x.width) same
+    ∙ c.requires.widths k c.column-item.result (omega arith) c.in-Some.place c.index-source-place.result (place_within _ _ _ c.in-Some.ensures.found)
+    (ap (λ x. x.id) (sym same) ∙ sym c.id.ensures ∙ place_id c.args.source.now c.in-Some.place c.id.result c.in-Some.ensures.found c.index-source-place.result)
+    ∙ sym (ap (λ x. x.width) c.index-source-place.is)
+
+pub push_zeros-requires : goal.push_zeros-requires
+push_zeros-requires c =
+    let k = c.loop-column.column-index in
+    let f = λ (x : ColumnState). pushed x (value_in (held_in c.args.source.now c.args.row) x.id) in
+    let same = not_yet f c.args.columns.now c.loop-column.columns k c.column-item.result (omega arith) c.loop-column.invariant in
+    let room : 0 < (get_or c.args.columns.now k c.column-item.result).room = c.requires.room _ _ (omega arith) in
+    rw same room
+
+pub loop-column-init : goal.loop-column-init
+loop-column-init c = refl
 
 pub loop-column-preserved : goal.loop-column-preserved
 loop-column-preserved c =
@@ -28,3 +69,8 @@ loop-column-preserved c =
           (sym (ap (λ o. unwrap_or o zeros) (find-absent (λ x. get_or x.values row zeros) source c.id.result w.in-None.ensures.absent))
           ∙ ap (λ i. value_in (held_in source row) i) c.id.ensures)))
     ]
+
+pub returns : goal.returns
+returns c =
+    mapped_all (λ x. pushed x (value_in (held_in c.args.source.now c.args.row) x.id)) c.args.columns.now c.loop-column.columns
+    c.loop-column.column-index (omega arith) c.loop-column.invariant

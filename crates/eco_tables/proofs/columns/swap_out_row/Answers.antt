@@ -1,10 +1,25 @@
-use Rattle.std.proofs.Common.{arith}
-use Rattle.eco_tables.specs.Column.{with_removed}
-use Rattle.eco_tables.proofs.Held.{mapped_more}
+use Rattle.std.proofs.Common.{◌<◌, arith, get_or, length, refl}
+use Rattle.eco_tables.specs.Column.{ColumnState, with_removed}
+use Rattle.eco_tables.proofs.Held.{mapped_all, mapped_more, not_yet}
 use Rattle.eco_tables.proofs.columns.swap_out_row.Goals as goal
+
+pub swap_out-requires : goal.swap_out-requires
+swap_out-requires c =
+    let k = c.loop-column.column-index in
+    let f = λ (x : ColumnState). with_removed x c.args.row in
+    let same = not_yet f c.args.columns.now c.loop-column.columns k c.column-item.result (omega arith) c.loop-column.invariant in
+    let there : c.args.row < length (get_or c.args.columns.now k c.column-item.result).values = c.requires _ _ (omega arith) in
+    rw same there
+
+pub loop-column-init : goal.loop-column-init
+loop-column-init c = refl
 
 pub loop-column-preserved : goal.loop-column-preserved
 loop-column-preserved c =
     mapped_more (λ x. with_removed x c.args.row) c.args.columns.now c.loop-column.columns c.loop-column.column-index c.column-item.result c.swap_out.new.self
     (omega arith)
     c.loop-column.auto.columns c.loop-column.invariant c.swap_out.ensures
+
+pub returns : goal.returns
+returns c =
+    mapped_all (λ x. with_removed x c.args.row) c.args.columns.now c.loop-column.columns c.loop-column.column-index (omega arith) c.loop-column.invariant

@@ -1,4 +1,6 @@
-use Rattle.std.proofs.Common.{sym, ◌∙◌}
+use Rattle.std.proofs.Common.{ap, sym, ◌∙◌}
+use Rattle.std.proofs.lemmas.Result.{err_from_is_err_and}
+use Rattle.eco_store.specs.Store.{StoreState}
 use Rattle.eco_store.proofs.Exchanges.{exchanged_as, has_at}
 use Rattle.eco_store.proofs.RowCounts.{own_fits, end_fits}
 use Rattle.eco_store.proofs.StoreChanges as changes
@@ -52,3 +54,22 @@ returns-clause-ok c =
     rw (← c.self.view_is, c.set_place.ensures, c.fix_place.ensures)
     (changes.to_read c.self.inside.entities _ _ c.args.e c.unwrap-place.result c.in_ok-moved.moved.place _ _ c.self.invariant.store own c.in_ok-moved.ensures.ok
     ∙ exchanged_as c.self.inside.entities _ c.args.e c.unwrap-place.result c.self.invariant.store own c.args.leaving c.args.coming)
+
+pub returns-clause-unprepared : goal.returns-clause-unprepared
+returns-clause-unprepared c = c.exchange_row.ensures.unprepared
+
+-- no room is had
+pub invariant_of-self : goal.invariant_of-self
+invariant_of-self c = record {
+  store = changes.same_store _ _ _ c.in_err-moved.ensures.err c.self.invariant.store;
+  covers = c.exchange_row.ensures.widths c.self.invariant.covers;
+}
+
+pub returns-in_err-moved-clause-err : goal.returns-in_err-moved-clause-err
+returns-in_err-moved-clause-err c =
+    let p = err_from_is_err_and c.from_residual.result c.from_residual.ensures.1 in
+    let same = changes.same_read c.self.inside.entities c.self.inside.layout.tables _ c.in_err-moved.ensures.err in
+    rw p.1 (same ∙ ap (λ (x : StoreState). x.entities) c.self.view_is)
+
+pub returns-in_err-moved-clause-unprepared : goal.returns-in_err-moved-clause-unprepared
+returns-in_err-moved-clause-unprepared c = c.exchange_row.ensures.unprepared

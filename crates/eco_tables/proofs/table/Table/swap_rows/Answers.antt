@@ -1,6 +1,6 @@
-use Rattle.std.proofs.Common.{◌≡◌, ◌≤◌, ◌++◌, ◌-◌, ◌∷◌, [], List, eqb-true, ap, sym, ◌∙◌, arith, refl, length, map}
+use Rattle.std.proofs.Common.{◌≡◌, ◌≤◌, ◌++◌, ◌-◌, ◌∷◌, [], List, eqb-true, ap, sym, ◌∙◌, arith, refl, length, map, subst, true≢false}
 use Rattle.eco_tables.specs.Column.{kind_of}
-use Rattle.eco_tables.specs.Table.{retyped_row, rows_of, width_among}
+use Rattle.eco_tables.specs.Table.{AreKinds, retyped_row, rows_of, width_among}
 use Rattle.eco_tables.proofs.Rows.{length-rows_of, taken_rows}
 use Rattle.eco_tables.proofs.table.Table.swap_rows.Goals as goal
 
@@ -14,14 +14,17 @@ overflow_sub-self c =
     rw (length-rows_of _ _ _ _ _ c.source.invariant) at (rw (← c.self.view_is, ← c.source.view_is) at c.requires) in
     omega (arith, some, c.len-count.ensures, c.source.inside.entities.ok.0)
 
+alike : (c : goal.After-source-1) → map kind_of c.self.inside.columns.items ≡ map kind_of c.source.inside.columns.items
+alike c =
+    ap (map kind_of) (sym c.as_slice.ensures.value) ∙ c.if-not-are_alike.ensures.0 refl ∙ ap (map kind_of) c.as_slice-else-source-count.ensures.value
+
+none_here : (c : goal.After-source-1) → c.self.inside.entities.items ≡ []
+none_here c = no_items c.self.inside.entities.items (sym c.self.inside.entities.ok.0 ∙ eqb-true _ _ (sym c.if-not-is_empty.ensures))
+
 pub returns-clause-taken : goal.returns-clause-taken
 returns-clause-taken c = λ done.
     let own = c.self.inside in
     let source = c.source.inside in
-    let alike : map kind_of own.columns.items ≡ map kind_of source.columns.items =
-    ap (map kind_of) (sym c.as_slice.ensures.value) ∙ c.if-not-are_alike.ensures.0 refl ∙ ap (map kind_of) c.as_slice-else-source-count.ensures.value in
-    let none : own.entities.items ≡ [] =
-    no_items own.entities.items (sym own.entities.ok.0 ∙ eqb-true _ _ (sym c.if-not-is_empty.ensures)) in
     let count : c.len-count.result ≡ length (rows_of source.type_list source.columns.items source.entities.items) =
     c.len-count.ensures ∙ source.entities.ok.0 ∙ sym (length-rows_of _ _ _ _ _ c.source.invariant) in
     let rows : rows_of own.type_list c.swap-2.new.x.items c.swap.new.x.items
@@ -30,11 +33,48 @@ returns-clause-taken c = λ done.
     (λ t. rows_of own.type_list (c.swap-2.ensures.x_after t).items (c.swap.ensures.x_after t).items)
     ∙ taken_rows own.type_list source.type_list source.columns.items c.source.invariant.kinds 0 source.entities.items
     ∙ sym (ap (λ es. rows_of own.type_list own.columns.items es
-    ++ map (retyped_row own.type_list) (rows_of source.type_list source.columns.items source.entities.items)) none) in
-    let kinds : map kind_of c.swap-2.new.x.items ≡ map kind_of own.columns.items = (λ t. map kind_of (c.swap-2.ensures.x_after t).items) ∙ sym alike in
+    ++ map (retyped_row own.type_list) (rows_of source.type_list source.columns.items source.entities.items)) (none_here c)) in
+    let kinds : map kind_of c.swap-2.new.x.items ≡ map kind_of own.columns.items = (λ t. map kind_of (c.swap-2.ensures.x_after t).items) ∙ sym (alike c) in
     rw (← c.self.view_is, ← c.source.view_is) (λ t. record {
       ids = own.type_list;
       widths = map (width_among (kinds t)) own.type_list;
       rows = rows t;
       room = own.room - count t;
     })
+
+pub returns-clause-left : goal.returns-clause-left
+returns-clause-left c = λ done.
+    let own = c.self.inside in
+    let source = c.source.inside in
+    let kinds : map kind_of c.swap-2.new.y.items ≡ map kind_of source.columns.items = (λ t. map kind_of (c.swap-2.ensures.y_after t).items) ∙ alike c in
+    let rows : rows_of source.type_list c.swap-2.new.y.items c.swap.new.y.items ≡ [] =
+    (λ t. rows_of source.type_list (c.swap-2.ensures.y_after t).items (c.swap.ensures.y_after t).items)
+    ∙ ap (rows_of source.type_list own.columns.items) (none_here c) in
+    rw (← c.source.view_is) (λ t. record {
+      ids = source.type_list;
+      widths = map (width_among (kinds t)) source.type_list;
+      rows = rows t;
+      room = 0;
+    })
+
+pub returns-clause-same : goal.returns-clause-same
+returns-clause-same c = λ h. absurd (true≢false h)
+
+pub returns-clause-kept : goal.returns-clause-kept
+returns-clause-kept c = λ h. absurd (true≢false h)
+
+pub invariant_of-self : goal.invariant_of-self
+invariant_of-self c = rw (c.swap.ensures.x_after, c.swap-2.ensures.x_after) record {
+  kinds = subst (AreKinds c.self.inside.type_list) (alike c) c.self.invariant.kinds;
+  even = c.source.invariant.even;
+  roomy = λ k d in_cs. omega (arith, c.source.invariant.roomy k d in_cs);
+  rows_room = omega (arith, c.source.invariant.rows_room);
+}
+
+pub invariant_of-source : goal.invariant_of-source
+invariant_of-source c = rw (c.swap.ensures.y_after, c.swap-2.ensures.y_after) record {
+  kinds = subst (AreKinds c.source.inside.type_list) (sym (alike c)) c.source.invariant.kinds;
+  even = c.self.invariant.even;
+  roomy = λ k d in_cs. omega arith;
+  rows_room = omega (arith, c.self.invariant.rows_room);
+}

@@ -1,4 +1,4 @@
-use Rattle.std.proofs.Common.{◌≡◌, [], Some, ap, sym, set, subst}
+use Rattle.std.proofs.Common.{◌≡◌, [], Some, arith, ap, sym, set, subst}
 use Rattle.eco_tables.specs.Tables.{Sets}
 use Rattle.eco_tables.proofs.RowIds.{none_lacks}
 use Rattle.eco_tables.proofs.Slots.{reused, reused_slot, sets_slot}
@@ -21,3 +21,13 @@ returns-in-Some-clause-sets c =
     c.in_ok-table.ensures
     (sets_slot c.self.inside.slots.items c.in-Some.slot (Some c.in_ok-table.table)
     (reused_slot _ _ _ c.self.invariant c.pop.new.self.items c.in-Some.slot c.in-Some.ensures.items).0))
+
+pub index_mut-requires : goal.index_mut-requires
+index_mut-requires c =
+    let within = (reused_slot _ _ _ c.self.invariant c.pop.new.self.items c.in-Some.slot c.in-Some.ensures.items).0 in
+    omega (arith, within, c.self.inside.slots.ok.0)
+
+pub insert_last-requires-clause-rows : goal.insert_last-requires-clause-rows
+insert_last-requires-clause-rows c =
+    let none : [] ≡ c.in_ok-table.table.rows = sym (ap (λ t. t.rows) c.in_ok-table.ensures) in
+    none_lacks c.in_ok-table.table none

@@ -1,6 +1,6 @@
 use Rattle.std.proofs.Common.{◌+◌, ◌-◌, length}
 use Rattle.eco_search.proofs.Search.{IsSearch, left_of}
-use Rattle.eco_search.proofs.least.is_in_least_set.Given as goal
+use Rattle.eco_search.proofs.least.is_found.Given as goal
 
 abbrev pub invariant-loop-goal : goal.invariant-loop-goal
 invariant-loop-goal g l =

@@ -1,11 +1,11 @@
 use Rattle.std.proofs.Common.{◌<◌, true≢false, refl, sym, ◌∙◌, length, arith}
 use Rattle.eco_search.proofs.Search.{search_starts, search_ends, turn_goes_on, turn_pays}
-use Rattle.eco_search.proofs.least.is_in_least_set.Goals as goal
+use Rattle.eco_search.proofs.least.is_found.Goals as goal
 
 pub loop-goal-init : goal.loop-goal-init
 loop-goal-init g c =
     search_starts g.G.Node.PartialEq.eq g.met.G.Node.Eq.laws g.met.G.Graph.same (g.G.Graph.leads c.args.graph.now) c.args.roots.now
-    _ _ c.new-members.ensures.empty c.in_ok-note_all.ensures
+    _ _ c.requires c.in_ok-note_all.ensures
 
 pub loop-goal-smaller : goal.loop-goal-smaller
 loop-goal-smaller g c =

@@ -1,10 +1,10 @@
 use Rattle.eco_ids.proofs.Common.{◌++◌, take, codes, flat_map, HasWritten, IsPlainFormatter}
 use Rattle.eco_query.specs.Canonical.{slot_text}
 use Rattle.eco_query.specs.Queries.{slot_view}
-use Rattle.eco_query.proofs.query.SlotsDisplay.fmt.Given as goal
+use Rattle.eco_query.proofs.query.OthersDisplay.fmt.Given as goal
 
 -- the slots so far, each behind its comma
 abbrev pub invariant-loop-slot : goal.invariant-loop-slot
 invariant-loop-slot g l =
     IsPlainFormatter l.initial.f →
-    HasWritten g.W.Write.write_str_gives l.initial.f (flat_map (λ s. codes ", " ++ slot_text (slot_view s)) (take l.slot-index l.rest)) l.f
+    HasWritten g.W.Write.write_str_gives l.initial.f (flat_map (λ s. codes ", " ++ slot_text (slot_view s)) (take l.slot-index l.self.0.now)) l.f

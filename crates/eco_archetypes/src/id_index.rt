@@ -1,7 +1,8 @@
 //! For each pattern, the slots of the tables whose types have an id that it matches.
-ghost use Rattle.std.specs.Prelude.{◌≡◌, ℕ, Some, true, false, nat_eq, OnOk, OnErr, IfSome, IfNone};
-ghost use Rattle.std.specs.Option.{option_copied};
-ghost use Rattle.std.specs.HashMap.{get};
+ghost use Rattle.std.specs.Prelude.{◌≡◌, ◌<◌, ℕ, Some, None, true, false, nat_eq, slice_get, OnOk, OnErr, IfSome, IfNone};
+ghost use Rattle.std.specs.Option.{option_copied, option_map};
+ghost use Rattle.std.specs.HashMap.{get, Updates};
+ghost use Rattle.indexmap.specs.IndexMap.{index_map_len};
 ghost use Rattle.std.specs.List.{list_any, IsDistinct};
 ghost use Rattle.eco_ids.specs.Matching.{pattern_matches};
 ghost use Rattle.eco_ids.specs.declared.pattern.Pattern.{Pattern as Patterns};
@@ -17,10 +18,10 @@ use eco_ids::{Entity, Id, Part, Pattern};
 use indexmap::IndexMap;
 use std::alloc::{AllocError, Global};
 
-mod flags;
 mod key;
 mod marks;
 mod names;
+mod numbers;
 mod shortest;
 mod slots;
 mod turning;
@@ -77,55 +78,91 @@ impl IdIndex {
     }
 
     // The slots that are listed under the key, if there are any. Most entities are in no type, so mostly the marks tell.
-    #[inline]
+    #[inline(always)]
     fn kept(&self, key: Key) -> Option<&Slots>
         ensures { option_copied result ≡ get same_key self.now.slots key }
     {
-        if self.marks.may_keep(key) {
-            self.look_up(key)
-        } else {
-            None
+        if !self.marks.may_keep(key) {
+            return None;
         }
+        let (_, slots) = self.find(key)?;
+        Some(slots)
     }
 
-    // What `kept` does where the marks don't tell, apart, so that they cost no call.
+    // Where the key stands, with the slots that are listed under it, if it is kept. Most keys stand where they stood last. It is
+    // apart, so that the marks of a key that is not kept cost no call.
     #[inline(never)]
-    fn look_up(&self, key: Key) -> Option<&Slots>
-        ensures { option_copied result ≡ get same_key self.now.slots key }
+    fn find(&self, key: Key) -> Option<(usize, &Slots)>
+        ensures at { IfSome result (λ p. slice_get self.now.slots.entries p.0 ≡ Some (key, p.1.now)) }
+        ensures value { option_map (λ p. p.1.now) result ≡ get same_key self.now.slots key }
     {
-        self.slots.get(&key)
+        let place = self.marks.place(key)?;
+        if let Some((own, slots)) = self.slots.get_index(place)
+            && *own == key
+        {
+            return Some((place, slots));
+        }
+        self.look_up(key)
     }
 
-    // Lists the slot under the key. An `Err` changes nothing that is listed. The key is looked up once: it gets this slot alone,
-    // and where it had others before, they come back with this one among them.
+    // What `find` does where the key stands elsewhere, if it is kept.
+    fn look_up(&self, key: Key) -> Option<(usize, &Slots)>
+        ensures at { IfSome result (λ p. slice_get self.now.slots.entries p.0 ≡ Some (key, p.1.now)) }
+        ensures value { option_map (λ p. p.1.now) result ≡ get same_key self.now.slots key }
+    {
+        let (place, _, slots) = self.slots.get_full(&key)?;
+        Some((place, slots))
+    }
+
+    // Lists the slot under the key. An `Err` changes nothing that is listed.
     fn add(&mut self, alloc: Global, key: Key, slot: usize) -> Result<(), AllocError>
         ensures ok { OnOk result
             (Turns true (has_key key) (lists_of self.old.slots) (lists_of self.new.slots) slot) }
         ensures err { OnErr result (ListsSame (lists_of self.old.slots) (lists_of self.new.slots)) }
     {
-        self.marks.mark(key)?;
-        let (place, before) = self.slots.insert_full(key, Slots::One(slot))?;
-        let Some(mut slots) = before else {
-            return Ok(());
+        let Some((place, _)) = self.find(key) else {
+            return self.add_key(key, slot);
         };
-        let added = slots.add(alloc, slot);
         let (_, own) = self.slots.pair_mut(place);
-        *own = slots;
-        added
+        own.add(alloc, slot)
+    }
+
+    // Lists the slot under a key that is not kept, which stands last then. An `Err` changes nothing that is listed.
+    fn add_key(&mut self, key: Key, slot: usize) -> Result<(), AllocError>
+        requires { get same_key self.old.slots key ≡ None }
+        ensures ok { OnOk result
+            (Turns true (has_key key) (lists_of self.old.slots) (lists_of self.new.slots) slot) }
+        ensures err { OnErr result (ListsSame (lists_of self.old.slots) (lists_of self.new.slots)) }
+    {
+        self.marks.note(key, self.slots.len())?;
+        let _ = self.slots.insert(key, Slots::One(slot))?;
+        Ok(())
     }
 
     // Takes the slot off the key's list, and with the last one the list. It takes no memory.
     fn take(&mut self, key: Key, slot: usize)
         ensures { Turns false (has_key key) (lists_of self.old.slots) (lists_of self.new.slots) slot }
     {
-        let Some((place, _, slots)) = self.slots.get_full(&key) else {
+        let Some((place, slots)) = self.find(key) else {
             return;
         };
         if slots.is_only(slot) {
-            let _ = self.slots.swap_remove_index(place);
+            self.drop_key(place);
         } else {
             let (_, own) = self.slots.pair_mut(place);
             own.take(slot);
+        }
+    }
+
+    // The key at the place goes. The last one comes in its place, which is noted where that takes no memory.
+    fn drop_key(&mut self, place: usize)
+        requires { place < index_map_len self.old.slots }
+        ensures { IfSome (slice_get self.old.slots.entries place)
+            (λ e. Updates same_key self.old.slots self.new.slots e.0 None) }
+    {
+        let _ = self.slots.swap_remove_index(place);
+        if let Some((moved, _)) = self.slots.get_index(place) {
+            let _ = self.marks.note(*moved, place);
         }
     }
 

@@ -30,7 +30,7 @@ impl IdIndex {
     }
 
     // Whether a slot is listed under the key.
-    #[inline]
+    #[inline(always)]
     fn keeps(&self, key: Key) -> bool
         ensures { result ≡ is_some (get same_key self.now.slots key) }
     {

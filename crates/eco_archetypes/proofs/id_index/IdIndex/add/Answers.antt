@@ -1,52 +1,43 @@
-use Rattle.std.proofs.Common.{true, true≢false, Some, sym, ap, ◌∙◌, cond, nat_eq}
+use Rattle.std.proofs.Common.{true, true≢false, is_some, slice_get, Some, ap, ◌∙◌, cond, nat_eq}
 use Rattle.indexmap.specs.IndexMap.{with_value_at}
-use Rattle.eco_archetypes.specs.declared.id_index.slots.Slots.TheVariants.{One}
 use Rattle.eco_archetypes.specs.IdIndex.{has_slot, is_empty}
 use Rattle.eco_ids.proofs.Results.{on_err, on_ok}
-use Rattle.eco_archetypes.proofs.Keys.{as_before, more_marks, none_empty, still_marked, turned}
-use Rattle.eco_archetypes.proofs.Places.{put_back}
+use Rattle.eco_archetypes.proofs.Keys.{as_before, none_empty, still_marked, turned}
+use Rattle.eco_archetypes.proofs.Places.{same_slots, written_at}
 use Rattle.eco_archetypes.proofs.id_index.IdIndex.add.Goals as goal
 
-pub invariant_of-self-2 : goal.invariant_of-self-2
-invariant_of-self-2 c =
+pub invariant_of-self : goal.invariant_of-self
+invariant_of-self c =
     let own = c.args.self.now in
-    let m1 = c.insert_full.new.self in
-    let m' = with_value_at m1 c.in_ok-place.place c.add-added.new.self in
-    let is = c.in_ok-place.ensures in
-    let had = sym is.old ∙ c.in-Some.is in
-    let puts = put_back own.slots m1 c.args.key _ c.in_ok-place.place c.in-Some.slots (One c.args.slot) _ had is.entries is.index
-    c.pair_mut-own.ensures.value c.pair_mut-own.ensures.unique is.updates c.add-added.new.self in
+    let m' = with_value_at own.slots c.in-Some.place c.add.new.self in
+    let e = c.pair_mut-own.ensures in
+    let puts = written_at own.slots c.args.key c.in-Some.place _ c.in-Some.ensures.at e.unique c.add.new.self in
+    let had = ap Some (same_slots (slice_get own.slots.entries c.in-Some.place) _ _ e.value c.in-Some.ensures.at) ∙ c.in-Some.ensures.value in
     record {
-      full = none_empty own.slots m' c.args.key (Some c.add-added.new.self) puts own.full
-          (c.add-added.ensures.full (ap is_empty (sym had) ∙ own.full c.args.key));
-      marked = still_marked own.slots m' c.args.key (Some c.add-added.new.self) puts c.mark.new.self
-          (more_marks own.marks c.mark.new.self own.slots c.mark.ensures.kept own.marked)
-          (λ unmarked. absurd (true≢false (sym c.in_ok-mark.ensures.ok ∙ unmarked)));
+      full = none_empty own.slots m' c.args.key (Some c.add.new.self) puts own.full (c.add.ensures.full (ap is_empty had ∙ own.full c.args.key));
+      marked = still_marked own.slots m' c.args.key (Some c.add.new.self) puts own.marks own.marked
+          (λ unmarked. absurd (true≢false (ap is_some (had ∙ own.marked c.args.key unmarked))));
     }
 
 pub returns-clause-ok : goal.returns-clause-ok
 returns-clause-ok c =
     let m = c.args.self.now.slots in
-    let m1 = c.insert_full.new.self in
-    let m' = with_value_at m1 c.in_ok-place.place c.add-added.new.self in
-    let is = c.in_ok-place.ensures in
-    let had = sym is.old ∙ c.in-Some.is in
-    let puts = put_back m m1 c.args.key _ c.in_ok-place.place c.in-Some.slots (One c.args.slot) _ had is.entries is.index
-    c.pair_mut-own.ensures.value c.pair_mut-own.ensures.unique is.updates c.add-added.new.self in
-    on_ok c.add-added.result
-    (λ changed. turned m m' c.args.key (Some c.add-added.new.self) puts c.args.slot true
-    (λ n. changed n ∙ ap (λ o. cond (nat_eq c.args.slot n) true (has_slot o n)) (sym had)))
-    c.add-added.ensures.ok
+    let m' = with_value_at m c.in-Some.place c.add.new.self in
+    let e = c.pair_mut-own.ensures in
+    let puts = written_at m c.args.key c.in-Some.place _ c.in-Some.ensures.at e.unique c.add.new.self in
+    let had = ap Some (same_slots (slice_get m.entries c.in-Some.place) _ _ e.value c.in-Some.ensures.at) ∙ c.in-Some.ensures.value in
+    on_ok c.add.result
+    (λ changed. turned m m' c.args.key (Some c.add.new.self) puts c.args.slot true
+    (λ n. changed n ∙ ap (λ o. cond (nat_eq c.args.slot n) true (has_slot o n)) had))
+    c.add.ensures.ok
 
 pub returns-clause-err : goal.returns-clause-err
 returns-clause-err c =
     let m = c.args.self.now.slots in
-    let m1 = c.insert_full.new.self in
-    let m' = with_value_at m1 c.in_ok-place.place c.add-added.new.self in
-    let is = c.in_ok-place.ensures in
-    let had = sym is.old ∙ c.in-Some.is in
-    let puts = put_back m m1 c.args.key _ c.in_ok-place.place c.in-Some.slots (One c.args.slot) _ had is.entries is.index
-    c.pair_mut-own.ensures.value c.pair_mut-own.ensures.unique is.updates c.add-added.new.self in
-    on_err c.add-added.result
-    (λ same. as_before m m' c.args.key (Some c.add-added.new.self) puts (λ n. same n ∙ ap (λ o. has_slot o n) (sym had)))
-    c.add-added.ensures.err
+    let m' = with_value_at m c.in-Some.place c.add.new.self in
+    let e = c.pair_mut-own.ensures in
+    let puts = written_at m c.args.key c.in-Some.place _ c.in-Some.ensures.at e.unique c.add.new.self in
+    let had = ap Some (same_slots (slice_get m.entries c.in-Some.place) _ _ e.value c.in-Some.ensures.at) ∙ c.in-Some.ensures.value in
+    on_err c.add.result
+    (λ same. as_before m m' c.args.key (Some c.add.new.self) puts (λ n. same n ∙ ap (λ o. has_slot o n) had))
+    c.add.ensures.err

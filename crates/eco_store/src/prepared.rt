@@ -1,5 +1,5 @@
 //! Moves of entities to other tables that have their room and are not yet made.
-ghost use Rattle.std.specs.Prelude.{◌≡◌, ◌∷◌, ◌↔◌, [], List, ℕ, nat_eq, not, IfOk, IfSome, IfNone, IsTrue, OnOk, OnErr};
+ghost use Rattle.std.specs.Prelude.{◌≡◌, ◌∷◌, ◌↔◌, [], List, ℕ, length, nat_eq, not, IfOk, IfSome, IfNone, IsTrue, OnOk, OnErr};
 ghost use Rattle.std.specs.List.{list_any};
 ghost use Rattle.eco_ids.specs.declared.entity.Entity.{Entity as Entities};
 ghost use Rattle.eco_ids.specs.Order.{entity_eq};
@@ -145,9 +145,10 @@ impl Prepared {
         Ok(())
     }
 
-    /// Whether the slot is one of the idle ones.
+    /// Whether the slot is one of the idle ones, of which there are eight.
     pub fn is_resting(&self, slot: usize) -> bool
-        ensures { result ≡ list_any (nat_eq slot) self.now.idle }
+        ensures resting { result ≡ list_any (nat_eq slot) self.now.idle }
+        ensures few { length self.now.idle ≡ 8 }
     {
         self.idle.contains(&slot)
     }

@@ -24,11 +24,11 @@ use Rattle.eco_ids.proofs.Lists.{slice_get-push_other}
 pub rows_alike : (s s' : List (Option TableState)) → SameRows s s' → rows_in s' ≡ rows_in s
 rows_alike s s' same = λ t n. rows_same s s' same n t
 
--- nothing is prepared, and no table but the idle one is without rows
-pub laid_nothing : (s : List (Option TableState)) (p : PreparedState) (n : ℕ) → p ≡ nothing_prepared n → RowlessIn s (n ∷ []) → IsLaid s p
-laid_nothing s p n nothing one = record {
-  ready = ready_nothing s p n nothing;
-  tidy = subst (λ (q : PreparedState). RowlessIn s (staying q)) (sym nothing) one;
+-- nothing is prepared, and no table but the idle ones is without rows
+pub laid_nothing : (s : List (Option TableState)) (p : PreparedState) (idle : List ℕ) → p ≡ nothing_prepared idle → RowlessIn s idle → IsLaid s p
+laid_nothing s p idle nothing few = record {
+  ready = ready_nothing s p idle nothing;
+  tidy = subst (λ (q : PreparedState). RowlessIn s (staying q)) (sym nothing) few;
   done = λ none_left. ap (λ (q : PreparedState). q.targets) nothing;
 }
 
@@ -129,7 +129,7 @@ module _ (s : List (Option TableState)) (p : PreparedState) (laid : IsLaid s p) 
   pub idle_moves : (s' : List (Option TableState)) → moves_of s' p ≡ []
   idle_moves s' = ap (moves_of s') idle
 
--- another table is the idle one, and the moves are the same
+-- other tables are the idle ones, and the moves are the same
 pub still_laid : (s : List (Option TableState)) (p q : PreparedState) → q ≡ record p { idle = q.idle } → HasNoIdleTarget p → IsReady s q
     → RowlessIn s (staying q) → IsLaid s q
 still_laid s p q same done ready tidy = record {

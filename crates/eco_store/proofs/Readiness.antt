@@ -34,12 +34,12 @@ ready_none s p none = record {
   room = λ m. let nobody : arriving p.arrivals m ≡ 0 = ap (λ xs. arriving xs m) none in omega (arith, nobody);
 }
 
-pub ready_nothing : (s : List (Option TableState)) (p : PreparedState) (n : ℕ) → p ≡ nothing_prepared n → IsReady s p
-ready_nothing s p n is = ready_none s p (ap (λ (q : PreparedState). q.arrivals) is)
+pub ready_nothing : (s : List (Option TableState)) (p : PreparedState) (idle : List ℕ) → p ≡ nothing_prepared idle → IsReady s p
+ready_nothing s p idle is = ready_none s p (ap (λ (q : PreparedState). q.arrivals) is)
 
--- another table is the idle one
-pub ready_idle : (s : List (Option TableState)) (p : PreparedState) (n : ℕ) → IsReady s p → IsReady s (record p { idle = n })
-ready_idle s p n ready = record { there = ready.there; stays = ready.stays; room = ready.room }
+-- other tables are the idle ones
+pub ready_idle : (s : List (Option TableState)) (p : PreparedState) (idle : List ℕ) → IsReady s p → IsReady s (record p { idle = idle })
+ready_idle s p idle ready = record { there = ready.there; stays = ready.stays; room = ready.room }
 
 -- a slot to which nobody comes
 none_arrive : (xs : List (Entity × ℕ)) (n : ℕ) → All (λ a. a.1 ≢ n) xs → arriving xs n ≡ 0

@@ -1,6 +1,6 @@
 -- Which tables are without rows, after rows came and went.
 use Rattle.std.proofs.Common.{◌≡◌, ◌≢◌, ℕ, Bool, true, false, true≢false, ◌||◌, IsTrue, List, [], ◌∷◌, ◌++◌, length, Option, Some, None, unwrap_or, IsSome}
-use Rattle.std.proofs.Common.{is_some, nat_eq, get_or, refl, sym, ap, subst, ◌∙◌, arith, inl, inr}
+use Rattle.std.proofs.Common.{zero, suc, is_some, nat_eq, get_or, slice_get, slice_set, refl, sym, ap, subst, ◌∙◌, arith, inl, inr}
 use Rattle.std.specs.List.{list_any}
 use Rattle.std.proofs.lemmas.Bool.{cases_eq}
 use Rattle.std.proofs.lemmas.Bool.Decides.{Decides-eqb}
@@ -16,6 +16,7 @@ use Rattle.eco_ids.proofs.Facts.{or_right}
 use Rattle.eco_archetypes.proofs.ArchetypeLemmas.{type_there, there_as_typed}
 use Rattle.eco_store.proofs.Readiness.{is_targeted, still_targeted}
 use Rattle.std.proofs.lemmas.List.Folds.{list_any-append}
+use Rattle.std.proofs.lemmas.Option.{same_Some}
 use Rattle.eco_store.proofs.Pouring.{rows_same}
 
 -- a table without rows is there, and has none
@@ -119,25 +120,43 @@ rowless_moved s s' from row to slots moves was m empty =
       ]
     ]
 
--- the first two slots in the other order
-pub rowless_turned : (s : List (Option TableState)) (n k : ℕ) (slots : List ℕ) → RowlessIn s (n ∷ k ∷ slots) → RowlessIn s (k ∷ n ∷ slots)
-rowless_turned s n k slots = rowless_more s (n ∷ k ∷ slots) (k ∷ n ∷ slots) (λ m. by (nat_eq m n) (nat_eq m k) (list_any (nat_eq m) slots))
-  where
-    by : (a b c : Bool) → IsTrue (a || (b || c)) → IsTrue (b || (a || c))
-    by true true c h = refl
-    by true false c h = refl
-    by false true c h = refl
-    by false false c h = h
+or_turned : (a b c d e : Bool) → (IsTrue (a || d) → IsTrue (b || e)) → IsTrue (a || (c || d)) → IsTrue (b || (c || e))
+or_turned a true c d e kept h = refl
+or_turned a false true d e kept h = refl
+or_turned true false false d e kept h = kept refl
+or_turned false false false d e kept h = kept h
 
--- the first slot as the last
-pub rowless_last : (s : List (Option TableState)) (n : ℕ) (slots : List ℕ) → RowlessIn s (n ∷ slots) → RowlessIn s (slots ++ n ∷ [])
-rowless_last s n slots =
-    rowless_more s (n ∷ slots) (slots ++ n ∷ [])
-    (λ m there. list_any-append (nat_eq m) slots (n ∷ []) ∙ by m (list_any (nat_eq m) slots) there)
+-- a slot is among others once another of them gives its place to one more
+among_rested : (m slot before : ℕ) (idle : List ℕ) (k : ℕ) → slice_get idle k ≡ Some before → IsTrue (list_any (nat_eq m) (slot ∷ idle))
+    → IsTrue (list_any (nat_eq m) (before ∷ slice_set idle k slot))
+among_rested m slot before [] k at = absurd (cc)
+among_rested m slot before (n ∷ idle) zero at =
+    subst (λ x. IsTrue (nat_eq m slot || (nat_eq m x || list_any (nat_eq m) idle)) → IsTrue (nat_eq m before || (nat_eq m slot || list_any (nat_eq m) idle)))
+    (same_Some before n (sym at)) (swap (nat_eq m slot) (nat_eq m before) (list_any (nat_eq m) idle))
   where
-    by : (m : ℕ) (b : Bool) → IsTrue (nat_eq m n || b) → IsTrue (b || list_any (nat_eq m) (n ∷ []))
-    by m true h = refl
-    by m false h = h
+    swap : (a b c : Bool) → IsTrue (a || (b || c)) → IsTrue (b || (a || c))
+    swap true true c h = refl
+    swap true false c h = refl
+    swap false true c h = refl
+    swap false false c h = h
+among_rested m slot before (n ∷ idle) (suc k) at =
+    or_turned (nat_eq m slot) (nat_eq m before) (nat_eq m n) (list_any (nat_eq m) idle) (list_any (nat_eq m) (slice_set idle k slot))
+    (among_rested m slot before idle k at)
+
+-- a table without rows rests in the place of another, which may be without rows
+pub rowless_rested : (s : List (Option TableState)) (slots idle : List ℕ) (k slot before : ℕ) → slice_get idle k ≡ Some before
+    → RowlessIn s (slot ∷ (slots ++ idle)) → RowlessIn s (before ∷ (slots ++ slice_set idle k slot))
+rowless_rested s slots idle k slot before at =
+    rowless_more s (slot ∷ (slots ++ idle)) (before ∷ (slots ++ slice_set idle k slot)) (λ m there.
+    let rested = slice_set idle k slot in
+    rw (list_any-append (nat_eq m) slots rested)
+    (or_turned (nat_eq m slot) (nat_eq m before) (list_any (nat_eq m) slots) (list_any (nat_eq m) idle) (list_any (nat_eq m) rested)
+    (among_rested m slot before idle k at)
+    (rw (list_any-append (nat_eq m) slots idle) at there)))
+
+-- a slot among some is among these and others
+pub among_more : (slots others : List ℕ) (m : ℕ) → IsTrue (list_any (nat_eq m) slots) → IsTrue (list_any (nat_eq m) (slots ++ others))
+among_more slots others m there = list_any-append (nat_eq m) slots others ∙ ap (λ b. b || list_any (nat_eq m) others) there
 
 -- a slot whose table is not without rows
 pub rowless_but : (s : List (Option TableState)) (n : ℕ) (slots : List ℕ) → is_rowless s n ≡ false → RowlessIn s (n ∷ slots) → RowlessIn s slots
@@ -146,27 +165,29 @@ rowless_but s n slots has_rows was m empty =
     sym (ap (λ b. b || list_any (nat_eq m) slots) (not_equal m n other)) ∙ was m empty
 
 -- the tables of the transfers are in these slots, and so in more
-pub named_beside : (n : ℕ) (slots : List ℕ) (ts : List Transfer) → AreNamed slots ts → AreNamed (n ∷ slots) ts
-named_beside n slots ts named k d within =
+pub named_beside : (slots others : List ℕ) (ts : List Transfer) → AreNamed slots ts → AreNamed (slots ++ others) ts
+named_beside slots others ts named k d within =
     let t = get_or ts k d in
     let both = named k d within in
-    (or_right (nat_eq t.from n) (list_any (nat_eq t.from) slots) both.0, or_right (nat_eq t.to n) (list_any (nat_eq t.to) slots) both.1)
+    (among_more slots others t.from both.0, among_more slots others t.to both.1)
 
 -- a slot becomes one of the targets
 pub rowless_targeted : (s : List (Option TableState)) (p : PreparedState) (n : ℕ) → RowlessIn s (n ∷ staying p) → RowlessIn s (staying (with_target p n))
 rowless_targeted s p n =
+    let more = (with_target p n).targets in
     rowless_more s (n ∷ staying p) (staying (with_target p n)) (λ m there.
     elim (cases_eq m n) [
-      | inl here ↦
-          or_right (nat_eq m p.idle) (list_any (nat_eq m) (with_target p n).targets)
-          (subst (λ k. IsTrue (list_any (nat_eq k) (with_target p n).targets)) (sym here) (is_targeted p n))
+      | inl here ↦ among_more more p.idle m (subst (λ k. IsTrue (list_any (nat_eq k) more)) (sym here) (is_targeted p n))
       | inr other ↦
-          beside (nat_eq m p.idle) m (sym (ap (λ b. b || list_any (nat_eq m) (staying p)) (not_equal m n other)) ∙ there)
+          rw (list_any-append (nat_eq m) more p.idle)
+          (or_left_kept (list_any (nat_eq m) p.targets) (list_any (nat_eq m) more) (list_any (nat_eq m) p.idle) (still_targeted p n m)
+          (rw (list_any-append (nat_eq m) p.targets p.idle) at (sym (ap (λ b. b || list_any (nat_eq m) (staying p)) (not_equal m n other)) ∙ there)))
     ])
   where
-    beside : (a : Bool) (m : ℕ) → IsTrue (a || list_any (nat_eq m) p.targets) → IsTrue (a || list_any (nat_eq m) (with_target p n).targets)
-    beside true m h = refl
-    beside false m h = still_targeted p n m h
+    or_left_kept : (a b c : Bool) → (IsTrue a → IsTrue b) → IsTrue (a || c) → IsTrue (b || c)
+    or_left_kept true b c kept h = ap (λ x. x || c) (kept refl)
+    or_left_kept false true c kept h = refl
+    or_left_kept false false c kept h = h
 
 -- one more slot may be without rows
 pub rowless_beside : (s : List (Option TableState)) (n : ℕ) (slots : List ℕ) → RowlessIn s slots → RowlessIn s (n ∷ slots)

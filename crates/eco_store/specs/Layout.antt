@@ -19,8 +19,8 @@ pub record LayoutState : Type 0 where
   pub tables : List (Option TableState)
   pub moves : List Move
 
--- ready: the moves to come have their tables and their room; tidy: no other table is without rows, but the one
--- that lost its last row last; done: none stays for moves where no move is left. How types and what they name lead to tables is the tables' own
+-- ready: the moves to come have their tables and their room; tidy: no other table is without rows, but the idle
+-- ones; done: none stays for moves where no move is left. How types and what they name lead to tables is the tables' own
 -- (`IsArchetypes`).
 pub record IsLaid (slots : List (Option TableState)) (p : PreparedState) : Type 0 where
   pub ready : IsReady slots p

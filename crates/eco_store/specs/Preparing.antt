@@ -1,5 +1,6 @@
 -- Moves that have their room and are not yet made.
-use Rattle.std.specs.Prelude.{◌≡◌, ◌≢◌, ℕ, ◌+◌, ◌≤◌, ◌==◌, ◌&&◌, Bool, false, IsTrue, List, [], ◌∷◌, ◌++◌, map, nat_eq, Option, IsSome, if◌then◌else◌}
+use Rattle.std.specs.Prelude.{◌≡◌, ◌≢◌, ℕ, ◌+◌, ◌≤◌, ◌==◌, ◌&&◌, Bool, false, IsTrue, List, [], ◌∷◌, ◌++◌, map, nat_eq, Option, Some, IsSome, if◌then◌else◌}
+use Rattle.std.specs.Prelude.{slice_get, slice_set}
 use Rattle.std.specs.List.{All, AllPairs, list_any}
 use Rattle.eco_ids.specs.declared.entity.Entity.{Entity}
 use Rattle.eco_ids.specs.declared.id.Id.{Id}
@@ -40,23 +41,27 @@ AreOfDifferent ms = AllPairs (λ one other. one.entity ≢ other.entity) ms
 -- ---- as they are kept
 
 -- arrivals: who goes to which slot, the next one first; targets: slots whose tables stay though they may be without rows;
--- idle: the slot whose table lost its last row last, and stays too
+-- idle: slots whose tables lost their last row, and stay too
 pub record PreparedState : Type 0 where
   pub arrivals : List (Entity × ℕ)
   pub targets : List ℕ
-  pub idle : ℕ
+  pub idle : List ℕ
 
 -- each of these slots has what it had
 abbrev pub SameIn : List (Option TableState) → List (Option TableState) → List ℕ → Type 0
 SameIn old new slots = (n : ℕ) → IsTrue (list_any (nat_eq n) slots) → slot_of new n ≡ slot_of old n
 
 -- neither a move nor a target
-abbrev pub nothing_prepared : ℕ → PreparedState
+abbrev pub nothing_prepared : List ℕ → PreparedState
 nothing_prepared idle = record { arrivals = []; targets = []; idle = idle }
 
 -- the slots whose tables may be without rows
 abbrev pub staying : PreparedState → List ℕ
-staying p = p.idle ∷ p.targets
+staying p = p.targets ++ p.idle
+
+-- the slot is an idle one from then on, in the place of another
+abbrev pub Rests : PreparedState → PreparedState → ℕ → ℕ → Type 0
+Rests old new slot before = (k : ℕ) × (slice_get old.idle k ≡ Some before) × (new ≡ record old { idle = slice_set old.idle k slot })
 
 -- where no move is left, no table stays for one
 abbrev pub HasNoIdleTarget : PreparedState → Type 0

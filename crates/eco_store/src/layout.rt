@@ -25,8 +25,8 @@ mod preparing;
 mod stepping;
 
 /// A contract sees the tables in their slots and the moves to come, the next one first. The moves have their tables and
-/// their room, and no other table but one is without rows: when a table loses its last row, the one that did so before it
-/// goes, unless a move goes there.
+/// their room, and no other tables but a few are without rows: when one more loses its last row, the first of those goes,
+/// unless a move goes there.
 pub struct Layout {
     archetypes: Archetypes,
     prepared: Prepared,

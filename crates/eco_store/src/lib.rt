@@ -3,8 +3,8 @@
 //!
 //! A [`Store`] is seen as a map from entities to their names, ids and values. Inside, each living entity stands in one row
 //! of the table of its type; a type finds its table through a map, and a pattern the tables whose types have an id that it
-//! matches through an index. The table that lost its last row last is kept for who comes back to it; the one before it is
-//! dropped then, and its slot may be used again.
+//! matches through an index. A few tables that lost their last row are kept for who comes back to them; when one more loses its
+//! last row, the first of them is dropped, and its slot may be used again.
 //!
 //! Each id has a value, zeros when new. A table keeps as many fields of it as the arities of the entities in the id say, and all
 //! where they are not known yet; whether an id is data is not known here.

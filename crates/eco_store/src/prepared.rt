@@ -1,9 +1,9 @@
 //! Moves of entities to other tables that have their room and are not yet made.
-ghost use Rattle.std.specs.Prelude.{◌≡◌, ◌∷◌, ◌↔◌, [], List, ℕ, nat_eq, not, IfOk, IfSome, IfNone, IsTrue, OnOk, OnErr};
+ghost use Rattle.std.specs.Prelude.{◌≡◌, ◌∷◌, ◌↔◌, [], List, ℕ, length, nat_eq, not, IfOk, IfSome, IfNone, IsTrue, OnOk, OnErr};
 ghost use Rattle.std.specs.List.{list_any};
 ghost use Rattle.eco_ids.specs.declared.entity.Entity.{Entity as Entities};
 ghost use Rattle.eco_ids.specs.Order.{entity_eq};
-ghost use Rattle.eco_store.specs.Preparing.{nothing_prepared, with_arrival, with_target};
+ghost use Rattle.eco_store.specs.Preparing.{nothing_prepared, with_arrival, with_target, Rests};
 
 use eco_ids::Entity;
 use indexmap::{IndexMap, IndexSet};
@@ -13,16 +13,22 @@ use std::marker::Model;
 mod leaving;
 mod planning;
 
+// How many tables that lost their last row stay. An entity that gets some ids one by one goes through as many tables, and where
+// it is alone in them, each loses its last row.
+const IDLE_COUNT: usize = 8;
+
 /// A contract sees who goes to which slot, the next one first, and the slots whose tables stay though they may be without
-/// rows: those to which moves go, and the one whose table lost its last row last, which is likely to get one soon again.
+/// rows: those to which moves go, and the idle ones, whose tables lost their last row and are likely to get one soon again.
 #[derive(Drop)]
 pub struct Prepared {
     alloc: Global,
     // The next one is the last.
     arrivals: IndexMap<Entity, usize>,
     targets: IndexSet<usize>,
-    // Any slot, before a table has lost its last row.
-    idle: usize,
+    // Any slots, before tables have lost their last row.
+    idle: [usize; IDLE_COUNT],
+    // Which of them goes next, counted round.
+    turn: usize,
 }
 
 impl Model for Prepared {
@@ -44,11 +50,12 @@ impl Prepared {
             alloc,
             arrivals: IndexMap::new(alloc),
             targets: IndexSet::new(alloc),
-            idle: 0,
+            idle: [0; IDLE_COUNT],
+            turn: 0,
         }
     }
 
-    /// Neither a move nor a target, and the same idle slot.
+    /// Neither a move nor a target, and the same idle slots.
     pub fn emptied(&self) -> Prepared
         ensures { result ≡ nothing_prepared self.now.idle }
     {
@@ -57,6 +64,7 @@ impl Prepared {
             arrivals: IndexMap::new(self.alloc),
             targets: IndexSet::new(self.alloc),
             idle: self.idle,
+            turn: self.turn,
         }
     }
 
@@ -137,18 +145,23 @@ impl Prepared {
         Ok(())
     }
 
-    /// The slot whose table lost its last row last.
-    pub fn idle(&self) -> usize
-        ensures { result ≡ self.now.idle }
+    /// Whether the slot is one of the idle ones, of which there are eight.
+    pub fn is_resting(&self, slot: usize) -> bool
+        ensures resting { result ≡ list_any (nat_eq slot) self.now.idle }
+        ensures few { length self.now.idle ≡ 8 }
     {
-        self.idle
+        self.idle.contains(&slot)
     }
 
-    /// The table in this slot lost its last row.
-    pub fn set_idle(&mut self, slot: usize)
-        ensures { self.new ≡ record self.old { idle = slot } }
+    /// The table in this slot lost its last row: it is one of the idle ones from then on, in place of the one that is answered.
+    pub fn set_idle(&mut self, slot: usize) -> usize
+        ensures { Rests self.old self.new slot result }
     {
-        self.idle = slot;
+        let place = self.turn % IDLE_COUNT;
+        let before = self.idle[place];
+        self.idle[place] = slot;
+        self.turn = place + 1;
+        before
     }
 
     /// Neither a move nor a target is left.

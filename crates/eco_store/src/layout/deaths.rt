@@ -33,7 +33,7 @@ impl Layout {
     }
 
     /// Each of these entities that lives dies, and then all entities of a type get another, for each of these changes, one
-    /// after another. The tables that this leaves without rows go, but for the one that lost its last row last. All memory
+    /// after another. The tables that this leaves without rows go, but for the idle ones. All memory
     /// is taken before the first row goes or moves. No move is to come from then on. An `Err` comes where memory is refused,
     /// and changes no row.
     pub fn delete_all(

@@ -14,7 +14,7 @@ use eco_ids::Entity;
 
 impl Prepared {
     /// Takes a row out. The answer is the entity that stands in its place now. A table that this leaves without rows stays
-    /// as the idle one, or for moves to come. It takes no memory.
+    /// as an idle one, or for moves to come. It takes no memory.
     pub fn take_row(&mut self, archetypes: &mut Archetypes, place: Place) -> Option<Entity>
         requires row { place.row < length (rows_in archetypes.old place.table) }
         requires ready { IsReady archetypes.old self.old }
@@ -32,7 +32,7 @@ impl Prepared {
         moved
     }
 
-    /// Takes all rows of a table out. The table stays as the idle one, or for moves to come. It takes no memory.
+    /// Takes all rows of a table out. The table stays as an idle one, or for moves to come. It takes no memory.
     pub fn take_rows(&mut self, archetypes: &mut Archetypes, slot: usize)
         requires there { IsSome (slot_of archetypes.old slot) }
         requires ready { IsReady archetypes.old self.old }

@@ -47,8 +47,8 @@ impl Prepared {
         }
     }
 
-    /// A row left the table in this slot. If it was the last one, the table stays as the idle one, and the idle one before it
-    /// is dropped if it has no rows; where moves go to either, that one stays in any case. It takes no memory.
+    /// A row left the table in this slot. If it was the last one, the table stays as an idle one, and the one whose place it
+    /// takes is dropped if it has no rows; where moves go to either, that one stays in any case. It takes no memory.
     #[inline]
     pub fn release(&mut self, archetypes: &mut Archetypes, slot: usize)
         requires ready { IsReady archetypes.old self.old }
@@ -61,13 +61,13 @@ impl Prepared {
         ensures rows { SameRows archetypes.old archetypes.new }
         ensures widths { KeepsWidths archetypes.old archetypes.new }
     {
-        if archetypes.tables().is_rowless(slot) && slot != self.idle() {
+        if archetypes.tables().is_rowless(slot) && !self.is_resting(slot) {
             self.rest(archetypes, slot);
         }
     }
 
-    // The table in this slot is the idle one from then on, and the one before it goes. Apart, as a row mostly leaves others
-    // behind, or comes back to where it was.
+    // The table in this slot is an idle one from then on, and the one whose place it takes goes. Apart, as a row mostly leaves
+    // others behind, or comes back to where it was.
     #[cold]
     #[inline(never)]
     fn rest(&mut self, archetypes: &mut Archetypes, slot: usize)
@@ -75,14 +75,13 @@ impl Prepared {
         requires tidy { RowlessIn archetypes.old (slot ∷ staying self.old) }
         ensures ready { IsReady archetypes.new self.new }
         ensures tidy { RowlessIn archetypes.new (staying self.new) }
-        ensures same { self.new ≡ record self.old { idle = slot } }
+        ensures same { self.new ≡ record self.old { idle = self.new.idle } }
         ensures left { moves_of archetypes.new self.new ≡ moves_of archetypes.old self.old }
         ensures targets { SameIn archetypes.old archetypes.new self.old.targets }
         ensures rows { SameRows archetypes.old archetypes.new }
         ensures widths { KeepsWidths archetypes.old archetypes.new }
     {
-        let before = self.idle();
-        self.set_idle(slot);
+        let before = self.set_idle(slot);
         if !self.is_target(before) {
             archetypes.drop_empty(before);
         }

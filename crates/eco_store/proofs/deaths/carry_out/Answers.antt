@@ -38,4 +38,4 @@ returns-clause-tidy c =
     let ts = c.args.transfers.now in
     let kept = ap (λ (q : PreparedState). q.targets) c.kill_all.ensures.same in
     c.move_all.ensures.rowless (staying p)
-    (named_beside p.idle p.targets ts (subst (λ slots. AreNamed slots ts) (sym kept) c.requires.named)) c.kill_all.ensures.tidy
+    (named_beside p.targets p.idle ts (subst (λ slots. AreNamed slots ts) (sym kept) c.requires.named)) c.kill_all.ensures.tidy

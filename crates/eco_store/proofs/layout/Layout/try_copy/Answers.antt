@@ -1,9 +1,8 @@
-use Rattle.std.proofs.Common.{◌++◌, ◌∷◌, [], sym, ap, subst, ◌∙◌}
+use Rattle.std.proofs.Common.{◌++◌, sym, ap, subst, ◌∙◌}
 use Rattle.eco_archetypes.specs.Archetypes.{RowlessIn}
 use Rattle.eco_store.specs.Preparing.{staying, moves_of}
 use Rattle.eco_archetypes.proofs.Copying.{copied_kept, copied_rows, copied_rowless}
 use Rattle.eco_store.proofs.LaidRows.{laid_nothing}
-use Rattle.eco_store.proofs.Rowless.{rowless_last}
 use Rattle.eco_archetypes.proofs.Widths.{kept_widths}
 use Rattle.eco_store.proofs.layout.Layout.try_copy.Goals as goal
 
@@ -13,8 +12,7 @@ invariant_of-result c =
     let p = c.self.inside.prepared in
     let tidy = copied_rowless c.self.inside.archetypes copies c.in_ok-archetypes.ensures (staying p) c.self.invariant.tidy in
     laid_nothing _ _ p.idle c.emptied.ensures
-    (c.drop_each.ensures.rowless (p.idle ∷ [])
-    (subst (RowlessIn copies) (ap (λ xs. xs ++ p.idle ∷ []) (sym c.targets.ensures)) (rowless_last copies p.idle p.targets tidy)))
+    (c.drop_each.ensures.rowless p.idle (subst (RowlessIn copies) (ap (λ xs. xs ++ p.idle) (sym c.targets.ensures)) tidy))
 
 pub returns-clause-rows : goal.returns-clause-rows
 returns-clause-rows c =

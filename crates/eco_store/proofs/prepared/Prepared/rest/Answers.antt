@@ -1,66 +1,65 @@
-use Rattle.std.proofs.Common.{◌≡◌, ◌∷◌, false, IsTrue, nat_eq, sym, ap, subst, ◌∙◌}
+use Rattle.std.proofs.Common.{◌≡◌, ◌++◌, ℕ, List, Bool, true, false, nat_eq, slice_set, sym, ap, ◌∙◌}
 use Rattle.std.specs.List.{list_any}
 use Rattle.eco_tables.specs.Tables.{slot_of, rowless_type}
-use Rattle.eco_ids.proofs.Facts.{or_right}
-use Rattle.eco_archetypes.specs.Archetypes.{RowlessIn}
 use Rattle.eco_store.specs.Preparing.{PreparedState}
 use Rattle.eco_store.proofs.Readiness.{ready_idle, ready_spared, moves_spared, spares_dropped, same_targets}
-use Rattle.eco_store.proofs.Rowless.{rowless_turned, rowless_twice}
+use Rattle.eco_store.proofs.Rowless.{among_more, rowless_rested, rowless_twice}
 use Rattle.eco_store.proofs.prepared.Prepared.rest.Goals as goal
+
+-- the targets are the same
+same_among : (n : ℕ) (p q : PreparedState) (idle : List ℕ) (r b : Bool) → r ≡ list_any (nat_eq n) q.targets → q ≡ record p { idle = idle } → r ≡ b
+    → list_any (nat_eq n) p.targets ≡ b
+same_among n p q idle r b test same is = sym (test ∙ ap (λ (x : PreparedState). list_any (nat_eq n) x.targets) same) ∙ is
 
 pub returns-then-not-is_target-clause-ready : goal.returns-then-not-is_target-clause-ready
 returns-then-not-is_target-clause-ready c =
     let s = c.args.archetypes.now in
     let p = c.args.self.now in
-    let n = c.idle-before.result in
-    let free : list_any (nat_eq n) p.targets ≡ false =
-    sym (c.is_target.ensures ∙ ap (λ (q : PreparedState). list_any (nat_eq n) q.targets) c.set_idle.ensures) ∙ c.if-not-is_target.true in
-    rw c.set_idle.ensures
-    (ready_idle c.drop_empty.new.self p c.args.slot
+    let n = c.set_idle-before.result in
+    let free = same_among n p _ _ _ false c.is_target.ensures c.set_idle-before.ensures.2 c.if-not-is_target.true in
+    rw c.set_idle-before.ensures.2
+    (ready_idle c.drop_empty.new.self p _
     (ready_spared s c.drop_empty.new.self p
     (spares_dropped s c.drop_empty.new.self p n (rowless_type (slot_of s n)) c.requires.ready free c.drop_empty.ensures.dropped c.drop_empty.ensures.kept)
     c.requires.ready))
 
 pub returns-then-not-is_target-clause-tidy : goal.returns-then-not-is_target-clause-tidy
 returns-then-not-is_target-clause-tidy c =
-    let s = c.args.archetypes.now in
     let p = c.args.self.now in
-    let slots = c.args.slot ∷ p.targets in
-    rw c.set_idle.ensures
-    (c.drop_empty.ensures.rowless slots
-    (subst (λ n. RowlessIn s (n ∷ slots)) (sym c.idle-before.ensures) (rowless_turned s c.args.slot p.idle p.targets c.requires.tidy)))
+    let (k, at, same) = c.set_idle-before.ensures in
+    rw same
+    (c.drop_empty.ensures.rowless (p.targets ++ slice_set p.idle k c.args.slot)
+    (rowless_rested c.args.archetypes.now p.targets p.idle k c.args.slot c.set_idle-before.result at c.requires.tidy))
 
 pub returns-then-not-is_target-clause-left : goal.returns-then-not-is_target-clause-left
 returns-then-not-is_target-clause-left c =
     let s = c.args.archetypes.now in
     let p = c.args.self.now in
-    let n = c.idle-before.result in
-    let free : list_any (nat_eq n) p.targets ≡ false =
-    sym (c.is_target.ensures ∙ ap (λ (q : PreparedState). list_any (nat_eq n) q.targets) c.set_idle.ensures) ∙ c.if-not-is_target.true in
-    rw c.set_idle.ensures
+    let n = c.set_idle-before.result in
+    let free = same_among n p _ _ _ false c.is_target.ensures c.set_idle-before.ensures.2 c.if-not-is_target.true in
+    rw c.set_idle-before.ensures.2
     (moves_spared s c.drop_empty.new.self p
     (spares_dropped s c.drop_empty.new.self p n (rowless_type (slot_of s n)) c.requires.ready free c.drop_empty.ensures.dropped c.drop_empty.ensures.kept))
 
 pub returns-else-not-is_target-clause-ready : goal.returns-else-not-is_target-clause-ready
-returns-else-not-is_target-clause-ready c = rw c.set_idle.ensures (ready_idle _ c.args.self.now c.args.slot c.requires.ready)
+returns-else-not-is_target-clause-ready c = rw c.set_idle-before.ensures.2 (ready_idle _ c.args.self.now _ c.requires.ready)
 
 pub returns-else-not-is_target-clause-tidy : goal.returns-else-not-is_target-clause-tidy
 returns-else-not-is_target-clause-tidy c =
     let s = c.args.archetypes.now in
     let p = c.args.self.now in
-    let n = c.idle-before.result in
-    let slots = c.args.slot ∷ p.targets in
-    let among : IsTrue (list_any (nat_eq n) p.targets) =
-    sym (c.is_target.ensures ∙ ap (λ (q : PreparedState). list_any (nat_eq n) q.targets) c.set_idle.ensures) ∙ c.if-not-is_target.false in
-    rw c.set_idle.ensures
-    (rowless_twice s n slots (or_right (nat_eq n c.args.slot) (list_any (nat_eq n) p.targets) among)
-    (subst (λ k. RowlessIn s (k ∷ slots)) (sym c.idle-before.ensures) (rowless_turned s c.args.slot p.idle p.targets c.requires.tidy)))
+    let n = c.set_idle-before.result in
+    let (k, at, same) = c.set_idle-before.ensures in
+    let rested = slice_set p.idle k c.args.slot in
+    let among = same_among n p _ _ _ true c.is_target.ensures same c.if-not-is_target.false in
+    rw same
+    (rowless_twice s n (p.targets ++ rested) (among_more p.targets rested n among)
+    (rowless_rested s p.targets p.idle k c.args.slot n at c.requires.tidy))
 
 pub returns-then-not-is_target-clause-targets : goal.returns-then-not-is_target-clause-targets
 returns-then-not-is_target-clause-targets c =
     let s = c.args.archetypes.now in
     let p = c.args.self.now in
-    let n = c.idle-before.result in
-    let free : list_any (nat_eq n) p.targets ≡ false =
-    sym (c.is_target.ensures ∙ ap (λ (q : PreparedState). list_any (nat_eq n) q.targets) c.set_idle.ensures) ∙ c.if-not-is_target.true in
+    let n = c.set_idle-before.result in
+    let free = same_among n p _ _ _ false c.is_target.ensures c.set_idle-before.ensures.2 c.if-not-is_target.true in
     same_targets s c.drop_empty.new.self p.targets n (rowless_type (slot_of s n)) free c.drop_empty.ensures.dropped c.drop_empty.ensures.kept

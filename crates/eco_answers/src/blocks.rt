@@ -66,7 +66,8 @@ pub fn blocks_of(
     ensures blocks { IfOk result (λ b. AreBlocks tables.now slots.now (asks terms.now) b) }
     ensures width { IfOk result (λ b. b.choices.width ≡ length terms.now) }
 {
-    let mut choices = Choices::none(alloc, terms.len());
+    // Each has a choice at least.
+    let mut choices = Choices::with_room(alloc, terms.len(), slots.len())?;
     let mut list = Vec::with_capacity(alloc, slots.len())?;
     let mut buffer = Vec::new(alloc);
     for slot in slots {

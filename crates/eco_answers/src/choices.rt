@@ -70,6 +70,17 @@ impl Choices {
         }
     }
 
+    /// No choice, each to be of this width, with room for so many. An `Err` comes where memory is refused.
+    pub fn with_room(alloc: Global, width: usize, count: usize) -> Result<Choices, AllocError>
+        ensures { IfOk result (λ c. c ≡ record { width = width; all = [] }) }
+    {
+        Ok(Choices {
+            width,
+            count: 0,
+            entries: Vec::with_capacity(alloc, count.saturating_mul(width))?,
+        })
+    }
+
     // Does nothing, and its contract says that each choice has the width.
     fn is_even(&self)
         ensures { IsEven self.now.width self.now.all }

@@ -3,7 +3,7 @@ ghost use Rattle.std.specs.Prelude.{◌≡◌, ◌++◌, map, filter, find, Some
 ghost use Rattle.std.specs.List.{list_any};
 ghost use Rattle.std.specs.Ordering.{is_lt};
 ghost use Rattle.eco_ids.specs.Answer.{entries_of, is_least_match, same_filling};
-ghost use Rattle.eco_answers.specs.Answers.{parts_alike};
+ghost use Rattle.eco_answers.specs.Answers.{has_any_part, parts_alike};
 ghost use Rattle.eco_ids.specs.Matching.{pattern_matches};
 ghost use Rattle.eco_ids.specs.Order.{has_item, id_cmp};
 ghost use Rattle.eco_query.specs.Queries.{term_view};
@@ -57,6 +57,48 @@ fn is_less(pattern: Pattern, id: Id, other: Id) -> bool
 
 // Puts the least match of each filling behind other entries.
 fn add_least(pattern: Pattern, ids: &[Id], entries: &mut Vec<Option<Id>>) -> Result<(), AllocError>
+    ensures { OnOk result (entries.new.items ≡ entries.old.items ++ map Some (filter (is_least_match pattern ids.now) ids.now)) }
+{
+    if has_any(pattern) {
+        add_least_alike(pattern, ids, entries)
+    } else {
+        // No two ids fill it alike.
+        add_matches(pattern, ids, entries)
+    }
+}
+
+// Whether a part of the pattern is `_`.
+fn has_any(pattern: Pattern) -> bool
+    ensures { result ≡ has_any_part pattern }
+{
+    match pattern {
+        Pattern::Two(Part::Any, _) | Pattern::Two(_, Part::Any) => true,
+        Pattern::One(_) | Pattern::Two(..) => false,
+    }
+}
+
+// Puts the ids that match behind other entries.
+fn add_matches(
+    pattern: Pattern,
+    ids: &[Id],
+    entries: &mut Vec<Option<Id>>,
+) -> Result<(), AllocError>
+    ensures { OnOk result (entries.new.items ≡ entries.old.items ++ map Some (filter (pattern_matches pattern) ids.now)) }
+{
+    for id in ids {
+        if pattern.matches(*id) {
+            entries.push(Some(*id))?;
+        }
+    }
+    Ok(())
+}
+
+// Puts the least match of each filling behind other entries, where several may fill the pattern alike.
+fn add_least_alike(
+    pattern: Pattern,
+    ids: &[Id],
+    entries: &mut Vec<Option<Id>>,
+) -> Result<(), AllocError>
     ensures { OnOk result (entries.new.items ≡ entries.old.items ++ map Some (filter (is_least_match pattern ids.now) ids.now)) }
 {
     for id in ids {

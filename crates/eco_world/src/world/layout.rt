@@ -83,7 +83,7 @@ fn tables_in<'a>(
     ensures lent { IfOk result (λ found. map lent found.items ≡ map (lent_at tables.now) slots.now) }
     ensures some { OnErr result (0 < length slots.now) }
 {
-    let mut found = Vec::new(alloc);
+    let mut found = Vec::with_capacity(alloc, slots.len())?;
     for slot in slots {
         let table = tables.get(*slot).unwrap();
         found.push(TableRows::of(table))?;

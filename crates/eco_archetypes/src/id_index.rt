@@ -17,6 +17,7 @@ use eco_ids::{Entity, Id, Part, Pattern};
 use indexmap::IndexMap;
 use std::alloc::{AllocError, Global};
 
+mod copying;
 mod flags;
 mod key;
 mod marks;

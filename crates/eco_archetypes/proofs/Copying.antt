@@ -1,5 +1,5 @@
 -- The tables up to a slot, and what they are found by.
-use Rattle.std.proofs.Common.{◌≡◌, ◌≢◌, ℕ, zero, suc, true, cond, ◌+◌, ◌<◌, ◌≤◌, List, [], ◌∷◌, take, slice_get, Option, Some, None, option_map, unwrap_or}
+use Rattle.std.proofs.Common.{◌≡◌, ◌≢◌, ℕ, zero, suc, cond, ◌+◌, ◌<◌, ◌≤◌, List, [], ◌∷◌, take, slice_get, Option, Some, None, option_map, unwrap_or}
 use Rattle.std.proofs.Common.{is_some, refl, sym, ap, ◌∙◌, arith, inl, inr}
 use Rattle.std.specs.HashMap.{HashMap, get}
 use Rattle.std.proofs.lemmas.Bool.{cases_eq, cases_lt}
@@ -7,9 +7,8 @@ use Rattle.eco_ids.specs.declared.id.Id.{Id}
 use Rattle.eco_tables.specs.Table.{TableState, Row}
 use Rattle.eco_tables.specs.Tables.{slot_of, no_table, with_room, without_room, rowless, rowless_type, Sets, AreCopies}
 use Rattle.eco_archetypes.specs.Archetypes.{type_at, type_matches, IsIdIndex, RowlessIn, SameRows}
-use Rattle.eco_archetypes.specs.IdIndex.{Lists, any_matches, Turns}
+use Rattle.eco_archetypes.specs.IdIndex.{Lists, ListsSame}
 use Rattle.eco_archetypes.specs.TypeMap.{same_ids, IsTypeMap}
-use Rattle.eco_archetypes.proofs.ArchetypeLemmas.{index_made}
 use Rattle.eco_archetypes.proofs.TypeMaps.{type_map-insert}
 use Rattle.eco_archetypes.proofs.Widths.{AreKept, kinds}
 
@@ -55,21 +54,15 @@ taken_type s k n ids typed = elim (cases_lt n k) [
 abbrev type_in : Option TableState → Option (List Id)
 type_in o = option_map (λ t. t.ids) o
 
-module _ {S : Type 0} (s : Slots) (k : ℕ) (m m' : HashMap (List Id) ℕ S) (l l' : Lists) where
+module _ {S : Type 0} (s : Slots) (k : ℕ) (m m' : HashMap (List Id) ℕ S) where
   -- a table more is listed
   pub listed_more : (t : TableState) → slot_of s k ≡ Some t
-      → ((n j : ℕ) (ids : List Id) → type_at s n ≡ Some ids → type_at s j ≡ Some ids → n ≡ j)
-      → IsTypeMap (type_at (take k s)) m × IsIdIndex (type_at (take k s)) l
-      → ((q : List Id) → get same_ids m' q ≡ cond (same_ids t.ids q) (Some k) (get same_ids m q)) → Turns true (any_matches t.ids) l l' k
-      → IsTypeMap (type_at (take (k + 1) s)) m' × IsIdIndex (type_at (take (k + 1) s)) l'
-  listed_more t at kinds listed gets turns =
+      → ((n j : ℕ) (ids : List Id) → type_at s n ≡ Some ids → type_at s j ≡ Some ids → n ≡ j) → IsTypeMap (type_at (take k s)) m
+      → ((q : List Id) → get same_ids m' q ≡ cond (same_ids t.ids q) (Some k) (get same_ids m q)) → IsTypeMap (type_at (take (k + 1) s)) m'
+  listed_more t at kinds listed gets =
       let sets = taken_more s k (Some t) at in
-      let others = λ (n : ℕ) (other : n ≢ k). ap type_in (sets.others n other) in
-      let now = ap type_in sets.changed in
-      let none = ap type_in (taken_past s k k (omega arith)) in (
-        type_map-insert (type_at (take k s)) (type_at (take (k + 1) s)) m m' t.ids k others listed.0 now none absent gets,
-        index_made (type_at (take k s)) (type_at (take (k + 1) s)) l l' k t.ids others listed.1 now none turns,
-      )
+      type_map-insert (type_at (take k s)) (type_at (take (k + 1) s)) m m' t.ids k (λ (n : ℕ) (other : n ≢ k). ap type_in (sets.others n other))
+      listed (ap type_in sets.changed) (ap type_in (taken_past s k k (omega arith))) absent gets
     where
       absent : (n : ℕ) → type_at (take k s) n ≢ Some t.ids
       absent n was =
@@ -77,15 +70,11 @@ module _ {S : Type 0} (s : Slots) (k : ℕ) (m m' : HashMap (List Id) ℕ S) (l 
           let bad : ◌≡◌ {A = Option (List Id)} None (Some t.ids) = sym (ap type_in (taken_past s k n (omega (arith, same)))) ∙ was in cc
 
   -- a slot without a table
-  pub listed_none : slot_of s k ≡ None → IsTypeMap (type_at (take k s)) m × IsIdIndex (type_at (take k s)) l
-      → IsTypeMap (type_at (take (k + 1) s)) m × IsIdIndex (type_at (take (k + 1) s)) l
-  listed_none at listed = (
-    record {
-      found = λ t n e. same n ∙ listed.0.found t n e;
-      there = λ t n e. listed.0.there t n (sym (same n) ∙ e);
-    },
-    λ p n. listed.1 p n ∙ ap (λ o. type_matches o p) (sym (same n)),
-  )
+  pub listed_none : slot_of s k ≡ None → IsTypeMap (type_at (take k s)) m → IsTypeMap (type_at (take (k + 1) s)) m
+  listed_none at listed = record {
+    found = λ t n e. same n ∙ listed.found t n e;
+    there = λ t n e. listed.there t n (sym (same n) ∙ e);
+  }
     where
       same : (n : ℕ) → type_at (take (k + 1) s) n ≡ type_at (take k s) n
       same n =
@@ -106,6 +95,9 @@ module _ (s copies : Slots) (are : AreCopies s copies) where
       by : (o : Option TableState) → type_in (without_room o) ≡ type_in o
       by None = refl
       by (Some t) = refl
+
+  pub copied_matches : (l l' : Lists) → ListsSame l l' → IsIdIndex (type_at s) l → IsIdIndex (type_at copies) l'
+  copied_matches l l' same was p n = same p n ∙ was p n ∙ ap (λ o. type_matches o p) (sym (copied_types n))
 
   pub copied_rows : SameRows s copies
   copied_rows n row = ap (λ o. slice_get (unwrap_or o no_table).rows row) (are n) ∙ by (slot_of s n)

@@ -49,12 +49,12 @@ lookup_here t (x ∷ es) (suc k) e none at is = by (t x.0) none (λ h. lookup_he
     by false h rest = rest h
 
 -- one that is not, and none before it
-pub lookup_past : (t : Id → Bool) (es : List (Id × ℕ)) (k : ℕ) (e : Id × ℕ) → lookup t (take k es) ≡ None → slice_get es k ≡ Some e → t e.0 ≡ false →
-    lookup t (take (suc k) es) ≡ None
+pub lookup_past : {K X : Type 0} (t : K → Bool) (es : List (K × X)) (k : ℕ) (e : K × X) → lookup t (take k es) ≡ None → slice_get es k ≡ Some e
+    → t e.0 ≡ false → lookup t (take (suc k) es) ≡ None
 lookup_past t [] k e none at other = absurd (cc)
-lookup_past t (x ∷ es) zero e none at other =
+lookup_past {K = K} {X = X} t (x ∷ es) zero e none at other =
     let same : x ≡ e = cc in
-    ap (λ (y : Id × ℕ). cond (t y.0) (Some y.1) None) same ∙ ap (λ b. cond b (Some e.1) None) other
+    ap (λ (y : K × X). cond (t y.0) (Some y.1) None) same ∙ ap (λ b. cond b (Some e.1) None) other
 lookup_past t (x ∷ es) (suc k) e none at other = by (t x.0) none (λ h. lookup_past t es k e h at other)
   where
     by : (b : Bool) → cond b (Some x.1) (lookup t (take k es)) ≡ None → (lookup t (take k es) ≡ None → lookup t (take (suc k) es) ≡ None)

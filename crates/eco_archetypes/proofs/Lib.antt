@@ -1,5 +1,6 @@
 pub mod ArchetypeLemmas
 pub mod Copying
+pub mod IndexCopies
 pub mod Joinings
 pub mod Keys
 pub mod TypeMaps

@@ -18,6 +18,7 @@ use eco_ids::{Entity, Id, Part, Pattern};
 use indexmap::IndexMap;
 use std::alloc::{AllocError, Global};
 
+mod copying;
 mod key;
 mod marks;
 mod names;

@@ -1,5 +1,5 @@
 //! Which slot has the table of a type.
-ghost use Rattle.std.specs.Prelude.{◌≡◌, ◌<◌, cond, List, Some, None, OnOk};
+ghost use Rattle.std.specs.Prelude.{◌≡◌, ◌<◌, cond, List, Some, None, OnOk, IfOk};
 ghost use Rattle.std.specs.HashMap.{IsEmpty, IsUnchanged, Updates, get, spare};
 ghost use Rattle.eco_ids.specs.declared.id.Id.{Id as Ids};
 ghost use Rattle.eco_archetypes.specs.TypeMap.{same_ids};
@@ -22,6 +22,15 @@ impl TypeMap {
         TypeMap {
             slots: IndexMap::new(alloc),
         }
+    }
+
+    /// No type, with room for so many.
+    pub fn with_capacity(alloc: Global, count: usize) -> Result<TypeMap, AllocError>
+        ensures { IfOk result (λ t. IsEmpty t.slots) }
+    {
+        Ok(TypeMap {
+            slots: IndexMap::with_capacity(alloc, count)?,
+        })
     }
 
     /// The slot of a type, if it has one.

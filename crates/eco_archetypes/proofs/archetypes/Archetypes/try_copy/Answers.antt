@@ -1,6 +1,7 @@
 use Rattle.std.proofs.Common.{◌≡◌, ℕ, Option, Some, None, sym, ◌∙◌}
+use Rattle.eco_archetypes.specs.IdIndex.{lists_of}
 use Rattle.eco_archetypes.proofs.ArchetypeLemmas.{one_slot}
-use Rattle.eco_archetypes.proofs.Copying.{copied_kept, copied_types}
+use Rattle.eco_archetypes.proofs.Copying.{copied_kept, copied_matches, copied_types}
 use Rattle.eco_archetypes.proofs.Widths.{kept_agreed}
 use Rattle.eco_archetypes.proofs.archetypes.Archetypes.try_copy.Goals as goal
 
@@ -12,8 +13,10 @@ list_all-requires-clause-kinds c =
 
 pub invariant_of-result : goal.invariant_of-result
 invariant_of-result c = record {
-  types = c.in_ok-list_all.ensures.types;
-  matches = c.in_ok-list_all.ensures.matches;
+  types = c.in_ok-list_all.ensures;
+  matches =
+      copied_matches c.self.inside.tables c.in_ok-tables.tables c.in_ok-tables.ensures (lists_of c.self.inside.by_id.slots)
+      (lists_of c.in_ok-by_id.by_id.slots) c.in_ok-by_id.ensures c.self.invariant.matches;
   graph = λ n m i e. absurd (let bad : ◌≡◌ {A = Option ℕ} None (Some m) = sym (c.new.ensures n i) ∙ e in cc);
   agreed =
       kept_agreed c.self.inside.tables c.in_ok-tables.tables (copied_kept c.self.inside.tables c.in_ok-tables.tables c.in_ok-tables.ensures)

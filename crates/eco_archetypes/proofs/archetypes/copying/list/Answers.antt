@@ -3,11 +3,8 @@ use Rattle.std.specs.Map.{lookup}
 use Rattle.eco_archetypes.specs.TypeMap.{same_ids}
 use Rattle.eco_archetypes.proofs.archetypes.copying.list.Goals as goal
 
-pub returns-clause-typed : goal.returns-clause-typed
-returns-clause-typed c = λ q.
+pub returns : goal.returns
+returns c = λ q.
     c.insert_reserved.ensures.0 q
     ∙ ap (λ es. cond (same_ids c.in_ok-key.key q) (Some c.args.slot) (lookup (same_ids q) es)) c.reserve_one.ensures.same
     ∙ ap (λ t. cond (same_ids t q) (Some c.args.slot) (lookup (same_ids q) c.args.by_type.now.slots.entries)) c.in_ok-key.ensures.is
-
-pub returns-clause-listed : goal.returns-clause-listed
-returns-clause-listed c = rw c.as_slice.ensures.ids at c.in_ok-add_all.ensures.ok

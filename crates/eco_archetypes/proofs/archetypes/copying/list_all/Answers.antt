@@ -1,31 +1,20 @@
-use Rattle.std.proofs.Common.{◌≡◌, ℕ, List, Option, Some, None, sym, ap, ◌∙◌, arith, option_map}
+use Rattle.std.proofs.Common.{◌≡◌, ℕ, List, Option, Some, None, sym, ap, ◌∙◌}
 use Rattle.std.specs.Option.{option_copied}
 use Rattle.std.specs.Map.{lookup}
 use Rattle.std.specs.HashMap.{get}
 use Rattle.eco_ids.specs.declared.id.Id.{Id}
-use Rattle.eco_tables.specs.Table.{TableState}
-use Rattle.eco_archetypes.specs.Archetypes.{type_matches}
-use Rattle.eco_archetypes.specs.IdIndex.{lists_of}
 use Rattle.eco_archetypes.specs.TypeMap.{same_ids}
-use Rattle.eco_archetypes.proofs.Copying.{taken_past, listed_more, listed_none}
+use Rattle.eco_archetypes.proofs.Copying.{listed_more, listed_none}
 use Rattle.eco_archetypes.proofs.archetypes.copying.list_all.Goals.{in-Some+in_ok-list, in_default}
 use Rattle.eco_archetypes.proofs.archetypes.copying.list_all.Goals as goal
 
 pub loop-slot-init : goal.loop-slot-init
-loop-slot-init c = (
-  record {
-    found = λ t n e.
-        let none : get same_ids c.args.by_type.now.slots t ≡ None = ap (lookup (same_ids t)) c.requires.no_type in
-        let bad : ◌≡◌ {A = Option ℕ} None (Some n) = sym none ∙ e in cc;
-    there = λ t n e. let bad : ◌≡◌ {A = Option (List Id)} None (Some t) = e in cc;
-  },
-  c.requires.no_slot,
-)
-
-pub list-requires : goal.list-requires
-list-requires c = λ p.
-    c.loop-slot.invariant.1 p c.loop-slot.slot
-    ∙ ap (λ o. type_matches (option_map (λ (t : TableState). t.ids) o) p) (taken_past c.args.tables.now c.loop-slot.slot c.loop-slot.slot (omega arith))
+loop-slot-init c = record {
+  found = λ t n e.
+      let none : get same_ids c.args.by_type.now.slots t ≡ None = ap (lookup (same_ids t)) c.requires.no_type in
+      let bad : ◌≡◌ {A = Option ℕ} None (Some n) = sym none ∙ e in cc;
+  there = λ t n e. let bad : ◌≡◌ {A = Option (List Id)} None (Some t) = e in cc;
+}
 
 pub loop-slot-preserved : goal.loop-slot-preserved
 loop-slot-preserved c =
@@ -34,12 +23,10 @@ loop-slot-preserved c =
     elim c.match-get.branch [
       | in-Some+in_ok-list w ↦
           let at = sym c.get.ensures ∙ ap option_copied w.in-Some.is in
-          rw (w.by_type-is, w.by_id-is)
-          (listed_more s k _ _ _ _ w.in-Some.table.now at c.requires.kinds c.loop-slot.invariant
-          (rw w.type_list.ensures.ids at w.in_ok-list.ensures.typed) (rw w.type_list.ensures.ids at w.in_ok-list.ensures.listed))
+          rw w.by_type-is
+          (listed_more s k _ _ w.in-Some.table.now at c.requires.kinds c.loop-slot.invariant
+          (rw w.type_list.ensures.ids at w.in_ok-list.ensures))
       | in_default w ↦
           let m = c.loop-slot.by_type.slots in
-          let l = lists_of c.loop-slot.by_id.slots in
-          rw (w.by_type-is, w.by_id-is)
-          (listed_none s k m m l l (sym c.get.ensures ∙ ap option_copied w.in_default.is) c.loop-slot.invariant)
+          rw w.by_type-is (listed_none s k m m (sym c.get.ensures ∙ ap option_copied w.in_default.is) c.loop-slot.invariant)
     ]

@@ -1,8 +1,7 @@
 use Rattle.std.proofs.Common.{take}
-use Rattle.eco_archetypes.specs.Archetypes.{type_at, IsIdIndex}
-use Rattle.eco_archetypes.specs.IdIndex.{lists_of}
+use Rattle.eco_archetypes.specs.Archetypes.{type_at}
 use Rattle.eco_archetypes.specs.TypeMap.{IsTypeMap}
 use Rattle.eco_archetypes.proofs.archetypes.copying.list_all.Given as goal
 
 abbrev pub invariant-loop-slot : goal.invariant-loop-slot
-invariant-loop-slot l = IsTypeMap (type_at (take l.slot l.tables)) l.by_type.slots × IsIdIndex (type_at (take l.slot l.tables)) (lists_of l.by_id.slots)
+invariant-loop-slot l = IsTypeMap (type_at (take l.slot l.tables)) l.by_type.slots

@@ -94,9 +94,15 @@ module _ (size : ℕ) where
       let b = codes ", " ++ (part_text q ++ d) in
       let a = part_text p ++ b in
       let inside : length a ≤ size = behind (codes "(") a size (subst (λ u. length u ≤ size) same le) in
-      let last : length (part_text q ++ d) ≤ size = behind (codes ", ") (part_text q ++ d) size (behind (part_text p) b size inside) in
-      (
-        a, b, part_text q ++ d, d, ([], refl, same), part_spelled p [] b refl hp inside, (codes " ", refl, refl), part_spelled q [] d refl hq last,
+      let last : length (part_text q ++ d) ≤ size = behind (codes ", ") (part_text q ++ d) size (behind (part_text p) b size inside) in (
+        a,
+        b,
+        part_text q ++ d,
+        d,
+        ([], refl, same),
+        part_spelled p [] b refl hp inside,
+        (codes " ", refl, refl),
+        part_spelled q [] d refl hq last,
         (white, w, refl),
       )
 

@@ -1,5 +1,5 @@
 -- A table under another type: one column comes to the others, or goes.
-use Rattle.std.proofs.Common.{◌≡◌, ℕ, zero, suc, ◌+◌, ◌≤◌, ◌<◌, Bool, true, false, not, cond, ◌&&◌, ◌||◌, if◌then◌else◌, List, [], ◌∷◌, map, filter, length}
+use Rattle.std.proofs.Common.{◌≡◌, ℕ, zero, suc, ◌+◌, ◌≤◌, ◌<◌, Bool, true, false, not, cond, ◌&&◌, ◌||◌, if◌then◌else◌, List, [], ◌∷◌, map, length}
 use Rattle.std.proofs.Common.{get_or, insert, remove}
 use Rattle.std.proofs.Common.{replicate, slice_get, Option, Some, None, unwrap_or, refl, sym, ap, ◌∙◌, subst, arith, IsTrue, true≢false, is_eq, is_lt, Less}
 use Rattle.std.proofs.Common.{Equal, Greater}
@@ -9,7 +9,6 @@ use Rattle.std.proofs.lemmas.List.{length-replicate}
 use Rattle.std.proofs.lemmas.List.Elements.{All-cons, All-head, All-tail, All-filter}
 use Rattle.eco_ids.specs.declared.entity.Entity.{Entity}
 use Rattle.eco_ids.specs.declared.id.Id.{Id}
-use Rattle.eco_ids.specs.declared.value.Value.{Value}
 use Rattle.eco_ids.specs.World.{zeros}
 use Rattle.eco_ids.specs.Order.{id_cmp, id_eq, has_item, is_ascending, with_item, without_item}
 use Rattle.eco_ids.proofs.Ascending.{first, second, ascending_with, ascending_without}
@@ -18,7 +17,7 @@ use Rattle.eco_ids.proofs.Facts.{equal_tie}
 use Rattle.eco_ids.proofs.IdOrder.{id_cmp_total, same_id}
 use Rattle.eco_ids.proofs.SetLaws.{joins_with, leaves_without}
 use Rattle.eco_tables.specs.Column.{ColumnState, held_in, value_in, kind_of, retyped, with_column, without_column}
-use Rattle.eco_tables.specs.Table.{TableState, Row, rows_from, rows_of, retyped_row, table_of, paired, width_among, width_in, AreKinds, HasShape}
+use Rattle.eco_tables.specs.Table.{TableState, rows_from, retyped_row, table_of, paired, width_among, width_in, AreKinds, HasShape}
 use Rattle.eco_tables.specs.Tables.{turned}
 use Rattle.eco_tables.proofs.Held.{above-other, above-none, same_eq, place_within, place_id}
 use Rattle.eco_tables.proofs.Rows.{ascends, within_ids, outside, no_column, zeros_held, held_value, ids_of_kinds}

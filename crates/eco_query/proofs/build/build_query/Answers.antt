@@ -66,8 +66,7 @@ loop-mark-preserved g c =
           let none = standing_left _ c.args.marks.now xs _ _ w.in-Slot.access w.in-Slot.head w.in-Slot.atom w.in_ok-last-in-Slot.last _ here last in
           let kept = slot_kept _ c.args.marks.now xs _ _ _ here _ w.in-Slot.head (atom_view w.in-Slot.atom) w.in_ok-last-in-Slot.last last r
           w.add_slot.ensures.range refl in
-          let added = w.in_ok-add_slot-in-Slot.ensures in
-          (
+          let added = w.in_ok-add_slot-in-Slot.ensures in (
             [],
             sym w.grouped-is,
             rw (w.slots-is, w.group-is, added.added, added.left, none) known,

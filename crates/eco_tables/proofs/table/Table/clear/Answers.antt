@@ -1,4 +1,4 @@
-use Rattle.std.proofs.Common.{◌≡◌, ◌+◌, ap, sym, ◌∙◌, refl, map, length, arith}
+use Rattle.std.proofs.Common.{◌≡◌, ◌+◌, ap, sym, ◌∙◌, refl, map, length}
 use Rattle.eco_tables.specs.Column.{emptied, kind_of}
 use Rattle.eco_tables.specs.Table.{rows_of, width_among}
 use Rattle.eco_tables.proofs.Rows.{kinds_same, length-rows_of, rewritten, shape_cleared}

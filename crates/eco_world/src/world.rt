@@ -23,6 +23,7 @@ use std::marker::Model;
 
 mod bulk;
 mod changes;
+mod copying;
 mod deletes;
 mod holdings;
 mod layout;

@@ -175,6 +175,8 @@ pub const CASES: &[Case] = &[
     Case("merge_add", MANY, Start::RecordedAdds, Calls::Merge),
     Case("merge_set", MANY, Start::RecordedSets, Calls::Merge),
     Case("merge_spawn", MANY, Start::RecordedSpawns, Calls::Merge),
+    Case("copy_world", EACH, Start::HaveValues, Calls::Copy),
+    Case("copy_world/own", PAIRS, Start::HaveOwnPair, Calls::Copy),
     Case("many_tags", DOUBLED, Start::OneLacksTags, Calls::Add),
     Case(
         "rel_add_to_used",

@@ -21,6 +21,8 @@ pub struct Scene {
     // What a merge does, and how many indices it admits first.
     stages: [Stage; 1],
     admitted: u32,
+    // What was copied of the world; like the world, it is given up once the time was taken.
+    copy: Option<World>,
 }
 
 // By hand, so that dropping it is one call: a derived drop is proved anew at each early return of whoever holds it.
@@ -35,6 +37,7 @@ impl Drop for Scene {
             rows: _,
             stages: _,
             admitted: _,
+            copy: _,
         } = self;
     }
 }
@@ -76,6 +79,8 @@ pub enum Calls {
     Rows,
     /// A query for each id, which one entity has: its text is read, and it is answered.
     ReadEach,
+    /// One copy of the world.
+    Copy,
 }
 
 // The sum of the first fields.
@@ -124,6 +129,7 @@ impl Scene {
             rows: Vec::new(alloc),
             stages: [Stage::new(alloc)],
             admitted: 0,
+            copy: None,
         })
     }
 
@@ -139,6 +145,7 @@ impl Scene {
             Calls::NoResults => return Ok(self.find_often(size)? == 0),
             Calls::Rows => return Ok(self.count_rows()? == size as usize),
             Calls::ReadEach => return Ok(self.count_by_texts()? == size as usize),
+            Calls::Copy => return Ok(self.copy()? == self.world.high()),
             Calls::Create => self.create(size)?,
             Calls::Add => self.add()?,
             Calls::Remove => self.remove()?,
@@ -382,6 +389,14 @@ impl Scene {
             found = found.saturating_add(self.count(*id)?);
         }
         Ok(found)
+    }
+
+    // Copies the world, and answers how many indices the copy knows.
+    fn copy(&mut self) -> Result<u32, Refusal> {
+        let copy = self.world.try_copy()?;
+        let known = copy.high();
+        self.copy = Some(copy);
+        Ok(known)
     }
 
     // Inserts so many numbers into a map, and answers whether all of them are in it.

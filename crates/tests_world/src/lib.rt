@@ -6,6 +6,8 @@ mod answers;
 #[cfg(test)]
 mod chains;
 #[cfg(test)]
+mod copying;
+#[cfg(test)]
 mod draws;
 #[cfg(test)]
 mod filter;

@@ -32,7 +32,7 @@ impl IdIndex {
     }
 }
 
-// Marks for the keys that are kept, where they stand, and not for those that went.
+// Marks for the keys that are kept, and not for those that went.
 fn marks_of(alloc: Global, slots: &IndexMap<Key, Slots>) -> Result<Marks, AllocError>
     ensures { IfOk result (λ marks. AreMarked marks slots.now) }
 {

@@ -1,6 +1,7 @@
-use Rattle.std.proofs.Common.{◌≡◌, None, nat_lt, add-one, length, take, sym, ap, ◌∙◌, arith, option_map, subst}
+use Rattle.std.proofs.Common.{◌≡◌, None, length, take, sym, ap, ◌∙◌, arith, nat_lt, option_map, subst}
 use Rattle.std.specs.Map.{lookup}
 use Rattle.std.specs.Map.Iter.{deref_pair}
+use Rattle.std.proofs.lemmas.Bool.{lt-ltb}
 use Rattle.std.proofs.Math.Seq.{take-length}
 use Rattle.eco_archetypes.specs.IdIndex.{same_key}
 use Rattle.eco_archetypes.proofs.IndexCopies.{marked_more}
@@ -9,7 +10,8 @@ use Rattle.eco_archetypes.proofs.id_index.copying.marks_of.Goals as goal
 pub loop-place-preserved : goal.loop-place-preserved
 loop-place-preserved c =
     marked_more c.loop-place.marks c.note.new.self c.args.slots.now.entries c.loop-place.place (c.unwrap.result.0.now, c.unwrap.result.1.now)
-    (sym c.get_index.ensures.entry ∙ ap (option_map deref_pair) c.unwrap.ensures) c.note.ensures.kept (ap (nat_lt 0) (c.in_ok-note.ensures.ok ∙ add-one _)) c.loop-place.invariant
+    (sym c.get_index.ensures.entry ∙ ap (option_map deref_pair) c.unwrap.ensures) c.note.ensures.kept
+    (ap (nat_lt 0) c.in_ok-note.ensures.ok ∙ lt-ltb 0 _ (omega arith)) c.loop-place.invariant
 
 pub returns : goal.returns
 returns c k unmarked =

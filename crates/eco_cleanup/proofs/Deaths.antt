@@ -10,7 +10,7 @@ use Rattle.eco_ids.specs.Indices.{Indexed}
 use Rattle.eco_ids.specs.Least.{Least, root, next}
 use Rattle.eco_ids.specs.Order.{entity_cmp, entity_eq, has_item, names_entity}
 use Rattle.eco_ids.specs.World.{Record, has}
-use Rattle.eco_ids.proofs.Ascending.{both, first, second}
+use Rattle.eco_ids.proofs.Ascending.{both, second}
 use Rattle.eco_ids.proofs.Facts.{any_is, or_left, or_parts, or_right}
 use Rattle.eco_ids.proofs.Overlaps.{entity_eq_is, entity_eq_itself}
 use Rattle.eco_tables.specs.Table.{Row, TableState, entities_of}

@@ -14,7 +14,7 @@ use Rattle.eco_ids.specs.declared.pattern.Part.TheVariants.{Is, Any}
 use Rattle.eco_ids.specs.declared.pattern.Pattern.{Pattern}
 use Rattle.eco_ids.specs.declared.pattern.Pattern.TheVariants.{One, Two}
 use Rattle.eco_ids.specs.Matching.{pattern_matches}
-use Rattle.eco_ids.specs.Order.{entity_cmp, entity_eq, has_item, names_entity}
+use Rattle.eco_ids.specs.Order.{entity_eq, names_entity}
 use Rattle.eco_ids.specs.OrderLaws.{entity_ties}
 use Rattle.eco_ids.specs.World.{WorldState}
 use Rattle.eco_ids.proofs.Ascending.{first}

@@ -1,5 +1,5 @@
 -- What is found among the nodes is what a delete does.
-use Rattle.std.proofs.Common.{◌≡◌, ℕ, nat_lt, Bool, true, false, cond, not, if◌then◌else◌, length, ◌↔◌, ◌||◌, inl, inr, List, [], ◌∷◌, ◌++◌, filter, map, flat_map, slice_get, Option, Some, None, unwrap_or, refl, sym, ap, ◌∙◌, subst, true≢false, IsTrue, IsFalse, arith}
+use Rattle.std.proofs.Common.{◌≡◌, ℕ, nat_lt, Bool, true, false, cond, not, length, ◌↔◌, ◌||◌, inl, inr, List, [], ◌∷◌, ◌++◌, map, flat_map, slice_get, Option, Some, None, unwrap_or, refl, sym, ap, ◌∙◌, subst, true≢false, IsTrue, IsFalse, arith}
 use Rattle.std.specs.List.{All, Contains, list_any}
 use Rattle.std.proofs.lemmas.List.{map-append}
 use Rattle.std.proofs.lemmas.List.Elements.{All-nil, All-cons, All-append, Contains-append_left, Contains-append_right}
@@ -11,10 +11,10 @@ use Rattle.eco_ids.specs.Cleanup.{Doomed, IsDoomed, after_delete, names_any}
 use Rattle.eco_ids.specs.Indices.{Indexed, record_of}
 use Rattle.eco_ids.specs.Losses.{without}
 use Rattle.eco_ids.specs.Least.{Least, root, next}
-use Rattle.eco_ids.specs.Order.{entity_cmp, entity_eq, has_item, id_cmp, id_eq, names_entity}
+use Rattle.eco_ids.specs.Order.{entity_cmp, entity_eq, has_item, names_entity}
 use Rattle.eco_ids.specs.World.{Record}
-use Rattle.eco_ids.proofs.Ascending.{both, first, second}
-use Rattle.eco_ids.proofs.Facts.{id_eq_itself, or_left, or_parts, or_right}
+use Rattle.eco_ids.proofs.Ascending.{first, second}
+use Rattle.eco_ids.proofs.Facts.{or_left, or_parts, or_right}
 use Rattle.eco_ids.proofs.Overlaps.{entity_eq_is, entity_eq_itself}
 use Rattle.eco_tables.specs.Table.{RowsHaveIds, TableState, entities_of, Row}
 use Rattle.eco_tables.specs.Tables.{no_row, no_table, slot_of, table_in}

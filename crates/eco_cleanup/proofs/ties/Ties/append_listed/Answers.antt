@@ -12,6 +12,6 @@ returns c =
     let items = c.listed-slot-items.result.now in
     let at_end : c.loop-slot.slot-index ≡ length items = omega (arith, c.loop-slot-test.false, c.loop-slot.auto.slot-index-end) in
     let whole = ap (λ n. take n items) at_end ∙ take-length items in
-    listed_come w slots c.args.member c.args.pattern items c.args.found.now.items c.loop-slot.found.items 
+    listed_come w slots c.args.member c.args.pattern items c.args.found.now.items c.loop-slot.found.items
     (rw c.archetypes.ensures at c.listed-slot-items.ensures.listed)
     (c.loop-slot.invariant ∙ ap (λ ns. c.args.found.now.items ++ flat_map (nodes_at w slots c.args.member) ns) whole)

@@ -1,5 +1,5 @@
 -- Who dies by the nodes that the search finds is who is doomed.
-use Rattle.std.proofs.Common.{◌≡◌, ℕ, Bool, true, false, ◌↔◌, ◌||◌, inl, inr, List, [], ◌∷◌, map, Option, refl, sym, ap, ◌∙◌, subst, true≢false, IsTrue}
+use Rattle.std.proofs.Common.{◌≡◌, ◌≢◌, ℕ, Bool, true, false, ◌↔◌, ◌||◌, inl, inr, List, [], ◌∷◌, map, Option, Some, refl, sym, ap, ◌∙◌, subst, true≢false, IsTrue}
 use Rattle.std.proofs.Math.Bool.{or-false}
 use Rattle.std.proofs.lemmas.List.Folds.{list_any-append}
 use Rattle.std.specs.List.{list_any}
@@ -10,21 +10,22 @@ use Rattle.eco_ids.specs.Indices.{Indexed}
 use Rattle.eco_ids.specs.Least.{Least, root, next}
 use Rattle.eco_ids.specs.Order.{entity_cmp, entity_eq, has_item, names_entity}
 use Rattle.eco_ids.specs.World.{Record, has}
-use Rattle.eco_ids.proofs.Ascending.{both, first, second}
+use Rattle.eco_ids.proofs.Ascending.{both, second}
 use Rattle.eco_ids.proofs.Facts.{any_is, or_left, or_parts, or_right}
 use Rattle.eco_ids.proofs.Overlaps.{entity_eq_is, entity_eq_itself}
-use Rattle.eco_tables.specs.Table.{TableState, entities_of}
+use Rattle.eco_tables.specs.Table.{Row, TableState, entities_of}
 use Rattle.eco_tables.specs.Tables.{slot_of, table_in}
+use Rattle.eco_archetypes.specs.Archetypes.{row_at}
 use Rattle.eco_archetypes.specs.TypeTests.{names_any}
 use Rattle.eco_store.specs.Store.{IsShown}
-use Rattle.eco_cleanup.specs.Nodes.{AreStarts, IsSearch, falls, is_falling, is_member, is_named, is_named_anywhere, is_one_of, leads, node_same, taken_among}
+use Rattle.eco_cleanup.specs.Nodes.{AreStarts, IsSearch, falls, is_falling, is_named, is_one_of, is_root, leads, node_same, taken_among}
 use Rattle.eco_cleanup.specs.Nodes.{taken_by, touches}
 use Rattle.eco_cleanup.specs.Policies.{names_on}
 use Rattle.eco_store.specs.Worlds.{world_of}
 use Rattle.eco_cleanup.specs.contracts.node.NodePartialEq.TheImpl as node_impl
 use Rattle.eco_cleanup.specs.declared.node.Node.{Node}
-use Rattle.eco_cleanup.specs.declared.node.Node.TheVariants.{Root, Member, Falling, Named}
-use Rattle.eco_cleanup.proofs.Noted.{node_itself}
+use Rattle.eco_cleanup.specs.declared.node.Node.TheVariants.{Root, Falling, Named}
+use Rattle.eco_cleanup.proofs.Noted.{node_itself, same_test}
 use Rattle.eco_cleanup.proofs.Roles.{names_on_exact, names_on_names}
 use Rattle.eco_cleanup.proofs.Standing.{any_id, found_at, has_at, row_of, some_id, stands_among, stands_with}
 
@@ -60,6 +61,37 @@ module _ (slots : List (Option TableState)) where
       let one = any_is (λ a. has_item entity_cmp (taken_by slots a) e) nodes (sym (taken_any nodes e) ∙ h) in
       (one.0, one.2 ((node_impl.eq-value).it one.0) (node_itself one.0), one.1)
 
+  -- who stands in one table alone dies as a root, or where that falls
+  pub dies_there : (nodes : List Node) (e : Entity) (n : ℕ) → (row : ℕ) × (r : Row) × (row_at slots n row ≡ Some r) × (r.entity ≡ e)
+      → ((m row : ℕ) (r : Row) → row_at slots m row ≡ Some r → r.entity ≡ e → m ≡ n)
+      → (is_root nodes e || is_falling nodes n) ≡ has_item entity_cmp (taken_among slots nodes) e
+  dies_there nodes e n row only = same_test _ _ (
+    λ h. elim (or_parts (is_root nodes e) (is_falling nodes n) h) as (λ _. IsTrue (has_item entity_cmp (taken_among slots nodes) e)) [
+      | inl own ↦ by_one nodes e (Root e) own (one_itself e)
+      | inr falls ↦ by_one nodes e (Falling n) falls
+          (subst (λ x. IsTrue (has_item entity_cmp (entities_of (table_in slots n).rows) x)) row.3 (stands_among (table_in slots n).rows row.0 row.1 row.2))
+    ],
+    λ h. let one = by_which nodes e h in by one.0 one.1 one.2,
+  )
+    where
+      by : (a : Node) → IsTrue (is_one_of nodes a) → Takes a e → IsTrue (is_root nodes e || is_falling nodes n)
+      by (Root x) there takes = or_left (is_root nodes e) (is_falling nodes n) (subst (λ y. IsTrue (is_root nodes y)) (one_is x e takes) there)
+      by (Falling k) there takes =
+          let other = row_of (table_in slots k).rows e takes in
+          or_right (is_root nodes e) (is_falling nodes n) (subst (λ m. IsTrue (is_falling nodes m)) (only k other.0 other.1 other.2 other.3) there)
+      by (Named k) there takes = absurd (true≢false (sym takes))
+
+  -- and who stands nowhere as a root
+  pub dies_nowhere : (nodes : List Node) (e : Entity) → ((m row : ℕ) (r : Row) → row_at slots m row ≡ Some r → r.entity ≢ e)
+      → is_root nodes e ≡ has_item entity_cmp (taken_among slots nodes) e
+  dies_nowhere nodes e nowhere =
+      same_test _ _ (λ own. by_one nodes e (Root e) own (one_itself e), λ h. let one = by_which nodes e h in by one.0 one.1 one.2)
+    where
+      by : (a : Node) → IsTrue (is_one_of nodes a) → Takes a e → IsTrue (is_root nodes e)
+      by (Root x) there takes = subst (λ y. IsTrue (is_root nodes y)) (one_is x e takes) there
+      by (Falling k) there takes = let other = row_of (table_in slots k).rows e takes in absurd (nowhere k other.0 other.1 other.2 other.3)
+      by (Named k) there takes = absurd (true≢false (sym takes))
+
   -- by roots, these alone
   pub taken_roots : (es : List Entity) → taken_among slots (map Root es) ≡ es
   taken_roots [] = refl
@@ -89,13 +121,11 @@ module _ (v : Indexed Record) (slots : List (Option TableState)) (shown : IsShow
   -- what a node that is found means
   abbrev Meant : Node → Type 0
   Meant (Root e) = Doomed (world_of v) IsRoot e
-  Meant (Member e) = Doomed (world_of v) IsRoot e
   Meant (Falling n) = (e : Entity) → Standing n e → Doomed (world_of v) IsRoot e
   Meant (Named n) = Unit {0}
 
   begins : (a : Node) → IsTrue (is_one_of starts a) → Meant a
   begins (Root e) h = root (by_one slots starts e (Root e) h (one_itself e))
-  begins (Member e) h = absurd (true≢false (sym (begin (Member e) h)))
   begins (Falling n) h = λ e standing. root (by_one slots starts e (Falling n) h standing)
   begins (Named n) h = tt
 
@@ -112,13 +142,10 @@ module _ (v : Indexed Record) (slots : List (Option TableState)) (shown : IsShow
 
   goes_on : (a b : Node) → Meant a → IsTrue (leads (world_of v) slots a b) → Meant b
   goes_on (Root m) (Root x) meant h = absurd (true≢false (sym h))
-  goes_on (Root m) (Member x) meant h = absurd (true≢false (sym h))
   goes_on (Root m) (Falling n) meant h = λ e standing. falls_with n e m meant (second (is_named slots m n) (falls (world_of v) slots m n) h) standing
   goes_on (Root m) (Named n) meant h = tt
-  goes_on (Member m) b meant h = absurd (true≢false (sym h))
-  goes_on (Falling n) (Root x) meant h = absurd (true≢false (sym h))
-  goes_on (Falling n) (Member x) meant h =
-      meant x (first (has_item entity_cmp (entities_of (table_in slots n).rows) x) (is_named_anywhere slots x) h)
+  goes_on (Falling n) (Root x) meant h =
+      let m = some_entity (λ e. touches (world_of v) slots e (Root x)) (entities_of (table_in slots n).rows) h in absurd (true≢false (sym m.2))
   goes_on (Falling n) (Falling k) meant h = λ e standing.
       let m = some_entity (λ x. touches (world_of v) slots x (Falling k)) (entities_of (table_in slots n).rows) h in
       falls_with k e m.0 (meant m.0 m.1) (second (is_named slots m.0 k) (falls (world_of v) slots m.0 k) m.2) standing
@@ -131,7 +158,6 @@ module _ (v : Indexed Record) (slots : List (Option TableState)) (shown : IsShow
 
   pub taken_doomed : (a : Node) → Meant a → (e : Entity) → Takes slots a e → Doomed (world_of v) IsRoot e
   taken_doomed (Root x) meant e takes = subst (Doomed (world_of v) IsRoot) (one_is x e takes) meant
-  taken_doomed (Member x) meant e takes = absurd (true≢false (sym takes))
   taken_doomed (Falling n) meant e takes = meant e takes
   taken_doomed (Named n) meant e takes = absurd (true≢false (sym takes))
 
@@ -139,14 +165,12 @@ module _ (v : Indexed Record) (slots : List (Option TableState)) (shown : IsShow
   pub falls_next : (a : Node) (m : Entity) (n : ℕ) → Takes slots a m → IsTrue (touches (world_of v) slots m (Falling n))
       → IsTrue (leads (world_of v) slots a (Falling n))
   falls_next (Root x) m n takes h = subst (λ y. IsTrue (touches (world_of v) slots y (Falling n))) (sym (one_is x m takes)) h
-  falls_next (Member x) m n takes h = takes
   falls_next (Falling k) m n takes h = any_entity (λ e. touches (world_of v) slots e (Falling n)) (entities_of (table_in slots k).rows) m takes h
   falls_next (Named k) m n takes h = takes
 
   pub named_next : (a : Node) (m : Entity) (n : ℕ) → Takes slots a m → IsTrue (touches (world_of v) slots m (Named n))
       → IsTrue (leads (world_of v) slots a (Named n))
   named_next (Root x) m n takes h = subst (λ y. IsTrue (touches (world_of v) slots y (Named n))) (sym (one_is x m takes)) h
-  named_next (Member x) m n takes h = takes
   named_next (Falling k) m n takes h = any_entity (λ e. touches (world_of v) slots e (Named n)) (entities_of (table_in slots k).rows) m takes h
   named_next (Named k) m n takes h = takes
 
@@ -186,28 +210,6 @@ module _ (v : Indexed Record) (slots : List (Option TableState)) (shown : IsShow
     λ d. let one = complete v slots shown starts begin d in by_one slots keys e one.0 ((exact one.0).1 one.1) one.2,
   )
 
-  -- a member dies
-  pub member_dies : (m : Entity) → IsTrue (is_member keys m) → IsTrue (has_item entity_cmp (taken_among slots keys) m)
-  member_dies m member =
-      elim (or_parts (is_one_of keys (Root m)) (is_one_of keys (Member m)) member) as (λ _. IsTrue (has_item entity_cmp (taken_among slots keys) m)) [
-        | inl own ↦ by_one slots keys m (Root m) own (one_itself m)
-        | inr led ↦ (doomed_exactly m).1 (sound v slots shown starts begin ((exact (Member m)).0 led))
-      ]
-
-  -- and who dies, and is named somewhere, is a member
-  pub named_member : (m : Entity) → IsTrue (has_item entity_cmp (taken_among slots keys) m) → IsTrue (is_named_anywhere slots m) → IsTrue (is_member keys m)
-  named_member m dies named = let one = by_which slots keys m dies in by one.0 one.1 one.2
-    where
-      by : (a : Node) → IsTrue (is_one_of keys a) → Takes slots a m → IsTrue (is_member keys m)
-      by (Root x) there takes =
-          or_left (is_one_of keys (Root m)) (is_one_of keys (Member m)) (subst (λ y. IsTrue (is_one_of keys (Root y))) (one_is x m takes) there)
-      by (Member x) there takes = absurd (true≢false (sym takes))
-      by (Falling n) there takes =
-          or_right (is_one_of keys (Root m)) (is_one_of keys (Member m))
-          ((exact (Member m)).1 (next {b = Member m} ((exact (Falling n)).0 there)
-          (both (has_item entity_cmp (entities_of (table_in slots n).rows) m) (is_named_anywhere slots m) takes named)))
-      by (Named n) there takes = absurd (true≢false (sym takes))
-
   -- a table whose type names one who dies is found, in its kind
   pub touched_there : (m : Entity) (n : ℕ) → IsTrue (has_item entity_cmp (taken_among slots keys) m) → IsTrue (touches (world_of v) slots m (Falling n))
       → IsTrue (is_falling keys n)
@@ -228,24 +230,4 @@ module _ (v : Indexed Record) (slots : List (Option TableState)) (shown : IsShow
     where
       by : (b : Bool) → is_falling keys n ≡ b → is_falling keys n ≡ false
       by true is = absurd (true≢false (sym (by_one slots keys h (Falling n) is standing) ∙ outside))
-      by false is = is
-
-  -- who is no member, and stands in a table that stays, does not die
-  pub outside_stays : (h : Entity) (n : ℕ) → IsTrue (has_item entity_cmp (entities_of (table_in slots n).rows) h)
-      → is_member keys h ≡ false → is_falling keys n ≡ false → has_item entity_cmp (taken_among slots keys) h ≡ false
-  outside_stays h n standing outside spared = by (has_item entity_cmp (taken_among slots keys) h) refl
-    where
-      at_node : (a : Node) → IsTrue (is_one_of keys a) → Takes slots a h → true ≡ false
-      at_node (Root x) there takes =
-          sym (or_left (is_one_of keys (Root h)) (is_one_of keys (Member h)) (subst (λ y. IsTrue (is_one_of keys (Root y))) (one_is x h takes) there)) ∙ outside
-      at_node (Member x) there takes = sym takes
-      at_node (Falling k) there takes =
-          let here = row_of (table_in slots n).rows h standing in
-          let other = row_of (table_in slots k).rows h takes in
-          let same = shown.once n here.0 k other.0 here.1 other.1 here.2 other.2 (here.3 ∙ sym other.3) in
-          sym (subst (λ m. IsTrue (is_falling keys m)) (sym same.0) there) ∙ spared
-      at_node (Named k) there takes = sym takes
-
-      by : (b : Bool) → has_item entity_cmp (taken_among slots keys) h ≡ b → has_item entity_cmp (taken_among slots keys) h ≡ false
-      by true is = let one = by_which slots keys h is in absurd (true≢false (at_node one.0 one.1 one.2))
       by false is = is

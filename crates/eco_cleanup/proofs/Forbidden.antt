@@ -18,17 +18,17 @@ use Rattle.eco_tables.specs.Table.{TableState, entities_of}
 use Rattle.eco_tables.specs.Tables.{slot_of, table_in}
 use Rattle.eco_archetypes.specs.TypeTests.{names_any}
 use Rattle.eco_store.specs.Store.{IsShown}
-use Rattle.eco_cleanup.specs.Nodes.{AreStarts, IsSearch, falls, is_falling, is_member, is_named, is_one_of, node_same, taken_among}
+use Rattle.eco_cleanup.specs.Nodes.{AreStarts, IsSearch, falls, is_falling, is_named, is_one_of, node_same, taken_among}
 use Rattle.eco_cleanup.specs.Objections.{Judges, first_objection}
 use Rattle.eco_cleanup.specs.Policies.{names_on}
 use Rattle.eco_store.specs.Worlds.{world_of}
 use Rattle.eco_cleanup.specs.contracts.node.NodePartialEq.TheImpl as node_impl
 use Rattle.eco_cleanup.specs.declared.node.Node.{Node}
-use Rattle.eco_cleanup.specs.declared.node.Node.TheVariants.{Root, Member, Falling, Named}
+use Rattle.eco_cleanup.specs.declared.node.Node.TheVariants.{Root, Falling, Named}
 use Rattle.eco_cleanup.specs.declared.objection.Objection.{Objection}
-use Rattle.eco_cleanup.proofs.Deaths.{doomed_exactly, member_dies, named_found, named_member, outside_stays, spare, touched_there}
+use Rattle.eco_cleanup.proofs.Deaths.{doomed_exactly, named_found, spare, touched_there}
 use Rattle.eco_cleanup.proofs.Firsts.{IsFirst}
-use Rattle.eco_cleanup.proofs.Noted.{named_somewhere, same_test}
+use Rattle.eco_cleanup.proofs.Noted.{same_test}
 use Rattle.eco_cleanup.proofs.Objections.{objection_cmp_total, objection_first, objects, objects_at}
 use Rattle.eco_cleanup.proofs.Roles.{names_on_exact, names_on_names}
 use Rattle.eco_cleanup.proofs.Standing.{any_id, found_at, has_at, row_of, some_id, stands_among, stands_with}
@@ -46,41 +46,38 @@ module _ (v : Indexed Record) (slots : List (Option TableState)) (shown : IsShow
     (same : (e : Entity) → has_item entity_cmp members e ≡ has_item entity_cmp (taken_among slots keys) e) where
   -- ---- what objects, forbids
 
-  forbids_at : (n : ℕ) (o : Objection) → is_falling keys n ≡ false → IsTrue (objects_at (world_of v) keys (table_in slots n) o)
+  forbids_at : (n : ℕ) (o : Objection) → IsTrue (objects_at (world_of v) (taken_among slots keys) (table_in slots n) o)
       → Forbids (world_of v) members o.holder o.member
-  forbids_at n o spared h =
+  forbids_at n o h =
       let rows = (table_in slots n).rows in
       let standing = has_item entity_cmp (entities_of rows) o.holder in
-      let outside = not (is_member keys o.holder) in
+      let stays = not (has_item entity_cmp (taken_among slots keys) o.holder) in
+      let dies = has_item entity_cmp (taken_among slots keys) o.member in
       let named = list_any (names_on (world_of v) PANIC o.member) (table_in slots n).ids in
-      let held = first (standing && outside) (is_member keys o.member && named) h in
-      let protected = second (standing && outside) (is_member keys o.member && named) h in
-      let row = row_of rows o.holder (first standing outside held) in
-      let id = some_id (names_on (world_of v) PANIC o.member) (table_in slots n).ids (second (is_member keys o.member) named protected) in
+      let held = first (standing && stays) (dies && named) h in
+      let protected = second (standing && stays) (dies && named) h in
+      let row = row_of rows o.holder (first standing stays held) in
+      let id = some_id (names_on (world_of v) PANIC o.member) (table_in slots n).ids (second dies named protected) in
       let has_id : IsTrue (has (world_of v) o.holder id.0) =
       subst (λ x. IsTrue (has (world_of v) x id.0)) row.3 (has_at v slots shown n row.0 row.1 id.0 row.2 ∙ id.1) in (
         has_alive (world_of v) o.holder id.0 has_id,
-        same o.holder
-            ∙ outside_stays v slots shown starts keys begin exact o.holder n (first standing outside held)
-            (not_true (is_member keys o.holder) (second standing outside held)) spared,
-        same o.member ∙ member_dies v slots shown starts keys begin exact o.member (first (is_member keys o.member) named protected),
+        same o.holder ∙ not_true (has_item entity_cmp (taken_among slots keys) o.holder) (second standing stays held),
+        same o.member ∙ first dies named protected,
         (id.0, has_id, (names_on_exact (world_of v) PANIC o.member id.0).0 id.2),
       )
 
-  forbids_of : (a : Node) (o : Objection) → IsTrue (objects (world_of v) keys slots a o) → Forbids (world_of v) members o.holder o.member
+  forbids_of : (a : Node) (o : Objection) → IsTrue (objects (world_of v) slots keys a o) → Forbids (world_of v) members o.holder o.member
   forbids_of (Root e) o h = absurd (true≢false (sym h))
-  forbids_of (Member e) o h = absurd (true≢false (sym h))
   forbids_of (Falling n) o h = absurd (true≢false (sym h))
   forbids_of (Named n) o h =
       let stays = not (is_falling keys n) in
-      let objecting = objects_at (world_of v) keys (table_in slots n) o in
-      forbids_at n o (not_true (is_falling keys n) (first stays objecting h)) (second stays objecting h)
+      let objecting = objects_at (world_of v) (taken_among slots keys) (table_in slots n) o in forbids_at n o (second stays objecting h)
 
   abbrev some_objects : Objection → Bool
-  some_objects o = list_any (λ a. objects (world_of v) keys slots a o) keys
+  some_objects o = list_any (λ a. objects (world_of v) slots keys a o) keys
 
   forbids_if : (o : Objection) → IsTrue (some_objects o) → Forbids (world_of v) members o.holder o.member
-  forbids_if o h = let one = any_is (λ a. objects (world_of v) keys slots a o) keys h in forbids_of one.0 o one.1
+  forbids_if o h = let one = any_is (λ a. objects (world_of v) slots keys a o) keys h in forbids_of one.0 o one.1
 
   -- ---- what forbids, objects
 
@@ -93,13 +90,6 @@ module _ (v : Indexed Record) (slots : List (Option TableState)) (shown : IsShow
       (sym (touched_there v slots shown starts keys begin exact m n dies (both (is_named slots m n) (falls (world_of v) slots m n) found falling)) ∙ spared))
   named_there m n dies found spared false falling =
       named_found v slots shown starts keys begin exact m n dies (both (is_named slots m n) (not (falls (world_of v) slots m n)) found (ap not falling))
-
-  no_member : (h : Entity) → has_item entity_cmp (taken_among slots keys) h ≡ false → is_member keys h ≡ false
-  no_member h stays = by (is_member keys h) refl
-    where
-      by : (b : Bool) → is_member keys h ≡ b → is_member keys h ≡ false
-      by true is = absurd (true≢false (sym (member_dies v slots shown starts keys begin exact h is) ∙ stays))
-      by false is = is
 
   objects_if : (h m : Entity) → Forbids (world_of v) members h m → IsTrue (some_objects (record { holder = h; member = m }))
   objects_if h m forbids =
@@ -115,18 +105,18 @@ module _ (v : Indexed Record) (slots : List (Option TableState)) (shown : IsShow
       (any_id (λ i. names_entity i m) ids held.0 row.5 (names_on_names (world_of v) PANIC m held.0 on)) in
       let standing = subst (λ x. IsTrue (has_item entity_cmp (entities_of rows) x)) row.4 (stands_among rows row.1 row.2 row.3) in
       let stays = sym (same h) ∙ forbids.1 in
-      let outside : is_member keys h ≡ false = no_member h stays in
-      let member : IsTrue (is_member keys m) =
-      named_member v slots shown starts keys begin exact m (sym (same m) ∙ forbids.2) (named_somewhere slots m n found) in
+      let dies = sym (same m) ∙ forbids.2 in
       let spared : is_falling keys n ≡ false = spare v slots shown starts keys begin exact h n standing stays in
-      let objecting : IsTrue (objects (world_of v) keys slots (Named n) o) =
-      both (not (is_falling keys n)) (objects_at (world_of v) keys (table_in slots n) o) (ap not spared)
-      (both (has_item entity_cmp (entities_of rows) h && not (is_member keys h)) (is_member keys m && list_any (names_on (world_of v) PANIC m) ids)
-      (both (has_item entity_cmp (entities_of rows) h) (not (is_member keys h)) standing (ap not outside))
-      (both (is_member keys m) (list_any (names_on (world_of v) PANIC m) ids) member panics)) in
-      let one = any_is ((node_impl.eq-value).it (Named n)) keys (named_there m n (sym (same m) ∙ forbids.2) found spared (falls (world_of v) slots m n) refl) in
-      one.2 (λ a. objects (world_of v) keys slots a o)
-      (subst (λ a. IsTrue (objects (world_of v) keys slots a o)) (node_same (Named n) one.0 one.1) objecting)
+      let dead = taken_among slots keys in
+      let objecting : IsTrue (objects (world_of v) slots keys (Named n) o) =
+      both (not (is_falling keys n)) (objects_at (world_of v) dead (table_in slots n) o) (ap not spared)
+      (both (has_item entity_cmp (entities_of rows) h && not (has_item entity_cmp dead h))
+      (has_item entity_cmp dead m && list_any (names_on (world_of v) PANIC m) ids)
+      (both (has_item entity_cmp (entities_of rows) h) (not (has_item entity_cmp dead h)) standing (ap not stays))
+      (both (has_item entity_cmp dead m) (list_any (names_on (world_of v) PANIC m) ids) dies panics)) in
+      let one = any_is ((node_impl.eq-value).it (Named n)) keys (named_there m n dies found spared (falls (world_of v) slots m n) refl) in
+      one.2 (λ a. objects (world_of v) slots keys a o)
+      (subst (λ a. IsTrue (objects (world_of v) slots keys a o)) (node_same (Named n) one.0 one.1) objecting)
 
   -- ---- the least of them
 
@@ -140,7 +130,7 @@ module _ (v : Indexed Record) (slots : List (Option TableState)) (shown : IsShow
   )
 
   pub judged : Judges (world_of v) members (first_objection (world_of v) slots keys)
-  judged = judged_as (first_objection (world_of v) slots keys) (objection_first (world_of v) keys slots)
+  judged = judged_as (first_objection (world_of v) slots keys) (objection_first (world_of v) slots keys)
 
 -- whatever the search found, its first objection is the least of all
 pub judged_exactly : (v : Indexed Record) (slots : List (Option TableState)) → IsShown v slots → (starts keys : List Node) → AreStarts starts

@@ -1,6 +1,6 @@
 -- What a root, or a table that falls, leads to.
-use Rattle.std.proofs.Common.{◌≡◌, ◌≢◌, ℕ, zero, suc, ◌+◌, ◌<◌, get_or, length, take, Bool, true, false, cond, not, nat_eq, ◌&&◌, ◌||◌, ◌↔◌, ◌⊎◌, inl, inr, List, [], ◌∷◌, ◌++◌, map, Option, Some, None}
-use Rattle.std.proofs.Common.{unwrap_or, is_some, refl, sym, ap, ◌∙◌, subst, true≢false, IsTrue, arith}
+use Rattle.std.proofs.Common.{◌≡◌, ℕ, zero, suc, ◌+◌, ◌<◌, get_or, length, take, Bool, true, false, cond, not, nat_eq, nat_lt, ◌&&◌, ◌||◌, ◌↔◌, ◌⊎◌, inl, inr, List, [], ◌∷◌, ◌++◌, map, filter, flat_map, Option, Some, None}
+use Rattle.std.proofs.Common.{unwrap_or, option_map, is_some, refl, sym, ap, ◌∙◌, subst, true≢false, IsTrue, arith}
 use Rattle.std.proofs.Math.Bool.{or-false}
 use Rattle.std.proofs.Math.Seq.{take-suc}
 use Rattle.std.proofs.lemmas.Bool.{or_left}
@@ -9,7 +9,12 @@ use Rattle.std.proofs.lemmas.List.Folds.{list_any-append}
 use Rattle.std.specs.List.{list_any}
 use Rattle.eco_ids.specs.declared.entity.Entity.{Entity}
 use Rattle.eco_ids.specs.declared.id.Id.{Id}
-use Rattle.eco_ids.specs.Order.{entity_cmp, entity_eq, has_item}
+use Rattle.eco_ids.specs.declared.id.Id.TheVariants as id
+use Rattle.eco_ids.specs.declared.pattern.Part.TheVariants.{Is, Any}
+use Rattle.eco_ids.specs.declared.pattern.Pattern.{Pattern}
+use Rattle.eco_ids.specs.declared.pattern.Pattern.TheVariants.{One, Two}
+use Rattle.eco_ids.specs.Matching.{pattern_matches}
+use Rattle.eco_ids.specs.Order.{entity_eq, names_entity}
 use Rattle.eco_ids.specs.OrderLaws.{entity_ties}
 use Rattle.eco_ids.specs.World.{WorldState}
 use Rattle.eco_ids.proofs.Ascending.{first}
@@ -17,14 +22,11 @@ use Rattle.eco_ids.proofs.Facts.{any_is, or_parts, or_right}
 use Rattle.eco_ids.proofs.Overlaps.{entity_eq_is, entity_eq_itself}
 use Rattle.eco_tables.specs.Table.{TableState, entities_of}
 use Rattle.eco_tables.specs.Tables.{no_table, slot_of, table_in}
-use Rattle.eco_archetypes.specs.Archetypes.{FindsSome, IsAllFound, is_found_by}
-use Rattle.eco_archetypes.specs.Naming.{is_named_by_some}
+use Rattle.eco_archetypes.specs.Archetypes.{is_found, is_found_by, type_at, type_matches}
 use Rattle.eco_archetypes.specs.TypeTests.{names_any}
-use Rattle.eco_archetypes.proofs.Listings.{distinct_none}
-use Rattle.eco_archetypes.proofs.Named.{none_names}
-use Rattle.eco_cleanup.specs.Nodes.{Appends, AreStarts, adds, all_nodes, falls, is_named_anywhere, is_one_of, leads, named_node, nodes_from, nodes_of, touches}
+use Rattle.eco_cleanup.specs.Nodes.{Appends, AreStarts, all_nodes, falls, has_rows, is_named, is_one_of, leads, named_node, nodes_at, nodes_from, touches, touches_by}
 use Rattle.eco_cleanup.specs.declared.node.Node.{Node}
-use Rattle.eco_cleanup.specs.declared.node.Node.TheVariants.{Root, Member, Falling, Named}
+use Rattle.eco_cleanup.specs.declared.node.Node.TheVariants.{Root, Falling, Named}
 use Rattle.eco_cleanup.specs.contracts.node.NodePartialEq.TheImpl as node_impl
 
 abbrev same_node : Node → Node → Bool
@@ -37,7 +39,7 @@ or_fact a b c e = (λ h. or_parts b c (sym e ∙ h), λ h. e ∙ elim h as (λ _
 pub joined : (old more : List Node) (b : Node) → is_one_of (old ++ more) b ≡ (is_one_of old b || is_one_of more b)
 joined old more b = list_any-append _ old more
 
--- ---- members
+-- ---- kinds of nodes
 
 pub entity_eq_turns : (a b : Entity) → entity_eq a b ≡ entity_eq b a
 entity_eq_turns a b = by (entity_eq a b) (entity_eq b a) refl refl
@@ -48,10 +50,6 @@ entity_eq_turns a b = by (entity_eq a b) (entity_eq b a) refl refl
     by true false p q = sym (subst (λ e. IsTrue (entity_eq e a)) (entity_eq_is a b p) (entity_eq_itself a)) ∙ q
     by false true p q = sym p ∙ subst (λ e. IsTrue (entity_eq e b)) (entity_eq_is b a q) (entity_eq_itself b)
 
-pub members_are : (es : List Entity) (e : Entity) → is_one_of (map Member es) (Member e) ≡ has_item entity_cmp es e
-members_are [] e = refl
-members_are (x ∷ es) e = λ t. (entity_ties e x ∙ entity_eq_turns e x) t || members_are es e t
-
 -- nodes of one kind are none of another
 pub no_others : {A : Type 0} (kind : A → Node) (xs : List A) (b : Node) → ((x : A) → same_node b (kind x) ≡ false) → is_one_of (map kind xs) b ≡ false
 no_others kind [] b none = refl
@@ -60,13 +58,11 @@ no_others kind (x ∷ xs) b none = ap (λ t. t || is_one_of (map kind xs) b) (no
 -- roots, and tables that fall, are starts
 pub roots_start : (es : List Entity) → AreStarts (map Root es)
 roots_start es (Root e) h = refl
-roots_start es (Member e) h = sym (no_others Root es (Member e) (λ x. refl)) ∙ h
 roots_start es (Falling n) h = refl
 roots_start es (Named n) h = sym (no_others Root es (Named n) (λ x. refl)) ∙ h
 
 pub tables_start : (ns : List ℕ) → AreStarts (map Falling ns)
 tables_start ns (Root e) h = refl
-tables_start ns (Member e) h = sym (no_others Falling ns (Member e) (λ x. refl)) ∙ h
 tables_start ns (Falling n) h = refl
 tables_start ns (Named n) h = sym (no_others Falling ns (Named n) (λ x. refl)) ∙ h
 
@@ -77,27 +73,6 @@ tables_are (k ∷ ns) n = ap (λ t. nat_eq n k || t) (tables_are ns n)
 -- a node that leads to nothing
 pub nothing_comes : (old : List Node) (b : Node) → IsTrue (is_one_of old b) ↔ (IsTrue (is_one_of old b) ⊎ IsTrue false)
 nothing_comes old b = or_fact _ _ _ (sym (or-false _))
-
--- ---- tables that are found
-
-slot_found : (test : List Id → Bool) (slots : List (Option TableState)) (n : ℕ) → IsTrue (is_found_by test (slot_of slots n))
-    → IsTrue (list_any (is_found_by test) slots)
-slot_found test [] n h = absurd (true≢false (sym h))
-slot_found test (o ∷ slots) zero h = or_left (is_found_by test o) (list_any (is_found_by test) slots) h
-slot_found test (o ∷ slots) (suc n) h = or_right (is_found_by test o) (list_any (is_found_by test) slots) (slot_found test slots n h)
-
-found_slot : (test : List Id → Bool) (slots : List (Option TableState)) → IsTrue (list_any (is_found_by test) slots) → FindsSome test slots
-found_slot test [] h = absurd (true≢false (sym h))
-found_slot test (o ∷ slots) h =
-    elim (or_parts (is_found_by test o) (list_any (is_found_by test) slots) h) as (λ _. FindsSome test (o ∷ slots)) [
-      | inl here ↦ (0, here)
-      | inr later ↦ let rest = found_slot test slots later in (suc rest.0, rest.1)
-    ]
-
--- whom a table names that has rows is named somewhere
-pub named_somewhere : (slots : List (Option TableState)) (m : Entity) (n : ℕ) → IsTrue (is_found_by (λ ids. names_any ids m) (slot_of slots n))
-    → IsTrue (is_named_anywhere slots m)
-named_somewhere slots m n h = slot_found (λ ids. names_any ids m) slots n h
 
 -- two tests that hold for the same
 pub same_test : (a b : Bool) → IsTrue a ↔ IsTrue b → a ≡ b
@@ -119,12 +94,79 @@ spread_right m t (b ∷ bs) = by (t b) (spread_right m t bs)
         absorbed false true each is = is
         absorbed false false each is = is
 
--- ---- tables that name a member
+-- ---- tables that name an entity
+
+abbrev listed : List ℕ → ℕ → Bool
+listed found n = list_any (nat_eq n) found
+
+any_filtered : (p : ℕ → Bool) (ns : List ℕ) (k : ℕ) → listed (filter p ns) k ≡ (listed ns k && p k)
+any_filtered p [] k = refl
+any_filtered p (n ∷ ns) k = by (p n) (nat_eq k n) refl refl (any_filtered p ns k)
+  where
+    by : (b s : Bool) → p n ≡ b → nat_eq k n ≡ s → listed (filter p ns) k ≡ (listed ns k && p k)
+        → listed (cond b (n ∷ filter p ns) (filter p ns)) k ≡ ((s || listed ns k) && p k)
+    by true true is same rest = ap (λ t. t || listed (filter p ns) k) same ∙ sym (ap p ((Decides-eqb k n).0 same) ∙ is)
+    by true false is same rest = ap (λ t. t || listed (filter p ns) k) same ∙ rest
+    by false true is same rest = rest ∙ none (listed ns k) (p k) (ap p ((Decides-eqb k n).0 same) ∙ is)
+      where
+        none : (l q : Bool) → q ≡ false → (l && q) ≡ q
+        none true q h = refl
+        none false q h = sym h
+    by false false is same rest = rest
+
+-- a table is found by its type and its rows
+found_parts : (p : Pattern) (o : Option TableState)
+    → (type_matches (option_map (λ (t : TableState). t.ids) o) p && nat_lt 0 (length (unwrap_or o no_table).rows)) ≡ is_found p o
+found_parts p None = refl
+found_parts p (Some t) = turned (list_any (pattern_matches p) t.ids) (nat_lt 0 (length t.rows))
+  where
+    turned : (a b : Bool) → (a && b) ≡ (b && a)
+    turned true true = refl
+    turned true false = refl
+    turned false true = refl
+    turned false false = refl
+
+-- an id names the entity where it is that single, or a pair with that relationship or target
+one_named : (m : Entity) (i : Id)
+    → names_entity i m ≡ ((pattern_matches (One m) i || pattern_matches (Two (Is m) Any) i) || pattern_matches (Two Any (Is m)) i)
+one_named m (id.One x) = entity_eq_turns x m ∙ single (entity_eq m x)
+  where
+    single : (a : Bool) → a ≡ ((a || false) || false)
+    single true = refl
+    single false = refl
+one_named m (id.Two r t) = (λ k. entity_eq_turns r m k || entity_eq_turns t m k) ∙ pair (entity_eq m r) (entity_eq m t)
+  where
+    pair : (a b : Bool) → (a || b) ≡ ((a && true) || b)
+    pair true b = refl
+    pair false b = refl
+
+shuffle : (a b c x y z : Bool) → (((a || b) || c) || ((x || y) || z)) ≡ (((a || x) || (b || y)) || (c || z))
+shuffle true b c x y z = refl
+shuffle false true c true y z = refl
+shuffle false true c false y z = refl
+shuffle false false true true y z = refl
+shuffle false false true false true z = refl
+shuffle false false true false false z = refl
+shuffle false false false x y z = refl
+
+any_three : (k f g h : Id → Bool) → ((i : Id) → k i ≡ ((f i || g i) || h i)) → (is : List Id)
+    → list_any k is ≡ ((list_any f is || list_any g is) || list_any h is)
+any_three k f g h each [] = refl
+any_three k f g h each (i ∷ is) =
+    (λ t. each i t || any_three k f g h each is t) ∙ shuffle (f i) (g i) (h i) (list_any f is) (list_any g is) (list_any h is)
+
+found_three : (m : Entity) (o : Option TableState)
+    → is_found_by (λ is. names_any is m) o ≡ ((is_found (One m) o || is_found (Two (Is m) Any) o) || is_found (Two Any (Is m)) o)
+found_three m None = refl
+found_three m (Some t) = by (nat_lt 0 (length t.rows))
+  where
+    by : (b : Bool) → (b && names_any t.ids m) ≡ (((b && list_any (pattern_matches (One m)) t.ids)
+        || (b && list_any (pattern_matches (Two (Is m) Any)) t.ids)) || (b && list_any (pattern_matches (Two Any (Is m))) t.ids))
+    by true =
+        any_three (λ i. names_entity i m) (pattern_matches (One m)) (pattern_matches (Two (Is m) Any)) (pattern_matches (Two Any (Is m))) (one_named m) t.ids
+    by false = refl
 
 module _ (w : WorldState) (slots : List (Option TableState)) (m : Entity) where
-  abbrev listed : List ℕ → ℕ → Bool
-  listed found n = list_any (nat_eq n) found
-
   -- the table of this slot, of the same kind
   one_fall : (n k : ℕ) → same_node (Falling k) (named_node w slots m n) ≡ (nat_eq k n && falls w slots m k)
   one_fall n k = by (falls w slots m n) (nat_eq k n) refl refl
@@ -135,17 +177,14 @@ module _ (w : WorldState) (slots : List (Option TableState)) (m : Entity) where
       by false true is same = sym (ap (falls w slots m) ((Decides-eqb k n).0 same) ∙ is)
       by false false is same = refl
 
-  one_named : (n k : ℕ) → same_node (Named k) (named_node w slots m n) ≡ (nat_eq k n && not (falls w slots m k))
-  one_named n k = by (falls w slots m n) (nat_eq k n) refl refl
+  one_stays : (n k : ℕ) → same_node (Named k) (named_node w slots m n) ≡ (nat_eq k n && not (falls w slots m k))
+  one_stays n k = by (falls w slots m n) (nat_eq k n) refl refl
     where
       by : (f s : Bool) → falls w slots m n ≡ f → nat_eq k n ≡ s → same_node (Named k) (cond f (Falling n) (Named n)) ≡ (s && not (falls w slots m k))
       by true true is same = sym (ap not (ap (falls w slots m) ((Decides-eqb k n).0 same) ∙ is))
       by true false is same = refl
       by false true is same = same ∙ sym (ap not (ap (falls w slots m) ((Decides-eqb k n).0 same) ∙ is))
       by false false is same = same
-
-  one_member : (n : ℕ) (e : Entity) → same_node (Member e) (named_node w slots m n) ≡ false
-  one_member n e = elim (falls w slots m n) as (λ f. same_node (Member e) (cond f (Falling n) (Named n)) ≡ false) [ true ↦ refl | false ↦ refl ]
 
   spread : (a b p : Bool) → ((a && p) || (b && p)) ≡ ((a || b) && p)
   spread true b true = refl
@@ -159,7 +198,7 @@ module _ (w : WorldState) (slots : List (Option TableState)) (m : Entity) where
 
   named_come : (found : List ℕ) (k : ℕ) → is_one_of (map (named_node w slots m) found) (Named k) ≡ (listed found k && not (falls w slots m k))
   named_come [] k = refl
-  named_come (n ∷ found) k = (λ t. one_named n k t || named_come found k t) ∙ spread (nat_eq k n) (listed found k) (not (falls w slots m k))
+  named_come (n ∷ found) k = (λ t. one_stays n k t || named_come found k t) ∙ spread (nat_eq k n) (listed found k) (not (falls w slots m k))
 
   others : (found : List ℕ) (b : Node) → ((n : ℕ) → same_node b (named_node w slots m n) ≡ false) → is_one_of (map (named_node w slots m) found) b ≡ false
   others found b none = no_others (named_node w slots m) found b none
@@ -167,80 +206,60 @@ module _ (w : WorldState) (slots : List (Option TableState)) (m : Entity) where
   one_root : (n : ℕ) (e : Entity) → same_node (Root e) (named_node w slots m n) ≡ false
   one_root n e = elim (falls w slots m n) as (λ f. same_node (Root e) (cond f (Falling n) (Named n)) ≡ false) [ true ↦ refl | false ↦ refl ]
 
-  -- the tables that are found are those that are touched
-  touched : (found : List ℕ) → IsAllFound (λ ids. names_any ids m) slots found → (b : Node)
-      → is_one_of (map (named_node w slots m) found) b ≡ touches w slots m b
-  touched found all (Root e) = others found (Root e) (λ n. one_root n e)
-  touched found all (Member e) = others found (Member e) (λ n. one_member n e)
-  touched found all (Falling k) = falls_come found k ∙ ap (λ t. t && falls w slots m k) (all.listed k)
-  touched found all (Named k) = named_come found k ∙ ap (λ t. t && not (falls w slots m k)) (all.listed k)
-
-  -- so they come
-  pub tables_come : (found : List ℕ) (old new : List Node) → IsAllFound (λ ids. names_any ids m) slots found
-      → new ≡ old ++ map (named_node w slots m) found → Appends (touches w slots m) old new
-  tables_come found old new all is b =
-      ap (λ xs. is_one_of xs b) is ∙ joined old (map (named_node w slots m) found) b ∙ ap (λ t. is_one_of old b || t) (touched found all b)
-
-  -- ---- what an entity of a table that falls adds
-
-  -- an entity that no table names adds nothing
-  nowhere : (found : List ℕ) → IsAllFound (λ ids. names_any ids m) slots found → found ≡ [] → is_named_anywhere slots m ≡ false
-  nowhere found all none = by (is_named_anywhere slots m) refl
+  -- the tables that have rows
+  as_mapped : (found : List ℕ) → flat_map (nodes_at w slots m) found ≡ map (named_node w slots m) (filter (has_rows slots) found)
+  as_mapped [] = refl
+  as_mapped (n ∷ found) = by (has_rows slots n) (as_mapped found)
     where
-      by : (t : Bool) → is_named_anywhere slots m ≡ t → is_named_anywhere slots m ≡ false
-      by true is =
-          let at = found_slot (λ ids. names_any ids m) slots is in
-          absurd (true≢false (sym at.1 ∙ sym (all.listed at.0) ∙ ap (λ ns. list_any (nat_eq at.0) ns) none))
-      by false is = is
+      by : (b : Bool) → flat_map (nodes_at w slots m) found ≡ map (named_node w slots m) (filter (has_rows slots) found)
+          → (cond b (named_node w slots m n ∷ []) [] ++ flat_map (nodes_at w slots m) found)
+          ≡ map (named_node w slots m) (cond b (n ∷ filter (has_rows slots) found) (filter (has_rows slots) found))
+      by true rest = ap (λ xs. named_node w slots m n ∷ xs) rest
+      by false rest = rest
 
-  -- whom no type names has no table to be found
-  pub none_found : is_named_by_some slots m ≡ false → IsAllFound (λ ids. names_any ids m) slots []
-  none_found none = record { listed = λ n. sym (none_names slots m none n); distinct = distinct_none }
+  touched : (p : Pattern) (found : List ℕ) → ((n : ℕ) → listed found n ≡ is_found p (slot_of slots n)) → (b : Node)
+      → is_one_of (map (named_node w slots m) found) b ≡ touches_by w slots m p b
+  touched p found all (Root e) = others found (Root e) (λ n. one_root n e)
+  touched p found all (Falling k) = falls_come found k ∙ ap (λ t. t && falls w slots m k) (all k)
+  touched p found all (Named k) = named_come found k ∙ ap (λ t. t && not (falls w slots m k)) (all k)
 
-  pub none_adds : (found : List ℕ) → IsAllFound (λ ids. names_any ids m) slots found → found ≡ [] → (old : List Node) → Appends (adds w slots m) old old
-  none_adds found all none old b = sym (or-false (is_one_of old b)) ∙ ap (λ t. is_one_of old b || t) (sym (nothing b))
+  -- the tables that a pattern finds come
+  pub listed_come : (p : Pattern) (found : List ℕ) (old new : List Node) → ((n : ℕ) → listed found n ≡ type_matches (type_at slots n) p)
+      → new ≡ old ++ flat_map (nodes_at w slots m) found → Appends (touches_by w slots m p) old new
+  listed_come p found old new all is b =
+      ap (λ xs. is_one_of xs b) (is ∙ ap (λ xs. old ++ xs) (as_mapped found))
+      ∙ joined old (map (named_node w slots m) (filter (has_rows slots) found)) b
+      ∙ ap (λ t. is_one_of old b || t) (touched p (filter (has_rows slots) found) with_rows b)
     where
-      untouched : (b : Node) → touches w slots m b ≡ false
-      untouched b = sym (touched found all b) ∙ ap (λ ns. is_one_of (map (named_node w slots m) ns) b) none
+      with_rows : (n : ℕ) → listed (filter (has_rows slots) found) n ≡ is_found p (slot_of slots n)
+      with_rows n = any_filtered (has_rows slots) found n ∙ ap (λ t. t && has_rows slots n) (all n) ∙ found_parts p (slot_of slots n)
 
-      unnamed : (x : Entity) (t : Bool) → entity_eq m x ≡ t → (t && is_named_anywhere slots x) ≡ false
-      unnamed x true is = ap (is_named_anywhere slots) (sym (entity_eq_is m x is)) ∙ nowhere found all none
-      unnamed x false is = refl
+  -- those of all three patterns are all that are touched
+  both_ways : (n : ℕ) (f : Bool)
+      → (((is_found (One m) (slot_of slots n) && f) || (is_found (Two (Is m) Any) (slot_of slots n) && f)) || (is_found (Two Any (Is m)) (slot_of slots n) && f))
+      ≡ (is_named slots m n && f)
+  both_ways n f =
+      ap (λ t. t || (is_found (Two Any (Is m)) (slot_of slots n) && f)) (spread (is_found (One m) (slot_of slots n)) (is_found (Two (Is m) Any) (slot_of slots n)) f)
+      ∙ spread (is_found (One m) (slot_of slots n) || is_found (Two (Is m) Any) (slot_of slots n)) (is_found (Two Any (Is m)) (slot_of slots n)) f
+      ∙ ap (λ t. t && f) (sym (found_three m (slot_of slots n)))
 
-      nothing : (b : Node) → adds w slots m b ≡ false
-      nothing (Root x) = refl
-      nothing (Member x) = unnamed x (entity_eq m x) refl
-      nothing (Falling k) = untouched (Falling k)
-      nothing (Named k) = untouched (Named k)
+  all_three : (b : Node) → ((touches_by w slots m (One m) b || touches_by w slots m (Two (Is m) Any) b) || touches_by w slots m (Two Any (Is m)) b)
+      ≡ touches w slots m b
+  all_three (Root e) = refl
+  all_three (Falling n) = both_ways n (falls w slots m n)
+  all_three (Named n) = both_ways n (not (falls w slots m n))
 
-  somewhere : (found : List ℕ) → IsAllFound (λ ids. names_any ids m) slots found → found ≢ [] → IsTrue (is_named_anywhere slots m)
-  somewhere [] all some = absurd (some refl)
-  somewhere (n ∷ found) all some =
-      slot_found (λ ids. names_any ids m) slots n (sym (all.listed n) ∙ or_left (nat_eq n n) (list_any (nat_eq n) found) ((Decides-eqb n n).1 refl))
-
-  by_parts : (a p q r : Bool) → (p || q) ≡ r → ((a || p) || q) ≡ (a || r)
-  by_parts true p q r is = refl
-  by_parts false p q r is = is
-
-  -- one that some table names adds itself and the tables
-  pub some_adds : (found : List ℕ) (old new : List Node) → IsAllFound (λ ids. names_any ids m) slots found → found ≢ []
-      → new ≡ (old ++ Member m ∷ []) ++ map (named_node w slots m) found → Appends (adds w slots m) old new
-  some_adds found old new all some is b =
-      ap (λ xs. is_one_of xs b) is ∙ joined (old ++ Member m ∷ []) (map (named_node w slots m) found) b
-      ∙ (λ t. joined old (Member m ∷ []) b t || touched found all b t)
-      ∙ by_parts (is_one_of old b) (is_one_of (Member m ∷ []) b) (touches w slots m b) (adds w slots m b) (both_parts b)
+  pub three_come : (old one two new : List Node) → Appends (touches_by w slots m (One m)) old one → Appends (touches_by w slots m (Two (Is m) Any)) one two
+      → Appends (touches_by w slots m (Two Any (Is m))) two new → Appends (touches w slots m) old new
+  three_come old one two new single relationship target b =
+      target b
+      ∙ ap (λ t. t || touches_by w slots m (Two Any (Is m)) b) (relationship b ∙ ap (λ t. t || touches_by w slots m (Two (Is m) Any) b) (single b))
+      ∙ in_turn (is_one_of old b) (touches_by w slots m (One m) b) (touches_by w slots m (Two (Is m) Any) b) (touches_by w slots m (Two Any (Is m)) b)
+      ∙ ap (λ t. is_one_of old b || t) (all_three b)
     where
-      itself : (x : Entity) (t : Bool) → entity_eq m x ≡ t → t ≡ (t && is_named_anywhere slots x)
-      itself x true is = sym (ap (is_named_anywhere slots) (sym (entity_eq_is m x is)) ∙ somewhere found all some)
-      itself x false is = refl
-
-      both_parts : (b : Node) → (is_one_of (Member m ∷ []) b || touches w slots m b) ≡ adds w slots m b
-      both_parts (Root x) = refl
-      both_parts (Member x) =
-          or-false (is_one_of (Member m ∷ []) (Member x)) ∙ or-false (same_node (Member x) (Member m)) ∙ (entity_ties x m ∙ entity_eq_turns x m)
-          ∙ itself x (entity_eq m x) refl
-      both_parts (Falling k) = refl
-      both_parts (Named k) = refl
+      in_turn : (o x y z : Bool) → (((o || x) || y) || z) ≡ (o || ((x || y) || z))
+      in_turn true x y z = refl
+      in_turn false x y z = refl
 
 -- ---- all who stand in a table
 
@@ -258,21 +277,6 @@ one_more test xs k d within old now is =
     ∙ sym (ap (λ t. old || t) (ap (list_any test) (ap (λ n. take n xs) next ∙ take-suc xs k d within) ∙ parts))
 
 module _ (w : WorldState) (slots : List (Option TableState)) where
-  none_added : (es : List Entity) → list_any (λ (e : Entity). false) es ≡ false
-  none_added [] = refl
-  none_added (e ∷ es) = none_added es
-
-  all_added : (n : ℕ) (b : Node) → list_any (λ e. adds w slots e b) (entities_of (table_in slots n).rows) ≡ leads w slots (Falling n) b
-  all_added n (Root x) = none_added (entities_of (table_in slots n).rows)
-  all_added n (Member x) = spread_right (is_named_anywhere slots x) (λ e. entity_eq e x) (entities_of (table_in slots n).rows)
-  all_added n (Falling k) = refl
-  all_added n (Named k) = refl
-
-  -- what each of them adds is what the table leads to
-  pub standing_come : (n : ℕ) (old new : List Node) → ((b : Node) → is_one_of new b
-      ≡ (is_one_of old b || list_any (λ e. adds w slots e b) (entities_of (table_in slots n).rows))) → Appends (leads w slots (Falling n)) old new
-  standing_come n old new each b = each b ∙ ap (λ t. is_one_of old b || t) (all_added n b)
-
   -- what a node leads to comes
   pub come_of : (a c : Node) (old new : List Node) → a ≡ c → Appends (leads w slots c) old new
       → (b : Node) → IsTrue (is_one_of new b) ↔ (IsTrue (is_one_of old b) ⊎ IsTrue (leads w slots a b))
@@ -283,55 +287,38 @@ module _ (w : WorldState) (slots : List (Option TableState)) where
 
 pub node_itself : (b : Node) → same_node b b ≡ true
 node_itself (Root e) = entity_ties e e ∙ entity_eq_itself e
-node_itself (Member e) = entity_ties e e ∙ entity_eq_itself e
 node_itself (Falling n) = (Decides-eqb n n).1 refl
 node_itself (Named n) = (Decides-eqb n n).1 refl
 
-within : (n : ℕ) (os : List (Option TableState)) (k : ℕ) (b : Node) → IsTrue (is_some (slot_of os k))
-    → IsTrue (is_one_of (nodes_of (n + k) (unwrap_or (slot_of os k) no_table)) b) → IsTrue (is_one_of (nodes_from n os) b)
-within n [] k b there h = absurd (true≢false (sym there))
-within n (o ∷ os) zero b there h =
-    let same : n + 0 ≡ n = omega arith in
-    joined (nodes_of n (unwrap_or o no_table)) (nodes_from (n + 1) os) b
-    ∙ or_left _ _ (subst (λ x. IsTrue (is_one_of (nodes_of x (unwrap_or o no_table)) b)) same h)
-within n (o ∷ os) (suc k) b there h =
-    let same : n + suc k ≡ n + 1 + k = omega arith in
-    joined (nodes_of n (unwrap_or o no_table)) (nodes_from (n + 1) os) b
-    ∙ or_right _ _ (within (n + 1) os k b there (subst (λ x. IsTrue (is_one_of (nodes_of x (unwrap_or (slot_of os k) no_table)) b)) same h))
+-- nodes of a kind that each slot has
+within : (kind : ℕ → Node) → ((n : ℕ) (rest : Bool) → IsTrue (same_node (kind n) (Falling n) || (same_node (kind n) (Named n) || rest)))
+    → (n : ℕ) (os : List (Option TableState)) (k : ℕ) → IsTrue (is_some (slot_of os k)) → IsTrue (is_one_of (nodes_from n os) (kind (n + k)))
+within kind own n [] k there = absurd (true≢false (sym there))
+within kind own n (o ∷ os) zero there =
+    let same : n ≡ n + 0 = omega arith in
+    subst (λ x. IsTrue (is_one_of (nodes_from n (o ∷ os)) (kind x))) same (own n (is_one_of (nodes_from (n + 1) os) (kind n)))
+within kind own n (o ∷ os) (suc k) there =
+    let same : n + 1 + k ≡ n + suc k = omega arith in
+    or_right _ _ (or_right _ _ (subst (λ x. IsTrue (is_one_of (nodes_from (n + 1) os) (kind x))) same (within kind own (n + 1) os k there)))
 
-within_all : (os : List (Option TableState)) (k : ℕ) (b : Node) → IsTrue (is_some (slot_of os k))
-    → IsTrue (is_one_of (nodes_of k (unwrap_or (slot_of os k) no_table)) b) → IsTrue (is_one_of (nodes_from 0 os) b)
-within_all os k b there h =
-    let same : k ≡ 0 + k = omega arith in
-    within 0 os k b there (subst (λ x. IsTrue (is_one_of (nodes_of x (unwrap_or (slot_of os k) no_table)) b)) same h)
-
-pub there_if_found : (test : List Id → Bool) (o : Option TableState) → IsTrue (is_found_by test o) → IsTrue (is_some o)
+there_if_found : (test : List Id → Bool) (o : Option TableState) → IsTrue (is_found_by test o) → IsTrue (is_some o)
 there_if_found test None h = absurd (true≢false (sym h))
 there_if_found test (Some t) h = refl
-
-there_if_standing : (o : Option TableState) (e : Entity) → IsTrue (has_item entity_cmp (entities_of (unwrap_or o no_table).rows) e) → IsTrue (is_some o)
-there_if_standing None e h = absurd (true≢false (sym h))
-there_if_standing (Some t) e h = refl
 
 module _ (w : WorldState) (slots : List (Option TableState)) where
   touched_known : (m : Entity) (b : Node) → IsTrue (touches w slots m b) → IsTrue (is_one_of (all_nodes slots) b)
   touched_known m (Root x) h = absurd (true≢false (sym h))
-  touched_known m (Member x) h = absurd (true≢false (sym h))
   touched_known m (Falling n) h =
-      within_all slots n (Falling n) (there_if_found (λ ids. names_any ids m) (slot_of slots n) (first _ _ h)) (or_left _ _ (node_itself (Falling n)))
+      let same : 0 + n ≡ n = omega arith in
+      subst (λ x. IsTrue (is_one_of (all_nodes slots) (Falling x))) same
+      (within Falling (λ k rest. or_left _ _ (node_itself (Falling k))) 0 slots n (there_if_found (λ is. names_any is m) (slot_of slots n) (first _ _ h)))
   touched_known m (Named n) h =
-      within_all slots n (Named n) (there_if_found (λ ids. names_any ids m) (slot_of slots n) (first _ _ h)) (or_left _ _ (node_itself (Named n)))
+      let same : 0 + n ≡ n = omega arith in
+      subst (λ x. IsTrue (is_one_of (all_nodes slots) (Named x))) same
+      (within Named (λ k rest. or_left _ _ (node_itself (Named k))) 0 slots n (there_if_found (λ is. names_any is m) (slot_of slots n) (first _ _ h)))
 
   -- whatever anything leads to is one of them
   pub all_known : (a b : Node) → IsTrue (leads w slots a b) → IsTrue (is_one_of (all_nodes slots) b)
   all_known (Root m) b h = touched_known m b h
-  all_known (Member m) b h = absurd (true≢false (sym h))
-  all_known (Falling n) (Root x) h = absurd (true≢false (sym h))
-  all_known (Falling n) (Member e) h =
-      let standing = first (has_item entity_cmp (entities_of (table_in slots n).rows) e) (is_named_anywhere slots e) h in
-      within_all slots n (Member e) (there_if_standing (slot_of slots n) e standing) (members_are (entities_of (table_in slots n).rows) e ∙ standing)
-  all_known (Falling n) (Falling k) h =
-      let one = any_is (λ e. touches w slots e (Falling k)) (entities_of (table_in slots n).rows) h in touched_known one.0 (Falling k) one.1
-  all_known (Falling n) (Named k) h =
-      let one = any_is (λ e. touches w slots e (Named k)) (entities_of (table_in slots n).rows) h in touched_known one.0 (Named k) one.1
+  all_known (Falling n) b h = let one = any_is (λ e. touches w slots e b) (entities_of (table_in slots n).rows) h in touched_known one.0 b one.1
   all_known (Named n) b h = absurd (true≢false (sym h))

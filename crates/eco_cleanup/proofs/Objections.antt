@@ -18,12 +18,12 @@ use Rattle.eco_ids.proofs.Overlaps.{entity_eq_is, entity_eq_itself}
 use Rattle.eco_tables.specs.Table.{TableState, entities_of}
 use Rattle.eco_tables.specs.Tables.{table_in}
 use Rattle.eco_cleanup.specs.Firsts.{counted, former}
-use Rattle.eco_cleanup.specs.Nodes.{is_falling, is_member}
+use Rattle.eco_cleanup.specs.Nodes.{is_falling, taken_among}
 use Rattle.eco_cleanup.specs.Objections.{first_objection, first_outside, first_protected, named_first, objection, objection_at, objection_cmp, objection_of}
 use Rattle.eco_cleanup.specs.Objections.{protects}
 use Rattle.eco_cleanup.specs.Policies.{names_on}
 use Rattle.eco_cleanup.specs.declared.node.Node.{Node}
-use Rattle.eco_cleanup.specs.declared.node.Node.TheVariants.{Root, Member, Falling, Named}
+use Rattle.eco_cleanup.specs.declared.node.Node.TheVariants.{Root, Falling, Named}
 use Rattle.eco_cleanup.specs.declared.objection.Objection.{Objection}
 use Rattle.eco_cleanup.proofs.Noted.{spread_right}
 use Rattle.eco_cleanup.proofs.Firsts.{IsFirst, counted_first, first_alike, fold_first, former_first}
@@ -42,61 +42,61 @@ spread_left true t bs = refl
 spread_left false t [] = refl
 spread_left false t (b ∷ bs) = spread_left false t bs
 
-module _ (w : WorldState) (nodes : List Node) where
+module _ (w : WorldState) (dead : List Entity) where
   abbrev names_member : Id → Entity → Bool
-  names_member i m = is_member nodes m && names_on w PANIC m i
+  names_member i m = has_item entity_cmp dead m && names_on w PANIC m i
 
   abbrev in_role : Entity → Entity → Entity → Entity → Bool
-  in_role e owner condition m = is_member nodes m && (entity_eq e m && entity_eq (policy w owner condition) PANIC)
+  in_role e owner condition m = has_item entity_cmp dead m && (entity_eq e m && entity_eq (policy w owner condition) PANIC)
 
-  role_first : (e owner condition : Entity) → IsFirst entity_cmp_total (in_role e owner condition) (counted e (protects w nodes e owner condition))
+  role_first : (e owner condition : Entity) → IsFirst entity_cmp_total (in_role e owner condition) (counted e (protects w dead e owner condition))
   role_first e owner condition =
-      counted_first entity_cmp_total (in_role e owner condition) e (protects w nodes e owner condition)
-      (ap (λ t. is_member nodes e && (t && entity_eq (policy w owner condition) PANIC)) (entity_eq_itself e))
+      counted_first entity_cmp_total (in_role e owner condition) e (protects w dead e owner condition)
+      (ap (λ t. has_item entity_cmp dead e && (t && entity_eq (policy w owner condition) PANIC)) (entity_eq_itself e))
       (λ b h. sym (entity_eq_is e b (first (entity_eq e b) (entity_eq (policy w owner condition) PANIC)
-      (second (is_member nodes b) (entity_eq e b && entity_eq (policy w owner condition) PANIC) h))))
+      (second (has_item entity_cmp dead b) (entity_eq e b && entity_eq (policy w owner condition) PANIC) h))))
 
   named_first_is : (p : Entity → Bool) (one : Option Entity) (i : Id) → IsFirst entity_cmp_total p one
-      → IsFirst entity_cmp_total (λ m. p m || names_member i m) (named_first w nodes one i)
-  named_first_is p one (One x) f = former_first entity_cmp_total p (in_role x x ON_DELETE) one (counted x (protects w nodes x x ON_DELETE)) f
+      → IsFirst entity_cmp_total (λ m. p m || names_member i m) (named_first w dead one i)
+  named_first_is p one (One x) f = former_first entity_cmp_total p (in_role x x ON_DELETE) one (counted x (protects w dead x x ON_DELETE)) f
       (role_first x x ON_DELETE)
   named_first_is p one (Two r t) f =
-      let head = counted r (protects w nodes r r ON_DELETE) in
-      let tail = counted t (protects w nodes t r ON_DELETE_TARGET) in
+      let head = counted r (protects w dead r r ON_DELETE) in
+      let tail = counted t (protects w dead t r ON_DELETE_TARGET) in
       first_alike entity_cmp_total (λ m. (p m || in_role r r ON_DELETE m) || in_role t r ON_DELETE_TARGET m) (λ m. p m || names_member (Two r t) m)
-      (λ m. shared (p m) (is_member nodes m) (entity_eq r m && entity_eq (policy w r ON_DELETE) PANIC)
+      (λ m. shared (p m) (has_item entity_cmp dead m) (entity_eq r m && entity_eq (policy w r ON_DELETE) PANIC)
       (entity_eq t m && entity_eq (policy w r ON_DELETE_TARGET) PANIC))
       (former entity_cmp (former entity_cmp one head) tail)
       (former_first entity_cmp_total (λ m. p m || in_role r r ON_DELETE m) (in_role t r ON_DELETE_TARGET) (former entity_cmp one head) tail
       (former_first entity_cmp_total p (in_role r r ON_DELETE) one head f (role_first r r ON_DELETE)) (role_first t r ON_DELETE_TARGET))
 
   abbrev is_protected : List Id → Entity → Bool
-  is_protected ids m = is_member nodes m && list_any (names_on w PANIC m) ids
+  is_protected ids m = has_item entity_cmp dead m && list_any (names_on w PANIC m) ids
 
-  protected_first : (ids : List Id) → IsFirst entity_cmp_total (is_protected ids) (first_protected w nodes ids)
+  protected_first : (ids : List Id) → IsFirst entity_cmp_total (is_protected ids) (first_protected w dead ids)
   protected_first ids =
       first_alike entity_cmp_total (λ m. false || list_any (λ i. names_member i m) ids) (is_protected ids)
-      (λ m. spread_left (is_member nodes m) (names_on w PANIC m) ids) (first_protected w nodes ids)
-      (fold_first entity_cmp_total (named_first w nodes) names_member named_first_is (λ m. false) None ids (λ m. refl))
+      (λ m. spread_left (has_item entity_cmp dead m) (names_on w PANIC m) ids) (first_protected w dead ids)
+      (fold_first entity_cmp_total (named_first w dead) names_member named_first_is (λ m. false) None ids (λ m. refl))
 
   abbrev stays_of : List Entity → Entity → Bool
-  stays_of es e = has_item entity_cmp es e && not (is_member nodes e)
+  stays_of es e = has_item entity_cmp es e && not (has_item entity_cmp dead e)
 
   abbrev one_stays : Entity → Entity → Bool
-  one_stays x e = entity_eq x e && not (is_member nodes e)
+  one_stays x e = entity_eq x e && not (has_item entity_cmp dead e)
 
-  outside_first : (es : List Entity) → IsFirst entity_cmp_total (stays_of es) (first_outside nodes es)
+  outside_first : (es : List Entity) → IsFirst entity_cmp_total (stays_of es) (first_outside dead es)
   outside_first es =
       first_alike entity_cmp_total (λ e. false || list_any (λ x. one_stays x e) es) (stays_of es)
-      (λ e. spread_right (not (is_member nodes e)) (λ x. entity_eq x e) es) (first_outside nodes es)
-      (fold_first entity_cmp_total (λ one e. former entity_cmp one (counted e (not (is_member nodes e)))) one_stays step (λ e. false) None es (λ e. refl))
+      (λ e. spread_right (not (has_item entity_cmp dead e)) (λ x. entity_eq x e) es) (first_outside dead es)
+      (fold_first entity_cmp_total (λ one e. former entity_cmp one (counted e (not (has_item entity_cmp dead e)))) one_stays step (λ e. false) None es (λ e. refl))
     where
       step : (p : Entity → Bool) (one : Option Entity) (x : Entity) → IsFirst entity_cmp_total p one
-          → IsFirst entity_cmp_total (λ e. p e || one_stays x e) (former entity_cmp one (counted x (not (is_member nodes x))))
+          → IsFirst entity_cmp_total (λ e. p e || one_stays x e) (former entity_cmp one (counted x (not (has_item entity_cmp dead x))))
       step p one x f =
-          former_first entity_cmp_total p (one_stays x) one (counted x (not (is_member nodes x))) f
-          (counted_first entity_cmp_total (one_stays x) x (not (is_member nodes x)) (ap (λ t. t && not (is_member nodes x)) (entity_eq_itself x))
-          (λ b h. sym (entity_eq_is x b (first (entity_eq x b) (not (is_member nodes b)) h))))
+          former_first entity_cmp_total p (one_stays x) one (counted x (not (has_item entity_cmp dead x))) f
+          (counted_first entity_cmp_total (one_stays x) x (not (has_item entity_cmp dead x)) (ap (λ t. t && not (has_item entity_cmp dead x)) (entity_eq_itself x))
+          (λ b h. sym (entity_eq_is x b (first (entity_eq x b) (not (has_item entity_cmp dead b)) h))))
 
   -- ---- objections
 
@@ -110,7 +110,7 @@ module _ (w : WorldState) (nodes : List Node) where
   and_false false b h = refl
 
   pair_first : (p q : Entity → Bool) (h m : Option Entity) → IsFirst entity_cmp_total p h → IsFirst entity_cmp_total q m
-      → IsFirst objection_cmp_total (λ o. p o.holder && q o.member) (objection w nodes h m)
+      → IsFirst objection_cmp_total (λ o. p o.holder && q o.member) (objection w dead h m)
   pair_first p q None m f g = λ o. ap (λ t. t && q o.member) (f o.holder)
   pair_first p q (Some h) None f g = λ o. and_false (p o.holder) (q o.member) (g o.member)
   pair_first p q (Some h) (Some m) f g = (
@@ -119,32 +119,33 @@ module _ (w : WorldState) (nodes : List Node) where
         (g.1 o.member (second (p o.holder) (q o.member) k)),
   )
 
-  -- a holder of the table stays, and an id of its type names a member under the policy Panic
+  -- a holder of the table stays, and an id of its type names one who dies under the policy Panic
   abbrev pub objects_at : TableState → Objection → Bool
   objects_at t o = stays_of (entities_of t.rows) o.holder && is_protected t.ids o.member
 
-  abbrev pub objects : List (Option TableState) → Node → Objection → Bool
-  objects slots (Root e) o = false
-  objects slots (Member e) o = false
-  objects slots (Falling n) o = false
-  objects slots (Named n) o = not (is_falling nodes n) && objects_at (table_in slots n) o
+  at_first : (t : TableState) → IsFirst objection_cmp_total (objects_at t) (objection_at w dead t)
+  at_first t =
+      pair_first (stays_of (entities_of t.rows)) (is_protected t.ids) (first_outside dead (entities_of t.rows)) (first_protected w dead t.ids)
+      (outside_first (entities_of t.rows)) (protected_first t.ids)
 
-  one_first : (slots : List (Option TableState)) (a : Node) → IsFirst objection_cmp_total (objects slots a) (objection_of w slots nodes a)
-  one_first slots (Root e) = λ o. refl
-  one_first slots (Member e) = λ o. refl
-  one_first slots (Falling n) = λ o. refl
-  one_first slots (Named n) =
-      elim (is_falling nodes n) as (λ b. IsFirst objection_cmp_total (λ o. not b && objects_at (table_in slots n) o)
-      (cond b None (objection_at w nodes (table_in slots n)))) [
+module _ (w : WorldState) (slots : List (Option TableState)) (nodes : List Node) where
+  abbrev pub objects : Node → Objection → Bool
+  objects (Root e) o = false
+  objects (Falling n) o = false
+  objects (Named n) o = not (is_falling nodes n) && objects_at w (taken_among slots nodes) (table_in slots n) o
+
+  one_first : (a : Node) → IsFirst objection_cmp_total (objects a) (objection_of w slots nodes a)
+  one_first (Root e) = λ o. refl
+  one_first (Falling n) = λ o. refl
+  one_first (Named n) =
+      elim (is_falling nodes n) as (λ b. IsFirst objection_cmp_total (λ o. not b && objects_at w (taken_among slots nodes) (table_in slots n) o)
+      (cond b None (objection_at w (taken_among slots nodes) (table_in slots n)))) [
         | true ↦ λ o. refl
-        | false ↦ pair_first (stays_of (entities_of (table_in slots n).rows)) (is_protected (table_in slots n).ids)
-            (first_outside nodes (entities_of (table_in slots n).rows)) (first_protected w nodes (table_in slots n).ids)
-            (outside_first (entities_of (table_in slots n).rows)) (protected_first (table_in slots n).ids)
+        | false ↦ at_first w (taken_among slots nodes) (table_in slots n)
       ]
 
-  pub objection_first : (slots : List (Option TableState))
-      → IsFirst objection_cmp_total (λ o. list_any (λ a. objects slots a o) nodes) (first_objection w slots nodes)
-  objection_first slots =
-      fold_first objection_cmp_total (λ one a. former objection_cmp one (objection_of w slots nodes a)) (objects slots)
-      (λ p one a f. former_first objection_cmp_total p (objects slots a) one (objection_of w slots nodes a) f (one_first slots a))
+  pub objection_first : IsFirst objection_cmp_total (λ o. list_any (λ a. objects a o) nodes) (first_objection w slots nodes)
+  objection_first =
+      fold_first objection_cmp_total (λ one a. former objection_cmp one (objection_of w slots nodes a)) objects
+      (λ p one a f. former_first objection_cmp_total p (objects a) one (objection_of w slots nodes a) f (one_first a))
       (λ o. false) None nodes (λ o. refl)

@@ -1,5 +1,5 @@
 -- What is found among the nodes is what a delete does.
-use Rattle.std.proofs.Common.{◌≡◌, ℕ, nat_lt, Bool, true, false, cond, not, if◌then◌else◌, length, ◌↔◌, ◌||◌, inl, inr, List, [], ◌∷◌, ◌++◌, filter, map, flat_map, slice_get, Option, Some, None, unwrap_or, refl, sym, ap, ◌∙◌, subst, true≢false, IsTrue, IsFalse, arith}
+use Rattle.std.proofs.Common.{◌≡◌, ℕ, nat_lt, Bool, true, false, cond, not, length, ◌↔◌, ◌||◌, inl, inr, List, [], ◌∷◌, ◌++◌, map, flat_map, slice_get, Option, Some, None, unwrap_or, refl, sym, ap, ◌∙◌, subst, true≢false, IsTrue, IsFalse, arith}
 use Rattle.std.specs.List.{All, Contains, list_any}
 use Rattle.std.proofs.lemmas.List.{map-append}
 use Rattle.std.proofs.lemmas.List.Elements.{All-nil, All-cons, All-append, Contains-append_left, Contains-append_right}
@@ -11,10 +11,10 @@ use Rattle.eco_ids.specs.Cleanup.{Doomed, IsDoomed, after_delete, names_any}
 use Rattle.eco_ids.specs.Indices.{Indexed, record_of}
 use Rattle.eco_ids.specs.Losses.{without}
 use Rattle.eco_ids.specs.Least.{Least, root, next}
-use Rattle.eco_ids.specs.Order.{entity_cmp, entity_eq, has_item, id_cmp, id_eq, names_entity}
+use Rattle.eco_ids.specs.Order.{entity_cmp, entity_eq, has_item, names_entity}
 use Rattle.eco_ids.specs.World.{Record}
-use Rattle.eco_ids.proofs.Ascending.{both, first, second}
-use Rattle.eco_ids.proofs.Facts.{id_eq_itself, or_left, or_parts, or_right}
+use Rattle.eco_ids.proofs.Ascending.{first, second}
+use Rattle.eco_ids.proofs.Facts.{or_left, or_parts, or_right}
 use Rattle.eco_ids.proofs.Overlaps.{entity_eq_is, entity_eq_itself}
 use Rattle.eco_tables.specs.Table.{RowsHaveIds, TableState, entities_of, Row}
 use Rattle.eco_tables.specs.Tables.{no_row, no_table, slot_of, table_in}
@@ -22,15 +22,15 @@ use Rattle.eco_archetypes.specs.Archetypes.{is_found_by}
 use Rattle.eco_archetypes.specs.TypeTests.{names_any as any_names}
 use Rattle.eco_store.specs.Store.{IsShown, Stands, record_ids}
 use Rattle.eco_store.specs.declared.type_change.TypeChange.{TypeChange}
-use Rattle.eco_cleanup.specs.Nodes.{AreStarts, IsSearch, falls, is_falling, is_member, is_named, is_named_anywhere, is_one_of, leads, node_same, taken_among, touches}
-use Rattle.eco_cleanup.specs.Plans.{Ascend, IsPlan, TakesOut, TakesOutOfAll, change_in, change_of, changes_of, names_dead, spared}
+use Rattle.eco_cleanup.specs.Nodes.{AreStarts, IsSearch, falls, is_falling, is_named, is_one_of, leads, node_same, taken_among, touches}
+use Rattle.eco_cleanup.specs.Plans.{Ascend, IsPlan, TakesOut, TakesOutOfAll, change_in, change_of, changes_of, spared}
 use Rattle.eco_store.specs.Worlds.{world_of}
 use Rattle.eco_cleanup.specs.contracts.node.NodePartialEq.TheImpl as node_impl
 use Rattle.eco_cleanup.specs.declared.node.Node.{Node}
-use Rattle.eco_cleanup.specs.declared.node.Node.TheVariants.{Root, Member, Falling, Named}
-use Rattle.eco_cleanup.proofs.Deaths.{by_one, doomed_exactly, member_dies, named_member, one_itself, some_entity, spare}
+use Rattle.eco_cleanup.specs.declared.node.Node.TheVariants.{Root, Falling, Named}
+use Rattle.eco_cleanup.proofs.Deaths.{by_one, doomed_exactly, one_itself, some_entity, spare}
 use Rattle.eco_cleanup.proofs.Forbidden.{named_there}
-use Rattle.eco_cleanup.proofs.Noted.{named_somewhere, node_itself, same_test}
+use Rattle.eco_cleanup.proofs.Noted.{node_itself, same_test}
 use Rattle.eco_cleanup.proofs.Standing.{any_id, found_at, some_id, stands_among}
 
 -- ---- ids that name who dies
@@ -59,18 +59,6 @@ named_some es (Two r t) names =
       | inr tail ↦ (t, tail, or_right (entity_eq r t) (entity_eq t t) (entity_eq_itself t))
     ]
 
--- tests that agree on the ids of a list leave the same of it
-left_alike : (p q : Id → Bool) (ids : List Id) → ((i : Id) → IsTrue (has_item id_cmp ids i) → p i ≡ q i) → filter p ids ≡ filter q ids
-left_alike p q [] alike = refl
-left_alike p q (i ∷ ids) alike =
-    kept (left_alike p q ids (λ j there. alike j (or_right (id_eq i j) (has_item id_cmp ids j) there)))
-  where
-    same : p i ≡ q i
-    same = alike i (or_left (id_eq i i) (has_item id_cmp ids i) (id_eq_itself i))
-
-    kept : filter p ids ≡ filter q ids → filter p (i ∷ ids) ≡ filter q (i ∷ ids)
-    kept rest = (λ t. if same t then i ∷ rest t else rest t)
-
 -- ---- the type of a record
 
 pub ids_standing : (o : Option Record) (t : TableState) (row : ℕ) (r : Record) → o ≡ Some r → Stands o t row → RowsHaveIds t → record_ids r ≡ t.ids
@@ -78,11 +66,11 @@ ids_standing o t row r at stands own =
     let there = subst (λ x. Stands x t row) at stands in
     ap (map (λ p. p.0)) (there.held no_row) ∙ own row no_row there.within
 
-among_change : (nodes : List Node) (o : Option TableState) (k : ℕ) (r : Row) (b : Bool) (ids : List Id) → slice_get (unwrap_or o no_table).rows k ≡ Some r
-    → b ≡ false → ids ≡ (unwrap_or o no_table).ids → Contains (map (λ (c : TypeChange). c.from) (cond b [] (change_in nodes o))) ids
-among_change nodes None k r b ids at is same = absurd (none-some r at)
-among_change nodes (Some t) k r true ids at is same = absurd (true≢false is)
-among_change nodes (Some t) k r false ids at is same = (0, omega arith, sym same)
+among_change : (dead : List Entity) (o : Option TableState) (k : ℕ) (r : Row) (b : Bool) (ids : List Id) → slice_get (unwrap_or o no_table).rows k ≡ Some r
+    → b ≡ false → ids ≡ (unwrap_or o no_table).ids → Contains (map (λ (c : TypeChange). c.from) (cond b [] (change_in dead o))) ids
+among_change dead None k r b ids at is same = absurd (none-some r at)
+among_change dead (Some t) k r true ids at is same = absurd (true≢false is)
+among_change dead (Some t) k r false ids at is same = (0, omega arith, sym same)
 
 module _ (v : Indexed Record) (slots : List (Option TableState)) (shown : IsShown v slots) (starts keys : List Node) (begin : AreStarts starts)
     (exact : IsSearch (world_of v) slots starts keys) where
@@ -96,23 +84,19 @@ module _ (v : Indexed Record) (slots : List (Option TableState)) (shown : IsShow
   -- a member led to a table that is named
   abbrev IsLed : Node → Type 0
   IsLed (Root e) = Unit {0}
-  IsLed (Member e) = Unit {0}
   IsLed (Falling n) = Unit {0}
   IsLed (Named n) = (m : Entity) × IsTrue (has_item entity_cmp dying m) × IsTrue (is_named slots m n)
 
   begins : (a : Node) → IsTrue (is_one_of starts a) → IsLed a
   begins (Root e) h = tt
-  begins (Member e) h = tt
   begins (Falling n) h = tt
   begins (Named n) h = absurd (true≢false (sym (begin (Named n) h)))
 
   goes_on : (a b : Node) → Found a → IsTrue (leads (world_of v) slots a b) → IsLed b
   goes_on a (Root e) found h = tt
-  goes_on a (Member e) found h = tt
   goes_on a (Falling n) found h = tt
   goes_on (Root m) (Named n) found h =
       (m, by_one slots keys m (Root m) ((exact (Root m)).1 found) (one_itself m), first (is_named slots m n) (not (falls (world_of v) slots m n)) h)
-  goes_on (Member m) (Named n) found h = absurd (true≢false (sym h))
   goes_on (Falling k) (Named n) found h =
       let m = some_entity (λ e. touches (world_of v) slots e (Named n)) (entities_of (table_in slots k).rows) h in (
         m.0,
@@ -127,49 +111,25 @@ module _ (v : Indexed Record) (slots : List (Option TableState)) (shown : IsShow
 
   -- ---- each change takes out
 
-  -- of whom some table names, the members are those who die
-  members_die : (e : Entity) → IsTrue (is_named_anywhere slots e) → is_member keys e ≡ has_item entity_cmp dying e
-  members_die e named =
-      same_test (is_member keys e) (has_item entity_cmp dying e) (member_dies v slots shown starts keys begin exact e, λ h. named_member v slots shown starts keys begin exact e h named)
-
-  -- so an id that is there names a member where it names who dies
-  names_alike : (i : Id) → ((e : Entity) → IsTrue (names_entity i e) → IsTrue (is_named_anywhere slots e)) → names_dead keys i ≡ names_any dying i
-  names_alike (One e) there = members_die e (there e (entity_eq_itself e))
-  names_alike (Two r t) there = λ k.
-      members_die r (there r (or_left (entity_eq r r) (entity_eq t r) (entity_eq_itself r))) k
-      || members_die t (there t (or_right (entity_eq r t) (entity_eq t t) (entity_eq_itself t))) k
-
   abbrev Takes : TypeChange → Type 0
   Takes = TakesOut (names_any dying)
 
-  taken_in : (n : ℕ) (o : Option TableState) → slot_of slots n ≡ o → (m : Entity) → IsTrue (has_item entity_cmp dying m)
-      → IsTrue (is_found_by (λ ids. any_names ids m) o) → All Takes (change_in keys o)
-  taken_in n None at m dies found = absurd (true≢false (sym found))
-  taken_in n (Some t) at m dies found =
+  taken_in : (o : Option TableState) (m : Entity) → IsTrue (has_item entity_cmp dying m) → IsTrue (is_found_by (λ ids. any_names ids m) o)
+      → All Takes (change_in dying o)
+  taken_in None m dies found = absurd (true≢false (sym found))
+  taken_in (Some t) m dies found =
       let named = some_id (λ i. names_entity i m) t.ids (second (nat_lt 0 (length t.rows)) (any_names t.ids m) found) in
-      All-cons Takes (record { from = t.ids; to = spared keys t.ids }) []
-      (record {
-        there =
-            any_id (names_any dying) t.ids named.0 named.1 (some_named dying m named.0 dies named.2);
-        taken = left_alike (λ i. not (names_dead keys i)) (λ i. not (names_any dying i)) t.ids (λ i there. ap not (names_alike i (anywhere i there)));
-      }) (All-nil Takes)
-    where
-      anywhere : (i : Id) → IsTrue (has_item id_cmp t.ids i) → (e : Entity) → IsTrue (names_entity i e) → IsTrue (is_named_anywhere slots e)
-      anywhere i there e names =
-          named_somewhere slots e n
-          (subst (λ x. IsTrue (is_found_by (λ ids. any_names ids e) x)) (sym at)
-          (both (nat_lt 0 (length t.rows)) (any_names t.ids e) (first (nat_lt 0 (length t.rows)) (any_names t.ids m) found)
-          (any_id (λ j. names_entity j e) t.ids i there names)))
+      All-cons Takes (record { from = t.ids; to = spared dying t.ids }) []
+      (record { there = any_id (names_any dying) t.ids named.0 named.1 (some_named dying m named.0 dies named.2); taken = refl }) (All-nil Takes)
 
   taken_of : (a : Node) → IsTrue (is_one_of keys a) → All Takes (change_of slots keys a)
   taken_of (Root e) there = All-nil Takes
-  taken_of (Member e) there = All-nil Takes
   taken_of (Falling n) there = All-nil Takes
   taken_of (Named n) there =
       let by_whom = led ((exact (Named n)).0 there) in
-      unless (is_falling keys n) (taken_in n (slot_of slots n) refl by_whom.0 by_whom.1 by_whom.2)
+      unless (is_falling keys n) (taken_in (slot_of slots n) by_whom.0 by_whom.1 by_whom.2)
     where
-      unless : (b : Bool) → All Takes (change_in keys (slot_of slots n)) → All Takes (cond b [] (change_in keys (slot_of slots n)))
+      unless : (b : Bool) → All Takes (change_in dying (slot_of slots n)) → All Takes (cond b [] (change_in dying (slot_of slots n)))
       unless true all = All-nil Takes
       unless false all = all
 
@@ -212,7 +172,7 @@ module _ (v : Indexed Record) (slots : List (Option TableState)) (shown : IsShow
       let standing = subst (λ x. IsTrue (has_item entity_cmp (entities_of t.rows) x)) row.4 (stands_among t.rows row.1 row.2 row.3) in
       let stays = spare v slots shown starts keys begin exact e n standing outside in
       let there = named_there v slots shown starts keys begin exact dying (λ x. refl) m.0 n m.1 named stays (falls (world_of v) slots m.0 n) refl in
-      among_all keys n (record_ids r) there (among_change keys (slot_of slots n) row.1 row.2 (is_falling keys n) (record_ids r) row.3 stays same)
+      among_all keys n (record_ids r) there (among_change dying (slot_of slots n) row.1 row.2 (is_falling keys n) (record_ids r) row.3 stays same)
 
   pub planned : (dead : List Entity) (changes : List TypeChange) → dead ≡ dying → changes ≡ changes_of slots keys → Ascend changes
       → IsPlan v (λ x. IsTrue (has_item entity_cmp (taken_among slots starts) x)) dead changes

@@ -17,7 +17,7 @@ use Rattle.eco_store.specs.Holders.{entities_with}
 use Rattle.eco_store.specs.Store.{IsShown, Stands, record_ids}
 use Rattle.eco_cleanup.specs.Nodes.{is_one_of, taken_among}
 use Rattle.eco_cleanup.specs.declared.node.Node.{Node}
-use Rattle.eco_cleanup.specs.declared.node.Node.TheVariants.{Root, Member, Falling, Named}
+use Rattle.eco_cleanup.specs.declared.node.Node.TheVariants.{Root, Falling, Named}
 use Rattle.eco_cleanup.proofs.Deaths.{Takes, by_one, by_which}
 use Rattle.eco_cleanup.proofs.Noted.{no_others, same_test, tables_are}
 use Rattle.eco_cleanup.proofs.Planned.{ids_standing}
@@ -39,7 +39,6 @@ module _ (v : Indexed Record) (slots : List (Option TableState)) (shown : IsShow
 
   taken_has : (e : Entity) (a : Node) → IsTrue (is_one_of (map Falling found) a) → Takes slots a e → IsTrue (has_item entity_cmp (entities_with v p) e)
   taken_has e (Root x) there takes = absurd (true≢false (sym there ∙ no_others Falling found (Root x) (λ n. refl)))
-  taken_has e (Member x) there takes = absurd (true≢false (sym takes))
   taken_has e (Falling n) there takes =
       let row = row_of (table_in slots n).rows e takes in
       let stands = shown.rows n row.0 row.1 row.2 in

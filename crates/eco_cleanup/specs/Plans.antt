@@ -1,9 +1,8 @@
 -- What a delete does: who dies, and which types change; and how that is found among the nodes.
-use Rattle.std.specs.Prelude.{◌≡◌, Bool, not, ◌||◌, ◌↔◌, IsTrue, IsFalse, List, [], ◌∷◌, map, filter, flat_map, Option, None, Some, if◌then◌else◌}
+use Rattle.std.specs.Prelude.{◌≡◌, Bool, not, ◌↔◌, IsTrue, IsFalse, List, [], ◌∷◌, map, filter, flat_map, Option, None, Some, if◌then◌else◌}
 use Rattle.std.specs.List.{All, Contains, list_any}
 use Rattle.eco_ids.specs.declared.entity.Entity.{Entity}
 use Rattle.eco_ids.specs.declared.id.Id.{Id}
-use Rattle.eco_ids.specs.declared.id.Id.TheVariants.{One, Two}
 use Rattle.eco_ids.specs.Cleanup.{Doomed, names_any}
 use Rattle.eco_ids.specs.Indices.{Indexed, record_of}
 use Rattle.eco_ids.specs.Order.{entity_cmp, has_item, id_cmp, is_ascending}
@@ -12,10 +11,10 @@ use Rattle.eco_tables.specs.Table.{TableState}
 use Rattle.eco_tables.specs.Tables.{slot_of}
 use Rattle.eco_store.specs.Store.{record_ids}
 use Rattle.eco_store.specs.declared.type_change.TypeChange.{TypeChange}
-use Rattle.eco_cleanup.specs.Nodes.{is_falling, is_member}
+use Rattle.eco_cleanup.specs.Nodes.{is_falling, taken_among}
 use Rattle.eco_store.specs.Worlds.{world_of}
 use Rattle.eco_cleanup.specs.declared.node.Node.{Node}
-use Rattle.eco_cleanup.specs.declared.node.Node.TheVariants.{Root, Member, Falling, Named}
+use Rattle.eco_cleanup.specs.declared.node.Node.TheVariants.{Root, Falling, Named}
 
 -- some id of the type goes, and the type changes into the same without the ids that go
 pub record TakesOut (goes : Id → Bool) (c : TypeChange) : Type 0 where
@@ -43,26 +42,20 @@ pub record IsPlan
 
 -- ---- found among the nodes
 
--- the id names a member
-abbrev pub names_dead : List Node → Id → Bool
-names_dead nodes (One e) = is_member nodes e
-names_dead nodes (Two r t) = is_member nodes r || is_member nodes t
-
--- the ids that name none
-abbrev pub spared : List Node → List Id → List Id
-spared nodes ids = filter (λ i. not (names_dead nodes i)) ids
+-- the ids that name none of the dead
+abbrev pub spared : List Entity → List Id → List Id
+spared dead ids = filter (λ i. not (names_any dead i)) ids
 
 -- the table's type loses the others, where there is a table
-abbrev pub change_in : List Node → Option TableState → List TypeChange
-change_in nodes None = []
-change_in nodes (Some t) = record { from = t.ids; to = spared nodes t.ids } ∷ []
+abbrev pub change_in : List Entity → Option TableState → List TypeChange
+change_in dead None = []
+change_in dead (Some t) = record { from = t.ids; to = spared dead t.ids } ∷ []
 
 -- likewise of a table that is named and does not fall
 abbrev pub change_of : List (Option TableState) → List Node → Node → List TypeChange
 change_of slots nodes (Root e) = []
-change_of slots nodes (Member e) = []
 change_of slots nodes (Falling n) = []
-change_of slots nodes (Named n) = if is_falling nodes n then [] else change_in nodes (slot_of slots n)
+change_of slots nodes (Named n) = if is_falling nodes n then [] else change_in (taken_among slots nodes) (slot_of slots n)
 
 -- of all such tables
 abbrev pub changes_of : List (Option TableState) → List Node → List TypeChange

@@ -82,7 +82,7 @@ fn plan_delete(alloc: Global, store: &Store, roots: &[Entity]) -> Result<Plan, R
     let starts = nodes_of(alloc, roots)?;
     let ties = Ties {
         store,
-        archetypes: store.archetypes(),
+        places: store.places(),
     };
     ties.plan(alloc, &starts)
 }
@@ -107,10 +107,10 @@ fn plan_delete_with(alloc: Global, store: &Store, pattern: Pattern) -> Result<Pl
         (λ x. IsTrue (has_item entity_cmp (entities_with store.now.entities pattern) x)) members
         → Answers (world_of store.now.entities) members result }
 {
-    let archetypes = store.archetypes();
-    let slots = archetypes.tables_by(&pattern)?;
+    let places = store.places();
+    let slots = places.archetypes().tables_by(&pattern)?;
     let starts = falling(alloc, &slots)?;
-    let ties = Ties { store, archetypes };
+    let ties = Ties { store, places };
     ties.plan(alloc, &starts)
 }
 

@@ -23,13 +23,13 @@ impl Ties<'_> {
     /// All that deaths by these nodes lead to, unless a policy forbids one of them: refused with `Panic` then, and last with
     /// `OutOfMemory`.
     pub fn judge(&self, alloc: Global, starts: &[Node]) -> Result<Doomed, Refusal>
-        requires shown { IsShown self.now.store.now.entities self.now.archetypes.now }
+        requires shown { IsShown self.now.store.now.entities self.now.places }
         requires starts { AreStarts starts.now }
-        ensures searched { IfOk result (λ d. IsSearch (world_of self.now.store.now.entities) self.now.archetypes.now starts.now
+        ensures searched { IfOk result (λ d. IsSearch (world_of self.now.store.now.entities) self.now.places starts.now
             d.nodes.keys) }
         ensures judged { (members : List EntityData)
             → IsDoomedList (world_of self.now.store.now.entities)
-            (λ x. IsTrue (has_item entity_cmp (taken_among self.now.archetypes.now starts.now) x)) members
+            (λ x. IsTrue (has_item entity_cmp (taken_among self.now.places starts.now) x)) members
             → Answers (world_of self.now.store.now.entities) members result }
     {
         let doomed = self.search(alloc, starts)?;
@@ -43,9 +43,9 @@ impl Ties<'_> {
     }
 
     /// The least objection to the deaths that were found: of the least holder, and for it of the least member. Each table
-    /// that names a member and does not fall is judged once. It takes no memory.
+    /// that names one who dies and does not fall is judged once. It takes no memory.
     pub fn first_objection(&self, doomed: &Doomed) -> Option<Objection>
-        ensures { result ≡ first_objection (world_of self.now.store.now.entities) self.now.archetypes.now doomed.now.nodes.keys }
+        ensures { result ≡ first_objection (world_of self.now.store.now.entities) self.now.places doomed.now.nodes.keys }
     {
         let mut first = None;
         for node in doomed.nodes.as_slice() {
@@ -55,11 +55,11 @@ impl Ties<'_> {
     }
 
     fn objection_of(&self, doomed: &Doomed, node: Node) -> Option<Objection>
-        ensures { result ≡ objection_of (world_of self.now.store.now.entities) self.now.archetypes.now doomed.now.nodes.keys node }
+        ensures { result ≡ objection_of (world_of self.now.store.now.entities) self.now.places doomed.now.nodes.keys node }
     {
         match node {
             Node::Named(slot) if !doomed.falls(slot) => {
-                let table = self.archetypes.tables().get(slot)?;
+                let table = self.table(slot)?;
                 self.objection_at(doomed, table)
             }
             _ => None,
@@ -67,16 +67,18 @@ impl Ties<'_> {
     }
 
     fn objection_at(&self, doomed: &Doomed, table: &Table) -> Option<Objection>
-        ensures { result ≡ objection_at (world_of self.now.store.now.entities) doomed.now.nodes.keys table.now }
+        ensures { result ≡ objection_at (world_of self.now.store.now.entities)
+            (taken_among self.now.places doomed.now.nodes.keys) table.now }
     {
         let member = self.first_protected(doomed, table.type_list().as_slice())?;
-        let holder = doomed.first_outside(table.rows())?;
+        let holder = self.first_outside(doomed, table.rows())?;
         Some(Objection { holder, member })
     }
 
-    // The least member that one of the ids names under the policy `Panic`.
+    // The least of those who die that one of the ids names under the policy `Panic`.
     fn first_protected(&self, doomed: &Doomed, ids: &[Id]) -> Option<Entity>
-        ensures { result ≡ first_protected (world_of self.now.store.now.entities) doomed.now.nodes.keys ids.now }
+        ensures { result ≡ first_protected (world_of self.now.store.now.entities)
+            (taken_among self.now.places doomed.now.nodes.keys) ids.now }
     {
         let mut first = None;
         for id in ids {
@@ -85,9 +87,10 @@ impl Ties<'_> {
         first
     }
 
-    // The least of the first and of the members that the id names so.
+    // The least of the first and of those who die that the id names so.
     fn named_first(&self, doomed: &Doomed, first: Option<Entity>, id: Id) -> Option<Entity>
-        ensures { result ≡ named_first (world_of self.now.store.now.entities) doomed.now.nodes.keys first id }
+        ensures { result ≡ named_first (world_of self.now.store.now.entities)
+            (taken_among self.now.places doomed.now.nodes.keys) first id }
     {
         match id {
             Id::One(own) => lesser(first, own, self.protects(doomed, own, own, ON_DELETE)),
@@ -99,22 +102,21 @@ impl Ties<'_> {
         }
     }
 
-    // Whether the entity is a member, and the policy of the owner under the condition is `Panic`.
+    // Whether the entity dies, and the policy of the owner under the condition is `Panic`.
     fn protects(&self, doomed: &Doomed, entity: Entity, owner: Entity, condition: Entity) -> bool
-        ensures { result ≡ protects (world_of self.now.store.now.entities) doomed.now.nodes.keys entity owner condition }
+        ensures { result ≡ protects (world_of self.now.store.now.entities)
+            (taken_among self.now.places doomed.now.nodes.keys) entity owner condition }
     {
-        doomed.has(entity) && policy(self.store, owner, condition).is(PANIC)
+        self.dies(doomed, entity) && policy(self.store, owner, condition).is(PANIC)
     }
-}
 
-impl Doomed {
-    // The least of the entities that are no members. Where they stand in a table that does not fall, those do not die.
-    fn first_outside(&self, entities: &[Entity]) -> Option<Entity>
-        ensures { result ≡ first_outside self.now.nodes.keys entities.now }
+    // The least of the entities that do not die.
+    fn first_outside(&self, doomed: &Doomed, entities: &[Entity]) -> Option<Entity>
+        ensures { result ≡ first_outside (taken_among self.now.places doomed.now.nodes.keys) entities.now }
     {
         let mut first = None;
         for entity in entities {
-            first = lesser(first, *entity, !self.has(*entity));
+            first = lesser(first, *entity, !self.dies(doomed, *entity));
         }
         first
     }

@@ -1,15 +1,13 @@
 //! What a search for the doomed finds.
 use eco_ids::Entity;
 
-/// An entity or a table that a search for the doomed came to.
+/// An entity or a table that a search for the doomed came to. Whoever dies with a table is no node: its place tells.
 #[derive(Clone, Copy, Debug, PartialEq, Eq, Hash)]
 pub enum Node {
     /// The delete begins with the death of this entity.
     Root(Entity),
-    /// The entity dies with the table in which it stands, and some table's type names it.
-    Member(Entity),
     /// All who stand in the table of this slot die.
     Falling(usize),
-    /// The type of this slot's table names a member, and is not doomed by that.
+    /// The type of this slot's table names one who dies, and is not doomed by that.
     Named(usize),
 }

@@ -1,13 +1,13 @@
 //! What a delete does, found before anything changes.
 ghost use Rattle.std.specs.Prelude.{◌≡◌, ◌++◌, List, IfOk, OnOk, IsTrue};
-ghost use Rattle.eco_ids.specs.Cleanup.{IsDoomed as IsDoomedList};
+ghost use Rattle.eco_ids.specs.Cleanup.{names_any, IsDoomed as IsDoomedList};
 ghost use Rattle.eco_ids.specs.Order.{entity_cmp, has_item, id_cmp, is_ascending};
 ghost use Rattle.eco_ids.specs.declared.entity.Entity.{Entity as EntityData};
 ghost use Rattle.eco_tables.specs.Tables.{slot_of};
 ghost use Rattle.eco_store.specs.Store.{IsShown};
 ghost use Rattle.eco_cleanup.specs.Nodes.{taken_among, taken_by, AreStarts};
 ghost use Rattle.eco_cleanup.specs.Objections.{Answers};
-ghost use Rattle.eco_cleanup.specs.Plans.{Ascend, change_in, change_of, changes_of, names_dead, spared, IsPlan};
+ghost use Rattle.eco_cleanup.specs.Plans.{Ascend, change_in, change_of, changes_of, spared, IsPlan};
 ghost use Rattle.eco_store.specs.Worlds.{world_of};
 
 use crate::doomed::Doomed;
@@ -27,13 +27,13 @@ pub struct Plan {
 impl Ties<'_> {
     /// What deaths by these nodes do, unless a policy forbids it: refused with `Panic` then, and last with `OutOfMemory`.
     pub fn plan(&self, alloc: Global, starts: &[Node]) -> Result<Plan, Refusal>
-        requires shown { IsShown self.now.store.now.entities self.now.archetypes.now }
+        requires shown { IsShown self.now.store.now.entities self.now.places }
         requires starts { AreStarts starts.now }
         ensures planned { IfOk result (λ p. IsPlan self.now.store.now.entities
-            (λ x. IsTrue (has_item entity_cmp (taken_among self.now.archetypes.now starts.now) x)) p.dead.items p.changes.items) }
+            (λ x. IsTrue (has_item entity_cmp (taken_among self.now.places starts.now) x)) p.dead.items p.changes.items) }
         ensures judged { (members : List EntityData)
             → IsDoomedList (world_of self.now.store.now.entities)
-            (λ x. IsTrue (has_item entity_cmp (taken_among self.now.archetypes.now starts.now) x)) members
+            (λ x. IsTrue (has_item entity_cmp (taken_among self.now.places starts.now) x)) members
             → Answers (world_of self.now.store.now.entities) members result }
     {
         let doomed = self.judge(alloc, starts)?;
@@ -41,13 +41,13 @@ impl Ties<'_> {
         Ok(plan)
     }
 
-    // What the deaths that were found mean. Each table that names a member and does not fall changes its type once, for
+    // What the deaths that were found mean. Each table that names one who dies and does not fall changes its type once, for
     // all its rows. An `Err` comes where memory is refused.
     fn plan_of(&self, alloc: Global, doomed: &Doomed) -> Result<Plan, AllocError>
         ensures dead { IfOk result (λ p.
-            p.dead.items ≡ taken_among self.now.archetypes.now doomed.now.nodes.keys) }
+            p.dead.items ≡ taken_among self.now.places doomed.now.nodes.keys) }
         ensures changes { IfOk result (λ p.
-            p.changes.items ≡ changes_of self.now.archetypes.now doomed.now.nodes.keys) }
+            p.changes.items ≡ changes_of self.now.places doomed.now.nodes.keys) }
         ensures ascend { IfOk result (λ p. Ascend p.changes.items) }
     {
         let dead = self.dead(alloc, doomed)?;
@@ -58,7 +58,7 @@ impl Ties<'_> {
     // Who dies; a root may be listed twice. The rows of a table that falls come in their order.
     fn dead(&self, alloc: Global, doomed: &Doomed) -> Result<Vec<Entity>, AllocError>
         ensures { IfOk result (λ es.
-            es.items ≡ taken_among self.now.archetypes.now doomed.now.nodes.keys) }
+            es.items ≡ taken_among self.now.places doomed.now.nodes.keys) }
     {
         let mut dead = Vec::new(alloc);
         for node in doomed.nodes.as_slice() {
@@ -69,18 +69,18 @@ impl Ties<'_> {
 
     // Who dies by the node.
     fn append_taken(&self, node: Node, dead: &mut Vec<Entity>) -> Result<(), AllocError>
-        ensures { OnOk result (dead.new.items ≡ dead.old.items ++ taken_by self.now.archetypes.now node) }
+        ensures { OnOk result (dead.new.items ≡ dead.old.items ++ taken_by self.now.places node) }
     {
         match node {
             Node::Root(entity) => dead.push(entity)?,
             Node::Falling(slot) => dead.extend_from_slice(self.standing(slot))?,
-            Node::Member(_) | Node::Named(_) => {}
+            Node::Named(_) => {}
         }
         Ok(())
     }
 
     fn changes(&self, alloc: Global, doomed: &Doomed) -> Result<Vec<TypeChange>, AllocError>
-        ensures changes { IfOk result (λ cs. cs.items ≡ changes_of self.now.archetypes.now doomed.now.nodes.keys) }
+        ensures changes { IfOk result (λ cs. cs.items ≡ changes_of self.now.places doomed.now.nodes.keys) }
         ensures ascend { IfOk result (λ cs. Ascend cs.items) }
     {
         let mut changes = Vec::new(alloc);
@@ -98,7 +98,7 @@ impl Ties<'_> {
         changes: &mut Vec<TypeChange>,
     ) -> Result<(), AllocError>
         ensures change { OnOk result (changes.new.items
-            ≡ changes.old.items ++ change_of self.now.archetypes.now doomed.now.nodes.keys node) }
+            ≡ changes.old.items ++ change_of self.now.places doomed.now.nodes.keys node) }
         ensures ascend { Ascend changes.old.items → OnOk result (Ascend changes.new.items) }
     {
         match node {
@@ -114,40 +114,41 @@ impl Ties<'_> {
         changes: &mut Vec<TypeChange>,
     ) -> Result<(), AllocError>
         ensures change { OnOk result (changes.new.items
-            ≡ changes.old.items ++ change_in doomed.now.nodes.keys (slot_of self.now.archetypes.now slot)) }
+            ≡ changes.old.items ++ change_in (taken_among self.now.places doomed.now.nodes.keys)
+            (slot_of self.now.places slot)) }
         ensures ascend { Ascend changes.old.items → OnOk result (Ascend changes.new.items) }
     {
-        if let Some(table) = self.archetypes.tables().get(slot) {
+        if let Some(table) = self.table(slot) {
             let from = table.type_list().try_copy()?;
-            let to = doomed.spared(&from)?;
+            let to = self.spared(doomed, &from)?;
             changes.push(TypeChange { from, to })?;
         }
         Ok(())
     }
-}
 
-impl Doomed {
-    // The list without the ids that name a member: where an id that some entity has names one who dies, that is a member.
-    fn spared(&self, ids: &TypeList) -> Result<TypeList, AllocError>
-        ensures spared { IfOk result (λ t. t ≡ spared self.now.nodes.keys ids.now) }
+    // The list without the ids that name one who dies.
+    fn spared(&self, doomed: &Doomed, ids: &TypeList) -> Result<TypeList, AllocError>
+        ensures spared { IfOk result (λ t. t ≡ spared (taken_among self.now.places doomed.now.nodes.keys) ids.now) }
         ensures ascending { IfOk result (λ t. IsTrue (is_ascending id_cmp ids.now)) }
     {
         let mut kept = ids.try_copy()?;
         for id in ids.as_slice() {
-            if self.is_named_by(*id) {
+            if self.names_dead(doomed, *id) {
                 kept.remove(*id);
             }
         }
         Ok(kept)
     }
 
-    // Whether the id names a member.
-    fn is_named_by(&self, id: Id) -> bool
-        ensures { result ≡ names_dead self.now.nodes.keys id }
+    // Whether the id names one who dies.
+    fn names_dead(&self, doomed: &Doomed, id: Id) -> bool
+        ensures { result ≡ names_any (taken_among self.now.places doomed.now.nodes.keys) id }
     {
         match id {
-            Id::One(own) => self.has(own),
-            Id::Two(relationship, target) => self.has(relationship) || self.has(target),
+            Id::One(own) => self.dies(doomed, own),
+            Id::Two(relationship, target) => {
+                self.dies(doomed, relationship) || self.dies(doomed, target)
+            }
         }
     }
 }

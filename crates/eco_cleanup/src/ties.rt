@@ -1,41 +1,44 @@
 //! How deaths lead to deaths.
-ghost use Rattle.std.specs.Prelude.{◌≡◌, ◌++◌, map, IsTrue, IfOk, OnOk};
+ghost use Rattle.std.specs.Prelude.{◌≡◌, ◌++◌, IsTrue, IfOk, OnOk};
+ghost use Rattle.std.specs.Option.{option_copied};
 ghost use Rattle.eco_tables.specs.Table.{entities_of};
-ghost use Rattle.eco_tables.specs.Tables.{table_in};
+ghost use Rattle.eco_tables.specs.Tables.{slot_of, table_in};
+ghost use Rattle.eco_ids.specs.Order.{entity_cmp, has_item};
 ghost use Rattle.eco_ids.specs.declared.entity.TheConstants.{DELETE as DELETE_DATA};
-ghost use Rattle.eco_cleanup.specs.Nodes.{adds, all_nodes, falls, leads, named_node, node_same, touches, Appends, IsSearch};
+ghost use Rattle.eco_cleanup.specs.Nodes.{all_nodes, falls, leads, named_node, node_same, nodes_at, taken_among, touches, touches_by, Appends, IsSearch};
 ghost use Rattle.eco_store.specs.Worlds.{world_of};
 ghost use Rattle.eco_cleanup.specs.declared.node.Node.TheVariants.{Falling};
 
 use crate::doomed::Doomed;
 use crate::node::Node;
 use crate::role::any_names_on;
-use eco_ids::Entity;
 use eco_ids::entity::DELETE;
+use eco_ids::{Entity, Part, Pattern};
 use eco_search::{Graph, least_set};
-use eco_store::{Archetypes, Naming, Store};
+use eco_store::{Places, Store};
+use eco_tables::Table;
 use std::alloc::{AllocError, Global};
 
-/// A root leads to the tables whose types name it. A table that falls leads to the tables whose types name one who stands in
-/// it, and to those who stand in it and are named. So who dies with a table and is named nowhere is never noted.
+/// A root leads to the tables whose types name it, and a table that falls to the tables whose types name one who stands in it.
+/// So who dies with a table is never noted.
 #[derive(Drop)]
 pub struct Ties<'a> {
     pub store: &'a Store,
-    pub archetypes: &'a Archetypes,
+    pub places: Places<'a>,
 }
 
 impl Graph for Ties<'_> {
     type Node = Node;
 
-    ghost nodes = { λ t. all_nodes t.archetypes.now };
+    ghost nodes = { λ t. all_nodes t.places };
 
-    ghost leads = { λ t a b. IsTrue (leads (world_of t.store.now.entities) t.archetypes.now a b) };
+    ghost leads = { λ t a b. IsTrue (leads (world_of t.store.now.entities) t.places a b) };
 
     fn append_next(&self, node: Node, found: &mut Vec<Node>) -> Result<(), AllocError> {
         match node {
             Node::Root(entity) => self.append_named(entity, found),
             Node::Falling(slot) => self.append_standing(slot, found),
-            Node::Member(_) | Node::Named(_) => Ok(()),
+            Node::Named(_) => Ok(()),
         }
     }
 
@@ -45,44 +48,61 @@ impl Graph for Ties<'_> {
 impl Ties<'_> {
     /// All that deaths by these nodes lead to.
     pub fn search(&self, alloc: Global, starts: &[Node]) -> Result<Doomed, AllocError>
-        ensures { IfOk result (λ d. IsSearch (world_of self.now.store.now.entities) self.now.archetypes.now starts.now d.nodes.keys) }
+        ensures { IfOk result (λ d. IsSearch (world_of self.now.store.now.entities) self.now.places starts.now d.nodes.keys) }
     {
         let nodes = least_set(alloc, self, starts)?;
         Ok(Doomed { nodes })
     }
 
-    // The tables that have rows and a type which names the root.
-    fn append_named(&self, root: Entity, found: &mut Vec<Node>) -> Result<(), AllocError>
-        ensures { OnOk result (Appends (touches (world_of self.now.store.now.entities) self.now.archetypes.now root)
+    // The tables that have rows and a type which names the entity.
+    #[inline(always)]
+    fn append_named(&self, entity: Entity, found: &mut Vec<Node>) -> Result<(), AllocError>
+        ensures { OnOk result (Appends (touches (world_of self.now.store.now.entities) self.now.places entity)
             found.old.items found.new.items) }
     {
-        if !self.archetypes.is_named(root) {
-            return Ok(());
-        }
-        let slots = self.archetypes.tables_by(&Naming { entity: root })?;
-        self.append_tables(root, &slots, found)
+        self.append_listed(entity, Pattern::One(entity), found)?;
+        self.append_listed(entity, Pattern::Two(Part::Is(entity), Part::Any), found)?;
+        self.append_listed(entity, Pattern::Two(Part::Any, Part::Is(entity)), found)
     }
 
-    // The tables in these slots, whose types name the member.
-    fn append_tables(
+    // The tables that have rows and an id which the pattern matches, each as the death of the member is noted in it. Inlined, since
+    // most who die are named nowhere: then looks at marks are all that is done.
+    #[inline(always)]
+    fn append_listed(
         &self,
         member: Entity,
-        slots: &[usize],
+        pattern: Pattern,
+        found: &mut Vec<Node>,
+    ) -> Result<(), AllocError>
+        ensures { OnOk result (Appends (touches_by (world_of self.now.store.now.entities) self.now.places member pattern)
+            found.old.items found.new.items) }
+    {
+        for slot in self.places.archetypes().listed(pattern) {
+            self.append_table(member, *slot, found)?;
+        }
+        Ok(())
+    }
+
+    // The table in the slot, where it has rows. Apart, so that who is named nowhere costs no call.
+    #[inline(never)]
+    fn append_table(
+        &self,
+        member: Entity,
+        slot: usize,
         found: &mut Vec<Node>,
     ) -> Result<(), AllocError>
         ensures { OnOk result (found.new.items ≡ found.old.items
-            ++ map (named_node (world_of self.now.store.now.entities) self.now.archetypes.now member) slots.now) }
+            ++ nodes_at (world_of self.now.store.now.entities) self.now.places member slot) }
     {
-        for slot in slots {
-            let node = self.named_node(member, *slot);
-            found.push(node)?;
+        if self.places.archetypes().tables().row_count(slot) > 0 {
+            found.push(self.named_node(member, slot))?;
         }
         Ok(())
     }
 
     // The table in a slot falls where an id of its type names the member under the policy `Delete`, else it is only named.
     fn named_node(&self, member: Entity, slot: usize) -> Node
-        ensures { result ≡ named_node (world_of self.now.store.now.entities) self.now.archetypes.now member slot }
+        ensures { result ≡ named_node (world_of self.now.store.now.entities) self.now.places member slot }
     {
         if self.falls(member, slot) {
             Node::Falling(slot)
@@ -92,50 +112,50 @@ impl Ties<'_> {
     }
 
     fn falls(&self, member: Entity, slot: usize) -> bool
-        ensures { result ≡ falls (world_of self.now.store.now.entities) self.now.archetypes.now member slot }
+        ensures { result ≡ falls (world_of self.now.store.now.entities) self.now.places member slot }
     {
-        match self.archetypes.tables().get(slot) {
+        match self.table(slot) {
             Some(table) => any_names_on(self.store, DELETE, member, table.type_list().as_slice()),
             None => false,
         }
     }
 
-    // What each who stands in the table of a slot adds.
+    // The tables whose types name one who stands in the table of a slot.
     fn append_standing(&self, slot: usize, found: &mut Vec<Node>) -> Result<(), AllocError>
         ensures { OnOk result (Appends
-            (leads (world_of self.now.store.now.entities) self.now.archetypes.now (Falling slot))
+            (leads (world_of self.now.store.now.entities) self.now.places (Falling slot))
             found.old.items found.new.items) }
     {
         for entity in self.standing(slot) {
-            self.append_row(*entity, found)?;
+            self.append_named(*entity, found)?;
         }
         Ok(())
     }
 
-    // The entity and the tables that have rows and a type which names it, where there are such.
-    fn append_row(&self, entity: Entity, found: &mut Vec<Node>) -> Result<(), AllocError>
-        ensures { OnOk result (Appends (adds (world_of self.now.store.now.entities) self.now.archetypes.now entity)
-            found.old.items found.new.items) }
-    {
-        // Most who die are named nowhere, and a look at the marks tells that.
-        if !self.archetypes.is_named(entity) {
-            return Ok(());
-        }
-        let slots = self.archetypes.tables_by(&Naming { entity })?;
-        if slots.is_empty() {
-            return Ok(());
-        }
-        found.push(Node::Member(entity))?;
-        self.append_tables(entity, &slots, found)
-    }
-
     /// All who stand in the table of a slot; nobody, where there is no table.
     pub fn standing(&self, slot: usize) -> &[Entity]
-        ensures { result.now ≡ entities_of (table_in self.now.archetypes.now slot).rows }
+        ensures { result.now ≡ entities_of (table_in self.now.places slot).rows }
     {
-        match self.archetypes.tables().get(slot) {
+        match self.table(slot) {
             Some(table) => table.rows(),
             None => &[],
+        }
+    }
+
+    /// The table in a slot.
+    pub fn table(&self, slot: usize) -> Option<&Table>
+        ensures { option_copied result ≡ slot_of self.now.places slot }
+    {
+        self.places.archetypes().tables().get(slot)
+    }
+
+    /// Whether the entity is one of those who die: a root, or one who stands in a table that falls.
+    pub fn dies(&self, doomed: &Doomed, entity: Entity) -> bool
+        ensures { result ≡ has_item entity_cmp (taken_among self.now.places doomed.now.nodes.keys) entity }
+    {
+        match self.places.slot_of(entity) {
+            Some(slot) => doomed.takes(entity, slot),
+            None => doomed.has_root(entity),
         }
     }
 }

@@ -27,3 +27,4 @@ pub mod Dying
 pub mod Clearing
 pub mod Thinning
 pub mod IndexWalk
+pub mod Placed

@@ -13,6 +13,7 @@
 mod deaths;
 mod layout;
 mod moving;
+mod places;
 mod placing;
 mod prepared;
 mod standing;
@@ -24,6 +25,7 @@ mod walking;
 pub use eco_archetypes::{AllOf, Archetypes, Found, Naming, TypeTest};
 pub use eco_tables::{Table, Tables};
 pub use moving::Move;
+pub use places::Places;
 pub use standing::{Standing, Standings};
 pub use store::Store;
 pub use type_change::TypeChange;

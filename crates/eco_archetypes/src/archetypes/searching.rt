@@ -156,8 +156,10 @@ impl Archetypes {
         self.by_id.names(entity)
     }
 
-    // The slots of the tables whose types have an id that the pattern matches, each once.
-    fn listed(&self, pattern: Pattern) -> &[usize]
+    /// The slots of the tables whose types have an id that the pattern matches, each once, also of those without rows. Where no
+    /// type ever had such an id, mostly the marks of the index tell so. It takes no memory.
+    #[inline]
+    pub fn listed(&self, pattern: Pattern) -> &[usize]
         ensures listed { (n : ℕ) →
             list_any (nat_eq n) result.now ≡ type_matches (type_at self.now n) pattern }
         ensures distinct { IsDistinct nat_eq result.now }

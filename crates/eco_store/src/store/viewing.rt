@@ -1,6 +1,7 @@
 //! The tables of a store, to read and to search.
 ghost use Rattle.eco_store.specs.Store.{IsShown};
 
+use crate::places::Places;
 use crate::store::Store;
 use eco_archetypes::Archetypes;
 
@@ -12,5 +13,14 @@ impl Store {
         let archetypes = self.layout.archetypes();
         archetypes.tables().rows_have_ids();
         archetypes
+    }
+
+    /// The tables, to read and to search, and the place of each living entity in them.
+    pub fn places(&self) -> Places<'_>
+        ensures { IsShown self.now.entities result }
+    {
+        let archetypes = self.layout.archetypes();
+        archetypes.tables().rows_have_ids();
+        Places::new(&self.entities, archetypes)
     }
 }

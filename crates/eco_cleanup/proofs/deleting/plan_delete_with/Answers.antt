@@ -16,23 +16,25 @@ plan-requires-clause-starts c = subst AreStarts (sym (c.deref-2.ensures.value �
 
 pub returns-clause-planned : goal.returns-clause-planned
 returns-clause-planned c =
-    let slots = c.archetypes-archetypes.result.now in
+    let slots = c.places-places.result in
     let v = c.args.store.now.entities in
     let found = c.in_ok-slots.slots.items in
     let listed = c.deref-2.ensures.value ∙ c.in_ok-starts.ensures ∙ ap (map Falling) c.deref.ensures.value in
     subst (λ (test : Entity → Bool). IfOk c.plan.result (λ p. IsPlan v (λ x. IsTrue (test x)) p.dead.items p.changes.items))
-    (λ t e. tables_taken v slots c.archetypes-archetypes.ensures c.args.pattern found c.in_ok-slots.ensures.all e t)
+    (λ t e. tables_taken v slots c.places-places.ensures c.args.pattern found
+    (rw c.archetypes.ensures at c.in_ok-slots.ensures.all) e t)
     (subst (λ nodes. IfOk c.plan.result (λ p. IsPlan v (λ x. IsTrue (has_item entity_cmp (taken_among slots nodes) x)) p.dead.items p.changes.items)) listed
     c.plan.ensures.planned)
 
 pub returns-clause-judged : goal.returns-clause-judged
 returns-clause-judged c =
-    let slots = c.archetypes-archetypes.result.now in
+    let slots = c.places-places.result in
     let v = c.args.store.now.entities in
     let w = world_of v in
     let found = c.in_ok-slots.slots.items in
     let listed = c.deref-2.ensures.value ∙ c.in_ok-starts.ensures ∙ ap (map Falling) c.deref.ensures.value in
     subst (λ (test : Entity → Bool). (members : List Entity) → IsDoomed w (λ x. IsTrue (test x)) members → Answers w members c.plan.result)
-    (λ t e. tables_taken v slots c.archetypes-archetypes.ensures c.args.pattern found c.in_ok-slots.ensures.all e t)
+    (λ t e. tables_taken v slots c.places-places.ensures c.args.pattern found
+    (rw c.archetypes.ensures at c.in_ok-slots.ensures.all) e t)
     (subst (λ nodes. (members : List Entity) → IsDoomed w (λ x. IsTrue (has_item entity_cmp (taken_among slots nodes) x)) members → Answers w members c.plan.result)
     listed c.plan.ensures.judged)

@@ -1,24 +1,23 @@
 use Rattle.std.proofs.Common.{◌≡◌, ◌||◌, length, take, ap, ◌∙◌, arith}
 use Rattle.std.proofs.Math.Seq.{take-length}
 use Rattle.std.specs.List.{list_any}
-use Rattle.eco_cleanup.specs.Nodes.{adds, is_one_of}
+use Rattle.eco_cleanup.specs.Nodes.{is_one_of, touches}
 use Rattle.eco_store.specs.Worlds.{world_of}
-use Rattle.eco_cleanup.proofs.Noted.{one_more, standing_come}
+use Rattle.eco_cleanup.proofs.Noted.{one_more}
 use Rattle.eco_cleanup.proofs.ties.Ties.append_standing.Goals as goal
 
 pub loop-entity-preserved : goal.loop-entity-preserved
 loop-entity-preserved c = λ b.
-    c.in_ok-append_row.ensures b
-    ∙ one_more (λ e. adds (world_of c.args.self.now.store.now.entities) c.args.self.now.archetypes.now e b) c.standing-entity-items.result.now
+    c.in_ok-append_named.ensures b
+    ∙ one_more (λ e. touches (world_of c.args.self.now.store.now.entities) c.args.self.now.places e b) c.standing-entity-items.result.now
     c.loop-entity.entity-index _ (omega (arith, c.loop-entity-test.true)) (is_one_of c.args.found.now.items b) (is_one_of c.loop-entity.found.items b)
     (c.loop-entity.invariant b)
 
 pub returns : goal.returns
 returns c =
     let w = world_of c.args.self.now.store.now.entities in
-    let slots = c.args.self.now.archetypes.now in
+    let slots = c.args.self.now.places in
     let items = c.standing-entity-items.result.now in
     let at_end : c.loop-entity.entity-index ≡ length items = omega (arith, c.loop-entity-test.false, c.loop-entity.auto.entity-index-end) in
     let whole = ap (λ n. take n items) at_end ∙ take-length items ∙ c.standing-entity-items.ensures in
-    standing_come w slots c.args.slot _ _
-    (λ b. c.loop-entity.invariant b ∙ ap (λ es. is_one_of c.args.found.now.items b || list_any (λ e. adds w slots e b) es) whole)
+    λ b. c.loop-entity.invariant b ∙ ap (λ es. is_one_of c.args.found.now.items b || list_any (λ e. touches w slots e b) es) whole

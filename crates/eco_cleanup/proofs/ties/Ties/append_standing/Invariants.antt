@@ -1,6 +1,6 @@
 use Rattle.std.proofs.Common.{◌≡◌, ◌||◌, take}
 use Rattle.std.specs.List.{list_any}
-use Rattle.eco_cleanup.specs.Nodes.{adds, is_one_of}
+use Rattle.eco_cleanup.specs.Nodes.{is_one_of, touches}
 use Rattle.eco_store.specs.Worlds.{world_of}
 use Rattle.eco_cleanup.specs.declared.node.Node.{Node}
 use Rattle.eco_cleanup.proofs.ties.Ties.append_standing.Given as goal
@@ -9,4 +9,4 @@ abbrev pub invariant-loop-entity : goal.invariant-loop-entity
 invariant-loop-entity l =
     (b : Node) → is_one_of l.found.items b
     ≡ (is_one_of l.initial.found.items b
-    || list_any (λ e. adds (world_of l.self.store.now.entities) l.self.archetypes.now e b) (take l.entity-index l.entity-items))
+    || list_any (λ e. touches (world_of l.self.store.now.entities) l.self.places e b) (take l.entity-index l.entity-items))

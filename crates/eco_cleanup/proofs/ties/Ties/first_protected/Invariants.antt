@@ -1,7 +1,8 @@
 use Rattle.std.proofs.Common.{◌≡◌, take}
+use Rattle.eco_cleanup.specs.Nodes.{taken_among}
 use Rattle.eco_cleanup.specs.Objections.{first_protected}
 use Rattle.eco_store.specs.Worlds.{world_of}
 use Rattle.eco_cleanup.proofs.ties.Ties.first_protected.Given as goal
 
 abbrev pub invariant-loop-id : goal.invariant-loop-id
-invariant-loop-id l = l.first ≡ first_protected (world_of l.self.store.now.entities) l.doomed.nodes.keys (take l.id-index l.ids)
+invariant-loop-id l = l.first ≡ first_protected (world_of l.self.store.now.entities) (taken_among l.self.places l.doomed.nodes.keys) (take l.id-index l.ids)

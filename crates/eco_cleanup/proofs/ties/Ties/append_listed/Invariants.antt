@@ -1,0 +1,9 @@
+use Rattle.std.proofs.Common.{◌≡◌, ◌++◌, flat_map, take}
+use Rattle.eco_cleanup.specs.Nodes.{nodes_at}
+use Rattle.eco_store.specs.Worlds.{world_of}
+use Rattle.eco_cleanup.proofs.ties.Ties.append_listed.Given as goal
+
+abbrev pub invariant-loop-slot : goal.invariant-loop-slot
+invariant-loop-slot l =
+    l.found.items ≡ l.initial.found.items
+    ++ flat_map (nodes_at (world_of l.self.store.now.entities) l.self.places l.member) (take l.slot-index l.slot-items)

@@ -1,0 +1,7 @@
+use Rattle.std.proofs.Common.{◌≡◌, take}
+use Rattle.eco_cleanup.specs.Nodes.{taken_among}
+use Rattle.eco_cleanup.specs.Objections.{first_outside}
+use Rattle.eco_cleanup.proofs.ties.Ties.first_outside.Given as goal
+
+abbrev pub invariant-loop-entity : goal.invariant-loop-entity
+invariant-loop-entity l = l.first ≡ first_outside (taken_among l.self.places l.doomed.nodes.keys) (take l.entity-index l.entities)

@@ -1,25 +1,37 @@
 -- Where memory is never wanting, each step has one answer and leads to one world.
 use Rattle.std.proofs.Common.{◌≡◌, ◌≢◌, ℕ, Bool, true, false, true≢false, inl, inr, List, [], ◌∷◌, ◌++◌, Option, Some, Result, Ok, Err, refl, ap, ◌∙◌, sym}
-use Rattle.std.proofs.Common.{subst, IsFalse, MatchResult, MatchBool}
+use Rattle.std.proofs.Common.{flat_map, ◌||◌, subst, IsFalse, MatchResult, MatchBool}
 use Rattle.eco_ids.specs.declared.entity.Entity.{Entity}
 use Rattle.eco_ids.specs.declared.id.Id.{Id}
 use Rattle.eco_ids.specs.declared.refusal.Refusal.{Refusal}
-use Rattle.eco_ids.specs.declared.refusal.Refusal.TheVariants.{NotAlive, OutOfMemory}
+use Rattle.eco_ids.specs.declared.refusal.Refusal.TheVariants.{NoMoreIds, NotAlive, OutOfMemory}
 use Rattle.eco_ids.specs.declared.value.Value.{Value}
-use Rattle.eco_ids.specs.Births.{Creates, MakesComponent}
+use Rattle.std.specs.List.{list_any}
+use Rattle.eco_ids.specs.Births.{Creates, MakesAlive, MakesComponent, may_admit}
 use Rattle.eco_ids.specs.Delete.{DeletesOne, DeletesWith}
 use Rattle.eco_ids.specs.Laws.{HasOneEnd}
+use Rattle.eco_ids.specs.Indices.{admitted}
 use Rattle.eco_ids.specs.Names.{lookup}
 use Rattle.eco_ids.specs.Outcome.{is_out_of_memory, Refuses, Answers, Meets}
+use Rattle.eco_ids.specs.Run as run
 use Rattle.eco_ids.specs.Step.{Adds, Sets, Removes, Clears, RemovesAll, Renames}
-use Rattle.eco_ids.specs.World.{WorldState, is_alive}
+use Rattle.eco_ids.specs.World.{WorldState, entities, is_alive, with_entities}
 use Rattle.eco_query.specs.Grammar.{SpellsId, SpellsQuery, SpellsRef}
 use Rattle.eco_query.specs.Queries.{QuerySlot}
-use Rattle.eco_query.specs.Readings.{Reads, ReadsInMemory, ReadsOnce, entity_at, id_of, query_of}
-use Rattle.eco_script.specs.References.{ReadsEntity, ReadsId, ReadsQuery}
-use Rattle.eco_script.specs.Replies.{Reply, shown, replied, Calls, On, OnEntity, OnId, OnQuery, Replies}
+use Rattle.eco_query.specs.Readings.{Reads, ReadsInMemory, ReadsOnce, entity_at, id_of, ok_both, ok_map, query_of}
+use Rattle.eco_script.specs.Recording.{Names, ReadsCommand, ReadsCommands, has_stages}
+use Rattle.eco_script.specs.References.{ReadsBoth, ReadsEntity, ReadsId, ReadsQuery}
+use Rattle.eco_script.specs.Replies.{Reply, merged, shown, replied, Calls, On, OnCommands, OnEntity, OnId, OnQuery, Replies}
+use Rattle.eco_steps.specs.Commands.{Command}
+use Rattle.eco_steps.specs.Commands as command
 use Rattle.eco_steps.specs.Steps as step
-use Rattle.eco_script.specs.Text.{DoesInMemory, Text, TextInMemory, step_lines}
+use Rattle.eco_world.specs.Merging.{Merges, Outcomes, RunsAdmitted, may_merge}
+use Rattle.eco_script.specs.Text.{DoesInMemory, Text, TextInMemory, has_wanted, step_lines}
+
+-- what neither side of is true
+neither_is : (a b : Bool) → IsFalse (a || b) → IsFalse a × IsFalse b
+neither_is true b e = cc
+neither_is false b e = (refl, e)
 
 -- one answer and one end at most, where it is not that memory was wanting
 abbrev Once : {A : Type 0} → (Result A Refusal → WorldState → Type 0) → Type 0
@@ -70,6 +82,15 @@ in_memory : {X T : Type 0} {Spells : List ℕ → X → Type 0} {meaning : X →
 in_memory n some (inl read) = read
 in_memory n some (inr (x, spelled, is, none)) = absurd (some none)
 
+-- likewise, where memory was wanting for no command of a merge either
+abbrev OnceInMemory : (Result Reply Refusal → WorldState → Type 0) → Type 0
+OnceInMemory Step = (r q : Result Reply Refusal) (new other : WorldState) → IsFalse (has_wanted r) → IsFalse (has_wanted q)
+    → Step r new → Step q other → (r ≡ q) × (new ≡ other)
+
+plainly : (Step : Result Reply Refusal → WorldState → Type 0) → Once Step → OnceInMemory Step
+plainly Step one r q new other f g p h =
+    one r q new other (neither_is (is_out_of_memory r) _ f).0 (neither_is (is_out_of_memory q) _ g).0 p h
+
 -- the laws of what the steps stand on
 pub record Laws : Type 0 where
   pub refs : (entity_named : List ℕ → Option Entity) → ReadsOnce SpellsRef (entity_at entity_named)
@@ -85,6 +106,108 @@ pub record Laws : Type 0 where
   pub remove_all : (i : Id) → HasOneEnd (λ w. RemovesAll w i)
   pub delete : (e : Entity) → HasOneEnd (λ w. DeletesOne w e)
   pub delete_with : (i : Id) → HasOneEnd (λ w. DeletesWith w i)
+  pub make_alive : (e : Entity) → HasOneEnd (λ w. MakesAlive w e)
+
+-- a merge: its texts name one list of commands at most, and these have one run
+module _ (l : Laws) where
+  applies_once : (c : run.Command) → HasOneEnd (run.Applies c)
+  applies_once (run.Create e) = l.make_alive e
+  applies_once (run.Add e i) = l.add e i
+  applies_once (run.Remove e i) = l.remove e i
+  applies_once (run.Set e i v) = l.set e i v
+  applies_once (run.Clear e) = l.clear e
+  applies_once (run.Rename e name) = l.rename e name
+  applies_once (run.Delete e) = l.delete e
+  applies_once (run.DeleteWith i) = l.delete_with i
+  applies_once (run.RemoveAll i) = l.remove_all i
+
+  runs_once : (cs : List run.Command) (w : WorldState) (rs qs : Outcomes) (new other : WorldState) → IsFalse (list_any is_out_of_memory rs)
+      → IsFalse (list_any is_out_of_memory qs) → run.Runs w cs rs new → run.Runs w cs qs other → (rs ≡ qs) × (new ≡ other)
+  runs_once [] w [] [] new other f g p h = (refl, p ∙ sym h)
+  runs_once [] w [] (q ∷ qs) new other f g p h = absurd h
+  runs_once [] w (r ∷ rs) qs new other f g p h = absurd p
+  runs_once (c ∷ cs) w [] qs new other f g p h = absurd p
+  runs_once (c ∷ cs) w (r ∷ rs) [] new other f g p h = absurd h
+  runs_once (c ∷ cs) w (r ∷ rs) (q ∷ qs) new other f g (mid, one, more) (way, two, rest) =
+      let (f0, fs) = neither_is (is_out_of_memory r) (list_any is_out_of_memory rs) f in
+      let (g0, gs) = neither_is (is_out_of_memory q) (list_any is_out_of_memory qs) g in
+      let (same, at) = meets_once (run.Applies c w) (run.may_want c w) w (applies_once c w) r q mid way f0 g0 one two in
+      let (others, end) = runs_once cs mid rs qs new other fs gs more (subst (λ v. run.Runs v cs qs other) (sym at) rest) in
+      (ap (λ x. x ∷ rs) same ∙ ap (λ xs. q ∷ xs) others, end)
+
+  module _ (w : WorldState) where
+    entity_once : (text : List ℕ) (n m : Result Entity Refusal) → ReadsEntity w text n → ReadsEntity w text m → n ≡ m
+    unfolding ReadsEntity
+    entity_once text n m = l.refs (lookup w) text n m
+
+    id_once : (text : List ℕ) (n m : Result Id Refusal) → ReadsId w text n → ReadsId w text m → n ≡ m
+    unfolding ReadsId
+    id_once text n m = l.ids (lookup w) text n m
+
+    both_once : (e i : List ℕ) (n m : Result (Entity × Id) Refusal) → ReadsBoth w e i n → ReadsBoth w e i m → n ≡ m
+    both_once e i n m (x, y, p, q, is) (u, v, h, k, at) =
+        is ∙ ap (λ a. ok_both (λ s t. (s, t)) a y) (entity_once e x u p h) ∙ ap (λ b. ok_both (λ s t. (s, t)) u b) (id_once i y v q k) ∙ sym at
+
+    names_once : {A : Type 0} (Reads : Result A Refusal → Type 0) (make : A → run.Command) → ((n m : Result A Refusal) → Reads n → Reads m → n ≡ m)
+        → (r q : Result run.Command Refusal) → Names Reads make r → Names Reads make q → r ≡ q
+    names_once Reads make one r q (x, p, is) (y, h, at) = is ∙ ap (ok_map make) (one x y p h) ∙ sym at
+
+    command_once : (c : Command) (r q : Result run.Command Refusal) → ReadsCommand w c r → ReadsCommand w c q → r ≡ q
+    command_once (command.create e) = names_once _ _ (entity_once e)
+    command_once (command.add e i) = names_once _ _ (both_once e i)
+    command_once (command.remove e i) = names_once _ _ (both_once e i)
+    command_once (command.set e i v) = names_once _ _ (both_once e i)
+    command_once (command.clear e) = names_once _ _ (entity_once e)
+    command_once (command.rename e name) = names_once _ _ (entity_once e)
+    command_once (command.delete e) = names_once _ _ (entity_once e)
+    command_once (command.delete_with i) = names_once _ _ (id_once i)
+    command_once (command.remove_all i) = names_once _ _ (id_once i)
+
+    -- what stands behind the first command
+    abbrev Behind : List Command → Result (List run.Command) Refusal → Result run.Command Refusal → Type 0
+    Behind cs r first =
+        MatchResult first (λ x. (rest : Result (List run.Command) Refusal) × ReadsCommands w cs rest × (r ≡ ok_map (λ xs. x ∷ xs) rest)) (λ why. r ≡ Err why)
+
+    behind_once : (cs : List Command) → ((r q : Result (List run.Command) Refusal) → ReadsCommands w cs r → ReadsCommands w cs q → r ≡ q)
+        → (r q : Result (List run.Command) Refusal) (x : Result run.Command Refusal) → Behind cs r x → Behind cs q x → r ≡ q
+    behind_once cs others r q (Ok x) (rest, more, is) (other, less, at) = is ∙ ap (ok_map (λ xs. x ∷ xs)) (others rest other more less) ∙ sym at
+    behind_once cs others r q (Err why) is at = is ∙ sym at
+
+    commands_once : (cs : List Command) (r q : Result (List run.Command) Refusal) → ReadsCommands w cs r → ReadsCommands w cs q → r ≡ q
+    commands_once [] r q p h = p ∙ sym h
+    commands_once (c ∷ cs) r q (x, one, p) (y, two, h) =
+        behind_once cs (λ a b m k. commands_once cs a b m k) r q x p (subst (Behind cs q) (sym (command_once c x y one two)) h)
+
+    merges_once : (n : ℕ) (cs : List run.Command) (may : Bool) (x y : Result Outcomes Refusal) (new other : WorldState)
+        → IsFalse (has_wanted (replied merged x)) → IsFalse (has_wanted (replied merged y))
+        → MatchBool may (RunsAdmitted w n cs x new) (Refuses NoMoreIds w x new)
+        → MatchBool may (RunsAdmitted w n cs y other) (Refuses NoMoreIds w y other) → (x ≡ y) × (new ≡ other)
+    merges_once n cs false x y new other f g (a, b) (c, d) = (a ∙ sym c, b ∙ sym d)
+    merges_once n cs true x y new other f g (rs, is, p) (qs, at, h) =
+        let (same, end) = runs_once cs (with_entities w (admitted n (entities w))) rs qs new other
+        (subst (λ z. IsFalse (has_wanted (replied merged z))) is f) (subst (λ z. IsFalse (has_wanted (replied merged z))) at g) p h in
+        (is ∙ ap Ok same ∙ sym at, end)
+
+    -- what a merge does with the commands that its texts name
+    abbrev Goes : ℕ → Result Reply Refusal → WorldState → Result (List run.Command) Refusal → Type 0
+    Goes n r new named = MatchResult named (λ cs. Calls (Merges w n cs) merged r new) (λ why. Refuses why w r new)
+
+    goes_once : (n : ℕ) (r q : Result Reply Refusal) (new other : WorldState) → IsFalse (has_wanted r) → IsFalse (has_wanted q)
+        → (named : Result (List run.Command) Refusal) → Goes n r new named → Goes n q other named → (r ≡ q) × (new ≡ other)
+    goes_once n r q new other f g (Err why) (a, b) (c, d) = (a ∙ sym c, b ∙ sym d)
+    goes_once n r q new other f g (Ok cs) (x, one, is) (y, two, at) =
+        let (same, end) = merges_once n cs (may_admit (entities w) n) x y new other (subst (λ z. IsFalse (has_wanted z)) is f)
+        (subst (λ z. IsFalse (has_wanted z)) at g) one two in
+        (is ∙ ap (replied merged) same ∙ sym at, end)
+
+    merge_once : (n : ℕ) (ss : List (List Command)) (may : Bool)
+        → OnceInMemory (Meets (OnCommands w (flat_map (λ s. s) ss) (λ cs. Calls (Merges w n cs) merged)) may w)
+    merge_once n ss may r q new other f g p h =
+        let (f0, fs) = neither_is (is_out_of_memory r) _ f in
+        let (g0, gs) = neither_is (is_out_of_memory q) _ g in
+        let (x, one, goes) = rw f0 at p in
+        let (y, two, does) = rw g0 at h in
+        goes_once n r q new other f g x goes (subst (Goes n q other) (sym (commands_once (flat_map (λ s. s) ss) x y one two)) does)
 
 module _ (l : Laws) (w : WorldState) where
   on_entity : (text : List ℕ) (Goes : Entity → Result Reply Refusal → WorldState → Type 0) → ((x : Entity) → Once (Goes x)) → Once (OnEntity w text Goes)
@@ -111,22 +234,23 @@ module _ (l : Laws) (w : WorldState) where
   show_once e true r q new other f g c d = answers_once (shown e) w r q new other c d
   show_once e false r q new other f g (a, b) (c, d) = (a ∙ sym c, b ∙ sym d)
 
-  replies_once : (s : step.Step) → Once (Replies w s)
-  replies_once (step.create name) = meets _ _ _ (l.create name w)
-  replies_once (step.component name n) = meets _ _ _ (l.component (Some name) n w)
-  replies_once (step.add e i) = on_entity e _ (λ x. on_id i _ (λ y. meets _ _ _ (l.add x y w)))
-  replies_once (step.remove e i) = on_entity e _ (λ x. on_id i _ (λ y. meets _ _ _ (l.remove x y w)))
-  replies_once (step.set e i v) = on_entity e _ (λ x. on_id i _ (λ y. meets _ _ _ (l.set x y v w)))
-  replies_once (step.clear e) = on_entity e _ (λ x. meets _ _ _ (l.clear x w))
-  replies_once (step.remove_all i) = on_id i _ (λ y. meets _ _ _ (l.remove_all y w))
-  replies_once (step.delete e) = on_entity e _ (λ x. meets _ _ _ (l.delete x w))
-  replies_once (step.delete_with i) = on_id i _ (λ y. meets _ _ _ (l.delete_with y w))
-  replies_once (step.rename e name) = on_entity e _ (λ x. meets _ _ _ (l.rename x name w))
-  replies_once (step.has e i) = on_entity e _ (λ x. on_id i _ (λ y. answered _))
-  replies_once (step.get e i) = on_entity e _ (λ x. on_id i _ (λ y. answered _))
-  replies_once (step.show e) = on_entity e _ (λ x. show_once x (is_alive w x))
-  replies_once step.list = meets_once _ _ w (answers_once _ w)
-  replies_once (step.query text) = on_query text _ (λ q. meets_once _ _ w (answers_once _ w))
+  replies_once : (s : step.Step) → OnceInMemory (Replies w s)
+  replies_once (step.create name) = plainly _ (meets _ _ _ (l.create name w))
+  replies_once (step.component name n) = plainly _ (meets _ _ _ (l.component (Some name) n w))
+  replies_once (step.add e i) = plainly _ (on_entity e _ (λ x. on_id i _ (λ y. meets _ _ _ (l.add x y w))))
+  replies_once (step.remove e i) = plainly _ (on_entity e _ (λ x. on_id i _ (λ y. meets _ _ _ (l.remove x y w))))
+  replies_once (step.set e i v) = plainly _ (on_entity e _ (λ x. on_id i _ (λ y. meets _ _ _ (l.set x y v w))))
+  replies_once (step.clear e) = plainly _ (on_entity e _ (λ x. meets _ _ _ (l.clear x w)))
+  replies_once (step.remove_all i) = plainly _ (on_id i _ (λ y. meets _ _ _ (l.remove_all y w)))
+  replies_once (step.delete e) = plainly _ (on_entity e _ (λ x. meets _ _ _ (l.delete x w)))
+  replies_once (step.delete_with i) = plainly _ (on_id i _ (λ y. meets _ _ _ (l.delete_with y w)))
+  replies_once (step.rename e name) = plainly _ (on_entity e _ (λ x. meets _ _ _ (l.rename x name w)))
+  replies_once (step.has e i) = plainly _ (on_entity e _ (λ x. on_id i _ (λ y. answered _)))
+  replies_once (step.get e i) = plainly _ (on_entity e _ (λ x. on_id i _ (λ y. answered _)))
+  replies_once (step.show e) = plainly _ (on_entity e _ (λ x. show_once x (is_alive w x)))
+  replies_once step.list = plainly _ (meets_once _ _ w (answers_once _ w))
+  replies_once (step.query text) = plainly _ (on_query text _ (λ q. meets_once _ _ w (answers_once _ w)))
+  replies_once (step.merge n ss) = merge_once l w n ss (has_stages ss || may_merge w n [])
 
   does_once : (s : step.Step) (t u : List ℕ) (m n : WorldState) → DoesInMemory w s t m → DoesInMemory w s u n → (t ≡ u) × (m ≡ n)
   does_once s t u m n (r, p, f, e) (q, h, g, k) =

@@ -8,7 +8,7 @@ use Rattle.eco_ids.specs.declared.refusal.Refusal.{Refusal}
 use Rattle.eco_ids.specs.declared.refusal.Refusal.TheVariants.{NotAlive, DeadId, Reserved, NotData, TooWide, BadName, NameTaken, NoMoreIds, OutOfMemory}
 use Rattle.eco_ids.specs.Answer.{answer}
 use Rattle.eco_answers.specs.Answers.{asked}
-use Rattle.eco_ids.specs.Births.{Creates, may_create, MakesComponent, may_make_component, unfit_name}
+use Rattle.eco_ids.specs.Births.{Creates, may_admit, may_create, MakesComponent, may_make_component, unfit_name}
 use Rattle.eco_ids.specs.Delete.{DeletesOne, may_delete, DeletesWith, may_delete_with}
 use Rattle.eco_ids.specs.Indices.{next_entity}
 use Rattle.eco_ids.specs.Indices as indexed
@@ -20,12 +20,12 @@ use Rattle.eco_ids.specs.Step.{unfit_set, unfit_actor, unfit_rename, changed, wi
 use Rattle.eco_ids.specs.Builtin.{is_builtin, is_builtins}
 use Rattle.eco_ids.specs.Data.{arity, fits}
 use Rattle.eco_ids.specs.declared.value.Value.{Value}
-use Rattle.eco_ids.specs.World.{WorldState, has, names_living, is_alive, living, entities}
+use Rattle.eco_ids.specs.World.{WorldState, has, names_living, is_alive, living, entities, with_entities}
 use Rattle.eco_query.specs.Grammar.{SpellsId, SpellsQuery, SpellsRef}
 use Rattle.eco_query.specs.Queries.{QuerySlot}
 use Rattle.eco_query.specs.Readings.{ReadsAll, entity_at, id_of, query_of}
 use Rattle.eco_script.specs.References.{ReadsEntity, ReadsId, ReadsQuery}
-use Rattle.eco_script.specs.Replies.{Reply, truth, got, shown, listed, found, replied, Calls, On, OnEntity, OnId, OnQuery, Replies}
+use Rattle.eco_script.specs.Replies.{Reply, truth, got, shown, listed, found, merged, replied, Calls, On, OnEntity, OnId, OnQuery, Replies}
 use Rattle.eco_steps.specs.Steps as step
 use Rattle.eco_script.specs.Text.{Does, step_lines}
 use Rattle.eco_script.specs.Values.{shown_value}
@@ -149,6 +149,12 @@ on_ends : {A : Type 0} (Reads : Result A Refusal → Type 0) (w : WorldState) (G
 on_ends Reads w Goes (Ok x, is) goes = let (r, new, g) = goes x in (r, new, (Ok x, is, g))
 on_ends Reads w Goes (Err why, is) goes = (Err why, w, (Err why, is, (refl, refl)))
 
+-- a merge of no stage only makes indices known
+empty_merge_ends : (w : WorldState) (n : ℕ) (b : Bool) → may_admit (entities w) n ≡ b → Ends (Replies w (step.merge n []))
+empty_merge_ends w n true e =
+    let after = with_entities w (indexed.admitted n (entities w)) in (Ok (merged []), after, (Ok [], refl, (Ok [], rw e ([], refl, refl), refl)))
+empty_merge_ends w n false e = (Err NoMoreIds, w, (Ok [], refl, (Err NoMoreIds, rw e (refl, refl), refl)))
+
 -- under any names each text is answered in some way
 pub record TextsRead : Type 0 where
   pub refs : (entity_named : List ℕ → Option Entity) → ReadsAll SpellsRef (entity_at entity_named)
@@ -196,6 +202,8 @@ module _ (texts : TextsRead) where
   replies_end w (step.show e) = on_entity w e _ (λ x. show_ends w x (is_alive w x))
   replies_end w step.list = (Ok (listed (map (λ p. p.0) (living w))), w, (refl, refl))
   replies_end w (step.query text) = on_query w text _ (λ q. (Ok (found (answer w (asked q))), w, (refl, refl)))
+  replies_end w (step.merge n []) = empty_merge_ends w n (may_admit (entities w) n) refl
+  replies_end w (step.merge n (s ∷ ss)) = (Err OutOfMemory, w, (refl, refl))
 
   -- some lines, and some world after them
   pub some_step : (s : step.Step) (w : WorldState) → (t : List ℕ) × (e : WorldState) × Does w s t e

@@ -2,4 +2,5 @@ pub mod Determined
 pub mod Devices
 pub mod Ends
 pub mod Joined
+pub mod Recorded
 pub mod Runs

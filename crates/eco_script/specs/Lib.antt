@@ -2,6 +2,7 @@ pub mod Answers
 pub mod Beginning
 pub mod Laws
 pub mod Lines
+pub mod Recording
 pub mod References
 pub mod Replies
 pub mod Run

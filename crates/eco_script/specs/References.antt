@@ -1,5 +1,5 @@
 -- What the texts of a script name.
-use Rattle.std.specs.Prelude.{ℕ, List, Result}
+use Rattle.std.specs.Prelude.{◌≡◌, ℕ, List, Result}
 use Rattle.eco_ids.specs.declared.entity.Entity.{Entity}
 use Rattle.eco_ids.specs.declared.id.Id.{Id}
 use Rattle.eco_ids.specs.declared.refusal.Refusal.{Refusal}
@@ -7,7 +7,7 @@ use Rattle.eco_ids.specs.Names.{lookup}
 use Rattle.eco_ids.specs.World.{WorldState}
 use Rattle.eco_query.specs.Grammar.{SpellsId, SpellsQuery, SpellsRef}
 use Rattle.eco_query.specs.Queries.{QuerySlot}
-use Rattle.eco_query.specs.Readings.{Reads, ReadsInMemory, entity_at, id_of, query_of}
+use Rattle.eco_query.specs.Readings.{Reads, ReadsInMemory, entity_at, id_of, ok_both, query_of}
 
 -- the text, a name or a handle with white space round it, names this entity, or is refused
 unfoldable pub ReadsEntity : WorldState → List ℕ → Result Entity Refusal → Type 0
@@ -20,3 +20,8 @@ ReadsId w text = Reads SpellsId (id_of (lookup w)) text
 -- the text, slots joined by commas, spells this query, or is refused; memory may be wanting for what would be read else
 unfoldable pub ReadsQuery : WorldState → List ℕ → Result (List QuerySlot) Refusal → Type 0
 ReadsQuery w text = ReadsInMemory SpellsQuery (query_of (lookup w)) text
+
+-- the texts name an entity and an id; else the answer is the refusal of the first that is refused
+abbrev pub ReadsBoth : WorldState → List ℕ → List ℕ → Result (Entity × Id) Refusal → Type 0
+ReadsBoth w e i r =
+    (x : Result Entity Refusal) × (y : Result Id Refusal) × ReadsEntity w e x × ReadsId w i y × (r ≡ ok_both (λ a b. (a, b)) x y)

@@ -1,5 +1,5 @@
 -- What each step of a script answers, and the world that it leaves.
-use Rattle.std.specs.Prelude.{◌≡◌, ℕ, Bool, true, List, map, Option, Some, Result, Ok, Err, MatchResult, MatchBool}
+use Rattle.std.specs.Prelude.{◌≡◌, ℕ, Bool, true, ◌||◌, List, [], flat_map, map, Option, Some, Result, Ok, Err, MatchResult, MatchBool}
 use Rattle.eco_ids.specs.declared.entity.Entity.{Entity}
 use Rattle.eco_ids.specs.declared.id.Id.{Id}
 use Rattle.eco_ids.specs.declared.refusal.Refusal.{Refusal}
@@ -12,13 +12,17 @@ use Rattle.eco_ids.specs.Step.{Adds, may_add, Sets, may_set, Removes, may_remove
 use Rattle.eco_ids.specs.World.{WorldState, has, is_alive, living}
 use Rattle.eco_query.specs.Queries.{QuerySlot}
 use Rattle.eco_answers.specs.Answers.{asked}
+use Rattle.eco_ids.specs.Run as run
+use Rattle.eco_world.specs.Merging.{Merges, Outcomes, may_merge}
 use Rattle.eco_world.specs.Queries.{may_query}
+use Rattle.eco_script.specs.Recording.{ReadsCommands, has_stages}
 use Rattle.eco_script.specs.References.{ReadsEntity, ReadsId, ReadsQuery}
+use Rattle.eco_steps.specs.Commands.{Command}
 use Rattle.eco_steps.specs.Steps as step
 use Rattle.eco_script.specs.Values.{Shown, shown_value}
 
 -- what a step answers where it is done: that it is done, who was made, whether it is so, a value or none, one entity, all
--- living ones, or the results of a query
+-- living ones, the results of a query, or the outcomes of the commands of a merge
 pub data Reply : Type 0 where
   done : Reply
   made : Entity → Reply
@@ -27,6 +31,7 @@ pub data Reply : Type 0 where
   shown : Entity → Reply
   listed : List Entity → Reply
   found : List Row → Reply
+  merged : Outcomes → Reply
 
 -- a call's answer, with a reply in place of what it gives
 abbrev pub replied : {A : Type 0} → (A → Reply) → Result A Refusal → Result Reply Refusal
@@ -54,8 +59,12 @@ OnId w text = On (ReadsId w text) w
 abbrev pub OnQuery : WorldState → List ℕ → (List QuerySlot → Result Reply Refusal → WorldState → Type 0) → Result Reply Refusal → WorldState → Type 0
 OnQuery w text = On (ReadsQuery w text) w
 
+-- the texts are commands
+abbrev pub OnCommands : WorldState → List Command → (List run.Command → Result Reply Refusal → WorldState → Type 0) → Result Reply Refusal → WorldState → Type 0
+OnCommands w texts = On (ReadsCommands w texts) w
+
 -- what the step answers on a world, and the world after it. Texts are read from left to right, and the first that is refused
--- is the step's refusal. A listing may find no memory, and so may a query that has a result.
+-- is the step's refusal. A listing may find no memory, and so may a query that has a result, and a merge that has stages or makes indices known.
 abbrev pub Replies : WorldState → step.Step → Result Reply Refusal → WorldState → Type 0
 Replies w (step.create name) = Calls (Meets (Creates w name) (may_create w name) w) made
 Replies w (step.component name arity) =
@@ -74,3 +83,5 @@ Replies w (step.show e) =
     OnEntity w e (λ x r new. MatchBool (is_alive w x) (Answers (shown x) w r new) (Refuses NotAlive w r new))
 Replies w step.list = Meets (Answers (listed (map (λ p. p.0) (living w))) w) true w
 Replies w (step.query text) = OnQuery w text (λ q. Meets (Answers (found (answer w (asked q))) w) (may_query w (asked q)) w)
+Replies w (step.merge n stages) =
+    Meets (OnCommands w (flat_map (λ s. s) stages) (λ commands. Calls (Merges w n commands) merged)) (has_stages stages || may_merge w n []) w

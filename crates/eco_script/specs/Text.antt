@@ -1,6 +1,7 @@
 -- The text that a run of steps writes.
-use Rattle.std.specs.Prelude.{◌≡◌, ℕ, Bool, true, false, List, [], ◌∷◌, ◌++◌, length, map, flat_map, codes, decimal, Option, Some, None, Result, Ok, Err}
+use Rattle.std.specs.Prelude.{◌≡◌, ℕ, Bool, true, false, ◌||◌, List, [], ◌∷◌, ◌++◌, length, map, flat_map, codes, decimal, Option, Some, None, Result, Ok, Err}
 use Rattle.std.specs.Prelude.{IsFalse}
+use Rattle.std.specs.List.{list_any}
 use Rattle.eco_ids.specs.declared.entity.Entity.{Entity}
 use Rattle.eco_ids.specs.declared.refusal.Refusal.{Refusal}
 use Rattle.eco_ids.specs.Data.{arity_of}
@@ -10,9 +11,10 @@ use Rattle.eco_ids.specs.Step.{own_name}
 use Rattle.eco_ids.specs.Text.{entity_text}
 use Rattle.eco_ids.specs.World.{WorldState, held_by}
 use Rattle.eco_script.specs.Lines.{entity_line, row_line, shown_text}
-use Rattle.eco_script.specs.Replies.{Reply, done, made, truth, got, shown, listed, found, Replies}
+use Rattle.eco_script.specs.Replies.{Reply, done, made, truth, got, shown, listed, found, merged, Replies}
 use Rattle.eco_steps.specs.Steps.{Step}
 use Rattle.eco_script.specs.Values.{Shown, shown_value}
+use Rattle.eco_world.specs.Merging.{Outcomes}
 
 -- the line of an entity, with what the world has of it
 abbrev pub line_of : WorldState → Entity → List ℕ
@@ -28,6 +30,15 @@ abbrev pub got_text : Option Shown → List ℕ
 got_text None = codes "none"
 got_text (Some value) = shown_text value
 
+-- the line of a refusal
+abbrev pub refused_line : Refusal → List ℕ
+refused_line why = codes "refused " ++ refusal_text why ++ codes "\n"
+
+-- the line of a command of a merge
+abbrev pub outcome_line : Result (Unit {0}) Refusal → List ℕ
+outcome_line (Ok _) = codes "ok\n"
+outcome_line (Err why) = refused_line why
+
 -- the lines of a reply, on the world that the step leaves
 abbrev pub reply_lines : WorldState → Reply → List ℕ
 reply_lines w done = codes "ok\n"
@@ -37,19 +48,29 @@ reply_lines w (got value) = codes "ok " ++ got_text value ++ codes "\n"
 reply_lines w (shown e) = codes "ok " ++ line_of w e
 reply_lines w (listed es) = codes "ok " ++ decimal (length es) ++ codes "\n" ++ flat_map (line_of w) es
 reply_lines w (found rows) = codes "ok " ++ decimal (length rows) ++ codes "\n" ++ flat_map (λ r. row_line r.entity r.entries) rows
+reply_lines w (merged outcomes) = codes "ok " ++ decimal (length outcomes) ++ codes "\n" ++ flat_map outcome_line outcomes
 
 -- the lines of a step's answer
 abbrev pub step_lines : WorldState → Result Reply Refusal → List ℕ
 step_lines w (Ok reply) = reply_lines w reply
-step_lines w (Err why) = codes "refused " ++ refusal_text why ++ codes "\n"
+step_lines w (Err why) = refused_line why
+
+-- the outcomes of the commands of a merge
+abbrev pub outcomes_of : Result Reply Refusal → Outcomes
+outcomes_of (Ok (merged outcomes)) = outcomes
+outcomes_of _ = []
+
+-- memory was wanting for the step, or for a command of its merge
+abbrev pub has_wanted : Result Reply Refusal → Bool
+has_wanted r = is_out_of_memory r || list_any is_out_of_memory (outcomes_of r)
 
 -- the step may take the old world to the new one, and these are its lines
 abbrev pub Does : WorldState → Step → List ℕ → WorldState → Type 0
 Does old s lines new = (r : Result Reply Refusal) × Replies old s r new × (lines ≡ step_lines new r)
 
--- likewise, and the answer is not that memory was wanting
+-- likewise, and memory was not wanting
 abbrev pub DoesInMemory : WorldState → Step → List ℕ → WorldState → Type 0
-DoesInMemory old s lines new = (r : Result Reply Refusal) × Replies old s r new × IsFalse (is_out_of_memory r) × (lines ≡ step_lines new r)
+DoesInMemory old s lines new = (r : Result Reply Refusal) × Replies old s r new × IsFalse (has_wanted r) × (lines ≡ step_lines new r)
 
 -- steps, one after another, each of which takes a world to the next so, with their lines
 abbrev pub TextBy : (WorldState → Step → List ℕ → WorldState → Type 0) → WorldState → List Step → List ℕ → WorldState → Type 0
@@ -61,6 +82,6 @@ TextBy One old (s ∷ ss) text new =
 abbrev pub Text : WorldState → List Step → List ℕ → WorldState → Type 0
 Text = TextBy Does
 
--- likewise, and no answer is that memory was wanting
+-- likewise, and memory was never wanting
 abbrev pub TextInMemory : WorldState → List Step → List ℕ → WorldState → Type 0
 TextInMemory = TextBy DoesInMemory

@@ -7,6 +7,8 @@ mod fault;
 pub mod laws;
 mod lines;
 mod perform;
+mod recording;
+mod references;
 mod reply;
 pub mod run;
 mod shown_value;

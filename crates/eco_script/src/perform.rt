@@ -2,41 +2,18 @@
 
 ghost use Rattle.std.specs.Prelude.{option_map};
 ghost use Rattle.eco_script.specs.Answers.{answer_view};
-ghost use Rattle.eco_script.specs.References.{ReadsEntity, ReadsId, ReadsQuery};
 ghost use Rattle.eco_script.specs.Replies.{Replies};
 ghost use Rattle.eco_steps.specs.Steps as steps;
-ghost use Rattle.eco_steps.specs.Views.{step_view};
+ghost use Rattle.eco_steps.specs.Views.{stages_view, step_view};
 
+use crate::recording::record_stages;
+use crate::references::{read_entity, read_id, read_query};
 use crate::reply::Reply;
 use crate::shown_value::ShownValue;
-use eco_ids::{Entity, Id, Refusal, Value};
-use eco_query::read_ref;
-use eco_steps::{Arity, Step};
-use eco_world::{Query, World};
-
-// The entity that a text names.
-#[tactic(auto, unfolding(crate::specs::References::ReadsEntity))]
-fn read_entity(text: &str, world: &World) -> Result<Entity, Refusal>
-    ensures { ReadsEntity world.now text.now result }
-{
-    read_ref(text, world)
-}
-
-// The id that a text names.
-#[tactic(auto, unfolding(crate::specs::References::ReadsId))]
-fn read_id(text: &str, world: &World) -> Result<Id, Refusal>
-    ensures { ReadsId world.now text.now result }
-{
-    eco_query::read_id(text, world)
-}
-
-// The query that a text spells.
-#[tactic(auto, unfolding(crate::specs::References::ReadsQuery))]
-fn read_query(text: &str, world: &World) -> Result<Query, Refusal>
-    ensures { ReadsQuery world.now text.now result }
-{
-    world.read_query(text)
-}
+use eco_ids::{Refusal, Value};
+use eco_steps::{Arity, Stages, Step};
+use eco_world::World;
+use std::alloc::Global;
 
 fn create(world: &mut World, name: Option<&str>) -> Result<Reply, Refusal>
     ensures { Replies world.old (steps.create (option_map (λ s. s.now) name.entry))
@@ -159,8 +136,22 @@ fn query(world: &World, text: &str) -> Result<Reply, Refusal>
     Ok(Reply::Found(world.results(&query)?))
 }
 
-/// Runs a step on a world.
-pub fn perform(world: &mut World, step: &Step<'_>) -> Result<Reply, Refusal>
+fn merge(
+    alloc: Global,
+    world: &mut World,
+    admitted: u32,
+    stages: Stages<'_>,
+) -> Result<Reply, Refusal>
+    ensures { Replies world.old (steps.merge admitted (stages_view stages.entry))
+        (answer_view result) world.new }
+{
+    let recorded = record_stages(alloc, world, stages)?;
+    let report = world.merge(admitted, recorded.as_slice())?;
+    Ok(Reply::Merged(report))
+}
+
+/// Runs a step on a world. What is recorded for a merge takes its memory from `alloc`.
+pub fn perform(alloc: Global, world: &mut World, step: &Step<'_>) -> Result<Reply, Refusal>
     ensures { Replies world.old (step_view step.now) (answer_view result) world.new }
 {
     match *step {
@@ -179,5 +170,6 @@ pub fn perform(world: &mut World, step: &Step<'_>) -> Result<Reply, Refusal>
         Step::Show { entity } => show(world, entity),
         Step::List => list(world),
         Step::Query { text } => query(world, text),
+        Step::Merge { admitted, stages } => merge(alloc, world, admitted, stages),
     }
 }

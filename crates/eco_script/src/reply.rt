@@ -3,12 +3,12 @@
 ghost use Rattle.std.specs.Prelude.{◌≡◌, ◌++◌, OnOk, string_bytes, flat_map};
 ghost use Rattle.eco_script.specs.Answers.{answer_view, reply_view};
 ghost use Rattle.eco_script.specs.Lines.{row_line};
-ghost use Rattle.eco_script.specs.Text.{line_of, reply_lines, step_lines};
+ghost use Rattle.eco_script.specs.Text.{line_of, outcome_line, refused_line, reply_lines, step_lines};
 
 use crate::lines::{EntityLine, RowLine};
 use crate::shown_value::ShownValue;
 use eco_ids::{Entity, Refusal};
-use eco_world::{Results, World};
+use eco_world::{Report, Results, World};
 use std::alloc::AllocError;
 
 /// What a step answers where it is done.
@@ -28,6 +28,38 @@ pub enum Reply {
     Listed(Vec<Entity>),
     /// The results of a query, ascending.
     Found(Results),
+    /// The outcomes of the commands of a merge, in order.
+    Merged(Report),
+}
+
+// Adds the line of a refusal.
+fn push_refused_line(text: &mut String, refusal: &Refusal) -> Result<(), AllocError>
+    ensures { OnOk result (string_bytes text.new
+        ≡ string_bytes text.old ++ refused_line refusal.now) }
+{
+    write!(text, "refused {refusal}\n")
+}
+
+// Adds the line of a command.
+fn push_outcome_line(text: &mut String, outcome: &Result<(), Refusal>) -> Result<(), AllocError>
+    ensures { OnOk result (string_bytes text.new
+        ≡ string_bytes text.old ++ outcome_line outcome.now) }
+{
+    match outcome {
+        Ok(()) => text.push_str("ok\n"),
+        Err(refusal) => push_refused_line(text, refusal),
+    }
+}
+
+// Adds the lines of commands.
+fn push_outcome_lines(text: &mut String, outcomes: &[Result<(), Refusal>]) -> Result<(), AllocError>
+    ensures { OnOk result (string_bytes text.new
+        ≡ string_bytes text.old ++ flat_map outcome_line outcomes.now) }
+{
+    for outcome in outcomes {
+        push_outcome_line(text, outcome)?;
+    }
+    Ok(())
 }
 
 // Adds the lines of entities.
@@ -91,6 +123,11 @@ impl Reply {
                 write!(text, "ok {count}\n")?;
                 push_row_lines(text, results)
             }
+            Reply::Merged(report) => {
+                let count = report.len();
+                write!(text, "ok {count}\n")?;
+                push_outcome_lines(text, report.outcomes())
+            }
         }
     }
 }
@@ -106,6 +143,6 @@ pub fn push_step_lines(
 {
     match answer {
         Ok(reply) => reply.push_lines(text, world),
-        Err(refusal) => write!(text, "refused {refusal}\n"),
+        Err(refusal) => push_refused_line(text, refusal),
     }
 }

@@ -21,11 +21,16 @@ use std::alloc::{AllocError, Global};
 const GATHERED: usize = 65_536;
 
 // Runs a step, and puts its lines behind others. The error is want of memory for the lines.
-fn run_step(world: &mut World, step: &Step<'_>, text: &mut String) -> Result<(), AllocError>
+fn run_step(
+    alloc: Global,
+    world: &mut World,
+    step: &Step<'_>,
+    text: &mut String,
+) -> Result<(), AllocError>
     ensures { OnOk result ((lines : List ℕ) × Does world.old (step_view step.now) lines world.new
         × (string_bytes text.new ≡ string_bytes text.old ++ lines)) }
 {
-    let answer = perform::perform(world, step);
+    let answer = perform::perform(alloc, world, step);
     reply::push_step_lines(text, world, &answer)
 }
 
@@ -65,7 +70,7 @@ fn run_steps<W: ScriptWriter>(
     eco_query::laws::texts_are_read();
     let mut text = String::new(alloc);
     for step in steps {
-        let Ok(()) = run_step(world, step, &mut text) else {
+        let Ok(()) = run_step(alloc, world, step, &mut text) else {
             return Err(Fault::Memory);
         };
         let Ok(()) = write_many(writer, &mut text) else {

@@ -9,16 +9,19 @@ use Rattle.std.proofs.lemmas.Int.{to_z-of_z}
 use Rattle.std.proofs.lemmas.List.{append-nil, drop_all, drop-drop, drop-replicate, drop-set-lt, length-drop, length-map, length-replicate, take-append-drop}
 use Rattle.std.proofs.lemmas.List.{take_more_set}
 use Rattle.std.proofs.lemmas.Slice.Eq.{bytes_eq-Decides}
-use Rattle.std.proofs.lemmas.Option.{option_and_then_some}
+use Rattle.std.proofs.lemmas.Option.{option_and_then_some, some_pair_parts}
 use Rattle.serde_json.specs.Data.{Data, null, boolean, number, string, array, object, unsigned, negative, float}
 use Rattle.serde_json.specs.Find.{as_str}
 use Rattle.eco_ids.specs.declared.value.TheConstants.{FIELD_COUNT, LARGEST_ARITY}
 use Rattle.eco_ids.specs.declared.value.Value.{Value}
 use Rattle.eco_steps.specs.Decode.{items_list, list_in, each_in, name_in, number_in, integer_in, value_of_items, value_in, step_of_none, step_of_one}
-use Rattle.eco_steps.specs.Decode.{step_of_texts, step_of_two, step_of_three, step_of, step_of_words, step_in, parts_of, parts_in, script_of, script_in}
+use Rattle.eco_steps.specs.Decode.{step_of_texts, step_of_two, step_of_three, step_of, words_of, words_in, alone_in, command_of, command_in, stage_in}
+use Rattle.eco_steps.specs.Decode.{stages_in, merge_of, step_with, step_in, parts_of, parts_in, script_of, script_in}
 use Rattle.eco_steps.specs.Script.{Script, IsScriptData, IsScript}
-use Rattle.eco_steps.specs.Steps.{Step, create, component, add, remove, set, clear, remove_all, delete, delete_with, rename, has, get, show, list, query}
-use Rattle.eco_steps.specs.Steps.{IsIntegerData, IsValueData, IsStepData, value_with, written, list_data, name_data}
+use Rattle.eco_steps.specs.Steps.{Step, create, component, add, remove, set, clear, remove_all, delete, delete_with, rename, has, get, show, list, query, merge}
+use Rattle.eco_steps.specs.Commands.{Command}
+use Rattle.eco_steps.specs.Commands as command
+use Rattle.eco_steps.specs.Steps.{IsIntegerData, IsValueData, IsCommandData, IsStageData, IsStagesData, IsStepData, value_with, written, list_data, name_data}
 use Rattle.eco_steps.proofs.Values.{items_list-items_of, items_of-items_list, each_found, each_is, one_more}
 
 -- ---- what is written is found
@@ -47,6 +50,24 @@ value_found d v is =
     rw (is.is_list, items_list-items_of is.items, is.filled)
     (value_of is.items is.fields (omega arith) (omega arith) (each_found integer_in IsIntegerData integer_found is.items is.fields is.are_integers))
 
+command_found : (d : Data) (c : Command) → IsCommandData d c → command_in d ≡ Some c
+command_found d (command.create handle) is = rw is refl
+command_found d (command.add e i) is = rw is refl
+command_found d (command.remove e i) is = rw is refl
+command_found d (command.set e i v) (value, is, of) = rw (is, value_found value v of) refl
+command_found d (command.clear e) is = rw is refl
+command_found d (command.rename e None) is = rw is refl
+command_found d (command.rename e (Some name)) is = rw is refl
+command_found d (command.delete e) is = rw is refl
+command_found d (command.delete_with i) is = rw is refl
+command_found d (command.remove_all i) is = rw is refl
+
+stage_found : (d : Data) (cs : List Command) → IsStageData d cs → stage_in d ≡ Some cs
+stage_found d cs (items, is, are) = rw (is, items_list-items_of items) (each_found command_in IsCommandData command_found items cs are)
+
+stages_found : (d : Data) (stages : List (List Command)) → IsStagesData d stages → stages_in d ≡ Some stages
+stages_found d stages (items, is, are) = rw (is, items_list-items_of items) (each_found stage_in IsStageData stage_found items stages are)
+
 step_found : (d : Data) (s : Step) → IsStepData d s → step_in d ≡ Some s
 step_found d (create None) is = rw is refl
 step_found d (create (Some name)) is = rw is refl
@@ -65,6 +86,9 @@ step_found d (get e i) is = rw is refl
 step_found d (show e) is = rw is refl
 step_found d list is = rw is refl
 step_found d (query q) is = rw is refl
+step_found d (merge n stages) (value, is, most, of) =
+    let at : number_in 0 1048576 (number (unsigned n)) ≡ Some n = number_in_range 0 1048576 n (omega arith) most in
+    rw (is, at, stages_found value stages of) refl
 
 script_in_data : (d : Data) (s : Script) → IsScriptData d s → script_in d ≡ Some s
 script_in_data d s is =
@@ -292,14 +316,73 @@ step_of_is w (a ∷ b ∷ c ∷ []) s e =
     (λ y of l. rw (str_is a x at, str_is b y of) (three_is w x y c s l)))
 step_of_is w (a ∷ b ∷ c ∷ d ∷ ds) s e = cc
 
--- a list of words is that of the step that they are
-words_are : (ds : List Data) (s : Step) → step_of_words ds ≡ Some s → IsStepData (list_data ds) s
-words_are [] s e = cc
-words_are (word ∷ ds) s e =
-    option_and_then_some (λ w. step_of w ds) (as_str word) s e (λ w is h. rw (str_is word w is) (step_of_is w ds s h))
+-- what has a word in front is written so
+words_are : (es : List Data) (w : List ℕ) (ds : List Data) → words_of es ≡ Some (w, ds) → list_data es ≡ written w ds
+words_are [] w ds e = cc
+words_are (word ∷ rest) w ds e = said (as_str word) refl e where
+  said : (o : Option (List ℕ)) → as_str word ≡ o → option_map {U = List ℕ × List Data} (λ t. (t, rest)) o ≡ Some (w, ds)
+      → list_data (word ∷ rest) ≡ written w ds
+  said None is h = cc
+  said (Some t) is h = let (p, q) = some_pair_parts t w rest ds h in rw (str_is word t is, p, q) refl
+
+words_is : (d : Data) (w : List ℕ) (ds : List Data) → words_in d ≡ Some (w, ds) → d ≡ written w ds
+words_is d w ds e = option_and_then_some words_of (list_in d) (w, ds) e (λ es is h. list_is d es is ∙ words_are es w ds h)
+
+-- a value of a word and arguments is the step that they are
+alone_is : (d : Data) (s : Step) → alone_in d ≡ Some s → IsStepData d s
+alone_is d s e =
+    option_and_then_some (λ p. step_of p.0 p.1) (words_in d) s e (λ p is h. rw (words_is d p.0 p.1 is) (step_of_is p.0 p.1 s h))
+
+-- a step that a stage may hold is written as the command
+of_step : (d : Data) (s : Step) (c : Command) → command_of s ≡ Some c → IsStepData d s → IsCommandData d c
+of_step d (create None) c e is = cc
+of_step d (create (Some handle)) c e is = let q : c ≡ command.create handle = cc in rw q is
+of_step d (component name n) c e is = cc
+of_step d (add x i) c e is = let q : c ≡ command.add x i = cc in rw q is
+of_step d (remove x i) c e is = let q : c ≡ command.remove x i = cc in rw q is
+of_step d (set x i v) c e is = let q : c ≡ command.set x i v = cc in rw q is
+of_step d (clear x) c e is = let q : c ≡ command.clear x = cc in rw q is
+of_step d (remove_all i) c e is = let q : c ≡ command.remove_all i = cc in rw q is
+of_step d (delete x) c e is = let q : c ≡ command.delete x = cc in rw q is
+of_step d (delete_with i) c e is = let q : c ≡ command.delete_with i = cc in rw q is
+of_step d (rename x name) c e is = let q : c ≡ command.rename x name = cc in rw q is
+of_step d (has x i) c e is = cc
+of_step d (get x i) c e is = cc
+of_step d (show x) c e is = cc
+of_step d list c e is = cc
+of_step d (query text) c e is = cc
+of_step d (merge n stages) c e is = cc
+
+command_is : (d : Data) (c : Command) → command_in d ≡ Some c → IsCommandData d c
+command_is d c e = option_and_then_some command_of (alone_in d) c e (λ s is h. of_step d s c h (alone_is d s is))
+
+stage_is : (d : Data) (cs : List Command) → stage_in d ≡ Some cs → IsStageData d cs
+stage_is d cs e =
+    option_and_then_some (each_in command_in) (list_in d) cs e
+    (λ items is h. (items, list_is d items is, each_is command_in IsCommandData command_is items cs h))
+
+stages_is : (d : Data) (stages : List (List Command)) → stages_in d ≡ Some stages → IsStagesData d stages
+stages_is d stages e =
+    option_and_then_some (each_in stage_in) (list_in d) stages e
+    (λ items is h. (items, list_is d items is, each_is stage_in IsStageData stage_is items stages h))
+
+merge_is : (w : List ℕ) (ds : List Data) (s : Step) → bytes_eq w (codes "merge") ≡ true → merge_of ds ≡ Some s → IsStepData (written w ds) s
+merge_is w [] s t e = cc
+merge_is w (a ∷ []) s t e = cc
+merge_is w (a ∷ b ∷ c ∷ ds) s t e = cc
+merge_is w (a ∷ b ∷ []) s t e =
+    option_and_then_some (λ n. option_map (merge n) (stages_in b)) (number_in 0 1048576 a) s e
+    (λ n at h. staged n (number_is 0 1048576 a n at) (stages_in b) refl h) where
+      staged : (n : ℕ) → (a ≡ number (unsigned n)) × (0 ≤ n) × (n ≤ 1048576) → (o : Option (List (List Command))) → stages_in b ≡ o
+          → option_map (merge n) o ≡ Some s → IsStepData (written w (a ∷ b ∷ [])) s
+      staged n is None k h = cc
+      staged n (is, low, high) (Some stages) k h =
+          let q : s ≡ merge n stages = cc in rw (is, q, word_is w _ t) (b, refl, high, stages_is b stages k)
 
 step_is : (d : Data) (s : Step) → step_in d ≡ Some s → IsStepData d s
-step_is d s e = option_and_then_some step_of_words (list_in d) s e (λ ds is h. rw (list_is d ds is) (words_are ds s h))
+step_is d s e =
+    option_and_then_some (λ p. step_with p.0 p.1) (words_in d) s e
+    (λ p is h. rw (words_is d p.0 p.1 is) (chosen _ (bytes_eq p.0 (codes "merge")) _ _ s h (merge_is p.0 p.1 s) (step_of_is p.0 p.1 s)))
 
 -- items beside a limit
 abbrev with_limit : Option (List Data) → ℕ → Option (ℕ × List Data)

@@ -1,12 +1,13 @@
 -- Reading items from values, one after another.
-use Rattle.std.proofs.Common.{◌≡◌, ℕ, ◌+◌, ◌<◌, List, [], ◌∷◌, ◌++◌, length, map, drop, get_or, Option, Some, None, option_map, option_and_then, refl, ap, sym}
-use Rattle.std.proofs.Common.{◌∙◌, append_assoc}
+use Rattle.std.proofs.Common.{◌≡◌, ℕ, ◌+◌, ◌<◌, ◌≤◌, zero, suc, List, [], ◌∷◌, ◌++◌, length, map, drop, get_or, slice_get, Option}
+use Rattle.std.proofs.Common.{Some, None, option_map, option_and_then, refl, ap, sym, ◌∙◌, append_assoc}
+use Rattle.std.specs.Option.{IsSome, unwrap_or}
 use Rattle.std.specs.List.{AllZip}
-use Rattle.std.proofs.lemmas.List.{drop_more}
+use Rattle.std.proofs.lemmas.List.{drop_all, drop_more}
 use Rattle.std.proofs.lemmas.Option.{option_and_then_some}
 use Rattle.serde_json.specs.Data.{Data, Items, no_items, item}
 use Rattle.serde_json.specs.View.{items_of}
-use Rattle.eco_steps.specs.Decode.{items_list, each_in}
+use Rattle.eco_steps.specs.Decode.{items_list, list_in, each_in}
 
 pub items_list-items_of : (ds : List Data) → items_list (items_of ds) ≡ ds
 items_list-items_of [] = refl
@@ -66,3 +67,76 @@ module _ {V A : Type 0} (view : V → Data) (find : Data → Option A) where
   none_more vs i d old there missing was =
       let rest = each_in find (map view (drop (i + 1) vs)) in
       was ∙ ap (option_map (λ xs. old ++ xs)) (next_of vs i d there ∙ ap (option_and_then (λ y. option_map (λ ys. y ∷ ys) rest)) (sym missing))
+
+-- what was found in each of some values, and the values that it was found in
+module _ {V A : Type 0} (view : V → Data) (find : Data → Option A) where
+  -- the first, and those behind it
+  parted : (P : Type 0) (x : A) (o : Option (List A)) (ys : List A) → option_map (λ xs. x ∷ xs) o ≡ Some ys
+      → ((xs : List A) → o ≡ Some xs → ys ≡ x ∷ xs → P) → P
+  parted P x None ys e k = cc
+  parted P x (Some xs) ys e k = k xs refl cc
+
+  each_length : (vs : List V) (xs : List A) → each_in find (map view vs) ≡ Some xs → length xs ≡ length vs
+  each_length [] xs e = let q : xs ≡ [] = cc in rw q refl
+  each_length (v ∷ vs) xs e =
+      option_and_then_some (λ x. option_map (λ ys. x ∷ ys) (each_in find (map view vs))) (find (view v)) xs e
+      (λ x is h. parted _ x (each_in find (map view vs)) xs h (λ ys n q. rw q (ap suc (each_length vs ys n))))
+
+  each_get : (vs : List V) (xs : List A) (i : ℕ) → each_in find (map view vs) ≡ Some xs
+      → slice_get xs i ≡ option_and_then (λ v. find (view v)) (slice_get vs i)
+  each_get [] xs i e = let q : xs ≡ [] = cc in rw q refl
+  each_get (v ∷ vs) xs zero e =
+      option_and_then_some (λ x. option_map (λ ys. x ∷ ys) (each_in find (map view vs))) (find (view v)) xs e
+      (λ x is h. parted _ x (each_in find (map view vs)) xs h (λ ys n q. rw (q, is) refl))
+  each_get (v ∷ vs) xs (suc i) e =
+      option_and_then_some (λ x. option_map (λ ys. x ∷ ys) (each_in find (map view vs))) (find (view v)) xs e
+      (λ x is h. parted _ x (each_in find (map view vs)) xs h (λ ys n q. rw q (each_get vs ys i n)))
+
+  with_all : (P : List A → Type 0) (o : Option (List A)) → IsSome o → ((xs : List A) → o ≡ Some xs → P xs) → P (unwrap_or o [])
+  with_all P None some k = cc
+  with_all P (Some xs) some k = k xs refl
+
+  -- as many as there are values
+  pub kept_length : (vs : List V) → IsSome (each_in find (map view vs)) → length (unwrap_or (each_in find (map view vs)) []) ≡ length vs
+  kept_length vs some = with_all (λ xs. length xs ≡ length vs) (each_in find (map view vs)) some (each_length vs)
+
+  -- each in its place
+  pub kept_get : (vs : List V) (i : ℕ) → IsSome (each_in find (map view vs))
+      → slice_get (unwrap_or (each_in find (map view vs)) []) i ≡ option_and_then (λ v. find (view v)) (slice_get vs i)
+  kept_get vs i some =
+      with_all (λ xs. slice_get xs i ≡ option_and_then (λ v. find (view v)) (slice_get vs i)) (each_in find (map view vs)) some
+      (λ xs e. each_get vs xs i e)
+
+  -- what was found so far, and what is found in the rest, are all
+  abbrev pub FoundSoFar : List V → ℕ → Type 0
+  FoundSoFar vs i = (xs : List A) × (each_in find (map view vs) ≡ option_map (λ ys. xs ++ ys) (each_in find (map view (drop i vs))))
+
+  none_yet : (o : Option (List A)) → o ≡ option_map (λ ys. [] ++ ys) o
+  none_yet None = refl
+  none_yet (Some ys) = refl
+
+  pub found_none_yet : (vs : List V) → FoundSoFar vs 0
+  found_none_yet vs = ([], none_yet (each_in find (map view vs)))
+
+  pub found_one_more : (vs : List V) (i : ℕ) (d : V) (x : A) → i < length vs → Some x ≡ find (view (get_or vs i d)) → FoundSoFar vs i → FoundSoFar vs (i + 1)
+  found_one_more vs i d x there found (xs, was) = (xs ++ x ∷ [], one_more view find vs i d xs (xs ++ x ∷ []) x there found refl was)
+
+  pub found_no_more : (vs : List V) (i : ℕ) (d : V) → i < length vs → None ≡ find (view (get_or vs i d)) → FoundSoFar vs i → each_in find (map view vs) ≡ None
+  found_no_more vs i d there missing (xs, was) = none_more view find vs i d xs there missing was
+
+  pub found_all : (vs : List V) (i : ℕ) → length vs ≤ i → FoundSoFar vs i → IsSome (each_in find (map view vs))
+  found_all vs i end (xs, was) =
+      rw (was ∙ ap (λ ws. option_map (λ ys. xs ++ ys) (each_in find (map view ws))) (drop_all i vs end)) refl
+
+  some_kept : (o : Option (List A)) → IsSome o → Some (unwrap_or o []) ≡ o
+  some_kept None some = cc
+  some_kept (Some xs) some = refl
+
+  -- the list of the values is that of what was found in them
+  pub kept_found : (vs : List V) (d : Data) → Some (map view vs) ≡ list_in d → IsSome (each_in find (map view vs))
+      → Some (unwrap_or (each_in find (map view vs)) []) ≡ option_and_then (each_in find) (list_in d)
+  kept_found vs d is some = some_kept (each_in find (map view vs)) some ∙ ap (option_and_then (each_in find)) is
+
+  pub none_found : (vs : List V) (d : Data) → Some (map view vs) ≡ list_in d → each_in find (map view vs) ≡ None
+      → None ≡ option_and_then (each_in find) (list_in d)
+  none_found vs d is missing = sym missing ∙ ap (option_and_then (each_in find)) is

@@ -7,8 +7,10 @@ use Rattle.serde_json.specs.Data.{Data, null, boolean, number, string, array, ob
 use Rattle.serde_json.specs.Find.{as_number, as_str, as_array, as_u64}
 use Rattle.eco_ids.specs.declared.value.TheConstants.{FIELD_COUNT, LARGEST_ARITY}
 use Rattle.eco_ids.specs.declared.value.Value.{Value}
-use Rattle.eco_steps.specs.Steps.{Step, create, component, add, remove, set, clear, remove_all, delete, delete_with, rename, has, get, show, list, query}
+use Rattle.eco_steps.specs.Steps.{Step, create, component, add, remove, set, clear, remove_all, delete, delete_with, rename, has, get, show, list, query, merge}
 use Rattle.eco_steps.specs.Steps.{value_with}
+use Rattle.eco_steps.specs.Commands.{Command}
+use Rattle.eco_steps.specs.Commands as command
 use Rattle.eco_steps.specs.Script.{Script}
 
 -- items as a list
@@ -101,14 +103,64 @@ step_of w (d ∷ e ∷ []) = option_and_then (λ text. step_of_two w text e) (as
 step_of w (d ∷ e ∷ f ∷ []) = option_and_then (λ text. option_and_then (λ other. step_of_three w text other f) (as_str e)) (as_str d)
 step_of w (d ∷ e ∷ f ∷ g ∷ ds) = None
 
--- the step that a list of a word and its arguments is
-abbrev pub step_of_words : List Data → Option Step
-step_of_words [] = None
-step_of_words (word ∷ arguments) = option_and_then (λ w. step_of w arguments) (as_str word)
+-- a word, and what stands behind it in its list
+abbrev pub words_of : List Data → Option (List ℕ × List Data)
+words_of [] = None
+words_of (word ∷ arguments) = option_map (λ w. (w, arguments)) (as_str word)
+
+-- these parts of a value
+abbrev pub words_in : Data → Option (List ℕ × List Data)
+words_in d = option_and_then words_of (list_in d)
+
+-- the step that a value is, where it holds no other
+abbrev pub alone_in : Data → Option Step
+alone_in d = option_and_then (λ p. step_of p.0 p.1) (words_in d)
+
+-- the command that a step is, if a stage may hold it
+abbrev pub command_of : Step → Option Command
+command_of (create None) = None
+command_of (create (Some handle)) = Some (command.create handle)
+command_of (component name arity) = None
+command_of (add entity id) = Some (command.add entity id)
+command_of (remove entity id) = Some (command.remove entity id)
+command_of (set entity id v) = Some (command.set entity id v)
+command_of (clear entity) = Some (command.clear entity)
+command_of (remove_all id) = Some (command.remove_all id)
+command_of (delete entity) = Some (command.delete entity)
+command_of (delete_with id) = Some (command.delete_with id)
+command_of (rename entity name) = Some (command.rename entity name)
+command_of (has entity id) = None
+command_of (get entity id) = None
+command_of (show entity) = None
+command_of list = None
+command_of (query text) = None
+command_of (merge admitted stages) = None
+
+-- the command that a value is
+abbrev pub command_in : Data → Option Command
+command_in d = option_and_then command_of (alone_in d)
+
+-- the commands that a value lists
+abbrev pub stage_in : Data → Option (List Command)
+stage_in d = option_and_then (each_in command_in) (list_in d)
+
+-- the stages that a value lists
+abbrev pub stages_in : Data → Option (List (List Command))
+stages_in d = option_and_then (each_in stage_in) (list_in d)
+
+-- the merge with these arguments
+abbrev pub merge_of : List Data → Option Step
+merge_of (admitted ∷ stages ∷ []) =
+    option_and_then (λ n. option_map (merge n) (stages_in stages)) (number_in 0 1048576 admitted)
+merge_of _ = None
+
+-- the step with this word and these arguments
+abbrev pub step_with : List ℕ → List Data → Option Step
+step_with w ds = if bytes_eq w (codes "merge") then merge_of ds else step_of w ds
 
 -- the step that a value is
 abbrev pub step_in : Data → Option Step
-step_in d = option_and_then step_of_words (list_in d)
+step_in d = option_and_then (λ p. step_with p.0 p.1) (words_in d)
 
 -- the limit, and the items of the list of steps, of what has the three parts of a script
 abbrev pub parts_of : List Data → Option (ℕ × List Data)

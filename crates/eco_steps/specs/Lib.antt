@@ -1,3 +1,4 @@
+pub mod Commands
 pub mod Decode
 pub mod Laws
 pub mod Script

@@ -7,9 +7,11 @@ use Rattle.serde_json.specs.Find.{of_integer}
 use Rattle.serde_json.specs.View.{items_of}
 use Rattle.eco_ids.specs.declared.value.TheConstants.{FIELD_COUNT, LARGEST_ARITY}
 use Rattle.eco_ids.specs.declared.value.Value.{Value}
+use Rattle.eco_steps.specs.Commands.{Command}
+use Rattle.eco_steps.specs.Commands as command
 
 -- what a script may ask for, with its texts as they are written: an entity by its name or handle, an id likewise or a pair,
--- a name, or a query
+-- a name, or a query; and a merge of stages, with how many more indices it makes known
 pub data Step : Type 0 where
   create : Option (List ℕ) → Step
   component : List ℕ → ℕ → Step
@@ -26,6 +28,7 @@ pub data Step : Type 0 where
   show : List ℕ → Step
   list : Step
   query : List ℕ → Step
+  merge : ℕ → List (List Command) → Step
 
 -- a list of JSON values
 abbrev pub list_data : List Data → Data
@@ -58,6 +61,27 @@ pub record IsValueData (d : Data) (v : Value) : Type 0 where
 abbrev pub written : List ℕ → List Data → Data
 written word arguments = list_data (string word ∷ arguments)
 
+-- the JSON value is this command: it is written as the step of the same name
+abbrev pub IsCommandData : Data → Command → Type 0
+IsCommandData d (command.create handle) = d ≡ written (codes "create") (string handle ∷ [])
+IsCommandData d (command.add entity id) = d ≡ written (codes "add") (string entity ∷ string id ∷ [])
+IsCommandData d (command.remove entity id) = d ≡ written (codes "remove") (string entity ∷ string id ∷ [])
+IsCommandData d (command.set entity id v) =
+    (value : Data) × (d ≡ written (codes "set") (string entity ∷ string id ∷ value ∷ [])) × IsValueData value v
+IsCommandData d (command.clear entity) = d ≡ written (codes "clear") (string entity ∷ [])
+IsCommandData d (command.rename entity name) = d ≡ written (codes "rename") (string entity ∷ name_data name ∷ [])
+IsCommandData d (command.delete entity) = d ≡ written (codes "delete") (string entity ∷ [])
+IsCommandData d (command.delete_with id) = d ≡ written (codes "delete_with") (string id ∷ [])
+IsCommandData d (command.remove_all id) = d ≡ written (codes "remove_all") (string id ∷ [])
+
+-- the JSON value is the list of these commands
+abbrev pub IsStageData : Data → List Command → Type 0
+IsStageData d commands = (items : List Data) × (d ≡ list_data items) × AllZip IsCommandData items commands
+
+-- the JSON value is the list of these stages
+abbrev pub IsStagesData : Data → List (List Command) → Type 0
+IsStagesData d stages = (items : List Data) × (d ≡ list_data items) × AllZip IsStageData items stages
+
 -- the JSON value is this step
 abbrev pub IsStepData : Data → Step → Type 0
 IsStepData d (create None) = d ≡ written (codes "create") []
@@ -77,3 +101,5 @@ IsStepData d (get entity id) = d ≡ written (codes "get") (string entity ∷ st
 IsStepData d (show entity) = d ≡ written (codes "show") (string entity ∷ [])
 IsStepData d list = d ≡ written (codes "list") []
 IsStepData d (query text) = d ≡ written (codes "query") (string text ∷ [])
+IsStepData d (merge admitted stages) =
+    (value : Data) × (d ≡ written (codes "merge") (number (unsigned admitted) ∷ value ∷ [])) × (admitted ≤ 1048576) × IsStagesData value stages

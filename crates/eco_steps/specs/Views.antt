@@ -1,11 +1,39 @@
 -- The steps that the program keeps, as those of a script.
-use Rattle.std.specs.Prelude.{map, option_map}
+use Rattle.std.specs.Prelude.{List, [], map, option_map}
+use Rattle.std.specs.Option.{unwrap_or}
+use Rattle.serde_json.specs.View.{view}
+use Rattle.eco_steps.specs.Commands as commands
+use Rattle.eco_steps.specs.Decode.{each_in, command_in, stage_in}
 use Rattle.eco_steps.specs.Steps as script
 use Rattle.eco_steps.specs.Script as whole
 use Rattle.eco_steps.specs.declared.step.Step.{Step}
 use Rattle.eco_steps.specs.declared.step.Step.TheVariants.{Create, Component, Add, Remove, Set, Clear, RemoveAll, Delete, DeleteWith, Rename, Has, Get, Show}
-use Rattle.eco_steps.specs.declared.step.Step.TheVariants.{List, Query}
+use Rattle.eco_steps.specs.declared.step.Step.TheVariants as variant
+use Rattle.eco_steps.specs.declared.command.Command.{Command}
+use Rattle.eco_steps.specs.declared.command.Command.TheVariants as command
+use Rattle.eco_steps.specs.declared.commands.Commands.{Commands}
+use Rattle.eco_steps.specs.declared.stages.Stages.{Stages}
 use Rattle.eco_steps.specs.declared.script.Script.{Script}
+
+-- the command, with the texts that it borrows
+abbrev pub command_view : Command → commands.Command
+command_view (command.Create handle) = commands.create handle.now
+command_view (command.Add entity id) = commands.add entity.now id.now
+command_view (command.Remove entity id) = commands.remove entity.now id.now
+command_view (command.Set entity id value) = commands.set entity.now id.now value
+command_view (command.Clear entity) = commands.clear entity.now
+command_view (command.Rename entity name) = commands.rename entity.now (option_map (λ s. s.now) name)
+command_view (command.Delete entity) = commands.delete entity.now
+command_view (command.DeleteWith id) = commands.delete_with id.now
+command_view (command.RemoveAll id) = commands.remove_all id.now
+
+-- the commands of the values that are kept, which are commands all
+abbrev pub commands_view : Commands → List commands.Command
+commands_view s = unwrap_or (each_in command_in (map view s.values.now)) []
+
+-- the stages of the values that are kept, likewise
+abbrev pub stages_view : Stages → List (List commands.Command)
+stages_view s = unwrap_or (each_in stage_in (map view s.values.now)) []
 
 -- the step, with the texts that it borrows
 abbrev pub step_view : Step → script.Step
@@ -22,8 +50,9 @@ step_view (Rename entity name) = script.rename entity.now (option_map (λ s. s.n
 step_view (Has entity id) = script.has entity.now id.now
 step_view (Get entity id) = script.get entity.now id.now
 step_view (Show entity) = script.show entity.now
-step_view List = script.list
-step_view (Query text) = script.query text.now
+step_view variant.List = script.list
+step_view (variant.Query text) = script.query text.now
+step_view (variant.Merge admitted stages) = script.merge admitted (stages_view stages)
 
 -- the script, step by step
 abbrev pub script_view : Script → whole.Script

@@ -3,12 +3,18 @@
 
 mod arguments;
 mod arity;
+mod command;
+mod commands;
 pub mod laws;
 mod read_error;
 mod script;
+mod stages;
 mod step;
 
 pub use arity::Arity;
+pub use command::Command;
+pub use commands::Commands;
 pub use read_error::ReadError;
 pub use script::Script;
+pub use stages::Stages;
 pub use step::Step;

@@ -2,10 +2,12 @@
 
 ghost use Rattle.std.specs.Prelude.{◌≡◌, map, option_map};
 ghost use Rattle.serde_json.specs.View.{view};
-ghost use Rattle.eco_steps.specs.Decode.{step_in, step_of, step_of_none, step_of_one, step_of_texts, step_of_two, step_of_three};
+ghost use Rattle.eco_steps.specs.Decode.{alone_in, merge_of, step_in, step_of, step_of_none, step_of_one};
+ghost use Rattle.eco_steps.specs.Decode.{step_of_texts, step_of_two, step_of_three, words_in};
 
-use crate::arguments::{read_list, read_name, read_value};
+use crate::arguments::{read_list, read_name, read_number, read_value};
 use crate::arity::Arity;
+use crate::stages::Stages;
 use serde_json::Value;
 
 /// What a script may ask for, with the texts of the value that it was read from.
@@ -60,6 +62,18 @@ pub enum Step<'a> {
     Query {
         text: &'a str,
     },
+    Merge {
+        admitted: u32,
+        stages: Stages<'a>,
+    },
+}
+
+// A word, and what stands behind it in its list.
+fn read_words(value: &Value) -> Option<(&str, &[Value])>
+    ensures { option_map (λ p. (p.0.now, map view p.1.now)) result ≡ words_in (view value.now) }
+{
+    let (word, arguments) = read_list(value)?.split_first()?;
+    Some((word.as_str()?, arguments))
 }
 
 impl<'a> Step<'a> {
@@ -158,11 +172,35 @@ impl<'a> Step<'a> {
         }
     }
 
+    // A merge with these arguments.
+    fn merge(arguments: &'a [Value]) -> Option<Step<'a>>
+        ensures { option_map step_view result ≡ merge_of (map view arguments.now) }
+    {
+        let [admitted, stages] = arguments else {
+            return None;
+        };
+        Some(Step::Merge {
+            admitted: read_number(admitted, 0, 1_048_576)?,
+            stages: Stages::read(stages)?,
+        })
+    }
+
+    /// The step that a value is, if it is one that holds no other.
+    pub(crate) fn read_alone(value: &'a Value) -> Option<Step<'a>>
+        ensures { option_map step_view result ≡ alone_in (view value.now) }
+    {
+        let (word, arguments) = read_words(value)?;
+        Step::of(word, arguments)
+    }
+
     /// The step that a value is, if it is one.
     pub(crate) fn read(value: &'a Value) -> Option<Step<'a>>
         ensures { option_map step_view result ≡ step_in (view value.now) }
     {
-        let (word, arguments) = read_list(value)?.split_first()?;
-        Step::of(word.as_str()?, arguments)
+        let (word, arguments) = read_words(value)?;
+        match word {
+            "merge" => Step::merge(arguments),
+            _ => Step::of(word, arguments),
+        }
     }
 }

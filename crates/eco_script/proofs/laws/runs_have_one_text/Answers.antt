@@ -16,6 +16,7 @@ returns-clause-one c = text_once (record {
   remove_all = c.steps_have_one_end.ensures.remove_all;
   delete = c.steps_have_one_end.ensures.delete;
   delete_with = c.steps_have_one_end.ensures.delete_with;
+  make_alive = c.steps_have_one_end.ensures.make_alive;
 })
 
 pub returns-clause-may_be : goal.returns-clause-may_be

@@ -1,0 +1,126 @@
+-- Commands whose texts are read one after another on one world, and the merge of what was recorded.
+use Rattle.std.proofs.Common.{◌≡◌, ◌<◌, ℕ, ◌+◌, ◌||◌, zero, suc, false, List, [], ◌∷◌, ◌++◌, flat_map, length, take, drop, Option, Some, None}
+use Rattle.std.proofs.Common.{Result, Ok, Err, OnOk, is_err, IsTrue, IsFalse, refl, sym, ap, subst, ◌∙◌, option_map, slice_get, arith}
+use Rattle.std.specs.Option.{IsSome}
+use Rattle.std.proofs.lemmas.Grind.{flat_map-append}
+use Rattle.std.proofs.lemmas.List.{append-nil, take_more, take-append-drop}
+use Rattle.std.proofs.lemmas.Option.{get_or_from_slice_get, slice_get_within}
+use Rattle.eco_ids.specs.declared.refusal.Refusal.{Refusal}
+use Rattle.eco_ids.specs.declared.refusal.Refusal.TheVariants.{OutOfMemory}
+use Rattle.eco_ids.specs.Outcome.{is_out_of_memory, Meets}
+use Rattle.eco_ids.specs.Run as run
+use Rattle.eco_ids.specs.World.{WorldState}
+use Rattle.eco_query.specs.Readings.{ok_map}
+use Rattle.eco_steps.specs.Commands.{Command}
+use Rattle.eco_steps.specs.Steps as step
+use Rattle.eco_world.specs.Merging.{Merges, Outcomes, may_merge}
+use Rattle.eco_script.specs.Recording.{ReadsCommand, ReadsCommands, has_stages}
+use Rattle.eco_script.specs.Replies.{Replies, merged, replied}
+
+-- what is there in a list is there in a view of it
+pub some_within : {A B : Type 0} (f : A → B) (o : Option A) (xs : List B) (i : ℕ) → option_map f o ≡ slice_get xs i → i < length xs → IsSome o
+some_within f (Some x) xs i e there = refl
+some_within f None [] i e there = absurd (omega (arith, there))
+some_within f None (x ∷ xs) zero e there = cc
+some_within f None (x ∷ xs) (suc i) e there = some_within f None xs i e (omega (arith, there))
+
+-- what is said of an answer that is no error
+pub was_ok : {T E P : Type 0} (r : Result T E) → false ≡ is_err r → OnOk r P → P
+was_ok (Ok x) e p = p
+was_ok (Err why) e p = cc
+
+-- one more of a list
+module _ {A : Type 0} (xs : List A) (k : ℕ) (x : A) (at : slice_get xs k ≡ Some x) where
+  pub front_more : take (k + 1) xs ≡ take k xs ++ x ∷ []
+  front_more = take_more xs k x (slice_get_within xs k x at) ∙ ap (λ y. take k xs ++ y ∷ []) (get_or_from_slice_get xs k x x at)
+
+-- the commands of some stages, and of one more
+pub flat_more : {A : Type 0} (ss : List (List A)) (s : List A) → flat_map (λ t. t) (ss ++ s ∷ []) ≡ flat_map (λ t. t) ss ++ s
+flat_more ss s = flat_map-append (λ t. t) ss (s ∷ []) ∙ ap (λ t. flat_map (λ t. t) ss ++ t) (append-nil s)
+
+module _ (w : WorldState) where
+  behind_none : (r : Result (List run.Command) Refusal) → ok_map (λ ys. [] ++ ys) r ≡ r
+  behind_none (Ok ys) = refl
+  behind_none (Err why) = refl
+
+  behind_more : (x : run.Command) (xs : List run.Command) (r : Result (List run.Command) Refusal)
+      → ok_map (λ ys. (x ∷ xs) ++ ys) r ≡ ok_map (λ ys. x ∷ ys) (ok_map (λ ys. xs ++ ys) r)
+  behind_more x xs (Ok ys) = refl
+  behind_more x xs (Err why) = refl
+
+  -- behind commands that were read, others are read
+  pub reads_append : (cs ds : List Command) (xs : List run.Command) (r : Result (List run.Command) Refusal)
+      → ReadsCommands w cs (Ok xs) → ReadsCommands w ds r → ReadsCommands w (cs ++ ds) (ok_map (λ ys. xs ++ ys) r)
+  reads_append [] ds xs r e p = let q : xs ≡ [] = cc in rw (q, behind_none r) p
+  reads_append (c ∷ cs) ds xs r (Err why, read, is) p = cc
+  reads_append (c ∷ cs) ds xs r (Ok x, read, (Err why, more, is)) p = cc
+  reads_append (c ∷ cs) ds xs r (Ok x, read, (Ok ys, more, is)) p =
+      let q : xs ≡ x ∷ ys = cc in
+      rw (q, behind_more x ys r) (Ok x, read, (ok_map (λ zs. ys ++ zs) r, reads_append cs ds ys r more p, refl))
+
+  -- behind one that is refused, none is read
+  pub reads_refused : (cs ds : List Command) (why : Refusal) → ReadsCommands w cs (Err why) → ReadsCommands w (cs ++ ds) (Err why)
+  reads_refused [] ds why e = cc
+  reads_refused (c ∷ cs) ds why (Err other, read, is) = (Err other, read, is)
+  reads_refused (c ∷ cs) ds why (Ok x, read, (Ok ys, more, is)) = cc
+  reads_refused (c ∷ cs) ds why (Ok x, read, (Err other, more, is)) = (Ok x, read, (Err other, reads_refused cs ds other more, is))
+
+  module _ (cs : List Command) (k : ℕ) (c : Command) (xs : List run.Command) (at : slice_get cs k ≡ Some c)
+      (read : ReadsCommands w (take k cs) (Ok xs)) where
+    -- one more command was read
+    pub command_more : (x : run.Command) → ReadsCommand w c (Ok x) → ReadsCommands w (take (k + 1) cs) (Ok (xs ++ x ∷ []))
+    command_more x p =
+        rw (front_more cs k c at) (reads_append (take k cs) (c ∷ []) xs (Ok (x ∷ [])) read (Ok x, p, (Ok [], refl, refl)))
+
+    -- one was refused
+    pub command_refused : (why : Refusal) → ReadsCommand w c (Err why) → ReadsCommands w cs (Err why)
+    command_refused why p =
+        let front : ReadsCommands w (take (k + 1) cs) (Err why) =
+        rw (front_more cs k c at) (reads_append (take k cs) (c ∷ []) xs (Err why) read (Err why, p, refl)) in
+        subst (λ ds. ReadsCommands w ds (Err why)) (take-append-drop (k + 1) cs) (reads_refused (take (k + 1) cs) (drop (k + 1) cs) why front)
+
+  module _ (ss : List (List Command)) (k : ℕ) (s : List Command) (xs : List run.Command) (at : slice_get ss k ≡ Some s)
+      (read : ReadsCommands w (flat_map (λ t. t) (take k ss)) (Ok xs)) where
+    stage_read : (r : Result (List run.Command) Refusal) → ReadsCommands w s r
+        → ReadsCommands w (flat_map (λ t. t) (take (k + 1) ss)) (ok_map (λ ys. xs ++ ys) r)
+    stage_read r p =
+        subst (λ cs. ReadsCommands w cs (ok_map (λ ys. xs ++ ys) r))
+        (sym (flat_more (take k ss) s) ∙ ap (λ ts. flat_map (λ t. t) ts) (sym (front_more ss k s at)))
+        (reads_append (flat_map (λ t. t) (take k ss)) s xs r read p)
+
+    -- one more stage was read
+    pub stage_more : (ys : List run.Command) → ReadsCommands w s (Ok ys) → ReadsCommands w (flat_map (λ t. t) (take (k + 1) ss)) (Ok (xs ++ ys))
+    stage_more ys p = stage_read (Ok ys) p
+
+    -- one was refused
+    pub stage_refused : (why : Refusal) → ReadsCommands w s (Err why) → ReadsCommands w (flat_map (λ t. t) ss) (Err why)
+    stage_refused why p =
+        let whole : flat_map (λ t. t) (take (k + 1) ss) ++ flat_map (λ t. t) (drop (k + 1) ss) ≡ flat_map (λ t. t) ss =
+        sym (flat_map-append (λ t. t) (take (k + 1) ss) (drop (k + 1) ss)) ∙ ap (λ ts. flat_map (λ t. t) ts) (take-append-drop (k + 1) ss) in
+        subst (λ cs. ReadsCommands w cs (Err why)) whole
+        (reads_refused (flat_map (λ t. t) (take (k + 1) ss)) (flat_map (λ t. t) (drop (k + 1) ss)) why (stage_read (Err why) p))
+
+  -- there is a stage where one stands at a place
+  pub stages_there : (ss : List (List Command)) (i : ℕ) → i < length ss → IsTrue (has_stages ss)
+  stages_there [] i there = absurd (omega (arith, there))
+  stages_there (s ∷ ss) i there = refl
+
+  -- a text was refused, or memory was wanting for what is recorded
+  pub refused_merge : (n : ℕ) (ss : List (List Command)) (why : Refusal)
+      → (IsFalse (is_out_of_memory {A = List run.Command} (Err why)) → ReadsCommands w (flat_map (λ s. s) ss) (Err why))
+      → (IsTrue (is_out_of_memory {A = List run.Command} (Err why)) → IsTrue (has_stages ss)) → Replies w (step.merge n ss) (Err why) w
+  refused_merge n ss OutOfMemory read wanting = let there = wanting refl in (rw there refl, refl)
+  refused_merge n ss why read wanting = (Err why, read refl, (refl, refl))
+
+  -- where there is no stage there is no command
+  wants_no_more : (n : ℕ) (ss : List (List Command)) (cs : List run.Command) → ReadsCommands w (flat_map (λ s. s) ss) (Ok cs)
+      → IsTrue (may_merge w n cs) → IsTrue (has_stages ss || may_merge w n [])
+  wants_no_more n (s ∷ ss) cs read may = refl
+  wants_no_more n [] cs read may = let q : cs ≡ [] = cc in rw q at may
+
+  -- all texts were read, and the merge was made
+  pub made_merge : (n : ℕ) (ss : List (List Command)) (cs : List run.Command) (r : Result Outcomes Refusal) (new : WorldState)
+      → ReadsCommands w (flat_map (λ s. s) ss) (Ok cs) → Meets (Merges w n cs) (may_merge w n cs) w r new → Replies w (step.merge n ss) (replied merged r) new
+  made_merge n ss cs (Ok outcomes) new read met = (Ok cs, read, (Ok outcomes, met, refl))
+  made_merge n ss cs (Err OutOfMemory) new read (may, same) = (wants_no_more n ss cs read may, same)
+  made_merge n ss cs (Err why) new read met = (Ok cs, read, (Err why, met, refl))

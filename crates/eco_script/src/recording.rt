@@ -1,0 +1,148 @@
+//! Stages recorded from the texts of a script, all of which are read on one world.
+
+ghost use Rattle.std.specs.Prelude.{◌≡◌, IfOk, IsFalse, IsTrue, flat_map, option_map, string_bytes};
+ghost use Rattle.eco_ids.specs.Outcome.{is_out_of_memory};
+ghost use Rattle.eco_query.specs.Readings.{ok_map};
+ghost use Rattle.eco_script.specs.Recording.{ReadsCommand, ReadsCommands, has_stages};
+ghost use Rattle.eco_stages.specs.Commands.{command_of};
+ghost use Rattle.eco_steps.specs.Commands as texts;
+ghost use Rattle.eco_steps.specs.Views.{command_view, commands_view, stages_view};
+ghost use Rattle.eco_world.specs.Merging.{all_commands};
+
+use crate::references::{read_both, read_entity, read_id};
+use eco_ids::{Refusal, Value};
+use eco_steps::{Commands, Stages};
+use eco_world::{Command, Stage, World};
+use std::alloc::{AllocError, Global};
+
+fn create(world: &World, handle: &str) -> Result<Command, Refusal>
+    ensures { ReadsCommand world.now (texts.create handle.now) (ok_map command_of result) }
+{
+    Ok(Command::Create(read_entity(handle, world)?))
+}
+
+fn add(world: &World, entity: &str, id: &str) -> Result<Command, Refusal>
+    ensures { ReadsCommand world.now (texts.add entity.now id.now) (ok_map command_of result) }
+{
+    let (entity, id) = read_both(entity, id, world)?;
+    Ok(Command::Add(entity, id))
+}
+
+fn remove(world: &World, entity: &str, id: &str) -> Result<Command, Refusal>
+    ensures { ReadsCommand world.now (texts.remove entity.now id.now) (ok_map command_of result) }
+{
+    let (entity, id) = read_both(entity, id, world)?;
+    Ok(Command::Remove(entity, id))
+}
+
+fn set(world: &World, entity: &str, id: &str, value: Value) -> Result<Command, Refusal>
+    ensures { ReadsCommand world.now (texts.set entity.now id.now value) (ok_map command_of result) }
+{
+    let (entity, id) = read_both(entity, id, world)?;
+    Ok(Command::Set(entity, id, value))
+}
+
+fn clear(world: &World, entity: &str) -> Result<Command, Refusal>
+    ensures { ReadsCommand world.now (texts.clear entity.now) (ok_map command_of result) }
+{
+    Ok(Command::Clear(read_entity(entity, world)?))
+}
+
+// A name of the command's own.
+fn own_name(alloc: Global, name: Option<&str>) -> Result<Option<String>, AllocError>
+    ensures { IfOk result (λ own. option_map string_bytes own ≡ option_map (λ s. s.now) name.entry) }
+{
+    match name {
+        Some(name) => Ok(Some(String::from_str(alloc, name)?)),
+        None => Ok(None),
+    }
+}
+
+// An `Err` comes also where memory is refused for the name.
+fn rename(
+    alloc: Global,
+    world: &World,
+    entity: &str,
+    name: Option<&str>,
+) -> Result<Command, Refusal>
+    ensures { IsFalse (is_out_of_memory result) → ReadsCommand world.now
+        (texts.rename entity.now (option_map (λ s. s.now) name.entry)) (ok_map command_of result) }
+{
+    let entity = read_entity(entity, world)?;
+    Ok(Command::Rename(entity, own_name(alloc, name)?))
+}
+
+fn delete(world: &World, entity: &str) -> Result<Command, Refusal>
+    ensures { ReadsCommand world.now (texts.delete entity.now) (ok_map command_of result) }
+{
+    Ok(Command::Delete(read_entity(entity, world)?))
+}
+
+fn delete_with(world: &World, id: &str) -> Result<Command, Refusal>
+    ensures { ReadsCommand world.now (texts.delete_with id.now) (ok_map command_of result) }
+{
+    Ok(Command::DeleteWith(read_id(id, world)?))
+}
+
+fn remove_all(world: &World, id: &str) -> Result<Command, Refusal>
+    ensures { ReadsCommand world.now (texts.remove_all id.now) (ok_map command_of result) }
+{
+    Ok(Command::RemoveAll(read_id(id, world)?))
+}
+
+// The command that texts name on a world.
+fn read_command(
+    alloc: Global,
+    world: &World,
+    command: eco_steps::Command<'_>,
+) -> Result<Command, Refusal>
+    ensures { IsFalse (is_out_of_memory result)
+        → ReadsCommand world.now (command_view command.entry) (ok_map command_of result) }
+{
+    match command {
+        eco_steps::Command::Create { handle } => create(world, handle),
+        eco_steps::Command::Add { entity, id } => add(world, entity, id),
+        eco_steps::Command::Remove { entity, id } => remove(world, entity, id),
+        eco_steps::Command::Set { entity, id, value } => set(world, entity, id, value),
+        eco_steps::Command::Clear { entity } => clear(world, entity),
+        eco_steps::Command::Rename { entity, name } => rename(alloc, world, entity, name),
+        eco_steps::Command::Delete { entity } => delete(world, entity),
+        eco_steps::Command::DeleteWith { id } => delete_with(world, id),
+        eco_steps::Command::RemoveAll { id } => remove_all(world, id),
+    }
+}
+
+// The commands of a stage.
+fn record_stage(alloc: Global, world: &World, commands: Commands<'_>) -> Result<Stage, Refusal>
+    ensures { IsFalse (is_out_of_memory result)
+        → ReadsCommands world.now (commands_view commands.entry) result }
+{
+    let mut stage = Stage::new(alloc);
+    for place in 0..commands.len() {
+        let command = read_command(alloc, world, commands.get(place).unwrap())?;
+        if stage.record(command).is_err() {
+            return Err(Refusal::OutOfMemory);
+        }
+    }
+    Ok(stage)
+}
+
+/// The stages of a script, whose texts are read in their order on a world.
+///
+/// The error is that of the first text that is refused, or `OutOfMemory` where there is none for what is recorded.
+pub fn record_stages(
+    alloc: Global,
+    world: &World,
+    stages: Stages<'_>,
+) -> Result<Vec<Stage>, Refusal>
+    ensures read { IsFalse (is_out_of_memory result) → ReadsCommands world.now
+        (flat_map (λ s. s) (stages_view stages.entry)) (ok_map (λ v. all_commands v.items) result) }
+    ensures wanting { IsTrue (is_out_of_memory result) → IsTrue (has_stages (stages_view stages.entry)) }
+{
+    let mut recorded = Vec::with_capacity(alloc, stages.len())?;
+    for place in 0..stages.len() {
+        let stage = record_stage(alloc, world, stages.get(place).unwrap())?;
+        recorded.push_reserved(stage);
+    }
+    Ok(recorded)
+}

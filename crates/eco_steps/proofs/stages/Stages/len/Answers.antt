@@ -1,0 +1,8 @@
+use Rattle.std.proofs.Common.{sym}
+use Rattle.serde_json.specs.View.{view}
+use Rattle.eco_steps.specs.Decode.{stage_in}
+use Rattle.eco_steps.proofs.Values.{kept_length}
+use Rattle.eco_steps.proofs.stages.Stages.len.Goals as goal
+
+pub returns : goal.returns
+returns c = sym (kept_length view stage_in c.args.self.now.values.now c.args.self.now.are_stages)

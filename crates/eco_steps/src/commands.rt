@@ -1,0 +1,48 @@
+//! The commands of a stage, as a script gives them.
+
+ghost use Rattle.std.specs.Prelude.{◌≡◌, length, map, IsSome, option_map};
+ghost use Rattle.std.specs.List.{slice_get};
+ghost use Rattle.serde_json.specs.View.{view};
+ghost use Rattle.eco_steps.specs.Decode.{command_in, each_in, stage_in};
+
+use crate::arguments::read_list;
+use crate::command::Command;
+use serde_json::Value;
+
+/// A list of commands, which borrows them from the value that it was read from. Each is read again when it is asked for, so a list
+/// of any length takes no memory.
+#[derive(Clone, Copy)]
+pub struct Commands<'a> {
+    values: &'a [Value],
+    ghost are_commands: { IsSome (each_in command_in (map view values.now)) },
+}
+
+impl<'a> Commands<'a> {
+    ghost use Rattle.eco_steps.specs.Views.{command_view, commands_view};
+
+    /// The commands that a value lists, if it is a list of commands.
+    pub(crate) fn read(value: &'a Value) -> Option<Commands<'a>>
+        ensures { option_map commands_view result ≡ stage_in (view value.now) }
+    {
+        let values = read_list(value)?;
+        for item in values {
+            Command::read(item)?;
+        }
+        Some(Commands { values })
+    }
+
+    /// How many commands there are.
+    pub fn len(&self) -> usize
+        ensures { result ≡ length (commands_view self.now) }
+    {
+        self.values.len()
+    }
+
+    /// The command at a place, counted from 0, if there is one.
+    pub fn get(&self, place: usize) -> Option<Command<'a>>
+        ensures { option_map command_view result ≡ slice_get (commands_view self.now) place }
+    {
+        let value = self.values.get(place)?;
+        Command::read(value)
+    }
+}

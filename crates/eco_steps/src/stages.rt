@@ -1,0 +1,47 @@
+//! The stages of a merge, as a script gives them.
+
+ghost use Rattle.std.specs.Prelude.{◌≡◌, length, map, IsSome, option_map};
+ghost use Rattle.std.specs.List.{slice_get};
+ghost use Rattle.serde_json.specs.View.{view};
+ghost use Rattle.eco_steps.specs.Decode.{each_in, stage_in, stages_in};
+
+use crate::arguments::read_list;
+use crate::commands::Commands;
+use serde_json::Value;
+
+/// A list of stages, each a list of commands. It borrows them likewise.
+#[derive(Clone, Copy)]
+pub struct Stages<'a> {
+    values: &'a [Value],
+    ghost are_stages: { IsSome (each_in stage_in (map view values.now)) },
+}
+
+impl<'a> Stages<'a> {
+    ghost use Rattle.eco_steps.specs.Views.{commands_view, stages_view};
+
+    /// The stages that a value lists, if it is a list of lists of commands.
+    pub(crate) fn read(value: &'a Value) -> Option<Stages<'a>>
+        ensures { option_map stages_view result ≡ stages_in (view value.now) }
+    {
+        let values = read_list(value)?;
+        for item in values {
+            Commands::read(item)?;
+        }
+        Some(Stages { values })
+    }
+
+    /// How many stages there are.
+    pub fn len(&self) -> usize
+        ensures { result ≡ length (stages_view self.now) }
+    {
+        self.values.len()
+    }
+
+    /// The stage at a place, counted from 0, if there is one.
+    pub fn get(&self, place: usize) -> Option<Commands<'a>>
+        ensures { option_map commands_view result ≡ slice_get (stages_view self.now) place }
+    {
+        let value = self.values.get(place)?;
+        Commands::read(value)
+    }
+}

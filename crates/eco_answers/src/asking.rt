@@ -10,10 +10,12 @@ use eco_ids::{Pattern, TypeList};
 use eco_query::{Query, Slot, Term, exactly};
 
 /// Which types fulfil all slots of a query. Each slot that asks for something to be there, a plain term or a group, makes
-/// a group of patterns.
+/// a group of patterns. Where the store keeps the query at hand, `cache` is the number that it gave, and no table is
+/// searched for.
 #[derive(Clone, Copy, Debug)]
 pub struct Asking<'a> {
     pub query: &'a Query,
+    pub cache: Option<usize>,
 }
 
 // Whether the slot asks for something to be there.
@@ -96,5 +98,12 @@ impl<'a> TypeTest for Asking<'a> {
 
     fn passes(&self, type_list: &TypeList) -> bool {
         self.query.matches_type(type_list)
+    }
+
+    fn cached(&self) -> Option<(usize, &Query)> {
+        match self.cache {
+            Some(cache) => Some((cache, self.query)),
+            None => None,
+        }
     }
 }

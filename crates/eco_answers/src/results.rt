@@ -130,15 +130,21 @@ fn results_in(alloc: Global, found: Standings<'_>, terms: &[Slot]) -> Result<Res
 /// for each choice of an entry for each slot.
 ///
 /// The choices are made once for each table. Its time grows with the results and with the tables that the shortest group of
-/// the query's patterns finds. Rows of several tables come into order by a walk over the known indices where these are at
+/// the query's patterns finds, or that the store keeps at hand for the query, where `cache` is the number that its
+/// [`Store::keep`] gave. Rows of several tables come into order by a walk over the known indices where these are at
 /// most some sixteen times as many, and by sorting where the rows are few among them. An `Err` comes where memory is
 /// refused, and never where there is no result.
-pub fn results_of(alloc: Global, store: &Store, query: &Query) -> Result<Results, AllocError>
+pub fn results_of(
+    alloc: Global,
+    store: &Store,
+    query: &Query,
+    cache: Option<usize>,
+) -> Result<Results, AllocError>
     ensures all { IfOk result (λ r. r ≡ answer (world_of store.now.entities) (asked query.now)) }
     ensures some { OnErr result (0 < length (answer (world_of store.now.entities) (asked query.now))) }
 {
     query.is_positive();
-    let found = store.standing_by(&Asking { query })?;
+    let found = store.standing_by(&Asking { query, cache })?;
     if found.list.is_empty() {
         return Ok(Results::none(alloc, query.slots().len()));
     }

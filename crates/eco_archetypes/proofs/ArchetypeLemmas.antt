@@ -14,6 +14,9 @@ use Rattle.eco_archetypes.specs.IdIndex.{Lists, any_matches, Turns}
 use Rattle.eco_archetypes.specs.Archetypes.{type_at, type_matches, IsIdIndex, IsArchetypes, SameSlots, SameRows}
 use Rattle.eco_archetypes.specs.Widths.{AreAgreed}
 use Rattle.eco_archetypes.specs.Edges.{toggled, Cuts, Links, SameEdges}
+use Rattle.eco_archetypes.specs.Caching.{AreExact, AreTold, ChangesType}
+use Rattle.eco_archetypes.specs.declared.cache.Cache.{Cache}
+use Rattle.eco_archetypes.proofs.Caching.{exact_types}
 use Rattle.eco_archetypes.proofs.Graphs.{graph_made, graph_cut, graph_linked}
 use Rattle.eco_archetypes.proofs.TypeMaps.{type_map-insert, type_map-remove}
 use Rattle.eco_archetypes.proofs.Widths.{kept_agreed, sets_kept}
@@ -98,9 +101,17 @@ index_made types types' l l' n ids others matches now vacant turns f k = turns f
         let apart : k ≢ n = λ h. let same : nat_eq n k ≡ true = (Decides-eqb n k).1 (sym h) in cc in
         neither (any_matches ids f) (l f k) ∙ matches f k ∙ ap (λ o. type_matches o f) (sym (others k apart))
 
-module _ {S E : Type 0} (s s' : List (Option TableState)) (m m' : HashMap (List Id) ℕ S) (l l' : Lists) (g g' : List (HashMap Id ℕ E)) where
+-- one slot is set
+pub changes_type : (s s' : List (Option TableState)) (n : ℕ) (o : Option TableState) → Sets s s' n o
+    → ChangesType (type_at s) (type_at s') n (option_map (λ (t : TableState). t.ids) o)
+changes_type s s' n o sets = record {
+  there = ap (option_map (λ (t : TableState). t.ids)) sets.changed;
+  others = λ k other. ap (option_map (λ (t : TableState). t.ids)) (sets.others k other);
+}
+
+module _ {S E : Type 0} {ks : List Cache} (s s' : List (Option TableState)) (m m' : HashMap (List Id) ℕ S) (l l' : Lists) (g g' : List (HashMap Id ℕ E)) where
   -- the same types are found by the same maps
-  pub found_same : IsArchetypes s m l g → ((k : ℕ) → type_at s' k ≡ type_at s k) → AreAgreed s' → IsArchetypes s' m l g
+  pub found_same : IsArchetypes s m l g ks → ((k : ℕ) → type_at s' k ≡ type_at s k) → AreAgreed s' → IsArchetypes s' m l g ks
   found_same found same agreed = record {
     types = record {
       found = λ t n e. same n ∙ found.types.found t n e;
@@ -109,12 +120,13 @@ module _ {S E : Type 0} (s s' : List (Option TableState)) (m m' : HashMap (List 
     matches = λ f n. found.matches f n ∙ ap (λ o. type_matches o f) (sym (same n));
     graph = λ n k i e. let was = found.graph n k i e in (was.0, same n ∙ was.1, same k ∙ was.2);
     agreed = agreed;
+    cached = exact_types (type_at s) (type_at s') ks same found.cached;
   }
 
   -- the same types are found by maps that were made ready for more
-  pub found_kept : IsArchetypes s m l g → ((k : ℕ) → type_at s' k ≡ type_at s k) → m'.entries ≡ m.entries → IsIdIndex (type_at s') l'
-      → AreAgreed s' → IsArchetypes s' m' l' g
-  found_kept found same ready matches agreed = record {
+  pub found_kept : {ks' : List Cache} → IsArchetypes s m l g ks → ((k : ℕ) → type_at s' k ≡ type_at s k) → m'.entries ≡ m.entries → IsIdIndex (type_at s') l'
+      → AreAgreed s' → AreExact (type_at s') ks' → IsArchetypes s' m' l' g ks'
+  found_kept found same ready matches agreed cached = record {
     types = record {
       found = λ t n e. same n ∙ found.types.found t n (sym (ap (lookup (same_ids t)) ready) ∙ e);
       there = λ t n e. ap (lookup (same_ids t)) ready ∙ found.types.there t n (sym (same n) ∙ e);
@@ -122,35 +134,39 @@ module _ {S E : Type 0} (s s' : List (Option TableState)) (m m' : HashMap (List 
     matches = matches;
     graph = λ n k i e. let was = found.graph n k i e in (was.0, same n ∙ was.1, same k ∙ was.2);
     agreed = agreed;
+    cached = cached;
   }
 
   -- two tables are joined by an id, of whose types one has it alone besides what the other has
-  pub found_linked : (a b : ℕ) (i : Id) (ids : List Id) → IsArchetypes s m l g → Links g g' a i b → type_at s a ≡ Some ids → type_at s b ≡ Some (toggled ids i)
+  pub found_linked : (a b : ℕ) (i : Id) (ids : List Id) → IsArchetypes s m l g ks → Links g g' a i b → type_at s a ≡ Some ids → type_at s b ≡ Some (toggled ids i)
       → toggled (toggled ids i) i ≡ ids
-      → IsArchetypes s m l g'
+      → IsArchetypes s m l g' ks
   found_linked a b i ids found links from to twice = record {
     types = found.types;
     matches = found.matches;
     graph = graph_linked (type_at s) g g' a b i ids found.graph links from to twice;
     agreed = found.agreed;
+    cached = found.cached;
   }
 
   -- the same edges lead on
-  pub found_unlinked : IsArchetypes s m l g → SameEdges g g' → IsArchetypes s m l g'
+  pub found_unlinked : IsArchetypes s m l g ks → SameEdges g g' → IsArchetypes s m l g' ks
   found_unlinked found same = record {
     types = found.types;
     matches = found.matches;
     graph = λ n k i e. found.graph n k i (sym (same n i) ∙ e);
     agreed = found.agreed;
+    cached = found.cached;
   }
 
   -- a new table is found
-  pub found_made : (n : ℕ) (t : TableState) → IsArchetypes s m l g → Sets s s' n (Some t) → slot_of s n ≡ None
+  pub found_made : {ks' : List Cache} → (n : ℕ) (t : TableState) → IsArchetypes s m l g ks → Sets s s' n (Some t) → slot_of s n ≡ None
       → AreAgreed s' → ((k : ℕ) → type_at s k ≢ Some t.ids)
       → ((q : List Id) → get same_ids m' q ≡ cond (same_ids t.ids q) (Some n) (get same_ids m q))
       → Turns true (any_matches t.ids) l l' n
-      → IsArchetypes s' m' l' g
-  found_made n t found sets vacant agreed absent gets turns = record {
+      → AreTold ks ks' n (Some t.ids)
+      → IsArchetypes s' m' l' g ks'
+  found_made n t found sets vacant agreed absent gets turns told = record {
     types =
         type_map-insert (type_at s) (type_at s') m m' t.ids n (λ k other. ap (option_map (λ (x : TableState). x.ids)) (sets.others k other))
         found.types (ap (option_map (λ (x : TableState). x.ids)) sets.changed) (ap (option_map (λ (x : TableState). x.ids)) vacant) absent gets;
@@ -160,21 +176,24 @@ module _ {S E : Type 0} (s s' : List (Option TableState)) (m m' : HashMap (List 
     graph = graph_made (type_at s) (type_at s') g n found.graph (ap (option_map (λ (x : TableState). x.ids)) vacant)
         (λ k other. ap (option_map (λ (x : TableState). x.ids)) (sets.others k other));
     agreed = agreed;
+    cached = told (type_at s) (type_at s') (changes_type s s' n (Some t) sets) found.cached;
   }
 
   -- a table that was dropped is found no more
-  pub found_dropped : (n : ℕ) (ids : List Id) → IsArchetypes s m l g → Sets s s' n None → type_at s n ≡ Some ids
+  pub found_dropped : {ks' : List Cache} → (n : ℕ) (ids : List Id) → IsArchetypes s m l g ks → Sets s s' n None → type_at s n ≡ Some ids
       → ((q : List Id) → get same_ids m' q ≡ cond (same_ids ids q) None (get same_ids m q))
       → Turns false (any_matches ids) l l' n
       → Cuts g g' n
-      → IsArchetypes s' m' l' g'
-  found_dropped n ids found sets had gets turns cuts = record {
+      → AreTold ks ks' n None
+      → IsArchetypes s' m' l' g' ks'
+  found_dropped n ids found sets had gets turns cuts told = record {
     types =
         type_map-remove (type_at s) (type_at s') m m' ids n (λ k other. ap (option_map (λ (x : TableState). x.ids)) (sets.others k other))
         found.types (ap (option_map (λ (x : TableState). x.ids)) sets.changed) had gets;
     matches = λ f k. turns f k ∙ by f k (nat_eq n k) refl;
     graph = graph_cut (type_at s) (type_at s') g g' n found.graph cuts (λ k other. ap (option_map (λ (x : TableState). x.ids)) (sets.others k other));
     agreed = kept_agreed s s' (sets_kept s s' n None sets (inr refl)) found.agreed;
+    cached = told (type_at s) (type_at s') (changes_type s s' n None sets) found.cached;
   }
     where
       by : (f : Pattern) (k : ℕ) (b : Bool) → nat_eq n k ≡ b → cond (any_matches ids f && b) false (l f k) ≡ type_matches (type_at s' k) f

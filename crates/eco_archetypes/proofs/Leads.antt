@@ -7,6 +7,7 @@ use Rattle.eco_ids.specs.Order.{id_cmp, is_ascending}
 use Rattle.eco_tables.specs.Table.{TableState}
 use Rattle.eco_tables.specs.Tables.{slot_of, table_in}
 use Rattle.eco_archetypes.specs.IdIndex.{Lists}
+use Rattle.eco_archetypes.specs.declared.cache.Cache.{Cache}
 use Rattle.eco_archetypes.specs.Archetypes.{type_at, IsArchetypes, KeepsTypes}
 use Rattle.eco_archetypes.specs.Edges.{edge, toggled, IsGraph, IsTwofold, Links, SameEdges}
 use Rattle.eco_archetypes.proofs.ArchetypeLemmas.{found_linked, found_unlinked, one_slot, type_there, there_as_typed, typed_table}
@@ -45,8 +46,8 @@ module _ {E : Type 0} (s : List (Option TableState)) (g : List (HashMap Id ℕ E
 
 -- ---- an edge is stored
 
-module _ {S E : Type 0} (s : List (Option TableState)) (m : HashMap (List Id) ℕ S) (l : Lists)
-    (g : List (HashMap Id ℕ E)) (found : IsArchetypes s m l g) (from to : ℕ) (i : Id)
+module _ {S E : Type 0} {ks : List Cache} (s : List (Option TableState)) (m : HashMap (List Id) ℕ S) (l : Lists)
+    (g : List (HashMap Id ℕ E)) (found : IsArchetypes s m l g ks) (from to : ℕ) (i : Id)
     (there : IsSome (slot_of s from)) (up : IsTrue (is_ascending id_cmp (table_in s from).ids))
     (typed : type_at s to ≡ Some (toggled (table_in s from).ids i)) where
   abbrev own : List Id
@@ -70,7 +71,7 @@ module _ {S E : Type 0} (s : List (Option TableState)) (m : HashMap (List Id) �
 
   -- it is stored, or memory was refused
   pub found_joined : (g' : List (HashMap Id ℕ E)) {A B : Type 0} (r : Result A B) → OnOk r (Links g g' from i to) → OnErr r (SameEdges g g')
-      → IsArchetypes s m l g'
+      → IsArchetypes s m l g' ks
   found_joined g' (Ok x) links same =
       found_linked s s m m l l g g' from to i own found links (type_there s from there) typed (twice own i up)
   found_joined g' (Err x) links same = found_unlinked s s m m l l g g' found same

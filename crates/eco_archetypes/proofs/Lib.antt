@@ -1,4 +1,6 @@
 pub mod ArchetypeLemmas
+pub mod Cached
+pub mod Caching
 pub mod Copying
 pub mod IndexCopies
 pub mod Joinings

@@ -1,6 +1,6 @@
 -- What holds after a table was made in a slot that was empty, got other room, and was dropped again.
 use Rattle.std.proofs.Common.{◌≡◌, ◌≢◌, ◌||◌, ℕ, List, ◌∷◌, Option, None, Some, OnSome, IfNone, IsSome, option_map, unwrap_or, is_some, nat_eq}
-use Rattle.std.proofs.Common.{refl, sym, ap, ◌∙◌, inl, inr}
+use Rattle.std.proofs.Common.{refl, subst, sym, ap, ◌∙◌, inl, inr}
 use Rattle.std.specs.List.{list_any}
 use Rattle.std.proofs.lemmas.Bool.{cases_eq}
 use Rattle.std.proofs.lemmas.Bool.Decides.{Decides-eqb}
@@ -59,3 +59,13 @@ module _ (s s' : List (Option TableState)) (n : ℕ) (ids : List Id) (ws : List 
     dropped_types s3 None dropped kept k own had = ap (option_map (λ (t : TableState). t.ids)) (kept k) ∙ roomy_types k own had
     dropped_types s3 (Some gone) dropped kept k own had =
         ap (option_map (λ (t : TableState). t.ids)) (dropped.others k (apart_from_new k own had)) ∙ roomy_types k own had
+
+-- a table that was made is dropped again
+pub unmade : (s s1 s2 : List (Option TableState)) (n : ℕ) (ids : List Id) (ws : List ℕ) → slot_of s n ≡ None → Sets s s1 n (Some (empty_table ids ws))
+    → OnSome (rowless_type (slot_of s1 n)) (Sets s1 s2 n None) → SameSlots s s2
+unmade s s1 s2 n ids ws vacant sets dropped k =
+    let gone : Sets s1 s2 n None = subst (λ o. OnSome (rowless_type o) (Sets s1 s2 n None)) sets.changed dropped in
+    elim (cases_eq k n) [
+      | inl here ↦ ap (slot_of s2) here ∙ gone.changed ∙ sym (ap (slot_of s) here ∙ vacant)
+      | inr other ↦ gone.others k other ∙ sets.others k other
+    ]

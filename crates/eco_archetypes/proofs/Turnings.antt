@@ -22,6 +22,8 @@ use Rattle.eco_archetypes.specs.Archetypes.{type_at, type_matches, IsArchetypes,
 use Rattle.eco_archetypes.specs.Widths.{AreAgreed, Covers, KeepsWidths}
 use Rattle.eco_archetypes.specs.Edges.{toggled, Cuts}
 use Rattle.eco_archetypes.specs.IdIndex.{Lists, any_matches, matches_id, is_own, Turns, ListsSame}
+use Rattle.eco_archetypes.specs.Caching.{AreTold}
+use Rattle.eco_archetypes.specs.declared.cache.Cache.{Cache}
 use Rattle.eco_archetypes.specs.TypeMap.{same_ids, IsTypeMap}
 use Rattle.eco_archetypes.proofs.Graphs.{graph_cut}
 use Rattle.eco_archetypes.proofs.Widths.{kept_agreed, kept_widths, same_kept}
@@ -285,8 +287,8 @@ not_same t q e h = true≢false (sym ((same_ids-Decides t q).1 h) ∙ e)
 pub one : {X : Type 0} (x y : X) → Some x ≡ Some y → x ≡ y
 one x y e = cc
 
-module _ {S E : Type 0} (s s' : List (Option TableState)) (m m' : HashMap (List Id) ℕ S) (l l' : Lists) (g g' : List (HashMap Id ℕ E))
-    (n : ℕ) (t u : List Id) (found : IsArchetypes s m l g) (had : type_at s n ≡ Some t) (takes : TakesType s s' n u)
+module _ {S E : Type 0} {ks : List Cache} (s s' : List (Option TableState)) (m m' : HashMap (List Id) ℕ S) (l l' : Lists) (g g' : List (HashMap Id ℕ E))
+    (n : ℕ) (t u : List Id) (found : IsArchetypes s m l g ks) (had : type_at s n ≡ Some t) (takes : TakesType s s' n u)
     (absent : (k : ℕ) → type_at s k ≢ Some u)
     (gets : (q : List Id) → get same_ids m' q ≡ cond (same_ids u q) (Some n) (cond (same_ids t q) None (get same_ids m q))) where
   others_typed : (k : ℕ) → k ≢ n → type_at s' k ≡ type_at s k
@@ -326,12 +328,13 @@ module _ {S E : Type 0} (s s' : List (Option TableState)) (m m' : HashMap (List 
           let apart : k ≢ n = λ is. not_same t q other (one t q (sym had ∙ ap (type_at s) (sym is) ∙ was)) in
           others_typed k apart ∙ was)
 
-  pub found_turned : IsIdIndex (type_at s') l' → Cuts g g' n → AreAgreed s' → IsArchetypes s' m' l' g'
-  found_turned index cuts agreed = record {
+  pub found_turned : {ks' : List Cache} → IsIdIndex (type_at s') l' → Cuts g g' n → AreAgreed s' → AreTold ks ks' n (Some u) → IsArchetypes s' m' l' g' ks'
+  found_turned index cuts agreed told = record {
     types = renamed_types;
     matches = index;
     graph = graph_cut (type_at s) (type_at s') g g' n found.graph cuts others_typed;
     agreed = agreed;
+    cached = told (type_at s) (type_at s') (record { there = takes.typed; others = others_typed }) found.cached;
   }
 
 pub if_ok : {T E : Type 0} (P Q : T → Type 0) (r : Result T E) → ((x : T) → P x → Q x) → IfOk r P → IfOk r Q

@@ -13,6 +13,8 @@ use Rattle.eco_archetypes.specs.Edges.{IsGraph}
 use Rattle.eco_archetypes.specs.TypeMap.{IsTypeMap}
 use Rattle.eco_archetypes.specs.IdIndex.{Lists, any_matches}
 use Rattle.eco_archetypes.specs.Widths.{AreAgreed}
+use Rattle.eco_archetypes.specs.Caching.{AreExact}
+use Rattle.eco_archetypes.specs.declared.cache.Cache.{Cache}
 
 -- the type of the table in a slot, if there is one
 abbrev pub type_at : List (Option TableState) → ℕ → Option (List Id)
@@ -32,13 +34,14 @@ abbrev pub IsIdIndex : (ℕ → Option (List Id)) → Lists → Type 0
 IsIdIndex types lists = (p : Pattern) (n : ℕ) → lists p n ≡ type_matches (types n) p
 
 -- each table is found by its type and by what its type's ids match, nothing else is found, edges lead
--- from table to table, and an id is as wide in each table
+-- from table to table, an id is as wide in each table, and caches have exactly the tables that they are to have
 pub record IsArchetypes {S E : Type 0} (slots : List (Option TableState)) (by_type : HashMap (List Id) ℕ S)
-    (by_id : Lists) (edges : List (HashMap Id ℕ E)) : Type 0 where
+    (by_id : Lists) (edges : List (HashMap Id ℕ E)) (caches : List Cache) : Type 0 where
   pub types : IsTypeMap (type_at slots) by_type
   pub matches : IsIdIndex (type_at slots) by_id
   pub graph : IsGraph (type_at slots) edges
   pub agreed : AreAgreed slots
+  pub cached : AreExact (type_at slots) caches
 
 -- each slot has what it had
 abbrev pub SameSlots : List (Option TableState) → List (Option TableState) → Type 0
@@ -115,3 +118,16 @@ SameTypes old new = (n : ℕ) → type_at new n ≡ type_at old n
 -- the entities that stand in the tables of these slots
 abbrev pub standing_in : List (Option TableState) → List ℕ → List Entity
 standing_in tables slots = flat_map (λ n. entities_of (table_in tables n).rows) slots
+
+-- there is a type, and it passes the test
+abbrev pub passes_at : (List Id → Bool) → Option (List Id) → Bool
+passes_at test None = false
+passes_at test (Some ids) = test ids
+
+-- exactly the slots of the tables whose types pass the test are among these
+abbrev pub ArePassing : (List Id → Bool) → List (Option TableState) → List ℕ → Type 0
+ArePassing test slots found = (n : ℕ) → list_any (nat_eq n) found ≡ passes_at test (type_at slots n)
+
+-- the table in the slot has rows
+abbrev pub has_rows : List (Option TableState) → ℕ → Bool
+has_rows slots n = nat_lt 0 (length (table_in slots n).rows)

@@ -2,6 +2,7 @@ pub mod IdIndex
 pub mod Marks
 pub mod TypeTests
 pub mod TypeMap
+pub mod Caching
 pub mod Edges
 pub mod Widths
 pub mod Archetypes

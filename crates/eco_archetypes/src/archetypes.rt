@@ -3,15 +3,18 @@ ghost use Rattle.std.specs.Prelude.{◌≡◌, ◌≢◌, ◌↔◌, ◌&&◌, n
 ghost use Rattle.std.specs.Prelude.{slice_get, Some, None, IsSome, IsTrue, IfOk, IfSome, IfNone, OnOk, OnErr, OnSome, is_some};
 ghost use Rattle.std.specs.List.{list_any, IsDistinct};
 ghost use Rattle.std.specs.FinMap.Entries.{find};
+ghost use Rattle.std.specs.HashMap.{IsUnchanged, spare};
 ghost use Rattle.eco_ids.specs.declared.id.Id.{Id as Ids};
 ghost use Rattle.eco_ids.specs.Order.{id_cmp};
 ghost use Rattle.eco_tables.specs.Table.{TableState, entities_of, empty_table};
 ghost use Rattle.eco_tables.specs.Tables.{slot_of, table_in, row_in, Sets, SetsRoom, Moves, MovesAll};
 ghost use Rattle.eco_tables.specs.Tables.{cleared, new_row, with_row, with_written, without_row, rowless_type};
 ghost use Rattle.eco_archetypes.specs.Archetypes.{type_at, SameSlots, KeepsTypes, KeepsRoom, RowlessIn, RowlessBut, SameRows};
+ghost use Rattle.eco_archetypes.specs.Caching.{HaveRoom, StayExact};
 ghost use Rattle.eco_archetypes.specs.TypeMap.{same_ids};
 ghost use Rattle.eco_archetypes.specs.Widths.{FitsIn, KeepsWidths, StillCover};
 
+use crate::caches::Caches;
 use crate::edges::Edges;
 use crate::id_index::IdIndex;
 use crate::type_map::TypeMap;
@@ -21,6 +24,7 @@ use eco_tables::Tables;
 use std::alloc::{AllocError, Global};
 use std::marker::Model;
 
+mod caching;
 mod copying;
 mod exchanging;
 mod preparing;
@@ -38,6 +42,7 @@ pub struct Archetypes {
     last: usize,
     by_id: IdIndex,
     edges: Edges,
+    caches: Caches,
 }
 
 // By hand, so that dropping it is one call: a derived drop is proved anew at each early return of whoever holds it.
@@ -50,6 +55,7 @@ impl Drop for Archetypes {
             last: _,
             by_id: _,
             edges: _,
+            caches: _,
         } = self;
     }
 }
@@ -65,7 +71,7 @@ impl Model for Archetypes {
     ghost view = { λ a. a.tables };
 
     ghost invariant = { λ a.
-        IsArchetypes a.tables a.by_type.slots (lists_of a.by_id.slots) a.edges.lists.items };
+        IsArchetypes a.tables a.by_type.slots (lists_of a.by_id.slots) a.edges.lists.items a.caches.list.items };
 }
 
 impl Archetypes {
@@ -80,6 +86,7 @@ impl Archetypes {
             last: 0,
             by_id: IdIndex::new(alloc),
             edges: Edges::new(alloc),
+            caches: Caches::new(alloc),
         }
     }
 
@@ -212,10 +219,11 @@ impl Archetypes {
     {
         let widths = self.widths_of(entities, type_list.as_slice())?;
         let key = type_list.try_copy()?;
-        self.by_type.reserve_one()?;
+        reserve_one(&mut self.by_type, &mut self.caches)?;
         let slot = self.tables.insert(type_list, widths.as_slice())?;
         match self.by_id.add_all(self.alloc, key.as_slice(), slot) {
             Ok(()) => {
+                self.caches.tell(slot, &key);
                 self.by_type.insert_reserved(key, slot);
                 Ok(slot)
             }
@@ -252,6 +260,7 @@ impl Archetypes {
             self.by_type.remove(&type_list);
             self.by_id.take_all(type_list.as_slice(), slot);
             self.edges.cut(slot);
+            self.caches.forget(slot);
         }
     }
 
@@ -357,4 +366,16 @@ fn are_same(own: &[Id], other: &[Id]) -> bool
         return other.is_empty();
     }
     own == other
+}
+
+// Room for one type more, and for one slot more in each cache, so that both are told of a type without memory. No type's slot
+// changes, nor what the caches have, whether it succeeds or not.
+fn reserve_one(by_type: &mut TypeMap, caches: &mut Caches) -> Result<(), AllocError>
+    ensures same { IsUnchanged by_type.old.slots by_type.new.slots }
+    ensures exact { StayExact caches.old.list.items caches.new.list.items }
+    ensures room { OnOk result (0 < spare by_type.new.slots) }
+    ensures rooms { OnOk result (HaveRoom caches.new.list.items) }
+{
+    by_type.reserve_one()?;
+    caches.reserve_one()
 }

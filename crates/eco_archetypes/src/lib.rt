@@ -3,10 +3,13 @@
 //!
 //! [`Archetypes`] has the tables in their slots. A type finds its table through a map, an id that comes or goes leads over an edge
 //! from a table to the next, and a pattern finds the tables whose types have an id that it matches through an index. Who asks for more
-//! than a pattern asks by a [`TypeTest`].
+//! than a pattern asks by a [`TypeTest`]. A query that is asked again and again may be kept with the tables that it finds
+//! ([`Archetypes::keep`]): each table that comes, turns or goes is told to all that are kept.
 #![tactic(auto)]
 
 mod archetypes;
+mod cache;
+mod caches;
 mod edges;
 mod found;
 mod id_index;

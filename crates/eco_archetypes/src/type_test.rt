@@ -1,12 +1,14 @@
 //! Tests of types, and the patterns by which the tables are found whose types pass.
-ghost use Rattle.std.specs.Prelude.{◌≡◌, ◌<◌, Bool, List, [], ◌∷◌, IsTrue, Some, length, slice_get};
+ghost use Rattle.std.specs.Prelude.{◌≡◌, ◌<◌, Bool, List, [], ◌∷◌, IfSome, IsTrue, Some, length, slice_get};
 ghost use Rattle.std.specs.List.{list_any};
 ghost use Rattle.eco_ids.specs.Matching.{pattern_matches};
+ghost use Rattle.eco_query.specs.Queries.{matches_type};
 ghost use Rattle.eco_ids.specs.declared.id.Id.{Id as Ids};
 ghost use Rattle.eco_ids.specs.declared.pattern.Pattern.{Pattern as Patterns};
 ghost use Rattle.eco_archetypes.specs.TypeTests.{names_any, AreNeeded, IsPlace, each_alone, group_at, matches_each, matches_one, naming};
 
 use eco_ids::{Entity, Part, Pattern, TypeList};
+use eco_query::Query;
 
 /// A test of types, with the patterns by which the tables are found whose types pass it.
 ///
@@ -47,6 +49,14 @@ pub trait TypeTest {
     {
         let _group = group;
         self.passes(type_list)
+    }
+
+    /// The number of a cache that may have the slots of the tables whose types pass, and a query which exactly those types
+    /// fulfil. A cache of that number serves only where it is of that query.
+    fn cached(&self) -> Option<(usize, &Query)>
+        ensures { IfSome result (λ c. (ids : List Ids) → test self.now ids ≡ matches_type ids c.1.now) }
+    {
+        None
     }
 }
 

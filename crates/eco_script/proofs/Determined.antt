@@ -1,6 +1,6 @@
 -- Where memory is never wanting, each step has one answer and leads to one world.
-use Rattle.std.proofs.Common.{◌≡◌, ◌≢◌, ℕ, Bool, true, false, true≢false, inl, inr, List, [], ◌∷◌, ◌++◌, Option, Some, Result, Ok, Err, refl, ap, ◌∙◌, sym}
-use Rattle.std.proofs.Common.{flat_map, ◌||◌, subst, IsFalse, MatchResult, MatchBool}
+use Rattle.std.proofs.Common.{◌≡◌, ◌≢◌, ℕ, Bool, true, false, true≢false, inl, inr, List, [], ◌∷◌, ◌++◌, Option, Some, None, Result, Ok, Err, refl, ap, ◌∙◌}
+use Rattle.std.proofs.Common.{sym, flat_map, slice_get, ◌||◌, subst, IsFalse, MatchResult, MatchBool}
 use Rattle.eco_ids.specs.declared.entity.Entity.{Entity}
 use Rattle.eco_ids.specs.declared.id.Id.{Id}
 use Rattle.eco_ids.specs.declared.refusal.Refusal.{Refusal}
@@ -15,13 +15,14 @@ use Rattle.eco_ids.specs.Names.{lookup}
 use Rattle.eco_ids.specs.Outcome.{is_out_of_memory, Refuses, Answers, Meets}
 use Rattle.eco_ids.specs.Run as run
 use Rattle.eco_ids.specs.Step.{Adds, Sets, Removes, Clears, RemovesAll, Renames}
+use Rattle.eco_ids.specs.Terms.{QueryTerm}
 use Rattle.eco_ids.specs.World.{WorldState, entities, is_alive, with_entities}
 use Rattle.eco_query.specs.Grammar.{SpellsId, SpellsQuery, SpellsRef}
 use Rattle.eco_query.specs.Queries.{QuerySlot}
 use Rattle.eco_query.specs.Readings.{Reads, ReadsInMemory, ReadsOnce, entity_at, id_of, ok_both, ok_map, query_of}
 use Rattle.eco_script.specs.Recording.{Names, ReadsCommand, ReadsCommands, has_stages}
 use Rattle.eco_script.specs.References.{ReadsBoth, ReadsEntity, ReadsId, ReadsQuery}
-use Rattle.eco_script.specs.Replies.{Reply, merged, shown, replied, Calls, On, OnCommands, OnEntity, OnId, OnQuery, Replies}
+use Rattle.eco_script.specs.Replies.{Reply, merged, shown, replied, AnswersAdded, Calls, On, OnCommands, OnEntity, OnId, OnQuery, Replies}
 use Rattle.eco_steps.specs.Commands.{Command}
 use Rattle.eco_steps.specs.Commands as command
 use Rattle.eco_steps.specs.Steps as step
@@ -234,6 +235,10 @@ module _ (l : Laws) (w : WorldState) where
   show_once e true r q new other f g c d = answers_once (shown e) w r q new other c d
   show_once e false r q new other f g (a, b) (c, d) = (a ∙ sym c, b ∙ sym d)
 
+  added_once : (o : Option (List QueryTerm)) → Once (AnswersAdded w o)
+  added_once None r q new other f g (a, b) (c, d) = (a ∙ sym c, b ∙ sym d)
+  added_once (Some slots) r q new other f g p h = meets_once _ _ w (answers_once _ w) r q new other f g p h
+
   replies_once : (s : step.Step) → OnceInMemory (Replies w s)
   replies_once (step.create name) = plainly _ (meets _ _ _ (l.create name w))
   replies_once (step.component name n) = plainly _ (meets _ _ _ (l.component (Some name) n w))
@@ -250,6 +255,8 @@ module _ (l : Laws) (w : WorldState) where
   replies_once (step.show e) = plainly _ (on_entity e _ (λ x. show_once x (is_alive w x)))
   replies_once step.list = plainly _ (meets_once _ _ w (answers_once _ w))
   replies_once (step.query text) = plainly _ (on_query text _ (λ q. meets_once _ _ w (answers_once _ w)))
+  replies_once (step.cache text) = plainly _ (on_query text _ (λ q. meets _ _ _ (answers_once _ _)))
+  replies_once (step.cached n) = plainly _ (added_once (slice_get w.queries n))
   replies_once (step.merge n ss) = merge_once l w n ss (has_stages ss || may_merge w n [])
 
   does_once : (s : step.Step) (t u : List ℕ) (m n : WorldState) → DoesInMemory w s t m → DoesInMemory w s u n → (t ≡ u) × (m ≡ n)

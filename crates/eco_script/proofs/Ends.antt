@@ -1,11 +1,12 @@
 -- Each step has some answer on every world: what it can't be done for, what it is done with, or that memory was wanting.
 use Rattle.std.proofs.Common.{◌≡◌, ℕ, Bool, true, false, not, ◌&&◌, List, [], ◌∷◌, map, Option, Some, None, Result, Ok, Err, is_some, inl, refl, MatchBool}
-use Rattle.std.proofs.Common.{arith}
+use Rattle.std.proofs.Common.{arith, slice_get}
 use Rattle.std.specs.List.{list_all}
 use Rattle.eco_ids.specs.declared.entity.Entity.{Entity}
 use Rattle.eco_ids.specs.declared.id.Id.{Id}
 use Rattle.eco_ids.specs.declared.refusal.Refusal.{Refusal}
-use Rattle.eco_ids.specs.declared.refusal.Refusal.TheVariants.{NotAlive, DeadId, Reserved, NotData, TooWide, BadName, NameTaken, NoMoreIds, OutOfMemory}
+use Rattle.eco_ids.specs.declared.refusal.Refusal.TheVariants.{NotAlive, DeadId, Reserved, NotData, TooWide, BadName, NameTaken}
+use Rattle.eco_ids.specs.declared.refusal.Refusal.TheVariants.{NoMoreIds, NoSuchQuery, OutOfMemory}
 use Rattle.eco_ids.specs.Answer.{answer}
 use Rattle.eco_answers.specs.Answers.{asked}
 use Rattle.eco_ids.specs.Births.{Creates, may_admit, may_create, MakesComponent, may_make_component, unfit_name}
@@ -20,12 +21,13 @@ use Rattle.eco_ids.specs.Step.{unfit_set, unfit_actor, unfit_rename, changed, wi
 use Rattle.eco_ids.specs.Builtin.{is_builtin, is_builtins}
 use Rattle.eco_ids.specs.Data.{arity, fits}
 use Rattle.eco_ids.specs.declared.value.Value.{Value}
+use Rattle.eco_ids.specs.Terms.{QueryTerm}
 use Rattle.eco_ids.specs.World.{WorldState, has, names_living, is_alive, living, entities, with_entities}
 use Rattle.eco_query.specs.Grammar.{SpellsId, SpellsQuery, SpellsRef}
 use Rattle.eco_query.specs.Queries.{QuerySlot}
 use Rattle.eco_query.specs.Readings.{ReadsAll, entity_at, id_of, query_of}
 use Rattle.eco_script.specs.References.{ReadsEntity, ReadsId, ReadsQuery}
-use Rattle.eco_script.specs.Replies.{Reply, truth, got, shown, listed, found, merged, replied, Calls, On, OnEntity, OnId, OnQuery, Replies}
+use Rattle.eco_script.specs.Replies.{Reply, truth, got, shown, listed, found, merged, replied, AnswersAdded, Calls, On, OnEntity, OnId, OnQuery, Replies}
 use Rattle.eco_steps.specs.Steps as step
 use Rattle.eco_script.specs.Text.{Does, step_lines}
 use Rattle.eco_script.specs.Values.{shown_value}
@@ -141,6 +143,10 @@ show_ends : (w : WorldState) (e : Entity) (b : Bool)
 show_ends w e true = (Ok (shown e), w, (refl, refl))
 show_ends w e false = (Err NotAlive, w, (refl, refl))
 
+added_ends : (w : WorldState) (o : Option (List QueryTerm)) → Ends (AnswersAdded w o)
+added_ends w None = (Err NoSuchQuery, w, (refl, refl))
+added_ends w (Some slots) = (Ok (found (answer w slots)), w, (refl, refl))
+
 calls_end : {A : Type 0} (Call : Result A Refusal → WorldState → Type 0) (reply : A → Reply) → Ends Call → Ends (Calls Call reply)
 calls_end Call reply (x, new, c) = (replied reply x, new, (x, c, refl))
 
@@ -202,6 +208,8 @@ module _ (texts : TextsRead) where
   replies_end w (step.show e) = on_entity w e _ (λ x. show_ends w x (is_alive w x))
   replies_end w step.list = (Ok (listed (map (λ p. p.0) (living w))), w, (refl, refl))
   replies_end w (step.query text) = on_query w text _ (λ q. (Ok (found (answer w (asked q))), w, (refl, refl)))
+  replies_end w (step.cache text) = on_query w text _ (λ q. calls_end _ _ (Err OutOfMemory, w, (refl, refl)))
+  replies_end w (step.cached n) = added_ends w (slice_get w.queries n)
   replies_end w (step.merge n []) = empty_merge_ends w n (may_admit (entities w) n) refl
   replies_end w (step.merge n (s ∷ ss)) = (Err OutOfMemory, w, (refl, refl))
 

@@ -4,7 +4,7 @@ use Rattle.eco_ids.specs.declared.refusal.Refusal.{Refusal}
 use Rattle.eco_script.specs.ShownViews.{shown_view}
 use Rattle.eco_script.specs.Replies as spec
 use Rattle.eco_script.specs.declared.reply.Reply.{Reply}
-use Rattle.eco_script.specs.declared.reply.Reply.TheVariants.{Done, Made, Truth, Got, Shown, Listed, Found, Merged}
+use Rattle.eco_script.specs.declared.reply.Reply.TheVariants.{Done, Made, Truth, Got, Shown, Listed, Found, Kept, Merged}
 
 -- the reply, with what its lists have
 abbrev pub reply_view : Reply → spec.Reply
@@ -15,6 +15,7 @@ reply_view (Got value) = spec.got (option_map shown_view value)
 reply_view (Shown e) = spec.shown e
 reply_view (Listed es) = spec.listed es.items
 reply_view (Found results) = spec.found results
+reply_view (Kept query) = spec.kept query.0
 reply_view (Merged report) = spec.merged report
 
 -- the answer, with its reply so

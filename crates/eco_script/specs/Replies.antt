@@ -1,18 +1,21 @@
 -- What each step of a script answers, and the world that it leaves.
-use Rattle.std.specs.Prelude.{◌≡◌, ℕ, Bool, true, ◌||◌, List, [], flat_map, map, Option, Some, Result, Ok, Err, MatchResult, MatchBool}
+use Rattle.std.specs.Prelude.{◌≡◌, ℕ, Bool, true, ◌||◌, List, [], flat_map, map, slice_get, Option, Some, None, Result, Ok, Err}
+use Rattle.std.specs.Prelude.{MatchResult, MatchBool}
 use Rattle.eco_ids.specs.declared.entity.Entity.{Entity}
 use Rattle.eco_ids.specs.declared.id.Id.{Id}
 use Rattle.eco_ids.specs.declared.refusal.Refusal.{Refusal}
-use Rattle.eco_ids.specs.declared.refusal.Refusal.TheVariants.{NotAlive}
+use Rattle.eco_ids.specs.declared.refusal.Refusal.TheVariants.{NotAlive, NoSuchQuery}
 use Rattle.eco_ids.specs.Answer.{Row, answer}
 use Rattle.eco_ids.specs.Births.{Creates, may_create, MakesComponent, may_make_component}
 use Rattle.eco_ids.specs.Delete.{DeletesOne, may_delete, DeletesWith, may_delete_with}
 use Rattle.eco_ids.specs.Outcome.{Refuses, Answers, Meets}
 use Rattle.eco_ids.specs.Step.{Adds, may_add, Sets, may_set, Removes, may_remove, Clears, may_clear, RemovesAll, may_remove_all, Renames, may_rename}
+use Rattle.eco_ids.specs.Terms.{QueryTerm}
 use Rattle.eco_ids.specs.World.{WorldState, has, is_alive, living}
 use Rattle.eco_query.specs.Queries.{QuerySlot}
 use Rattle.eco_answers.specs.Answers.{asked}
 use Rattle.eco_ids.specs.Run as run
+use Rattle.eco_world.specs.Cached.{AddsQuery}
 use Rattle.eco_world.specs.Merging.{Merges, Outcomes, may_merge}
 use Rattle.eco_world.specs.Queries.{may_query}
 use Rattle.eco_script.specs.Recording.{ReadsCommands, has_stages}
@@ -22,7 +25,7 @@ use Rattle.eco_steps.specs.Steps as step
 use Rattle.eco_script.specs.Values.{Shown, shown_value}
 
 -- what a step answers where it is done: that it is done, who was made, whether it is so, a value or none, one entity, all
--- living ones, the results of a query, or the outcomes of the commands of a merge
+-- living ones, the results of a query, the number of a query that was added, or the outcomes of the commands of a merge
 pub data Reply : Type 0 where
   done : Reply
   made : Entity → Reply
@@ -31,6 +34,7 @@ pub data Reply : Type 0 where
   shown : Entity → Reply
   listed : List Entity → Reply
   found : List Row → Reply
+  kept : ℕ → Reply
   merged : Outcomes → Reply
 
 -- a call's answer, with a reply in place of what it gives
@@ -63,8 +67,14 @@ OnQuery w text = On (ReadsQuery w text) w
 abbrev pub OnCommands : WorldState → List Command → (List run.Command → Result Reply Refusal → WorldState → Type 0) → Result Reply Refusal → WorldState → Type 0
 OnCommands w texts = On (ReadsCommands w texts) w
 
+-- a query that was added, if there is such a one, is answered on the world as it is now
+abbrev pub AnswersAdded : WorldState → Option (List QueryTerm) → Result Reply Refusal → WorldState → Type 0
+AnswersAdded w None = Refuses NoSuchQuery w
+AnswersAdded w (Some slots) = Meets (Answers (found (answer w slots)) w) (may_query w slots) w
+
 -- what the step answers on a world, and the world after it. Texts are read from left to right, and the first that is refused
--- is the step's refusal. A listing may find no memory, and so may a query that has a result, and a merge that has stages or makes indices known.
+-- is the step's refusal. A listing may find no memory, and so may a query that has a result, one that is added, and a merge that
+-- has stages or makes indices known.
 abbrev pub Replies : WorldState → step.Step → Result Reply Refusal → WorldState → Type 0
 Replies w (step.create name) = Calls (Meets (Creates w name) (may_create w name) w) made
 Replies w (step.component name arity) =
@@ -83,5 +93,7 @@ Replies w (step.show e) =
     OnEntity w e (λ x r new. MatchBool (is_alive w x) (Answers (shown x) w r new) (Refuses NotAlive w r new))
 Replies w step.list = Meets (Answers (listed (map (λ p. p.0) (living w))) w) true w
 Replies w (step.query text) = OnQuery w text (λ q. Meets (Answers (found (answer w (asked q))) w) (may_query w (asked q)) w)
+Replies w (step.cache text) = OnQuery w text (λ q. Calls (Meets (AddsQuery w (asked q)) true w) (λ id. kept id.0))
+Replies w (step.cached n) = AnswersAdded w (slice_get w.queries n)
 Replies w (step.merge n stages) =
     Meets (OnCommands w (flat_map (λ s. s) stages) (λ commands. Calls (Merges w n commands) merged)) (has_stages stages || may_merge w n []) w

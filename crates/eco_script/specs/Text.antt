@@ -11,7 +11,7 @@ use Rattle.eco_ids.specs.Step.{own_name}
 use Rattle.eco_ids.specs.Text.{entity_text}
 use Rattle.eco_ids.specs.World.{WorldState, held_by}
 use Rattle.eco_script.specs.Lines.{entity_line, row_line, shown_text}
-use Rattle.eco_script.specs.Replies.{Reply, done, made, truth, got, shown, listed, found, merged, Replies}
+use Rattle.eco_script.specs.Replies.{Reply, done, made, truth, got, shown, listed, found, kept, merged, Replies}
 use Rattle.eco_steps.specs.Steps.{Step}
 use Rattle.eco_script.specs.Values.{Shown, shown_value}
 use Rattle.eco_world.specs.Merging.{Outcomes}
@@ -48,6 +48,7 @@ reply_lines w (got value) = codes "ok " ++ got_text value ++ codes "\n"
 reply_lines w (shown e) = codes "ok " ++ line_of w e
 reply_lines w (listed es) = codes "ok " ++ decimal (length es) ++ codes "\n" ++ flat_map (line_of w) es
 reply_lines w (found rows) = codes "ok " ++ decimal (length rows) ++ codes "\n" ++ flat_map (λ r. row_line r.entity r.entries) rows
+reply_lines w (kept n) = codes "ok " ++ decimal n ++ codes "\n"
 reply_lines w (merged outcomes) = codes "ok " ++ decimal (length outcomes) ++ codes "\n" ++ flat_map outcome_line outcomes
 
 -- the lines of a step's answer

@@ -12,7 +12,7 @@ use crate::reply::Reply;
 use crate::shown_value::ShownValue;
 use eco_ids::{Refusal, Value};
 use eco_steps::{Arity, Stages, Step};
-use eco_world::World;
+use eco_world::{QueryId, World};
 use std::alloc::Global;
 
 fn create(world: &mut World, name: Option<&str>) -> Result<Reply, Refusal>
@@ -136,6 +136,19 @@ fn query(world: &World, text: &str) -> Result<Reply, Refusal>
     Ok(Reply::Found(world.results(&query)?))
 }
 
+fn cache(world: &mut World, text: &str) -> Result<Reply, Refusal>
+    ensures { Replies world.old (steps.cache text.now) (answer_view result) world.new }
+{
+    let query = read_query(text, world)?;
+    Ok(Reply::Kept(world.add_query(query)?))
+}
+
+fn cached(world: &World, query: u32) -> Result<Reply, Refusal>
+    ensures { Replies world.now (steps.cached query) (answer_view result) world.now }
+{
+    Ok(Reply::Found(world.answer_results(QueryId(query as usize))?))
+}
+
 fn merge(
     alloc: Global,
     world: &mut World,
@@ -170,6 +183,8 @@ pub fn perform(alloc: Global, world: &mut World, step: &Step<'_>) -> Result<Repl
         Step::Show { entity } => show(world, entity),
         Step::List => list(world),
         Step::Query { text } => query(world, text),
+        Step::Cache { text } => cache(world, text),
+        Step::Cached { query } => cached(world, query),
         Step::Merge { admitted, stages } => merge(alloc, world, admitted, stages),
     }
 }

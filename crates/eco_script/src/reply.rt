@@ -8,7 +8,7 @@ ghost use Rattle.eco_script.specs.Text.{line_of, outcome_line, refused_line, rep
 use crate::lines::{EntityLine, RowLine};
 use crate::shown_value::ShownValue;
 use eco_ids::{Entity, Refusal};
-use eco_world::{Report, Results, World};
+use eco_world::{QueryId, Report, Results, World};
 use std::alloc::AllocError;
 
 /// What a step answers where it is done.
@@ -28,6 +28,8 @@ pub enum Reply {
     Listed(Vec<Entity>),
     /// The results of a query, ascending.
     Found(Results),
+    /// The query that was added, by its number.
+    Kept(QueryId),
     /// The outcomes of the commands of a merge, in order.
     Merged(Report),
 }
@@ -123,6 +125,7 @@ impl Reply {
                 write!(text, "ok {count}\n")?;
                 push_row_lines(text, results)
             }
+            Reply::Kept(QueryId(number)) => write!(text, "ok {number}\n"),
             Reply::Merged(report) => {
                 let count = report.len();
                 write!(text, "ok {count}\n")?;

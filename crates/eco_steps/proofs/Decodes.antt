@@ -14,11 +14,12 @@ use Rattle.serde_json.specs.Data.{Data, null, boolean, number, string, array, ob
 use Rattle.serde_json.specs.Find.{as_str}
 use Rattle.eco_ids.specs.declared.value.TheConstants.{FIELD_COUNT, LARGEST_ARITY}
 use Rattle.eco_ids.specs.declared.value.Value.{Value}
-use Rattle.eco_steps.specs.Decode.{items_list, list_in, each_in, name_in, number_in, integer_in, value_of_items, value_in, step_of_none, step_of_one}
-use Rattle.eco_steps.specs.Decode.{step_of_texts, step_of_two, step_of_three, step_of, words_of, words_in, alone_in, command_of, command_in, stage_in}
-use Rattle.eco_steps.specs.Decode.{stages_in, merge_of, step_with, step_in, parts_of, parts_in, script_of, script_in}
+use Rattle.eco_steps.specs.Decode.{items_list, list_in, each_in, name_in, number_in, integer_in, value_of_items, value_in, step_of_none}
+use Rattle.eco_steps.specs.Decode.{step_of_one, step_of_text, step_of_texts, step_of_two, step_of_three, step_of, words_of, words_in}
+use Rattle.eco_steps.specs.Decode.{alone_in, command_of, command_in, stage_in, stages_in, merge_of, step_with, step_in, parts_of, parts_in, script_of, script_in}
 use Rattle.eco_steps.specs.Script.{Script, IsScriptData, IsScript}
-use Rattle.eco_steps.specs.Steps.{Step, create, component, add, remove, set, clear, remove_all, delete, delete_with, rename, has, get, show, list, query, merge}
+use Rattle.eco_steps.specs.Steps.{Step, create, component, add, remove, set, clear, remove_all, delete, delete_with, rename, has, get, show, list, query}
+use Rattle.eco_steps.specs.Steps.{cache, cached, merge}
 use Rattle.eco_steps.specs.Commands.{Command}
 use Rattle.eco_steps.specs.Commands as command
 use Rattle.eco_steps.specs.Steps.{IsIntegerData, IsValueData, IsCommandData, IsStageData, IsStagesData, IsStepData, value_with, written, list_data, name_data}
@@ -86,6 +87,8 @@ step_found d (get e i) is = rw is refl
 step_found d (show e) is = rw is refl
 step_found d list is = rw is refl
 step_found d (query q) is = rw is refl
+step_found d (cache q) is = rw is refl
+step_found d (cached n) (is, most) = rw (is, number_in_range 0 4294967295 n (omega arith) most) refl
 step_found d (merge n stages) (value, is, most, of) =
     let at : number_in 0 1048576 (number (unsigned n)) ≡ Some n = number_in_range 0 1048576 n (omega arith) most in
     rw (is, at, stages_found value stages of) refl
@@ -233,39 +236,36 @@ pub no_value : {X : Type 0} (f : X → Data) (items : List X) (d : Data) → Som
     → None ≡ value_in d
 no_value f items d is none = rw (← is, none) (neither (nat_le 1 (length (map f items)) && nat_le (length (map f items)) FIELD_COUNT))
 
--- an argument that is a text, and the step that is made of it
-with_text : (make : List ℕ → Step) (d : Data) (s : Step) → option_map make (as_str d) ≡ Some s → (t : List ℕ) × (d ≡ string t) × (s ≡ make t)
-with_text make (string t) s e = (t, refl, grind arith)
-with_text make null s e = cc
-with_text make (boolean b) s e = cc
-with_text make (number n) s e = cc
-with_text make (array ds) s e = cc
-with_text make (object ms) s e = cc
-
 none_is : (w : List ℕ) (s : Step) → step_of_none w ≡ Some s → IsStepData (written w []) s
 none_is w s e =
     chosen _ (bytes_eq w (codes "create")) _ _ s e (λ t h. let q : s ≡ create None = cc in rw (q, word_is w _ t) refl)
     (λ f. chosen _ (bytes_eq w (codes "list")) _ _ s f (λ t h. let q : s ≡ list = cc in rw (q, word_is w _ t) refl) (λ h. cc))
 
--- one text behind the word, and behind what stands in front of it
-module _ (make : List ℕ → Step) (w c : List ℕ) (front : List Data) (d : Data) (s : Step) where
-  written_as : (t : List ℕ) → w ≡ c → d ≡ string t → s ≡ make t → IsStepData (written c (front ++ string t ∷ [])) (make t)
-      → IsStepData (written w (front ++ d ∷ [])) s
-  written_as t word at of is = rw (word, at, of) is
+text_is : (w x : List ℕ) (s : Step) → step_of_text w x ≡ Some s → IsStepData (written w (string x ∷ [])) s
+text_is w x s e =
+    chosen _ (bytes_eq w (codes "create")) _ _ s e (λ t h. let q : s ≡ create (Some x) = cc in rw (q, word_is w _ t) refl)
+    (λ f. chosen _ (bytes_eq w (codes "clear")) _ _ s f (λ t h. let q : s ≡ clear x = cc in rw (q, word_is w _ t) refl)
+    (λ g. chosen _ (bytes_eq w (codes "remove_all")) _ _ s g (λ t h. let q : s ≡ remove_all x = cc in rw (q, word_is w _ t) refl)
+    (λ k. chosen _ (bytes_eq w (codes "delete")) _ _ s k (λ t h. let q : s ≡ delete x = cc in rw (q, word_is w _ t) refl)
+    (λ l. chosen _ (bytes_eq w (codes "delete_with")) _ _ s l (λ t h. let q : s ≡ delete_with x = cc in rw (q, word_is w _ t) refl)
+    (λ m. chosen _ (bytes_eq w (codes "show")) _ _ s m (λ t h. let q : s ≡ show x = cc in rw (q, word_is w _ t) refl)
+    (λ n. chosen _ (bytes_eq w (codes "query")) _ _ s n (λ t h. let q : s ≡ query x = cc in rw (q, word_is w _ t) refl)
+    (λ o. chosen _ (bytes_eq w (codes "cache")) _ _ s o (λ t h. let q : s ≡ cache x = cc in rw (q, word_is w _ t) refl) (λ p. cc))))))))
 
-  text_is : ((t : List ℕ) → IsStepData (written c (front ++ string t ∷ [])) (make t))
-      → bytes_eq w c ≡ true → option_map make (as_str d) ≡ Some s → IsStepData (written w (front ++ d ∷ [])) s
-  text_is is t e = let (text, at, of) = with_text make d s e in written_as text (word_is w c t) at of (is text)
+cached_is : (w : List ℕ) (d : Data) (s : Step) → bytes_eq w (codes "cached") ≡ true → option_map cached (number_in 0 4294967295 d) ≡ Some s
+    → IsStepData (written w (d ∷ [])) s
+cached_is w d s t e = counted (number_in 0 4294967295 d) refl e where
+  counted : (o : Option ℕ) → number_in 0 4294967295 d ≡ o → option_map cached o ≡ Some s → IsStepData (written w (d ∷ [])) s
+  counted None n h = cc
+  counted (Some k) n h =
+      let q : s ≡ cached k = cc in
+      let (is, low, high) = number_is 0 4294967295 d k n in
+      rw (is, q, word_is w _ t) (refl, high)
 
 one_is : (w : List ℕ) (d : Data) (s : Step) → step_of_one w d ≡ Some s → IsStepData (written w (d ∷ [])) s
 one_is w d s e =
-    chosen _ (bytes_eq w (codes "create")) _ _ s e (text_is (λ name. create (Some name)) w (codes "create") [] d s (λ t. refl))
-    (λ f. chosen _ (bytes_eq w (codes "clear")) _ _ s f (text_is clear w (codes "clear") [] d s (λ t. refl))
-    (λ g. chosen _ (bytes_eq w (codes "remove_all")) _ _ s g (text_is remove_all w (codes "remove_all") [] d s (λ t. refl))
-    (λ h. chosen _ (bytes_eq w (codes "delete")) _ _ s h (text_is delete w (codes "delete") [] d s (λ t. refl))
-    (λ k. chosen _ (bytes_eq w (codes "delete_with")) _ _ s k (text_is delete_with w (codes "delete_with") [] d s (λ t. refl))
-    (λ l. chosen _ (bytes_eq w (codes "show")) _ _ s l (text_is show w (codes "show") [] d s (λ t. refl))
-    (λ m. chosen _ (bytes_eq w (codes "query")) _ _ s m (text_is query w (codes "query") [] d s (λ t. refl)) (λ n. cc)))))))
+    chosen _ (bytes_eq w (codes "cached")) _ _ s e (cached_is w d s)
+    (λ f. option_and_then_some (step_of_text w) (as_str d) s f (λ x is h. rw (str_is d x is) (text_is w x s h)))
 
 component_is : (w x : List ℕ) (d : Data) (s : Step) → bytes_eq w (codes "component") ≡ true → option_map (component x) (number_in 1 LARGEST_ARITY d) ≡ Some s
     → IsStepData (written w (string x ∷ d ∷ [])) s
@@ -351,6 +351,8 @@ of_step d (get x i) c e is = cc
 of_step d (show x) c e is = cc
 of_step d list c e is = cc
 of_step d (query text) c e is = cc
+of_step d (cache text) c e is = cc
+of_step d (cached n) c e is = cc
 of_step d (merge n stages) c e is = cc
 
 command_is : (d : Data) (c : Command) → command_in d ≡ Some c → IsCommandData d c

@@ -7,8 +7,8 @@ use Rattle.serde_json.specs.Data.{Data, null, boolean, number, string, array, ob
 use Rattle.serde_json.specs.Find.{as_number, as_str, as_array, as_u64}
 use Rattle.eco_ids.specs.declared.value.TheConstants.{FIELD_COUNT, LARGEST_ARITY}
 use Rattle.eco_ids.specs.declared.value.Value.{Value}
-use Rattle.eco_steps.specs.Steps.{Step, create, component, add, remove, set, clear, remove_all, delete, delete_with, rename, has, get, show, list, query, merge}
-use Rattle.eco_steps.specs.Steps.{value_with}
+use Rattle.eco_steps.specs.Steps.{Step, create, component, add, remove, set, clear, remove_all, delete, delete_with, rename, has, get, show, list, query}
+use Rattle.eco_steps.specs.Steps.{cache, cached, merge, value_with}
 use Rattle.eco_steps.specs.Commands.{Command}
 use Rattle.eco_steps.specs.Commands as command
 use Rattle.eco_steps.specs.Script.{Script}
@@ -65,16 +65,23 @@ step_of_none word =
     if bytes_eq word (codes "create") then Some (create None)
     else (if bytes_eq word (codes "list") then Some list else None)
 
+-- the step with this word and one text
+abbrev pub step_of_text : List ℕ → List ℕ → Option Step
+step_of_text word text =
+    if bytes_eq word (codes "create") then Some (create (Some text))
+    else (if bytes_eq word (codes "clear") then Some (clear text)
+    else (if bytes_eq word (codes "remove_all") then Some (remove_all text)
+    else (if bytes_eq word (codes "delete") then Some (delete text)
+    else (if bytes_eq word (codes "delete_with") then Some (delete_with text)
+    else (if bytes_eq word (codes "show") then Some (show text)
+    else (if bytes_eq word (codes "query") then Some (query text)
+    else (if bytes_eq word (codes "cache") then Some (cache text) else None)))))))
+
 -- the step with this word and one argument
 abbrev pub step_of_one : List ℕ → Data → Option Step
 step_of_one word d =
-    if bytes_eq word (codes "create") then option_map (λ name. create (Some name)) (as_str d)
-    else (if bytes_eq word (codes "clear") then option_map clear (as_str d)
-    else (if bytes_eq word (codes "remove_all") then option_map remove_all (as_str d)
-    else (if bytes_eq word (codes "delete") then option_map delete (as_str d)
-    else (if bytes_eq word (codes "delete_with") then option_map delete_with (as_str d)
-    else (if bytes_eq word (codes "show") then option_map show (as_str d)
-    else (if bytes_eq word (codes "query") then option_map query (as_str d) else None))))))
+    if bytes_eq word (codes "cached") then option_map cached (number_in 0 4294967295 d)
+    else option_and_then (step_of_text word) (as_str d)
 
 -- the step with this word and two texts
 abbrev pub step_of_texts : List ℕ → List ℕ → List ℕ → Option Step
@@ -134,6 +141,8 @@ command_of (get entity id) = None
 command_of (show entity) = None
 command_of list = None
 command_of (query text) = None
+command_of (cache text) = None
+command_of (cached n) = None
 command_of (merge admitted stages) = None
 
 -- the command that a value is

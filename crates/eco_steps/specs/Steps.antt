@@ -11,7 +11,8 @@ use Rattle.eco_steps.specs.Commands.{Command}
 use Rattle.eco_steps.specs.Commands as command
 
 -- what a script may ask for, with its texts as they are written: an entity by its name or handle, an id likewise or a pair,
--- a name, or a query; and a merge of stages, with how many more indices it makes known
+-- a name, or a query; a query that was added before, by its number; and a merge of stages, with how many more indices it
+-- makes known
 pub data Step : Type 0 where
   create : Option (List ℕ) → Step
   component : List ℕ → ℕ → Step
@@ -28,6 +29,8 @@ pub data Step : Type 0 where
   show : List ℕ → Step
   list : Step
   query : List ℕ → Step
+  cache : List ℕ → Step
+  cached : ℕ → Step
   merge : ℕ → List (List Command) → Step
 
 -- a list of JSON values
@@ -101,5 +104,7 @@ IsStepData d (get entity id) = d ≡ written (codes "get") (string entity ∷ st
 IsStepData d (show entity) = d ≡ written (codes "show") (string entity ∷ [])
 IsStepData d list = d ≡ written (codes "list") []
 IsStepData d (query text) = d ≡ written (codes "query") (string text ∷ [])
+IsStepData d (cache text) = d ≡ written (codes "cache") (string text ∷ [])
+IsStepData d (cached n) = (d ≡ written (codes "cached") (number (unsigned n) ∷ [])) × (n ≤ 4294967295)
 IsStepData d (merge admitted stages) =
     (value : Data) × (d ≡ written (codes "merge") (number (unsigned admitted) ∷ value ∷ [])) × (admitted ≤ 1048576) × IsStagesData value stages

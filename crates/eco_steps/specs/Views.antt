@@ -52,6 +52,8 @@ step_view (Get entity id) = script.get entity.now id.now
 step_view (Show entity) = script.show entity.now
 step_view variant.List = script.list
 step_view (variant.Query text) = script.query text.now
+step_view (variant.Cache text) = script.cache text.now
+step_view (variant.Cached query) = script.cached query
 step_view (variant.Merge admitted stages) = script.merge admitted (stages_view stages)
 
 -- the script, step by step

@@ -3,7 +3,7 @@
 ghost use Rattle.std.specs.Prelude.{◌≡◌, map, option_map};
 ghost use Rattle.serde_json.specs.View.{view};
 ghost use Rattle.eco_steps.specs.Decode.{alone_in, merge_of, step_in, step_of, step_of_none, step_of_one};
-ghost use Rattle.eco_steps.specs.Decode.{step_of_texts, step_of_two, step_of_three, words_in};
+ghost use Rattle.eco_steps.specs.Decode.{step_of_text, step_of_texts, step_of_two, step_of_three, words_in};
 
 use crate::arguments::{read_list, read_name, read_number, read_value};
 use crate::arity::Arity;
@@ -62,6 +62,12 @@ pub enum Step<'a> {
     Query {
         text: &'a str,
     },
+    Cache {
+        text: &'a str,
+    },
+    Cached {
+        query: u32,
+    },
     Merge {
         admitted: u32,
         stages: Stages<'a>,
@@ -91,20 +97,33 @@ impl<'a> Step<'a> {
         Some(step)
     }
 
+    // A step with one text.
+    fn of_text(word: &str, text: &'a str) -> Option<Step<'a>>
+        ensures { option_map step_view result ≡ step_of_text word.now text.entry.now }
+    {
+        let step = match word {
+            "create" => Step::Create(Some(text)),
+            "clear" => Step::Clear { entity: text },
+            "remove_all" => Step::RemoveAll { id: text },
+            "delete" => Step::Delete { entity: text },
+            "delete_with" => Step::DeleteWith { id: text },
+            "show" => Step::Show { entity: text },
+            "query" => Step::Query { text },
+            "cache" => Step::Cache { text },
+            _ => return None,
+        };
+        Some(step)
+    }
+
     // A step with one argument.
     fn of_one(word: &str, argument: &'a Value) -> Option<Step<'a>>
         ensures { option_map step_view result ≡ step_of_one word.now (view argument.now) }
     {
-        let text = argument.as_str()?;
         match word {
-            "create" => Some(Step::Create(Some(text))),
-            "clear" => Some(Step::Clear { entity: text }),
-            "remove_all" => Some(Step::RemoveAll { id: text }),
-            "delete" => Some(Step::Delete { entity: text }),
-            "delete_with" => Some(Step::DeleteWith { id: text }),
-            "show" => Some(Step::Show { entity: text }),
-            "query" => Some(Step::Query { text }),
-            _ => None,
+            "cached" => Some(Step::Cached {
+                query: read_number(argument, 0, u32::MAX)?,
+            }),
+            _ => Step::of_text(word, argument.as_str()?),
         }
     }
 

@@ -17,6 +17,7 @@ use eco_tables::Tables;
 use std::alloc::{AllocError, Global};
 use std::marker::Model;
 
+mod caching;
 mod copying;
 mod deaths;
 mod exchanging;

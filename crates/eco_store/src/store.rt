@@ -21,6 +21,7 @@ use eco_tables::{Table, Tables};
 use std::alloc::Global;
 use std::marker::Model;
 
+mod caching;
 mod copying;
 mod deaths;
 mod exchanging;

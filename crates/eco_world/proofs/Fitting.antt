@@ -22,7 +22,8 @@ use Rattle.eco_ids.proofs.IdOrder.{id_cmp_total}
 use Rattle.eco_ids.proofs.Keeps.{Named, entry_of, fits_still}
 use Rattle.eco_ids.proofs.Records.{write_change}
 use Rattle.eco_store.specs.Store as store
-use Rattle.eco_store.specs.Worlds.{world_of}
+use Rattle.eco_ids.specs.Terms.{QueryTerm}
+use Rattle.eco_world.specs.Worlds.{world_with}
 
 all_past : {X : Type 0} (t : X → Bool) (n : ℕ) (xs : List X) → IsTrue (list_all t xs) → IsTrue (list_all t (drop n xs))
 all_past t zero xs all = all
@@ -30,9 +31,9 @@ all_past t (suc n) [] all = refl
 all_past t (suc n) (x ∷ xs) all = all_past t n xs (second _ _ all)
 
 -- the store knows no pair of a built-in: it asks for no more fields of one to be 0
-pub fits_stored : (v : Indexed Record) (i : Id) (x : Value) → IsTrue (fits (world_of v) i x) → IsTrue (store.fits v i x)
-fits_stored v (One e) x h = h
-fits_stored v (Two r t) x h = by (is_builtin (world_of v) r) h
+pub fits_stored : (v : Indexed Record) (qs : List (List QueryTerm)) (i : Id) (x : Value) → IsTrue (fits (world_with v qs) i x) → IsTrue (store.fits v i x)
+fits_stored v qs (One e) x h = h
+fits_stored v qs (Two r t) x h = by (is_builtin (world_with v qs) r) h
   where
     by : (b : Bool)
         → IsTrue ((length x.0 == FIELD_COUNT)

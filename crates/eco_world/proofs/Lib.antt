@@ -1,4 +1,5 @@
 pub mod Asking
+pub mod Cached
 pub mod Changes
 pub mod Deleting
 pub mod Extending
@@ -8,6 +9,7 @@ pub mod Holders
 pub mod Layouts
 pub mod Merging
 pub mod Lending
+pub mod Queried
 pub mod Removals
 pub mod Starting
 pub mod Steps

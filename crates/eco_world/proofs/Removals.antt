@@ -25,7 +25,9 @@ use Rattle.eco_store.specs.Retyping.{IsTypeWith}
 use Rattle.eco_store.specs.Store.{record_ids}
 use Rattle.eco_store.specs.declared.type_change.TypeChange.{TypeChange}
 use Rattle.eco_cleanup.specs.Plans.{TakesOutOfAll}
+use Rattle.eco_ids.specs.Terms.{QueryTerm}
 use Rattle.eco_store.specs.Worlds.{world_of}
+use Rattle.eco_world.specs.Worlds.{world_with}
 use Rattle.eco_world.proofs.Holders.{matches_exactly}
 use Rattle.eco_world.proofs.Changes.{sorted_at}
 
@@ -72,15 +74,15 @@ typed None ids is = absurd (none-some ids is)
 typed (Some r) ids is = (r, refl, same_Some (record_ids r) ids is)
 
 -- the id goes from every type that has it, and nobody dies
-pub taken_out_of_all : (v : Indexed Record) (i : Id) (types : List (List Id)) (cs : List TypeChange) → IsLawful (world_of v)
+pub taken_out_of_all : (v : Indexed Record) (qs : List (List QueryTerm)) (i : Id) (types : List (List Id)) (cs : List TypeChange) → IsLawful (world_with v qs)
     → ((ids : List Id) → Contains types ids ↔ IsTypeWith v (exactly i) ids) → map (λ (c : TypeChange). c.from) cs ≡ types
     → All (λ (c : TypeChange). c.to ≡ without_item id_cmp c.from i) cs → TakesOutOfAll v (has_item entity_cmp []) (λ j. id_eq j i) cs
-taken_out_of_all v i types cs lawful listed froms taken = record {
+taken_out_of_all v qs i types cs lawful listed froms taken = record {
   each = λ k d within. record { there = sym (exact_ids i (get_or cs k d).from) ∙ (found k d within).0; taken = taken k d within };
   ascend = λ k d within.
       let one = found k d within in
       let own = typed (record_of v one.1) (get_or cs k d).from one.2 in
-      subst (λ ids. IsTrue (is_ascending id_cmp ids)) own.2 (keys_ascending own.0.held (sorted_at (world_of v) one.1 lawful own.0 own.1));
+      subst (λ ids. IsTrue (is_ascending id_cmp ids)) own.2 (keys_ascending own.0.held (sorted_at (world_with v qs) one.1 lawful own.0 own.1));
   all = λ e r at lives some.
       subst (λ xs. Contains xs (record_ids r)) (sym froms) ((listed (record_ids r)).1 (exact_ids i (record_ids r) ∙ some, e, ap (option_map record_ids) at));
 }
@@ -95,13 +97,14 @@ taken_out_of_all v i types cs lawful listed froms taken = record {
         )
 
 -- the step is done
-pub removed_all : (v : Indexed Record) (w new : WorldState) (i : Id) (cs : List TypeChange) → world_of v ≡ w
+pub removed_all : (v after : Indexed Record) (qs : List (List QueryTerm)) (w : WorldState) (i : Id) (cs : List TypeChange) → world_with v qs ≡ w
     → TakesOutOfAll (entities w) (has_item entity_cmp []) (λ j. id_eq j i) cs
-    → ((goes : Id → Bool) → TakesOutOfAll v (has_item entity_cmp []) goes cs → new ≡ without (world_of v) (has_item entity_cmp []) (λ e. goes))
-    → is_builtins w i ≡ false → RemovesAll w i (Ok tt) new
-removed_all v w new i cs seen takes carried ordinary =
+    → ((goes : Id → Bool) → TakesOutOfAll v (has_item entity_cmp []) goes cs → world_of after ≡ without (world_of v) (has_item entity_cmp []) (λ e. goes))
+    → is_builtins w i ≡ false → RemovesAll w i (Ok tt) (world_with after qs)
+removed_all v after qs w i cs seen takes carried ordinary =
     rw ordinary (
       refl,
-      carried (λ j. id_eq j i) (subst (λ x. TakesOutOfAll (entities x) (has_item entity_cmp []) (λ j. id_eq j i) cs) (sym seen) takes)
+      ap (λ (x : WorldState). record x { queries = qs })
+          (carried (λ j. id_eq j i) (subst (λ x. TakesOutOfAll (entities x) (has_item entity_cmp []) (λ j. id_eq j i) cs) (sym seen) takes))
           ∙ ap (λ x. without x nobody (λ e j. id_eq j i)) seen,
     )

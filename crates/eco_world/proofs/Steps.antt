@@ -12,24 +12,26 @@ use Rattle.eco_ids.specs.Outcome.{Meets, Answers, Refuses, first_refusal, is_out
 use Rattle.eco_ids.specs.Step.{Renames, may_rename, own_name, with_name}
 use Rattle.eco_ids.specs.World.{WorldState, Record, entities, OnEntities, is_alive}
 use Rattle.eco_world.specs.Actor.{IsUnfit}
-use Rattle.eco_store.specs.Worlds.{world_of}
+use Rattle.eco_ids.specs.Terms.{QueryTerm}
+use Rattle.eco_world.specs.Worlds.{world_with}
 
-module _ {A : Type 0} (Step : Indexed Record → Result A Refusal → Indexed Record → Type 0) (may : Bool) (v new : Indexed Record) (r : Result A Refusal) where
+module _ {A : Type 0} (qs : List (List QueryTerm)) (Step : Indexed Record → Result A Refusal → Indexed Record → Type 0) (may : Bool)
+    (v new : Indexed Record) (r : Result A Refusal) where
   -- a call that meets a step of the entities meets it in the world
-  pub lifted : Meets (Step v) may v r new → Meets (OnEntities Step (world_of v)) may (world_of v) r (world_of new)
+  pub lifted : Meets (Step v) may v r new → Meets (OnEntities Step (world_with v qs)) may (world_with v qs) r (world_with new qs)
   lifted =
       elim (is_out_of_memory r) as (λ b. MatchBool b (IsTrue may × (new ≡ v)) (Step v r new) →
-      MatchBool b (IsTrue may × (world_of new ≡ world_of v)) (OnEntities Step (world_of v) r (world_of new))) [
-        | true ↦ λ m. (m.0, ap world_of m.1)
+      MatchBool b (IsTrue may × (world_with new qs ≡ world_with v qs)) (OnEntities Step (world_with v qs) r (world_with new qs))) [
+        | true ↦ λ m. (m.0, ap (λ x. world_with x qs) m.1)
         | false ↦ λ made. (new, made, refl)
       ]
 
   -- where the step keeps the world lawful, the call does
-  pub lawful_lifted : IsLawful (world_of v) → (OnEntities Step (world_of v) r (world_of new) → IsLawful (world_of new)) → Meets (Step v) may v r new →
-      IsLawful (world_of new)
+  pub lawful_lifted : IsLawful (world_with v qs) → (OnEntities Step (world_with v qs) r (world_with new qs) → IsLawful (world_with new qs)) →
+      Meets (Step v) may v r new → IsLawful (world_with new qs)
   lawful_lifted was keeps =
-      elim (is_out_of_memory r) as (λ b. MatchBool b (IsTrue may × (new ≡ v)) (Step v r new) → IsLawful (world_of new)) [
-        | true ↦ λ m. subst (λ x. IsLawful (world_of x)) (sym m.1) was
+      elim (is_out_of_memory r) as (λ b. MatchBool b (IsTrue may × (new ≡ v)) (Step v r new) → IsLawful (world_with new qs)) [
+        | true ↦ λ m. subst (λ x. IsLawful (world_with x qs)) (sym m.1) was
         | false ↦ λ made. keeps (new, made, refl)
       ]
 

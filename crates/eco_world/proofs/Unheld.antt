@@ -28,7 +28,8 @@ use Rattle.eco_ids.proofs.Meaning.{least}
 use Rattle.eco_ids.proofs.Overlaps.{entity_eq_itself}
 use Rattle.eco_ids.proofs.Passing.{passes_some}
 use Rattle.eco_ids.proofs.States.{living_at, record_at}
-use Rattle.eco_store.specs.Worlds.{world_of}
+use Rattle.eco_ids.specs.Terms.{QueryTerm}
+use Rattle.eco_world.specs.Worlds.{world_with}
 use Rattle.eco_world.proofs.Deleting.{only}
 
 -- an id of the record names the entity
@@ -171,7 +172,8 @@ module _ (w : WorldState) (e : Entity) (lives : is_alive w e ≡ true)
   deleted_alone ordinary = rw (lives, ordinary) (e ∷ [], doomed_alone, (sym after_alone, none_forbids))
 
 -- so the world of a store that took it out is the one without it
-pub taken_out : (v new : Indexed Record) (e : Entity) → is_alive (world_of v) e ≡ true → is_builtin (world_of v) e ≡ false
-    → is_named (world_of v) e ≡ false → new ≡ with_death v e → DeletesOne (world_of v) e (Ok tt) (world_of new)
-taken_out v new e lives ordinary unheld is =
-    subst (λ x. DeletesOne (world_of v) e (Ok tt) (world_of x)) (sym is) (deleted_alone (world_of v) e lives unheld ordinary)
+pub taken_out : (v new : Indexed Record) (qs : List (List QueryTerm)) (e : Entity) → is_alive (world_with v qs) e ≡ true
+    → is_builtin (world_with v qs) e ≡ false → is_named (world_with v qs) e ≡ false → new ≡ with_death v e
+    → DeletesOne (world_with v qs) e (Ok tt) (world_with new qs)
+taken_out v new qs e lives ordinary unheld is =
+    subst (λ x. DeletesOne (world_with v qs) e (Ok tt) (world_with x qs)) (sym is) (deleted_alone (world_with v qs) e lives unheld ordinary)

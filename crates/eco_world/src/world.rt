@@ -14,6 +14,7 @@ ghost use Rattle.eco_traits.specs.Target.{type_of_record};
 ghost use Rattle.eco_world.specs.Queries.{holders, is_matched};
 
 use crate::builtins::builtin_store;
+use crate::kept_query::KeptQuery;
 use eco_ids::entity::BUILTIN_COUNT;
 use eco_ids::{Edition, Entity, Id, Pattern, Refusal, TypeList, Value};
 use eco_query::{Names, exactly};
@@ -22,6 +23,7 @@ use std::alloc::{AllocError, Global};
 use std::marker::Model;
 
 mod bulk;
+mod cached;
 mod changes;
 mod copying;
 mod deletes;
@@ -31,20 +33,26 @@ mod merging;
 mod queries;
 
 /// Entities, each with a name or none and with the ids that were added to it, where an id that is data has a value
-/// (Flecs manual, Quickstart).
+/// (Flecs manual, Quickstart), and the queries that were added.
 ///
-/// A contract sees what is known of each index, and what each living entity has. No reader tells more than that, and a
-/// call that is refused leaves all of it as it was.
+/// A contract sees what is known of each index, what each living entity has, and what each query asks. No reader tells more
+/// than that, and a call that is refused leaves all of it as it was.
 pub struct World {
     alloc: Global,
     // Which handles live, their names and arities, and their ids with values.
     store: Store,
+    // The queries that were added, in the order of their numbers.
+    queries: Vec<KeptQuery>,
 }
 
 // By hand, so that dropping it is one call: a derived drop is proved anew at each early return of whoever holds it.
 impl Drop for World {
     fn drop(self) {
-        let World { alloc: _, store: _ } = self;
+        let World {
+            alloc: _,
+            store: _,
+            queries: _,
+        } = self;
     }
 }
 
@@ -54,11 +62,11 @@ impl Model for World {
     ghost Value = { WorldState };
 
     ghost use Rattle.eco_ids.specs.Lawful.{IsLawful};
-    ghost use Rattle.eco_store.specs.Worlds.{world_of};
+    ghost use Rattle.eco_world.specs.Worlds.{asked_by, world_with};
 
-    ghost view = { λ w. world_of w.store.entities };
+    ghost view = { λ w. world_with w.store.entities (asked_by w.queries.items) };
 
-    ghost invariant = { λ w. IsLawful (world_of w.store.entities) };
+    ghost invariant = { λ w. IsLawful (world_with w.store.entities (asked_by w.queries.items)) };
 }
 
 impl World {
@@ -74,7 +82,11 @@ impl World {
     {
         eco_ids::laws::first_world_is_lawful();
         let store = builtin_store(alloc, limit)?;
-        Ok(World { alloc, store })
+        Ok(World {
+            alloc,
+            store,
+            queries: Vec::new(alloc),
+        })
     }
 
     /// Does nothing, and its contract says that every world is in order: no id names a dead entity, names are unique, the

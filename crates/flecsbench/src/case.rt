@@ -138,6 +138,24 @@ pub const CASES: &[Case] = &[
         Start::Tables(10_000, "P, !(Group, ChildOf)"),
         Calls::Results,
     ),
+    Case(
+        "query_cached/1",
+        LARGE,
+        Start::Kept(1, "P, (Group, *)"),
+        Calls::Cached,
+    ),
+    Case(
+        "query_cached/100",
+        LARGE,
+        Start::Kept(100, "P, (Group, *)"),
+        Calls::Cached,
+    ),
+    Case(
+        "query_cached/10000",
+        LARGE,
+        Start::Kept(10_000, "P, (Group, *)"),
+        Calls::Cached,
+    ),
     Case("rows_one/1", LARGE, Start::Tables(1, "P"), Calls::Rows),
     Case("rows_one/100", LARGE, Start::Tables(100, "P"), Calls::Rows),
     Case(
@@ -233,6 +251,9 @@ impl Case {
         size: u32,
     ) -> Result<Duration, Fault> {
         self.2.make(scene, size)?;
+        if self.3.only_ask() {
+            self.ask_before(scene, size)?;
+        }
         let start = Instant::now(clock)?;
         let is_right = scene.call(self.3, size)?;
         let time = start.elapsed(clock)?;
@@ -241,6 +262,15 @@ impl Case {
         } else {
             Err(Fault::WrongAnswer)
         }
+    }
+
+    // A query is asked again and again of a world: from the third answer on it needs no new pages of the system for its results.
+    fn ask_before(&self, scene: &mut Scene, size: u32) -> Result<(), Fault> {
+        for _ in 0..2 {
+            let _is_right = scene.call(self.3, size)?;
+            scene.forget();
+        }
+        Ok(())
     }
 }
 

@@ -1,7 +1,7 @@
 //! The worlds that cases are about, and the calls that are measured.
 use crate::group::{Group, Ids};
 use eco_ids::{Entity, Id, Refusal, Value};
-use eco_world::{Command, Query, Results, Stage, Values, World};
+use eco_world::{Command, Query, QueryId, Results, Stage, Values, World};
 use std::alloc::Global;
 use std::collections::HashMap;
 
@@ -13,6 +13,8 @@ pub struct Scene {
     world: World,
     work: Vec<(Entity, Id)>,
     query: Option<Query>,
+    // A query that was added to the world.
+    kept: Option<QueryId>,
     // What the query has found; like the world, it is given up once the time was taken.
     results: Option<Results>,
     // What the yardsticks fill and go through. They have nothing to do with the world.
@@ -32,6 +34,7 @@ impl Drop for Scene {
             world: _,
             work: _,
             query: _,
+            kept: _,
             results: _,
             numbers: _,
             rows: _,
@@ -73,6 +76,8 @@ pub enum Calls {
     Merge,
     /// One answer of the query, which has so many results.
     Results,
+    /// One answer of the query that was added, which has so many results.
+    Cached,
     /// So many answers of the query, which has no result.
     NoResults,
     /// One answer of the query, which has so many results, each made as a row of its own.
@@ -81,6 +86,13 @@ pub enum Calls {
     ReadEach,
     /// One copy of the world.
     Copy,
+}
+
+impl Calls {
+    /// Whether they ask for results alone.
+    pub fn only_ask(self) -> bool {
+        matches!(self, Calls::Results | Calls::Cached)
+    }
 }
 
 // The sum of the first fields.
@@ -124,6 +136,7 @@ impl Scene {
             world,
             work: Vec::new(alloc),
             query: None,
+            kept: None,
             results: None,
             numbers: HashMap::new(alloc),
             rows: Vec::new(alloc),
@@ -142,6 +155,7 @@ impl Scene {
             Calls::SumColumns => return Ok(self.sum_columns()? == i64::from(size)),
             Calls::Merge => return Ok(self.merge()? == size as usize),
             Calls::Results => return Ok(self.find()? == size as usize),
+            Calls::Cached => return Ok(self.find_kept()? == size as usize),
             Calls::NoResults => return Ok(self.find_often(size)? == 0),
             Calls::Rows => return Ok(self.count_rows()? == size as usize),
             Calls::ReadEach => return Ok(self.count_by_texts()? == size as usize),
@@ -156,6 +170,11 @@ impl Scene {
             Calls::DeleteWith => self.delete_with()?,
         }
         Ok(true)
+    }
+
+    /// Gives up the results that were found.
+    pub fn forget(&mut self) {
+        self.results = None;
     }
 
     /// Makes so many entities.
@@ -181,6 +200,13 @@ impl Scene {
     /// The calls are to be about this query.
     pub fn ask(&mut self, text: &str) -> Result<(), Refusal> {
         self.query = Some(self.world.read_query(text)?);
+        Ok(())
+    }
+
+    /// The calls are to be about this query once it is added to the world.
+    pub fn keep(&mut self, text: &str) -> Result<(), Refusal> {
+        let query = self.world.read_query(text)?;
+        self.kept = Some(self.world.add_query(query)?);
         Ok(())
     }
 
@@ -358,7 +384,18 @@ impl Scene {
         Ok(count)
     }
 
-    // How many results it has together, each time it is asked.
+    // How many results the query that was added has, which are all made.
+    fn find_kept(&mut self) -> Result<usize, Refusal> {
+        let Some(query) = self.kept else {
+            return Ok(0);
+        };
+        let results = self.world.answer_results(query)?;
+        let count = results.len();
+        self.results = Some(results);
+        Ok(count)
+    }
+
+    // How many results the query has together, each time it is asked.
     fn find_often(&mut self, times: u32) -> Result<usize, Refusal> {
         let mut found = 0usize;
         for _ in 0..times {

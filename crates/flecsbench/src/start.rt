@@ -25,7 +25,9 @@ pub enum Start {
     /// N entities have the component P and the tag Q, and stand in so many tables, by their pairs of the relationship Group;
     /// this is asked.
     Tables(u32, &'static str),
-    /// The same, and the first field of each value of P is 1; P is asked. All values were read once.
+    /// The same, and the query is added to the world.
+    Kept(u32, &'static str),
+    /// The entities stand so, and the first field of each value of P is 1; P is asked. All values were read once.
     Columns(u32),
     /// A plain list has N rows of two numbers, and the first one of each is 1.
     Rows,
@@ -82,6 +84,7 @@ impl Start {
             Start::HaveValue => have_value(scene, size),
             Start::HaveValues => have_values(scene, size),
             Start::Tables(tables, text) => stand_in_tables(scene, size, tables, text),
+            Start::Kept(tables, text) => keep_query(scene, size, tables, text),
             Start::Columns(tables) => have_columns(scene, size, tables),
             Start::Rows => scene.make_rows(size),
             Start::NobodyHas(entities) => ask_in_vain(scene, entities),
@@ -172,6 +175,11 @@ fn stand_in_tables(
     scene.add_each(count, entities, Ids::Ones(tag))?;
     scene.add_each(count, entities, Ids::Ones(component))?;
     scene.ask(text)
+}
+
+fn keep_query(scene: &mut Scene, count: u32, table_count: u32, text: &str) -> Result<(), Refusal> {
+    stand_in_tables(scene, count, table_count, text)?;
+    scene.keep(text)
 }
 
 fn have_columns(scene: &mut Scene, count: u32, table_count: u32) -> Result<(), Refusal> {

@@ -7,8 +7,8 @@ use eco_query::Term;
 use eco_world::{Query, Results, Row, TableRows, World};
 use std::alloc::Global;
 
-// One step about the living. It may be refused.
-fn take_step(world: &mut World, draws: &mut Draws, living: &[Entity]) -> Result<(), Refusal> {
+/// One step about the living. It may be refused.
+pub fn take_step(world: &mut World, draws: &mut Draws, living: &[Entity]) -> Result<(), Refusal> {
     let entity = draw_entity(draws, living);
     let id = draw_id(draws, living);
     match draws.below(24) {
@@ -44,8 +44,8 @@ fn is_row(results: &Results, place: usize, row: &Row) -> bool {
     place < results.len() && results.get(place) == (row.entity, row.entries.as_slice())
 }
 
-// Whether the rows are the results, one after the other.
-fn are_rows(results: &Results, rows: &[Row]) -> bool {
+/// Whether the rows are the results, one after the other.
+pub fn are_rows(results: &Results, rows: &[Row]) -> bool {
     rows.len() == results.len()
         && rows
             .iter()

@@ -4,6 +4,8 @@
 #[cfg(test)]
 mod answers;
 #[cfg(test)]
+mod cached;
+#[cfg(test)]
 mod chains;
 #[cfg(test)]
 mod copying;

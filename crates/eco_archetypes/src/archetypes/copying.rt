@@ -24,6 +24,7 @@ impl Archetypes {
         let mut by_type = TypeMap::with_capacity(self.alloc, tables.slot_count())?;
         list_all(&tables, &mut by_type)?;
         let by_id = self.by_id.try_copy(self.alloc)?;
+        let caches = self.caches.try_copy(self.alloc)?;
         Ok(Archetypes {
             alloc: self.alloc,
             tables,
@@ -31,6 +32,7 @@ impl Archetypes {
             last: self.last,
             by_id,
             edges: Edges::new(self.alloc),
+            caches,
         })
     }
 }

@@ -11,10 +11,21 @@ use eco_ids::{Entity, Pattern};
 use std::alloc::AllocError;
 
 impl Archetypes {
-    /// The slots of the tables that have rows and a type that passes the test, each once, in any order. Its time grows with
-    /// the tables that the shortest group of the test's patterns finds. An `Err` comes where memory is refused, and never
-    /// where no table is found.
+    /// The slots of the tables that have rows and a type that passes the test, each once, in any order. Where the test names a
+    /// cache of its query, its time grows with the slots of that cache, and else with the tables that the shortest group of
+    /// the test's patterns finds. An `Err` comes where memory is refused, and never where no table is found.
     pub fn tables_by<T: TypeTest>(&self, test: &T) -> Result<Vec<usize>, AllocError>
+        ensures all { IfOk result (λ v. IsAllFound (T.test test.now) self.now v.items) }
+        ensures some { OnErr result (FindsSome (T.test test.now) self.now) }
+    {
+        match self.cached(test) {
+            Some(slots) => self.with_rows(slots),
+            None => self.search(test),
+        }
+    }
+
+    // What `tables_by` does where no cache answers.
+    fn search<T: TypeTest>(&self, test: &T) -> Result<Vec<usize>, AllocError>
         ensures all { IfOk result (λ v. IsAllFound (T.test test.now) self.now v.items) }
         ensures some { OnErr result (FindsSome (T.test test.now) self.now) }
     {

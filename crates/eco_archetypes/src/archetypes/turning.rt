@@ -8,8 +8,8 @@ ghost use Rattle.eco_archetypes.specs.Edges.{toggled};
 ghost use Rattle.eco_archetypes.specs.IdIndex.{lists_of};
 ghost use Rattle.eco_archetypes.specs.Widths.{AreAgreed, KeepsWidths, LetsGrow, StillCover, FitsAll};
 
-use crate::archetypes::Archetypes;
 use crate::archetypes::stepping::toggled;
+use crate::archetypes::{Archetypes, reserve_one};
 use crate::id_index::IdIndex;
 use eco_entities::EntityIndex;
 use eco_ids::{Id, TypeList};
@@ -82,9 +82,10 @@ impl Archetypes {
     {
         let width = self.width_of(entities, id);
         let old = self.tables.get(slot).unwrap().type_list().try_copy()?;
-        self.by_type.reserve_one()?;
+        reserve_one(&mut self.by_type, &mut self.caches)?;
         let tables = &mut self.tables;
         toggle(tables, &mut self.by_id, self.alloc, slot, id, width)?;
+        self.caches.tell(slot, &type_list);
         self.by_type.rename(&old, type_list, slot);
         self.edges.cut(slot);
         Ok(())

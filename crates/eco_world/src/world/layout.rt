@@ -56,11 +56,11 @@ impl World {
         ensures values { IfOk result (λ tables. All (LendsValues self.now) tables.items) }
         ensures some { OnErr result (IsTrue (is_answered self.now query.now)) }
     {
-        self.tables_by(&Asking { query })
+        self.tables_by(&Asking { query, cache: None })
     }
 
     // The tables whose type passes the test.
-    fn tables_by<T: TypeTest>(&self, test: &T) -> Result<Vec<TableRows<'_>>, AllocError>
+    pub(super) fn tables_by<T: TypeTest>(&self, test: &T) -> Result<Vec<TableRows<'_>>, AllocError>
         ensures all { IfOk result (λ tables. ListsBy self.now (T.test test.now) (listed tables.items)) }
         ensures values { IfOk result (λ tables. All (LendsValues self.now) tables.items) }
         ensures some { OnErr result (IsTrue (is_passed self.now (T.test test.now))) }

@@ -16,7 +16,7 @@ use eco_query::Query;
 use std::alloc::{AllocError, Global};
 
 // Each result once more, with entries of its own.
-fn rows_of(alloc: Global, results: &Results) -> Result<Vec<Row>, AllocError>
+pub(super) fn rows_of(alloc: Global, results: &Results) -> Result<Vec<Row>, AllocError>
     ensures all { IfOk result (λ rows. map result_of rows.items ≡ results.now) }
     ensures some { OnErr result (0 < length results.now) }
 {
@@ -57,7 +57,7 @@ impl World {
         ensures err { IfErr result (λ why. why ≡ OutOfMemory) }
         ensures some { OnErr result (IsTrue (may_query self.now (asked query.now))) }
     {
-        let results = results_of(self.alloc, &self.store, query)?;
+        let results = results_of(self.alloc, &self.store, query, None)?;
         Ok(results)
     }
 

@@ -1,12 +1,12 @@
-use Rattle.std.proofs.Common.{arith}
-use Rattle.eco_archetypes.proofs.Searching.{all_found, none_yet}
+use Rattle.eco_archetypes.proofs.Cached.{answers_all, answers_some}
 use Rattle.eco_archetypes.proofs.archetypes.Archetypes.tables_by.Goals as goal
 
-pub loop-place-init : goal.loop-place-init
-loop-place-init g c = rw c.new-found.ensures.items (none_yet (g.T.TypeTest.test c.args.test.now) c.args.self.now)
+pub returns-in-Some-clause-all : goal.returns-in-Some-clause-all
+returns-in-Some-clause-all g c =
+    answers_all (g.T.TypeTest.test c.args.test.now) c.args.self.now (λ v. v.items) c.with_rows.result c.in-Some.slots.now
+    c.in-Some.ensures.those c.in-Some.ensures.distinct c.with_rows.ensures.all
 
-pub returns-clause-all : goal.returns-clause-all
-returns-clause-all g c =
-    all_found (g.T.TypeTest.test c.args.test.now) (g.T.TypeTest.groups c.args.test.now) c.shortest_group-group.result c.loop-place.place c.args.self.now
-    c.loop-place.found.items c.shortest_group-group.ensures.needed c.shortest_group-group.ensures.within
-    (omega (arith, c.loop-place.auto.place-end, c.loop-place-test.false, c.pattern_count-place-end.ensures)) c.loop-place.invariant
+pub returns-in-Some-clause-some : goal.returns-in-Some-clause-some
+returns-in-Some-clause-some g c =
+    answers_some (g.T.TypeTest.test c.args.test.now) c.args.self.now c.with_rows.result c.in-Some.slots.now c.in-Some.ensures.those
+    c.with_rows.ensures.some

@@ -1,6 +1,8 @@
 use Rattle.std.proofs.Common.{◌≡◌, ℕ, Option, Some, None, sym, ◌∙◌}
 use Rattle.eco_archetypes.specs.IdIndex.{lists_of}
 use Rattle.eco_archetypes.proofs.ArchetypeLemmas.{one_slot}
+use Rattle.eco_archetypes.specs.Archetypes.{type_at}
+use Rattle.eco_archetypes.proofs.Caching.{exact_types}
 use Rattle.eco_archetypes.proofs.Copying.{copied_kept, copied_matches, copied_types}
 use Rattle.eco_archetypes.proofs.Widths.{kept_agreed}
 use Rattle.eco_archetypes.proofs.archetypes.Archetypes.try_copy.Goals as goal
@@ -21,6 +23,9 @@ invariant_of-result c = record {
   agreed =
       kept_agreed c.self.inside.tables c.in_ok-tables.tables (copied_kept c.self.inside.tables c.in_ok-tables.tables c.in_ok-tables.ensures)
       c.self.invariant.agreed;
+  cached =
+      exact_types _ _ _ (copied_types c.self.inside.tables c.in_ok-tables.tables c.in_ok-tables.ensures)
+      (c.in_ok-caches.ensures (type_at c.self.inside.tables) c.self.invariant.cached);
 }
 
 pub returns : goal.returns

@@ -9,6 +9,7 @@ use Rattle.eco_archetypes.specs.IdIndex.{lists_of}
 use Rattle.eco_archetypes.specs.TypeMap.{same_ids}
 use Rattle.eco_archetypes.proofs.ArchetypeLemmas.{found_kept}
 use Rattle.eco_archetypes.proofs.Turnings.{found_turned}
+use Rattle.eco_archetypes.proofs.Caching.{exact_types, then_told}
 use Rattle.eco_archetypes.proofs.archetypes.Archetypes.turn.Goals as goal
 
 pub invariant_of-self-2 : goal.invariant_of-self-2
@@ -26,7 +27,7 @@ invariant_of-self-2 c =
     (rw (← c.self.view_is) at c.requires.absent)
     (λ q. c.rename.ensures q
     ∙ ap (λ es. cond (same_ids c.args.type_list q) (Some c.args.slot) (cond (same_ids old q) None (lookup (same_ids q) es))) c.reserve_one.ensures.same)
-    c.toggle.ensures.index c.cut.ensures c.toggle.ensures.agreed
+    c.toggle.ensures.index c.cut.ensures c.toggle.ensures.agreed (then_told _ _ _ _ _ c.reserve_one.ensures.exact c.tell.ensures)
 
 pub returns-clause-widths : goal.returns-clause-widths
 returns-clause-widths c =
@@ -38,12 +39,15 @@ invariant_of-self c =
     let l = lists_of c.self.inside.by_id.slots in
     found_kept _ _ c.self.inside.by_type.slots _ l l c.self.inside.edges.lists.items c.self.inside.edges.lists.items c.self.invariant (λ k. refl)
     c.reserve_one.ensures.same c.self.invariant.matches c.self.invariant.agreed
+    (c.reserve_one.ensures.exact (type_at c.self.inside.tables) c.self.invariant.cached)
 
 pub invariant_of-self-in_err-toggle : goal.invariant_of-self-in_err-toggle
 invariant_of-self-in_err-toggle c =
     found_kept _ _ c.self.inside.by_type.slots _ (lists_of c.self.inside.by_id.slots) _ c.self.inside.edges.lists.items
     c.self.inside.edges.lists.items c.self.invariant (λ k. ap (option_map (λ (t : TableState). t.ids)) (c.in_err-toggle.ensures.err k))
     c.reserve_one.ensures.same c.toggle.ensures.index c.toggle.ensures.agreed
+    (exact_types _ _ _ (λ k. ap (option_map (λ (t : TableState). t.ids)) (c.in_err-toggle.ensures.err k))
+    (c.reserve_one.ensures.exact (type_at c.self.inside.tables) c.self.invariant.cached))
 
 pub toggle-requires-clause-width : goal.toggle-requires-clause-width
 toggle-requires-clause-width c = (rw (← c.self.view_is) at c.width_of-width.ensures.agrees)

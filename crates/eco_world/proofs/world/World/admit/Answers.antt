@@ -1,17 +1,20 @@
 use Rattle.std.proofs.Common.{◌&&◌, nat_lt}
 use Rattle.eco_ids.specs.Births.{Admits, may_admit}
+use Rattle.eco_world.specs.Worlds.{asked_by, world_with}
 use Rattle.eco_world.proofs.Steps.{lawful_lifted, lifted}
 use Rattle.eco_world.proofs.world.World.admit.Goals as goal
 
 pub invariant_of-self : goal.invariant_of-self
 invariant_of-self c =
+    let qs = asked_by c.self.inside.queries.items in
     let v = c.self.inside.store.entities in
     let n = c.args.count in
-    lawful_lifted (λ x. Admits x n) (may_admit v n && nat_lt 0 n) v c.admit.new.self.entities c.admit.result c.self.invariant
+    lawful_lifted qs (λ x. Admits x n) (may_admit v n && nat_lt 0 n) v c.admit.new.self.entities c.admit.result c.self.invariant
     (c.steps_keep_lawful.ensures.admit n _ _ _ c.self.invariant) c.admit.ensures.step
 
 pub returns : goal.returns
 returns c =
+    let qs = asked_by c.self.inside.queries.items in
     let v = c.self.inside.store.entities in
     let n = c.args.count in
-    rw (← c.self.view_is) (lifted (λ x. Admits x n) (may_admit v n && nat_lt 0 n) v c.admit.new.self.entities c.admit.result c.admit.ensures.step)
+    rw (← c.self.view_is) (lifted qs (λ x. Admits x n) (may_admit v n && nat_lt 0 n) v c.admit.new.self.entities c.admit.result c.admit.ensures.step)

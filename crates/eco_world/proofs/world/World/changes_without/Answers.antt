@@ -4,6 +4,7 @@ use Rattle.std.proofs.lemmas.List.{map-append}
 use Rattle.std.proofs.lemmas.List.Elements.{All-push}
 use Rattle.eco_ids.specs.Order.{id_cmp, without_item}
 use Rattle.eco_store.specs.declared.type_change.TypeChange.{TypeChange}
+use Rattle.eco_world.specs.Worlds.{asked_by, world_with}
 use Rattle.eco_world.proofs.Removals.{taken_out_of_all}
 use Rattle.eco_world.proofs.world.World.changes_without.Goals as goal
 
@@ -31,11 +32,12 @@ loop-ids-preserved c =
 
 pub returns : goal.returns
 returns c =
+    let qs = asked_by c.self.inside.queries.items in
     let none : c.loop-ids.ids-iterator.rest.items ≡ [] = no_items c.loop-ids.ids-iterator.rest.items
     (omega (arith, c.loop-ids.ids-iterator.rest.ok, c.in-None.ensures.steps.0)) in
     let all : c.loop-ids.yielded ≡ c.in_ok-types.types.items =
     sym (append-nil c.loop-ids.yielded) ∙ sym (c.loop-ids.invariant.rest ∙ ap (λ xs. c.loop-ids.yielded ++ xs) none)
     ∙ c.into_iter-ids-iterator.ensures.into_iter_gives.0 in
     rw (← c.self.view_is)
-    (taken_out_of_all c.self.inside.store.entities c.args.id c.in_ok-types.types.items c.loop-ids.changes.items c.self.invariant
+    (taken_out_of_all c.self.inside.store.entities qs c.args.id c.in_ok-types.types.items c.loop-ids.changes.items c.self.invariant
     (rw c.exactly.ensures at c.in_ok-types.ensures.listed) (c.loop-ids.invariant.types ∙ all) c.loop-ids.invariant.taken)

@@ -5,6 +5,7 @@ use Rattle.eco_ids.specs.Births.{Makes, component_record}
 use Rattle.eco_ids.specs.Lawful.{is_proper_arity}
 use Rattle.eco_ids.proofs.Ascending.{both}
 use Rattle.eco_store.specs.Store.{record_name}
+use Rattle.eco_world.specs.Worlds.{asked_by, world_with}
 use Rattle.eco_world.proofs.Steps.{lawful_lifted, lifted}
 use Rattle.eco_world.proofs.world.World.component.Goals as goal
 
@@ -13,7 +14,8 @@ proper n more most = both (nat_le 1 n) (nat_le n 4) (le-leb 1 n more) (le-leb n 
 
 pub invariant_of-self : goal.invariant_of-self
 invariant_of-self c =
-    lawful_lifted (λ v. Makes record_name v (component_record (option_copied c.args.name) c.args.arity)) _
+    let qs = asked_by c.self.inside.queries.items in
+    lawful_lifted qs (λ v. Makes record_name v (component_record (option_copied c.args.name) c.args.arity)) _
     c.self.inside.store.entities c.create.new.self.entities c.create.result c.self.invariant
     (c.steps_keep_lawful.ensures.component (option_copied c.args.name) c.args.arity _ _ _
     (proper c.args.arity c.requires.at_least c.requires.at_most) c.self.invariant)
@@ -21,7 +23,8 @@ invariant_of-self c =
 
 pub returns : goal.returns
 returns c =
+    let qs = asked_by c.self.inside.queries.items in
     rw (← c.self.view_is)
-    (lifted (λ v. Makes record_name v
+    (lifted qs (λ v. Makes record_name v
     (component_record (option_copied c.args.name) c.args.arity)) _ c.self.inside.store.entities c.create.new.self.entities c.create.result
     (rw c.component_type-ids.ensures at c.create.ensures.step))

@@ -1,17 +1,20 @@
 use Rattle.std.specs.Option.{option_copied}
 use Rattle.eco_ids.specs.Births.{Makes, bare}
 use Rattle.eco_store.specs.Store.{record_name}
+use Rattle.eco_world.specs.Worlds.{asked_by, world_with}
 use Rattle.eco_world.proofs.Steps.{lawful_lifted, lifted}
 use Rattle.eco_world.proofs.world.World.create.Goals as goal
 
 pub invariant_of-self : goal.invariant_of-self
 invariant_of-self c =
-    lawful_lifted (λ v. Makes record_name v
+    let qs = asked_by c.self.inside.queries.items in
+    lawful_lifted qs (λ v. Makes record_name v
     (bare (option_copied c.args.name))) _ c.self.inside.store.entities c.create.new.self.entities c.create.result c.self.invariant
     (c.steps_keep_lawful.ensures.create (option_copied c.args.name) _ _ _ c.self.invariant) (rw c.empty-none.ensures at c.create.ensures.step)
 
 pub returns : goal.returns
 returns c =
+    let qs = asked_by c.self.inside.queries.items in
     rw (← c.self.view_is)
-    (lifted (λ v. Makes record_name v (bare (option_copied c.args.name))) _ c.self.inside.store.entities c.create.new.self.entities c.create.result
+    (lifted qs (λ v. Makes record_name v (bare (option_copied c.args.name))) _ c.self.inside.store.entities c.create.new.self.entities c.create.result
     (rw c.empty-none.ensures at c.create.ensures.step))

@@ -1,10 +1,12 @@
-use Rattle.std.proofs.Common.{◌≡◌, [], Ok, sym, ap, ◌∙◌}
+use Rattle.std.proofs.Common.{◌≡◌, ◌∷◌, [], IsTrue, Ok, sym, ap, ◌∙◌}
 use Rattle.std.proofs.lemmas.Result.{err_from_is_err_and}
 use Rattle.eco_ids.specs.Builtin.{is_builtin}
 use Rattle.eco_ids.specs.Cleanup.{Deletes}
 use Rattle.eco_ids.specs.Delete.{DeletesOne, may_delete}
+use Rattle.eco_ids.specs.Order.{entity_cmp, has_item}
 use Rattle.eco_ids.specs.World.{WorldState, is_alive}
-use Rattle.eco_store.specs.Worlds.{world_of}
+use Rattle.eco_world.specs.Worlds.{asked_by, world_with}
+use Rattle.eco_world.proofs.Queried.{ends_with}
 use Rattle.eco_world.proofs.Deleting.{met_lawful, one_deleted}
 use Rattle.eco_world.proofs.Steps.{refused}
 use Rattle.eco_world.proofs.Unheld.{is_named, taken_out}
@@ -17,28 +19,37 @@ returns-in_err-check_actor c =
 
 pub invariant_of-self : goal.invariant_of-self
 invariant_of-self c =
-    let w = world_of c.self.inside.store.entities in
+    let v = c.self.inside.store.entities in
+    let new = c.delete.new.store.entities in
+    let qs = asked_by c.self.inside.queries.items in
     let e = c.args.entity in
-    met_lawful (λ x. DeletesOne x e) (λ x. may_delete x e) w (world_of c.delete.new.store.entities) c.delete.result
+    met_lawful (λ x. DeletesOne x e) (λ x. may_delete x e) (world_with v qs) (world_with new qs) c.delete.result
     (c.steps_keep_lawful.ensures.delete e) c.self.invariant
-    (one_deleted w (world_of c.delete.new.store.entities) e c.delete.result
+    (one_deleted (world_with v qs) (world_with new qs) e c.delete.result
     (ap (λ (x : WorldState). is_alive x e) c.self.view_is ∙ c.in_ok-check_actor.ensures.ok.0)
-    (ap (λ (x : WorldState). is_builtin x e) c.self.view_is ∙ c.in_ok-check_actor.ensures.ok.1) c.delete.ensures)
+    (ap (λ (x : WorldState). is_builtin x e) c.self.view_is ∙ c.in_ok-check_actor.ensures.ok.1)
+    (ends_with v new qs c.delete.result (λ x. IsTrue (has_item entity_cmp (e ∷ []) x)) c.delete.ensures))
 
 pub returns-then-is_named : goal.returns-then-is_named
 returns-then-is_named c =
+    let v = c.self.inside.store.entities in
+    let new = c.delete.new.store.entities in
+    let qs = asked_by c.self.inside.queries.items in
     let e = c.args.entity in
     rw (← c.self.view_is)
-    (one_deleted (world_of c.self.inside.store.entities) (world_of c.delete.new.store.entities) e c.delete.result
+    (one_deleted (world_with v qs) (world_with new qs) e c.delete.result
     (ap (λ (x : WorldState). is_alive x e) c.self.view_is ∙ c.in_ok-check_actor.ensures.ok.0)
-    (ap (λ (x : WorldState). is_builtin x e) c.self.view_is ∙ c.in_ok-check_actor.ensures.ok.1) c.delete.ensures)
+    (ap (λ (x : WorldState). is_builtin x e) c.self.view_is ∙ c.in_ok-check_actor.ensures.ok.1)
+    (ends_with v new qs c.delete.result (λ x. IsTrue (has_item entity_cmp (e ∷ []) x)) c.delete.ensures))
 
 pub invariant_of-self-2 : goal.invariant_of-self-2
 invariant_of-self-2 c =
     let v = c.self.inside.store.entities in
+    let new = c.take_out.new.self.entities in
+    let qs = asked_by c.self.inside.queries.items in
     let e = c.args.entity in
-    c.steps_keep_lawful.ensures.delete e (world_of v) (Ok tt) (world_of c.take_out.new.self.entities) c.self.invariant
-    (taken_out v c.take_out.new.self.entities e
+    c.steps_keep_lawful.ensures.delete e (world_with v qs) (Ok tt) (world_with new qs) c.self.invariant
+    (taken_out v new qs e
     (ap (λ (x : WorldState). is_alive x e) c.self.view_is ∙ c.in_ok-check_actor.ensures.ok.0)
     (ap (λ (x : WorldState). is_builtin x e) c.self.view_is ∙ c.in_ok-check_actor.ensures.ok.1)
     (ap (λ (x : WorldState). is_named x e) c.self.view_is ∙ sym c.is_named.ensures ∙ c.if-is_named.false) c.take_out.ensures.entities)
@@ -46,9 +57,10 @@ invariant_of-self-2 c =
 pub returns : goal.returns
 returns c =
     let v = c.self.inside.store.entities in
+    let qs = asked_by c.self.inside.queries.items in
     let e = c.args.entity in
     rw (← c.self.view_is)
-    (taken_out v c.take_out.new.self.entities e
+    (taken_out v c.take_out.new.self.entities qs e
     (ap (λ (x : WorldState). is_alive x e) c.self.view_is ∙ c.in_ok-check_actor.ensures.ok.0)
     (ap (λ (x : WorldState). is_builtin x e) c.self.view_is ∙ c.in_ok-check_actor.ensures.ok.1)
     (ap (λ (x : WorldState). is_named x e) c.self.view_is ∙ sym c.is_named.ensures ∙ c.if-is_named.false) c.take_out.ensures.entities)

@@ -1,19 +1,22 @@
 use Rattle.std.proofs.Common.{None}
 use Rattle.eco_ids.specs.Births.{MakesAliveWith, bare}
 use Rattle.eco_ids.specs.Indices.{is_free_at}
+use Rattle.eco_world.specs.Worlds.{asked_by, world_with}
 use Rattle.eco_world.proofs.Steps.{lawful_lifted, lifted}
 use Rattle.eco_world.proofs.world.World.make_alive.Goals as goal
 
 pub invariant_of-self : goal.invariant_of-self
 invariant_of-self c =
+    let qs = asked_by c.self.inside.queries.items in
     let v = c.self.inside.store.entities in
     let e = c.args.entity in
-    lawful_lifted (λ x. MakesAliveWith x e (bare None)) (is_free_at v e) v c.make_alive.new.self.entities c.make_alive.result c.self.invariant
+    lawful_lifted qs (λ x. MakesAliveWith x e (bare None)) (is_free_at v e) v c.make_alive.new.self.entities c.make_alive.result c.self.invariant
     (c.steps_keep_lawful.ensures.make_alive e _ _ _ c.self.invariant) c.make_alive.ensures.step
 
 pub returns : goal.returns
 returns c =
+    let qs = asked_by c.self.inside.queries.items in
     let v = c.self.inside.store.entities in
     let e = c.args.entity in
     rw (← c.self.view_is)
-    (lifted (λ x. MakesAliveWith x e (bare None)) (is_free_at v e) v c.make_alive.new.self.entities c.make_alive.result c.make_alive.ensures.step)
+    (lifted qs (λ x. MakesAliveWith x e (bare None)) (is_free_at v e) v c.make_alive.new.self.entities c.make_alive.result c.make_alive.ensures.step)

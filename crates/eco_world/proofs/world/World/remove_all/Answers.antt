@@ -1,6 +1,6 @@
 use Rattle.std.proofs.Common.{Ok, refl, sym, ◌∙◌}
 use Rattle.eco_ids.specs.Order.{id_eq}
-use Rattle.eco_store.specs.Worlds.{world_of}
+use Rattle.eco_world.specs.Worlds.{asked_by, world_with}
 use Rattle.eco_world.proofs.Asking.{none_has}
 use Rattle.eco_world.proofs.Removals.{nobody_loses, removed_all}
 use Rattle.eco_world.proofs.world.World.remove_all.Goals as goal
@@ -11,14 +11,17 @@ carry_out-requires c = (λ j. id_eq j c.args.id, rw c.deref.ensures.value (rw (�
 pub invariant_of-self-then-is_had : goal.invariant_of-self-then-is_had
 invariant_of-self-then-is_had c =
     let w = c.args.self.now in
-    let new = world_of c.carry_out.new.store.entities in
-    c.steps_keep_lawful.ensures.remove_all c.args.id w (Ok tt) new c.is_lawful.ensures
-    (removed_all c.self.inside.store.entities w new c.args.id c.in_ok-changes.changes.items c.self.view_is c.in_ok-changes.ensures
+    let qs = asked_by c.self.inside.queries.items in
+    let new = c.carry_out.new.store.entities in
+    c.steps_keep_lawful.ensures.remove_all c.args.id w (Ok tt) (world_with new qs) c.is_lawful.ensures
+    (removed_all c.self.inside.store.entities new qs w c.args.id c.in_ok-changes.changes.items c.self.view_is c.in_ok-changes.ensures
     (rw c.deref.ensures.value at c.in_ok-carry_out.ensures.ok) (sym c.is_builtins.ensures ∙ c.if-is_builtins.false))
 
 pub returns-in_ok-carry_out : goal.returns-in_ok-carry_out
 returns-in_ok-carry_out c =
-    removed_all c.self.inside.store.entities c.args.self.now (world_of c.carry_out.new.store.entities) c.args.id c.in_ok-changes.changes.items c.self.view_is
+    let qs = asked_by c.self.inside.queries.items in
+    removed_all c.self.inside.store.entities c.carry_out.new.store.entities qs c.args.self.now c.args.id
+    c.in_ok-changes.changes.items c.self.view_is
     c.in_ok-changes.ensures (rw c.deref.ensures.value at c.in_ok-carry_out.ensures.ok) (sym c.is_builtins.ensures ∙ c.if-is_builtins.false)
 
 pub returns-else-is_had : goal.returns-else-is_had

@@ -8,7 +8,7 @@ use Rattle.eco_ids.specs.Step.{with_name}
 use Rattle.eco_ids.specs.World.{WorldState}
 use Rattle.eco_store.specs.Store.{record_name}
 use Rattle.eco_world.proofs.Steps.{lawful_lifted, lifted, rename_refused}
-use Rattle.eco_store.specs.Worlds.{world_of}
+use Rattle.eco_world.specs.Worlds.{asked_by, world_with}
 use Rattle.eco_world.proofs.world.World.rename.Goals as goal
 
 pub returns-in_err-check_actor : goal.returns-in_err-check_actor
@@ -18,21 +18,23 @@ returns-in_err-check_actor c =
 
 pub invariant_of-self : goal.invariant_of-self
 invariant_of-self c =
+    let qs = asked_by c.self.inside.queries.items in
     let e = c.args.entity in
     let name = option_copied c.args.name in
     let old = c.self.inside.store.entities in
     let new = c.rename.new.self.entities in
     let step = subst (λ (b : Bool). Meets (RenamesWith record_name with_name old e b name) (may_rename record_name old e b name) old c.rename.result new)
     (sym (ap (λ (x : WorldState). is_builtin x e) c.self.view_is ∙ c.in_ok-check_actor.ensures.ok.1)) c.rename.ensures.step in
-    lawful_lifted (λ v. RenamesWith record_name with_name v e (is_builtin (world_of old) e) name) _ old new c.rename.result c.self.invariant
+    lawful_lifted qs (λ v. RenamesWith record_name with_name v e (is_builtin (world_with old qs) e) name) _ old new c.rename.result c.self.invariant
     (c.steps_keep_lawful.ensures.rename e name _ _ _ c.self.invariant) step
 
 pub returns : goal.returns
 returns c =
+    let qs = asked_by c.self.inside.queries.items in
     let e = c.args.entity in
     let name = option_copied c.args.name in
     let old = c.self.inside.store.entities in
     let new = c.rename.new.self.entities in
     let step = subst (λ (b : Bool). Meets (RenamesWith record_name with_name old e b name) (may_rename record_name old e b name) old c.rename.result new)
     (sym (ap (λ (x : WorldState). is_builtin x e) c.self.view_is ∙ c.in_ok-check_actor.ensures.ok.1)) c.rename.ensures.step in
-    rw (← c.self.view_is) (lifted (λ v. RenamesWith record_name with_name v e (is_builtin (world_of old) e) name) _ old new c.rename.result step)
+    rw (← c.self.view_is) (lifted qs (λ v. RenamesWith record_name with_name v e (is_builtin (world_with old qs) e) name) _ old new c.rename.result step)

@@ -2,7 +2,7 @@ use Rattle.std.proofs.Common.{◌≡◌, ◌++◌, ◌∙◌, map, sym, ap, subs
 use Rattle.std.specs.List.{IsDistinct}
 use Rattle.std.specs.Slice.Iter.{iter_rest}
 use Rattle.std.proofs.lemmas.List.Sorted.{IsPermutation-map}
-use Rattle.eco_store.specs.Worlds.{world_of}
+use Rattle.eco_world.specs.Worlds.{asked_by, world_with}
 use Rattle.eco_world.specs.Layouts.{lent, listed, listed_of}
 use Rattle.eco_world.proofs.Lending.{all_lend, lent_rows, with_rows_in_slots}
 use Rattle.eco_world.proofs.Tabled.{all_covered, kinds_differ, none_left, with_rows}
@@ -11,13 +11,14 @@ use Rattle.eco_world.proofs.world.World.tables.Goals as goal
 
 pub returns-clause-layout : goal.returns-clause-layout
 returns-clause-layout c =
+    let qs = asked_by c.self.inside.queries.items in
     let slots = c.tables.result.now in
     let old = c.loop-slot.tables.items in
     let new = c.sort_by_type.new.tables.items in
     let all : listed old ≡ with_rows slots =
     sym (append-nil (listed old)) ∙ ap (λ ss. listed old ++ with_rows ss) (sym (none_left (iter_rest c.loop-slot.slot-iterator) c.in-None.ensures.steps.0))
     ∙ c.loop-slot.invariant.0 ∙ ap with_rows (ap iter_rest c.into_iter-slot-iterator.ensures.into_iter_gives ∙ c.iter-slot-items.ensures) in
-    let w = world_of c.self.inside.store.entities in
+    let w = world_with c.self.inside.store.entities qs in
     rw (← c.self.view_is)
     (layout_of w (listed new)
     (sorted_tables old new c.sort_by_type.ensures.same c.sort_by_type.ensures.ordered
@@ -27,6 +28,7 @@ returns-clause-layout c =
 
 pub returns-clause-values : goal.returns-clause-values
 returns-clause-values c =
+    let qs = asked_by c.self.inside.queries.items in
     let slots = c.tables.result.now in
     let old = c.loop-slot.tables.items in
     let all : map lent old ≡ lent_rows slots =
@@ -34,5 +36,5 @@ returns-clause-values c =
     ∙ ap (λ ss. map lent old ++ lent_rows ss) (sym (none_left (iter_rest c.loop-slot.slot-iterator) c.in-None.ensures.steps.0))
     ∙ c.loop-slot.invariant.1 ∙ ap lent_rows (ap iter_rest c.into_iter-slot-iterator.ensures.into_iter_gives ∙ c.iter-slot-items.ensures) in
     rw (← c.self.view_is)
-    (all_lend (world_of c.self.inside.store.entities) slots c.tables.ensures.shown old c.sort_by_type.new.tables.items c.sort_by_type.ensures.same
+    (all_lend (world_with c.self.inside.store.entities qs) slots c.tables.ensures.shown old c.sort_by_type.new.tables.items c.sort_by_type.ensures.same
     (λ x p. with_rows_in_slots slots x (subst (λ xs. Contains xs x) all p)))

@@ -1,7 +1,7 @@
 use Rattle.std.proofs.Common.{◌≡◌, ◌∙◌, map, sym, ap, subst, All, Contains}
 use Rattle.std.specs.List.{IsDistinct}
 use Rattle.std.proofs.lemmas.List.Sorted.{Contains-permutation, IsPermutation-map, IsPermutation-sym}
-use Rattle.eco_store.specs.Worlds.{world_of}
+use Rattle.eco_world.specs.Worlds.{asked_by, world_with}
 use Rattle.eco_world.specs.Layouts.{HasTable, lent, lent_at, listed, listed_of, shown_at}
 use Rattle.eco_world.proofs.Lending.{all_lend, in_slots}
 use Rattle.eco_world.proofs.Tabled.{all_covered, found_covered, found_differ, found_match, found_some, found_there}
@@ -11,20 +11,22 @@ use Rattle.eco_world.proofs.world.World.tables_by.Goals as goal
 
 pub tables_in-requires : goal.tables_in-requires
 tables_in-requires g c =
+    let qs = asked_by c.self.inside.queries.items in
     let found = c.in_ok-found.found in
     subst (All (HasTable found.tables.now)) (sym c.deref.ensures.value)
-    (found_there (world_of c.self.inside.store.entities) found.tables.now c.in_ok-found.ensures.shown c.in_ok-found.ensures.kinds
+    (found_there (world_with c.self.inside.store.entities qs) found.tables.now c.in_ok-found.ensures.shown c.in_ok-found.ensures.kinds
     (g.T.TypeTest.test c.args.test.now) found.slots.items c.in_ok-found.ensures.listed)
 
 pub returns-clause-all : goal.returns-clause-all
 returns-clause-all g c =
+    let qs = asked_by c.self.inside.queries.items in
     let slots = c.in_ok-found.found.tables.now in
     let ns = c.in_ok-found.found.slots.items in
     let shown = c.in_ok-found.ensures.shown in
     let kinds = c.in_ok-found.ensures.kinds in
     let old = c.in_ok-tables.tables.items in
     let new = c.sort_by_type.new.tables.items in
-    let w = world_of c.self.inside.store.entities in
+    let w = world_with c.self.inside.store.entities qs in
     let passes = g.T.TypeTest.test c.args.test.now in
     let all : listed old ≡ map (shown_at slots) ns = c.in_ok-tables.ensures.all ∙ ap (map (shown_at slots)) c.deref.ensures.value in
     let moved = IsPermutation-map listed_of old new c.sort_by_type.ensures.same in
@@ -40,18 +42,20 @@ returns-clause-all g c =
 
 pub returns-clause-values : goal.returns-clause-values
 returns-clause-values g c =
+    let qs = asked_by c.self.inside.queries.items in
     let slots = c.in_ok-found.found.tables.now in
     let ns = c.in_ok-found.found.slots.items in
     let old = c.in_ok-tables.tables.items in
     let all : map lent old ≡ map (lent_at slots) ns = c.in_ok-tables.ensures.lent ∙ ap (map (lent_at slots)) c.deref.ensures.value in
     rw (← c.self.view_is)
-    (all_lend (world_of c.self.inside.store.entities) slots c.in_ok-found.ensures.shown old c.sort_by_type.new.tables.items c.sort_by_type.ensures.same
+    (all_lend (world_with c.self.inside.store.entities qs) slots c.in_ok-found.ensures.shown old c.sort_by_type.new.tables.items c.sort_by_type.ensures.same
     (λ x p. in_slots slots ns x (subst (λ xs. Contains xs x) all p)))
 
 pub returns-in_err-tables-clause-some : goal.returns-in_err-tables-clause-some
 returns-in_err-tables-clause-some g c =
+    let qs = asked_by c.self.inside.queries.items in
     let found = c.in_ok-found.found in
     rw (← c.self.view_is)
     (err_says c.from_residual-in_err-tables.result
-    (found_some (world_of c.self.inside.store.entities) found.tables.now c.in_ok-found.ensures.shown c.in_ok-found.ensures.kinds
+    (found_some (world_with c.self.inside.store.entities qs) found.tables.now c.in_ok-found.ensures.shown c.in_ok-found.ensures.kinds
     (g.T.TypeTest.test c.args.test.now) found.slots.items c.in_ok-found.ensures.listed (rw c.deref.ensures.value at c.in_err-tables.ensures.some)))

@@ -1,0 +1,6 @@
+use Rattle.std.proofs.Common.{◌≡◌, filter, take}
+use Rattle.eco_archetypes.specs.Archetypes.{has_rows}
+use Rattle.eco_archetypes.proofs.archetypes.Archetypes.with_rows.Given as goal
+
+abbrev pub invariant-loop-slot : goal.invariant-loop-slot
+invariant-loop-slot l = l.found.items ≡ filter (has_rows l.fn.self) (take l.slot-index l.slots)

@@ -1,0 +1,16 @@
+use Rattle.std.proofs.Common.{Some, arith}
+use Rattle.eco_archetypes.proofs.Caching.{got_default, room_after, told_all, told_more}
+use Rattle.eco_archetypes.proofs.caches.Caches.tell.Goals as goal
+
+pub loop-cache-preserved : goal.loop-cache-preserved
+loop-cache-preserved c = (
+  told_more c.loop-cache.cache-items c.loop-cache.cache-index _ c.tell.new.self c.args.self.now.list.items c.args.slot
+      (Some c.args.type_list.now) c.loop-cache.invariant.0
+      (got_default c.loop-cache.cache-items c.loop-cache.cache-index c.cache-item.result (omega arith)) c.tell.ensures,
+  room_after c.loop-cache.cache-items c.loop-cache.cache-index c.cache-item.result c.tell.new.self c.loop-cache.invariant.1,
+)
+
+pub returns : goal.returns
+returns c =
+    told_all c.args.self.now.list.items c.loop-cache.cache-items _ c.args.slot (Some c.args.type_list.now) c.loop-cache.cache-index
+    c.args.self.now.list.len c.loop-cache.invariant.0 (omega arith) (omega arith)

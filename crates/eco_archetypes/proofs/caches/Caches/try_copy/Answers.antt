@@ -1,0 +1,10 @@
+use Rattle.std.proofs.Common.{arith}
+use Rattle.eco_archetypes.proofs.Caching.{copied_more, got_item}
+use Rattle.eco_archetypes.proofs.caches.Caches.try_copy.Goals as goal
+
+pub loop-cache-preserved : goal.loop-cache-preserved
+loop-cache-preserved c =
+    rw c.in_ok-push.ensures.items
+    (copied_more c.args.self.now.list.items c.loop-cache.list.items c.loop-cache.cache-index c.cache-item.result c.in_ok-try_copy.field-0
+    (got_item c.args.self.now.list.items c.loop-cache.cache-index c.cache-item.result (omega arith) (rw c.deref-cache-items.ensures.value at c.cache-item.is))
+    c.in_ok-try_copy.ensures.query c.in_ok-try_copy.ensures.slots c.loop-cache.invariant)

@@ -1,0 +1,78 @@
+//! Queries that are asked again and again keep the slots of the tables whose types fulfil them.
+ghost use Rattle.std.specs.Prelude.{◌≡◌, ◌&&◌, ℕ, cond, true, filter, IfOk, IfSome, IsTrue, OnOk, OnErr, nat_eq};
+ghost use Rattle.std.specs.List.{list_any, IsDistinct};
+ghost use Rattle.eco_archetypes.specs.Archetypes.{type_at, has_rows, ArePassing};
+ghost use Rattle.eco_archetypes.specs.Caching.{fulfils, AreThose};
+
+use crate::archetypes::Archetypes;
+use crate::type_test::TypeTest;
+use eco_query::Query;
+use eco_tables::Tables;
+use indexmap::IndexSet;
+use std::alloc::{AllocError, Global};
+
+impl Archetypes {
+    /// Keeps the slots of the tables whose types fulfil the query, from now on: the answer is the number by which a
+    /// [`TypeTest`] names them. It goes over all tables once. No table changes, whether it succeeds or not.
+    pub fn keep(&mut self, query: Query) -> Result<usize, AllocError>
+        ensures same { self.new ≡ self.old }
+    {
+        let slots = fulfilling(self.alloc, &self.tables, &query)?;
+        self.caches.add(query, slots)
+    }
+
+    // The slots of the tables whose types pass, each once, where a cache has them.
+    pub(super) fn cached<T: TypeTest>(&self, test: &T) -> Option<&[usize]>
+        ensures those { IfSome result (λ s. ArePassing (T.test test.now) self.now s.now) }
+        ensures distinct { IfSome result (λ s. IsDistinct nat_eq s.now) }
+    {
+        let (number, query) = test.cached()?;
+        self.caches.of_query(number, query)
+    }
+
+    // Those of the slots whose tables have rows.
+    pub(super) fn with_rows(&self, slots: &[usize]) -> Result<Vec<usize>, AllocError>
+        ensures all { IfOk result (λ v. v.items ≡ filter (has_rows self.now) slots.now) }
+        ensures some { OnErr result (IsTrue (list_any (has_rows self.now) slots.now)) }
+    {
+        let mut found = Vec::new(self.alloc);
+        for slot in slots {
+            if self.tables.row_count(*slot) > 0 {
+                found.push(*slot)?;
+            }
+        }
+        Ok(found)
+    }
+}
+
+// The slots of the tables whose types fulfil the query.
+fn fulfilling(alloc: Global, tables: &Tables, query: &Query) -> Result<IndexSet<usize>, AllocError>
+    ensures { IfOk result (λ s. AreThose (type_at tables.now) query.now s.keys) }
+{
+    let mut slots = IndexSet::new(alloc);
+    for slot in 0..tables.slot_count() {
+        note(&mut slots, slot, is_fulfilled(tables, slot, query))?;
+    }
+    Ok(slots)
+}
+
+// Whether there is a table in the slot whose type fulfils the query.
+fn is_fulfilled(tables: &Tables, slot: usize, query: &Query) -> bool
+    ensures { result ≡ fulfils (type_at tables.now slot) query.now }
+{
+    match tables.get(slot) {
+        Some(table) => query.matches_type(table.type_list()),
+        None => false,
+    }
+}
+
+// Puts the slot to the others, if it is to stand there.
+fn note(slots: &mut IndexSet<usize>, slot: usize, stands: bool) -> Result<(), AllocError>
+    ensures { OnOk result ((n : ℕ) → list_any (nat_eq n) slots.new.keys
+        ≡ cond (nat_eq slot n && stands) true (list_any (nat_eq n) slots.old.keys)) }
+{
+    if stands {
+        slots.insert(slot)?;
+    }
+    Ok(())
+}

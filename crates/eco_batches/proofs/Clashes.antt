@@ -1,0 +1,195 @@
+-- Two outlines clash exactly where their systems conflict.
+use Rattle.std.proofs.Common.{◌≡◌, ℕ, zero, suc, ◌==◌, Bool, false, ◌&&◌, not, ◌||◌, ◌↔◌, ◌⊎◌, inl, inr, List, [], ◌∷◌, ◌++◌, map, length, refl, sym, ap, ◌∙◌}
+use Rattle.std.proofs.Common.{subst}
+use Rattle.std.proofs.Common.{true≢false, IsTrue, Option, Some, None, IfOk, Result, Ok, Err, slice_get, arith, eqb-true}
+use Rattle.std.proofs.lemmas.Option.{same_Some, none-some}
+use Rattle.std.specs.List.{AllZip, list_any}
+use Rattle.eco_ids.specs.declared.edition.Edition.{Edition}
+use Rattle.eco_ids.specs.declared.edition.Edition.TheVariants.{First}
+use Rattle.eco_ids.specs.declared.entity.Entity.{Entity}
+use Rattle.eco_ids.specs.declared.entity.TheConstants.{CHILD_OF}
+use Rattle.eco_ids.specs.declared.pattern.Part.{Part}
+use Rattle.eco_ids.specs.declared.pattern.Part.TheVariants.{Is, Each, Any}
+use Rattle.eco_ids.specs.declared.pattern.Pattern.{Pattern}
+use Rattle.eco_ids.specs.declared.pattern.Pattern.TheVariants.{One, Two}
+use Rattle.eco_ids.specs.Builtin.{is_among_first}
+use Rattle.eco_ids.specs.Edition.{builtin_count}
+use Rattle.eco_ids.specs.Least.{root, next}
+use Rattle.eco_ids.specs.Matching.{pattern_overlaps}
+use Rattle.eco_ids.specs.Order.{entity_eq}
+use Rattle.eco_ids.specs.World.{WorldState}
+use Rattle.eco_ids.proofs.Facts.{or_left, or_parts, or_right}
+use Rattle.eco_systems.specs.Batches.{Conflict, Disturbs, AreBatches}
+use Rattle.eco_systems.specs.Joining.{batched}
+use Rattle.eco_systems.specs.Phases.{in_order, order_of}
+use Rattle.eco_systems.specs.Systems.{SystemModel}
+use Rattle.eco_systems.specs.Writes as writes
+use Rattle.eco_systems.specs.Writes.{SomeOf, InClosedPatterns, IsTraitWriter}
+use Rattle.eco_systems.proofs.JoinedOneByOne.{batched_are_all, batched_are_batches}
+use Rattle.eco_systems.proofs.Lists.{either, map_append}
+use Rattle.eco_systems.proofs.Orders.{order_is_of_positions}
+use Rattle.eco_batches.specs.Outlines.{ArePlacedBatches, IsOutline, clash_of, clash_at, disturbs, is_trait, is_trait_part, late_at, no_system, system_in}
+use Rattle.eco_batches.specs.Outlines.{system_of, system_at, systems_of, traits_in, writes_trait}
+use Rattle.eco_batches.specs.declared.declaration.Declared.{Declared}
+use Rattle.eco_batches.specs.declared.outline.Outline.{Outline}
+
+-- ---- an outline for each system
+
+module _ (w : WorldState) where
+  abbrev Outlined : Option Declared → Option Outline → Type 0
+  Outlined None None = Unit {0}
+  Outlined None (Some o) = ⊥
+  Outlined (Some d) None = ⊥
+  Outlined (Some d) (Some o) = IsOutline w d o
+
+  outlined_at : (ds : List Declared) (os : List Outline) → AllZip (IsOutline w) ds os → (k : ℕ) → Outlined (slice_get ds k) (slice_get os k)
+  outlined_at [] [] h k = tt
+  outlined_at [] (o ∷ os) h k = absurd h
+  outlined_at (d ∷ ds) [] h k = absurd h
+  outlined_at (d ∷ ds) (o ∷ os) h zero = h.0
+  outlined_at (d ∷ ds) (o ∷ os) h (suc k) = outlined_at ds os h.1 k
+
+  -- the built-ins are the same in each edition
+  same_entity : (e : Entity) → is_trait e ≡ writes.is_trait w e
+  same_entity e = by w.edition
+    where
+      by : (edition : Edition) → is_trait e ≡ (is_among_first (builtin_count edition) e && not (entity_eq e CHILD_OF))
+      by First = refl
+
+  same_part : (p : Part) → is_trait_part p ≡ writes.is_trait_part w p
+  same_part (Is e) = same_entity e
+  same_part Each = refl
+  same_part Any = refl
+
+  same_trait : (p : Pattern) → writes_trait p ≡ writes.writes_trait w p
+  same_trait (One e) = same_entity e
+  same_trait (Two Each q) = refl
+  same_trait (Two Any q) = refl
+  same_trait (Two (Is r) q) = λ i. same_entity r i || same_part q i
+
+  nothing_closed : {p : Pattern} → InClosedPatterns w [] p → ⊥
+  nothing_closed (root h) = h
+  nothing_closed (next c b) = nothing_closed c
+
+  traits_exact : (d : Option Declared) (o : Option Outline) → Outlined d o → IsTrue (traits_in o) ↔ IsTraitWriter w (system_in d)
+  traits_exact None None h = (λ t. absurd (true≢false (sym t)), λ x. absurd (nothing_closed (x.1).1))
+  traits_exact None (Some o) h = absurd h
+  traits_exact (Some d) None h = absurd h
+  traits_exact (Some d) (Some o) h = (
+    λ t. let p = (h.closed writes_trait).0 (sym h.traits ∙ t) in (p.0, p.1, sym (same_trait p.0) ∙ p.2),
+    λ x. h.traits ∙ (h.closed writes_trait).1 (x.0, x.1, same_trait x.0 ∙ x.2),
+  )
+
+  module _ (ds : List Declared) (os : List Outline) (all : AllZip (IsOutline w) ds os) where
+    some_exact : (ks : List ℕ) → IsTrue (list_any (λ k. traits_in (slice_get os k)) ks) ↔ SomeOf (IsTraitWriter w) (map (system_at ds) ks)
+    some_exact [] = (λ t. absurd (true≢false (sym t)), λ x. absurd x)
+    some_exact (k ∷ ks) = either (traits_in (slice_get os k)) (list_any (λ k. traits_in (slice_get os k)) ks)
+        (traits_exact (slice_get ds k) (slice_get os k) (outlined_at ds os all k)) (some_exact ks)
+
+  no_disturbance : (t : SystemModel) → Disturbs w no_system t → ⊥
+  no_disturbance t x = nothing_closed (x.1).1
+
+  not_disturbed : (s : SystemModel) → Disturbs w s no_system → ⊥
+  not_disturbed s x = true≢false (sym x.2)
+
+  disturbs_exact : (d t : Declared) (o : Outline) → IsOutline w d o → IsTrue (disturbs o.closed.items t.reads.items) ↔ Disturbs w (system_of d) (system_of t)
+  disturbs_exact d t o h = h.closed (λ p. list_any (pattern_overlaps p) t.reads.items)
+
+  kills_exact : (d : Declared) (o : Outline) → IsOutline w d o → IsTrue o.kills ↔ IsTrue d.kills
+  kills_exact d o h = (λ k. sym h.kills ∙ k, λ k. h.kills ∙ k)
+
+  module _ (late : Bool) (until : List SystemModel) (is_late : IsTrue late ↔ SomeOf (IsTraitWriter w) until) where
+    pair_exact : (s t : Option Declared) (o : Option Outline) → Outlined s o → IsTrue (clash_of o t late) ↔ Conflict w until (system_in s) (system_in t)
+    pair_exact None None None h = (
+      λ k. inr (inr (inl (is_late.0 k))),
+      λ x. late_only x,
+    )
+      where
+        late_only : Conflict w until no_system no_system → IsTrue late
+        late_only (inl k) = absurd (true≢false (sym k))
+        late_only (inr (inl k)) = absurd (true≢false (sym k))
+        late_only (inr (inr (inl x))) = is_late.1 x
+        late_only (inr (inr (inr x))) = absurd (no_disturbance no_system x)
+    pair_exact None (Some t) None h = (λ k. there (or_parts t.kills late k), λ x. here x)
+      where
+        there : IsTrue t.kills ⊎ IsTrue late → Conflict w until no_system (system_of t)
+        there (inl k) = inr (inl k)
+        there (inr k) = inr (inr (inl (is_late.0 k)))
+
+        here : Conflict w until no_system (system_of t) → IsTrue (t.kills || late)
+        here (inl k) = absurd (true≢false (sym k))
+        here (inr (inl k)) = or_left t.kills late k
+        here (inr (inr (inl x))) = or_right t.kills late (is_late.1 x)
+        here (inr (inr (inr x))) = absurd (no_disturbance (system_of t) x)
+    pair_exact None t (Some o) h = absurd h
+    pair_exact (Some s) t None h = absurd h
+    pair_exact (Some s) None (Some o) h = (λ k. there (or_parts o.kills late k), λ x. here x)
+      where
+        there : IsTrue o.kills ⊎ IsTrue late → Conflict w until (system_of s) no_system
+        there (inl k) = inl ((kills_exact s o h).0 k)
+        there (inr k) = inr (inr (inl (is_late.0 k)))
+
+        here : Conflict w until (system_of s) no_system → IsTrue (o.kills || late)
+        here (inl k) = or_left o.kills late ((kills_exact s o h).1 k)
+        here (inr (inl k)) = absurd (true≢false (sym k))
+        here (inr (inr (inl x))) = or_right o.kills late (is_late.1 x)
+        here (inr (inr (inr x))) = absurd (not_disturbed (system_of s) x)
+    pair_exact (Some s) (Some t) (Some o) h =
+        either o.kills (t.kills || (late || disturbs o.closed.items t.reads.items)) (kills_exact s o h)
+        (either t.kills (late || disturbs o.closed.items t.reads.items) (λ k. k, λ k. k)
+        (either late (disturbs o.closed.items t.reads.items) is_late (disturbs_exact s t o h)))
+
+  -- the systems of positions, and one more
+  at_end : (ds : List Declared) (before : List ℕ) (t : ℕ) → map (system_at ds) (before ++ t ∷ []) ≡ map (system_at ds) before ++ system_at ds t ∷ []
+  at_end ds before t = map_append (system_at ds) before (t ∷ [])
+
+  pub clash_exact : (ds : List Declared) (os : List Outline) → AllZip (IsOutline w) ds os → (before : List ℕ) (s t : ℕ) →
+      IsTrue (clash_at os ds before s t) ↔ Conflict w (map (system_at ds) before ++ system_at ds t ∷ []) (system_at ds s) (system_at ds t)
+  clash_exact ds os all before s t =
+      pair_exact (late_at os before t) (map (system_at ds) before ++ system_at ds t ∷ [])
+      (subst (λ until. IsTrue (late_at os before t) ↔ SomeOf (IsTraitWriter w) until) (at_end ds before t) (some_exact ds os all (before ++ t ∷ [])))
+      (slice_get ds s) (slice_get ds t) (slice_get os s) (outlined_at ds os all s)
+
+-- ---- the systems in their order
+
+-- the system at a position of declaration is the one that is declared there
+declared_there : (ds : List Declared) (k : ℕ) (s : SystemModel) → slice_get (systems_of ds) k ≡ Some s → system_at ds k ≡ s
+declared_there [] k s h = absurd (none-some s h)
+declared_there (d ∷ ds) zero s h = same_Some (system_of d) s h
+declared_there (d ∷ ds) (suc k) s h = declared_there ds k s h
+
+map_itself : {A : Type 0} (xs : List A) → map (λ x. x) xs ≡ xs
+map_itself [] = refl
+map_itself (x ∷ xs) = ap (λ ys. x ∷ ys) (map_itself xs)
+
+at_order : (ds : List Declared) → map (system_at ds) (order_of (systems_of ds)) ≡ in_order (systems_of ds)
+at_order ds = order_is_of_positions (system_at ds) (λ s. s) (systems_of ds) (declared_there ds) ∙ map_itself (in_order (systems_of ds))
+
+-- a list is empty where its length is 0
+pub is_none : (order : List ℕ) (b : Bool) → b ≡ (length order == 0) → IsTrue b → order ≡ []
+is_none [] b is h = refl
+is_none (x ∷ xs) b is h = let e : suc (length xs) ≡ 0 = eqb-true (suc (length xs)) 0 (sym is ∙ h) in absurd (omega (arith, e))
+
+pub not_none : (order : List ℕ) (b : Bool) → b ≡ (length order == 0) → b ≡ false → order ≡ [] → ⊥
+not_none [] b is h e = true≢false (sym is ∙ h)
+not_none (x ∷ xs) b is h e = let z : suc (length xs) ≡ 0 = ap length e in absurd (omega (arith, z))
+
+pub none_placed : (w : WorldState) (ds : List Declared) → order_of (systems_of ds) ≡ [] → ArePlacedBatches w ds []
+none_placed w ds none = (sym none, sym (at_order ds) ∙ ap (map (system_at ds)) none)
+
+placed : (w : WorldState) (ds : List Declared) (os : List Outline) (order : List ℕ) → (order ≡ [] → ⊥) → order ≡ order_of (systems_of ds) →
+    AllZip (IsOutline w) ds os → ArePlacedBatches w ds (batched (clash_at os ds) [] [] order)
+placed w ds os [] some is all = absurd (some refl)
+placed w ds os (first ∷ rest) some is all = (
+  batched_are_all w (system_at ds) (clash_at os ds) (clash_exact w ds os all) first rest ∙ is,
+  subst (λ ss. AreBatches w ss (map (map (system_at ds)) (batched (clash_at os ds) [] [] (first ∷ rest)))) (ap (map (system_at ds)) is ∙ at_order ds)
+      (batched_are_batches w (system_at ds) (clash_at os ds) (clash_exact w ds os all) first rest),
+)
+
+-- the lists of positions are batches
+pub joined_are_batches : {V W E : Type 0} (w : WorldState) (ds : List Declared) (os shown : List Outline) (order : List ℕ) → (order ≡ [] → ⊥) →
+    order ≡ order_of (systems_of ds) → AllZip (IsOutline w) ds os → shown ≡ os → (content : W → List V) (items : V → List ℕ) (r : Result W E) →
+    IfOk r (λ b. map items (content b) ≡ batched (clash_at shown ds) [] [] order) → IfOk r (λ b. ArePlacedBatches w ds (map items (content b)))
+joined_are_batches w ds os shown order some is all same content items (Err e) h = h
+joined_are_batches w ds os shown order some is all same content items (Ok b) h =
+    subst (ArePlacedBatches w ds) (ap (λ os. batched (clash_at os ds) [] [] order) (sym same) ∙ sym h) (placed w ds os order some is all)

@@ -1,0 +1,3 @@
+mod Clashes
+mod Joins
+mod Orders

@@ -1,0 +1,17 @@
+-- The loop that lists positions phase by phase.
+use Rattle.std.proofs.Common.{◌≡◌, ℕ, ◌+◌, ◌<◌, List, ◌++◌, length, sym, ap, ◌∙◌, get_or, take}
+use Rattle.std.specs.Prelude.{flat_map}
+use Rattle.std.proofs.lemmas.List.{flat_map_more, take_more}
+use Rattle.eco_systems.specs.Phases.{positions_from}
+use Rattle.eco_systems.specs.Systems.{SystemModel}
+use Rattle.eco_systems.specs.declared.phase.Phase.{Phase}
+
+-- the positions of one phase more
+pub phase_more : (systems : List SystemModel) (phases : List Phase) (k : ℕ) (d : Phase) (start old new : List ℕ) → k < length phases →
+    old ≡ start ++ flat_map (λ phase. positions_from phase 0 systems) (take k phases) → new ≡ old ++ positions_from (get_or phases k d) 0 systems →
+    new ≡ start ++ flat_map (λ phase. positions_from phase 0 systems) (take (k + 1) phases)
+phase_more systems phases k d start old new below before more =
+    more
+    ∙ ap (λ xs. xs ++ positions_from (get_or phases k d) 0 systems) before
+    ∙ flat_map_more (λ phase. positions_from phase 0 systems) start (take k phases) (get_or phases k d)
+    ∙ ap (λ xs. start ++ flat_map (λ phase. positions_from phase 0 systems) xs) (sym (take_more phases k d below))

@@ -1,0 +1,9 @@
+use Rattle.std.proofs.Common.{◌≡◌, ◌++◌, take}
+use Rattle.std.specs.Prelude.{flat_map}
+use Rattle.eco_systems.specs.Phases.{positions_from}
+use Rattle.eco_batches.specs.Outlines.{systems_of}
+use Rattle.eco_batches.proofs.order.add_phases.Given as goal
+
+abbrev pub invariant-loop-phase : goal.invariant-loop-phase
+invariant-loop-phase l = l.order.items ≡ l.initial.order.items ++ flat_map (λ phase. positions_from phase 0 (systems_of l.systems))
+    (take l.phase-index l.phases)

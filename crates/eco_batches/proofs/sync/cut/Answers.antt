@@ -1,0 +1,16 @@
+use Rattle.std.proofs.Common.{map, sym, ◌∙◌, subst}
+use Rattle.eco_batches.specs.Outlines.{ArePlacedBatches}
+use Rattle.eco_batches.proofs.Clashes.{is_none, joined_are_batches, none_placed, not_none}
+use Rattle.eco_batches.proofs.sync.cut.Goals as goal
+
+pub returns-then-is_empty : goal.returns-then-is_empty
+returns-then-is_empty g c =
+    subst (λ bs. ArePlacedBatches (g.H.Holdings.world c.args.holdings.now) c.args.systems.now (map (λ b. b.items) bs)) (sym c.new.ensures.items)
+    (none_placed (g.H.Holdings.world c.args.holdings.now) c.args.systems.now
+    (sym c.requires ∙ is_none c.args.order.now c.is_empty.result c.is_empty.ensures c.if-is_empty.true))
+
+pub returns : goal.returns
+returns g c =
+    joined_are_batches (g.H.Holdings.world c.args.holdings.now) c.args.systems.now c.in_ok-worked_out.worked_out.items c.deref.result.now c.args.order.now
+    (not_none c.args.order.now c.is_empty.result c.is_empty.ensures c.if-is_empty.false)
+    c.requires c.in_ok-worked_out.ensures c.deref.ensures.value (λ v. v.items) (λ b. b.items) c.join.result c.join.ensures

@@ -1,0 +1,102 @@
+-- What is worked out of each system once, and when two clash.
+use Rattle.std.specs.Prelude.{◌≡◌, ℕ, Bool, false, true, not, ◌&&◌, ◌||◌, List, [], ◌∷◌, ◌++◌, map, slice_get, Option, Some, None}
+use Rattle.std.specs.List.{list_any}
+use Rattle.eco_ids.specs.declared.entity.Entity.{Entity}
+use Rattle.eco_ids.specs.declared.entity.TheConstants.{BUILTIN_COUNT, CHILD_OF}
+use Rattle.eco_ids.specs.declared.pattern.Part.{Part}
+use Rattle.eco_ids.specs.declared.pattern.Part.TheVariants.{Is, Each, Any}
+use Rattle.eco_ids.specs.declared.pattern.Pattern.{Pattern}
+use Rattle.eco_ids.specs.declared.pattern.Pattern.TheVariants.{One, Two}
+use Rattle.eco_ids.specs.Builtin.{is_among_first}
+use Rattle.eco_ids.specs.Matching.{pattern_overlaps}
+use Rattle.eco_ids.specs.Order.{entity_eq}
+use Rattle.eco_ids.specs.World as world
+use Rattle.eco_systems.specs.Batches.{joined, AreBatches}
+use Rattle.eco_systems.specs.Closing.{ListsClosed}
+use Rattle.eco_systems.specs.Phases.{in_order, order_of}
+use Rattle.eco_systems.specs.Systems.{SystemModel}
+use Rattle.eco_systems.specs.declared.phase.Phase.TheVariants.{OnLoad}
+use Rattle.eco_batches.specs.declared.declaration.Declared.{Declared}
+use Rattle.eco_batches.specs.declared.outline.Outline.{Outline}
+
+abbrev pub WorldState : Type 0
+WorldState = world.WorldState
+
+-- the system that declares this; which of its reads are its query's, and what it records, doesn't matter here
+abbrev pub system_of : Declared → SystemModel
+system_of d = record {
+  phase = d.phase;
+  slots = [];
+  body_reads = d.reads.items;
+  writes = d.writes.items;
+  kills = d.kills;
+  takes = λ row draws. false;
+  records = λ row draws. [];
+}
+
+-- one that reads, writes and records nothing
+abbrev pub no_system : SystemModel
+no_system = record { phase = OnLoad; slots = []; body_reads = []; writes = []; kills = false; takes = λ row draws. false; records = λ row draws. [] }
+
+abbrev pub system_in : Option Declared → SystemModel
+system_in None = no_system
+system_in (Some d) = system_of d
+
+-- the system at a position of declaration
+abbrev pub system_at : List Declared → ℕ → SystemModel
+system_at ds k = system_in (slice_get ds k)
+
+-- all of them
+abbrev pub systems_of : List Declared → List SystemModel
+systems_of ds = map system_of ds
+
+-- a built-in other than ChildOf
+abbrev pub is_trait : Entity → Bool
+is_trait e = is_among_first BUILTIN_COUNT e && not (entity_eq e CHILD_OF)
+
+abbrev pub is_trait_part : Part → Bool
+is_trait_part (Is e) = is_trait e
+is_trait_part Each = false
+is_trait_part Any = false
+
+-- a trait is in the pattern, or the pattern is one of pairs of any relationship
+abbrev pub writes_trait : Pattern → Bool
+writes_trait (One e) = is_trait e
+writes_trait (Two Each q) = true
+writes_trait (Two Any q) = true
+writes_trait (Two (Is r) q) = is_trait r || is_trait_part q
+
+-- an outline is that of a system
+pub record IsOutline (w : WorldState) (d : Declared) (o : Outline) : Type 0 where
+  pub kills : o.kills ≡ d.kills
+  pub closed : ListsClosed w d.writes.items o.closed.items
+  pub traits : o.writes_traits ≡ list_any writes_trait o.closed.items
+
+-- a closed write overlaps a read
+abbrev pub disturbs : List Pattern → List Pattern → Bool
+disturbs closed reads = list_any (λ p. list_any (pattern_overlaps p) reads) closed
+
+-- two systems clash; `late` says that the later one or one before it writes traits
+abbrev pub clash_of : Option Outline → Option Declared → Bool → Bool
+clash_of None None late = late
+clash_of (Some o) None late = o.kills || late
+clash_of None (Some d) late = d.kills || late
+clash_of (Some o) (Some d) late = o.kills || (d.kills || (late || disturbs o.closed.items d.reads.items))
+
+-- the system writes traits
+abbrev pub traits_in : Option Outline → Bool
+traits_in None = false
+traits_in (Some o) = o.writes_traits
+
+-- the system at t writes traits, or one of those before it
+abbrev pub late_at : List Outline → List ℕ → ℕ → Bool
+late_at os before t = list_any (λ k. traits_in (slice_get os k)) (before ++ t ∷ [])
+
+-- the systems at s and t clash, where these come before t
+abbrev pub clash_at : List Outline → List Declared → List ℕ → ℕ → ℕ → Bool
+clash_at os ds before s t = clash_of (slice_get os s) (slice_get ds t) (late_at os before t)
+
+-- the lists hold all positions of declaration in the order in which the systems run, and the systems there are the batches
+abbrev pub ArePlacedBatches : WorldState → List Declared → List (List ℕ) → Type 0
+ArePlacedBatches w ds places =
+    (joined places ≡ order_of (systems_of ds)) × AreBatches w (in_order (systems_of ds)) (map (map (system_at ds)) places)

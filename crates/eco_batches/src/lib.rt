@@ -1,0 +1,12 @@
+//! Sync points: which systems of a frame are recorded on one world (Flecs manual, Systems, "Sync points").
+#![tactic(auto)]
+
+mod closed;
+mod declaration;
+mod order;
+mod outline;
+mod sync;
+
+pub use closed::closed_writes;
+pub use declaration::Declared;
+pub use sync::sync_points;

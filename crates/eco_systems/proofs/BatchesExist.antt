@@ -1,0 +1,105 @@
+-- A lawful world has batches: its closed writes can be listed, so that what conflicts is decided.
+use Rattle.std.proofs.Common.{◌≡◌, Bool, ◌||◌, ◌↔◌, ◌⊎◌, inl, inr, List, [], ◌∷◌, ◌++◌, map, refl, sym, ap, subst, true≢false, IsTrue, Option, Some, None}
+use Rattle.std.specs.List.{list_any}
+use Rattle.eco_ids.specs.declared.entity.Entity.{Entity}
+use Rattle.eco_ids.specs.declared.entity.TheConstants.{WITH}
+use Rattle.eco_ids.specs.declared.id.Id.TheVariants as id
+use Rattle.eco_ids.specs.declared.pattern.Pattern.{Pattern}
+use Rattle.eco_ids.specs.Lawful.{IsLawful}
+use Rattle.eco_ids.specs.Least.{root, next}
+use Rattle.eco_ids.specs.Matching.{pattern_overlaps}
+use Rattle.eco_ids.specs.Order.{entity_cmp, has_item}
+use Rattle.eco_ids.specs.Traits.{Reaches}
+use Rattle.eco_ids.specs.World.{WorldState, has, is_alive}
+use Rattle.eco_ids.proofs.Ascending.{second}
+use Rattle.eco_ids.proofs.Facts.{same_or_apart}
+use Rattle.eco_ids.proofs.IdOrder.{entity_cmp_total, same_entity}
+use Rattle.eco_ids.proofs.Listable.{In, decide_bool, listed, sorted}
+use Rattle.eco_ids.proofs.LivingLists.{living_in, the_living}
+use Rattle.eco_systems.specs.Batches.{AreBatches, Conflict}
+use Rattle.eco_systems.specs.Closing.{Among, ClosedPasses, ListsClosed, head_of, with_head}
+use Rattle.eco_systems.specs.Joining.{batched}
+use Rattle.eco_systems.specs.Systems.{SystemModel, system_reads}
+use Rattle.eco_systems.specs.Writes.{IsTraitWriter, SomeOf, widened, writes_trait}
+use Rattle.eco_systems.proofs.ClosedLists.{among_reached, among_wild, lists_none, passes_left, passes_parts, passes_right}
+use Rattle.eco_systems.proofs.JoinedOneByOne.{batched_are_batches}
+use Rattle.eco_systems.proofs.Lists.{either}
+
+pub map_itself : {A : Type 0} (xs : List A) → map (λ x. x) xs ≡ xs
+map_itself [] = refl
+map_itself (x ∷ xs) = ap (λ ys. x ∷ ys) (map_itself xs)
+
+module _ (w : WorldState) (l : IsLawful w) where
+  -- With leads to the living, but for where it begins
+  inside : (h : Entity) {x : Entity} → Reaches w WITH h x → In x (h ∷ the_living w)
+  inside h (root e) = inl (sym e)
+  inside h (next {a = a} {b = b} walk edge) = inr (living_in w b (second (is_alive w WITH) _ (l.orderly.living a (id.Two WITH b) edge)))
+
+  -- all that With leads to from an entity
+  heads : (h : Entity) → (xs : List Entity) × ((x : Entity) → IsTrue (has_item entity_cmp xs x) ↔ Reaches w WITH h x)
+  heads h =
+      let all = listed (λ c. c ≡ h) (λ c d. IsTrue (has w c (id.Two WITH d))) (λ c. same_or_apart c h) (λ c d. decide_bool (has w c (id.Two WITH d)))
+      (h ∷ the_living w) (λ x m. inside h m) in
+      let up = sorted entity_cmp_total same_entity all.0 in
+      (up.0, λ x. (λ m. (all.1 x).0 ((up.2 x).0 m), λ m. (up.2 x).1 ((all.1 x).1 m)))
+
+  closed_more : (p : Pattern) (old : List Pattern) → (new : List Pattern) × Among w p old new
+  closed_more p old = by (head_of p) refl
+    where
+      by : (o : Option Entity) → head_of p ≡ o → (new : List Pattern) × Among w p old new
+      by None at = (old ++ p ∷ [], among_wild w p at old (old ++ p ∷ []) refl)
+      by (Some h) at =
+          let xs = heads h in
+          let new : List Pattern = old ++ map (λ x. widened w (with_head p x)) xs.0 in
+          (new, among_reached w p h at xs.0 xs.1 old new refl)
+
+  closed_list : (writes : List Pattern) → (closed : List Pattern) × ListsClosed w writes closed
+  closed_list [] = ([], lists_none w)
+  closed_list (p ∷ writes) =
+      let rest = closed_list writes in
+      let more = closed_more p rest.0 in (
+        more.0,
+        λ test.
+            (λ t. there rest.0 rest.1 test ((more.1 test).0 t), λ c. (more.1 test).1 (here rest.0 rest.1 test (passes_parts w (p ∷ []) writes test c))),
+      )
+    where
+      there : (old : List Pattern) → ListsClosed w writes old → (test : Pattern → Bool) → IsTrue (list_any test old) ⊎ ClosedPasses w (p ∷ []) test →
+          ClosedPasses w (p ∷ writes) test
+      there old is test (inl o) = passes_right w (p ∷ []) writes test ((is test).0 o)
+      there old is test (inr c) = passes_left w (p ∷ []) writes test c
+
+      here : (old : List Pattern) → ListsClosed w writes old → (test : Pattern → Bool) → ClosedPasses w (p ∷ []) test ⊎ ClosedPasses w writes test →
+          IsTrue (list_any test old) ⊎ ClosedPasses w (p ∷ []) test
+      here old is test (inl c) = inr c
+      here old is test (inr c) = inl ((is test).1 c)
+
+  -- ---- what conflicts, as a test
+
+  abbrev writes_some : SystemModel → Bool
+  writes_some s = list_any (writes_trait w) (closed_list s.writes).0
+
+  abbrev disturbs : SystemModel → SystemModel → Bool
+  disturbs s t = list_any (λ p. list_any (pattern_overlaps p) (system_reads t)) (closed_list s.writes).0
+
+  abbrev clash : List SystemModel → SystemModel → SystemModel → Bool
+  clash before s t = s.kills || (t.kills || (list_any writes_some (before ++ t ∷ []) || disturbs s t))
+
+  some_writes : (ss : List SystemModel) → IsTrue (list_any writes_some ss) ↔ SomeOf (IsTraitWriter w) ss
+  some_writes [] = (λ t. absurd (true≢false (sym t)), λ x. absurd x)
+  some_writes (s ∷ ss) = either (writes_some s) (list_any writes_some ss) ((closed_list s.writes).1 (writes_trait w)) (some_writes ss)
+
+  clash_exact : (before : List SystemModel) (s t : SystemModel) → IsTrue (clash before s t) ↔ Conflict w (map (λ x. x) before ++ t ∷ []) s t
+  clash_exact before s t =
+      subst (λ xs. IsTrue (clash before s t) ↔ Conflict w (xs ++ t ∷ []) s t) (sym (map_itself before))
+      (either s.kills (t.kills || (list_any writes_some (before ++ t ∷ []) || disturbs s t)) (λ k. k, λ k. k)
+      (either t.kills (list_any writes_some (before ++ t ∷ []) || disturbs s t) (λ k. k, λ k. k)
+      (either (list_any writes_some (before ++ t ∷ [])) (disturbs s t) (some_writes (before ++ t ∷ []))
+      ((closed_list s.writes).1 (λ p. list_any (pattern_overlaps p) (system_reads t))))))
+
+  pub batches_of : (systems : List SystemModel) → (batches : List (List SystemModel)) × AreBatches w systems batches
+  batches_of [] = ([], refl)
+  batches_of (s ∷ systems) = (
+    map (map (λ x. x)) (batched clash [] [] (s ∷ systems)),
+    subst (λ xs. AreBatches w xs (map (map (λ x. x)) (batched clash [] [] (s ∷ systems)))) (map_itself (s ∷ systems))
+        (batched_are_batches w (λ x. x) clash clash_exact s systems),
+  )

@@ -1,0 +1,246 @@
+-- Closed writes, pattern by pattern.
+use Rattle.std.proofs.Common.{◌≡◌, ℕ, ◌+◌, ◌<◌, Bool, false, ◌||◌, ◌↔◌, ◌⊎◌, inl, inr, List, [], ◌∷◌, ◌++◌, map, take, get_or, length, refl, sym, ap}
+use Rattle.std.proofs.Common.{◌∙◌, subst, true≢false, IsTrue, Some, None}
+use Rattle.std.specs.List.{list_any}
+use Rattle.std.proofs.lemmas.List.{take_more}
+use Rattle.std.proofs.lemmas.Option.{same_Some, none-some}
+use Rattle.std.proofs.lemmas.List.Folds.{list_any-append}
+use Rattle.eco_ids.specs.declared.entity.Entity.{Entity}
+use Rattle.eco_ids.specs.declared.entity.TheConstants.{WITH}
+use Rattle.eco_ids.specs.declared.id.Id.TheVariants as id
+use Rattle.eco_ids.specs.declared.pattern.Part.TheVariants.{Is, Each, Any}
+use Rattle.eco_ids.specs.declared.pattern.Pattern.{Pattern}
+use Rattle.eco_ids.specs.declared.pattern.Pattern.TheVariants.{One, Two}
+use Rattle.eco_ids.specs.Least.{root, next}
+use Rattle.eco_ids.specs.Order.{entity_cmp, entity_eq, has_item}
+use Rattle.eco_ids.specs.Traits.{Reaches}
+use Rattle.eco_ids.specs.World.{WorldState, has}
+use Rattle.eco_ids.proofs.Facts.{or_left, or_parts, or_right}
+use Rattle.eco_ids.proofs.Overlaps.{entity_eq_is, entity_eq_itself}
+use Rattle.eco_systems.specs.Closing.{head_of, with_head, ClosedPasses, ListsClosed, Among}
+use Rattle.eco_systems.specs.Writes.{SomeOf, BringsPattern, InClosedPatterns, widened}
+
+-- ---- the closed patterns of some are those of each
+
+module _ (w : WorldState) where
+  from_more : (xs ys : List Pattern) {p : Pattern} → InClosedPatterns w (xs ++ ys) p → InClosedPatterns w xs p ⊎ InClosedPatterns w ys p
+  from_more xs ys {p = p} (root h) = parts xs h
+    where
+      parts : (xs : List Pattern) → SomeOf (λ q. q ≡ p) (xs ++ ys) → InClosedPatterns w xs p ⊎ InClosedPatterns w ys p
+      parts [] h = inr (root h)
+      parts (x ∷ xs) (inl e) = inl (root (inl e))
+      parts (x ∷ xs) (inr h) = more (parts xs h)
+        where
+          more : InClosedPatterns w xs p ⊎ InClosedPatterns w ys p → InClosedPatterns w (x ∷ xs) p ⊎ InClosedPatterns w ys p
+          more (inl c) = inl (wider c)
+            where
+              wider : {q : Pattern} → InClosedPatterns w xs q → InClosedPatterns w (x ∷ xs) q
+              wider (root r) = root (inr r)
+              wider (next c b) = next (wider c) b
+          more (inr c) = inr c
+  from_more xs ys (next c b) = on (from_more xs ys c) b
+    where
+      on : {p q : Pattern} → InClosedPatterns w xs p ⊎ InClosedPatterns w ys p → BringsPattern w p q → InClosedPatterns w xs q ⊎ InClosedPatterns w ys q
+      on (inl c) b = inl (next c b)
+      on (inr c) b = inr (next c b)
+
+  some_left : (xs ys : List Pattern) (p : Pattern) → SomeOf (λ q. q ≡ p) xs → SomeOf (λ q. q ≡ p) (xs ++ ys)
+  some_left [] ys p h = absurd h
+  some_left (x ∷ xs) ys p (inl e) = inl e
+  some_left (x ∷ xs) ys p (inr h) = inr (some_left xs ys p h)
+
+  some_right : (xs ys : List Pattern) (p : Pattern) → SomeOf (λ q. q ≡ p) ys → SomeOf (λ q. q ≡ p) (xs ++ ys)
+  some_right [] ys p h = h
+  some_right (x ∷ xs) ys p h = inr (some_right xs ys p h)
+
+  into_left : (xs ys : List Pattern) {p : Pattern} → InClosedPatterns w xs p → InClosedPatterns w (xs ++ ys) p
+  into_left xs ys {p = p} (root h) = root (some_left xs ys p h)
+  into_left xs ys (next c b) = next (into_left xs ys c) b
+
+  into_right : (xs ys : List Pattern) {p : Pattern} → InClosedPatterns w ys p → InClosedPatterns w (xs ++ ys) p
+  into_right xs ys {p = p} (root h) = root (some_right xs ys p h)
+  into_right xs ys (next c b) = next (into_right xs ys c) b
+
+  pub passes_parts : (xs ys : List Pattern) (test : Pattern → Bool) → ClosedPasses w (xs ++ ys) test → ClosedPasses w xs test ⊎ ClosedPasses w ys test
+  passes_parts xs ys test h = go (from_more xs ys (h.1).1)
+    where
+      go : InClosedPatterns w xs (h.1).0 ⊎ InClosedPatterns w ys (h.1).0 → ClosedPasses w xs test ⊎ ClosedPasses w ys test
+      go (inl c) = inl (h.0, ((h.1).0, c, (h.1).2), h.2)
+      go (inr c) = inr (h.0, ((h.1).0, c, (h.1).2), h.2)
+
+  pub passes_left : (xs ys : List Pattern) (test : Pattern → Bool) → ClosedPasses w xs test → ClosedPasses w (xs ++ ys) test
+  passes_left xs ys test h = (h.0, ((h.1).0, into_left xs ys (h.1).1, (h.1).2), h.2)
+
+  pub passes_right : (xs ys : List Pattern) (test : Pattern → Bool) → ClosedPasses w ys test → ClosedPasses w (xs ++ ys) test
+  passes_right xs ys test h = (h.0, ((h.1).0, into_right xs ys (h.1).1, (h.1).2), h.2)
+
+  -- one pattern more
+  pub lists_more : (writes : List Pattern) (k : ℕ) (d : Pattern) (old new : List Pattern) → k < length writes → ListsClosed w (take k writes) old →
+      Among w (get_or writes k d) old new → ListsClosed w (take (k + 1) writes) new
+  lists_more writes k d old new l h more = subst (λ ws. ListsClosed w ws new) (sym (take_more writes k d l)) (λ test. (
+    λ t. there test ((more test).0 t),
+    λ c. (more test).1 (here test (passes_parts (take k writes) (get_or writes k d ∷ []) test c)),
+  ))
+    where
+      there : (test : Pattern → Bool) → IsTrue (list_any test old) ⊎ ClosedPasses w (get_or writes k d ∷ []) test →
+          ClosedPasses w (take k writes ++ get_or writes k d ∷ []) test
+      there test (inl o) = passes_left (take k writes) (get_or writes k d ∷ []) test ((h test).0 o)
+      there test (inr c) = passes_right (take k writes) (get_or writes k d ∷ []) test c
+
+      here : (test : Pattern → Bool) → ClosedPasses w (take k writes) test ⊎ ClosedPasses w (get_or writes k d ∷ []) test →
+          IsTrue (list_any test old) ⊎ ClosedPasses w (get_or writes k d ∷ []) test
+      here test (inl c) = inl ((h test).1 c)
+      here test (inr c) = inr c
+
+  pub lists_none : ListsClosed w [] []
+  lists_none test = (λ h. absurd (true≢false (sym h)), λ c. absurd (nothing (c.1).1))
+    where
+      nothing : {p : Pattern} → InClosedPatterns w [] p → ⊥
+      nothing (root h) = h
+      nothing (next c b) = nothing c
+
+  -- ---- the closed patterns of one are those with the heads that With leads to
+
+  abbrev pub HasHead : Pattern → Entity → Type 0
+  HasHead (One e) h = e ≡ h
+  HasHead (Two (Is r) q) h = r ≡ h
+  HasHead (Two Each q) h = ⊥
+  HasHead (Two Any q) h = ⊥
+
+  own_head : (p : Pattern) (h : Entity) → HasHead p h → with_head p h ≡ p
+  own_head (One e) h is = ap One (sym is)
+  own_head (Two (Is r) q) h is = ap (λ x. Two (Is x) q) (sym is)
+  own_head (Two Each q) h is = absurd is
+  own_head (Two Any q) h is = absurd is
+
+  one_brings : (p : Pattern) (a b : Entity) → IsTrue (has w a (id.Two WITH b)) → BringsPattern w (with_head p a) (with_head p b)
+  one_brings (One c) a b h = h
+  one_brings (Two r t) a b h = (h, refl)
+
+  reach_to_closed : (p : Pattern) (h : Entity) → HasHead p h → {x : Entity} → Reaches w WITH h x → InClosedPatterns w (p ∷ []) (with_head p x)
+  reach_to_closed p h is (root e) = root (inl (sym (ap (with_head p) e ∙ own_head p h is)))
+  reach_to_closed p h is (next {a = a} {b = b} member edge) = next (reach_to_closed p h is member) (one_brings p a b edge)
+
+  brought_head : (p : Pattern) (a : Entity) (q : Pattern) → BringsPattern w (with_head p a) q → (x : Entity) × IsTrue (has w a (id.Two WITH x)) ×
+      (q ≡ with_head p x)
+  brought_head (One c) a (One x) h = (x, h, refl)
+  brought_head (One c) a (Two r t) h = absurd h
+  brought_head (Two r t) a (One x) h = absurd h
+  brought_head (Two r t) a (Two Each u) h = absurd h
+  brought_head (Two r t) a (Two Any u) h = absurd h
+  brought_head (Two r t) a (Two (Is x) u) h = (x, h.0, ap (Two (Is x)) h.1)
+
+  closed_to_reach : (p : Pattern) (h : Entity) → HasHead p h → {q : Pattern} → InClosedPatterns w (p ∷ []) q → (x : Entity) × Reaches w WITH h x ×
+      (q ≡ with_head p x)
+  closed_to_reach p h is (root (inl e)) = (h, root refl, sym e ∙ sym (own_head p h is))
+  closed_to_reach p h is (root (inr n)) = absurd n
+  closed_to_reach p h is (next {a = a} {b = b} member brings) =
+      let m = closed_to_reach p h is member in
+      let n = brought_head p m.0 b (subst (λ r. BringsPattern w r b) m.2 brings) in
+      (n.0, next m.1 n.1, n.2)
+
+  listed_head : (p : Pattern) (heads : List Entity) (test : Pattern → Bool) → IsTrue (list_any test (map (λ x. widened w (with_head p x)) heads)) →
+      (x : Entity) × IsTrue (has_item entity_cmp heads x) × IsTrue (test (widened w (with_head p x)))
+  listed_head p [] test h = absurd (true≢false (sym h))
+  listed_head p (y ∷ ys) test h =
+      elim (or_parts (test (widened w (with_head p y))) _ h) as (λ _. (x : Entity) × IsTrue (entity_eq y x || has_item entity_cmp ys x) ×
+      IsTrue (test (widened w (with_head p x)))) [
+        | inl k ↦ (y, or_left _ _ (entity_eq_itself y), k)
+        | inr k ↦ let rest = listed_head p ys test k in (rest.0, or_right (entity_eq y rest.0) _ rest.1, rest.2)
+      ]
+
+  head_listed : (p : Pattern) (heads : List Entity) (test : Pattern → Bool) (x : Entity) → IsTrue (has_item entity_cmp heads x) →
+      IsTrue (test (widened w (with_head p x))) → IsTrue (list_any test (map (λ y. widened w (with_head p y)) heads))
+  head_listed p [] test x h t = absurd (true≢false (sym h))
+  head_listed p (y ∷ ys) test x h t =
+      elim (or_parts (entity_eq y x) (has_item entity_cmp ys x) h) as (λ _. IsTrue
+      (test (widened w (with_head p y)) || list_any test (map (λ z. widened w (with_head p z)) ys))) [
+        | inl k ↦ or_left _ _ (subst (λ z. IsTrue (test (widened w (with_head p z)))) (sym (entity_eq_is y x k)) t)
+        | inr k ↦ or_right (test (widened w (with_head p y))) _ (head_listed p ys test x k t)
+      ]
+
+  -- a pattern with a head
+  has_head : (p : Pattern) (h : Entity) → head_of p ≡ Some h → HasHead p h
+  has_head (One e) h is = same_Some e h is
+  has_head (Two (Is r) q) h is = same_Some r h is
+  has_head (Two Each q) h is = absurd (none-some h is)
+  has_head (Two Any q) h is = absurd (none-some h is)
+
+  pub among_reached : (p : Pattern) (h : Entity) → head_of p ≡ Some h → (heads : List Entity) →
+      ((x : Entity) → IsTrue (has_item entity_cmp heads x) ↔ Reaches w WITH h x)
+      → (old new : List Pattern) → new ≡ old ++ map (λ x. widened w (with_head p x)) heads → Among w p old new
+  among_reached p h at heads exact old new made test = (
+    λ t. there (or_parts (list_any test old) _ (sym (ap (list_any test) made ∙ list_any-append test old (map (λ x. widened w (with_head p x)) heads)) ∙ t)),
+    λ c. ap (list_any test) made ∙ list_any-append test old (map (λ x. widened w (with_head p x)) heads) ∙ here c,
+  )
+    where
+      is : HasHead p h
+      is = has_head p h at
+
+      there : IsTrue (list_any test old) ⊎ IsTrue (list_any test (map (λ x. widened w (with_head p x)) heads)) →
+          IsTrue (list_any test old) ⊎ ClosedPasses w (p ∷ []) test
+      there (inl o) = inl o
+      there (inr m) =
+          let x = listed_head p heads test m in
+          inr (widened w (with_head p x.0), (with_head p x.0, reach_to_closed p h is ((exact x.0).0 x.1), refl), x.2)
+
+      here : IsTrue (list_any test old) ⊎ ClosedPasses w (p ∷ []) test →
+          IsTrue (list_any test old || list_any test (map (λ x. widened w (with_head p x)) heads))
+      here (inl o) = or_left _ _ o
+      here (inr c) =
+          let x = closed_to_reach p h is (c.1).1 in
+          or_right (list_any test old) _ (head_listed p heads test x.0 ((exact x.0).1 x.1) (subst (λ q. IsTrue (test q)) ((c.1).2 ∙ ap (widened w) x.2) c.2))
+
+  -- one without: nothing is brought
+  abbrev pub IsWild : Pattern → Type 0
+  IsWild (One e) = ⊥
+  IsWild (Two (Is r) q) = ⊥
+  IsWild (Two Each q) = Unit {0}
+  IsWild (Two Any q) = Unit {0}
+
+  wild_brings : (p q : Pattern) → IsWild p → BringsPattern w p q → ⊥
+  wild_brings (One e) q is h = is
+  wild_brings (Two (Is r) t) q is h = is
+  wild_brings (Two Each t) (One x) is h = h
+  wild_brings (Two Each t) (Two p u) is h = h
+  wild_brings (Two Any t) (One x) is h = h
+  wild_brings (Two Any t) (Two p u) is h = h
+
+  wild_widened : (p : Pattern) → IsWild p → widened w p ≡ p
+  wild_widened (One e) is = absurd is
+  wild_widened (Two (Is r) t) is = absurd is
+  wild_widened (Two Each t) is = refl
+  wild_widened (Two Any t) is = refl
+
+  wild_alone : (p : Pattern) → IsWild p → {q : Pattern} → InClosedPatterns w (p ∷ []) q → p ≡ q
+  wild_alone p is (root (inl e)) = e
+  wild_alone p is (root (inr n)) = absurd n
+  wild_alone p is (next {a = a} {b = b} member brings) = absurd (wild_brings p b is (subst (λ r. BringsPattern w r b) (sym (wild_alone p is member)) brings))
+
+  is_wild : (p : Pattern) → head_of p ≡ None → IsWild p
+  is_wild (One e) at = absurd (none-some e (sym at))
+  is_wild (Two (Is r) q) at = absurd (none-some r (sym at))
+  is_wild (Two Each q) at = tt
+  is_wild (Two Any q) at = tt
+
+  pub among_wild : (p : Pattern) → head_of p ≡ None → (old new : List Pattern) → new ≡ old ++ p ∷ [] → Among w p old new
+  among_wild p at old new made test = (
+    λ t. there (or_parts (list_any test old) _ (sym (ap (list_any test) made ∙ list_any-append test old (p ∷ [])) ∙ t)),
+    λ c. ap (list_any test) made ∙ list_any-append test old (p ∷ []) ∙ here c,
+  )
+    where
+      is : IsWild p
+      is = is_wild p at
+
+      there : IsTrue (list_any test old) ⊎ IsTrue (test p || false) → IsTrue (list_any test old) ⊎ ClosedPasses w (p ∷ []) test
+      there (inl o) = inl o
+      there (inr m) = elim (or_parts (test p) false m) as (λ _. IsTrue (list_any test old) ⊎ ClosedPasses w (p ∷ []) test) [
+        | inl k ↦ inr (p, (p, root (inl refl), sym (wild_widened p is)), k)
+        | inr k ↦ absurd (true≢false (sym k))
+      ]
+
+      here : IsTrue (list_any test old) ⊎ ClosedPasses w (p ∷ []) test → IsTrue (list_any test old || (test p || false))
+      here (inl o) = or_left _ _ o
+      here (inr c) =
+          let same = wild_alone p is (c.1).1 in
+          or_right (list_any test old) _ (or_left _ _ (subst (λ q. IsTrue (test q)) ((c.1).2 ∙ ap (widened w) (sym same) ∙ wild_widened p is) c.2))

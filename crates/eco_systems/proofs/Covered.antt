@@ -1,0 +1,201 @@
+-- What a system's commands touch lies in its closed writes.
+use Rattle.std.proofs.Common.{◌≡◌, Bool, true, false, cond, ◌&&◌, List, [], ◌∷◌, refl, sym, ap, ◌∙◌, subst, true≢false, IsTrue, inl, inr}
+use Rattle.std.specs.List.{list_any}
+use Rattle.eco_ids.specs.declared.entity.Entity.{Entity}
+use Rattle.eco_ids.specs.declared.entity.TheConstants.{EXCLUSIVE, WITH}
+use Rattle.eco_ids.specs.declared.id.Id.{Id}
+use Rattle.eco_ids.specs.declared.id.Id.TheVariants as id
+use Rattle.eco_ids.specs.declared.pattern.Part.{Part}
+use Rattle.eco_ids.specs.declared.pattern.Part.TheVariants.{Is, Each, Any}
+use Rattle.eco_ids.specs.declared.pattern.Pattern.{Pattern}
+use Rattle.eco_ids.specs.declared.pattern.Pattern.TheVariants.{One, Two}
+use Rattle.eco_ids.specs.declared.edition.Edition.{Edition}
+use Rattle.eco_ids.specs.declared.edition.Edition.TheVariants.{First}
+use Rattle.eco_ids.specs.Builtin.{is_among_first}
+use Rattle.eco_ids.specs.Edition.{builtin_count}
+use Rattle.eco_ids.specs.Least.{root, next}
+use Rattle.eco_ids.specs.Matching.{part_matches, pattern_matches, pattern_overlaps}
+use Rattle.eco_ids.specs.Order.{entity_eq}
+use Rattle.eco_ids.specs.Run.{Command, Create, Add, Remove, Set, Clear, Rename, Delete, DeleteWith, RemoveAll}
+use Rattle.eco_ids.specs.Traits.{Brings, InClosure}
+use Rattle.eco_ids.specs.World.{WorldState, has, is_exclusive}
+use Rattle.eco_ids.proofs.Ascending.{both, first, second}
+use Rattle.eco_ids.proofs.Facts.{any_is, or_left, or_parts}
+use Rattle.eco_ids.proofs.Meaning.{closure_least}
+use Rattle.eco_ids.proofs.Overlaps.{entity_eq_is, entity_eq_itself, overlaps_exactly}
+use Rattle.eco_systems.specs.Batches.{Disturbs}
+use Rattle.eco_systems.specs.Systems.{SystemModel, IsDeclared, matches_one, system_reads}
+use Rattle.eco_systems.specs.Writes.{SomeOf, InClosedPatterns, widened, IsClosedWrite, writes_trait, IsTraitWriter}
+use Rattle.eco_systems.proofs.Steps.{Touches, Touched, Gained, IsMild}
+
+-- ---- traits
+
+-- an id that makes a closure or an eviction: Exclusive, or a pair of With
+abbrev pub IsTraitId : Id → Type 0
+IsTraitId (id.One e) = e ≡ EXCLUSIVE
+IsTraitId (id.Two r t) = r ≡ WITH
+
+-- whoever has such an id had it at the frame's start
+abbrev pub TraitsWithin : WorldState → WorldState → Type 0
+TraitsWithin start w = (x : Entity) (j : Id) → IsTraitId j → IsTrue (has w x j) → IsTrue (has start x j)
+
+-- Exclusive and With are built-ins in each edition
+exclusive_writes : (w : WorldState) → IsTrue (writes_trait w (One EXCLUSIVE))
+exclusive_writes w = by w.edition
+  where
+    by : (edition : Edition) → IsTrue (is_among_first (builtin_count edition) EXCLUSIVE && true)
+    by First = refl
+
+with_writes : (w : WorldState) (u : Part) → IsTrue (writes_trait w (Two (Is WITH) u))
+with_writes w u = or_left _ _ (by w.edition)
+  where
+    by : (edition : Edition) → IsTrue (is_among_first (builtin_count edition) WITH && true)
+    by First = refl
+
+-- ---- the closure of an id lies in the closure of its pattern
+
+-- a closed pattern, not widened yet, matches
+abbrev Covered : WorldState → List Pattern → Id → Type 0
+Covered start writes j = (q : Pattern) × InClosedPatterns start writes q × IsTrue (pattern_matches q j)
+
+-- patterns of which none writes a trait
+abbrev pub NoTraits : WorldState → List Pattern → Type 0
+NoTraits start writes = (p : Pattern) → IsClosedWrite start writes p → IsTrue (writes_trait start p) → ⊥
+
+pub no_traits : (start : WorldState) (s : SystemModel) → (IsTraitWriter start s → ⊥) → NoTraits start s.writes
+no_traits start s n p closed writes = n (p, closed, writes)
+
+written : (writes : List Pattern) (i : Id) → IsTrue (matches_one writes i) → (q : Pattern) × SomeOf (λ p. p ≡ q) writes × IsTrue (pattern_matches q i)
+written [] i h = absurd (true≢false (sym h))
+written (p ∷ ps) i h =
+    elim (or_parts (pattern_matches p i) (matches_one ps i) h) as (λ _. (q : Pattern) × SomeOf (λ x. x ≡ q) (p ∷ ps) × IsTrue (pattern_matches q i)) [
+      | inl m ↦ (p, inl refl, m)
+      | inr m ↦ let rest = written ps i m in (rest.0, inr rest.1, rest.2)
+    ]
+
+module _ (start : WorldState) (writes : List Pattern) where
+  begins : (i : Id) → IsTrue (matches_one writes i) → Covered start writes i
+  begins i h = let q = written writes i h in (q.0, root q.1, q.2)
+
+  module _ (plain : NoTraits start writes) where
+    -- a pattern of pairs of any relationship writes traits
+    not_each : (u : Part) → InClosedPatterns start writes (Two Each u) → ⊥
+    not_each u h = plain (Two Each u) (Two Each u, h, refl) refl
+
+    not_any : (u : Part) → InClosedPatterns start writes (Two Any u) → ⊥
+    not_any u h = plain (Two Any u) (Two Any u, h, refl) refl
+
+    brought : (w : WorldState) → TraitsWithin start w → (q : Pattern) (j k : Id) → InClosedPatterns start writes q → IsTrue (pattern_matches q j) →
+        Brings w j k → Covered start writes k
+    brought w within (One own) (id.One c) (id.One x) member m brings = (
+      One x,
+      next member (subst (λ y. IsTrue (has start y (id.Two WITH x))) (sym (entity_eq_is own c m)) (within c (id.Two WITH x) refl brings)),
+      entity_eq_itself x,
+    )
+    brought w within (One own) (id.One c) (id.Two x u) member m brings = absurd brings
+    brought w within (One own) (id.Two r t) k member m brings = absurd (true≢false (sym m))
+    brought w within (Two p u) (id.One c) k member m brings = absurd (true≢false (sym m))
+    brought w within (Two Each u) (id.Two r t) k member m brings = absurd (not_each u member)
+    brought w within (Two Any u) (id.Two r t) k member m brings = absurd (not_any u member)
+    brought w within (Two (Is own) u) (id.Two r t) (id.One x) member m brings = absurd brings
+    brought w within (Two (Is own) u) (id.Two r t) (id.Two x v) member m brings = (
+      Two (Is x) u,
+      next member (subst (λ y. IsTrue (has start y (id.Two WITH x))) (sym (entity_eq_is own r (first _ _ m))) (within r (id.Two WITH x) refl brings.0), refl),
+      both _ _ (entity_eq_itself x) (subst (λ y. IsTrue (part_matches u y)) (sym brings.1) (second (entity_eq own r) _ m)),
+    )
+
+    closure_covered : (w : WorldState) → TraitsWithin start w → (i : Id) → IsTrue (matches_one writes i) → (j : Id) → InClosure w i j → Covered start writes j
+    closure_covered w within i here = closure_least w i (Covered start writes) (begins i here) (λ j k c b. brought w within c.0 j k c.1 c.2 b)
+
+    -- no trait comes by such an add
+    no_trait_added : (q : Pattern) (j : Id) → InClosedPatterns start writes q → IsTrue (pattern_matches q j) → IsTraitId j → ⊥
+    no_trait_added (One own) (id.One e) member m trait =
+        plain (One own) (One own, member, refl) (subst (λ y. IsTrue (writes_trait start (One y))) (sym (entity_eq_is own e m ∙ trait)) (exclusive_writes start))
+    no_trait_added (One own) (id.Two r t) member m trait = absurd (true≢false (sym m))
+    no_trait_added (Two p u) (id.One e) member m trait = absurd (true≢false (sym m))
+    no_trait_added (Two Each u) (id.Two r t) member m trait = not_each u member
+    no_trait_added (Two Any u) (id.Two r t) member m trait = not_any u member
+    no_trait_added (Two (Is own) u) (id.Two r t) member m trait =
+        plain (widened start (Two (Is own) u)) (Two (Is own) u, member, refl) (still_trait (is_exclusive start own) (entity_eq_is own r (first _ _ m) ∙ trait))
+      where
+        still_trait : (b : Bool) → own ≡ WITH → IsTrue (writes_trait start (cond b (Two (Is own) Each) (Two (Is own) u)))
+        still_trait true e = subst (λ y. IsTrue (writes_trait start (Two (Is y) Each))) (sym e) (with_writes start Each)
+        still_trait false e = subst (λ y. IsTrue (writes_trait start (Two (Is y) u))) (sym e) (with_writes start u)
+
+  -- ---- a widened pattern matches what it matched
+
+  widened_matches : (q : Pattern) (j : Id) → IsTrue (pattern_matches q j) → IsTrue (pattern_matches (widened start q) j)
+  widened_matches (One e) j m = m
+  widened_matches (Two Each u) j m = m
+  widened_matches (Two Any u) j m = m
+  widened_matches (Two (Is r) u) j m = wide (is_exclusive start r) j m
+    where
+      wide : (b : Bool) (j : Id) → IsTrue (pattern_matches (Two (Is r) u) j) → IsTrue (pattern_matches (cond b (Two (Is r) Each) (Two (Is r) u)) j)
+      wide true (id.One e) m = m
+      wide true (id.Two q t) m = both _ _ (first (entity_eq r q) _ m) refl
+      wide false j m = m
+
+  abbrev Written : Id → Type 0
+  Written j = (p : Pattern) × IsClosedWrite start writes p × IsTrue (pattern_matches p j)
+
+  written_closed : (j : Id) → Covered start writes j → Written j
+  written_closed j c = (widened start c.0, (c.0, c.1, refl), widened_matches c.0 j c.2)
+
+  -- what is evicted matches the pattern that brought the relationship, once it is widened
+  evicted_written : NoTraits start writes → (r t u : Entity) → IsTrue (is_exclusive start r) → Covered start writes (id.Two r u) → Written (id.Two r t)
+  evicted_written plain r t u exclusive c = go c.0 c.1 c.2
+    where
+      go : (q : Pattern) → InClosedPatterns start writes q → IsTrue (pattern_matches q (id.Two r u)) → Written (id.Two r t)
+      go (One e) member m = absurd (true≢false (sym m))
+      go (Two Each v) member m = absurd (not_each plain v member)
+      go (Two Any v) member m = absurd (not_any plain v member)
+      go (Two (Is own) v) member m =
+          let is : own ≡ r = entity_eq_is own r (first _ _ m) in (
+            widened start (Two (Is own) v),
+            (Two (Is own) v, member, refl),
+            subst (λ b. IsTrue (pattern_matches (cond b (Two (Is own) Each) (Two (Is own) v)) (id.Two r t))) (sym (ap (is_exclusive start) is ∙ exclusive))
+                (both _ _ (first (entity_eq own r) _ m) refl),
+          )
+
+  touches_written : NoTraits start writes → (w : WorldState) → TraitsWithin start w → (i : Id) → IsTrue (matches_one writes i) → (j : Id) → Touches w i j →
+      Written j
+  touches_written plain w within i here j (inl h) = written_closed j (closure_covered plain w within i here j h)
+  touches_written plain w within i here (id.One e) (inr h) = absurd h
+  touches_written plain w within i here (id.Two r t) (inr h) =
+      evicted_written plain r t h.1 (within r (id.One EXCLUSIVE) refl h.0) (closure_covered plain w within i here (id.Two r h.1) h.2)
+
+  touched_written : NoTraits start writes → (w : WorldState) → TraitsWithin start w → (c : Command) → IsMild c → (kills : Bool) → IsDeclared writes kills c →
+      (j : Id) → Touched w c j → Written j
+  touched_written plain w within (Create e) mild kills d j h = absurd h
+  touched_written plain w within (Add e i) mild kills d j h = touches_written plain w within i d j h
+  touched_written plain w within (Remove e i) mild kills d j h = subst Written (sym h) (written_closed i (begins i d))
+  touched_written plain w within (Set e i v) mild kills d j h = touches_written plain w within i d j h
+  touched_written plain w within (Clear e) mild kills d j h = absurd mild
+  touched_written plain w within (Rename e name) mild kills d j h = absurd h
+  touched_written plain w within (Delete e) mild kills d j h = absurd mild
+  touched_written plain w within (DeleteWith i) mild kills d j h = absurd mild
+  touched_written plain w within (RemoveAll i) mild kills d j h = subst Written (sym h) (written_closed i (begins i d))
+
+  pub gained_no_trait : NoTraits start writes → (w : WorldState) → TraitsWithin start w → (c : Command) (kills : Bool) → IsDeclared writes kills c →
+      (j : Id) → IsTraitId j → Gained w c j → ⊥
+  gained_no_trait plain w within (Create e) kills d j trait h = h
+  gained_no_trait plain w within (Add e i) kills d j trait h = let c = closure_covered plain w within i d j h in no_trait_added plain c.0 j c.1 c.2 trait
+  gained_no_trait plain w within (Remove e i) kills d j trait h = h
+  gained_no_trait plain w within (Set e i v) kills d j trait h = let c = closure_covered plain w within i d j h in no_trait_added plain c.0 j c.1 c.2 trait
+  gained_no_trait plain w within (Clear e) kills d j trait h = h
+  gained_no_trait plain w within (Rename e name) kills d j trait h = h
+  gained_no_trait plain w within (Delete e) kills d j trait h = h
+  gained_no_trait plain w within (DeleteWith i) kills d j trait h = h
+  gained_no_trait plain w within (RemoveAll i) kills d j trait h = h
+
+-- ---- what is read is not touched
+
+overlaps_one : (p : Pattern) (reads : List Pattern) (j : Id) → IsTrue (pattern_matches p j) → IsTrue (matches_one reads j) →
+    IsTrue (list_any (pattern_overlaps p) reads)
+overlaps_one p reads j m h = let r = any_is (λ q. pattern_matches q j) reads h in r.2 (pattern_overlaps p) ((overlaps_exactly p r.0).1 (j, m, r.1))
+
+pub read_untouched : (start : WorldState) (s t : SystemModel) → (IsTraitWriter start s → ⊥) → (Disturbs start s t → ⊥) → (w : WorldState) → TraitsWithin start w
+    → (c : Command) → IsMild c → IsDeclared s.writes s.kills c → (j : Id) → IsTrue (matches_one (system_reads t) j) → Touched w c j → ⊥
+read_untouched start s t plain apart w within c mild d j read touched =
+    let p = touched_written start s.writes (no_traits start s plain) w within c mild s.kills d j touched in
+    apart (p.0, p.1, overlaps_one p.0 (system_reads t) j p.2 read)

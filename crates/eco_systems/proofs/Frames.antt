@@ -1,0 +1,336 @@
+-- Every frame is the run of its systems one by one.
+use Rattle.std.proofs.Common.{◌≡◌, ℕ, zero, suc, Bool, true, false, cond, List, [], ◌∷◌, ◌++◌, length, replicate, refl, sym, ap, ◌∙◌, subst, IsTrue}
+use Rattle.std.proofs.Common.{inl, inr, Option, None, option_map, unwrap_or, MatchBool, Ok, slice_get, filter}
+use Rattle.std.specs.Prelude.{flat_map}
+use Rattle.std.specs.List.{AllByRecursion}
+use Rattle.std.specs.Option.{option_and_then}
+use Rattle.std.specs.FinMap.Entries.{find}
+use Rattle.std.proofs.lemmas.List.{append-nil}
+use Rattle.std.proofs.lemmas.List.Folds.{list_any-append}
+use Rattle.eco_ids.specs.declared.entity.Entity.{Entity}
+use Rattle.eco_ids.specs.declared.id.Id.{Id}
+use Rattle.eco_ids.specs.declared.refusal.Refusal.TheVariants.{NoMoreIds}
+use Rattle.eco_ids.specs.Births.{may_admit}
+use Rattle.eco_ids.specs.Indices.{Indexed, IndexState, Free, record_in, admitted}
+use Rattle.eco_ids.specs.Lawful.{IsLawful}
+use Rattle.eco_ids.specs.Matching.{pattern_matches}
+use Rattle.eco_ids.specs.Outcome.{Answers, Refuses}
+use Rattle.eco_ids.specs.Order.{id_cmp}
+use Rattle.eco_ids.specs.Run.{Command, Runs}
+use Rattle.eco_ids.specs.World.{WorldState, Record, entities, record_of}
+use Rattle.eco_ids.proofs.Admits.{admits_lawful}
+use Rattle.eco_ids.proofs.Keeps.{has_in}
+use Rattle.eco_ids.proofs.Runs.{runs_lawful}
+use Rattle.eco_query.specs.Queries.{reads}
+use Rattle.eco_systems.specs.Batches.{Disturbs, Conflict, AreTogether, AreCut, AreBatches, joined}
+use Rattle.eco_systems.specs.Frames.{Outcomes, BatchDraws, drawn, BatchRuns, OneByOne, BatchRunsSolo, InTurn}
+use Rattle.eco_systems.specs.Frames.{with_admitted}
+use Rattle.eco_systems.specs.Laws.{FramesAreSolo, FramesKeepLawful, StoppedAreSolo, StoppedAtOnceChangesNothing}
+use Rattle.eco_systems.specs.Phases.{in_order, phases, runs_in}
+use Rattle.eco_systems.specs.declared.phase.Phase.{Phase}
+use Rattle.eco_systems.specs.Recording.{Records, PiecesRecord, BatchRecords, pieces_of}
+use Rattle.eco_systems.specs.Systems.{SystemModel, IsLawfulSystem, system_reads, matches_one}
+use Rattle.eco_systems.specs.Writes.{IsTraitWriter, SomeOf}
+use Rattle.eco_systems.proofs.Answers.{Sees, sees_reads}
+use Rattle.eco_systems.proofs.Covered.{TraitsWithin}
+use Rattle.eco_systems.proofs.Lists.{all_append}
+use Rattle.eco_systems.proofs.Rows.{rows_same}
+use Rattle.eco_systems.proofs.Runs.{runs_split, records_declared, runs_traits, runs_same}
+use Rattle.eco_systems.proofs.Same.{LooksSame, looks_then}
+
+-- ---- indices that are admitted show in no answer
+
+free_there : (n k g : ℕ) → record_in {A = Record} (slice_get (replicate n (Free 0)) k) g ≡ None
+free_there zero k g = refl
+free_there (suc n) zero g = refl
+free_there (suc n) (suc k) g = free_there n k g
+
+more_free : (xs : List (IndexState Record)) (n k g : ℕ) → record_in (slice_get (xs ++ replicate n (Free 0)) k) g ≡ record_in (slice_get xs k) g
+more_free [] n k g = free_there n k g
+more_free (x ∷ xs) n zero g = refl
+more_free (x ∷ xs) n (suc k) g = more_free xs n k g
+
+module _ (w : WorldState) (n : ℕ) where
+  same_records : (x : Entity) → record_of (with_admitted n w) x ≡ record_of w x
+  same_records x = more_free w.indices n x.index x.generation
+
+  looks_admitted : (seen : Id → Bool) → LooksSame seen w (with_admitted n w)
+  looks_admitted seen = record {
+    edition = refl;
+    arity = λ x. ap (λ (o : Option Record). option_and_then (λ r. r.arity) o) (same_records x);
+    held = λ x j h. ap (λ (o : Option Record). find id_cmp j (unwrap_or (option_map (λ r. r.held) o) [])) (same_records x);
+  }
+
+  traits_admitted : (start : WorldState) → TraitsWithin start w → TraitsWithin start (with_admitted n w)
+  traits_admitted start within x j trait h = within x j trait (ap (λ o. has_in o j) (sym (same_records x)) ∙ h)
+
+  pub lawful_admitted : IsTrue (may_admit (entities w) n) → IsLawful w → IsLawful (with_admitted n w)
+  lawful_admitted room l =
+      let after : Indexed Record = admitted n (entities w) in
+      admits_lawful w n (Ok tt) (with_admitted n w) l
+      (after, subst (λ b. MatchBool b (Answers tt after (Ok tt) after) (Refuses NoMoreIds (entities w) (Ok tt) after)) (sym room) (refl, refl), refl)
+
+-- ---- one of some
+
+some_left : {A : Type 0} (P : A → Type 0) (xs ys : List A) → SomeOf P xs → SomeOf P (xs ++ ys)
+some_left P [] ys h = absurd h
+some_left P (x ∷ xs) ys (inl h) = inl h
+some_left P (x ∷ xs) ys (inr h) = inr (some_left P xs ys h)
+
+some_right : {A : Type 0} (P : A → Type 0) (xs ys : List A) → SomeOf P ys → SomeOf P (xs ++ ys)
+some_right P [] ys h = h
+some_right P (x ∷ xs) ys h = inr (some_right P xs ys h)
+
+pub all_apart_append : {A : Type 0} (P : A → Type 0) (xs ys : List A) → AllByRecursion P (xs ++ ys) → AllByRecursion P xs × AllByRecursion P ys
+all_apart_append P [] ys h = (tt, h)
+all_apart_append P (x ∷ xs) ys h = let rest = all_apart_append P xs ys h.1 in ((h.0, rest.0), rest.1)
+
+pub all_joined : {A : Type 0} (P : A → Type 0) (xss : List (List A)) → AllByRecursion P (joined xss) → AllByRecursion (AllByRecursion P) xss
+all_joined P [] h = tt
+all_joined P (xs ∷ xss) h = let parts = all_apart_append P xs (joined xss) h in (parts.0, all_joined P xss parts.1)
+
+-- ---- what no conflict says
+
+-- s, which stands before t in its batch, kills nothing, writes no traits and disturbs no read of t
+record Apart (start : WorldState) (s t : SystemModel) : Type 0 where
+  tame : IsTrue s.kills → ⊥
+  plain : IsTraitWriter start s → ⊥
+  apart : Disturbs start s t → ⊥
+
+-- so it is with each two of a batch
+abbrev Quiet : WorldState → List SystemModel → Type 0
+Quiet start [] = Unit {0}
+Quiet start (s ∷ ss) = AllByRecursion (Apart start s) ss × Quiet start ss
+
+module _ (start : WorldState) (before : List SystemModel) where
+  apart_from_rest : (inside rest : List SystemModel) (s : SystemModel) → ((P : SystemModel → Type 0) → P s → SomeOf P inside) →
+      AreTogether start before inside rest → AllByRecursion (Apart start s) rest
+  apart_from_rest inside [] s among h = tt
+  apart_from_rest inside (t ∷ rest) s among h =
+      let until : List SystemModel = before ++ inside ++ t ∷ [] in
+      let none : Conflict start until s t → ⊥ = λ c. h.0 (among (λ x. Conflict start until x t) c) in (
+        record {
+          tame = λ k. none (inl k);
+          plain = λ w. none
+              (inr (inr (inl
+              (some_left (IsTraitWriter start) (before ++ inside) (t ∷ []) (some_right (IsTraitWriter start) before inside (among (IsTraitWriter start) w))))));
+          apart = λ d. none (inr (inr (inr d)));
+        },
+        apart_from_rest (inside ++ t ∷ []) rest s (λ P p. some_left P inside (t ∷ []) (among P p)) h.1,
+      )
+
+  quiet_together : (inside rest : List SystemModel) → AreTogether start before inside rest → Quiet start rest
+  quiet_together inside [] h = tt
+  quiet_together inside (t ∷ rest) h =
+      (apart_from_rest (inside ++ t ∷ []) rest t (λ P p. some_right P inside (t ∷ []) (inl p)) h.1, quiet_together (inside ++ t ∷ []) rest h.1)
+
+-- a batch of two and more begins on a world whose traits were there at the frame's start
+abbrev Ready : WorldState → WorldState → List SystemModel → Type 0
+Ready start w [] = Unit {0}
+Ready start w (s ∷ []) = Unit {0}
+Ready start w (s ∷ t ∷ ss) = TraitsWithin start w
+
+-- ---- a batch
+
+sees_own : (s : SystemModel) → Sees (matches_one (system_reads s)) s.slots
+sees_own s = sees_reads (matches_one (system_reads s)) s.slots (λ i m. list_any-append (λ p. pattern_matches p i) (reads s.slots) s.body_reads
+    ∙ ap (λ b. or b (matches_one s.body_reads i)) m)
+  where
+    or : Bool → Bool → Bool
+    or true b = true
+    or false b = b
+
+-- what is recorded on a world is recorded on one that looks the same
+records_same : (w new : WorldState) (s : SystemModel) (draws : List (List Entity)) (commands : List Command) → IsLawful w → IsLawful new → IsLawfulSystem s
+    → LooksSame (matches_one (system_reads s)) w new → Records w s draws commands → Records new s draws commands
+records_same w new s draws commands l m law p h =
+    subst (λ rows. PiecesRecord s (pieces_of rows) draws commands)
+    (sym (rows_same (matches_one (system_reads s)) w new s.slots l m law.positive (sees_own s) p)) h
+
+module _ (start : WorldState) where
+  -- each later system sees the same after the commands of s
+  looks_on : (base cur mid : WorldState) (s : SystemModel) (ss : List SystemModel) →
+      ((t : SystemModel) → Apart start s t → LooksSame (matches_one (system_reads t)) cur mid)
+      → AllByRecursion (Apart start s) ss → AllByRecursion (λ t. LooksSame (matches_one (system_reads t)) base cur) ss →
+      AllByRecursion (λ t. LooksSame (matches_one (system_reads t)) base mid) ss
+  looks_on base cur mid s [] on a p = tt
+  looks_on base cur mid s (t ∷ ts) on a p = (looks_then p.0 (on t a.0), looks_on base cur mid s ts on a.1 p.1)
+
+  looks_later : (base cur mid : WorldState) (s : SystemModel) (ss : List SystemModel) (commands : List Command) (now : Outcomes) → IsLawfulSystem s →
+      (draws : List (List Entity))
+      → Records base s draws commands → Runs cur commands now mid → Ready start cur (s ∷ ss)
+      → AllByRecursion (Apart start s) ss → AllByRecursion (λ t. LooksSame (matches_one (system_reads t)) base cur) ss →
+      AllByRecursion (λ t. LooksSame (matches_one (system_reads t)) base mid) ss
+  looks_later base cur mid s [] commands now law draws rec run ready a p = tt
+  looks_later base cur mid s (t ∷ ts) commands now law draws rec run ready a p =
+      looks_on base cur mid s (t ∷ ts)
+      (λ u apart. runs_same start s apart.plain u apart.tame apart.apart commands cur now mid (records_declared s law base draws commands rec) ready run)
+      a p
+
+  ready_later : (base cur mid : WorldState) (s : SystemModel) (ss : List SystemModel) (commands : List Command) (now : Outcomes) → IsLawfulSystem s →
+      (draws : List (List Entity))
+      → Records base s draws commands → Runs cur commands now mid → Ready start cur (s ∷ ss) → AllByRecursion (Apart start s) ss → Ready start mid ss
+  ready_later base cur mid s [] commands now law draws rec run ready a = tt
+  ready_later base cur mid s (t ∷ []) commands now law draws rec run ready a = tt
+  ready_later base cur mid s (t ∷ u ∷ us) commands now law draws rec run ready a =
+      runs_traits start s (a.0).plain commands cur now mid (records_declared s law base draws commands rec) ready run
+
+  one_by_one : (base cur : WorldState) (ss : List SystemModel) (ds : BatchDraws) (commands : List Command) (outcomes : Outcomes) (new : WorldState)
+      → IsLawful base → IsLawful cur → AllByRecursion IsLawfulSystem ss → Quiet start ss → Ready start cur ss
+      → AllByRecursion (λ t. LooksSame (matches_one (system_reads t)) base cur) ss
+      → BatchRecords base ss ds commands → Runs cur commands outcomes new → OneByOne cur ss ds outcomes new
+  one_by_one base cur [] [] commands outcomes new l m laws quiet ready same rec run = nothing outcomes (subst (λ cs. Runs cur cs outcomes new) rec run)
+    where
+      nothing : (outcomes : Outcomes) → Runs cur [] outcomes new → (outcomes ≡ []) × (new ≡ cur)
+      nothing [] h = (refl, h)
+      nothing (r ∷ rs) h = absurd h
+  one_by_one base cur [] (d ∷ ds) commands outcomes new l m laws quiet ready same rec run = absurd rec
+  one_by_one base cur (s ∷ ss) [] commands outcomes new l m laws quiet ready same rec run = absurd rec
+  one_by_one base cur (s ∷ ss) (d ∷ ds) commands outcomes new l m laws quiet ready same rec run =
+      let split = runs_split rec.0 rec.1 cur new outcomes (subst (λ cs. Runs cur cs outcomes new) rec.4 run) in (
+        rec.0,
+        split.now,
+        split.later,
+        split.mid,
+        records_same base cur s d rec.0 l m laws.0 same.0 rec.2,
+        split.first_run,
+        one_by_one base split.mid ss ds rec.1 split.later new l (runs_lawful rec.0 cur split.now split.mid m split.first_run) laws.1 quiet.1
+            (ready_later base cur split.mid s ss rec.0 split.now laws.0 d rec.2 split.first_run ready quiet.0)
+            (looks_later base cur split.mid s ss rec.0 split.now laws.0 d rec.2 split.first_run ready quiet.0 same.1)
+            rec.3 split.second_run,
+        split.outcomes,
+      )
+
+  -- systems that write no traits give none
+  batch_traits : (base cur : WorldState) (ss : List SystemModel) (ds : BatchDraws) (commands : List Command) (outcomes : Outcomes) (new : WorldState)
+      → AllByRecursion IsLawfulSystem ss → (SomeOf (IsTraitWriter start) ss → ⊥) → TraitsWithin start cur → BatchRecords base ss ds commands →
+      Runs cur commands outcomes new → TraitsWithin start new
+  batch_traits base cur [] [] commands outcomes new laws none within rec run = nothing outcomes (subst (λ cs. Runs cur cs outcomes new) rec run)
+    where
+      nothing : (outcomes : Outcomes) → Runs cur [] outcomes new → TraitsWithin start new
+      nothing [] h = subst (TraitsWithin start) (sym h) within
+      nothing (r ∷ rs) h = absurd h
+  batch_traits base cur [] (d ∷ ds) commands outcomes new laws none within rec run = absurd rec
+  batch_traits base cur (s ∷ ss) [] commands outcomes new laws none within rec run = absurd rec
+  batch_traits base cur (s ∷ ss) (d ∷ ds) commands outcomes new laws none within rec run =
+      let split = runs_split rec.0 rec.1 cur new outcomes (subst (λ cs. Runs cur cs outcomes new) rec.4 run) in
+      batch_traits base split.mid ss ds rec.1 split.later new laws.1 (λ x. none (inr x))
+      (runs_traits start s (λ x. none (inl x)) rec.0 cur split.now split.mid (records_declared s laws.0 base d rec.0 rec.2) within split.first_run)
+      rec.3 split.second_run
+
+  ready_batch : (before batch : List SystemModel) (w : WorldState) → AreTogether start before [] batch →
+      ((SomeOf (IsTraitWriter start) before → ⊥) → TraitsWithin start w) → Ready start w batch
+  ready_batch before [] w h within = tt
+  ready_batch before (s ∷ []) w h within = tt
+  ready_batch before (s ∷ t ∷ ss) w h within =
+      within (λ x. (h.1).0
+      (inl (inr (inr (inl (some_left (IsTraitWriter start) (before ++ s ∷ []) (t ∷ []) (some_left (IsTraitWriter start) before (s ∷ []) x)))))))
+
+  all_look : (w : WorldState) (n : ℕ) (ss : List SystemModel) → AllByRecursion (λ t. LooksSame (matches_one (system_reads t)) w (with_admitted n w)) ss
+  all_look w n [] = tt
+  all_look w n (s ∷ ss) = (looks_admitted w n (matches_one (system_reads s)), all_look w n ss)
+
+  -- a batch, and what it hands on
+  record Handed (before batch : List SystemModel) (w : WorldState) (draws : BatchDraws) (outcomes : Outcomes) (new : WorldState) : Type 0 where
+    solo : BatchRunsSolo w batch draws outcomes new
+    lawful : IsLawful new
+    within : (SomeOf (IsTraitWriter start) (before ++ batch) → ⊥) → TraitsWithin start new
+
+  one_batch : (before batch : List SystemModel) (w : WorldState) (draws : BatchDraws) (outcomes : Outcomes) (new : WorldState)
+      → IsLawful w → AllByRecursion IsLawfulSystem batch → AreTogether start before [] batch →
+      ((SomeOf (IsTraitWriter start) before → ⊥) → TraitsWithin start w)
+      → BatchRuns w batch draws outcomes new → Handed before batch w draws outcomes new
+  one_batch before batch w draws outcomes new l laws together within h =
+      let n : ℕ = length (drawn draws) in
+      let m : IsLawful (with_admitted n w) = lawful_admitted w n (h.0).1 l in
+      let handed : (SomeOf (IsTraitWriter start) before → ⊥) → TraitsWithin start (with_admitted n w) = λ none. traits_admitted w n start (within none) in
+      record {
+        solo = (
+          h.0,
+          one_by_one w (with_admitted n w) batch draws h.1 outcomes new l m laws (quiet_together start before [] batch together)
+              (ready_batch before batch (with_admitted n w) together handed) (all_look w n batch) h.2 h.3,
+        );
+        lawful = runs_lawful h.1 (with_admitted n w) outcomes new m h.3;
+        within = λ none.
+            batch_traits w (with_admitted n w) batch draws h.1 outcomes new laws (λ x. none (some_right (IsTraitWriter start) before batch x))
+            (handed (λ x. none (some_left (IsTraitWriter start) before batch x))) h.2 h.3;
+      }
+
+  -- ---- batch after batch
+
+  in_turn : (batches rest : List (List SystemModel)) (before last : List SystemModel) (w : WorldState) (draws : List BatchDraws) (outcomes : Outcomes)
+      (new : WorldState)
+      → IsLawful w → AllByRecursion (AllByRecursion IsLawfulSystem) batches → AreCut start before last (batches ++ rest) →
+      ((SomeOf (IsTraitWriter start) before → ⊥) → TraitsWithin start w)
+      → InTurn BatchRuns w batches draws outcomes new → InTurn BatchRunsSolo w batches draws outcomes new
+  in_turn [] rest before last w [] outcomes new l laws areCut within h = h
+  in_turn [] rest before last w (d ∷ ds) outcomes new l laws areCut within h = absurd h
+  in_turn (b ∷ bs) rest before last w [] outcomes new l laws areCut within h = absurd h
+  in_turn (b ∷ bs) rest before last w (d ∷ ds) outcomes new l laws areCut within h =
+      let one = one_batch before b w d h.0 h.2 l laws.0 areCut.1 within h.3 in
+      (h.0, h.1, h.2, one.solo, in_turn bs rest (before ++ b) b h.2 ds h.1 new one.lawful laws.1 areCut.2 one.within h.4, h.5)
+
+  all_in_turn : (batches rest : List (List SystemModel)) (systems : List SystemModel) (draws : List BatchDraws) (outcomes : Outcomes) (new : WorldState)
+      → IsLawful start → AllByRecursion IsLawfulSystem systems → AreBatches start systems (batches ++ rest) →
+      InTurn BatchRuns start batches draws outcomes new → InTurn BatchRunsSolo start batches draws outcomes new
+  all_in_turn [] rest systems [] outcomes new l laws cuts h = h
+  all_in_turn [] rest systems (d ∷ ds) outcomes new l laws cuts h = absurd h
+  all_in_turn ([] ∷ bs) rest systems ds outcomes new l laws cuts h = absurd cuts
+  all_in_turn ((s ∷ b) ∷ bs) rest systems [] outcomes new l laws cuts h = absurd h
+  all_in_turn ((s ∷ b) ∷ bs) rest systems (d ∷ ds) outcomes new l laws cuts h =
+      let each = all_apart_append (AllByRecursion IsLawfulSystem) ((s ∷ b) ∷ bs) rest
+      (all_joined IsLawfulSystem ((s ∷ b) ∷ (bs ++ rest)) (subst (AllByRecursion IsLawfulSystem) cuts.0 laws)) in
+      let one = one_batch [] (s ∷ b) start d h.0 h.2 l (each.0).0 cuts.1 (λ none x j trait k. k) h.3 in
+      (h.0, h.1, h.2, one.solo, in_turn bs rest (s ∷ b) (s ∷ b) h.2 ds h.1 new one.lawful (each.0).1 cuts.2 one.within h.4, h.5)
+
+-- what holds of all systems holds of them in their order
+all_kept : {A : Type 0} (P : A → Type 0) (q : A → Bool) (xs : List A) → AllByRecursion P xs → AllByRecursion P (filter q xs)
+all_kept P q [] h = tt
+all_kept P q (x ∷ xs) h = elim (q x) as (λ b. AllByRecursion P (cond b (x ∷ filter q xs) (filter q xs))) [
+  | true ↦ (h.0, all_kept P q xs h.1)
+  | false ↦ all_kept P q xs h.1
+]
+
+pub all_in_order : (P : SystemModel → Type 0) (systems : List SystemModel) → AllByRecursion P systems → AllByRecursion P (in_order systems)
+all_in_order P systems h = go phases
+  where
+    go : (ps : List Phase) → AllByRecursion P (flat_map (λ phase. filter (runs_in phase) systems) ps)
+    go [] = tt
+    go (phase ∷ ps) = all_append P (filter (runs_in phase) systems) _ (all_kept P (runs_in phase) systems h) (go ps)
+
+-- every frame is the run of its systems one by one, with the same draws, outcomes and last world
+pub frame_is_solo : FramesAreSolo
+frame_is_solo w systems draws outcomes new l laws h = (
+  h.0,
+  h.1,
+  all_in_turn w h.0 [] (in_order systems) draws outcomes new l (all_in_order IsLawfulSystem systems laws)
+      (subst (AreBatches w (in_order systems)) (sym (append-nil h.0)) h.1) h.2,
+)
+
+-- and so is what was done of one that stopped
+pub part_is_solo : StoppedAreSolo
+part_is_solo w systems draws outcomes new l laws h =
+    (h.0, h.1, h.2, all_in_turn w h.0 h.1 (in_order systems) draws outcomes new l (all_in_order IsLawfulSystem systems laws) h.2 h.3)
+
+-- a frame, also one that stopped, leaves a lawful world lawful
+lawful_in_turn : (batches : List (List SystemModel)) (w : WorldState) (draws : List BatchDraws) (outcomes : Outcomes) (new : WorldState) → IsLawful w →
+    InTurn BatchRuns w batches draws outcomes new → IsLawful new
+lawful_in_turn [] w [] outcomes new l h = subst IsLawful (sym h.1) l
+lawful_in_turn [] w (d ∷ ds) outcomes new l h = absurd h
+lawful_in_turn (b ∷ bs) w [] outcomes new l h = absurd h
+lawful_in_turn (b ∷ bs) w (d ∷ ds) outcomes new l h =
+    let n : ℕ = length (drawn d) in
+    let run = h.3 in
+    lawful_in_turn bs h.2 ds h.1 new (runs_lawful run.1 (with_admitted n w) h.0 h.2 (lawful_admitted w n run.0.1 l) run.3) h.4
+
+pub frames_lawful : FramesKeepLawful
+frames_lawful w systems draws outcomes new l h = lawful_in_turn h.0 w draws outcomes new l h.3
+
+-- and one that stopped at its first batch has done nothing
+none_done : (done : List (List SystemModel)) (w : WorldState) (outcomes : Outcomes) (new : WorldState) → InTurn BatchRuns w done [] outcomes new →
+    (outcomes ≡ []) × (new ≡ w)
+none_done [] w outcomes new h = h
+none_done (b ∷ bs) w outcomes new h = absurd h
+
+pub nothing_done : StoppedAtOnceChangesNothing
+nothing_done w systems outcomes new h = none_done h.0 w outcomes new h.3

@@ -1,0 +1,210 @@
+-- A lawful world has a frame of systems whose rows take some draws, or one that stops where the draws would pass the limit.
+use Rattle.std.proofs.Common.{◌≡◌, ℕ, ◌+◌, Bool, true, false, List, [], ◌∷◌, ◌++◌, length, refl, sym, ap, ◌∙◌, subst, ◌⊎◌, inl, inr}
+use Rattle.std.specs.List.{AllByRecursion}
+use Rattle.std.proofs.lemmas.List.{append_assoc}
+use Rattle.eco_ids.specs.declared.entity.Entity.{Entity}
+use Rattle.eco_ids.specs.Births.{may_admit}
+use Rattle.eco_ids.specs.Lawful.{IsLawful}
+use Rattle.eco_ids.specs.Run.{Command}
+use Rattle.eco_ids.specs.World.{WorldState, entities}
+use Rattle.eco_ids.proofs.Runs.{runs_lawful}
+use Rattle.eco_systems.specs.Batches.{AreBatches, joined}
+use Rattle.eco_systems.specs.Frames.{BatchDraws, BatchRuns, InTurn, IsFrame, IsStopped, Outcomes, PassesLimit, drawn, fresh_from, with_admitted, AreFresh}
+use Rattle.eco_systems.specs.Laws.{FramesExist, TakesSome}
+use Rattle.eco_systems.specs.Phases.{in_order}
+use Rattle.eco_systems.specs.Recording.{BatchRecords, PiecesRecord, RowsRecord, pieces_of}
+use Rattle.eco_systems.specs.Rows.{ValuedRow, rows_of}
+use Rattle.eco_systems.specs.Systems.{SystemModel}
+use Rattle.eco_systems.proofs.BatchesExist.{batches_of}
+use Rattle.eco_systems.proofs.Frames.{all_in_order, all_joined, lawful_admitted}
+use Rattle.eco_systems.proofs.FreshDraws.{ascending_are_fresh, fresh_length, fresh_split}
+use Rattle.eco_systems.proofs.RunsEnd.{runs_end}
+
+joined_append : {A : Type 0} (xss yss : List (List A)) → joined (xss ++ yss) ≡ joined xss ++ joined yss
+joined_append [] yss = refl
+joined_append (xs ∷ xss) yss = ap (λ ys. xs ++ ys) (joined_append xss yss) ∙ sym (append_assoc xs (joined xss) (joined yss))
+
+-- ---- how many draws rows, pieces and systems take, and that they take as many fresh ones
+
+module _ (s : SystemModel) (some : TakesSome s) where
+  abbrev RowsTake : List ValuedRow → Type 0
+  RowsTake rows = (count : ℕ) × ((start : ℕ) → (commands : List Command) × RowsRecord s rows (fresh_from start count) commands)
+
+  rows_take : (rows : List ValuedRow) → RowsTake rows
+  rows_take [] = (0, λ start. ([], (refl, refl)))
+  rows_take (row ∷ rows) =
+      let mine = some row in
+      let rest = rows_take rows in (
+        mine.0 + rest.0,
+        λ start.
+            let later = rest.1 (start + mine.0) in
+            let own : List Entity = fresh_from start mine.0 in (
+              s.records row own ++ later.0,
+              (
+                own,
+                fresh_from (start + mine.0) rest.0,
+                later.0,
+                mine.1 own (fresh_length start mine.0),
+                later.1,
+                fresh_split start mine.0 rest.0,
+                refl,
+              ),
+            ),
+      )
+
+  abbrev PiecesTake : List (List ValuedRow) → Type 0
+  PiecesTake pieces = (count : ℕ) × ((start : ℕ) → (draws : List (List Entity)) × (commands : List Command)
+      × PiecesRecord s pieces draws commands × (joined draws ≡ fresh_from start count))
+
+  pieces_take : (pieces : List (List ValuedRow)) → PiecesTake pieces
+  pieces_take [] = (0, λ start. ([], [], refl, refl))
+  pieces_take (piece ∷ pieces) =
+      let one = rows_take piece in
+      let rest = pieces_take pieces in (
+        one.0 + rest.0,
+        λ start.
+            let now = one.1 start in
+            let later = rest.1 (start + one.0) in (
+              fresh_from start one.0 ∷ later.0,
+              now.0 ++ later.1,
+              (now.0, later.1, now.1, later.2, refl),
+              ap (λ xs. fresh_from start one.0 ++ xs) later.3 ∙ sym (fresh_split start one.0 rest.0),
+            ),
+      )
+
+module _ (w : WorldState) where
+  abbrev BatchTakes : List SystemModel → Type 0
+  BatchTakes batch = (count : ℕ) × ((start : ℕ) → (draws : BatchDraws) × (commands : List Command)
+      × BatchRecords w batch draws commands × (drawn draws ≡ fresh_from start count))
+
+  batch_takes : (batch : List SystemModel) → AllByRecursion TakesSome batch → BatchTakes batch
+  batch_takes [] some = (0, λ start. ([], [], refl, refl))
+  batch_takes (s ∷ batch) some =
+      let one = pieces_take s some.0 (pieces_of (rows_of w s.slots)) in
+      let rest = batch_takes batch some.1 in (
+        one.0 + rest.0,
+        λ start.
+            let now = one.1 start in
+            let later = rest.1 (start + one.0) in (
+              now.0 ∷ later.0,
+              now.1 ++ later.1,
+              (now.1, later.1, now.2, later.2, refl),
+              joined_append now.0 (joined later.0) ∙ (λ i. now.3 i ++ later.3 i) ∙ sym (fresh_split start one.0 rest.0),
+            ),
+      )
+
+  -- ---- a batch runs, or its draws would pass the limit
+
+  abbrev Runs : List SystemModel → Type 0
+  Runs batch = (draws : BatchDraws) × (outcomes : Outcomes) × (new : WorldState) × BatchRuns w batch draws outcomes new × IsLawful new
+
+  batch_ends : (batch : List SystemModel) → IsLawful w → AllByRecursion TakesSome batch → Runs batch ⊎ ((draws : BatchDraws) × PassesLimit w batch draws)
+  batch_ends batch l some = by (may_admit (entities w) (length (drawn draws))) refl
+    where
+      taken : BatchTakes batch
+      taken = batch_takes batch some
+
+      draws : BatchDraws
+      draws = (taken.1 (length w.indices)).0
+
+      commands : List Command
+      commands = (taken.1 (length w.indices)).1
+
+      records : BatchRecords w batch draws commands
+      records = (taken.1 (length w.indices)).2
+
+      are : drawn draws ≡ fresh_from (length w.indices) taken.0
+      are = (taken.1 (length w.indices)).3
+
+      fresh : AreFresh (length w.indices) draws
+      fresh = ascending_are_fresh (length w.indices) draws
+          (are ∙ ap (fresh_from (length w.indices)) (sym (ap length are ∙ fresh_length (length w.indices) taken.0)))
+
+      by : (b : Bool) → may_admit (entities w) (length (drawn draws)) ≡ b → Runs batch ⊎ ((draws : BatchDraws) × PassesLimit w batch draws)
+      by true room =
+          let m : IsLawful (with_admitted (length (drawn draws)) w) = lawful_admitted w (length (drawn draws)) room l in
+          let run = runs_end commands (with_admitted (length (drawn draws)) w) m in
+          inl (
+            draws,
+            run.0,
+            run.1,
+            ((fresh, room), commands, records, run.2),
+            runs_lawful commands (with_admitted (length (drawn draws)) w) run.0 run.1 m
+                run.2,
+          )
+      by false room = inr (draws, (fresh, room, commands, records))
+
+-- ---- batch after batch
+
+abbrev Whole : WorldState → List (List SystemModel) → Type 0
+Whole w batches = (draws : List BatchDraws) × (outcomes : Outcomes) × (new : WorldState) × InTurn BatchRuns w batches draws outcomes new
+
+record Stop (w : WorldState) (batches : List (List SystemModel)) : Type 0 where
+  done : List (List SystemModel)
+  batch : List SystemModel
+  rest : List (List SystemModel)
+  cut : batches ≡ done ++ batch ∷ rest
+  draws : List BatchDraws
+  outcomes : Outcomes
+  new : WorldState
+  ran : InTurn BatchRuns w done draws outcomes new
+  next : BatchDraws
+  passes : PassesLimit new batch next
+
+ends_in_turn : (batches : List (List SystemModel)) (w : WorldState) → IsLawful w → AllByRecursion (AllByRecursion TakesSome) batches →
+    Whole w batches ⊎ Stop w batches
+ends_in_turn [] w l some = inl ([], [], w, (refl, refl))
+ends_in_turn (b ∷ bs) w l some = first (batch_ends w b l some.0) (λ new m. ends_in_turn bs new m some.1)
+  where
+    onward : (one : Runs w b) → Whole one.2 bs ⊎ Stop one.2 bs → Whole w (b ∷ bs) ⊎ Stop w (b ∷ bs)
+    onward one (inl x) = inl (one.0 ∷ x.0, one.1 ++ x.1, x.2, (one.1, x.1, one.2, one.3, x.3, refl))
+    onward one (inr x) = inr (record {
+      done = b ∷ x.done;
+      batch = x.batch;
+      rest = x.rest;
+      cut = ap (λ ys. b ∷ ys) x.cut;
+      draws = one.0 ∷ x.draws;
+      outcomes = one.1 ++ x.outcomes;
+      new = x.new;
+      ran = (one.1, x.outcomes, one.2, one.3, x.ran, refl);
+      next = x.next;
+      passes = x.passes;
+    })
+
+    first : Runs w b ⊎ ((draws : BatchDraws) × PassesLimit w b draws) → ((new : WorldState) → IsLawful new → Whole new bs ⊎ Stop new bs) →
+        Whole w (b ∷ bs) ⊎ Stop w (b ∷ bs)
+    first (inl one) later = onward one (later one.2 one.4)
+    first (inr x) later = inr (record {
+      done = [];
+      batch = b;
+      rest = bs;
+      cut = refl;
+      draws = [];
+      outcomes = [];
+      new = w;
+      ran = (refl, refl);
+      next = x.0;
+      passes = x.1;
+    })
+
+batches_join : (w : WorldState) (systems : List SystemModel) (batches : List (List SystemModel)) → AreBatches w systems batches → systems ≡ joined batches
+batches_join w systems [] h = h
+batches_join w systems ([] ∷ bs) h = absurd h
+batches_join w systems ((s ∷ b) ∷ bs) h = h.0
+
+pub frames_exist : FramesExist
+frames_exist w systems l some = by (ends_in_turn batches w l each)
+  where
+    batches : List (List SystemModel)
+    batches = (batches_of w l (in_order systems)).0
+
+    are : AreBatches w (in_order systems) batches
+    are = (batches_of w l (in_order systems)).1
+
+    each : AllByRecursion (AllByRecursion TakesSome) batches
+    each = all_joined TakesSome batches (subst (AllByRecursion TakesSome) (batches_join w (in_order systems) batches are) (all_in_order TakesSome systems some))
+
+    by : Whole w batches ⊎ Stop w batches → (draws : List BatchDraws) × (outcomes : Outcomes) × (new : WorldState)
+        × (IsFrame w systems draws outcomes new ⊎ IsStopped w systems draws outcomes new)
+    by (inl x) = (x.0, x.1, x.2, inl (batches, are, x.3))
+    by (inr x) = (x.draws, x.outcomes, x.new, inr (x.done, x.batch, x.rest, x.next, subst (AreBatches w (in_order systems)) x.cut are, x.ran, x.passes))

@@ -1,0 +1,154 @@
+-- Lists that are filtered, searched and gathered.
+use Rattle.std.proofs.Common.{◌≡◌, Bool, true, false, cond, ◌&&◌, ◌||◌, List, [], ◌∷◌, ◌++◌, map, filter, refl, sym, ap, ◌∙◌, is_lt, IsTrue, ◌↔◌, ◌⊎◌, inl, inr}
+use Rattle.std.specs.Prelude.{flat_map}
+use Rattle.std.specs.List.{list_any, list_all, AllByRecursion, AllZip}
+use Rattle.eco_ids.specs.declared.id.Id.{Id}
+use Rattle.eco_ids.specs.Order.{id_cmp, id_eq, has_item, is_ascending}
+use Rattle.eco_ids.proofs.Ascending.{both, first, second}
+use Rattle.eco_ids.proofs.Facts.{id_eq_is, or_left, or_parts, or_right}
+use Rattle.eco_ids.proofs.IdOrder.{id_cmp_total, same_id}
+use Rattle.eco_ids.proofs.Members.{same_members}
+
+-- a filter by two tests is a filter after a filter
+pub filter_both : {A : Type 0} (q r : A → Bool) (xs : List A) → filter (λ x. q x && r x) xs ≡ filter r (filter q xs)
+filter_both q r [] = refl
+filter_both q r (x ∷ xs) =
+    elim (q x) as (λ b. cond (b && r x) (x ∷ filter (λ y. q y && r y) xs) (filter (λ y. q y && r y) xs) ≡ filter r (cond b (x ∷ filter q xs) (filter q xs))) [
+      | true ↦ λ i. cond (r x) (x ∷ filter_both q r xs i) (filter_both q r xs i)
+      | false ↦ filter_both q r xs
+    ]
+
+-- a search that asks for q finds nothing outside of q
+pub any_filtered : {A : Type 0} (a q b : A → Bool) (xs : List A) → list_any (λ x. a x && (q x && b x)) xs ≡ list_any (λ x. a x && (q x && b x)) (filter q xs)
+any_filtered a q b [] = refl
+any_filtered a q b (x ∷ xs) =
+    elim (q x) as (λ c. q x ≡ c → ((a x && (c && b x)) || list_any (λ y. a y && (q y && b y)) xs) ≡ list_any (λ y. a y && (q y && b y))
+    (cond c (x ∷ filter q xs) (filter q xs))) [
+      | true ↦ λ e. λ i. (a x && (sym e i && b x)) || any_filtered a q b xs i
+      | false ↦ λ e. no (a x) ∙ any_filtered a q b xs
+    ] refl
+  where
+    no : (c : Bool) → ((c && false) || list_any (λ y. a y && (q y && b y)) xs) ≡ list_any (λ y. a y && (q y && b y)) xs
+    no true = refl
+    no false = refl
+
+pub any_kept : {A : Type 0} (q : A → Bool) (xs : List A) → list_any q xs ≡ list_any q (filter q xs)
+any_kept q [] = refl
+any_kept q (x ∷ xs) =
+    elim (q x) as (λ c. q x ≡ c → (c || list_any q xs) ≡ list_any q (cond c (x ∷ filter q xs) (filter q xs))) [
+      | true ↦ λ e. ap (λ b. b || list_any q (filter q xs)) (sym e)
+      | false ↦ λ e. any_kept q xs
+    ] refl
+
+pub all_filtered : {A : Type 0} (t q : A → Bool) (xs : List A) → IsTrue (list_all t xs) → IsTrue (list_all t (filter q xs))
+all_filtered t q [] h = refl
+all_filtered t q (x ∷ xs) h =
+    elim (q x) as (λ c. IsTrue (list_all t (cond c (x ∷ filter q xs) (filter q xs)))) [
+      | true ↦ both _ _ (first (t x) _ h) (all_filtered t q xs (second (t x) _ h))
+      | false ↦ all_filtered t q xs (second (t x) _ h)
+    ]
+
+pub ascending_filtered : (q : Id → Bool) (xs : List Id) → IsTrue (is_ascending id_cmp xs) → IsTrue (is_ascending id_cmp (filter q xs))
+ascending_filtered q [] h = refl
+ascending_filtered q (x ∷ xs) h =
+    elim (q x) as (λ c. IsTrue (is_ascending id_cmp (cond c (x ∷ filter q xs) (filter q xs)))) [
+      | true ↦ both _ _ (all_filtered (λ y. is_lt (id_cmp x y)) q xs (first _ _ h))
+          (ascending_filtered q xs (second (list_all (λ y. is_lt (id_cmp x y)) xs) _ h))
+      | false ↦ ascending_filtered q xs (second (list_all (λ y. is_lt (id_cmp x y)) xs) _ h)
+    ]
+
+-- what a filter keeps
+pub item_filtered : (q : Id → Bool) (i : Id) (xs : List Id) → has_item id_cmp (filter q xs) i ≡ (q i && has_item id_cmp xs i)
+item_filtered q i [] = none (q i)
+  where
+    none : (b : Bool) → false ≡ (b && false)
+    none true = refl
+    none false = refl
+item_filtered q i (x ∷ xs) =
+    elim (q x) as (λ c. q x ≡ c → has_item id_cmp (cond c (x ∷ filter q xs) (filter q xs)) i ≡ (q i && (id_eq x i || has_item id_cmp xs i))) [
+      | true ↦ λ e. ap (λ b. id_eq x i || b) (item_filtered q i xs)
+          ∙ elim (id_eq x i) as (λ t. id_eq x i ≡ t → (t || (q i && has_item id_cmp xs i)) ≡ (q i && (t || has_item id_cmp xs i))) [
+            | true ↦ λ m. ap (λ b. b && true) (sym e ∙ ap q (id_eq_is x i m))
+            | false ↦ λ m. refl
+          ] refl
+      | false ↦ λ e. item_filtered q i xs ∙ elim (id_eq x i) as (λ t. id_eq x i ≡ t → (q i && has_item id_cmp xs i) ≡ (q i && (t || has_item id_cmp xs i))) [
+        | true ↦ λ m. ap (λ b. b && has_item id_cmp xs i) (sym (ap q (id_eq_is x i m)) ∙ e) ∙ sym (ap (λ b. b && true) (sym (ap q (id_eq_is x i m)) ∙ e))
+        | false ↦ λ m. refl
+      ] refl
+    ] refl
+
+-- two ascending lists with the same members that pass are filtered alike
+pub same_filtered : (q : Id → Bool) (xs ys : List Id) → IsTrue (is_ascending id_cmp xs) → IsTrue (is_ascending id_cmp ys)
+    → ((i : Id) → IsTrue (q i) → has_item id_cmp xs i ≡ has_item id_cmp ys i) → filter q xs ≡ filter q ys
+same_filtered q xs ys up vp is =
+    same_members id_cmp_total same_id (filter q xs) (filter q ys) (ascending_filtered q xs up) (ascending_filtered q ys vp)
+    (λ i. (λ h. sym (alike i) ∙ h, λ h. alike i ∙ h))
+  where
+    alike : (i : Id) → has_item id_cmp (filter q xs) i ≡ has_item id_cmp (filter q ys) i
+    alike i =
+        item_filtered q i xs
+        ∙ elim (q i) as (λ c. q i ≡ c → (c && has_item id_cmp xs i) ≡ (c && has_item id_cmp ys i)) [ true ↦ λ e. is i e | false ↦ λ e. refl ] refl
+        ∙ sym (item_filtered q i ys)
+
+-- nothing is gathered where each gives nothing
+pub gathers_nothing : {A B : Type 0} (xs : List A) → flat_map (λ x. let none : List B = [] in none) xs ≡ []
+gathers_nothing [] = refl
+gathers_nothing (x ∷ xs) = gathers_nothing xs
+
+-- what holds of each
+pub all_append : {A : Type 0} (P : A → Type 0) (xs ys : List A) → AllByRecursion P xs → AllByRecursion P ys → AllByRecursion P (xs ++ ys)
+all_append P [] ys p q = q
+all_append P (x ∷ xs) ys p q = (p.0, all_append P xs ys p.1 q)
+
+pub all_gathered : {A B : Type 0} (P : A → Type 0) (Q : B → Type 0) (f : A → List B) → ((x : A) → P x → AllByRecursion Q (f x)) → (xs : List A) →
+    AllByRecursion P xs → AllByRecursion Q (flat_map f xs)
+all_gathered P Q f step [] p = tt
+all_gathered P Q f step (x ∷ xs) p = all_append Q (f x) (flat_map f xs) (step x p.0) (all_gathered P Q f step xs p.1)
+
+pub all_mapped : {A B : Type 0} (P : A → Type 0) (Q : B → Type 0) (f : A → B) → ((x : A) → P x → Q (f x)) → (xs : List A) → AllByRecursion P xs →
+    AllByRecursion Q (map f xs)
+all_mapped P Q f step [] p = tt
+all_mapped P Q f step (x ∷ xs) p = (step x p.0, all_mapped P Q f step xs p.1)
+
+pub all_pass : {A : Type 0} (q : A → Bool) (xs : List A) → AllByRecursion (λ x. IsTrue (q x)) (filter q xs)
+all_pass q [] = tt
+all_pass q (x ∷ xs) =
+    elim (q x) as (λ c. q x ≡ c → AllByRecursion (λ y. IsTrue (q y)) (cond c (x ∷ filter q xs) (filter q xs))) [
+      | true ↦ λ e. (e, all_pass q xs)
+      | false ↦ λ e. all_pass q xs
+    ] refl
+
+-- maps that agree on each item
+pub same_mapped : {A B : Type 0} (P : A → Type 0) (f g : A → B) → ((x : A) → P x → f x ≡ g x) → (xs : List A) → AllByRecursion P xs → map f xs ≡ map g xs
+same_mapped P f g same [] p = refl
+same_mapped P f g same (x ∷ xs) p = λ i. same x p.0 i ∷ same_mapped P f g same xs p.1 i
+
+pub map_after : {A B C : Type 0} (f : A → B) (g : B → C) (xs : List A) → map g (map f xs) ≡ map (λ x. g (f x)) xs
+map_after f g [] = refl
+map_after f g (x ∷ xs) = ap (λ ys. g (f x) ∷ ys) (map_after f g xs)
+
+pub map_append : {A B : Type 0} (f : A → B) (xs ys : List A) → map f (xs ++ ys) ≡ map f xs ++ map f ys
+map_append f [] ys = refl
+map_append f (x ∷ xs) ys = ap (λ zs. f x ∷ zs) (map_append f xs ys)
+
+pub map_gathered : {A B C : Type 0} (f : A → List B) (g : B → C) (xs : List A) → map g (flat_map f xs) ≡ flat_map (λ x. map g (f x)) xs
+map_gathered f g [] = refl
+map_gathered f g (x ∷ xs) = map_append g (f x) (flat_map f xs) ∙ ap (λ zs. map g (f x) ++ zs) (map_gathered f g xs)
+
+pub zip_push : {A B : Type 0} (R : A → B → Type 0) (xs : List A) (ys : List B) (x : A) (y : B) → AllZip R xs ys → R x y → AllZip R (xs ++ x ∷ []) (ys ++ y ∷ [])
+zip_push R [] [] x y h r = (r, tt)
+zip_push R [] (b ∷ ys) x y h r = absurd h
+zip_push R (a ∷ xs) [] x y h r = absurd h
+zip_push R (a ∷ xs) (b ∷ ys) x y h r = (h.0, zip_push R xs ys x y h.1 r)
+
+-- a test of two parts, each exact
+pub either : {A B : Type 0} (a b : Bool) → IsTrue a ↔ A → IsTrue b ↔ B → IsTrue (a || b) ↔ (A ⊎ B)
+either {A = A} {B = B} a b p q = (λ h. there (or_parts a b h), λ h. here h)
+  where
+    there : IsTrue a ⊎ IsTrue b → A ⊎ B
+    there (inl h) = inl (p.0 h)
+    there (inr h) = inr (q.0 h)
+
+    here : A ⊎ B → IsTrue (a || b)
+    here (inl x) = or_left a b (p.1 x)
+    here (inr y) = or_right a b (q.1 y)

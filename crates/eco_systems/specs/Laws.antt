@@ -1,0 +1,78 @@
+-- The laws above the definitions, as the contracts of `src/laws.rt` cite them.
+use Rattle.std.specs.Prelude.{◌≡◌, ◌↔◌, ℕ, Bool, IsTrue, List, [], ◌∷◌, ◌++◌, length, map, slice_get, Some, Err, ◌⊎◌}
+use Rattle.std.specs.List.{AllByRecursion}
+use Rattle.eco_ids.specs.declared.entity.Entity.{Entity}
+use Rattle.eco_ids.specs.declared.refusal.Refusal.{Refusal}
+use Rattle.eco_ids.specs.Lawful.{IsLawful}
+use Rattle.eco_ids.specs.Run.{Command, Runs}
+use Rattle.eco_ids.specs.World.{WorldState}
+use Rattle.eco_systems.specs.Batches.{AreBatches, Conflict, joined}
+use Rattle.eco_systems.specs.Frames.{BatchDraws, Outcomes, IsFrame, IsSolo, IsFrameSoFar, IsSoloSoFar, IsStopped, AreAscending, AreFresh}
+use Rattle.eco_systems.specs.Joining.{batched}
+use Rattle.eco_systems.specs.Phases.{in_order, order_of}
+use Rattle.eco_systems.specs.Rows.{ValuedRow}
+use Rattle.eco_systems.specs.Systems.{IsLawfulSystem, SystemModel}
+
+-- a frame of lawful systems on a lawful world is the run of its systems one by one: with the same draws, outcomes and last world
+abbrev pub FramesAreSolo : Type 0
+FramesAreSolo =
+    (w : WorldState) (systems : List SystemModel) (draws : List BatchDraws) (outcomes : Outcomes) (new : WorldState)
+    → IsLawful w → AllByRecursion IsLawfulSystem systems → IsFrame w systems draws outcomes new → IsSolo w systems draws outcomes new
+
+-- so is what was done of a frame that stopped
+abbrev pub StoppedAreSolo : Type 0
+StoppedAreSolo =
+    (w : WorldState) (systems : List SystemModel) (draws : List BatchDraws) (outcomes : Outcomes) (new : WorldState)
+    → IsLawful w → AllByRecursion IsLawfulSystem systems → IsFrameSoFar w systems draws outcomes new → IsSoloSoFar w systems draws outcomes new
+
+-- each row takes some number of draws, whichever they are
+abbrev pub TakesSome : SystemModel → Type 0
+TakesSome s = (row : ValuedRow) → (count : ℕ) × ((draws : List Entity) → length draws ≡ count → IsTrue (s.takes row draws))
+
+-- a lawful world has a frame of such systems, or one that stops at a batch whose draws would pass the limit
+abbrev pub FramesExist : Type 0
+FramesExist =
+    (w : WorldState) (systems : List SystemModel) → IsLawful w → AllByRecursion TakesSome systems
+    → (draws : List BatchDraws) × (outcomes : Outcomes) × (new : WorldState) × (IsFrame w systems draws outcomes new ⊎ IsStopped w systems draws outcomes new)
+
+-- a frame, also one that stopped, leaves a lawful world lawful
+abbrev pub FramesKeepLawful : Type 0
+FramesKeepLawful =
+    (w : WorldState) (systems : List SystemModel) (draws : List BatchDraws) (outcomes : Outcomes) (new : WorldState)
+    → IsLawful w → IsFrameSoFar w systems draws outcomes new → IsLawful new
+
+-- a command that is refused changes nothing, be it for want of memory
+abbrev pub RefusedCommandsChangeNothing : Type 0
+RefusedCommandsChangeNothing =
+    (command : Command) (w : WorldState) (why : Refusal) (new : WorldState) → Runs w (command ∷ []) (Err why ∷ []) new → new ≡ w
+
+-- a frame that stopped at its first batch changes nothing
+abbrev pub StoppedAtOnceChangesNothing : Type 0
+StoppedAtOnceChangesNothing =
+    (w : WorldState) (systems : List SystemModel) (outcomes : Outcomes) (new : WorldState)
+    → IsFrameSoFar w systems [] outcomes new → (outcomes ≡ []) × (new ≡ w)
+
+-- a lawful world has batches
+abbrev pub BatchesExist : Type 0
+BatchesExist = (w : WorldState) (systems : List SystemModel) → IsLawful w → (batches : List (List SystemModel)) × AreBatches w systems batches
+
+-- there is one way to cut systems into batches
+abbrev pub BatchesAreUnique : Type 0
+BatchesAreUnique = (w : WorldState) (systems : List SystemModel) (xs ys : List (List SystemModel)) → AreBatches w systems xs → AreBatches w systems ys → xs ≡ ys
+
+-- systems that are joined one by one, each to the open batch unless it conflicts with one of it, are cut into the batches, and none
+-- is left out
+abbrev pub JoiningMakesBatches : Type 0
+JoiningMakesBatches =
+    (w : WorldState) (at : ℕ → SystemModel) (clash : List ℕ → ℕ → ℕ → Bool)
+    → ((before : List ℕ) (s t : ℕ) → IsTrue (clash before s t) ↔ Conflict w (map at before ++ at t ∷ []) (at s) (at t))
+    → (first : ℕ) (rest : List ℕ)
+    → (joined (batched clash [] [] (first ∷ rest)) ≡ first ∷ rest) × AreBatches w (map at (first ∷ rest)) (map (map at) (batched clash [] [] (first ∷ rest)))
+
+-- at the positions of declaration, in the order in which the systems run, stand the systems as they run
+abbrev pub OrderHasSystems : Type 0
+OrderHasSystems = (systems : List SystemModel) → map (slice_get systems) (order_of systems) ≡ map Some (in_order systems)
+
+-- draws that ascend over all pieces are fresh
+abbrev pub AscendingAreFresh : Type 0
+AscendingAreFresh = (known : ℕ) (draws : BatchDraws) → AreAscending known draws → AreFresh known draws

@@ -1,0 +1,10 @@
+pub mod Batches
+pub mod Closing
+pub mod Frames
+pub mod Joining
+pub mod Laws
+pub mod Phases
+pub mod Recording
+pub mod Rows
+pub mod Systems
+pub mod Writes

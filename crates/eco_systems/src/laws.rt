@@ -1,0 +1,43 @@
+//! Laws of frames: each function does nothing, and its contract is the law.
+ghost use Rattle.std.specs.Prelude.{◌≡◌};
+ghost use Rattle.eco_systems.specs.Laws.{AscendingAreFresh, BatchesAreUnique, BatchesExist, FramesAreSolo, FramesExist};
+ghost use Rattle.eco_systems.specs.Laws.{FramesKeepLawful, JoiningMakesBatches, OrderHasSystems};
+ghost use Rattle.eco_systems.specs.Laws.{RefusedCommandsChangeNothing, StoppedAreSolo, StoppedAtOnceChangesNothing};
+ghost use Rattle.eco_systems.specs.Phases.{phases};
+ghost use Rattle.eco_systems.specs.declared.phase.TheConstants.{PHASES};
+
+/// Every frame is the run of its systems one by one, and so is what was done of a frame that stopped.
+pub fn frames_are_one_by_one()
+    ensures whole { FramesAreSolo }
+    ensures stopped { StoppedAreSolo }
+{}
+
+/// Each lawful world has a frame, or one that stops where no indices are left, and it stays lawful.
+pub fn frames_exist()
+    ensures exist { FramesExist }
+    ensures lawful { FramesKeepLawful }
+{}
+
+/// What is refused changes nothing: a command, and the first batch of a frame.
+pub fn refused_changes_nothing()
+    ensures command { RefusedCommandsChangeNothing }
+    ensures batch { StoppedAtOnceChangesNothing }
+{}
+
+/// There is one way to cut systems into batches, a lawful world has it, and joining them one by one finds it.
+pub fn batches_are_unique()
+    ensures exist { BatchesExist }
+    ensures unique { BatchesAreUnique }
+    ensures joining { JoiningMakesBatches }
+{}
+
+/// Draws that ascend over all pieces are fresh.
+pub fn ascending_draws_are_fresh()
+    ensures { AscendingAreFresh }
+{}
+
+/// Systems run by phase, and within a phase as they were declared.
+pub fn systems_are_ordered()
+    ensures order { OrderHasSystems }
+    ensures phases { PHASES ≡ phases }
+{}

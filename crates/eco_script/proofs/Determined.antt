@@ -26,7 +26,8 @@ use Rattle.eco_script.specs.Replies.{Reply, merged, shown, replied, AnswersAdded
 use Rattle.eco_steps.specs.Commands.{Command}
 use Rattle.eco_steps.specs.Commands as command
 use Rattle.eco_steps.specs.Steps as step
-use Rattle.eco_world.specs.Merging.{Merges, Outcomes, RunsAdmitted, may_merge}
+use Rattle.eco_stages.specs.Outcomes.{Outcomes}
+use Rattle.eco_world.specs.Merging.{Merges, RunsAdmitted, may_merge}
 use Rattle.eco_script.specs.Text.{DoesInMemory, Text, TextInMemory, has_wanted, step_lines}
 
 -- what neither side of is true

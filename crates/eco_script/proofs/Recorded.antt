@@ -13,7 +13,8 @@ use Rattle.eco_ids.specs.World.{WorldState}
 use Rattle.eco_query.specs.Readings.{ok_map}
 use Rattle.eco_steps.specs.Commands.{Command}
 use Rattle.eco_steps.specs.Steps as step
-use Rattle.eco_world.specs.Merging.{Merges, Outcomes, may_merge}
+use Rattle.eco_stages.specs.Outcomes.{Outcomes}
+use Rattle.eco_world.specs.Merging.{Merges, may_merge}
 use Rattle.eco_script.specs.Recording.{ReadsCommand, ReadsCommands, has_stages}
 use Rattle.eco_script.specs.Replies.{Replies, merged, replied}
 

@@ -16,7 +16,8 @@ use Rattle.eco_query.specs.Queries.{QuerySlot}
 use Rattle.eco_answers.specs.Answers.{asked}
 use Rattle.eco_ids.specs.Run as run
 use Rattle.eco_world.specs.Cached.{AddsQuery}
-use Rattle.eco_world.specs.Merging.{Merges, Outcomes, may_merge}
+use Rattle.eco_stages.specs.Outcomes.{Outcomes}
+use Rattle.eco_world.specs.Merging.{Merges, may_merge}
 use Rattle.eco_world.specs.Queries.{may_query}
 use Rattle.eco_script.specs.Recording.{ReadsCommands, has_stages}
 use Rattle.eco_script.specs.References.{ReadsEntity, ReadsId, ReadsQuery}

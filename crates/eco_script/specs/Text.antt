@@ -14,7 +14,7 @@ use Rattle.eco_script.specs.Lines.{entity_line, row_line, shown_text}
 use Rattle.eco_script.specs.Replies.{Reply, done, made, truth, got, shown, listed, found, kept, merged, Replies}
 use Rattle.eco_steps.specs.Steps.{Step}
 use Rattle.eco_script.specs.Values.{Shown, shown_value}
-use Rattle.eco_world.specs.Merging.{Outcomes}
+use Rattle.eco_stages.specs.Outcomes.{Outcomes}
 
 -- the line of an entity, with what the world has of it
 abbrev pub line_of : WorldState → Entity → List ℕ

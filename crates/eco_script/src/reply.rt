@@ -43,22 +43,22 @@ fn push_refused_line(text: &mut String, refusal: &Refusal) -> Result<(), AllocEr
 }
 
 // Adds the line of a command.
-fn push_outcome_line(text: &mut String, outcome: &Result<(), Refusal>) -> Result<(), AllocError>
+fn push_outcome_line(text: &mut String, outcome: Result<(), Refusal>) -> Result<(), AllocError>
     ensures { OnOk result (string_bytes text.new
-        ≡ string_bytes text.old ++ outcome_line outcome.now) }
+        ≡ string_bytes text.old ++ outcome_line outcome) }
 {
     match outcome {
         Ok(()) => text.push_str("ok\n"),
-        Err(refusal) => push_refused_line(text, refusal),
+        Err(refusal) => push_refused_line(text, &refusal),
     }
 }
 
 // Adds the lines of commands.
-fn push_outcome_lines(text: &mut String, outcomes: &[Result<(), Refusal>]) -> Result<(), AllocError>
+fn push_outcome_lines(text: &mut String, report: &Report) -> Result<(), AllocError>
     ensures { OnOk result (string_bytes text.new
-        ≡ string_bytes text.old ++ flat_map outcome_line outcomes.now) }
+        ≡ string_bytes text.old ++ flat_map outcome_line report.now) }
 {
-    for outcome in outcomes {
+    for outcome in report.iter() {
         push_outcome_line(text, outcome)?;
     }
     Ok(())
@@ -129,7 +129,7 @@ impl Reply {
             Reply::Merged(report) => {
                 let count = report.len();
                 write!(text, "ok {count}\n")?;
-                push_outcome_lines(text, report.outcomes())
+                push_outcome_lines(text, report)
             }
         }
     }
@@ -146,6 +146,6 @@ pub fn push_step_lines(
 {
     match answer {
         Ok(reply) => reply.push_lines(text, world),
-        Err(refusal) => push_refused_line(text, refusal),
+        Err(refusal) => push_refused_line(text, &refusal),
     }
 }

@@ -1,6 +1,6 @@
 -- Commands that run one after another, and their outcomes.
 use Rattle.std.proofs.Common.{◌≡◌, ◌≤◌, ◌<◌, ℕ, ◌+◌, ◌-◌, ◌^◌, List, [], ◌∷◌, ◌++◌, length, take, get_or, true, false, true≢false, IsTrue, MatchBool}
-use Rattle.std.proofs.Common.{Result, Ok, Err, is_ok, IsOk, IfOk, OnErr, refl, sym, ap, subst, ◌∙◌}
+use Rattle.std.proofs.Common.{Result, Ok, Err, is_ok, IfOk, OnErr, OnOk, refl, sym, ap, subst, ◌∙◌}
 use Rattle.std.proofs.lemmas.List.{append-nil, append_assoc, flat_map_more, take_more, length-append}
 use native.Mathlib.Omega.{arith}
 use Rattle.eco_ids.specs.Laws.{RunsCompose}
@@ -11,7 +11,8 @@ use Rattle.eco_ids.specs.Run.{Command, Runs, Applies, may_want}
 use Rattle.eco_ids.specs.World.{WorldState, Record, OnEntities, entities, with_entities}
 use Rattle.eco_ids.specs.declared.refusal.Refusal.{Refusal}
 use Rattle.eco_ids.specs.declared.refusal.Refusal.TheVariants.{NoMoreIds}
-use Rattle.eco_world.specs.Merging.{Appends, Merges, Outcomes, RunsAdmitted, all_commands, has_commands}
+use Rattle.eco_stages.specs.Outcomes.{Outcomes}
+use Rattle.eco_world.specs.Merging.{Appends, Merges, RunsAdmitted, all_commands, has_commands}
 
 -- before the first command
 pub none_ran : (w : WorldState) (before : Outcomes) → Appends w [] before before w
@@ -42,18 +43,18 @@ module _ (stages : List (List Command)) (i : ℕ) (d : List Command) (less : i <
 
 module _ {X E : Type 0} (cs : List Command) (count : ℕ) (most : count ≤ length cs) where
   -- room that is refused was wanted for a command
-  pub some_there : (r : Result X E) → (count ≡ 0 → IsOk r) → OnErr r (IsTrue (has_commands cs))
-  some_there (Ok x) succeeds = tt
-  some_there (Err e) succeeds = elim cs as (λ (ds : List Command). count ≤ length ds → IsTrue (has_commands ds)) [
-    | [] ↦ λ less. absurd (true≢false (sym (succeeds (omega (arith, less)))))
+  pub some_there : (r : Result X E) → OnErr r (0 < count) → OnErr r (IsTrue (has_commands cs))
+  some_there (Ok x) some = tt
+  some_there (Err e) some = elim cs as (λ (ds : List Command). count ≤ length ds → IsTrue (has_commands ds)) [
+    | [] ↦ λ less. absurd (omega (arith, less, some))
     | d ∷ ds ↦ λ less. refl
   ] most
 
   -- so many that they can't be counted have no room
-  pub all_fit : (room : X → ℕ) → ((x : X) → room x < 2 ^ 63) → (count < 2 ^ 64 - 1 → length cs ≤ count) → (r : Result X E)
-      → IfOk r (λ x. count ≤ room x) → IfOk r (λ x. length cs ≤ room x)
-  all_fit room small least (Err e) fits = tt
-  all_fit room small least (Ok x) fits = let counted : count < 2 ^ 64 - 1 = omega (arith, fits, small x) in omega (arith, least counted, fits)
+  pub all_fit : (room : X → ℕ) → (count < 2 ^ 64 - 1 → length cs ≤ count) → (r : Result X E)
+      → OnOk r (count < 2 ^ 63) → IfOk r (λ x. count ≤ room x) → IfOk r (λ x. length cs ≤ room x)
+  all_fit room least (Err e) small fits = tt
+  all_fit room least (Ok x) small fits = let counted : count < 2 ^ 64 - 1 = omega (arith, small) in omega (arith, least counted, fits)
 
 -- commands that ran where the indices were admitted
 pub merged : (w mid new : WorldState) (n : ℕ) (cs : List Command) (items : Outcomes) → OnEntities (λ v. Admits {A = Record} v n) w (Ok (tt {0})) mid

@@ -1,5 +1,5 @@
 -- What holds of the world of a store holds whatever queries were added to it.
-use Rattle.std.proofs.Common.{◌≡◌, true, List, [], IsTrue, MatchBool, Result, Ok, Err, refl, ap}
+use Rattle.std.proofs.Common.{◌≡◌, true, List, [], IsTrue, MatchBool, Result, Ok, Err, ap}
 use Rattle.std.proofs.Common.{false}
 use Rattle.eco_ids.specs.declared.entity.Entity.{Entity}
 use Rattle.eco_ids.specs.declared.entity.TheConstants.{DELETE, PANIC}

@@ -7,10 +7,7 @@ use Rattle.eco_ids.specs.Run.{Command, Runs}
 use Rattle.eco_ids.specs.World.{WorldState, entities, with_entities}
 use Rattle.eco_ids.specs.declared.refusal.Refusal.{Refusal}
 use Rattle.eco_ids.specs.declared.refusal.Refusal.TheVariants.{NoMoreIds}
-
--- one for each command that ran: done, or why not
-abbrev pub Outcomes : Type 0
-Outcomes = List (Result (Unit {0}) Refusal)
+use Rattle.eco_stages.specs.Outcomes.{Outcomes}
 
 -- the commands of all stages, in order
 abbrev pub all_commands : List (List Command) → List Command

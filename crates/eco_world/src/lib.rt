@@ -4,17 +4,15 @@
 mod builtins;
 mod kept_query;
 mod query_id;
-mod report;
 mod row;
 mod table_rows;
 mod world;
 
 pub use eco_answers::Results;
 pub use eco_query::{Access, Query, Slot, Term};
-pub use eco_stages::{Command, Stage};
+pub use eco_stages::{Command, Report, Stage};
 pub use eco_tables::Values;
 pub use query_id::QueryId;
-pub use report::Report;
 pub use row::Row;
 pub use table_rows::TableRows;
 pub use world::World;

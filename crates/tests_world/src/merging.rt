@@ -32,7 +32,13 @@ fn answers(
     expected: &[Result<(), Refusal>],
 ) -> bool {
     match world.merge(admitted, stages) {
-        Ok(report) => report.outcomes() == expected,
+        Ok(report) => {
+            report.len() == expected.len()
+                && report
+                    .iter()
+                    .zip(expected)
+                    .all(|(own, other)| own == *other)
+        }
         Err(_) => false,
     }
 }

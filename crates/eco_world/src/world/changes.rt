@@ -1,6 +1,8 @@
 //! The calls that change a world.
-ghost use Rattle.std.specs.Prelude.{◌≡◌, ◌≤◌, ◌&&◌, ◌∷◌, [], false, IfErr, IfOk, IsOk, IsTrue, map, option_map, Some, MatchBool, Ok, OnErr, OnOk, true};
+ghost use Rattle.std.specs.Prelude.{◌≡◌, ◌≤◌, ◌&&◌, ◌∷◌, [], false, pos, IfErr, IfOk, IsOk, IsTrue, map, option_map, Some, MatchBool, Ok, OnErr, OnOk, true};
+ghost use Rattle.std.specs.List.{list_all};
 ghost use Rattle.std.specs.Option.{option_copied};
+ghost use Rattle.std.specs.Ordering.{int_eq};
 ghost use Rattle.eco_ids.specs.declared.id.Id.TheVariants.{Two};
 ghost use Rattle.eco_ids.specs.declared.value.TheConstants.{LARGEST_ARITY};
 ghost use Rattle.eco_ids.specs.Births.{Creates, may_create, MakesComponent, may_make_component};
@@ -17,15 +19,24 @@ ghost use Rattle.eco_store.specs.Store.{record_ids, with_exchanged, with_toggled
 
 use crate::world::World;
 use eco_ids::entity::{BUILTIN_COUNT, ON_DELETE, PANIC};
+use eco_ids::value::FIELD_COUNT;
 use eco_ids::{Entity, Id, Refusal, TypeList, Value};
 use eco_traits::{Prospect, Target, foresee, open_target};
 use std::alloc::{AllocError, Global};
+
+// Whether all these fields are 0.
+fn are_zero(fields: &[i64]) -> bool
+    ensures { result ≡ list_all (λ x. int_eq x (pos 0)) fields.now }
+{
+    fields.iter().all(|field| *field == 0)
+}
 
 // Whether the fields past the first `arity` are 0.
 fn is_zero_past(value: Value, arity: u8) -> bool
     ensures { result ≡ is_zero_past arity value }
 {
-    value.0.iter().skip(arity as usize).all(|field| *field == 0)
+    let past = arity as usize;
+    past >= FIELD_COUNT || are_zero(&value.0[past..])
 }
 
 // What each component has from the start: it can't be deleted while it is in use. So few ids take no memory.

@@ -1,5 +1,5 @@
 //! What stages recorded is done.
-ghost use Rattle.std.specs.Prelude.{◌≡◌, ◌+◌, ◌≤◌, ◌&&◌, [], nat_lt, length, vec_len, vec_capacity};
+ghost use Rattle.std.specs.Prelude.{◌≡◌, ◌+◌, ◌≤◌, ◌&&◌, [], nat_lt, length};
 ghost use Rattle.std.specs.Prelude.{IfOk, IsTrue, OnErr};
 ghost use Rattle.eco_ids.specs.Births.{Admits, MakesAlive, may_admit, may_make_alive};
 ghost use Rattle.eco_ids.specs.Outcome.{Meets};
@@ -8,10 +8,9 @@ ghost use Rattle.eco_ids.specs.World.{entities, OnEntities};
 ghost use Rattle.eco_stages.specs.Commands.{command_of, commands_of};
 ghost use Rattle.eco_world.specs.Merging.{all_commands, has_commands, Appends, Merges, may_merge};
 
-use crate::report::Report;
 use crate::world::World;
 use eco_ids::{Entity, Refusal};
-use eco_stages::{Command, Stage};
+use eco_stages::{Command, Outcomes, Report, Stage};
 use std::alloc::{AllocError, Global};
 
 impl World {
@@ -33,7 +32,7 @@ impl World {
         let mut outcomes = room_for(self.alloc, stages)?;
         self.admit(admitted)?;
         self.run_all(stages, &mut outcomes);
-        Ok(Report { outcomes })
+        Ok(Report::of(outcomes))
     }
 
     // So many more indices are known.
@@ -46,9 +45,9 @@ impl World {
     }
 
     // The commands of all stages are done, and their outcomes appended.
-    fn run_all(&mut self, stages: &[Stage], outcomes: &mut Vec<Result<(), Refusal>>)
-        requires { vec_len outcomes.old + length (all_commands stages.now) ≤ vec_capacity outcomes.old }
-        ensures { Appends self.old (all_commands stages.now) outcomes.old.items outcomes.new.items self.new }
+    fn run_all(&mut self, stages: &[Stage], outcomes: &mut Outcomes)
+        requires { length outcomes.old.outcomes + length (all_commands stages.now) ≤ outcomes.old.room }
+        ensures { Appends self.old (all_commands stages.now) outcomes.old.outcomes outcomes.new.outcomes self.new }
     {
         eco_ids::laws::runs_keep_lawful();
         for stage in stages {
@@ -57,17 +56,17 @@ impl World {
     }
 
     // The commands are done, one after another, and their outcomes appended.
-    fn run(&mut self, commands: &[Command], outcomes: &mut Vec<Result<(), Refusal>>)
-        requires { vec_len outcomes.old + length commands.now ≤ vec_capacity outcomes.old }
+    fn run(&mut self, commands: &[Command], outcomes: &mut Outcomes)
+        requires { length outcomes.old.outcomes + length commands.now ≤ outcomes.old.room }
         ensures ran { Appends self.old (commands_of commands.now)
-            outcomes.old.items outcomes.new.items self.new }
-        ensures grown { vec_len outcomes.new ≡ vec_len outcomes.old + length commands.now }
-        ensures room { vec_capacity outcomes.new ≡ vec_capacity outcomes.old }
+            outcomes.old.outcomes outcomes.new.outcomes self.new }
+        ensures grown { length outcomes.new.outcomes ≡ length outcomes.old.outcomes + length commands.now }
+        ensures room { outcomes.new.room ≡ outcomes.old.room }
     {
         eco_ids::laws::runs_keep_lawful();
         for command in commands {
             let outcome = self.apply(command);
-            outcomes.push_reserved(outcome);
+            outcomes.push(outcome);
         }
     }
 
@@ -100,9 +99,9 @@ impl World {
 }
 
 // Room for an outcome of each command. An `Err` comes where memory is refused.
-fn room_for(alloc: Global, stages: &[Stage]) -> Result<Vec<Result<(), Refusal>>, AllocError>
-    ensures none { IfOk result (λ v. v.items ≡ []) }
-    ensures room { IfOk result (λ v. length (all_commands stages.now) ≤ vec_capacity v) }
+fn room_for(alloc: Global, stages: &[Stage]) -> Result<Outcomes, AllocError>
+    ensures none { IfOk result (λ o. o.outcomes ≡ []) }
+    ensures room { IfOk result (λ o. length (all_commands stages.now) ≤ o.room) }
     ensures err { OnErr result (IsTrue (has_commands (all_commands stages.now))) }
 {
     // So many that they can't be counted have no room either.
@@ -110,5 +109,5 @@ fn room_for(alloc: Global, stages: &[Stage]) -> Result<Vec<Result<(), Refusal>>,
     for stage in stages {
         count = count.saturating_add(stage.len());
     }
-    Vec::with_capacity(alloc, count)
+    Outcomes::with_room(alloc, count)
 }

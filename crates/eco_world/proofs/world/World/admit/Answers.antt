@@ -1,6 +1,6 @@
 use Rattle.std.proofs.Common.{◌&&◌, nat_lt}
 use Rattle.eco_ids.specs.Births.{Admits, may_admit}
-use Rattle.eco_world.specs.Worlds.{asked_by, world_with}
+use Rattle.eco_world.specs.Worlds.{asked_by}
 use Rattle.eco_world.proofs.Steps.{lawful_lifted, lifted}
 use Rattle.eco_world.proofs.world.World.admit.Goals as goal
 

@@ -4,7 +4,7 @@ use Rattle.std.proofs.lemmas.List.{map-append}
 use Rattle.std.proofs.lemmas.List.Elements.{All-push}
 use Rattle.eco_ids.specs.Order.{id_cmp, without_item}
 use Rattle.eco_store.specs.declared.type_change.TypeChange.{TypeChange}
-use Rattle.eco_world.specs.Worlds.{asked_by, world_with}
+use Rattle.eco_world.specs.Worlds.{asked_by}
 use Rattle.eco_world.proofs.Removals.{taken_out_of_all}
 use Rattle.eco_world.proofs.world.World.changes_without.Goals as goal
 

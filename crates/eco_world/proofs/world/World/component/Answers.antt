@@ -5,7 +5,7 @@ use Rattle.eco_ids.specs.Births.{Makes, component_record}
 use Rattle.eco_ids.specs.Lawful.{is_proper_arity}
 use Rattle.eco_ids.proofs.Ascending.{both}
 use Rattle.eco_store.specs.Store.{record_name}
-use Rattle.eco_world.specs.Worlds.{asked_by, world_with}
+use Rattle.eco_world.specs.Worlds.{asked_by}
 use Rattle.eco_world.proofs.Steps.{lawful_lifted, lifted}
 use Rattle.eco_world.proofs.world.World.component.Goals as goal
 

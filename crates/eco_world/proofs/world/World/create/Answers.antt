@@ -1,7 +1,7 @@
 use Rattle.std.specs.Option.{option_copied}
 use Rattle.eco_ids.specs.Births.{Makes, bare}
 use Rattle.eco_store.specs.Store.{record_name}
-use Rattle.eco_world.specs.Worlds.{asked_by, world_with}
+use Rattle.eco_world.specs.Worlds.{asked_by}
 use Rattle.eco_world.proofs.Steps.{lawful_lifted, lifted}
 use Rattle.eco_world.proofs.world.World.create.Goals as goal
 

@@ -1,7 +1,7 @@
 use Rattle.std.proofs.Common.{None}
 use Rattle.eco_ids.specs.Births.{MakesAliveWith, bare}
 use Rattle.eco_ids.specs.Indices.{is_free_at}
-use Rattle.eco_world.specs.Worlds.{asked_by, world_with}
+use Rattle.eco_world.specs.Worlds.{asked_by}
 use Rattle.eco_world.proofs.Steps.{lawful_lifted, lifted}
 use Rattle.eco_world.proofs.world.World.make_alive.Goals as goal
 

@@ -8,7 +8,7 @@ use Rattle.eco_world.proofs.Merging.{none_ran, both_ran, stage_more, count_more}
 use Rattle.eco_world.proofs.world.World.run_all.Goals as goal
 
 pub loop-stage-init : goal.loop-stage-init
-loop-stage-init c = record { ran = none_ran c.args.self.now c.args.outcomes.now.items; grown = omega arith; room = refl }
+loop-stage-init c = record { ran = none_ran c.args.self.now c.args.outcomes.now.outcomes; grown = omega arith; room = refl }
 
 pub run-requires : goal.run-requires
 run-requires c =
@@ -33,8 +33,8 @@ loop-stage-preserved c =
     record {
       ran =
           rw more
-          (both_ran c.runs_keep_lawful.ensures.compose c.args.self.now c.loop-stage.self c.run.new.self (all_commands (take i ss)) c.args.outcomes.now.items
-          c.loop-stage.outcomes.items was.ran (commands_of c.commands.result.now) c.run.new.outcomes.items c.run.ensures.ran);
+          (both_ran c.runs_keep_lawful.ensures.compose c.args.self.now c.loop-stage.self c.run.new.self (all_commands (take i ss)) c.args.outcomes.now.outcomes
+          c.loop-stage.outcomes.outcomes was.ran (commands_of c.commands.result.now) c.run.new.outcomes.outcomes c.run.ensures.ran);
       grown = omega (arith, c.run.ensures.grown, was.grown, count_more ss i s less, own, there);
       room = c.run.ensures.room ∙ was.room;
     }

@@ -1,4 +1,4 @@
-use Rattle.std.proofs.Common.{◌≡◌, ◌≤◌, ◌<◌, length, get_or, vec_capacity, ap, subst}
+use Rattle.std.proofs.Common.{◌≡◌, ◌≤◌, ◌<◌, length, get_or, ap, subst}
 use Rattle.std.proofs.lemmas.List.{take_all}
 use native.Mathlib.Omega.{arith}
 use Rattle.eco_world.specs.Merging.{all_commands}
@@ -24,12 +24,12 @@ returns-clause-room c =
     let all = take_all c.loop-stage.stage-index c.args.stages.now c.loop-stage-test.false in
     let was = c.loop-stage.invariant in
     let n = c.loop-stage.count in
-    all_fit (all_commands c.args.stages.now) n (subst (λ ss. n ≤ length (all_commands ss)) all was.most) (λ v. vec_capacity v) (λ v. v.small)
+    all_fit (all_commands c.args.stages.now) n (subst (λ ss. n ≤ length (all_commands ss)) all was.most) (λ o. o.room)
     (subst (λ ss. n < 18446744073709551615 → length (all_commands ss) ≤ n) all was.least)
-    c.with_capacity.result c.with_capacity.ensures.capacity
+    c.with_room.result c.with_room.ensures.small c.with_room.ensures.room
 
 pub returns-clause-err : goal.returns-clause-err
 returns-clause-err c =
     let all = take_all c.loop-stage.stage-index c.args.stages.now c.loop-stage-test.false in
     some_there (all_commands c.args.stages.now) c.loop-stage.count (subst (λ ss. c.loop-stage.count ≤ length (all_commands ss)) all c.loop-stage.invariant.most)
-    c.with_capacity.result c.with_capacity.ensures.succeeds
+    c.with_room.result c.with_room.ensures.err

@@ -1,13 +1,14 @@
 //! What the commands of a merge answered.
 ghost use Rattle.std.specs.Prelude.{◌≡◌, ◌==◌, length};
 
-use eco_ids::Refusal;
+use crate::iter::Iter;
+use crate::outcomes::Outcomes;
 use std::marker::Model;
 
 /// The outcome of each command of a merge, in the order in which they ran: done, or why it was refused.
 #[derive(Debug)]
 pub struct Report {
-    pub(crate) outcomes: Vec<Result<(), Refusal>>,
+    outcomes: Outcomes,
 }
 
 // By hand, so that dropping it is one call: a derived drop is proved anew at each early return of whoever holds it.
@@ -18,20 +19,26 @@ impl Drop for Report {
 }
 
 impl Model for Report {
-    ghost use Rattle.std.specs.Prelude.{List, Result};
-    ghost use Rattle.eco_ids.specs.declared.refusal.Refusal.{Refusal};
+    ghost use Rattle.eco_stages.specs.Outcomes as specs;
 
-    ghost Value = { List (Result (Unit {0}) Refusal) };
+    ghost Value = { specs.Outcomes };
 
-    ghost view = { λ r. r.outcomes.items };
+    ghost view = { λ r. r.outcomes.outcomes };
 }
 
 impl Report {
-    /// One for each command.
-    pub fn outcomes(&self) -> &[Result<(), Refusal>]
-        ensures { result.now ≡ self.now }
+    /// Of these outcomes.
+    pub fn of(outcomes: Outcomes) -> Report
+        ensures { result ≡ outcomes.outcomes }
     {
-        self.outcomes.as_slice()
+        Report { outcomes }
+    }
+
+    /// The outcome of each command.
+    pub fn iter(&self) -> Iter<'_>
+        ensures { result ≡ self.now }
+    {
+        self.outcomes.iter()
     }
 
     /// How many commands ran, the refused ones counted.
@@ -45,6 +52,6 @@ impl Report {
     pub fn is_empty(&self) -> bool
         ensures { result ≡ (length self.now == 0) }
     {
-        self.outcomes.is_empty()
+        self.outcomes.len() == 0
     }
 }

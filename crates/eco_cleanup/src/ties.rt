@@ -60,6 +60,9 @@ impl Ties<'_> {
         ensures { OnOk result (Appends (touches (world_of self.now.store.now.entities) self.now.places entity)
             found.old.items found.new.items) }
     {
+        if !self.places.archetypes().is_named(entity) {
+            return Ok(());
+        }
         self.append_listed(entity, Pattern::One(entity), found)?;
         self.append_listed(entity, Pattern::Two(Part::Is(entity), Part::Any), found)?;
         self.append_listed(entity, Pattern::Two(Part::Any, Part::Is(entity)), found)

@@ -1,5 +1,5 @@
 //! For each pattern, the slots of the tables whose types have an id that it matches.
-ghost use Rattle.std.specs.Prelude.{◌≡◌, ◌<◌, ℕ, Some, None, true, false, nat_eq, slice_get, OnOk, OnErr, IfSome, IfNone};
+ghost use Rattle.std.specs.Prelude.{◌≡◌, ◌<◌, ◌≤◌, ℕ, Some, None, true, false, nat_eq, slice_get, take, OnOk, OnErr, IfSome, IfNone};
 ghost use Rattle.std.specs.Option.{option_copied, option_map};
 ghost use Rattle.std.specs.HashMap.{get, Updates};
 ghost use Rattle.indexmap.specs.IndexMap.{index_map_len};
@@ -86,13 +86,21 @@ impl IdIndex {
         if !self.marks.may_keep(key) {
             return None;
         }
+        self.value(key)
+    }
+
+    // The slots that are listed under the key, if it is kept. It is apart, so that the marks of a key that is not kept cost no
+    // call.
+    #[inline(never)]
+    fn value(&self, key: Key) -> Option<&Slots>
+        ensures { option_copied result ≡ get same_key self.now.slots key }
+    {
         let (_, slots) = self.find(key)?;
         Some(slots)
     }
 
-    // Where the key stands, with the slots that are listed under it, if it is kept. Most keys stand where they stood last. It is
-    // apart, so that the marks of a key that is not kept cost no call.
-    #[inline(never)]
+    // Where the key stands, with the slots that are listed under it, if it is kept. Most keys stand where they stood last.
+    #[inline(always)]
     fn find(&self, key: Key) -> Option<(usize, &Slots)>
         ensures at { IfSome result (λ p. slice_get self.now.slots.entries p.0 ≡ Some (key, p.1.now)) }
         ensures value { option_map (λ p. p.1.now) result ≡ get same_key self.now.slots key }
@@ -141,6 +149,7 @@ impl IdIndex {
     }
 
     // Takes the slot off the key's list, and with the last one the list. It takes no memory.
+    #[inline(always)]
     fn take(&mut self, key: Key, slot: usize)
         ensures { Turns false (has_key key) (lists_of self.old.slots) (lists_of self.new.slots) slot }
     {
@@ -179,12 +188,24 @@ impl IdIndex {
         Ok(())
     }
 
-    fn take_keys(&mut self, keys: &[Key], slot: usize)
-        ensures { Turns false (has_one keys.now) (lists_of self.old.slots) (lists_of self.new.slots) slot }
+    // Takes the slot off the lists of the first so many keys of a pair. Each key is named by its kind, so that the look at its
+    // mark and the one at what stands in its place need no choice among kinds.
+    fn take_pair(&mut self, relationship: Entity, target: Entity, own: usize, slot: usize)
+        requires least { 2 ≤ own }
+        requires most { own ≤ 4 }
+        ensures { Turns false (has_one (take own (keys_of (Two relationship target))))
+            (lists_of self.old.slots) (lists_of self.new.slots) slot }
     {
-        for key in keys {
-            self.take(*key, slot);
+        self.take(Key::Pair(relationship, target), slot);
+        self.take(Key::Target(target), slot);
+        if own == 2 {
+            return;
         }
+        self.take(Key::Relationship(relationship), slot);
+        if own == 3 {
+            return;
+        }
+        self.take(Key::AnyPair, slot);
     }
 
     // Lists the slot under the keys of an id. Those that the id before it has too list the slot already.
@@ -216,10 +237,10 @@ impl IdIndex {
         ensures { Turns false (matches_id id) (lists_of self.old.slots) (lists_of self.new.slots) slot }
     {
         match id {
-            Id::One(entity) => self.take_keys(&[Key::Single(entity)], slot),
+            Id::One(entity) => self.take(Key::Single(entity), slot),
             Id::Two(relationship, target) => {
-                let keys = keys_of_pair(relationship, target);
-                self.take_keys(&keys[..own_count(before, relationship)], slot);
+                let own = own_count(before, relationship);
+                self.take_pair(relationship, target, own, slot);
             }
         }
     }

@@ -385,6 +385,7 @@ impl EntityIndex {
     }
 
     // The living entity has no name any more.
+    #[inline(always)]
     fn unname(&mut self, entity: Entity)
         requires { IsTrue (is_alive self.old entity) }
         ensures { self.new ≡ changed self.old entity (renamed None) }

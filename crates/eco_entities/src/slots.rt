@@ -342,6 +342,7 @@ impl Slots {
     }
 
     /// The living entity has no name from now on. The answer is the one that it had.
+    #[inline(always)]
     pub(crate) fn take_name(&mut self, entity: Entity) -> Option<String>
         requires { IsTrue (is_alive self.old entity) }
         ensures renamed { self.new ≡ changed self.old entity (renamed None) }

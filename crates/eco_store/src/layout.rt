@@ -173,6 +173,7 @@ impl Layout {
 
     /// Writes the value of an id in a row, which has no more fields than the tables keep of it, and takes no memory. The answer
     /// is whether the table's type has the id; where it lacks it nothing is written. No move is to come from then on.
+    #[inline(always)]
     pub fn set_value(&mut self, place: Place, id: Id, value: Value) -> bool
         requires row { place.row < length (rows_in self.old.tables place.table) }
         requires fits { FitsIn self.old.tables id value }

@@ -126,6 +126,7 @@ impl Store {
     }
 
     /// The arity of a living entity, if it has one.
+    #[inline(always)]
     pub fn arity_of(&self, e: Entity) -> Option<u8>
         ensures { result ≡ own_arity self.now.entities e }
     {
@@ -329,6 +330,7 @@ impl Store {
 
     /// Writes the value of an id that a living entity has, and takes no memory: fields past the id's arity are 0, since tables
     /// need not keep them. The answer is whether it has the id; where it lacks it nothing is written.
+    #[inline(always)]
     pub fn set_value(&mut self, e: Entity, id: Id, value: Value) -> bool
         requires alive { IsTrue (is_alive self.old.entities e) }
         requires fits { IsTrue (fits self.old.entities id value) }

@@ -141,6 +141,7 @@ impl World {
     }
 
     /// How many fields the values of this entity have, if it lives and is a component.
+    #[inline(always)]
     pub fn arity_of(&self, entity: Entity) -> Option<u8>
         ensures { result ≡ arity_of self.now entity }
     {
@@ -209,6 +210,7 @@ impl World {
 
     /// How many fields the values of the id have, where it is data: an entity's are its own; a pair has its
     /// relationship's, else its target's, and a pair of a built-in has none (Flecs manual, Relationships).
+    #[inline(always)]
     pub fn arity(&self, id: Id) -> Option<u8>
         ensures { result ≡ arity self.now id }
     {

@@ -160,7 +160,7 @@ impl Archetypes {
 
     /// Whether an id of some table's type names the entity. Where none does, no table is looked at, and mostly the marks of
     /// the index tell so at once. It takes no memory.
-    #[inline]
+    #[inline(always)]
     pub fn is_named(&self, entity: Entity) -> bool
         ensures { result ≡ is_named_by_some self.now entity }
     {

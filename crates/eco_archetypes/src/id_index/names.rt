@@ -12,7 +12,7 @@ use eco_ids::Entity;
 impl IdIndex {
     /// Whether a slot is listed under a pattern of the ids that name the entity. Most entities are in no type, which the marks
     /// tell. It takes no memory.
-    #[inline]
+    #[inline(always)]
     pub fn names(&self, entity: Entity) -> bool
         ensures { IsTrue result ↔ ListsSome (lists_of self.now.slots) (naming entity) }
     {
@@ -20,7 +20,7 @@ impl IdIndex {
     }
 
     // Whether a key is kept of the entity alone, as a relationship or as a target.
-    #[inline]
+    #[inline(always)]
     fn keeps_name(&self, entity: Entity) -> bool
         ensures { result ≡ keeps_name self.now.slots entity }
     {

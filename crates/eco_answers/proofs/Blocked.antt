@@ -17,7 +17,7 @@ use Rattle.eco_store.specs.declared.standing.Standing.{Standing}
 use Rattle.eco_answers.specs.Flat.{IsEven}
 use Rattle.eco_answers.specs.declared.blocks.Block.{Block}
 use Rattle.eco_answers.specs.declared.blocks.Blocks.{Blocks}
-use Rattle.eco_answers.specs.Blocks.{AreBlocks, AreSingle, IsBlock, block_at, rows_in, rows_from, results, results_at, rows_of, shown}
+use Rattle.eco_answers.specs.Blocks.{AreBlocks, AreOnly, AreSingle, IsBlock, block_at, rows_in, rows_from, results, results_at, rows_of, shown}
 
 rows_more : (e : Entity) (first n : ℕ) → rows_from e first (suc n) ≡ rows_from e first n ++ record { entity = e; place = first + n } ∷ []
 rows_more e first zero = let k : first ≡ first + 0 = omega arith in ap (λ j. record { entity = e; place = j } ∷ []) k
@@ -133,6 +133,55 @@ blocks_more cs all bs i b long each is k lt = by (nat_lt k i) refl
         let same : k ≡ i = omega (arith, high, lt) in
         subst (λ j. IsBlock (all ++ cs i) (cs j) (block_at (bs ++ b ∷ []) j)) (sym same)
         (subst (IsBlock (all ++ cs i) (cs i)) (sym (ap (block_at (bs ++ b ∷ [])) (sym long) ∙ at_end bs b)) (block_new all (cs i) b is))
+
+-- ---- one choice for each table
+
+all_front : {X : Type 0} (all : List (List X)) (own : List X) (k : ℕ) → k < length all → slice_index_or (all ++ own ∷ []) k [] ≡ slice_index_or all k []
+all_front [] own k lt = absurd (omega (arith, lt))
+all_front (c ∷ all) own zero lt = refl
+all_front (c ∷ all) own (suc k) lt = all_front all own k (omega (arith, lt))
+
+all_end : {X : Type 0} (all : List (List X)) (own : List X) → slice_index_or (all ++ own ∷ []) (length all) [] ≡ own
+all_end [] own = refl
+all_end (c ∷ all) own = all_end all own
+
+one_list : {X : Type 0} (cs : List (List X)) → length cs ≡ 1 → cs ≡ slice_index_or cs 0 [] ∷ []
+one_list [] e = absurd (omega (arith, e))
+one_list (c ∷ []) e = refl
+one_list (c ∷ d ∷ cs) e = absurd (omega (arith, e))
+
+-- one more table has one choice
+pub only_more : {X : Type 0} (cs : ℕ → List (List X)) (all : List (List X)) (i : ℕ) → length all ≡ i →
+    ((k : ℕ) → k < i → cs k ≡ slice_index_or all k [] ∷ []) → length (cs i) ≡ 1 →
+    (k : ℕ) → k < i + 1 → cs k ≡ slice_index_or (all ++ cs i) k [] ∷ []
+only_more {X = X} cs all i long each one k lt = by (nat_lt k i) refl
+  where
+    own : List X
+    own = slice_index_or (cs i) 0 []
+
+    by : (c : Bool) → nat_lt k i ≡ c → cs k ≡ slice_index_or (all ++ cs i) k [] ∷ []
+    by true e =
+        let low : k < i = grind (arith, nat_tests) in
+        each k low ∙ ap (λ c. c ∷ []) (sym (all_front all own k (omega (arith, low, long))))
+        ∙ ap (λ ds. slice_index_or (all ++ ds) k [] ∷ []) (sym (one_list (cs i) one))
+    by false e =
+        let high : i ≤ k = grind (arith, nat_tests) in
+        let same : k ≡ i = omega (arith, high, lt) in
+        let there : k ≡ length all = omega (arith, same, long) in
+        ap cs same ∙ one_list (cs i) one ∙ ap (λ c. c ∷ []) (sym (all_end all own))
+        ∙ ap (λ j. slice_index_or (all ++ own ∷ []) j [] ∷ []) (sym there)
+        ∙ ap (λ ds. slice_index_or (all ++ ds) k [] ∷ []) (sym (one_list (cs i) one))
+
+-- where each table has one choice, all who stand there are the rows
+pub only_shown : (tables : List (Option TableState)) (ns : List ℕ) (terms : List QueryTerm) (all : List (List (Option Id))) → AreOnly tables ns terms all →
+    (ss : List Standing) → All (λ (s : Standing). s.place < length ns) ss → map (shown all) ss ≡ results_at tables ns terms ss
+only_shown tables ns terms all are ss within = go ss (recursion_from_All (λ (s : Standing). s.place < length ns) ss within)
+  where
+    go : (ss : List Standing) → AllByRecursion (λ (s : Standing). s.place < length ns) ss → map (shown all) ss ≡ results_at tables ns terms ss
+    go [] within = refl
+    go (s ∷ ss) within =
+        ap (λ zs. shown all s ∷ zs) (go ss within.1)
+        ∙ ap (λ cs. map (λ es. record { entity = s.entity; entries = es }) cs ++ results_at tables ns terms ss) (sym (are.each s.place within.0))
 
 -- ---- the results
 

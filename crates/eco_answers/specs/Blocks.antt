@@ -50,6 +50,11 @@ pub record AreBlocks (tables : List (Option TableState)) (slots : List ℕ) (ter
 abbrev pub AreSingle : List Block → Type 0
 AreSingle blocks = (k : ℕ) → k < length blocks → block_at blocks k ≡ record { first = k; end = k + 1 }
 
+-- there is one choice for each slot, the one of its table
+pub record AreOnly (tables : List (Option TableState)) (slots : List ℕ) (terms : List QueryTerm) (all : List (List (Option Id))) : Type 0 where
+  pub long : length all ≡ length slots
+  pub each : (k : ℕ) → k < length slots → choices (table_in tables (slice_index_or slots k 0)).ids terms ≡ slice_index_or all k [] ∷ []
+
 -- what a row shows
 abbrev pub shown : List (List (Option Id)) → Standing → answers.Row
 shown all r = record { entity = r.entity; entries = slice_index_or all r.place [] }

@@ -1,9 +1,13 @@
 //! Choices of entries: lists of one width, kept one behind another.
 ghost use Rattle.std.specs.Prelude.{◌≡◌, ◌<◌, ◌≤◌, ◌*◌, ◌++◌, ◌∷◌, ◌+◌, [], Some, suc, length, map, flat_map, slice_get};
-ghost use Rattle.std.specs.Prelude.{IfOk, OnOk, OnErr};
+ghost use Rattle.std.specs.Prelude.{IfOk, IsTrue, OnOk, OnErr};
+ghost use Rattle.eco_ids.specs.Answer as answers;
+ghost use Rattle.eco_answers.specs.Answers.{asks};
 ghost use Rattle.eco_answers.specs.Flat.{chunks, IsEven};
 
-use eco_ids::Id;
+use crate::single::add_only;
+use eco_ids::{Id, TypeList};
+use eco_query::Slot;
 use std::alloc::{AllocError, Global};
 use std::marker::Model;
 
@@ -161,6 +165,25 @@ impl Choices {
         self.entries.extend_from_slice(choice)?;
         self.count += 1;
         Ok(())
+    }
+
+    /// Whether each slot may have just one entry on this type. Then their one choice stands behind these; and else no choice
+    /// is left, as where memory is refused.
+    pub fn push_only(&mut self, slots: &[Slot], ids: &TypeList) -> Result<bool, AllocError>
+        requires some { 0 < self.old.width }
+        requires even { length slots.now ≡ self.old.width }
+        ensures one { IfOk result (λ is. IsTrue is → length (answers.choices ids.now (asks slots.now)) ≡ 1) }
+        ensures only { IfOk result (λ is. IsTrue is → self.new
+            ≡ record self.old { all = self.old.all ++ answers.choices ids.now (asks slots.now) }) }
+    {
+        let added = add_only(slots, ids, &mut self.entries);
+        if let Ok(true) = added {
+            self.count += 1;
+        } else {
+            self.entries.clear();
+            self.count = 0;
+        }
+        added
     }
 
     /// Puts other choices of the same width behind these. An `Err` changes nothing.

@@ -1,5 +1,5 @@
 //! The entries that a slot may have on an entity.
-ghost use Rattle.std.specs.Prelude.{◌≡◌, ◌++◌, map, filter, find, Some, OnOk, option_to_list, ◌&&◌};
+ghost use Rattle.std.specs.Prelude.{◌≡◌, ◌++◌, ◌∷◌, [], map, filter, find, Some, OnOk, option_to_list, ◌&&◌};
 ghost use Rattle.std.specs.List.{list_any};
 ghost use Rattle.std.specs.Ordering.{is_lt};
 ghost use Rattle.eco_ids.specs.Answer.{entries_of, is_least_match, same_filling};
@@ -55,8 +55,42 @@ fn is_less(pattern: Pattern, id: Id, other: Id) -> bool
     id < other && pattern.matches(id) && fills_alike(pattern, id, other)
 }
 
-// Puts the least match of each filling behind other entries.
-fn add_least(pattern: Pattern, ids: &[Id], entries: &mut Vec<Option<Id>>) -> Result<(), AllocError>
+// Puts one more behind others. There is room for it mostly.
+#[inline]
+fn put(entry: Option<Id>, entries: &mut Vec<Option<Id>>) -> Result<(), AllocError>
+    ensures { OnOk result (entries.new.items ≡ entries.old.items ++ entry ∷ []) }
+{
+    if entries.len() == entries.capacity() {
+        entries.reserve(1)?;
+    }
+    entries.push_reserved(entry);
+    Ok(())
+}
+
+// Puts the least match of each filling behind other entries. Most queries ask for single ids and for the targets of a
+// relationship: each of these has a loop of its own, which the compiler makes for its pattern alone.
+#[inline(always)]
+fn add_least(pattern: &Pattern, ids: &[Id], entries: &mut Vec<Option<Id>>) -> Result<(), AllocError>
+    ensures { OnOk result (entries.new.items
+        ≡ entries.old.items ++ map Some (filter (is_least_match pattern.now ids.now) ids.now)) }
+{
+    match *pattern {
+        Pattern::One(entity) => add_matches(Pattern::One(entity), ids, entries),
+        Pattern::Two(Part::Is(relationship), Part::Each) => {
+            let targets = Pattern::Two(Part::Is(relationship), Part::Each);
+            add_matches(targets, ids, entries)
+        }
+        _ => add_least_of(*pattern, ids, entries),
+    }
+}
+
+// Puts the least match of each filling of any pattern behind other entries.
+#[inline(never)]
+fn add_least_of(
+    pattern: Pattern,
+    ids: &[Id],
+    entries: &mut Vec<Option<Id>>,
+) -> Result<(), AllocError>
     ensures { OnOk result (entries.new.items ≡ entries.old.items ++ map Some (filter (is_least_match pattern ids.now) ids.now)) }
 {
     if has_any(pattern) {
@@ -78,6 +112,7 @@ fn has_any(pattern: Pattern) -> bool
 }
 
 // Puts the ids that match behind other entries.
+#[inline(always)]
 fn add_matches(
     pattern: Pattern,
     ids: &[Id],
@@ -87,7 +122,7 @@ fn add_matches(
 {
     for id in ids {
         if pattern.matches(*id) {
-            entries.push(Some(*id))?;
+            put(Some(*id), entries)?;
         }
     }
     Ok(())
@@ -110,6 +145,7 @@ fn add_least_alike(
 }
 
 /// Puts the entries that the slot may have on an entity of this type behind others: none, where the slot doesn't hold.
+#[inline(always)]
 pub fn add_entries(
     slot: &Slot,
     ids: &TypeList,
@@ -118,7 +154,7 @@ pub fn add_entries(
     ensures { OnOk result (entries.new.items ≡ entries.old.items ++ entries_of ids.now (term_view slot.now.term)) }
 {
     match &slot.term {
-        Term::And(pattern) => add_least(*pattern, ids.as_slice(), entries)?,
+        Term::And(pattern) => add_least(pattern, ids.as_slice(), entries)?,
         Term::Not(pattern) => {
             if !has_match(ids.as_slice(), *pattern) {
                 entries.push(None)?;
@@ -131,6 +167,7 @@ pub fn add_entries(
 }
 
 // Whether one of the ids matches.
+#[inline(never)]
 fn has_match(ids: &[Id], pattern: Pattern) -> bool
     ensures { result ≡ list_any (pattern_matches pattern) ids.now }
 {
@@ -138,6 +175,7 @@ fn has_match(ids: &[Id], pattern: Pattern) -> bool
 }
 
 // Puts the first of the alternatives that the type has behind other entries.
+#[inline(never)]
 fn add_first(
     ids: &TypeList,
     alternatives: &[Id],

@@ -8,6 +8,7 @@ mod entries;
 mod iter;
 mod product;
 mod results;
+mod single;
 
 pub use asking::Asking;
 pub use iter::Iter;

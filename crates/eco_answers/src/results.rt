@@ -9,7 +9,7 @@ ghost use Rattle.eco_answers.specs.Blocks.{results_at, shown};
 ghost use Rattle.eco_store.specs.Worlds.{world_of};
 
 use crate::asking::Asking;
-use crate::blocks::{Blocks, blocks_of, rows_of};
+use crate::blocks::{Blocks, blocks_of, only_of, rows_of};
 use crate::choices::Choices;
 use crate::iter::Iter;
 use eco_ids::{Entity, Id};
@@ -110,6 +110,38 @@ fn with_rows(rows: Vec<Standing>, made: Blocks) -> Results
 
 // The results of all who stand in the tables that were found.
 fn results_in(alloc: Global, found: Standings<'_>, terms: &[Slot]) -> Result<Results, AllocError>
+    requires some { 0 < length terms.now }
+    requires there { All (λ n. IsSome (slot_of found.tables.now n)) found.slots.items }
+    requires places { All (λ s. s.place < length found.slots.items) found.list.items }
+    ensures { IfOk result (λ r. r
+        ≡ results_at found.entry.tables.now found.entry.slots.items (asks terms.now) found.entry.list.items) }
+{
+    match only_of(alloc, found.tables, &found.slots, terms)? {
+        // Each who stands somewhere is its own one row.
+        Some(choices) => Ok(alone_in(found, choices)),
+        None => expanded_in(alloc, found, terms),
+    }
+}
+
+// The same, where each table has one choice.
+fn alone_in(found: Standings<'_>, choices: Choices) -> Results
+    requires only { length choices.all ≡ length found.slots.items }
+    requires places { All (λ s. s.place < length found.slots.items) found.list.items }
+    ensures { result ≡ map (shown choices.all) found.entry.list.items }
+{
+    let Standings {
+        tables: _,
+        slots: _,
+        list,
+    } = found;
+    Results {
+        rows: list,
+        choices,
+    }
+}
+
+// The same, where a table may have several choices.
+fn expanded_in(alloc: Global, found: Standings<'_>, terms: &[Slot]) -> Result<Results, AllocError>
     requires some { 0 < length terms.now }
     requires there { All (λ n. IsSome (slot_of found.tables.now n)) found.slots.items }
     requires places { All (λ s. s.place < length found.slots.items) found.list.items }

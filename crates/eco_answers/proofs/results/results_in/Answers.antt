@@ -1,26 +1,12 @@
-use Rattle.std.proofs.Common.{◌≡◌, ◌<◌, List, map, ap, ◌∙◌, sym, subst, length}
-use Rattle.std.specs.List.{All}
-use Rattle.eco_store.specs.declared.standing.Standing.{Standing}
+use Rattle.std.proofs.Common.{◌∙◌}
 use Rattle.eco_answers.specs.Answers.{asks}
-use Rattle.eco_answers.specs.Blocks.{rows_of, shown}
-use Rattle.eco_answers.proofs.Blocked.{all_shown, rows_within}
+use Rattle.eco_answers.proofs.Blocked.{only_shown}
 use Rattle.eco_answers.proofs.results.results_in.Goals as goal
 
-pub with_rows-requires : goal.with_rows-requires
-with_rows-requires c =
+pub returns-in-Some : goal.returns-in-Some
+returns-in-Some c =
     let found = c.args.found in
-    let made = c.in_ok-made.made in
-    let rows : c.in_ok-rows.rows.items ≡ rows_of made.list.items found.list.items =
-    c.in_ok-rows.ensures ∙ ap (λ bs. rows_of bs found.list.items) c.deref-2.ensures.value in
-    subst (λ (ss : List Standing). All (λ (s : Standing). s.place < length made.choices.all) ss) (sym rows)
-    (rows_within found.tables.now found.slots.items (asks c.args.terms.now) made (rw c.deref.ensures.value at c.in_ok-made.ensures.blocks) found.list.items
-    c.requires.places)
-
-pub returns : goal.returns
-returns c =
-    let found = c.args.found in
-    let made = c.in_ok-made.made in
-    c.with_rows.ensures
-    ∙ ap (map (shown made.choices.all)) (c.in_ok-rows.ensures ∙ ap (λ bs. rows_of bs found.list.items) c.deref-2.ensures.value)
-    ∙ all_shown found.tables.now found.slots.items (asks c.args.terms.now) made (rw c.deref.ensures.value at c.in_ok-made.ensures.blocks) found.list.items
-    c.requires.places
+    let are = rw c.in-Some.is at c.in_ok-choices.ensures in
+    let there = rw c.deref.ensures.value at are in
+    c.alone_in.ensures
+    ∙ only_shown found.tables.now found.slots.items (asks c.args.terms.now) c.in-Some.choices.all there found.list.items c.requires.places

@@ -17,7 +17,7 @@ use Rattle.eco_store.specs.declared.standing.Standing.{Standing}
 use Rattle.eco_answers.specs.Flat.{IsEven}
 use Rattle.eco_answers.specs.declared.blocks.Block.{Block}
 use Rattle.eco_answers.specs.declared.blocks.Blocks.{Blocks}
-use Rattle.eco_answers.specs.Blocks.{AreBlocks, AreOnly, AreSingle, IsBlock, block_at, rows_in, rows_from, results, results_at, rows_of, shown}
+use Rattle.eco_answers.specs.Blocks.{AreBlocks, AreOnly, IsBlock, block_at, rows_in, rows_from, results, results_at, rows_of, shown}
 
 rows_more : (e : Entity) (first n : ℕ) → rows_from e first (suc n) ≡ rows_from e first n ++ record { entity = e; place = first + n } ∷ []
 rows_more e first zero = let k : first ≡ first + 0 = omega arith in ap (λ j. record { entity = e; place = j } ∷ []) k
@@ -69,19 +69,6 @@ rows_shown tables ns terms b are (s ∷ ss) within =
     ∙ ap (λ zs. zs ++ map (shown all) (rows_of b.list.items ss))
     (block_shows all s.entity block (table_in tables (slice_index_or ns s.place 0)).ids terms (are.each s.place within.0))
     ∙ ap (λ zs. results s.entity (table_in tables (slice_index_or ns s.place 0)).ids terms ++ zs) (rows_shown tables ns terms b are ss within.1)
-
--- where each block is one choice, all who stand somewhere are the rows
-single_rows : (blocks : List Block) → AreSingle blocks → (ss : List Standing) → AllByRecursion (λ (s : Standing). s.place < length blocks) ss
-    → rows_of blocks ss ≡ ss
-single_rows blocks single [] within = refl
-single_rows blocks single (s ∷ ss) within =
-    let one : s.place + 1 - s.place ≡ 1 = omega arith in
-    ap (λ b. rows_in b s.entity ++ rows_of blocks ss) (single s.place within.0)
-    ∙ ap (λ n. rows_from s.entity s.place n ++ rows_of blocks ss) one
-    ∙ ap (λ zs. s ∷ zs) (single_rows blocks single ss within.1)
-
-pub singles_are : (blocks : List Block) → AreSingle blocks → (ss : List Standing) → All (λ (s : Standing). s.place < length blocks) ss → ss ≡ rows_of blocks ss
-singles_are blocks single ss within = sym (single_rows blocks single ss (recursion_from_All (λ (s : Standing). s.place < length blocks) ss within))
 
 -- a block stays one where more choices come behind
 pub block_kept : (all more cs : List (List (Option Id))) (b : Block) → IsBlock all cs b → IsBlock (all ++ more) cs b

@@ -1,5 +1,5 @@
 -- The choices of several tables in one list.
-use Rattle.std.specs.Prelude.{◌≡◌, ℕ, zero, suc, ◌+◌, ◌-◌, ◌<◌, ◌≤◌, List, [], ◌∷◌, length, map, take, drop, flat_map, Option}
+use Rattle.std.specs.Prelude.{◌≡◌, ℕ, zero, suc, ◌-◌, ◌<◌, ◌≤◌, List, [], ◌∷◌, length, map, take, drop, flat_map, Option}
 use Rattle.std.specs.Borrow.{Bor}
 use Rattle.std.specs.List.{slice_index_or}
 use Rattle.eco_ids.specs.Answer as answers
@@ -45,10 +45,6 @@ pub record AreBlocks (tables : List (Option TableState)) (slots : List ℕ) (ter
   pub long : length b.list.items ≡ length slots
   pub each : (k : ℕ) → k < length slots
       → IsBlock b.choices.all (choices (table_in tables (slice_index_or slots k 0)).ids terms) (block_at b.list.items k)
-
--- each block is the one choice of its place
-abbrev pub AreSingle : List Block → Type 0
-AreSingle blocks = (k : ℕ) → k < length blocks → block_at blocks k ≡ record { first = k; end = k + 1 }
 
 -- there is one choice for each slot, the one of its table
 pub record AreOnly (tables : List (Option TableState)) (slots : List ℕ) (terms : List QueryTerm) (all : List (List (Option Id))) : Type 0 where

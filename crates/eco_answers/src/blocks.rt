@@ -1,10 +1,10 @@
 //! The choices of several tables, one table's behind another's.
-ghost use Rattle.std.specs.Prelude.{◌≡◌, ◌<◌, ◌++◌, length, IfOk, IfSome, IsSome, IsTrue, OnOk, OnErr};
+ghost use Rattle.std.specs.Prelude.{◌≡◌, ◌<◌, ◌++◌, length, IfOk, IfSome, IsSome, OnOk, OnErr};
 ghost use Rattle.std.specs.List.{All};
 ghost use Rattle.eco_ids.specs.Answer as answers;
 ghost use Rattle.eco_tables.specs.Tables.{slot_of};
 ghost use Rattle.eco_answers.specs.Answers.{asks};
-ghost use Rattle.eco_answers.specs.Blocks.{AreBlocks, AreOnly, AreSingle, rows_in, rows_of};
+ghost use Rattle.eco_answers.specs.Blocks.{AreBlocks, AreOnly, rows_in, rows_of};
 
 use crate::choices::Choices;
 use crate::product::{choices_of, find_only};
@@ -100,36 +100,6 @@ pub fn only_of(
 
 /// A row for each choice of each who stands somewhere, where the place of each is that of its block.
 pub fn rows_of(
-    alloc: Global,
-    standings: Vec<Standing>,
-    blocks: &[Block],
-) -> Result<Vec<Standing>, AllocError>
-    requires { All (λ s. s.place < length blocks.now) standings.items }
-    ensures { IfOk result (λ rows. rows.items ≡ rows_of blocks.now standings.items) }
-{
-    if are_single(blocks) {
-        // Each who stands somewhere is its own one row.
-        Ok(standings)
-    } else {
-        expanded(alloc, &standings, blocks)
-    }
-}
-
-// Whether each block is the one choice of its place.
-fn are_single(blocks: &[Block]) -> bool
-    ensures { IsTrue result → AreSingle blocks.now }
-{
-    for place in 0..blocks.len() {
-        let block = blocks[place];
-        if block.first != place || block.end != place + 1 {
-            return false;
-        }
-    }
-    true
-}
-
-// A row for each choice of each who stands somewhere.
-fn expanded(
     alloc: Global,
     standings: &[Standing],
     blocks: &[Block],

@@ -154,7 +154,7 @@ fn expanded_in(alloc: Global, found: Standings<'_>, terms: &[Slot]) -> Result<Re
         slots: _,
         list,
     } = found;
-    let rows = rows_of(alloc, list, &made.list)?;
+    let rows = rows_of(alloc, &list, &made.list)?;
     Ok(with_rows(rows, made))
 }
 

@@ -17,5 +17,6 @@ loop-place-preserved c =
       made =
           only_step c.args.ids.now c.args.slots.now c.loop-place.place c.index-slots-place.result c.loop-place.buffer.items
           c.add_entries.new.entries.items (choices c.args.ids.now (asks c.args.slots.now)) c.loop-place-test.true
-          (let was = c.loop-place.invariant.long in omega (arith, long, was)) (sym c.index-slots-place.is) c.in_ok-add_entries.ensures c.loop-place.invariant.made;
+          (let was = c.loop-place.invariant.long in omega (arith, long, was))
+          (sym c.index-slots-place.is) c.in_ok-add_entries.ensures c.loop-place.invariant.made;
     }

@@ -11,7 +11,8 @@ with_rows-requires c =
     let found = c.args.found in
     let made = c.in_ok-made.made in
     let rows : c.in_ok-rows.rows.items ≡ rows_of made.list.items found.list.items =
-    c.in_ok-rows.ensures ∙ ap (λ bs. rows_of bs found.list.items) c.deref-2.ensures.value in
+    c.in_ok-rows.ensures ∙ ap (λ bs. rows_of bs c.deref-2.result.now) c.deref-3.ensures.value
+    ∙ ap (rows_of made.list.items) c.deref-2.ensures.value in
     subst (λ (ss : List Standing). All (λ (s : Standing). s.place < length made.choices.all) ss) (sym rows)
     (rows_within found.tables.now found.slots.items (asks c.args.terms.now) made (rw c.deref.ensures.value at c.in_ok-made.ensures.blocks) found.list.items
     c.requires.places)
@@ -21,6 +22,7 @@ returns c =
     let found = c.args.found in
     let made = c.in_ok-made.made in
     c.with_rows.ensures
-    ∙ ap (map (shown made.choices.all)) (c.in_ok-rows.ensures ∙ ap (λ bs. rows_of bs found.list.items) c.deref-2.ensures.value)
+    ∙ ap (map (shown made.choices.all)) (c.in_ok-rows.ensures
+    ∙ ap (λ bs. rows_of bs c.deref-2.result.now) c.deref-3.ensures.value ∙ ap (rows_of made.list.items) c.deref-2.ensures.value)
     ∙ all_shown found.tables.now found.slots.items (asks c.args.terms.now) made (rw c.deref.ensures.value at c.in_ok-made.ensures.blocks) found.list.items
     c.requires.places

@@ -1,0 +1,4 @@
+pub mod Totals
+pub mod Steps
+pub mod Gather
+pub mod Alone

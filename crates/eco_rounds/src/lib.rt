@@ -10,3 +10,4 @@ mod word;
 
 pub use round::Round;
 pub use seat::Seat;
+pub use ticket::Ticket;

@@ -4,9 +4,10 @@ ghost use Rattle.eco_rounds.specs.Counting.{ascends, took, refused};
 
 use crate::word::{Hand, Taking, Word};
 
-// One part of the right to step. The numbers that it was given ascend, and it steps no more once it was refused.
+/// A seat's part in one of a round's two words. The numbers that it was given ascend, and it steps no more once it was refused.
+/// It serves contracts: they say by it that a draw leaves what was claimed as it was.
 #[derive(Drop)]
-pub(crate) struct Ticket {
+pub struct Ticket {
     pub(crate) hand: Hand,
     pub(crate) over: bool,
     ghost part: { hand.me.0.parts ≡ 1 },

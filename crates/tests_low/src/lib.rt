@@ -6,6 +6,8 @@ mod entities;
 #[cfg(test)]
 mod printed;
 #[cfg(test)]
+mod rounds;
+#[cfg(test)]
 mod rows;
 #[cfg(test)]
 mod types;

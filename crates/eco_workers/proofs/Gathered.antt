@@ -1,0 +1,107 @@
+-- What all workers have collected, after one more worker.
+use Rattle.std.proofs.Common.{◌≡◌, ℕ, Bool, true, ◌<◌, eqb, cond, List, [], ◌∷◌, ◌++◌, length, length-append, map, refl, sym, ap, ◌∙◌, arith}
+use Rattle.std.proofs.lemmas.Bool.Decides.{nat_tests}
+use Rattle.std.specs.List.{All, flat_map}
+use Rattle.std.proofs.lemmas.List.{map-append}
+use Rattle.std.proofs.lemmas.List.Elements.{All-append, All-nil, All-cons, All-head, All-tail}
+use Rattle.eco_rounds.specs.declared.seat.Seat.{Seat}
+use Rattle.eco_rounds.specs.Counting.{total, times, once, all_above, ascends}
+use Rattle.eco_rounds.specs.Rounds.{claimed, drawn, is_done, done_count}
+use Rattle.eco_rounds.proofs.Totals.{total-append}
+use Rattle.eco_ids.specs.Run.{Command}
+use Rattle.eco_workers.specs.declared.collected.Collected.{Collected}
+use Rattle.eco_workers.specs.Entries.{Entry, piece_of_entry, IsLog, IsGood, IsGathered}
+
+pub times_flat : (x : ℕ) (log : List Entry) → times x (flat_map (λ (e : Entry). e.draws) log) ≡ total (λ (e : Entry). times x e.draws) log
+times_flat x [] = refl
+times_flat x (e ∷ log) =
+    let h = times_flat x log in
+    let a = total-append (λ (y : ℕ). cond (eqb y x) 1 0) e.draws (flat_map (λ (e : Entry). e.draws) log) in
+    omega arith
+
+above_front : (x : ℕ) (xs ys : List ℕ) → all_above x (xs ++ ys) ≡ true → all_above x xs ≡ true
+above_front x [] ys h = refl
+above_front x (y ∷ xs) ys h = let r = above_front x xs ys in grind (arith, nat_tests)
+
+front_ascends : (xs ys : List ℕ) → ascends (xs ++ ys) ≡ true → ascends xs ≡ true
+front_ascends [] ys h = refl
+front_ascends (x ∷ xs) ys h = let r = front_ascends xs ys in let s = above_front x xs ys in grind (arith, nat_tests)
+
+back_ascends : (xs ys : List ℕ) → ascends (xs ++ ys) ≡ true → ascends ys ≡ true
+back_ascends [] ys h = h
+back_ascends (x ∷ xs) ys h = let r = back_ascends xs ys in grind (arith, nat_tests)
+
+all_ascend : (log : List Entry) → ascends (flat_map (λ (e : Entry). e.draws) log) ≡ true → All (λ (e : Entry). ascends e.draws ≡ true) log
+all_ascend [] h = All-nil (λ (e : Entry). ascends e.draws ≡ true)
+all_ascend (e ∷ log) h =
+    let rest = flat_map (λ (e : Entry). e.draws) log in
+    All-cons (λ (e : Entry). ascends e.draws ≡ true) e log (front_ascends e.draws rest h) (all_ascend log (back_ascends e.draws rest h))
+
+module _ {S : Type 0} (commands : S → List ℕ → List Command) (taken : S → List ℕ → ℕ) (pieces : List S) where
+  pub gathered_none : (seats : List Seat) (pushed : List Collected) → seats ≡ [] → pushed ≡ [] → IsGathered commands taken pieces seats pushed []
+  gathered_none seats pushed s p =
+      record {
+        collected = p;
+        good = All-nil (λ (e : Entry). IsGood commands taken pieces e);
+        claims = λ x. sym (ap (total (λ (s : Seat). times x (claimed s))) s);
+        draws = λ x. sym (ap (total (λ (s : Seat). times x (drawn s))) s);
+        none = λ len. refl;
+        alone = λ len. (refl, refl);
+      }
+
+  pub gathered_more : (seats seats' : List Seat) (pushed pushed' mine : List Collected) (log more : List Entry) (s : Seat)
+      → IsGathered commands taken pieces seats pushed log
+      → IsLog commands taken pieces (claimed s) (drawn s) mine more
+      → seats' ≡ seats ++ s ∷ [] → pushed' ≡ pushed ++ mine
+      → IsGathered commands taken pieces seats' pushed' (log ++ more)
+  gathered_more seats seats' pushed pushed' mine log more s h l ss ps =
+      let number : Entry → ℕ = λ e. e.number in
+      let numbers = map-append number log more in
+      let up' : ascends (flat_map (λ (e : Entry). e.draws) more) ≡ true = ap ascends (sym l.draws) ∙ s.draw.ascending in
+      let rising = all_ascend more up' in
+      record {
+        collected = ps ∙ ap (λ k. k ++ mine) h.collected ∙ ap (λ k. map piece_of_entry log ++ k) l.collected ∙ sym (map-append piece_of_entry log more);
+        good = All-append (λ (e : Entry). IsGood commands taken pieces e) log more h.good (λ k d lt. (l.good k d lt, rising k d lt));
+        claims = λ x.
+            let a = ap (times x) numbers in
+            let b = total-append (λ (y : ℕ). cond (eqb y x) 1 0) (map number log) (map number more) in
+            let c = ap (times x) l.claims in
+            let f : Seat → ℕ = λ s. times x (claimed s) in
+            let d = ap (total f) ss in
+            let e = total-append f seats (s ∷ []) in
+            let i = h.claims x in
+            omega (arith, a, b, c, d, e, i);
+        draws = λ x.
+            let a = total-append (λ (e : Entry). times x e.draws) log more in
+            let b = times_flat x more in
+            let c = ap (times x) l.draws in
+            let f : Seat → ℕ = λ s. times x (drawn s) in
+            let d = ap (total f) ss in
+            let e = total-append f seats (s ∷ []) in
+            let i = h.draws x in
+            omega (arith, a, b, c, d, e, i);
+        none = λ len. let n = ap length ss in let m = length-append seats (s ∷ []) in absurd (omega (arith, n, m));
+        alone = λ len.
+            let n = ap length ss in
+            let m = length-append seats (s ∷ []) in
+            let first : log ≡ [] = h.none (omega (arith, n, m)) in
+            let all : log ++ more ≡ more = ap (λ k. k ++ more) first in (
+              ap (λ k. ascends (map number k)) all ∙ ap ascends (sym l.claims) ∙ s.claim.ascending,
+              ap (λ k. ascends (flat_map (λ (e : Entry). e.draws) k)) all ∙ up',
+            );
+      }
+
+done_all : (seats : List Seat) → All (λ s. is_done s ≡ true) seats → done_count seats ≡ length seats
+done_all [] h = refl
+done_all (s ∷ seats) h =
+    let P : Seat → Type 0 = λ s. is_done s ≡ true in
+    let f : Bool → ℕ = λ b. cond b 1 0 in
+    let a = ap f (All-head P s seats h) in
+    let b = done_all seats (All-tail P s seats h) in
+    omega (arith, a, b)
+
+-- all seats were refused a piece, so all pieces were claimed
+pub all_claimed : (x pieces claims : ℕ) (seats : List Seat) → 0 < length seats → All (λ s. is_done s ≡ true) seats → (0 < done_count seats → claims ≡ pieces) → total (λ s. times x (claimed s)) seats ≡ once 0 claims x → total (λ s. times x (claimed s)) seats ≡ once 0 pieces x
+all_claimed x pieces claims seats some done ended each =
+    let n = done_all seats done in
+    each ∙ ap (λ b. once 0 b x) (ended (omega (arith, n)))

@@ -1,0 +1,122 @@
+-- What the seats of all workers have claimed and drawn, shared out among pieces, after one more worker.
+use Rattle.std.proofs.Common.{◌≡◌, ◌⊎◌, inl, inr, ℕ, zero, suc, Bool, true, eqb, cond, List, [], ◌∷◌, ◌++◌, map, sym, ap, ◌∙◌, subst, arith}
+use Rattle.std.specs.List.{All, Contains, flat_map}
+use Rattle.std.proofs.lemmas.List.{map-append, map_push}
+use Rattle.std.proofs.lemmas.List.Elements.{All-append, All-nil, Contains-append_left, Contains-append_right}
+use Rattle.eco_rounds.specs.declared.seat.Seat.{Seat}
+use Rattle.eco_rounds.specs.Counting.{total, times}
+use Rattle.eco_rounds.specs.Rounds.{claimed, drawn, is_dry}
+use Rattle.eco_rounds.proofs.Totals.{total-append}
+use Rattle.eco_ids.specs.Run.{Command}
+use Rattle.eco_ids.specs.declared.refusal.Refusal.{Refusal}
+use Rattle.eco_ids.specs.declared.refusal.Refusal.TheVariants.{NoMoreIds}
+use Rattle.eco_workers.specs.declared.collected.Collected.{Collected}
+use Rattle.eco_workers.specs.declared.worked.Worked.{Worked}
+use Rattle.eco_workers.specs.declared.end.End.{End}
+use Rattle.eco_workers.specs.declared.end.End.TheVariants.{Done, NoMemory, Refused}
+use Rattle.eco_workers.specs.Entries.{Entry, IsShare, IsShort, IsShared, IsFoundShort}
+use Rattle.eco_workers.specs.Workers.{HasEnded, IsStop, ends_of}
+use Rattle.eco_workers.proofs.Gathered.{times_flat}
+use Rattle.eco_workers.proofs.Logs.{fair_log}
+
+-- a member of a list and one more is in the list, or is that one
+member_push : {X : Type 0} (xs : List X) (y x : X) → Contains (xs ++ y ∷ []) x → Contains xs x ⊎ (y ≡ x)
+member_push [] y x (zero, lt, is) = inr is
+member_push [] y x (suc k, lt, is) = absurd (omega arith)
+member_push (z ∷ xs) y x (zero, lt, is) = inl (0, omega arith, is)
+member_push (z ∷ xs) y x (suc k, lt, is) =
+    elim (member_push xs y x (k, omega arith, is)) [ inl h ↦ inl (suc (h.0), (let a = h.1 in omega arith), h.2) | inr e ↦ inr e ]
+
+module _ {S : Type 0} (commands : S → List ℕ → List Command) (taken : S → List ℕ → ℕ) (pieces : List S) where
+  -- however a worker ended, with its shares
+  record HasShares (end : End) (seat : Seat) : Type 0 where
+    pub shares : List Entry
+    pub claims : claimed seat ≡ map (λ (e : Entry). e.number) shares
+    pub draws : drawn seat ≡ flat_map (λ (e : Entry). e.draws) shares
+    pub fair : All (λ (e : Entry). IsShare commands taken pieces e) shares
+    pub out : (n : ℕ) → end ≡ Refused n NoMoreIds → (is_dry seat ≡ true) × ((e : Entry) × Contains shares e × IsShort commands taken pieces e)
+
+  shares_of : (end : End) (seat : Seat) (pushed : List Collected) → HasEnded commands taken pieces end seat pushed → HasShares end seat
+  shares_of Done seat pushed h = record { shares = h.log; claims = h.logged.claims; draws = h.logged.draws; fair = fair_log commands taken pieces h.log h.logged.good; out = λ n is. absurd cc }
+  shares_of NoMemory seat pushed h = record { shares = h.shares; claims = h.claims; draws = h.draws; fair = h.fair; out = λ n is. absurd cc }
+  shares_of (Refused m refusal) seat pushed h = record { shares = h.shares; claims = h.claims; draws = h.draws; fair = h.fair; out = λ n is. h.out cc }
+
+  pub shared_none : (seats : List Seat) → seats ≡ [] → IsShared commands taken pieces seats []
+  shared_none seats s =
+      record {
+        fair = All-nil (λ (e : Entry). IsShare commands taken pieces e);
+        claims = λ x. sym (ap (total (λ (s : Seat). times x (claimed s))) s);
+        draws = λ x. sym (ap (total (λ (s : Seat). times x (drawn s))) s);
+      }
+
+  -- of the workers that are left, and of what was found of the others
+  pub record IsSearched (all left : List Worked) (seats : List Seat) : Type 0 where
+    pub shares : List Entry
+    pub shared : IsShared commands taken pieces seats shares
+    pub found : (n : ℕ) → Contains (ends_of all) (Refused n NoMoreIds) → Contains (ends_of left) (Refused n NoMoreIds) ⊎ IsFoundShort commands taken pieces seats shares
+
+  pub searched_none : (all : List Worked) (seats : List Seat) → seats ≡ [] → IsSearched all all seats
+  searched_none all seats s = record { shares = []; shared = shared_none seats s; found = λ n h. inl h }
+
+  pub searched_more : (all left left' : List Worked) (seats seats' : List Seat) (w : Worked)
+      → left ≡ left' ++ w ∷ [] → seats' ≡ seats ++ w.seat ∷ []
+      → HasEnded commands taken pieces w.end w.seat w.pieces.items
+      → IsSearched all left seats
+      → IsSearched all left' seats'
+  searched_more all left left' seats seats' w ws ss ended h =
+      let mine = shares_of w.end w.seat w.pieces.items ended in
+      let log = h.shares in
+      let more = mine.shares in
+      let number : Entry → ℕ = λ e. e.number in
+      let dry : Seat → ℕ = λ s. cond (is_dry s) 1 0 in
+      let dries = ap (total dry) ss in
+      let dries' = total-append dry seats (w.seat ∷ []) in
+      record {
+        shares = log ++ more;
+        shared = record {
+          fair = All-append (λ (e : Entry). IsShare commands taken pieces e) log more h.shared.fair mine.fair;
+          claims = λ x.
+              let a = ap (times x) (map-append number log more) in
+              let b = total-append (λ (y : ℕ). cond (eqb y x) 1 0) (map number log) (map number more) in
+              let c = ap (times x) mine.claims in
+              let f : Seat → ℕ = λ s. times x (claimed s) in
+              let d = ap (total f) ss in
+              let e = total-append f seats (w.seat ∷ []) in
+              let i = h.shared.claims x in
+              omega (arith, a, b, c, d, e, i);
+          draws = λ x.
+              let a = total-append (λ (e : Entry). times x e.draws) log more in
+              let b = times_flat x more in
+              let c = ap (times x) mine.draws in
+              let f : Seat → ℕ = λ s. times x (drawn s) in
+              let d = ap (total f) ss in
+              let e = total-append f seats (w.seat ∷ []) in
+              let i = h.shared.draws x in
+              omega (arith, a, b, c, d, e, i);
+        };
+        found = λ n is.
+            elim (h.found n is) [
+              | inl at ↦
+                  (let ends : ends_of left ≡ ends_of left' ++ w.end ∷ [] = ap ends_of ws ∙ map_push (λ (w : Worked). w.end) left' w in
+                  let at' : Contains (ends_of left' ++ w.end ∷ []) (Refused n NoMoreIds) = subst (λ (l : List End). Contains l (Refused n NoMoreIds)) ends at in
+                  elim (member_push (ends_of left') w.end (Refused n NoMoreIds) at') [
+                    | inl still ↦ inl still
+                    | inr here ↦
+                        (let o = mine.out n here in
+                        let weight : Bool → ℕ = λ b. cond b 1 0 in let one = ap weight o.0 in
+                        inr (omega (arith, dries, dries', one), (o.1.0, Contains-append_right log more o.1.0 o.1.1, o.1.2)))
+                  ])
+              | inr before ↦ inr ((let d = before.0 in omega (arith, dries, dries', d)), (before.1.0, Contains-append_left log more before.1.0 before.1.1, before.1.2))
+            ];
+      }
+
+  pub searched_all : (all : List Worked) (seats : List Seat) (h : IsSearched all [] seats) (n : ℕ) → Contains (ends_of all) (Refused n NoMoreIds) → IsFoundShort commands taken pieces seats h.shares
+  searched_all all seats h n at = elim (h.found n at) [ inl none ↦ absurd (let k = none.1 in omega arith) | inr found ↦ found ]
+
+-- a batch that stops for want of an index has a worker that was refused one
+pub out_found : (worked : List Worked) (refusal : Refusal) → refusal ≡ NoMoreIds → IsStop worked refusal → (n : ℕ) × Contains (ends_of worked) (Refused n NoMoreIds)
+out_found worked refusal is stop =
+    elim stop [
+      | inl h ↦ (h.number, subst (λ (r : Refusal). Contains (ends_of worked) (Refused h.number r)) is h.here)
+      | inr h ↦ absurd (let e = h.refusal_is in cc)
+    ]

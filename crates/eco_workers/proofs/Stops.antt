@@ -1,0 +1,69 @@
+-- What was found of the ends of workers.
+use Rattle.std.proofs.Common.{◌≡◌, ℕ, ◌<◌, ◌≤◌, Bool, true, List, [], ◌∷◌, ◌++◌, length, Option, Some, None, refl, sym, ◌∙◌, subst, arith}
+use Rattle.std.specs.List.{All}
+use Rattle.std.proofs.lemmas.List.{get_or-map, length-map}
+use Rattle.std.proofs.lemmas.List.Elements.{All-push, All-weaker, Contains-push, Contains-append_left}
+use Rattle.eco_ids.specs.declared.refusal.Refusal.{Refusal}
+use Rattle.eco_workers.specs.declared.worked.Worked.{Worked}
+use Rattle.eco_workers.specs.declared.end.End.{End}
+use Rattle.eco_workers.specs.declared.end.End.TheVariants.{Done, NoMemory, Refused}
+use Rattle.eco_workers.specs.Workers.{IsPast, IsUnrefused, IsFound, ends_of}
+
+abbrev Past : ℕ → End → Type 0
+Past n d = IsPast n d
+
+abbrev Plain : End → Type 0
+Plain d = IsUnrefused d
+
+abbrev Ended : End → Type 0
+Ended d = d ≡ Done
+
+past_weaker : (n m : ℕ) → n ≤ m → (d : End) → IsPast m d → IsPast n d
+past_weaker n m le Done h = tt
+past_weaker n m le NoMemory h = tt
+past_weaker n m le (Refused k e) h = omega arith
+
+past_plain : (n : ℕ) (d : End) → IsUnrefused d → IsPast n d
+past_plain n Done h = tt
+past_plain n NoMemory h = tt
+past_plain n (Refused k e) h = absurd h
+
+pub found_done : (least : Option (ℕ × Refusal)) (full : Bool) (ends : List End) → IsFound least full ends → IsFound least full (ends ++ Done ∷ [])
+found_done (Some p) full ends h = (Contains-append_left ends (Done ∷ []) (Refused p.0 p.1) h.0, All-push (Past p.0) ends Done h.1 tt)
+found_done None full ends h =
+    (All-push Plain ends Done h.0 tt, λ is. Contains-append_left ends (Done ∷ []) NoMemory (h.1 is), λ is. All-push Ended ends Done (h.2 is) refl)
+
+pub found_full : (least : Option (ℕ × Refusal)) (full : Bool) (ends : List End) → IsFound least full ends → IsFound least true (ends ++ NoMemory ∷ [])
+found_full (Some p) full ends h = (Contains-append_left ends (NoMemory ∷ []) (Refused p.0 p.1) h.0, All-push (Past p.0) ends NoMemory h.1 tt)
+found_full None full ends h = (All-push Plain ends NoMemory h.0 tt, λ is. Contains-push ends NoMemory, λ is. absurd (grind arith))
+
+pub found_first : (full : Bool) (n : ℕ) (e : Refusal) (ends : List End) → IsFound None full ends → IsFound (Some (n, e)) full (ends ++ Refused n e ∷ [])
+found_first full n e ends h = (Contains-push ends (Refused n e), All-push (Past n) ends (Refused n e) (All-weaker Plain (Past n) (past_plain n) ends h.0) (omega arith))
+
+pub found_less : (p : ℕ × Refusal) (full : Bool) (n : ℕ) (e : Refusal) (ends : List End) → n < p.0 → IsFound (Some p) full ends → IsFound (Some (n, e)) full (ends ++ Refused n e ∷ [])
+found_less p full n e ends lt h = (Contains-push ends (Refused n e), All-push (Past n) ends (Refused n e) (All-weaker (Past p.0) (Past n) (past_weaker n p.0 (omega arith)) ends h.1) (omega arith))
+
+pub found_later : (p : ℕ × Refusal) (full : Bool) (n : ℕ) (e : Refusal) (ends : List End) → p.0 ≤ n → IsFound (Some p) full ends → IsFound (Some p) full (ends ++ Refused n e ∷ [])
+found_later p full n e ends le h = (Contains-append_left ends (Refused n e ∷ []) (Refused p.0 p.1) h.0, All-push (Past p.0) ends (Refused n e) h.1 le)
+
+pub less_at : (least : Option (ℕ × Refusal)) (full : Bool) (end : End) (ends : List End) (p : ℕ × Refusal) (n : ℕ) (e : Refusal)
+    → least ≡ Some p → end ≡ Refused n e → n < p.0 → IsFound least full ends → IsFound (Some (n, e)) full (ends ++ end ∷ [])
+less_at least full end ends p n e is is_end lt h =
+    let P : Option (ℕ × Refusal) → Type 0 = λ o. IsFound o full ends in
+    let Q : End → Type 0 = λ d. IsFound (Some (n, e)) full (ends ++ d ∷ []) in
+    subst Q (sym is_end) (found_less p full n e ends lt (subst P is h))
+
+pub later_at : (least : Option (ℕ × Refusal)) (full : Bool) (end : End) (ends : List End) (p : ℕ × Refusal) (n : ℕ) (e : Refusal)
+    → least ≡ Some p → end ≡ Refused n e → p.0 ≤ n → IsFound least full ends → IsFound least full (ends ++ end ∷ [])
+later_at least full end ends p n e is is_end le h =
+    let P : Option (ℕ × Refusal) → Type 0 = λ o. IsFound o full ends in
+    let R : Option (ℕ × Refusal) → Type 0 = λ o. IsFound o full (ends ++ Refused n e ∷ []) in
+    let Q : End → Type 0 = λ d. IsFound least full (ends ++ d ∷ []) in
+    subst Q (sym is_end) (subst R (sym is) (found_later p full n e ends le (subst P is h)))
+
+pub all_ended : (worked : List Worked) → All (λ (d : End). d ≡ Done) (ends_of worked) → All (λ (w : Worked). w.end ≡ Done) worked
+all_ended worked h k d lt =
+    let end : Worked → End = λ w. w.end in
+    let len = length-map worked end in
+    let at : k < length (ends_of worked) = omega (arith, len) in
+    sym (get_or-map end worked k d Done lt) ∙ h k Done at

@@ -1,0 +1,43 @@
+use Rattle.std.proofs.Common.{◌≡◌, List, length, length-append, [], ◌∷◌, ap, ◌∙◌, sym, subst, arith, rules}
+use Rattle.std.specs.List.{All}
+use Rattle.std.proofs.lemmas.List.{nil_from_length}
+use Rattle.std.proofs.lemmas.List.Elements.{All-push}
+use Rattle.eco_rounds.specs.Rounds.{IsSeatOf}
+use Rattle.eco_rounds.proofs.Gather.{popped_all}
+use Rattle.eco_workers.specs.declared.worked.Worked.{Worked}
+use Rattle.eco_workers.specs.Taking.{by_index}
+use Rattle.eco_workers.specs.Workers.{IsWorked}
+use Rattle.eco_workers.proofs.Shared.{IsSearched, searched_more, searched_all}
+use Rattle.eco_workers.proofs.batch.all_seats.Goals as goal
+
+pub loop-one-preserved : goal.loop-one-preserved
+loop-one-preserved g c =
+    let i = c.loop-one.invariant in
+    let one = c.in-Some.one in
+    let e = c.in-Some.ensures.items in
+    let rest = c.pop.new.self.items in
+    let f = by_index g.P.Piece.commands in
+    let t = by_index g.P.Piece.taken in
+    let ps = c.args.pieces.now in
+    let p = popped_all (IsWorked f t ps c.args.round.now) _ rest one e i.left in
+    let pushed = c.push_reserved.ensures.items in
+    let n = ap length e ∙ length-append rest (one ∷ []) in
+    let m = ap length pushed ∙ length-append c.loop-one.seats.items (one.seat ∷ []) in
+    record {
+      count = omega (arith, n, m, i.count);
+      room = search rules;
+      left = p.0;
+      own = subst (All (IsSeatOf c.args.round.now)) (sym pushed) (All-push (IsSeatOf c.args.round.now) c.loop-one.seats.items one.seat i.own p.1.0);
+      searched = searched_more f t ps c.args.worked.items c.loop-one.worked.items rest c.loop-one.seats.items c.push_reserved.new.self.items one e pushed p.1.1 i.searched;
+    }
+
+pub returns-clause-shares : goal.returns-clause-shares
+returns-clause-shares g c =
+    let i = c.loop-one.invariant in
+    let f = by_index g.P.Piece.commands in
+    let t = by_index g.P.Piece.taken in
+    let ps = c.args.pieces.now in
+    let none : c.loop-one.worked.items ≡ [] = nil_from_length c.loop-one.worked.items (omega (arith, c.in_default.ensures.cases.0, c.loop-one.worked.ok)) in
+    let P : List Worked → Type 0 = λ ws. IsSearched f t ps c.args.worked.items ws c.loop-one.seats.items in
+    let h = subst P none i.searched in
+    (h.shares, h.shared, λ n at. searched_all f t ps c.args.worked.items c.loop-one.seats.items h n at)

@@ -1,0 +1,4 @@
+pub mod Taking
+pub mod Entries
+pub mod Workers
+pub mod Batches

@@ -1,0 +1,194 @@
+//! A batch: its pieces are shared among workers, and their stages put in order.
+ghost use Rattle.std.specs.Prelude.{◌≡◌, ℕ, ◌+◌, ◌<◌, ◌≤◌, List, true, [], ◌∷◌, ◌++◌, IfOk, IfErr, IfNone, IfSome, vec_len};
+ghost use Rattle.std.specs.Prelude.{length};
+ghost use Rattle.std.specs.List.{All, Contains};
+ghost use Rattle.eco_ids.specs.declared.refusal.Refusal.TheVariants.{NoMoreIds, OutOfMemory};
+ghost use Rattle.eco_rounds.specs.Rounds.{is_done, pieces_of, IsSeatOf, IsNewSeatOf};
+ghost use Rattle.eco_workers.specs.declared.end.End.{End};
+ghost use Rattle.eco_workers.specs.declared.end.End.TheVariants.{Done, Refused};
+ghost use Rattle.eco_workers.specs.Taking.{by_index};
+ghost use Rattle.eco_workers.specs.Entries.{Entry, IsGathered, IsShared, IsFoundShort};
+ghost use Rattle.eco_workers.specs.Workers.{IsWorked, IsStop, IsFound, ends_of};
+ghost use Rattle.eco_workers.specs.Batches.{IsBatch, IsOut};
+
+use crate::collected::Collected;
+use crate::end::End;
+use crate::order::place;
+use crate::piece::Piece;
+use crate::worked::Worked;
+use crate::worker::work;
+use eco_ids::Refusal;
+use eco_rounds::{Round, Seat};
+use eco_stages::Stage;
+use std::alloc::{AllocError, Global};
+use std::thread;
+use std::thread::Threads;
+
+// How many pieces a batch may have.
+const MOST: usize = 16_777_216;
+
+// How many they are, unless they are too many, which is answered as want of memory.
+fn count_pieces<P>(pieces: &[P]) -> Result<u32, Refusal>
+    ensures count { IfOk result (λ n. (n ≡ length pieces.now) × (n ≤ 16777216)) }
+    ensures many { IfErr result (λ _. 16777216 < length pieces.now) }
+    ensures why { IfErr result (λ e. e ≡ OutOfMemory) }
+{
+    if pieces.len() > MOST {
+        return Err(Refusal::OutOfMemory);
+    }
+    Ok(pieces.len() as u32)
+}
+
+// A worker for each seat, of which one runs on the calling thread.
+fn work_all<P: Piece + Sync, R: Threads + Sync>(
+    rt: &R,
+    alloc: Global,
+    round: &Round,
+    pieces: &[P],
+    seats: Vec<Seat>,
+) -> Result<Vec<Worked>, AllocError>
+    requires seats { All (IsNewSeatOf round.now) seats.items }
+    requires count { pieces_of round.now ≡ length pieces.now }
+    ensures { IfOk result (λ v. (vec_len v ≡ vec_len seats)
+        × All (IsWorked (by_index P.commands) (by_index P.taken) pieces.now round.now) v.items) }
+{
+    thread::map_vec(
+        rt,
+        seats,
+        &|seat: Seat| -> Worked
+            requires { IsNewSeatOf round.now seat × (pieces_of round.now ≡ length pieces.now) }
+            ensures { IsWorked (by_index P.commands) (by_index P.taken) pieces.entry.now round.entry.now result }
+        { work(alloc, round, pieces, seat) },
+    )
+}
+
+// What was found of the ends, after one more: the least refused piece with its refusal, and whether a worker had no memory.
+#[tactic(auto, using(crate::proofs::Stops::found_done, crate::proofs::Stops::found_full, crate::proofs::Stops::found_first))]
+fn found(least: Option<(u32, Refusal)>, full: bool, end: End) -> (Option<(u32, Refusal)>, bool)
+    ensures { (ends : List End) → IsFound least full ends → IsFound result.0 result.1 (ends ++ end ∷ []) }
+{
+    match end {
+        End::Done => (least, full),
+        End::NoMemory => (least, true),
+        End::Refused(number, refusal) => match least {
+            None => (Some((number, refusal)), full),
+            Some((before, _)) => {
+                if number < before {
+                    (Some((number, refusal)), full)
+                } else {
+                    (least, full)
+                }
+            }
+        },
+    }
+}
+
+// Why the batch stops, if it does: the refusal of the least piece that was refused, or else want of memory for a piece.
+#[tactic(auto, using(crate::proofs::Stops::all_ended))]
+fn first_refusal(worked: &[Worked]) -> Option<Refusal>
+    ensures none { IfNone result (All (λ w. w.end ≡ Done) worked.now) }
+    ensures some { IfSome result (λ e. IsStop worked.now e) }
+{
+    let mut least: Option<(u32, Refusal)> = None;
+    let mut full = false;
+    for one in worked {
+        (least, full) = found(least, full, one.end);
+    }
+    match least {
+        Some((_, refusal)) => Some(refusal),
+        None if full => Some(Refusal::OutOfMemory),
+        None => None,
+    }
+}
+
+// All seats of workers of whom some stopped.
+fn all_seats<P: Piece>(
+    round: &Round,
+    pieces: &[P],
+    mut worked: Vec<Worked>,
+    mut seats: Vec<Seat>,
+) -> Vec<Seat>
+    requires worked { All (IsWorked (by_index P.commands) (by_index P.taken) pieces.now round.now) worked.items }
+    requires seats { seats.items ≡ [] }
+    requires room { vec_len worked ≤ seats.cap }
+    ensures seats { (vec_len result ≡ vec_len worked) × All (IsSeatOf round.now) result.items }
+    ensures shares { (shares : List Entry)
+        × IsShared (by_index P.commands) (by_index P.taken) pieces.now result.items shares
+        × ((n : ℕ) → Contains (ends_of worked.items) (Refused n NoMoreIds)
+        → IsFoundShort (by_index P.commands) (by_index P.taken) pieces.now result.items shares) }
+{
+    while let Some(one) = worked.pop() {
+        let Worked {
+            seat,
+            pieces: _,
+            end: _,
+        } = one;
+        seats.push_reserved(seat);
+    }
+    seats
+}
+
+// The seats, and what was collected on them.
+fn gather<P: Piece>(
+    alloc: Global,
+    round: &Round,
+    pieces: &[P],
+    mut worked: Vec<Worked>,
+) -> Result<(Vec<Seat>, Vec<Collected>), AllocError>
+    requires worked { All (IsWorked (by_index P.commands) (by_index P.taken) pieces.now round.now) worked.items }
+    requires done { All (λ w. w.end ≡ Done) worked.items }
+    ensures seats { IfOk result (λ r. (vec_len r.0 ≡ vec_len worked) × All (IsSeatOf round.now) r.0.items
+        × All (λ s. is_done s ≡ true) r.0.items) }
+    ensures log { IfOk result (λ r. (log : List Entry)
+        × IsGathered (by_index P.commands) (by_index P.taken) pieces.now r.0.items r.1.items log) }
+{
+    let mut seats = Vec::with_capacity(alloc, worked.len())?;
+    let mut all: Vec<Collected> = Vec::new(alloc);
+    while let Some(one) = worked.pop() {
+        let Worked {
+            seat,
+            pieces: mut collected,
+            end: _,
+        } = one;
+        all.append(&mut collected)?;
+        seats.push_reserved(seat);
+    }
+    Ok((seats, all))
+}
+
+/// Records the pieces of a batch, by at most so many threads, 1 to 64, the caller's among them; a thread that can't be started is
+/// done without, and a batch of few pieces starts few: none for one piece. Fresh handles are drawn from `base` on, to below
+/// `limit`, which is at most 1,048,576. Answers the stages in the order of the pieces, and how many handles were drawn.
+///
+/// Refused with `NoMoreIds` where pieces take more handles than there are, and with `OutOfMemory` where memory is refused or
+/// there are more than 16,777,216 pieces: with the refusal of the least piece that was refused, where one was.
+pub fn run_batch<P: Piece + Sync, R: Threads + Sync>(
+    rt: &R,
+    alloc: Global,
+    pieces: &[P],
+    workers: u32,
+    base: u32,
+    limit: u32,
+) -> Result<(Vec<Stage>, u32), Refusal>
+    requires indices { (base ≤ limit) × (limit ≤ 1048576) }
+    requires workers { (1 ≤ workers) × (workers ≤ 64) }
+    ensures batch { IfOk result (λ r. IsBatch (by_index P.commands) (by_index P.taken) workers pieces.now base
+        r.1 r.0.items) }
+    ensures most { IfOk result (λ r. base + r.1 ≤ limit) }
+    ensures out { IfErr result (λ e. e ≡ NoMoreIds
+        → IsOut (by_index P.commands) (by_index P.taken) pieces.now base limit) }
+{
+    let count = count_pieces(pieces)?;
+    let (round, seats) = Round::open(alloc, base, limit, count, workers.min(count).max(1))?;
+    let room = Vec::with_capacity(alloc, seats.len())?;
+    let worked = work_all(rt, alloc, &round, pieces, seats)?;
+    if let Some(refusal) = first_refusal(worked.as_slice()) {
+        let seats = all_seats(&round, pieces, worked, room);
+        round.close(seats);
+        return Err(refusal);
+    }
+    let (seats, collected) = gather(alloc, &round, pieces, worked)?;
+    let (_, drawn) = round.close(seats);
+    let stages = place(alloc, count, collected)?;
+    Ok((stages, drawn))
+}

@@ -1,0 +1,17 @@
+//! Workers: the pieces of a batch, recorded side by side by some threads, and their stages put in order (Flecs manual, Systems,
+//! multithreading).
+#![tactic(auto)]
+
+mod batch;
+mod collected;
+mod drawer;
+mod draws;
+mod end;
+mod order;
+mod piece;
+mod worked;
+mod worker;
+
+pub use batch::run_batch;
+pub use draws::Draws;
+pub use piece::Piece;

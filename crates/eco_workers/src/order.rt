@@ -1,0 +1,28 @@
+//! Stages in the order of their pieces.
+ghost use Rattle.std.specs.Prelude.{◌≡◌, ◌<◌, [], replicate, IfOk};
+ghost use Rattle.std.specs.List.{All};
+ghost use Rattle.eco_workers.specs.Batches.{placed};
+
+use crate::collected::Collected;
+use eco_stages::Stage;
+use std::alloc::{AllocError, Global};
+
+// The stages in the order of their pieces' numbers.
+pub(crate) fn place(
+    alloc: Global,
+    count: u32,
+    pieces: Vec<Collected>,
+) -> Result<Vec<Stage>, AllocError>
+    requires { All (λ p. p.number < count) pieces.items }
+    ensures { IfOk result (λ v. v.items ≡ placed pieces.items (replicate count [])) }
+{
+    let mut stages = Vec::with_capacity(alloc, count as usize)?;
+    for _ in 0..count {
+        stages.push_reserved(Stage::new(alloc));
+    }
+    for piece in pieces {
+        let Collected { number, stage } = piece;
+        stages[number as usize] = stage;
+    }
+    Ok(stages)
+}

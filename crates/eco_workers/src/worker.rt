@@ -1,0 +1,132 @@
+//! One worker: it claims pieces and records each, until there is none.
+ghost use Rattle.std.specs.Prelude.{◌≡◌, ℕ, ◌+◌, ◌<◌, ◌≤◌, List, true, false, [], ◌∷◌, ◌++◌, IfOk, IfErr, IfNone};
+ghost use Rattle.std.specs.Prelude.{MatchOption, length};
+ghost use Rattle.eco_ids.specs.declared.refusal.Refusal.TheVariants.{NoMoreIds};
+ghost use Rattle.eco_rounds.specs.Rounds.{claimed, drawn, is_dry, pieces_of, IsNewSeatOf};
+ghost use Rattle.eco_workers.specs.Taking.{by_index};
+ghost use Rattle.eco_workers.specs.Entries.{entry_of, share_of, IsEntry, IsShare, IsShort, IsStage};
+ghost use Rattle.eco_workers.specs.Workers.{IsGoing, HasEnded, IsWorked};
+
+use crate::collected::Collected;
+use crate::drawer::Drawer;
+use crate::end::End;
+use crate::piece::Piece;
+use crate::worked::Worked;
+use eco_ids::Refusal;
+use eco_rounds::{Round, Seat};
+use eco_stages::Stage;
+use std::alloc::Global;
+
+// Records a piece, with what the seat draws.
+#[tactic(auto, using(crate::proofs::Drawn::broke_indices))]
+fn record<P: Piece>(alloc: Global, piece: &P, drawer: &mut Drawer<'_>) -> Result<Stage, Refusal>
+    requires wet { is_dry drawer.old.seat ≡ false }
+    ensures claim { drawer.new.seat.claim ≡ drawer.old.seat.claim }
+    ensures round { drawer.new.round.now ≡ drawer.old.round.now }
+    ensures wet { IfOk result (λ _. is_dry drawer.new.seat ≡ false) }
+    ensures ok { IfOk result (λ stage. (mine : List ℕ) × (drawn drawer.new.seat ≡ drawn drawer.old.seat ++ mine)
+        × IsStage (by_index P.commands) (by_index P.taken) piece.now mine stage) }
+    ensures err { IfErr result (λ e. (mine : List ℕ) × (drawn drawer.new.seat ≡ drawn drawer.old.seat ++ mine)
+        × (length mine ≤ by_index P.taken piece.now mine)
+        × (e ≡ NoMoreIds → (is_dry drawer.new.seat ≡ true) × (length mine < by_index P.taken piece.now mine))) }
+{
+    let mut stage = Stage::new(alloc);
+    piece.record(drawer, &mut stage)?;
+    Ok(stage)
+}
+
+// Records the piece of this number.
+fn one_piece<P: Piece>(
+    alloc: Global,
+    pieces: &[P],
+    number: u32,
+    drawer: &mut Drawer<'_>,
+) -> Result<Collected, Refusal>
+    requires number { number < length pieces.now }
+    requires wet { is_dry drawer.old.seat ≡ false }
+    ensures claim { drawer.new.seat.claim ≡ drawer.old.seat.claim }
+    ensures round { drawer.new.round.now ≡ drawer.old.round.now }
+    ensures piece { IfOk result (λ p. (p.number ≡ number) × (is_dry drawer.new.seat ≡ false)
+        × ((mine : List ℕ) × (drawn drawer.new.seat ≡ drawn drawer.old.seat ++ mine)
+        × IsEntry (by_index P.commands) (by_index P.taken) pieces.now (entry_of p mine))) }
+    ensures err { IfErr result (λ e. (mine : List ℕ) × (drawn drawer.new.seat ≡ drawn drawer.old.seat ++ mine)
+        × IsShare (by_index P.commands) (by_index P.taken) pieces.now (share_of number mine)
+        × (e ≡ NoMoreIds → (is_dry drawer.new.seat ≡ true)
+        × IsShort (by_index P.commands) (by_index P.taken) pieces.now (share_of number mine))) }
+{
+    let stage = record(alloc, &pieces[number as usize], drawer)?;
+    Ok(Collected { number, stage })
+}
+
+// Claims a piece, and records it. Answers how the worker ended, unless it goes on.
+fn take_turn<P: Piece>(
+    alloc: Global,
+    pieces: &[P],
+    drawer: &mut Drawer<'_>,
+    collected: &mut Vec<Collected>,
+) -> Option<End>
+    requires count { pieces_of drawer.old.round.now ≡ length pieces.now }
+    requires going { IsGoing (by_index P.commands) (by_index P.taken) pieces.now drawer.old.seat
+        collected.old.items }
+    ensures round { drawer.new.round.now ≡ drawer.old.round.now }
+    ensures one_more { IfNone result (length (claimed drawer.new.seat) ≡ length (claimed drawer.old.seat) + 1) }
+    ensures turned { MatchOption result
+        (IsGoing (by_index P.commands) (by_index P.taken) pieces.now drawer.new.seat collected.new.items)
+        (λ end. HasEnded (by_index P.commands) (by_index P.taken) pieces.now end drawer.new.seat
+        collected.new.items) }
+{
+    let Ok(()) = collected.reserve(1) else {
+        return Some(End::NoMemory);
+    };
+    let Some(number) = drawer.round.claim(&mut drawer.seat) else {
+        return Some(End::Done);
+    };
+    match one_piece(alloc, pieces, number, drawer) {
+        Ok(piece) => {
+            collected.push_reserved(piece);
+            None
+        }
+        Err(refusal) => Some(End::Refused(number, refusal)),
+    }
+}
+
+// Turns until the worker ends.
+fn turns<P: Piece>(
+    alloc: Global,
+    pieces: &[P],
+    drawer: &mut Drawer<'_>,
+    collected: &mut Vec<Collected>,
+) -> End
+    requires new { claimed drawer.old.seat ≡ [] }
+    requires count { pieces_of drawer.old.round.now ≡ length pieces.now }
+    requires going { IsGoing (by_index P.commands) (by_index P.taken) pieces.now drawer.old.seat
+        collected.old.items }
+    ensures round { drawer.new.round.now ≡ drawer.old.round.now }
+    ensures ended { HasEnded (by_index P.commands) (by_index P.taken) pieces.now result drawer.new.seat
+        collected.new.items }
+{
+    let most = u64::from(drawer.round.pieces()) + 1;
+    for _ in 0..most {
+        if let Some(end) = take_turn(alloc, pieces, drawer, collected) {
+            return end;
+        }
+    }
+    unreachable!()
+}
+
+// Claims pieces and records each, until there is none.
+pub(crate) fn work<P: Piece>(alloc: Global, round: &Round, pieces: &[P], seat: Seat) -> Worked
+    requires seat { IsNewSeatOf round.now seat }
+    requires count { pieces_of round.now ≡ length pieces.now }
+    ensures { IsWorked (by_index P.commands) (by_index P.taken) pieces.now round.now result }
+{
+    let mut collected = Vec::new(alloc);
+    let mut drawer = Drawer { round, seat };
+    let end = turns(alloc, pieces, &mut drawer, &mut collected);
+    let Drawer { round: _, seat } = drawer;
+    Worked {
+        seat,
+        pieces: collected,
+        end,
+    }
+}

@@ -1,14 +1,15 @@
 -- Handles that were drawn, and their indices.
-use Rattle.std.proofs.Common.{◌≡◌, ℕ, ◌<◌, ◌≤◌, Bool, true, false, List, [], ◌∷◌, ◌++◌, length, map, refl, sym, ap, ◌∙◌, subst, arith}
+use Rattle.std.proofs.Common.{◌≡◌, ℕ, ◌<◌, ◌≤◌, Bool, true, false, List, [], ◌∷◌, ◌++◌, length, map, refl, sym, ap, ◌∙◌, inl, inr, arith}
 use Rattle.std.proofs.lemmas.List.{append-nil, length-map}
 use Rattle.eco_ids.specs.declared.entity.Entity.{Entity}
 use Rattle.eco_ids.specs.declared.refusal.Refusal.{Refusal}
 use Rattle.eco_ids.specs.declared.refusal.Refusal.TheVariants.{NoMoreIds, OutOfMemory}
 use Rattle.eco_ids.specs.Run.{Command}
-use Rattle.eco_workers.specs.Taking.{Broke, Took, fresh, stopped_by}
+use Rattle.eco_workers.specs.Taking.{Broke, Took, fresh, stopped_by, IsStopped}
 
 -- what was drawn behind the first fresh handles are fresh handles too
-behind : (old new : List ℕ) (mine : List Entity) → map fresh new ≡ map fresh old ++ mine → (indices : List ℕ) × (new ≡ old ++ indices) × (mine ≡ map fresh indices)
+behind : (old new : List ℕ) (mine : List Entity) → map fresh new ≡ map fresh old ++ mine → (indices : List ℕ) × (new ≡ old ++ indices)
+    × (mine ≡ map fresh indices)
 behind [] new mine e = (new, refl, sym e)
 behind (x ∷ xs) [] mine e = absurd cc
 behind (x ∷ xs) (y ∷ ys) mine e =
@@ -27,6 +28,10 @@ took_indices old new commands taken empty stage none t =
     let same : t.0 ++ [] ≡ map fresh b.0 = append-nil t.0 ∙ b.2 in
     let count : length t.0 ≡ length b.0 = ap length b.2 ∙ length-map b.0 fresh in
     (b.0, b.1, (sym (ap taken same) ∙ all.0 ∙ count, all.1 ∙ ap (λ s. s ++ commands (t.0 ++ [])) none ∙ ap commands same))
+
+pub is_stopped : (dry : Bool) (refusal : Refusal) → refusal ≡ stopped_by dry → IsStopped refusal
+is_stopped true refusal is = inl is
+is_stopped false refusal is = inr is
 
 not_for_memory : (dry : Bool) (refusal : Refusal) → refusal ≡ stopped_by dry → refusal ≡ NoMoreIds → dry ≡ true
 not_for_memory true refusal is no_more = refl

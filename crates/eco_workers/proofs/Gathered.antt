@@ -7,7 +7,7 @@ use Rattle.std.proofs.lemmas.List.Elements.{All-append, All-nil, All-cons, All-h
 use Rattle.eco_rounds.specs.declared.seat.Seat.{Seat}
 use Rattle.eco_rounds.specs.Counting.{total, times, once, all_above, ascends}
 use Rattle.eco_rounds.specs.Rounds.{claimed, drawn, is_done, done_count}
-use Rattle.eco_rounds.proofs.Totals.{total-append}
+use Rattle.eco_workers.proofs.Totals.{total-append}
 use Rattle.eco_ids.specs.Run.{Command}
 use Rattle.eco_workers.specs.declared.collected.Collected.{Collected}
 use Rattle.eco_workers.specs.Entries.{Entry, piece_of_entry, IsLog, IsGood, IsGathered}
@@ -101,7 +101,8 @@ done_all (s ∷ seats) h =
     omega (arith, a, b)
 
 -- all seats were refused a piece, so all pieces were claimed
-pub all_claimed : (x pieces claims : ℕ) (seats : List Seat) → 0 < length seats → All (λ s. is_done s ≡ true) seats → (0 < done_count seats → claims ≡ pieces) → total (λ s. times x (claimed s)) seats ≡ once 0 claims x → total (λ s. times x (claimed s)) seats ≡ once 0 pieces x
+pub all_claimed : (x pieces claims : ℕ) (seats : List Seat) → 0 < length seats → All (λ s. is_done s ≡ true) seats → (0 < done_count seats → claims ≡ pieces)
+    → total (λ s. times x (claimed s)) seats ≡ once 0 claims x → total (λ s. times x (claimed s)) seats ≡ once 0 pieces x
 all_claimed x pieces claims seats some done ended each =
     let n = done_all seats done in
     each ∙ ap (λ b. once 0 b x) (ended (omega (arith, n)))

@@ -1,3 +1,4 @@
+pub mod Totals
 pub mod Turned
 pub mod Drawn
 pub mod Logs

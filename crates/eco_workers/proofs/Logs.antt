@@ -1,5 +1,5 @@
 -- What a worker has collected, after one more piece.
-use Rattle.std.proofs.Common.{◌≡◌, ℕ, ◌<◌, ◌≤◌, Bool, true, arith, List, [], ◌∷◌, ◌++◌, length, map, Some, sym, ap, ◌∙◌, subst}
+use Rattle.std.proofs.Common.{◌≡◌, ℕ, ◌<◌, ◌≤◌, Bool, true, arith, List, [], ◌∷◌, ◌++◌, length, map, Some, inr, refl, sym, ap, ◌∙◌, subst}
 use Rattle.std.specs.List.{All, slice_get, flat_map}
 use Rattle.std.proofs.lemmas.List.{append-nil, map_push}
 use Rattle.std.proofs.lemmas.List.Concat.{flat_map-append}
@@ -9,6 +9,7 @@ use Rattle.eco_rounds.specs.Counting.{ascends}
 use Rattle.eco_workers.proofs.Turned.{short}
 use Rattle.eco_ids.specs.Run.{Command}
 use Rattle.eco_workers.specs.declared.collected.Collected.{Collected}
+use Rattle.eco_workers.specs.Taking.{IsStopped}
 use Rattle.eco_workers.specs.Entries.{Entry, entry_of, share_of, piece_of_entry, IsEntry, IsLog, IsShare, IsShort, IsStage}
 use Rattle.eco_workers.specs.Workers.{IsBroken}
 use Rattle.eco_ids.specs.declared.refusal.Refusal.{Refusal}
@@ -23,13 +24,19 @@ module _ {S : Type 0} (commands : S → List ℕ → List Command) (taken : S �
       → IsEntry commands taken pieces (record { number = number; stage = stage; draws = mine })
   entry_made number piece mine stage at h = record { piece = piece; at = at; stage = h }
 
-  pub log_start : (claimed drawn : List ℕ) (pushed : List Collected) → claimed ≡ [] → drawn ≡ [] → pushed ≡ [] → IsLog commands taken pieces claimed drawn pushed []
+  pub log_start : (claimed drawn : List ℕ) (pushed : List Collected) → claimed ≡ [] → drawn ≡ [] → pushed ≡ []
+      → IsLog commands taken pieces claimed drawn pushed []
   log_start claimed drawn pushed c d p = record { claims = c; draws = d; collected = p; good = All-nil (λ (e : Entry). IsEntry commands taken pieces e) }
 
-  pub log_same : (claimed claimed' drawn drawn' : List ℕ) (pushed pushed' : List Collected) (log : List Entry) → IsLog commands taken pieces claimed drawn pushed log → claimed' ≡ claimed → drawn' ≡ drawn → pushed' ≡ pushed → IsLog commands taken pieces claimed' drawn' pushed' log
-  log_same claimed claimed' drawn drawn' pushed pushed' log h c d p = record { claims = c ∙ h.claims; draws = d ∙ h.draws; collected = p ∙ h.collected; good = h.good }
+  pub log_same : (claimed claimed' drawn drawn' : List ℕ) (pushed pushed' : List Collected) (log : List Entry)
+      → IsLog commands taken pieces claimed drawn pushed log → claimed' ≡ claimed → drawn' ≡ drawn → pushed' ≡ pushed
+      → IsLog commands taken pieces claimed' drawn' pushed' log
+  log_same claimed claimed' drawn drawn' pushed pushed' log h c d p = record
+      { claims = c ∙ h.claims; draws = d ∙ h.draws; collected = p ∙ h.collected; good = h.good }
 
-  pub log_push : (claimed claimed' drawn drawn' : List ℕ) (pushed pushed' : List Collected) (log : List Entry) (p : Collected) (mine : List ℕ) → IsLog commands taken pieces claimed drawn pushed log → claimed' ≡ claimed ++ p.number ∷ [] → drawn' ≡ drawn ++ mine → pushed' ≡ pushed ++ p ∷ [] → IsEntry commands taken pieces (entry_of p mine) → IsLog commands taken pieces claimed' drawn' pushed' (log ++ entry_of p mine ∷ [])
+  pub log_push : (claimed claimed' drawn drawn' : List ℕ) (pushed pushed' : List Collected) (log : List Entry) (p : Collected) (mine : List ℕ)
+      → IsLog commands taken pieces claimed drawn pushed log → claimed' ≡ claimed ++ p.number ∷ [] → drawn' ≡ drawn ++ mine → pushed' ≡ pushed ++ p ∷ []
+      → IsEntry commands taken pieces (entry_of p mine) → IsLog commands taken pieces claimed' drawn' pushed' (log ++ entry_of p mine ∷ [])
   log_push claimed claimed' drawn drawn' pushed pushed' log p mine h c d q made =
       let e = entry_of p mine in
       let number : Entry → ℕ = λ e. e.number in
@@ -41,7 +48,8 @@ module _ {S : Type 0} (commands : S → List ℕ → List Command) (taken : S �
       }
 
   -- a worker has claimed no more pieces than there are
-  pub few_claims : (claimed drawn : List ℕ) (pushed : List Collected) (log : List Entry) → ascends claimed ≡ true → IsLog commands taken pieces claimed drawn pushed log → length claimed ≤ length pieces
+  pub few_claims : (claimed drawn : List ℕ) (pushed : List Collected) (log : List Entry) → ascends claimed ≡ true
+      → IsLog commands taken pieces claimed drawn pushed log → length claimed ≤ length pieces
   few_claims claimed drawn pushed log up h =
       let P : ℕ → Type 0 = λ n. n < length pieces in
       let number : Entry → ℕ = λ e. e.number in
@@ -67,23 +75,34 @@ module _ {S : Type 0} (commands : S → List ℕ → List Command) (taken : S �
   )
 
   -- a worker that stopped before it claimed a further piece
-  pub stopped : (seat : Seat) (pushed : List Collected) (log : List Entry) → IsLog commands taken pieces (claimed seat) (drawn seat) pushed log → IsBroken commands taken pieces seat OutOfMemory
-  stopped seat pushed log h = record { shares = log; claims = h.claims; draws = h.draws; fair = fair_log log h.good; out = λ is. absurd (other_refusal is) }
+  pub stopped : (seat : Seat) (pushed : List Collected) (log : List Entry) → IsLog commands taken pieces (claimed seat) (drawn seat) pushed log
+      → IsBroken commands taken pieces seat OutOfMemory
+  stopped seat pushed log h = record {
+    why = inr refl;
+    shares = log;
+    claims = h.claims;
+    draws = h.draws;
+    fair = fair_log log h.good;
+    out = λ is. absurd (other_refusal is);
+  }
     where
       other_refusal : OutOfMemory ≡ NoMoreIds → ⊥
       other_refusal is = cc
 
   -- a worker that stopped in a piece
-  pub broken : (seat seat' : Seat) (pushed : List Collected) (log : List Entry) (number : ℕ) (mine : List ℕ) (refusal : Refusal) → IsLog commands taken pieces (claimed seat) (drawn seat) pushed log
+  pub broken : (seat seat' : Seat) (pushed : List Collected) (log : List Entry) (number : ℕ) (mine : List ℕ) (refusal : Refusal)
+      → IsLog commands taken pieces (claimed seat) (drawn seat) pushed log
       → claimed seat' ≡ claimed seat ++ number ∷ []
       → drawn seat' ≡ drawn seat ++ mine
       → IsShare commands taken pieces (share_of number mine)
       → (refusal ≡ NoMoreIds → (is_dry seat' ≡ true) × IsShort commands taken pieces (share_of number mine))
+      → IsStopped refusal
       → IsBroken commands taken pieces seat' refusal
-  broken seat seat' pushed log number mine refusal h c d share short =
+  broken seat seat' pushed log number mine refusal h c d share short why =
       let e = share_of number mine in
       let number_in : Entry → ℕ = λ e. e.number in
       let draws_in : Entry → List ℕ = λ e. e.draws in record {
+        why = why;
         shares = log ++ e ∷ [];
         claims = c ∙ ap (λ l. l ++ number ∷ []) h.claims ∙ sym (map_push number_in log e);
         draws = d ∙ ap (λ l. l ++ mine) h.draws ∙ ap (λ l. flat_map draws_in log ++ l) (sym (append-nil mine)) ∙ sym (flat_map-append draws_in log (e ∷ []));

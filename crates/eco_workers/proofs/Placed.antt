@@ -1,12 +1,14 @@
 -- Entries, each put at the place of its number.
-use Rattle.std.proofs.Common.{◌≡◌, ◌≢◌, ℕ, zero, suc, ◌+◌, ◌<◌, ◌≤◌, true, eqb, cond, List, [], ◌∷◌, ◌++◌, length, map, set, replicate, get_or, Some, refl, sym, ap, ◌∙◌, subst, arith}
+use Rattle.std.proofs.Common.{◌≡◌, ◌≢◌, ℕ, zero, suc, ◌+◌, ◌<◌, ◌≤◌, true, eqb, cond, List, [], ◌∷◌, ◌++◌, length, map, set, replicate, get_or, Some, refl}
+use Rattle.std.proofs.Common.{sym, ap, ◌∙◌, subst, arith}
 use Rattle.std.proofs.Common.{inl, inr}
 use Rattle.std.proofs.lemmas.Bool.{cases_eq, cases_lt}
 use Rattle.std.proofs.lemmas.Bool.Decides.{nat_tests}
 use Rattle.std.proofs.lemmas.Option.{same_Some, slice_get_within}
 use Rattle.std.specs.List.{All, AllZip, Contains, slice_get, flat_map, concat, range_with_len}
 use Rattle.std.proofs.lemmas.List.FromFn.{length-range_with_len, get_or-range_with_len}
-use Rattle.std.proofs.lemmas.List.{length-set, get_or-set_same, get_or-set_other, get_or-replicate, length-replicate, length-map, map-set, get_or-map, ext_get_or, get_or_default, get_or_past}
+use Rattle.std.proofs.lemmas.List.{length-set, get_or-set_same, get_or-set_other, get_or-replicate, length-replicate, length-map, map-set, get_or-map}
+use Rattle.std.proofs.lemmas.List.{ext_get_or, get_or_default, get_or_past}
 use Rattle.std.proofs.lemmas.List.Elements.{All-head, All-tail, All-from_get_or, All-map}
 use Rattle.eco_rounds.specs.Counting.{total, times, once, ascends}
 use Rattle.eco_ids.specs.Run.{Command}
@@ -17,7 +19,8 @@ use Rattle.eco_rounds.specs.Rounds.{claimed, drawn}
 use Rattle.eco_workers.proofs.Turned.{in_turn}
 use Rattle.eco_workers.specs.Batches.{placed, AreStages, IsBatch, IsOut}
 
-pub placed_push : (ps : List Collected) (p : Collected) (stages : List (List Command)) → placed (ps ++ p ∷ []) stages ≡ set (placed ps stages) p.number p.stage
+pub placed_push : (ps : List Collected) (p : Collected) (stages : List (List Command))
+    → placed (ps ++ p ∷ []) stages ≡ set (placed ps stages) p.number p.stage
 placed_push [] p stages = refl
 placed_push (q ∷ ps) p stages = placed_push ps p (set stages q.number q.stage)
 
@@ -40,7 +43,8 @@ length-sorted : (es places : List Entry) → length (sorted es places) ≡ lengt
 length-sorted [] places = refl
 length-sorted (e ∷ es) places = length-sorted es (set places e.number e) ∙ length-set places e.number e
 
-placed_sorted : (es places : List Entry) → placed (map piece_of_entry es) (map (λ (e : Entry). e.stage) places) ≡ map (λ (e : Entry). e.stage) (sorted es places)
+placed_sorted : (es places : List Entry) → placed (map piece_of_entry es) (map (λ (e : Entry). e.stage) places) ≡ map (λ (e : Entry). e.stage)
+    (sorted es places)
 placed_sorted [] places = refl
 placed_sorted (e ∷ es) places =
     let stage : Entry → List Command = λ e. e.stage in
@@ -84,7 +88,8 @@ own_place P (e ∷ es) places k d apart all lt some =
           (let none : times k (numbers es) ≡ 0 = ap (λ n. times n (numbers es)) (sym same) ∙ apart_head e es apart in
           let at : e.number < length places = omega arith in
           let here : get_or (sorted es (set places e.number e)) k d ≡ e =
-          other_place es (set places e.number e) k d none ∙ ap (λ n. get_or (set places e.number e) n d) (sym same) ∙ get_or-set_same places e.number e d at in
+          other_place es (set places e.number e) k d none ∙ ap (λ n. get_or (set places e.number e) n d) (sym same)
+          ∙ get_or-set_same places e.number e d at in
           (ap number_of here ∙ same, subst P (sym here) (All-head P e es all)))
       | inr ne ↦
           (let later : 0 < times k (numbers es) = other_counts e.number k (times k (numbers es)) ne some in
@@ -124,7 +129,8 @@ sorted_total f (e ∷ es) places d apart within light =
     let own : 0 < times e.number (numbers (e ∷ es)) = own_counts e.number (times e.number (numbers es)) in
     let none = light e.number own in
     let gone = apart_head e es apart in
-    let rest = sorted_total f es (set places e.number e) d (apart_tail e es apart) (subst (λ (n : ℕ). All (λ (a : Entry). a.number < n) es) (sym len) (All-tail W e es within))
+    let rest = sorted_total f es (set places e.number e) d (apart_tail e es apart)
+    (subst (λ (n : ℕ). All (λ (a : Entry). a.number < n) es) (sym len) (All-tail W e es within))
     (λ k some.
     let ne : k ≢ e.number = λ same. let z = ap (λ n. times n (numbers es)) same in absurd (omega arith) in
     ap f (get_or-set_other places e.number k e d ne) ∙ light k (same_counts e.number k (times k (numbers es)) some)) in
@@ -147,7 +153,8 @@ concat_map [] = refl
 concat_map (e ∷ log) = ap (λ l. e.draws ++ l) (concat_map log)
 
 -- entries whose numbers are all in turn are at their places
-sorted_same : (log places : List Entry) (count : ℕ) → length places ≡ count → ascends (numbers log) ≡ true → ((x : ℕ) → times x (numbers log) ≡ once 0 count x) → sorted log places ≡ log
+sorted_same : (log places : List Entry) (count : ℕ) → length places ≡ count → ascends (numbers log) ≡ true
+    → ((x : ℕ) → times x (numbers log) ≡ once 0 count x) → sorted log places ≡ log
 sorted_same log places count len up claims =
     let turn : numbers log ≡ range_with_len 0 count = in_turn count 0 (numbers log) up (λ x. claims x ∙ ap (λ n. once 0 n x) (omega arith)) in
     let long : length log ≡ count = sym (length-map log number_of) ∙ ap length turn ∙ length-range_with_len 0 count in
@@ -171,9 +178,11 @@ within_once : (count k : ℕ) → 0 < once 0 count k → k < count
 within_once count k some = grind (arith, nat_tests)
 
 -- an entry is at the place of its number
-own_entry : (es places : List Entry) (k : ℕ) (d : Entry) → AreApart es → k < length es → number_of (get_or es k d) < length places → get_or (sorted es places) (number_of (get_or es k d)) d ≡ get_or es k d
+own_entry : (es places : List Entry) (k : ℕ) (d : Entry) → AreApart es → k < length es → number_of (get_or es k d) < length places
+    → get_or (sorted es places) (number_of (get_or es k d)) d ≡ get_or es k d
 own_entry [] places k d apart lt in' = absurd (omega arith)
-own_entry (e ∷ es) places zero d apart lt in' = other_place es (set places e.number e) e.number d (apart_head e es apart) ∙ get_or-set_same places e.number e d in'
+own_entry (e ∷ es) places zero d apart lt in' = other_place es (set places e.number e) e.number d (apart_head e es apart)
+    ∙ get_or-set_same places e.number e d in'
 own_entry (e ∷ es) places (suc k) d apart lt in' =
     let len = length-set places e.number e in
     own_entry es (set places e.number e) k d (apart_tail e es apart) (omega arith) (omega arith)
@@ -211,7 +220,8 @@ module _ {S : Type 0} (commands : S → List ℕ → List Command) (taken : S �
       let apart : AreApart log = λ x. let c = claims x in let m = once_most 0 count x in omega arith in
       let within : All (λ (e : Entry). e.number < length places) log = λ k d lt.
       (let e = good k d lt in let i = slice_get_within pieces _ _ e.0.at in omega arith) in
-      let own = λ (k : ℕ) (lt : k < count). (let c = claims k in let o = once_at count k lt in own_place G log places k blank apart good (omega arith) (omega arith)) in
+      let own = λ (k : ℕ) (lt : k < count). (let c = claims k in let o = once_at count k lt in
+      own_place G log places k blank apart good (omega arith) (omega arith)) in
       let stages : placed (map piece_of_entry log) (replicate count []) ≡ map stage es =
       ap (placed (map piece_of_entry log)) (sym (map_replicate stage count blank)) ∙ placed_sorted log places in
       record {
@@ -219,7 +229,8 @@ module _ {S : Type 0} (commands : S → List ℕ → List Command) (taken : S �
         recorded = subst (AreStages commands taken pieces (map draws es)) (sym stages) (are_stages pieces es blank (omega arith) (λ k lt.
             let o = own k (omega arith) in
             (o.1.0.piece, ap (slice_get pieces) (sym o.0) ∙ o.1.0.at, o.1.0.stage)));
-        ascend = All-map (λ (l : List ℕ). ascends l ≡ true) draws es (All-from_get_or (λ (e : Entry). ascends e.draws ≡ true) es blank (λ k lt. (own k (omega arith)).1.1));
+        ascend = All-map (λ (l : List ℕ). ascends l ≡ true) draws es
+            (All-from_get_or (λ (e : Entry). ascends e.draws ≡ true) es blank (λ k lt. (own k (omega arith)).1.1));
         each = λ x.
             let f : Entry → ℕ = λ e. times x e.draws in
             let m = total_map (times x) draws es in
@@ -246,7 +257,8 @@ module _ {S : Type 0} (commands : S → List ℕ → List Command) (taken : S �
   abbrev Takes : S → List ℕ → Type 0
   Takes piece d = length d ≤ taken piece d
 
-  all_shares : (pieces : List S) (es : List Entry) (d : Entry) → length es ≡ length pieces → ((k : ℕ) (piece : S) → slice_get pieces k ≡ Some piece → Takes piece (get_or es k d).draws)
+  all_shares : (pieces : List S) (es : List Entry) (d : Entry) → length es ≡ length pieces
+      → ((k : ℕ) (piece : S) → slice_get pieces k ≡ Some piece → Takes piece (get_or es k d).draws)
       → AllZip Takes pieces (map (λ (e : Entry). e.draws) es)
   all_shares [] [] d len h = tt
   all_shares [] (e ∷ es) d len h = absurd (omega arith)
@@ -295,7 +307,11 @@ module _ {S : Type 0} (commands : S → List ℕ → List Command) (taken : S �
             let f : Entry → ℕ = λ e. times x e.draws in
             let m = total_map (times x) draws es in
             let light : (k : ℕ) → 0 < times k (numbers shares) → f (get_or places k blank) ≡ 0 = λ k some.
-            (elim (cases_lt k count) [ inl lt ↦ ap f (get_or-replicate count k blank blank lt) | inr le ↦ ap f (get_or_past places k blank (omega arith)) ]) in
+            (elim (cases_lt k count) [
+              | inl lt ↦ ap f (get_or-replicate count k blank blank lt)
+              | inr le ↦ ap f
+                  (get_or_past places k blank (omega arith))
+            ]) in
             let t = sorted_total f shares places blank apart within light in
             let z = total_replicate f count blank refl in
             let d = drawn x in

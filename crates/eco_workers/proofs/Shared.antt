@@ -2,11 +2,12 @@
 use Rattle.std.proofs.Common.{◌≡◌, ◌⊎◌, inl, inr, ℕ, zero, suc, Bool, true, eqb, cond, List, [], ◌∷◌, ◌++◌, map, sym, ap, ◌∙◌, subst, arith}
 use Rattle.std.specs.List.{All, Contains, flat_map}
 use Rattle.std.proofs.lemmas.List.{map-append, map_push}
-use Rattle.std.proofs.lemmas.List.Elements.{All-append, All-nil, Contains-append_left, Contains-append_right}
+use Rattle.std.proofs.lemmas.List.Elements.{All-head, All-tail, All-append, All-nil, Contains-append_left, Contains-append_right}
+use Rattle.eco_rounds.specs.declared.round.Round.{Round}
 use Rattle.eco_rounds.specs.declared.seat.Seat.{Seat}
 use Rattle.eco_rounds.specs.Counting.{total, times}
 use Rattle.eco_rounds.specs.Rounds.{claimed, drawn, is_dry}
-use Rattle.eco_rounds.proofs.Totals.{total-append}
+use Rattle.eco_workers.proofs.Totals.{total-append}
 use Rattle.eco_ids.specs.Run.{Command}
 use Rattle.eco_ids.specs.declared.refusal.Refusal.{Refusal}
 use Rattle.eco_ids.specs.declared.refusal.Refusal.TheVariants.{NoMoreIds}
@@ -14,8 +15,9 @@ use Rattle.eco_workers.specs.declared.collected.Collected.{Collected}
 use Rattle.eco_workers.specs.declared.worked.Worked.{Worked}
 use Rattle.eco_workers.specs.declared.end.End.{End}
 use Rattle.eco_workers.specs.declared.end.End.TheVariants.{Done, NoMemory, Refused}
+use Rattle.eco_workers.specs.Taking.{IsStopped}
 use Rattle.eco_workers.specs.Entries.{Entry, IsShare, IsShort, IsShared, IsFoundShort}
-use Rattle.eco_workers.specs.Workers.{HasEnded, IsStop, ends_of}
+use Rattle.eco_workers.specs.Workers.{HasEnded, IsStop, IsWorked, ends_of}
 use Rattle.eco_workers.proofs.Gathered.{times_flat}
 use Rattle.eco_workers.proofs.Logs.{fair_log}
 
@@ -37,7 +39,13 @@ module _ {S : Type 0} (commands : S → List ℕ → List Command) (taken : S �
     pub out : (n : ℕ) → end ≡ Refused n NoMoreIds → (is_dry seat ≡ true) × ((e : Entry) × Contains shares e × IsShort commands taken pieces e)
 
   shares_of : (end : End) (seat : Seat) (pushed : List Collected) → HasEnded commands taken pieces end seat pushed → HasShares end seat
-  shares_of Done seat pushed h = record { shares = h.log; claims = h.logged.claims; draws = h.logged.draws; fair = fair_log commands taken pieces h.log h.logged.good; out = λ n is. absurd cc }
+  shares_of Done seat pushed h = record {
+    shares = h.log;
+    claims = h.logged.claims;
+    draws = h.logged.draws;
+    fair = fair_log commands taken pieces h.log h.logged.good;
+    out = λ n is. absurd cc;
+  }
   shares_of NoMemory seat pushed h = record { shares = h.shares; claims = h.claims; draws = h.draws; fair = h.fair; out = λ n is. absurd cc }
   shares_of (Refused m refusal) seat pushed h = record { shares = h.shares; claims = h.claims; draws = h.draws; fair = h.fair; out = λ n is. h.out cc }
 
@@ -53,7 +61,8 @@ module _ {S : Type 0} (commands : S → List ℕ → List Command) (taken : S �
   pub record IsSearched (all left : List Worked) (seats : List Seat) : Type 0 where
     pub shares : List Entry
     pub shared : IsShared commands taken pieces seats shares
-    pub found : (n : ℕ) → Contains (ends_of all) (Refused n NoMoreIds) → Contains (ends_of left) (Refused n NoMoreIds) ⊎ IsFoundShort commands taken pieces seats shares
+    pub found : (n : ℕ) → Contains (ends_of all) (Refused n NoMoreIds)
+        → Contains (ends_of left) (Refused n NoMoreIds) ⊎ IsFoundShort commands taken pieces seats shares
 
   pub searched_none : (all : List Worked) (seats : List Seat) → seats ≡ [] → IsSearched all all seats
   searched_none all seats s = record { shares = []; shared = shared_none seats s; found = λ n h. inl h }
@@ -98,7 +107,8 @@ module _ {S : Type 0} (commands : S → List ℕ → List Command) (taken : S �
             elim (h.found n is) [
               | inl at ↦
                   (let ends : ends_of left ≡ ends_of left' ++ w.end ∷ [] = ap ends_of ws ∙ map_push (λ (w : Worked). w.end) left' w in
-                  let at' : Contains (ends_of left' ++ w.end ∷ []) (Refused n NoMoreIds) = subst (λ (l : List End). Contains l (Refused n NoMoreIds)) ends at in
+                  let at' : Contains (ends_of left' ++ w.end ∷ []) (Refused n NoMoreIds) = subst
+                  (λ (l : List End). Contains l (Refused n NoMoreIds)) ends at in
                   elim (member_push (ends_of left') w.end (Refused n NoMoreIds) at') [
                     | inl still ↦ inl still
                     | inr here ↦
@@ -106,15 +116,40 @@ module _ {S : Type 0} (commands : S → List ℕ → List Command) (taken : S �
                         let weight : Bool → ℕ = λ b. cond b 1 0 in let one = ap weight o.0 in
                         inr (omega (arith, dries, dries', one), (o.1.0, Contains-append_right log more o.1.0 o.1.1, o.1.2)))
                   ])
-              | inr before ↦ inr ((let d = before.0 in omega (arith, dries, dries', d)), (before.1.0, Contains-append_left log more before.1.0 before.1.1, before.1.2))
+              | inr before ↦ inr (
+                (let d = before.0 in omega (arith, dries, dries', d)),
+                (before.1.0, Contains-append_left log more before.1.0 before.1.1, before.1.2),
+              )
             ];
       }
 
-  pub searched_all : (all : List Worked) (seats : List Seat) (h : IsSearched all [] seats) (n : ℕ) → Contains (ends_of all) (Refused n NoMoreIds) → IsFoundShort commands taken pieces seats h.shares
+  pub searched_all : (all : List Worked) (seats : List Seat) (h : IsSearched all [] seats) (n : ℕ) → Contains (ends_of all) (Refused n NoMoreIds)
+      → IsFoundShort commands taken pieces seats h.shares
   searched_all all seats h n at = elim (h.found n at) [ inl none ↦ absurd (let k = none.1 in omega arith) | inr found ↦ found ]
 
+-- of workers who all keep P, that one who ended so keeps P
+ended_so : (P : Worked → Type 0) (worked : List Worked) (end : End) → All P worked → Contains (ends_of worked) end
+    → (w : Worked) × P w × (w.end ≡ end)
+ended_so P [] end all (k, lt, is) = absurd (omega arith)
+ended_so P (w ∷ ws) end all (zero, lt, is) = (w, All-head P w ws all, is)
+ended_so P (w ∷ ws) end all (suc k, lt, is) = ended_so P ws end (All-tail P w ws all) (k, omega arith, is)
+
+-- a batch stops for want of an index or of memory
+pub stop_for_want : {S : Type 0} (commands : S → List ℕ → List Command) (taken : S → List ℕ → ℕ) (pieces : List S) (round : Round)
+    (worked : List Worked) (refusal : Refusal) → All (IsWorked commands taken pieces round) worked → IsStop worked refusal → IsStopped refusal
+stop_for_want commands taken pieces round worked refusal all stop =
+    elim stop [
+      | inl h ↦
+          (let found = ended_so (IsWorked commands taken pieces round) worked (Refused h.number refusal) all h.here in
+          let w = found.0 in
+          let H : End → Type 0 = λ (d : End). HasEnded commands taken pieces d w.seat w.pieces.items in
+          (subst H found.2 found.1.1).why)
+      | inr h ↦ inr h.refusal_is
+    ]
+
 -- a batch that stops for want of an index has a worker that was refused one
-pub out_found : (worked : List Worked) (refusal : Refusal) → refusal ≡ NoMoreIds → IsStop worked refusal → (n : ℕ) × Contains (ends_of worked) (Refused n NoMoreIds)
+pub out_found : (worked : List Worked) (refusal : Refusal) → refusal ≡ NoMoreIds → IsStop worked refusal → (n : ℕ)
+    × Contains (ends_of worked) (Refused n NoMoreIds)
 out_found worked refusal is stop =
     elim stop [
       | inl h ↦ (h.number, subst (λ (r : Refusal). Contains (ends_of worked) (Refused h.number r)) is h.here)

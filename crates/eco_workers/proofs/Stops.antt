@@ -38,12 +38,20 @@ found_full (Some p) full ends h = (Contains-append_left ends (NoMemory ∷ []) (
 found_full None full ends h = (All-push Plain ends NoMemory h.0 tt, λ is. Contains-push ends NoMemory, λ is. absurd (grind arith))
 
 pub found_first : (full : Bool) (n : ℕ) (e : Refusal) (ends : List End) → IsFound None full ends → IsFound (Some (n, e)) full (ends ++ Refused n e ∷ [])
-found_first full n e ends h = (Contains-push ends (Refused n e), All-push (Past n) ends (Refused n e) (All-weaker Plain (Past n) (past_plain n) ends h.0) (omega arith))
+found_first full n e ends h = (
+  Contains-push ends (Refused n e),
+  All-push (Past n) ends (Refused n e) (All-weaker Plain (Past n) (past_plain n) ends h.0) (omega arith),
+)
 
-pub found_less : (p : ℕ × Refusal) (full : Bool) (n : ℕ) (e : Refusal) (ends : List End) → n < p.0 → IsFound (Some p) full ends → IsFound (Some (n, e)) full (ends ++ Refused n e ∷ [])
-found_less p full n e ends lt h = (Contains-push ends (Refused n e), All-push (Past n) ends (Refused n e) (All-weaker (Past p.0) (Past n) (past_weaker n p.0 (omega arith)) ends h.1) (omega arith))
+pub found_less : (p : ℕ × Refusal) (full : Bool) (n : ℕ) (e : Refusal) (ends : List End) → n < p.0 → IsFound (Some p) full ends
+    → IsFound (Some (n, e)) full (ends ++ Refused n e ∷ [])
+found_less p full n e ends lt h = (
+  Contains-push ends (Refused n e),
+  All-push (Past n) ends (Refused n e) (All-weaker (Past p.0) (Past n) (past_weaker n p.0 (omega arith)) ends h.1) (omega arith),
+)
 
-pub found_later : (p : ℕ × Refusal) (full : Bool) (n : ℕ) (e : Refusal) (ends : List End) → p.0 ≤ n → IsFound (Some p) full ends → IsFound (Some p) full (ends ++ Refused n e ∷ [])
+pub found_later : (p : ℕ × Refusal) (full : Bool) (n : ℕ) (e : Refusal) (ends : List End) → p.0 ≤ n → IsFound (Some p) full ends
+    → IsFound (Some p) full (ends ++ Refused n e ∷ [])
 found_later p full n e ends le h = (Contains-append_left ends (Refused n e ∷ []) (Refused p.0 p.1) h.0, All-push (Past p.0) ends (Refused n e) h.1 le)
 
 pub less_at : (least : Option (ℕ × Refusal)) (full : Bool) (end : End) (ends : List End) (p : ℕ × Refusal) (n : ℕ) (e : Refusal)

@@ -18,7 +18,8 @@ module _ {S : Type 0} (commands : S → List ℕ → List Command) (taken : S �
   AreStages (piece ∷ pieces) (mine ∷ draws) (stage ∷ stages) = IsStage commands taken piece mine stage × AreStages pieces draws stages
   AreStages _ _ _ = ⊥
 
-  -- There are draws for each piece, ascending, that together are the n numbers from base on, each once, and the stages are the recordings with these. Of one worker they ascend over all pieces in order
+  -- There are draws for each piece, ascending, that together are the n numbers from base on, each once, and the stages are the recordings with these. Of one
+  -- worker they ascend over all pieces in order
   pub record IsBatch (workers : ℕ) (pieces : List S) (base n : ℕ) (stages : List (List Command)) : Type 0 where
     pub draws : List (List ℕ)
     pub recorded : AreStages pieces draws stages
@@ -26,7 +27,8 @@ module _ {S : Type 0} (commands : S → List ℕ → List Command) (taken : S �
     pub each : (x : ℕ) → total (times x) draws ≡ once base (base + n) x
     pub alone : workers ≡ 1 → ascends (concat draws) ≡ true
 
-  -- There are draws for each piece, that together are all numbers from base to below the limit, each once. Each piece takes at least its draws, and one takes more
+  -- There are draws for each piece, that together are all numbers from base to below the limit, each once. Each piece takes at least its draws, and one
+  -- takes more
   pub record IsOut (pieces : List S) (base limit : ℕ) : Type 0 where
     pub draws : List (List ℕ)
     pub shares : AllZip (λ (piece : S) (d : List ℕ). length d ≤ taken piece d) pieces draws

@@ -1,5 +1,5 @@
 -- Commands recorded with handles that are drawn.
-use Rattle.std.specs.Prelude.{◌≡◌, ℕ, ◌<◌, ◌≤◌, Bool, true, List, ◌++◌, length, map, if◌then◌else◌}
+use Rattle.std.specs.Prelude.{◌≡◌, ◌⊎◌, ℕ, ◌<◌, ◌≤◌, Bool, true, List, ◌++◌, length, map, if◌then◌else◌}
 use Rattle.eco_ids.specs.declared.entity.Entity.{Entity}
 use Rattle.eco_ids.specs.declared.refusal.Refusal.{Refusal}
 use Rattle.eco_ids.specs.declared.refusal.Refusal.TheVariants.{NoMoreIds, OutOfMemory}
@@ -8,6 +8,10 @@ use Rattle.eco_ids.specs.Run.{Command}
 -- why recording stops: a draw was refused, or else memory
 abbrev pub stopped_by : Bool → Refusal
 stopped_by dry = if dry then NoMoreIds else OutOfMemory
+
+-- one of these two
+abbrev pub IsStopped : Refusal → Type 0
+IsStopped refusal = (refusal ≡ NoMoreIds) ⊎ (refusal ≡ OutOfMemory)
 
 -- what takes so many of the handles that are there to draw stopped, after it drew some behind those drawn so far: it takes
 -- these at least, and more where a draw was refused

@@ -11,6 +11,7 @@ use Rattle.eco_workers.specs.declared.collected.Collected.{Collected}
 use Rattle.eco_workers.specs.declared.worked.Worked.{Worked}
 use Rattle.eco_workers.specs.declared.end.End.{End}
 use Rattle.eco_workers.specs.declared.end.End.TheVariants.{Done, NoMemory, Refused}
+use Rattle.eco_workers.specs.Taking.{IsStopped}
 use Rattle.eco_workers.specs.Entries.{Entry, IsLog, IsShare, IsShort}
 
 module _ {S : Type 0} (commands : S → List ℕ → List Command) (taken : S → List ℕ → ℕ) (pieces : List S) where
@@ -30,6 +31,7 @@ module _ {S : Type 0} (commands : S → List ℕ → List Command) (taken : S �
   -- the worker stopped: what its seat has claimed and drawn is shared out among pieces, and where no index was left some piece takes more
   pub record IsBroken (seat : Seat) (refusal : Refusal) : Type 0 where
     pub shares : List Entry
+    pub why : IsStopped refusal
     pub claims : claimed seat ≡ map (λ (e : Entry). e.number) shares
     pub draws : drawn seat ≡ flat_map (λ (e : Entry). e.draws) shares
     pub fair : All (λ (e : Entry). IsShare commands taken pieces e) shares

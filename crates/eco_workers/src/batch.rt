@@ -6,7 +6,7 @@ ghost use Rattle.eco_ids.specs.declared.refusal.Refusal.TheVariants.{NoMoreIds, 
 ghost use Rattle.eco_rounds.specs.Rounds.{is_done, pieces_of, IsSeatOf, IsNewSeatOf};
 ghost use Rattle.eco_workers.specs.declared.end.End.{End};
 ghost use Rattle.eco_workers.specs.declared.end.End.TheVariants.{Done, Refused};
-ghost use Rattle.eco_workers.specs.Taking.{by_index};
+ghost use Rattle.eco_workers.specs.Taking.{by_index, IsStopped};
 ghost use Rattle.eco_workers.specs.Entries.{Entry, IsGathered, IsShared, IsFoundShort};
 ghost use Rattle.eco_workers.specs.Workers.{IsWorked, IsStop, IsFound, ends_of};
 ghost use Rattle.eco_workers.specs.Batches.{IsBatch, IsOut};
@@ -57,7 +57,8 @@ fn work_all<P: Piece + Sync, R: Threads + Sync>(
         seats,
         &|seat: Seat| -> Worked
             requires { IsNewSeatOf round.now seat × (pieces_of round.now ≡ length pieces.now) }
-            ensures { IsWorked (by_index P.commands) (by_index P.taken) pieces.entry.now round.entry.now result }
+            ensures { IsWorked (by_index P.commands) (by_index P.taken) pieces.entry.now
+                round.entry.now result }
         { work(alloc, round, pieces, seat) },
     )
 }
@@ -108,7 +109,8 @@ fn all_seats<P: Piece>(
     mut worked: Vec<Worked>,
     mut seats: Vec<Seat>,
 ) -> Vec<Seat>
-    requires worked { All (IsWorked (by_index P.commands) (by_index P.taken) pieces.now round.now) worked.items }
+    requires worked { All (IsWorked (by_index P.commands) (by_index P.taken) pieces.now round.now)
+        worked.items }
     requires seats { seats.items ≡ [] }
     requires room { vec_len worked ≤ seats.cap }
     ensures seats { (vec_len result ≡ vec_len worked) × All (IsSeatOf round.now) result.items }
@@ -135,7 +137,8 @@ fn gather<P: Piece>(
     pieces: &[P],
     mut worked: Vec<Worked>,
 ) -> Result<(Vec<Seat>, Vec<Collected>), AllocError>
-    requires worked { All (IsWorked (by_index P.commands) (by_index P.taken) pieces.now round.now) worked.items }
+    requires worked { All (IsWorked (by_index P.commands) (by_index P.taken) pieces.now round.now)
+        worked.items }
     requires done { All (λ w. w.end ≡ Done) worked.items }
     ensures seats { IfOk result (λ r. (vec_len r.0 ≡ vec_len worked) × All (IsSeatOf round.now) r.0.items
         × All (λ s. is_done s ≡ true) r.0.items) }
@@ -175,6 +178,7 @@ pub fn run_batch<P: Piece + Sync, R: Threads + Sync>(
     ensures batch { IfOk result (λ r. IsBatch (by_index P.commands) (by_index P.taken) workers pieces.now base
         r.1 r.0.items) }
     ensures most { IfOk result (λ r. base + r.1 ≤ limit) }
+    ensures why { IfErr result (λ e. IsStopped e) }
     ensures out { IfErr result (λ e. e ≡ NoMoreIds
         → IsOut (by_index P.commands) (by_index P.taken) pieces.now base limit) }
 {

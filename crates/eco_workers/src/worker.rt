@@ -3,7 +3,7 @@ ghost use Rattle.std.specs.Prelude.{◌≡◌, ℕ, ◌+◌, ◌<◌, ◌≤◌,
 ghost use Rattle.std.specs.Prelude.{MatchOption, length};
 ghost use Rattle.eco_ids.specs.declared.refusal.Refusal.TheVariants.{NoMoreIds};
 ghost use Rattle.eco_rounds.specs.Rounds.{claimed, drawn, is_dry, pieces_of, IsNewSeatOf};
-ghost use Rattle.eco_workers.specs.Taking.{by_index};
+ghost use Rattle.eco_workers.specs.Taking.{by_index, IsStopped};
 ghost use Rattle.eco_workers.specs.Entries.{entry_of, share_of, IsEntry, IsShare, IsShort, IsStage};
 ghost use Rattle.eco_workers.specs.Workers.{IsGoing, HasEnded, IsWorked};
 
@@ -18,17 +18,20 @@ use eco_stages::Stage;
 use std::alloc::Global;
 
 // Records a piece, with what the seat draws.
-#[tactic(auto, using(crate::proofs::Drawn::broke_indices))]
+#[tactic(auto, using(crate::proofs::Drawn::broke_indices, crate::proofs::Drawn::is_stopped))]
 fn record<P: Piece>(alloc: Global, piece: &P, drawer: &mut Drawer<'_>) -> Result<Stage, Refusal>
     requires wet { is_dry drawer.old.seat ≡ false }
     ensures claim { drawer.new.seat.claim ≡ drawer.old.seat.claim }
     ensures round { drawer.new.round.now ≡ drawer.old.round.now }
     ensures wet { IfOk result (λ _. is_dry drawer.new.seat ≡ false) }
-    ensures ok { IfOk result (λ stage. (mine : List ℕ) × (drawn drawer.new.seat ≡ drawn drawer.old.seat ++ mine)
+    ensures why { IfErr result (λ e. IsStopped e) }
+    ensures ok { IfOk result (λ stage. (mine : List ℕ)
+        × (drawn drawer.new.seat ≡ drawn drawer.old.seat ++ mine)
         × IsStage (by_index P.commands) (by_index P.taken) piece.now mine stage) }
     ensures err { IfErr result (λ e. (mine : List ℕ) × (drawn drawer.new.seat ≡ drawn drawer.old.seat ++ mine)
         × (length mine ≤ by_index P.taken piece.now mine)
-        × (e ≡ NoMoreIds → (is_dry drawer.new.seat ≡ true) × (length mine < by_index P.taken piece.now mine))) }
+        × (e ≡ NoMoreIds → (is_dry drawer.new.seat ≡ true)
+        × (length mine < by_index P.taken piece.now mine))) }
 {
     let mut stage = Stage::new(alloc);
     piece.record(drawer, &mut stage)?;
@@ -46,6 +49,7 @@ fn one_piece<P: Piece>(
     requires wet { is_dry drawer.old.seat ≡ false }
     ensures claim { drawer.new.seat.claim ≡ drawer.old.seat.claim }
     ensures round { drawer.new.round.now ≡ drawer.old.round.now }
+    ensures why { IfErr result (λ e. IsStopped e) }
     ensures piece { IfOk result (λ p. (p.number ≡ number) × (is_dry drawer.new.seat ≡ false)
         × ((mine : List ℕ) × (drawn drawer.new.seat ≡ drawn drawer.old.seat ++ mine)
         × IsEntry (by_index P.commands) (by_index P.taken) pieces.now (entry_of p mine))) }
@@ -69,7 +73,8 @@ fn take_turn<P: Piece>(
     requires going { IsGoing (by_index P.commands) (by_index P.taken) pieces.now drawer.old.seat
         collected.old.items }
     ensures round { drawer.new.round.now ≡ drawer.old.round.now }
-    ensures one_more { IfNone result (length (claimed drawer.new.seat) ≡ length (claimed drawer.old.seat) + 1) }
+    ensures one_more { IfNone result (length (claimed drawer.new.seat)
+        ≡ length (claimed drawer.old.seat) + 1) }
     ensures turned { MatchOption result
         (IsGoing (by_index P.commands) (by_index P.taken) pieces.now drawer.new.seat collected.new.items)
         (λ end. HasEnded (by_index P.commands) (by_index P.taken) pieces.now end drawer.new.seat

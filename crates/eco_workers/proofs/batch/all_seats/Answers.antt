@@ -3,7 +3,7 @@ use Rattle.std.specs.List.{All}
 use Rattle.std.proofs.lemmas.List.{nil_from_length}
 use Rattle.std.proofs.lemmas.List.Elements.{All-push}
 use Rattle.eco_rounds.specs.Rounds.{IsSeatOf}
-use Rattle.eco_rounds.proofs.Gather.{popped_all}
+use Rattle.eco_workers.proofs.Totals.{popped_all}
 use Rattle.eco_workers.specs.declared.worked.Worked.{Worked}
 use Rattle.eco_workers.specs.Taking.{by_index}
 use Rattle.eco_workers.specs.Workers.{IsWorked}

@@ -3,7 +3,7 @@ use Rattle.std.specs.List.{All}
 use Rattle.std.proofs.lemmas.List.Elements.{All-push, All-nil}
 use Rattle.eco_rounds.specs.declared.seat.Seat.{Seat}
 use Rattle.eco_rounds.specs.Rounds.{is_done, IsSeatOf}
-use Rattle.eco_rounds.proofs.Gather.{popped_all}
+use Rattle.eco_workers.proofs.Totals.{popped_all}
 use Rattle.eco_workers.specs.declared.worked.Worked.{Worked}
 use Rattle.eco_workers.specs.declared.end.End.{End}
 use Rattle.eco_workers.specs.declared.end.End.TheVariants.{Done}

@@ -25,7 +25,8 @@ returns-in-Ok-one_piece-clause-turned g c =
       going = ap (λ (t : Ticket). t.over) kept ∙ event.1;
       wet = made.1;
       log = going.log ++ entry_of p mine.0 ∷ [];
-      logged = log_push (by_index g.P.Piece.commands) (by_index g.P.Piece.taken) c.args.pieces.now (claimed before) (claimed after) (drawn before) (drawn after) c.args.collected.now.items c.push_reserved.new.self.items going.log p mine.0 going.logged claims draws items mine.2;
+      logged = log_push (by_index g.P.Piece.commands) (by_index g.P.Piece.taken) c.args.pieces.now (claimed before) (claimed after) (drawn before)
+          (drawn after) c.args.collected.now.items c.push_reserved.new.self.items going.log p mine.0 going.logged claims draws items mine.2;
     }
 
 pub returns-in_default-clause-turned : goal.returns-in_default-clause-turned
@@ -44,4 +45,4 @@ returns-in-Err-clause-turned g c =
     let numbers : Ticket → List ℕ = λ t. t.hand.me.0.numbers in
     let claims : claimed after ≡ claimed before ++ c.in-Some.number ∷ [] = ap numbers kept ∙ event.2 in
     let draws : drawn after ≡ drawn before ++ e.0 = e.1 ∙ ap (λ (t : Ticket). numbers t ++ e.0) c.in-Some.ensures.other in
-    broken (by_index g.P.Piece.commands) (by_index g.P.Piece.taken) c.args.pieces.now before after c.args.collected.now.items going.log c.in-Some.number e.0 c.in-Err.refusal going.logged claims draws e.2 e.3
+    broken (by_index g.P.Piece.commands) (by_index g.P.Piece.taken) c.args.pieces.now before after c.args.collected.now.items going.log c.in-Some.number e.0 c.in-Err.refusal going.logged claims draws e.2 e.3 c.in-Err.ensures.why

@@ -53,6 +53,7 @@ loop-one-preserved g c =
       done = let P : Seat → Type 0 = λ s. is_done s ≡ true in subst (All P) (sym pushed) (All-push P c.loop-one.seats.items one.seat i.done good.done);
       log = (
         i.log.0 ++ good.log,
-        gathered_more f t ps c.loop-one.seats.items c.push_reserved.new.self.items c.loop-one.all.items c.append.new.self.items one.pieces.items i.log.0 good.log one.seat i.log.1 good.logged pushed c.in_ok-append.ensures.items,
+        gathered_more f t ps c.loop-one.seats.items c.push_reserved.new.self.items
+            c.loop-one.all.items c.append.new.self.items one.pieces.items i.log.0 good.log one.seat i.log.1 good.logged pushed c.in_ok-append.ensures.items,
       );
     }

@@ -45,4 +45,5 @@ returns-in-Err-clause-turned g c =
     let numbers : Ticket → List ℕ = λ t. t.hand.me.0.numbers in
     let claims : claimed after ≡ claimed before ++ c.in-Some.number ∷ [] = ap numbers kept ∙ event.2 in
     let draws : drawn after ≡ drawn before ++ e.0 = e.1 ∙ ap (λ (t : Ticket). numbers t ++ e.0) c.in-Some.ensures.other in
-    broken (by_index g.P.Piece.commands) (by_index g.P.Piece.taken) c.args.pieces.now before after c.args.collected.now.items going.log c.in-Some.number e.0 c.in-Err.refusal going.logged claims draws e.2 e.3 c.in-Err.ensures.why
+    broken (by_index g.P.Piece.commands) (by_index g.P.Piece.taken) c.args.pieces.now before after
+    c.args.collected.now.items going.log c.in-Some.number e.0 c.in-Err.refusal going.logged claims draws e.2 e.3 c.in-Err.ensures.why

@@ -1,0 +1,113 @@
+//! Batches: workers record pieces side by side, and the stages come in order.
+ghost use Rattle.std.specs.Prelude.{◌≡◌, ◌≤◌, ℕ, [], ◌∷◌, get_or};
+ghost use Rattle.eco_ids.specs.declared.entity.TheConstants.{CHILD_OF};
+
+use eco_ids::{Entity, Id, Refusal};
+use eco_stages::{Command, Stage};
+use eco_workers::{Draws, Piece, run_batch};
+use std::alloc::Global;
+use std::sync::atomic::{AtomicU64, Ordering};
+use std::thread::Threads;
+
+// Makes one entity.
+#[derive(Clone, Copy, Drop)]
+struct Made;
+
+impl Piece for Made {
+    ghost use Rattle.eco_ids.specs.Run.{Create};
+
+    ghost commands = { λ s draws. Create (get_or draws 0 CHILD_OF) ∷ [] };
+
+    ghost taken = { λ s draws. 1 };
+
+    fn record<D: Draws>(&self, draws: &mut D, stage: &mut Stage) -> Result<(), Refusal> {
+        let made = draws.draw()?;
+        match stage.record(Command::Create(made)) {
+            Ok(()) => Ok(()),
+            Err(_) => Err(Refusal::OutOfMemory),
+        }
+    }
+}
+
+// Waits, where it is no last piece, until the last one is recorded, for so many turns; notes where it waited in vain.
+#[derive(Drop)]
+struct Gate<'a> {
+    is_last: bool,
+    turns: u64,
+    opened: &'a AtomicU64,
+    missed: &'a AtomicU64,
+}
+
+impl Gate<'_> {
+    // Opens or waits.
+    fn pass(&self) {
+        if self.is_last {
+            self.opened.store(1, Ordering::SeqCst);
+            return;
+        }
+        for _ in 0..self.turns {
+            if self.opened.load(Ordering::SeqCst) == 1 {
+                return;
+            }
+        }
+        self.missed.store(1, Ordering::SeqCst);
+    }
+}
+
+impl Piece for Gate<'_> {
+    ghost commands = { λ s draws. [] };
+
+    ghost taken = { λ s draws. 0 };
+
+    fn record<D: Draws>(&self, _draws: &mut D, _stage: &mut Stage) -> Result<(), Refusal> {
+        self.pass();
+        Ok(())
+    }
+}
+
+// How many stages there are, and how many handles were drawn from 5 on, where a hundred pieces draw one each.
+fn make_hundred<R: Threads + Sync>(
+    rt: &R,
+    alloc: Global,
+    workers: u32,
+    limit: u32,
+) -> Result<(usize, u32), Refusal>
+    requires { (1 ≤ workers) × (workers ≤ 64) × (5 ≤ limit) × (limit ≤ 1000) }
+{
+    let pieces = vec![in alloc; Made; 100]?;
+    let (stages, drawn) = run_batch(rt, alloc, pieces.as_slice(), workers, 5, limit)?;
+    Ok((stages.len(), drawn))
+}
+
+#[test]
+fn handles_last_to_the_limit(rt: HostRuntime) {
+    for workers in 1..5 {
+        assert_eq!(rt; make_hundred(&rt, rt.alloc(), workers, 105), Ok((100, 100)));
+        assert_eq!(rt;
+            make_hundred(&rt, rt.alloc(), workers, 104),
+            Err(Refusal::NoMoreIds)
+        );
+    }
+}
+
+// Whether eight workers are inside eight pieces at once.
+fn overlap<R: Threads + Sync>(rt: &R, alloc: Global) -> Result<bool, Refusal> {
+    let opened = AtomicU64::new(0);
+    let missed = AtomicU64::new(0);
+    let mut gates = Vec::new(alloc);
+    for k in 0..8 {
+        gates.push(Gate {
+            is_last: k == 7,
+            turns: 2_000_000_000,
+            opened: &opened,
+            missed: &missed,
+        })?;
+    }
+    run_batch(rt, alloc, gates.as_slice(), 8, 0, 0)?;
+    Ok(missed.load(Ordering::SeqCst) == 0)
+}
+
+#[test]
+fn workers_overlap(rt: HostRuntime) {
+    assert_eq!(rt; overlap(&rt, rt.alloc()), Ok(true));
+}

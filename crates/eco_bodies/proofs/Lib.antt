@@ -1,0 +1,4 @@
+pub mod Allowed
+pub mod Fields
+pub mod Refused
+pub mod Taken

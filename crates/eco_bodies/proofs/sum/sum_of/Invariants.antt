@@ -1,0 +1,6 @@
+use Rattle.std.proofs.Common.{◌≡◌}
+use Rattle.eco_bodies.proofs.Fields.{summed}
+use Rattle.eco_bodies.proofs.sum.sum_of.Given as goal
+
+abbrev pub invariant-loop-k : goal.invariant-loop-k
+invariant-loop-k l = l.fields ≡ summed l.k l.fn.a.0 l.b.0

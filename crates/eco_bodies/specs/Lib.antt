@@ -1,0 +1,7 @@
+pub mod Actions
+pub mod Allowing
+pub mod Lent
+pub mod LentRows
+pub mod Scripts
+pub mod Sums
+pub mod Taking

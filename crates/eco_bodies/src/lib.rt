@@ -1,0 +1,18 @@
+//! What a system does with each row of its query: bodies, what they draw from, and bodies written as lists of actions
+//! (Flecs manual, Systems).
+#![tactic(auto)]
+
+mod action;
+mod body;
+mod change;
+mod draws;
+mod row;
+mod script;
+mod sum;
+mod writes;
+
+pub use action::Action;
+pub use body::SystemBody;
+pub use draws::Draws;
+pub use row::{BodyRow, LentRow};
+pub use script::Script;

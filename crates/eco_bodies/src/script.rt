@@ -1,0 +1,125 @@
+//! Bodies that are lists of actions.
+ghost use Rattle.std.specs.Prelude.{◌≡◌, ◌++◌, Err, IfErr, IfOk, IsTrue, MatchOption, OnOk, [], false, flat_map, map};
+ghost use Rattle.std.specs.List.{list_all, list_any};
+ghost use Rattle.eco_ids.specs.declared.refusal.Refusal.TheVariants.{OutOfMemory};
+ghost use Rattle.eco_query.specs.Queries.{slot_view};
+ghost use Rattle.eco_bodies.specs.Actions as spec;
+ghost use Rattle.eco_bodies.specs.Actions.{script_writes};
+ghost use Rattle.eco_bodies.specs.Scripts.{is_allowed, script_commands, script_taken};
+ghost use Rattle.eco_bodies.specs.Taking.{Broke, Took, stopped_by};
+ghost use Rattle.eco_bodies.specs.Allowing.{script_declared};
+
+use crate::action::{Action, first_refusal, some_kills};
+use crate::body::SystemBody;
+use crate::change::record_action;
+use crate::draws::Draws;
+use crate::row::BodyRow;
+use crate::writes::script_writes;
+use eco_ids::{Pattern, Refusal};
+use eco_query::Query;
+use eco_stages::Stage;
+use std::alloc::Global;
+
+/// A system's body that does the same actions with each row, in their order. An action that sets a slot's entry records
+/// nothing where the slot has none, or one that is none of the script's query's.
+#[derive(Debug)]
+pub struct Script {
+    actions: Vec<Action>,
+    writes: Vec<Pattern>,
+    kills: bool,
+    ghost allowed: { IsTrue (list_all (is_allowed writes.items kills) actions.items) },
+}
+
+// By hand, so that dropping it is one call: a derived drop is proved anew at each early return of whoever holds it.
+impl Drop for Script {
+    fn drop(self) {
+        let Script {
+            actions: _,
+            writes: _,
+            kills: _,
+        } = self;
+    }
+}
+
+// Records the actions for a row, in their order.
+fn record_actions<R: BodyRow, D: Draws>(
+    writes: &[Pattern],
+    actions: &[Action],
+    row: &R,
+    draws: &mut D,
+    stage: &mut Stage,
+) -> Result<(), Refusal>
+    requires { D.is_dry draws.old ≡ false }
+    ensures rest { D.rest draws.new ≡ D.rest draws.old }
+    ensures wet { IfOk result (λ _. D.is_dry draws.new ≡ false) }
+    ensures ok { IfOk result (λ _. Took (script_commands writes.now actions.now) (script_taken actions.now)
+        (R.row_of row.now) (D.so_far draws.old) (D.so_far draws.new) stage.old stage.new) }
+    ensures why { IfErr result (λ why. why ≡ stopped_by (D.is_dry draws.new)) }
+    ensures err { IfErr result (λ _. Broke (script_taken actions.now (R.row_of row.now))
+        (D.so_far draws.old) (D.so_far draws.new) (D.is_dry draws.new)) }
+{
+    for action in actions {
+        record_action(writes, *action, row, draws, stage)?;
+    }
+    Ok(())
+}
+
+impl Script {
+    /// A script for the rows of a query. Refused by the first action for which there is a reason: with `BadTerm` where a
+    /// slot of it is not there or is a `!` slot, else with `Undeclared` where the access of a slot does not allow it. Then
+    /// with `OutOfMemory`, where memory for what it writes is refused.
+    pub fn new(alloc: Global, query: &Query, actions: Vec<Action>) -> Result<Script, Refusal>
+        ensures refused { MatchOption (spec.first_refusal query.now actions.items)
+            (IfErr result (λ why. why ≡ OutOfMemory)) (λ why. result ≡ Err why) }
+        ensures actions { IfOk result (λ s. s.actions.items ≡ actions.items) }
+        ensures writes { IfOk result (λ s. s.writes.items ≡ script_writes query.now actions.items) }
+        ensures kills { IfOk result (λ s. s.kills ≡ list_any spec.is_kill actions.items) }
+    {
+        if let Some(refusal) = first_refusal(query.slots(), &actions) {
+            return Err(refusal);
+        }
+        let writes = script_writes(alloc, query.slots(), &actions)?;
+        let kills = some_kills(&actions);
+        Ok(Script {
+            actions,
+            writes,
+            kills,
+        })
+    }
+}
+
+impl SystemBody for Script {
+    ghost reads_of = { λ s. [] };
+
+    ghost writes_of = { λ s. s.writes.items };
+
+    ghost kills_of = { λ s. s.kills };
+
+    ghost commands = { λ s. script_commands s.writes.items s.actions.items };
+
+    ghost taken = { λ s. script_taken s.actions.items };
+
+    fn reads(&self) -> &[Pattern] {
+        &[]
+    }
+
+    fn writes(&self) -> &[Pattern] {
+        &self.writes
+    }
+
+    fn kills(&self) -> bool {
+        self.kills
+    }
+
+    fn record<R: BodyRow, D: Draws>(
+        &self,
+        row: &R,
+        draws: &mut D,
+        stage: &mut Stage,
+    ) -> Result<(), Refusal> {
+        record_actions(&self.writes, &self.actions, row, draws, stage)
+    }
+
+    ghost declared = { λ s row draws h.
+        script_declared s.writes.items s.kills s.actions.items row draws s.allowed };
+}

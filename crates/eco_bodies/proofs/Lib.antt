@@ -1,4 +1,5 @@
 pub mod Allowed
 pub mod Fields
+pub mod Recorded
 pub mod Refused
 pub mod Taken

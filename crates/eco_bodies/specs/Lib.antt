@@ -1,5 +1,6 @@
 pub mod Actions
 pub mod Allowing
+pub mod Bodies
 pub mod Lent
 pub mod LentRows
 pub mod Scripts

@@ -1,4 +1,5 @@
 pub mod Actions
+pub mod Added
 pub mod Allowing
 pub mod Bodies
 pub mod Lent

@@ -10,6 +10,7 @@ mod row;
 mod rows;
 mod script;
 mod sum;
+mod systems;
 mod writes;
 
 pub use action::Action;
@@ -18,3 +19,4 @@ pub use draws::Draws;
 pub use row::{BodyRow, LentRow};
 pub use rows::{record_rows, systems_are_lawful};
 pub use script::Script;
+pub use systems::{NotAdded, System, Systems};

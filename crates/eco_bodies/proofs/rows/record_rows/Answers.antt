@@ -1,4 +1,4 @@
-use Rattle.std.proofs.Common.{◌≡◌, ℕ, List, ◌++◌, length, map, ap, ◌∙◌, sym, subst, append_assoc, IsTrue}
+use Rattle.std.proofs.Common.{◌≡◌, List, ◌++◌, length, map, ap, ◌∙◌, sym, subst, append_assoc, IsTrue}
 use Rattle.std.proofs.lemmas.Result.{err_from_is_err_and}
 use Rattle.eco_ids.specs.declared.entity.Entity.{Entity}
 use Rattle.eco_bodies.specs.Bodies.{RowsAreRecorded, system_with}

@@ -1,0 +1,169 @@
+//! The systems of a frame.
+ghost use Rattle.std.specs.Prelude.{◌≡◌, ◌++◌, ◌∷◌, [], length, IfErr, MatchOption, MatchResult, OnErr, OnOk, string_bytes};
+ghost use Rattle.eco_ids.specs.declared.refusal.Refusal.TheVariants.{OutOfMemory};
+ghost use Rattle.eco_ids.specs.Names.{is_text};
+ghost use Rattle.eco_bodies.specs.Added.{IsAdded, add_refusal, is_named};
+
+use crate::script::Script;
+use eco_ids::{Refusal, is_name};
+use eco_query::Query;
+use eco_systems::Phase;
+use std::alloc::Global;
+use std::marker::Model;
+
+/// A system (Flecs manual, Systems): its name, when it runs, what it asks for, and what it does with each row.
+#[derive(Debug)]
+pub struct System<B> {
+    /// Its name, which no other system of its list has.
+    pub name: String,
+    /// When it runs.
+    pub phase: Phase,
+    /// What it asks for.
+    pub query: Query,
+    /// What it does with each row.
+    pub body: B,
+}
+
+// By hand, so that dropping it is one call: a derived drop is proved anew at each early return of whoever holds it.
+impl<B: Drop> Drop for System<B> {
+    fn drop(self) {
+        let System {
+            name: _,
+            phase: _,
+            query: _,
+            body: _,
+        } = self;
+    }
+}
+
+/// A system that was not added: why, and what was to be its query and its body.
+#[derive(Debug)]
+pub struct NotAdded<B> {
+    /// Why it was not.
+    pub refusal: Refusal,
+    /// The query, handed back.
+    pub query: Query,
+    /// The body, handed back.
+    pub body: B,
+}
+
+// By hand, so that dropping it is one call: a derived drop is proved anew at each early return of whoever holds it.
+impl<B: Drop> Drop for NotAdded<B> {
+    fn drop(self) {
+        let NotAdded {
+            refusal: _,
+            query: _,
+            body: _,
+        } = self;
+    }
+}
+
+/// The systems of a frame, in the order of declaration. Those of a list have bodies of one type: scripts, or an enum of all
+/// bodies that a program has.
+#[derive(Debug)]
+pub struct Systems<B = Script> {
+    alloc: Global,
+    list: Vec<System<B>>,
+}
+
+// By hand, so that dropping it is one call: a derived drop is proved anew at each early return of whoever holds it.
+impl<B: Drop> Drop for Systems<B> {
+    fn drop(self) {
+        let Systems { alloc: _, list: _ } = self;
+    }
+}
+
+// Whether a system has the name.
+fn is_called<B>(system: &System<B>, name: &str) -> bool
+    ensures { result ≡ is_text (string_bytes system.now.name) name.now }
+{
+    system.name.as_str() == name
+}
+
+impl<B> Model for Systems<B> {
+    ghost use Rattle.std.specs.Prelude.{List};
+    ghost use Rattle.eco_bodies.specs.declared.systems.System.{System};
+
+    ghost Value = { List (System B) };
+
+    ghost view = { λ s. s.list.items };
+}
+
+impl<B: Drop> Systems<B> {
+    /// No system. What is added takes its memory from `alloc`.
+    pub fn new(alloc: Global) -> Systems<B>
+        ensures { result ≡ [] }
+    {
+        Systems {
+            alloc,
+            list: Vec::new(alloc),
+        }
+    }
+
+    /// The systems, in the order of declaration.
+    pub fn as_slice(&self) -> &[System<B>]
+        ensures { result.now ≡ self.now }
+    {
+        self.list.as_slice()
+    }
+
+    // Whether one of them has the name.
+    fn has_name(&self, name: &str) -> bool
+        ensures { result ≡ is_named self.now name.now }
+    {
+        self.list.iter().any(|system| is_called(system, name))
+    }
+
+    // Why a system of the name can't be added.
+    fn refusal_of(&self, name: &str) -> Option<Refusal>
+        ensures { result ≡ add_refusal self.now name.now }
+    {
+        if !is_name(name) {
+            return Some(Refusal::BadName);
+        }
+        if self.has_name(name) {
+            return Some(Refusal::SystemNameTaken);
+        }
+        None
+    }
+
+    /// Adds a system, behind those that were added before. Refused with `BadName` where the text is not a name, then with
+    /// `SystemNameTaken` where a system of the list has it, then with `OutOfMemory`. What is refused hands query and body
+    /// back, and the list is as it was.
+    pub fn add(
+        &mut self,
+        name: &str,
+        phase: Phase,
+        query: Query,
+        body: B,
+    ) -> Result<(), NotAdded<B>>
+        ensures refused { MatchOption (add_refusal self.old name.now)
+            (IfErr result (λ r. r.refusal ≡ OutOfMemory))
+            (λ why. MatchResult result (λ _. ⊥) (λ r. r.refusal ≡ why)) }
+        ensures back { IfErr result (λ r. (r.query ≡ query) × (r.body ≡ body)) }
+        ensures kept { OnErr result (self.new ≡ self.old) }
+        ensures added { OnOk result (IsAdded self.old name.now phase query body self.new) }
+    {
+        if let Some(refusal) = self.refusal_of(name) {
+            return Err(NotAdded {
+                refusal,
+                query,
+                body,
+            });
+        }
+        let (Ok(()), Ok(name)) = (self.list.reserve(1), String::from_str(self.alloc, name)) else {
+            return Err(NotAdded {
+                refusal: Refusal::OutOfMemory,
+                query,
+                body,
+            });
+        };
+        self.list.push_reserved(System {
+            name,
+            phase,
+            query,
+            body,
+        });
+        Ok(())
+    }
+}

@@ -1,0 +1,2 @@
+pub mod Alike
+pub mod Placed

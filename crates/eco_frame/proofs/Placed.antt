@@ -1,0 +1,84 @@
+-- The batches of declared systems are those of the systems.
+use Rattle.std.proofs.Common.{◌≡◌, ℕ, zero, suc, ◌+◌, ◌==◌, List, [], ◌∷◌, ◌++◌, Some, refl, sym, ap, ◌∙◌, map, if◌then◌else◌}
+use Rattle.std.proofs.Common.{slice_get, unwrap_or}
+use Rattle.std.specs.Prelude.{flat_map}
+use Rattle.std.specs.List.{AllZip}
+use Rattle.eco_ids.specs.World.{WorldState}
+use Rattle.eco_systems.specs.Batches.{joined}
+use Rattle.eco_systems.specs.Phases.{in_order, order_of, phases, positions_from, rank}
+use Rattle.eco_systems.specs.Systems.{SystemModel}
+use Rattle.eco_systems.specs.declared.phase.Phase.{Phase}
+use Rattle.eco_systems.proofs.Lists.{map_append}
+use Rattle.eco_systems.proofs.Orders.{order_is_of_positions}
+use Rattle.eco_batches.specs.Outlines.{ArePlacedBatches, system_at, system_of, systems_of}
+use Rattle.eco_batches.specs.declared.declaration.Declared.{Declared}
+use Rattle.eco_frame.specs.Models.{ArePlaced, Declares, model_at}
+use Rattle.eco_frame.proofs.Alike.{Alike, Same, same_batches}
+
+map_itself : (xs : List SystemModel) → map (λ s. s) xs ≡ xs
+map_itself [] = refl
+map_itself (x ∷ xs) = ap (λ l. x ∷ l) (map_itself xs)
+
+joined_map : (at : ℕ → SystemModel) (places : List (List ℕ)) → map at (joined places) ≡ joined (map (map at) places)
+joined_map at [] = refl
+joined_map at (p ∷ ps) = map_append at p (joined ps) ∙ ap (λ l. map at p ++ l) (joined_map at ps)
+
+model_there : (systems : List SystemModel) (k : ℕ) (s : SystemModel) → slice_get systems k ≡ Some s → model_at systems k ≡ s
+model_there systems k s h = ap (λ o. unwrap_or o (model_at [] 0)) h
+
+whole : (systems : List SystemModel) (places : List (List ℕ)) → joined places ≡ order_of systems → in_order systems ≡ joined (map (map (model_at systems)) places)
+whole systems places h =
+    sym (map_itself (in_order systems)) ∙ sym (order_is_of_positions (model_at systems) (λ s. s) systems (model_there systems))
+    ∙ ap (map (model_at systems)) (sym h) ∙ joined_map (model_at systems) places
+
+same_of : (s : SystemModel) (d : Declared) → Declares s d → Same (system_of d) s
+same_of s d h = record { phase = h.phase; reads = h.reads; writes = h.writes; kills = h.kills }
+
+same_at : (ss : List SystemModel) (ds : List Declared) → AllZip Declares ss ds → (k : ℕ) → Same (system_at ds k) (model_at ss k)
+same_at [] [] h k = record { phase = refl; reads = refl; writes = refl; kills = refl }
+same_at [] (d ∷ ds) h k = absurd h
+same_at (s ∷ ss) [] h k = absurd h
+same_at (s ∷ ss) (d ∷ ds) h zero = same_of s d h.0
+same_at (s ∷ ss) (d ∷ ds) h (suc k) = same_at ss ds h.1 k
+
+positions : (phase : Phase) (n : ℕ) (ss : List SystemModel) (ds : List Declared) → AllZip Declares ss ds → positions_from phase n (systems_of ds) ≡ positions_from phase n ss
+positions phase n [] [] h = refl
+positions phase n [] (d ∷ ds) h = absurd h
+positions phase n (s ∷ ss) [] h = absurd h
+positions phase n (s ∷ ss) (d ∷ ds) h =
+    let later = positions phase (n + 1) ss ds h.1 in
+    ap (λ p. if rank p == rank phase then n ∷ positions_from phase (n + 1) (systems_of ds) else positions_from phase (n + 1) (systems_of ds)) h.0.phase
+    ∙ ap (λ l. if rank s.phase == rank phase then n ∷ l else l) later
+
+orders : (ss : List SystemModel) (ds : List Declared) → AllZip Declares ss ds → order_of (systems_of ds) ≡ order_of ss
+orders ss ds h = go phases
+  where
+    go : (ps : List Phase) → flat_map (λ phase. positions_from phase 0 (systems_of ds)) ps ≡ flat_map (λ phase. positions_from phase 0 ss) ps
+    go [] = refl
+    go (phase ∷ ps) = λ i. positions phase 0 ss ds h i ++ go ps i
+
+module _ (at others : ℕ → SystemModel) (same : (k : ℕ) → Same (at k) (others k)) where
+  alike : (ks : List ℕ) → Alike (map at ks) (map others ks)
+  alike [] = tt
+  alike (k ∷ ks) = (same k, alike ks)
+
+  all_alike : (places : List (List ℕ)) → AllZip Alike (map (map at) places) (map (map others) places)
+  all_alike [] = tt
+  all_alike (p ∷ ps) = (alike p, all_alike ps)
+
+-- the batches of what some systems declare are theirs
+pub placed : (w : WorldState) (ss : List SystemModel) (ds : List Declared) (places : List (List ℕ)) → AllZip Declares ss ds → ArePlacedBatches w ds places → ArePlaced w ss places
+placed w ss ds places h p =
+    let order = p.0 ∙ orders ss ds h in
+    (order, same_batches w (in_order (systems_of ds)) (in_order ss) _ _ (whole ss places order) (all_alike (system_at ds) (model_at ss) (same_at ss ds h) places) p.1)
+
+zip_map : {A : Type 0} (f : A → SystemModel) (xs : List A) (ds : List Declared) → AllZip (λ s d. Declares (f s) d) xs ds → AllZip Declares (map f xs) ds
+zip_map f [] [] h = h
+zip_map f [] (d ∷ ds) h = absurd h
+zip_map f (x ∷ xs) [] h = absurd h
+zip_map f (x ∷ xs) (d ∷ ds) h = (h.0, zip_map f xs ds h.1)
+
+-- the same of things that stand for systems
+pub placed_of : {A : Type 0} (f : A → SystemModel) (w : WorldState) (xs : List A) (ds : List Declared) (places : List (List ℕ))
+    → AllZip (λ s d. Declares (f s) d) xs ds → ArePlacedBatches w ds places → ArePlaced w (map f xs) places
+placed_of f w xs ds places h = placed w (map f xs) ds places (zip_map f xs ds h)

@@ -1,0 +1,56 @@
+//! The batches of listed systems.
+ghost use Rattle.std.specs.Prelude.{◌≡◌, IfOk, map};
+ghost use Rattle.std.specs.List.{AllZip};
+ghost use Rattle.eco_frame.specs.Models.{ArePlaced, Declares, model_of};
+
+use eco_batches::Declared;
+use eco_bodies::{System, SystemBody, Systems};
+use eco_traits::Holdings;
+use std::alloc::{AllocError, Global};
+
+// What a system declares.
+fn declaration<B: SystemBody>(alloc: Global, system: &System<B>) -> Result<Declared, AllocError>
+    ensures { IfOk result (λ d. Declares
+        (model_of B.reads_of B.writes_of B.kills_of B.taken B.commands system.now) d) }
+{
+    let mut reads = system.query.reads(alloc)?;
+    reads.extend_from_slice(system.body.reads())?;
+    let writes = Vec::from_slice(alloc, system.body.writes())?;
+    Ok(Declared {
+        phase: system.phase,
+        reads,
+        writes,
+        kills: system.body.kills(),
+    })
+}
+
+// What each of some systems declares.
+fn declarations<B: SystemBody>(
+    alloc: Global,
+    systems: &[System<B>],
+) -> Result<Vec<Declared>, AllocError>
+    ensures { IfOk result (λ ds. AllZip (λ s d. Declares
+        (model_of B.reads_of B.writes_of B.kills_of B.taken B.commands s) d) systems.now ds.items) }
+{
+    let mut declarations = Vec::new(alloc);
+    for system in systems {
+        declarations.push(declaration(alloc, system)?)?;
+    }
+    Ok(declarations)
+}
+
+/// The batches between sync points (Flecs manual, Systems, "Sync points"), as lists of positions of declaration in the order
+/// in which the systems run; see [`eco_batches::sync_points`]. `AllocError` comes where memory for them, or for what the
+/// systems declare, is refused.
+pub fn sync_points<H: Holdings, B: SystemBody + Drop>(
+    alloc: Global,
+    holdings: &H,
+    systems: &Systems<B>,
+) -> Result<Vec<Vec<usize>>, AllocError>
+    ensures { IfOk result (λ batches. ArePlaced (H.world holdings.now)
+        (map (model_of B.reads_of B.writes_of B.kills_of B.taken B.commands) systems.now)
+        (map (λ b. b.items) batches.items)) }
+{
+    let declared = declarations(alloc, systems.as_slice())?;
+    eco_batches::sync_points(alloc, holdings, &declared)
+}

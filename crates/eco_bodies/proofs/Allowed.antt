@@ -31,7 +31,8 @@ in_right : (xs ys : List Pattern) (i : Id) → IsTrue (matches_one ys i) → IsT
 in_right xs ys i h = list_any-append (λ p. pattern_matches p i) xs ys ∙ or_right (matches_one xs i) (matches_one ys i) h
 
 module _ (slots : List QuerySlot) (writes : List Pattern) (kills : Bool) where
-  one_allowed : (a : Action) → ((i : Id) → IsTrue (matches_one (action_writes slots a) i) → IsTrue (matches_one writes i)) → (IsTrue (is_kill a) → IsTrue kills)
+  one_allowed : (a : Action) → ((i : Id) → IsTrue (matches_one (action_writes slots a) i) → IsTrue (matches_one writes i))
+      → (IsTrue (is_kill a) → IsTrue kills)
       → IsTrue (is_allowed writes kills a)
   one_allowed (AddId i) m k = m i (own i)
   one_allowed (RemoveId i) m k = m i (own i)
@@ -50,7 +51,8 @@ module _ (slots : List QuerySlot) (writes : List Pattern) (kills : Bool) where
       (all_allowed actions (λ i h. m i (in_right (action_writes slots a) (script_writes slots actions) i h)) (λ h. k (or_right (is_kill a) _ h)))
 
 -- each action of a script is allowed by what they write together
-pub script_allowed : (slots : List QuerySlot) (actions : List Action) → IsTrue (list_all (is_allowed (script_writes slots actions) (list_any is_kill actions)) actions)
+pub script_allowed : (slots : List QuerySlot) (actions : List Action)
+    → IsTrue (list_all (is_allowed (script_writes slots actions) (list_any is_kill actions)) actions)
 script_allowed slots actions = all_allowed slots (script_writes slots actions) (list_any is_kill actions) actions (λ i h. h) (λ h. h)
 
 -- the same of copies of them

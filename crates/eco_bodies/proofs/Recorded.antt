@@ -1,5 +1,6 @@
 -- One row more is recorded.
-use Rattle.std.proofs.Common.{◌≡◌, ℕ, ◌+◌, ◌<◌, ◌≤◌, List, [], ◌∷◌, ◌++◌, map, take, get_or, length, refl, sym, ap, ◌∙◌, subst, append_assoc, IsTrue, eq-eqb}
+use Rattle.std.proofs.Common.{◌≡◌, ℕ, ◌+◌, ◌<◌, ◌≤◌, List, [], ◌∷◌, ◌++◌, map, take}
+use Rattle.std.proofs.Common.{get_or, length, refl, sym, ap, ◌∙◌, subst, append_assoc, IsTrue, eq-eqb}
 use Rattle.std.proofs.lemmas.List.{append-nil, take_more}
 use Rattle.std.proofs.lemmas.List.{get_or-map, length-map}
 use Rattle.eco_ids.proofs.Common.{take_all}
@@ -11,10 +12,18 @@ use Rattle.eco_systems.specs.Systems.{SystemModel}
 use Rattle.eco_bodies.specs.Bodies.{RowsAreRecorded}
 use Rattle.eco_bodies.specs.Taking.{takes}
 
-rows_push : (s : SystemModel) (rows : List ValuedRow) (row : ValuedRow) (taken mine : List Entity) (commands : List Command) → RowsRecord s rows taken commands → IsTrue (s.takes row mine)
+rows_push : (s : SystemModel) (rows : List ValuedRow) (row : ValuedRow) (taken mine : List Entity) (commands : List Command)
+    → RowsRecord s rows taken commands → IsTrue (s.takes row mine)
     → RowsRecord s (rows ++ row ∷ []) (taken ++ mine) (commands ++ s.records row mine)
-rows_push s [] row taken mine commands h t =
-    (mine, [], [], t, (refl, refl), ap (λ l. l ++ mine) h.0 ∙ sym (append-nil mine), ap (λ l. l ++ s.records row mine) h.1 ∙ sym (append-nil (s.records row mine)))
+rows_push s [] row taken mine commands h t = (
+  mine,
+  [],
+  [],
+  t,
+  (refl, refl),
+  ap (λ l. l ++ mine) h.0 ∙ sym (append-nil mine),
+  ap (λ l. l ++ s.records row mine) h.1 ∙ sym (append-nil (s.records row mine)),
+)
 rows_push s (r ∷ rows) row taken mine commands h t = (
   h.0,
   h.1 ++ mine,
@@ -26,7 +35,8 @@ rows_push s (r ∷ rows) row taken mine commands h t = (
 )
 
 -- one row more, which took these draws
-pub recorded_more : (s : SystemModel) (rows : List ValuedRow) (k : ℕ) (d : ValuedRow) (first before after mine : List Entity) (start stage stage' : List Command)
+pub recorded_more : (s : SystemModel) (rows : List ValuedRow) (k : ℕ) (d : ValuedRow) (first before after mine : List Entity)
+    (start stage stage' : List Command)
     → k < length rows → RowsAreRecorded s (take k rows) first before start stage → after ≡ before ++ mine
     → IsTrue (s.takes (get_or rows k d) mine) → stage' ≡ stage ++ s.records (get_or rows k d) mine
     → RowsAreRecorded s (take (k + 1) rows) first after start stage'
@@ -52,7 +62,8 @@ module _ {X Y : Type 0} (f : Y → X) (ys : List Y) (k : ℕ) where
   all_seen h = take_all k (map f ys) (subst (λ n. n ≤ k) (sym (length-map ys f)) h)
 
 -- what is taken whatever there is behind is taken alone
-pub alone : {X : Type 0} (commands : X → List Entity → List Command) (taken : X → List Entity → ℕ) (x : X) (mine : List Entity) (stage stage' : List Command)
+pub alone : {X : Type 0} (commands : X → List Entity → List Command) (taken : X → List Entity → ℕ) (x : X)
+    (mine : List Entity) (stage stage' : List Command)
     → ((later : List Entity) → (taken x (mine ++ later) ≡ length mine) × (stage' ≡ stage ++ commands x (mine ++ later)))
     → IsTrue (takes taken x mine) × (stage' ≡ stage ++ commands x mine)
 alone commands taken x mine stage stage' h =

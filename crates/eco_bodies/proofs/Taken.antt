@@ -1,12 +1,16 @@
 -- What some things take and record in order, when one more of them has recorded.
-use Rattle.std.proofs.Common.{◌≡◌, ℕ, ◌+◌, ◌<◌, ◌≤◌, Bool, List, [], ◌∷◌, ◌++◌, length, take, drop, get_or, refl, sym, ap, ◌∙◌, append_assoc, length-append, subst, arith}
+use Rattle.std.proofs.Common.{◌≡◌, ℕ, ◌+◌, ◌<◌, ◌≤◌, Bool, List, [], ◌∷◌, ◌++◌, length}
+use Rattle.std.proofs.Common.{take, drop, get_or, refl, sym, ap, ◌∙◌, append_assoc, length-append, subst, arith}
 use Rattle.std.proofs.lemmas.List.{append-nil, drop-drop, drop_at, take_more, drop_more, take-append-drop}
 use Rattle.eco_ids.specs.declared.entity.Entity.{Entity}
 use Rattle.eco_ids.specs.Run.{Command}
-use Rattle.eco_bodies.specs.Taking.{Broke, commands_of, taken_of}
+use Rattle.eco_bodies.specs.Taking.{commands_of, taken_of}
+use Rattle.eco_workers.specs.Taking.{Broke}
 
 module _ {X : Type 0} (commands : X → List Entity → List Command) (taken : X → List Entity → ℕ) where
-  taken_append : (xs ys : List X) (draws : List Entity) → taken_of taken (xs ++ ys) draws ≡ taken_of taken xs draws + taken_of taken ys (drop (taken_of taken xs draws) draws)
+  taken_append : (xs ys : List X) (draws : List Entity)
+      → taken_of taken (xs ++ ys) draws ≡ taken_of taken xs draws
+      + taken_of taken ys (drop (taken_of taken xs draws) draws)
   taken_append [] ys draws = omega arith
   taken_append (x ∷ xs) ys draws =
       let k = taken x draws in
@@ -15,7 +19,8 @@ module _ {X : Type 0} (commands : X → List Entity → List Command) (taken : X
       omega arith
 
   commands_append : (xs ys : List X) (draws : List Entity)
-      → commands_of commands taken (xs ++ ys) draws ≡ commands_of commands taken xs draws ++ commands_of commands taken ys (drop (taken_of taken xs draws) draws)
+      → commands_of commands taken (xs ++ ys) draws ≡ commands_of commands taken xs draws
+      ++ commands_of commands taken ys (drop (taken_of taken xs draws) draws)
   commands_append [] ys draws = refl
   commands_append (x ∷ xs) ys draws =
       let k = taken x draws in
@@ -25,7 +30,9 @@ module _ {X : Type 0} (commands : X → List Entity → List Command) (taken : X
 
   -- they take just these handles, whatever there is to draw behind them, and record these commands behind others
   abbrev pub AllTook : List X → List Entity → List Command → List Command → Type 0
-  AllTook xs mine stage stage' = (later : List Entity) → (taken_of taken xs (mine ++ later) ≡ length mine) × (stage' ≡ stage ++ commands_of commands taken xs (mine ++ later))
+  AllTook xs mine stage stage' =
+      (later : List Entity) → (taken_of taken xs (mine ++ later) ≡ length mine)
+      × (stage' ≡ stage ++ commands_of commands taken xs (mine ++ later))
 
   took_push : (xs : List X) (x : X) (draws mine : List Entity) (first stage stage' : List Command)
       → AllTook xs draws first stage
@@ -36,7 +43,8 @@ module _ {X : Type 0} (commands : X → List Entity → List Command) (taken : X
       let a : (draws ++ mine) ++ later ≡ all = append_assoc draws mine later in
       let before = h (mine ++ later) in
       let now = t later in
-      let left : drop (taken_of taken xs all) all ≡ mine ++ later = ap (λ (n : ℕ). drop n all) before.0 ∙ drop_at draws (mine ++ later) (length draws) refl in
+      let left : drop (taken_of taken xs all) all ≡ mine ++ later = ap (λ (n : ℕ). drop n all) before.0
+      ∙ drop_at draws (mine ++ later) (length draws) refl in
       let last = ap (λ (l : List Entity). taken x l) left in
       let taken_now = taken_append xs (x ∷ []) all in
       let same = ap (λ (l : List Entity). taken_of taken (xs ++ x ∷ []) l) a in (
@@ -57,7 +65,8 @@ module _ {X : Type 0} (commands : X → List Entity → List Command) (taken : X
       → ((later : List Entity) → (taken (get_or xs i d) (mine ++ later) ≡ length mine) × (stage' ≡ stage ++ commands (get_or xs i d) (mine ++ later)))
       → AllTook (take (i + 1) xs) (draws ++ mine) first stage'
   took_more xs i d draws mine first stage stage' lt h t =
-      subst (λ (l : List X). AllTook l (draws ++ mine) first stage') (sym (take_more xs i d lt)) (took_push (take i xs) (get_or xs i d) draws mine first stage stage' h t)
+      subst (λ (l : List X). AllTook l (draws ++ mine) first stage') (sym (take_more xs i d lt))
+      (took_push (take i xs) (get_or xs i d) draws mine first stage stage' h t)
 
   -- all of them take at least what those before one drew, and what that one takes
   least_taken : (xs : List X) (i : ℕ) (d : X) (draws mine : List Entity) (first stage : List Command) (later : List Entity)
@@ -71,7 +80,8 @@ module _ {X : Type 0} (commands : X → List Entity → List Command) (taken : X
       let split : xs ≡ take i xs ++ x ∷ rest = sym (take-append-drop i xs) ∙ ap (λ l. take i xs ++ l) (drop_more xs i d lt) in
       let a : (draws ++ mine) ++ later ≡ all = append_assoc draws mine later in
       let before = h (mine ++ later) in
-      let left : drop (taken_of taken (take i xs) all) all ≡ mine ++ later = ap (λ (n : ℕ). drop n all) before.0 ∙ drop_at draws (mine ++ later) (length draws) refl in
+      let left : drop (taken_of taken (take i xs) all) all ≡ mine ++ later = ap (λ (n : ℕ). drop n all) before.0
+      ∙ drop_at draws (mine ++ later) (length draws) refl in
       let whole = taken_append (take i xs) (x ∷ rest) all in
       let one = ap (λ (l : List Entity). taken x l) left in
       let e = ap (λ (l : List X). taken_of taken l all) split in

@@ -1,5 +1,6 @@
 -- That a script records what it declares.
-use Rattle.std.proofs.Common.{◌≡◌, Bool, true, false, List, [], ◌∷◌, ◌++◌, Option, Some, None, option_to_list, if◌then◌else◌, refl, IsTrue}
+use Rattle.std.proofs.Common.{◌≡◌, Bool, true, false, List, [], ◌∷◌, ◌++◌}
+use Rattle.std.proofs.Common.{Option, Some, None, option_to_list, if◌then◌else◌, refl, IsTrue}
 use Rattle.std.specs.List.{list_all, AllByRecursion}
 use Rattle.eco_ids.specs.declared.entity.Entity.{Entity}
 use Rattle.eco_ids.specs.declared.id.Id.{Id}
@@ -20,11 +21,13 @@ all_append P [] ys h k = k
 all_append P (x ∷ xs) ys h k = (h.0, all_append P xs ys h.1 k)
 
 module _ (writes : List Pattern) (kills : Bool) where
-  set_declared : (e : Entity) (entry : Option Id) (value : Option Value) → AllByRecursion (IsDeclared writes kills) (option_to_list (set_of writes e entry value))
+  set_declared : (e : Entity) (entry : Option Id) (value : Option Value)
+      → AllByRecursion (IsDeclared writes kills) (option_to_list (set_of writes e entry value))
   set_declared e None v = tt
   set_declared e (Some i) None = tt
   set_declared e (Some i) (Some v) =
-      let P : Bool → Type 0 = λ b. matches_one writes i ≡ b → AllByRecursion (IsDeclared writes kills) (option_to_list (if b then Some (Set e i v) else None)) in
+      let P : Bool → Type 0 = λ b.
+      matches_one writes i ≡ b → AllByRecursion (IsDeclared writes kills) (option_to_list (if b then Some (Set e i v) else None)) in
       elim (matches_one writes i) as P [ true ↦ λ h. (h, tt) | false ↦ λ h. tt ] refl
 
   action_declared : (row : ValuedRow) (a : Action) (draws : List Entity) → IsTrue (is_allowed writes kills a)

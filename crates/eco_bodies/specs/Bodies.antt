@@ -11,7 +11,8 @@ use Rattle.eco_systems.specs.Systems.{SystemModel}
 use Rattle.eco_bodies.specs.Taking.{takes}
 
 -- the system of a body, which has these reads, writes and kills and records in this way
-abbrev pub system_with : Phase → List QuerySlot → List Pattern → List Pattern → Bool → (ValuedRow → List Entity → ℕ) → (ValuedRow → List Entity → List Command) → SystemModel
+abbrev pub system_with : Phase → List QuerySlot → List Pattern → List Pattern → Bool
+    → (ValuedRow → List Entity → ℕ) → (ValuedRow → List Entity → List Command) → SystemModel
 system_with phase slots reads writes kills taken commands = record {
   phase = phase;
   slots = slots;

@@ -1,20 +1,7 @@
 -- Commands recorded with handles that are drawn.
-use Rattle.std.specs.Prelude.{◌≡◌, ◌==◌, ℕ, ◌+◌, ◌<◌, ◌≤◌, Bool, true, List, [], ◌∷◌, ◌++◌, length, drop, if◌then◌else◌}
+use Rattle.std.specs.Prelude.{◌≡◌, ◌==◌, ℕ, ◌+◌, Bool, List, [], ◌∷◌, ◌++◌, length, drop}
 use Rattle.eco_ids.specs.declared.entity.Entity.{Entity}
-use Rattle.eco_ids.specs.declared.refusal.Refusal.{Refusal}
-use Rattle.eco_ids.specs.declared.refusal.Refusal.TheVariants.{NoMoreIds, OutOfMemory}
 use Rattle.eco_ids.specs.Run.{Command}
-
--- why recording stops: a draw was refused, or else memory
-abbrev pub stopped_by : Bool → Refusal
-stopped_by dry = if dry then NoMoreIds else OutOfMemory
-
--- what takes so many of the handles that are there to draw stopped, after it drew some behind those drawn so far: it takes
--- these at least, and more where a draw was refused
-abbrev pub Broke : (List Entity → ℕ) → List Entity → List Entity → Bool → Type 0
-Broke taken before after dry =
-    (mine : List Entity) × (after ≡ before ++ mine) × ((later : List Entity) → length mine ≤ taken (mine ++ later))
-    × (dry ≡ true → (later : List Entity) → length mine < taken (mine ++ later))
 
 -- some things that record, each with the handles that are there to draw: how many it takes from the front
 module _ {X : Type 0} (taken : X → List Entity → ℕ) where

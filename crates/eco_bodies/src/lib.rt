@@ -5,7 +5,6 @@
 mod action;
 mod body;
 mod change;
-mod draws;
 mod row;
 mod rows;
 mod script;
@@ -15,7 +14,7 @@ mod writes;
 
 pub use action::Action;
 pub use body::SystemBody;
-pub use draws::Draws;
+pub use eco_workers::Draws;
 pub use row::{BodyRow, LentRow};
 pub use rows::{record_rows, systems_are_lawful};
 pub use script::Script;

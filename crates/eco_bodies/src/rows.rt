@@ -2,17 +2,18 @@
 ghost use Rattle.std.specs.Prelude.{◌≡◌, List, false, map, IfErr, IfOk};
 ghost use Rattle.eco_systems.specs.Systems.{IsLawfulSystem};
 ghost use Rattle.eco_bodies.specs.Bodies.{RowsAreRecorded, system_with};
-ghost use Rattle.eco_bodies.specs.Taking.{Broke, Took, commands_of, stopped_by, taken_of};
+ghost use Rattle.eco_bodies.specs.Taking.{Took, commands_of, taken_of};
+ghost use Rattle.eco_workers.specs.Taking.{Broke, stopped_by};
 ghost use Rattle.eco_query.specs.Queries.{QuerySlot};
 ghost use Rattle.eco_systems.specs.declared.phase.Phase.{Phase as PhaseData};
 
 use crate::body::SystemBody;
-use crate::draws::Draws;
 use crate::row::BodyRow;
 use eco_ids::Refusal;
 use eco_query::Query;
 use eco_stages::Stage;
 use eco_systems::Phase;
+use eco_workers::Draws;
 
 /// Does nothing, and its contract says that a system of a query and a body keeps the law of systems: its query asks for
 /// something that is there, and it records what it declares.

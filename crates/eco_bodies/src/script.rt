@@ -6,18 +6,19 @@ ghost use Rattle.eco_query.specs.Queries.{slot_view};
 ghost use Rattle.eco_bodies.specs.Actions as spec;
 ghost use Rattle.eco_bodies.specs.Actions.{script_writes};
 ghost use Rattle.eco_bodies.specs.Scripts.{is_allowed, script_commands, script_taken};
-ghost use Rattle.eco_bodies.specs.Taking.{Broke, Took, stopped_by};
+ghost use Rattle.eco_bodies.specs.Taking.{Took};
+ghost use Rattle.eco_workers.specs.Taking.{Broke, stopped_by};
 ghost use Rattle.eco_bodies.specs.Allowing.{script_declared};
 
 use crate::action::{Action, first_refusal, some_kills};
 use crate::body::SystemBody;
 use crate::change::record_action;
-use crate::draws::Draws;
 use crate::row::BodyRow;
 use crate::writes::script_writes;
 use eco_ids::{Pattern, Refusal};
 use eco_query::Query;
 use eco_stages::Stage;
+use eco_workers::Draws;
 use std::alloc::Global;
 
 /// A system's body that does the same actions with each row, in their order. An action that sets a slot's entry records

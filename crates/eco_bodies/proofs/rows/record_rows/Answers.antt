@@ -2,7 +2,8 @@ use Rattle.std.proofs.Common.{◌≡◌, List, ◌++◌, length, map, ap, ◌∙
 use Rattle.std.proofs.lemmas.Result.{err_from_is_err_and}
 use Rattle.eco_ids.specs.declared.entity.Entity.{Entity}
 use Rattle.eco_bodies.specs.Bodies.{RowsAreRecorded, system_with}
-use Rattle.eco_bodies.specs.Taking.{Broke, takes}
+use Rattle.eco_bodies.specs.Taking.{takes}
+use Rattle.eco_workers.specs.Taking.{Broke}
 use Rattle.eco_bodies.proofs.Recorded.{all_seen, alone, recorded_more, seen_at, within}
 use Rattle.eco_bodies.proofs.Taken.{broke_more, took_more}
 use Rattle.eco_bodies.proofs.rows.record_rows.Goals as goal
@@ -24,8 +25,10 @@ loop-row-preserved g c =
       took = (
         i.0 ++ t.0,
         t.1 ∙ ap (λ l. l ++ t.0) i.1 ∙ append_assoc (g.D.Draws.so_far c.args.draws.now) i.0 t.0,
-        took_more commands taken (map see c.args.rows.now) c.loop-row.row-index (see c.row-item.result) i.0 t.0 c.args.stage.now c.loop-row.stage c.record.new.stage there i.2
-            (subst (λ x. (later : List Entity) → (taken x (t.0 ++ later) ≡ length t.0) × (c.record.new.stage ≡ c.loop-row.stage ++ commands x (t.0 ++ later))) at t.2),
+        took_more commands taken (map see c.args.rows.now) c.loop-row.row-index (see c.row-item.result)
+            i.0 t.0 c.args.stage.now c.loop-row.stage c.record.new.stage there i.2
+            (subst (λ x. (later : List Entity) → (taken x (t.0 ++ later) ≡ length t.0)
+            × (c.record.new.stage ≡ c.loop-row.stage ++ commands x (t.0 ++ later))) at t.2),
       );
       rows = λ phase slots.
           recorded_more (system_with phase slots (g.B.SystemBody.reads_of body) (g.B.SystemBody.writes_of body) (g.B.SystemBody.kills_of body) taken commands)
@@ -46,11 +49,13 @@ returns-in_err-record-clause-err g c =
     (broke_more (g.B.SystemBody.commands body) taken (map see c.args.rows.now) c.loop-row.row-index (see c.row-item.result) (g.D.Draws.so_far c.args.draws.now)
     (g.D.Draws.so_far c.loop-row.draws) (g.D.Draws.so_far c.record.new.draws) i.0 c.args.stage.now c.loop-row.stage (g.D.Draws.is_dry c.record.new.draws)
     (within see c.args.rows.now c.loop-row.row-index c.loop-row-test.true) i.1 i.2
-    (subst (λ x. Broke (taken x) (g.D.Draws.so_far c.loop-row.draws) (g.D.Draws.so_far c.record.new.draws) (g.D.Draws.is_dry c.record.new.draws)) at c.in_err-record.ensures.err))
+    (subst (λ x. Broke (taken x) (g.D.Draws.so_far c.loop-row.draws) (g.D.Draws.so_far c.record.new.draws)
+    (g.D.Draws.is_dry c.record.new.draws)) at c.in_err-record.ensures.err))
 
 pub returns-clause-rows : goal.returns-clause-rows
 returns-clause-rows g c phase slots =
     let body = c.args.body.now in
     subst (λ rows. RowsAreRecorded (system_with phase slots (g.B.SystemBody.reads_of body) (g.B.SystemBody.writes_of body) (g.B.SystemBody.kills_of body)
-    (g.B.SystemBody.taken body) (g.B.SystemBody.commands body)) rows (g.D.Draws.so_far c.args.draws.now) (g.D.Draws.so_far c.loop-row.draws) c.args.stage.now c.loop-row.stage)
+    (g.B.SystemBody.taken body) (g.B.SystemBody.commands body)) rows (g.D.Draws.so_far c.args.draws.now) (g.D.Draws.so_far c.loop-row.draws)
+    c.args.stage.now c.loop-row.stage)
     (all_seen g.R.BodyRow.row_of c.args.rows.now c.loop-row.row-index c.loop-row-test.false) (c.loop-row.invariant.rows phase slots)

@@ -14,7 +14,8 @@ loop-action-preserved g c =
       took = (
         i.0 ++ t.0,
         t.1 ∙ ap (λ l. l ++ t.0) i.1 ∙ append_assoc (g.D.Draws.so_far c.args.draws.now) i.0 t.0,
-        took_more (action_commands c.args.writes.now (g.R.BodyRow.row_of c.args.row.now)) takes_draws c.args.actions.now c.loop-action.action-index _ i.0 t.0 c.args.stage.now
+        took_more (action_commands c.args.writes.now (g.R.BodyRow.row_of c.args.row.now)) takes_draws c.args.actions.now c.loop-action.action-index _
+            i.0 t.0 c.args.stage.now
             c.loop-action.stage c.record_action.new.stage c.loop-action-test.true i.2 t.2,
       );
     }
@@ -24,6 +25,8 @@ returns-in_err-record_action-clause-err g c =
     let i = c.loop-action.invariant.took in
     let p = err_from_is_err_and c.from_residual.result c.from_residual.ensures.1 in
     rw p.1
-    (broke_more (action_commands c.args.writes.now (g.R.BodyRow.row_of c.args.row.now)) takes_draws c.args.actions.now c.loop-action.action-index _ (g.D.Draws.so_far c.args.draws.now)
-    (g.D.Draws.so_far c.loop-action.draws) (g.D.Draws.so_far c.record_action.new.draws) i.0 c.args.stage.now c.loop-action.stage (g.D.Draws.is_dry c.record_action.new.draws)
+    (broke_more (action_commands c.args.writes.now (g.R.BodyRow.row_of c.args.row.now)) takes_draws c.args.actions.now c.loop-action.action-index _
+    (g.D.Draws.so_far c.args.draws.now)
+    (g.D.Draws.so_far c.loop-action.draws) (g.D.Draws.so_far c.record_action.new.draws) i.0 c.args.stage.now c.loop-action.stage
+    (g.D.Draws.is_dry c.record_action.new.draws)
     c.loop-action-test.true i.1 i.2 c.in_err-record_action.ensures.err)

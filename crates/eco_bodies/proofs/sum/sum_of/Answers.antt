@@ -3,4 +3,5 @@ use Rattle.eco_bodies.proofs.Fields.{summed_more}
 use Rattle.eco_bodies.proofs.sum.sum_of.Goals as goal
 
 pub loop-k-preserved : goal.loop-k-preserved
-loop-k-preserved c = summed_more c.args.a.0 c.args.b.0 c.loop-k.fields c.loop-k.k (pos 0) (pos 0) _ (search rules) (search rules) c.loop-k.invariant (search rules)
+loop-k-preserved c = summed_more c.args.a.0 c.args.b.0 c.loop-k.fields c.loop-k.k (pos 0) (pos 0) _
+    (search rules) (search rules) c.loop-k.invariant (search rules)

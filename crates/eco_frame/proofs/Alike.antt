@@ -32,7 +32,8 @@ alike_append [] (y ∷ ys) us vs h k = absurd h
 alike_append (x ∷ xs) [] us vs h k = absurd h
 alike_append (x ∷ xs) (y ∷ ys) us vs h k = (h.0, alike_append xs ys us vs h.1 k)
 
-some : (P Q : SystemModel → Type 0) → ((s t : SystemModel) → Same s t → P s → Q t) → (xs ys : List SystemModel) → Alike xs ys → SomeOf P xs → SomeOf Q ys
+some : (P Q : SystemModel → Type 0) → ((s t : SystemModel) → Same s t → P s → Q t)
+    → (xs ys : List SystemModel) → Alike xs ys → SomeOf P xs → SomeOf Q ys
 some P Q f [] ys a h = absurd h
 some P Q f (x ∷ xs) [] a h = absurd a
 some P Q f (x ∷ xs) (y ∷ ys) a (inl h) = inl (f x y a.0 h)
@@ -42,7 +43,8 @@ module _ (w : WorldState) where
   writer : (s t : SystemModel) → Same s t → IsTraitWriter w s → IsTraitWriter w t
   writer s t e h = (h.0, subst (λ ws. IsClosedWrite w ws h.0) e.writes h.1, h.2)
 
-  conflict : (until others : List SystemModel) (s s' t t' : SystemModel) → Alike until others → Same s s' → Same t t' → Conflict w until s t → Conflict w others s' t'
+  conflict : (until others : List SystemModel) (s s' t t' : SystemModel) → Alike until others → Same s s' → Same t t'
+      → Conflict w until s t → Conflict w others s' t'
   conflict until others s s' t t' a e f (inl h) = inl (subst IsTrue e.kills h)
   conflict until others s s' t t' a e f (inr (inl h)) = inr (inl (subst IsTrue f.kills h))
   conflict until others s s' t t' a e f (inr (inr (inl h))) = inr (inr (inl (some (IsTraitWriter w) (IsTraitWriter w) writer until others a h)))
@@ -73,7 +75,8 @@ module _ (w : WorldState) where
   parted before others last ends (x ∷ xs) (y ∷ ys) a b c h =
       conflicts _ _ last ends x y (alike_append before others (x ∷ []) (y ∷ []) a (c.0, tt)) b c.0 h
 
-  cut : (before others last ends : List SystemModel) (batches sames : List (List SystemModel)) → Alike before others → Alike last ends → AllZip Alike batches sames
+  cut : (before others last ends : List SystemModel) (batches sames : List (List SystemModel))
+      → Alike before others → Alike last ends → AllZip Alike batches sames
       → AreCut w before last batches → AreCut w others ends sames
   cut before others last ends [] [] a b c h = tt
   cut before others last ends [] (y ∷ ys) a b c h = absurd c

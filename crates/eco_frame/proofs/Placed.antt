@@ -1,5 +1,6 @@
 -- The batches of declared systems are those of the systems.
-use Rattle.std.proofs.Common.{◌≡◌, ℕ, zero, suc, ◌+◌, ◌==◌, List, [], ◌∷◌, ◌++◌, Some, refl, sym, ap, ◌∙◌, map, if◌then◌else◌}
+use Rattle.std.proofs.Common.{◌≡◌, ℕ, zero, suc, ◌+◌, ◌==◌, List, [], ◌∷◌}
+use Rattle.std.proofs.Common.{◌++◌, Some, refl, sym, ap, ◌∙◌, map, if◌then◌else◌}
 use Rattle.std.proofs.Common.{slice_get, unwrap_or}
 use Rattle.std.specs.Prelude.{flat_map}
 use Rattle.std.specs.List.{AllZip}
@@ -26,7 +27,8 @@ joined_map at (p ∷ ps) = map_append at p (joined ps) ∙ ap (λ l. map at p ++
 model_there : (systems : List SystemModel) (k : ℕ) (s : SystemModel) → slice_get systems k ≡ Some s → model_at systems k ≡ s
 model_there systems k s h = ap (λ o. unwrap_or o (model_at [] 0)) h
 
-whole : (systems : List SystemModel) (places : List (List ℕ)) → joined places ≡ order_of systems → in_order systems ≡ joined (map (map (model_at systems)) places)
+whole : (systems : List SystemModel) (places : List (List ℕ)) → joined places ≡ order_of systems
+    → in_order systems ≡ joined (map (map (model_at systems)) places)
 whole systems places h =
     sym (map_itself (in_order systems)) ∙ sym (order_is_of_positions (model_at systems) (λ s. s) systems (model_there systems))
     ∙ ap (map (model_at systems)) (sym h) ∙ joined_map (model_at systems) places
@@ -41,7 +43,8 @@ same_at (s ∷ ss) [] h k = absurd h
 same_at (s ∷ ss) (d ∷ ds) h zero = same_of s d h.0
 same_at (s ∷ ss) (d ∷ ds) h (suc k) = same_at ss ds h.1 k
 
-positions : (phase : Phase) (n : ℕ) (ss : List SystemModel) (ds : List Declared) → AllZip Declares ss ds → positions_from phase n (systems_of ds) ≡ positions_from phase n ss
+positions : (phase : Phase) (n : ℕ) (ss : List SystemModel) (ds : List Declared) → AllZip Declares ss ds
+    → positions_from phase n (systems_of ds) ≡ positions_from phase n ss
 positions phase n [] [] h = refl
 positions phase n [] (d ∷ ds) h = absurd h
 positions phase n (s ∷ ss) [] h = absurd h
@@ -67,10 +70,14 @@ module _ (at others : ℕ → SystemModel) (same : (k : ℕ) → Same (at k) (ot
   all_alike (p ∷ ps) = (alike p, all_alike ps)
 
 -- the batches of what some systems declare are theirs
-pub placed : (w : WorldState) (ss : List SystemModel) (ds : List Declared) (places : List (List ℕ)) → AllZip Declares ss ds → ArePlacedBatches w ds places → ArePlaced w ss places
+pub placed : (w : WorldState) (ss : List SystemModel) (ds : List Declared) (places : List (List ℕ)) → AllZip Declares ss ds
+    → ArePlacedBatches w ds places → ArePlaced w ss places
 placed w ss ds places h p =
-    let order = p.0 ∙ orders ss ds h in
-    (order, same_batches w (in_order (systems_of ds)) (in_order ss) _ _ (whole ss places order) (all_alike (system_at ds) (model_at ss) (same_at ss ds h) places) p.1)
+    let order = p.0 ∙ orders ss ds h in (
+      order,
+      same_batches w (in_order (systems_of ds)) (in_order ss) _ _ (whole ss places order)
+          (all_alike (system_at ds) (model_at ss) (same_at ss ds h) places) p.1,
+    )
 
 zip_map : {A : Type 0} (f : A → SystemModel) (xs : List A) (ds : List Declared) → AllZip (λ s d. Declares (f s) d) xs ds → AllZip Declares (map f xs) ds
 zip_map f [] [] h = h

@@ -28,6 +28,10 @@ mod questions;
 #[cfg(test)]
 mod rounds;
 #[cfg(test)]
+mod scripts;
+#[cfg(test)]
 mod searching;
 #[cfg(test)]
 mod store;
+#[cfg(test)]
+mod systems;

@@ -265,10 +265,10 @@ fn declares(alloc: Global) -> Result<bool, Refusal> {
     let one = script(alloc, &[sum(0, 1)])?;
     Ok(
         all.kills()
-            && all.writes() == &writes
+            && all.writes() == writes.as_slice()
             && all.reads().is_empty()
             && !one.kills()
-            && one.writes() == &[Pattern::One(first(9))],
+            && one.writes() == [Pattern::One(first(9))].as_slice(),
     )
 }
 

@@ -107,14 +107,14 @@ fn are_refused(alloc: Global) -> bool {
     let found = refusals(alloc, &["a b", "move", "move", "", "Move"]);
     match found {
         Ok(found) => {
-            found.as_slice()
-                == &[
-                    Some(Refusal::BadName),
-                    None,
-                    Some(Refusal::SystemNameTaken),
-                    Some(Refusal::BadName),
-                    None,
-                ]
+            let expected = [
+                Some(Refusal::BadName),
+                None,
+                Some(Refusal::SystemNameTaken),
+                Some(Refusal::BadName),
+                None,
+            ];
+            found.as_slice() == expected.as_slice()
         }
         Err(_) => false,
     }

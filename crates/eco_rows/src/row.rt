@@ -1,0 +1,95 @@
+//! A row that a world lends.
+ghost use Rattle.std.specs.Prelude.{◌≡◌};
+ghost use Rattle.eco_ids.specs.Data.{value_of};
+ghost use Rattle.eco_systems.specs.Rows.{entry_value, shows_values};
+
+use eco_bodies::BodyRow;
+use eco_ids::{Entity, Id, Value};
+use eco_query::{Access, Query, Slot};
+use eco_world::World;
+
+/// A row of a query's results, lent from the world that answered it (Flecs manual, Systems). It owns nothing: its entries
+/// stand once for all rows of a type, and a value is read from the world where it stands once somebody asks for it.
+#[derive(Clone, Copy)]
+pub struct WorldRow<'a> {
+    entity: Entity,
+    // Its entry in each slot of the query.
+    entries: &'a [Option<Id>],
+    // Whose slots say which values are shown.
+    query: &'a Query,
+    // Where the values stand.
+    world: &'a World,
+}
+
+/// Whether a slot of this access shows its values.
+fn shows_values(access: Access) -> bool
+    ensures { result ≡ shows_values access }
+{
+    match access {
+        Access::In | Access::InOut => true,
+        Access::Out | Access::InOutNone => false,
+    }
+}
+
+/// The value that an entity has at a slot's entry, where the slot shows it.
+fn entry_value(world: &World, entity: Entity, slot: &Slot, entry: Option<Id>) -> Option<Value>
+    ensures { result ≡ entry_value (value_of world.now entity) slot.now.access entry }
+{
+    match entry {
+        Some(id) => {
+            if shows_values(slot.access) {
+                world.get(entity, id)
+            } else {
+                None
+            }
+        }
+        None => None,
+    }
+}
+
+impl<'a> WorldRow<'a> {
+    // The entity with these entries, one or none for each slot of the query.
+    pub(crate) fn of(
+        entity: Entity,
+        entries: &'a [Option<Id>],
+        query: &'a Query,
+        world: &'a World,
+    ) -> WorldRow<'a>
+        ensures { world_row result
+            ≡ valued world.now query.now (record { entity = entity; entries = entries.now }) }
+    {
+        WorldRow {
+            entity,
+            entries,
+            query,
+            world,
+        }
+    }
+
+    ghost use Rattle.eco_systems.specs.Rows.{valued};
+    ghost use Rattle.eco_rows.specs.Rows.{world_row};
+}
+
+impl BodyRow for WorldRow<'_> {
+    ghost use Rattle.eco_rows.specs.Rows.{world_row};
+
+    ghost row_of = { world_row };
+
+    fn entity(&self) -> Entity {
+        self.entity
+    }
+
+    fn entries(&self) -> &[Option<Id>] {
+        self.entries
+    }
+
+    fn value(&self, slot: usize) -> Option<Value> {
+        let Some(asked) = self.query.slots().get(slot) else {
+            return None;
+        };
+        let Some(entry) = self.entries.get(slot) else {
+            return None;
+        };
+        entry_value(self.world, self.entity, asked, *entry)
+    }
+}

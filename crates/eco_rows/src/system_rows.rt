@@ -1,0 +1,115 @@
+//! All rows of a query, lent from a world.
+ghost use Rattle.std.specs.Prelude.{◌≡◌, ◌==◌, ◌<◌, length, map, slice_get, IfErr, IfOk, IsTrue, OnErr, Some};
+ghost use Rattle.eco_ids.specs.declared.refusal.Refusal.TheVariants.{OutOfMemory};
+ghost use Rattle.eco_ids.specs.Answer.{answer};
+ghost use Rattle.eco_answers.specs.Answers.{asked};
+ghost use Rattle.eco_systems.specs.Rows.{rows_of};
+ghost use Rattle.eco_world.specs.Queries.{may_query};
+ghost use Rattle.eco_rows.specs.Rows.{world_row};
+
+use crate::row::WorldRow;
+use eco_ids::Refusal;
+use eco_query::Query;
+use eco_world::{Results, World};
+use std::alloc::{AllocError, Global};
+use std::marker::Model;
+
+/// The rows of a query, in the order of its results, of which `results` are those on this world. Each costs an entity and
+/// three references, and no value is read. An `Err` comes where memory is refused, and never where there is no result.
+pub fn rows<'a>(
+    alloc: Global,
+    world: &'a World,
+    query: &'a Query,
+    results: &'a Results,
+) -> Result<Vec<WorldRow<'a>>, AllocError>
+    requires { results.now ≡ answer world.now (asked query.now) }
+    ensures all { IfOk result (λ rows. map world_row rows.items ≡ rows_of world.now query.now) }
+    ensures some { OnErr result (0 < length results.now) }
+{
+    let mut rows = Vec::with_capacity(alloc, results.len())?;
+    for place in 0..results.len() {
+        let (entity, entries) = results.get(place);
+        rows.push(WorldRow::of(entity, entries, query, world))?;
+    }
+    Ok(rows)
+}
+
+/// A query's results on a world, which lend their rows (Flecs manual, Systems). A contract sees the list of the rows, each
+/// with the values that it shows.
+pub struct SystemRows<'a> {
+    world: &'a World,
+    query: &'a Query,
+    results: Results,
+}
+
+// By hand, so that dropping it is one call: a derived drop is proved anew at each early return of whoever holds it.
+impl Drop for SystemRows<'_> {
+    fn drop(self) {
+        let SystemRows {
+            world: _,
+            query: _,
+            results: _,
+        } = self;
+    }
+}
+
+impl<'a> Model for SystemRows<'a> {
+    ghost use Rattle.std.specs.Prelude.{◌≡◌, List, map};
+    ghost use Rattle.eco_ids.specs.Answer.{answer};
+    ghost use Rattle.eco_answers.specs.Answers.{asked};
+    ghost use Rattle.eco_systems.specs.Rows.{ValuedRow, valued};
+
+    ghost Value = { List ValuedRow };
+
+    ghost view = { λ r. map (valued r.world.now r.query.now) r.results };
+
+    ghost invariant = { λ r. r.results ≡ answer r.world.now (asked r.query.now) };
+}
+
+impl<'a> SystemRows<'a> {
+    /// The rows of a query on a world. Refused with `OutOfMemory` alone, and never where there is no result.
+    pub fn of(world: &'a World, query: &'a Query) -> Result<SystemRows<'a>, Refusal>
+        ensures ok { IfOk result (λ rows. rows ≡ rows_of world.now query.now) }
+        ensures err { IfErr result (λ why. why ≡ OutOfMemory) }
+        ensures some { OnErr result (IsTrue (may_query world.now (asked query.now))) }
+    {
+        let results = world.results(query)?;
+        Ok(SystemRows {
+            world,
+            query,
+            results,
+        })
+    }
+
+    /// How many there are.
+    pub fn len(&self) -> usize
+        ensures { result ≡ length self.now }
+    {
+        self.results.len()
+    }
+
+    /// Whether there are none.
+    pub fn is_empty(&self) -> bool
+        ensures { result ≡ (length self.now == 0) }
+    {
+        self.results.is_empty()
+    }
+
+    /// One of them.
+    pub fn get(&self, place: usize) -> WorldRow<'_>
+        requires { place < length self.now }
+        ensures { slice_get self.now place ≡ Some (world_row result) }
+    {
+        let (entity, entries) = self.results.get(place);
+        WorldRow::of(entity, entries, self.query, self.world)
+    }
+
+    /// All of them in their order, in one slice, as `record_rows` of `eco_bodies` goes over them. An `Err` comes where memory
+    /// is refused, and never where there is no row.
+    pub fn rows(&self, alloc: Global) -> Result<Vec<WorldRow<'_>>, AllocError>
+        ensures all { IfOk result (λ rows. map world_row rows.items ≡ self.now) }
+        ensures some { OnErr result (0 < length self.now) }
+    {
+        rows(alloc, self.world, self.query, &self.results)
+    }
+}

@@ -48,6 +48,9 @@ fn entry_value(world: &World, entity: Entity, slot: &Slot, entry: Option<Id>) ->
 }
 
 impl<'a> WorldRow<'a> {
+    ghost use Rattle.eco_systems.specs.Rows.{valued};
+    ghost use Rattle.eco_rows.specs.Rows.{world_row};
+
     // The entity with these entries, one or none for each slot of the query.
     pub(crate) fn of(
         entity: Entity,
@@ -65,9 +68,6 @@ impl<'a> WorldRow<'a> {
             world,
         }
     }
-
-    ghost use Rattle.eco_systems.specs.Rows.{valued};
-    ghost use Rattle.eco_rows.specs.Rows.{world_row};
 }
 
 impl BodyRow for WorldRow<'_> {

@@ -12,7 +12,7 @@ loop-place-preserved c =
     let k = c.loop-place.place in
     let row = c.of.result in
     let at : slice_get all k ≡ Some (world_row row) =
-        slice_get-map see c.args.results.now k ∙ ap (option_map see) c.get.ensures ∙ ap Some (sym c.of.ensures) in
+    slice_get-map see c.args.results.now k ∙ ap (option_map see) c.get.ensures ∙ ap Some (sym c.of.ensures) in
     let pushed : c.push.new.self.items ≡ c.loop-place.rows.items ++ row ∷ [] = search rules in
     ap (map world_row) pushed ∙ map_push world_row c.loop-place.rows.items row ∙ ap (λ rs. rs ++ world_row row ∷ []) c.loop-place.invariant
     ∙ ap (λ r. take k all ++ r ∷ []) (sym (get_or_from_slice_get all k (world_row row) (world_row row) at))

@@ -5,5 +5,6 @@ pub mod Bodies
 pub mod Lent
 pub mod LentRows
 pub mod Scripts
+pub mod Settling
 pub mod Sums
 pub mod Taking

@@ -1,5 +1,5 @@
 //! What a system does with a row.
-ghost use Rattle.std.specs.Prelude.{◌≡◌, ℕ, Bool, List, false, IfErr, IfOk, IsTrue};
+ghost use Rattle.std.specs.Prelude.{◌≡◌, ◌++◌, ℕ, Bool, List, false, length, IfErr, IfOk, IsTrue};
 ghost use Rattle.std.specs.List.{AllByRecursion};
 ghost use Rattle.eco_ids.specs.declared.entity.Entity.{Entity as EntityData};
 ghost use Rattle.eco_ids.specs.declared.pattern.Pattern.{Pattern as PatternData};
@@ -16,7 +16,7 @@ use eco_workers::Draws;
 
 /// What a system does with each row of its query (Flecs manual, Systems). It changes nothing itself: it records commands,
 /// which are merged behind the system's batch. The commands, and how many fresh handles it draws, are a function of the row
-/// and of the handles that are there to draw. What it records keeps to what it declares: the ids that it adds, sets and
+/// and of the handles that are there to draw, of which it looks at those that it takes alone. What it records keeps to what it declares: the ids that it adds, sets and
 /// removes match a pattern of `writes`, and only one that `kills` deletes and clears entities.
 pub trait SystemBody {
     // The patterns that it reads.
@@ -67,4 +67,10 @@ pub trait SystemBody {
     ghost declared: { (body : Self) (row : ValuedRow) (draws : List EntityData)
         → IsTrue (takes (taken body) row draws)
         → AllByRecursion (IsDeclared (writes_of body) (kills_of body)) (commands body row draws) };
+
+    // It looks at no more of the handles than it takes.
+    ghost settled: { (body : Self) (row : ValuedRow) (mine later : List EntityData)
+        → taken body row (mine ++ later) ≡ length mine
+        → (taken body row mine ≡ length mine)
+        × (commands body row (mine ++ later) ≡ commands body row mine) };
 }

@@ -9,6 +9,7 @@ ghost use Rattle.eco_bodies.specs.Scripts.{is_allowed, script_commands, script_t
 ghost use Rattle.eco_bodies.specs.Taking.{Took};
 ghost use Rattle.eco_workers.specs.Taking.{Broke, stopped_by};
 ghost use Rattle.eco_bodies.specs.Allowing.{script_declared};
+ghost use Rattle.eco_bodies.specs.Settling.{script_settled};
 
 use crate::action::{Action, first_refusal, some_kills};
 use crate::body::SystemBody;
@@ -123,4 +124,7 @@ impl SystemBody for Script {
 
     ghost declared = { λ s row draws h.
         script_declared s.writes.items s.kills s.actions.items row draws s.allowed };
+
+    ghost settled = { λ s row mine later h.
+        script_settled s.writes.items s.actions.items row mine later h };
 }

@@ -6,4 +6,4 @@ mod row;
 mod system_rows;
 
 pub use row::WorldRow;
-pub use system_rows::{SystemRows, rows};
+pub use system_rows::SystemRows;

@@ -1,7 +1,6 @@
 //! All rows of a query, lent from a world.
-ghost use Rattle.std.specs.Prelude.{◌≡◌, ◌==◌, ◌<◌, length, map, slice_get, IfErr, IfOk, IsTrue, OnErr, Some};
+ghost use Rattle.std.specs.Prelude.{◌≡◌, ◌==◌, ◌<◌, ◌≤◌, ◌-◌, drop, length, map, slice_get, take, IfErr, IfOk, IsTrue, OnErr, Some};
 ghost use Rattle.eco_ids.specs.declared.refusal.Refusal.TheVariants.{OutOfMemory};
-ghost use Rattle.eco_ids.specs.Answer.{answer};
 ghost use Rattle.eco_answers.specs.Answers.{asked};
 ghost use Rattle.eco_systems.specs.Rows.{rows_of};
 ghost use Rattle.eco_world.specs.Queries.{may_query};
@@ -13,26 +12,6 @@ use eco_query::Query;
 use eco_world::{Results, World};
 use std::alloc::{AllocError, Global};
 use std::marker::Model;
-
-/// The rows of a query, in the order of its results, of which `results` are those on this world. Each costs an entity and
-/// three references, and no value is read. An `Err` comes where memory is refused, and never where there is no result.
-pub fn rows<'a>(
-    alloc: Global,
-    world: &'a World,
-    query: &'a Query,
-    results: &'a Results,
-) -> Result<Vec<WorldRow<'a>>, AllocError>
-    requires { results.now ≡ answer world.now (asked query.now) }
-    ensures all { IfOk result (λ rows. map world_row rows.items ≡ rows_of world.now query.now) }
-    ensures some { OnErr result (0 < length results.now) }
-{
-    let mut rows = Vec::with_capacity(alloc, results.len())?;
-    for place in 0..results.len() {
-        let (entity, entries) = results.get(place);
-        rows.push(WorldRow::of(entity, entries, query, world))?;
-    }
-    Ok(rows)
-}
 
 /// A query's results on a world, which lend their rows (Flecs manual, Systems). A contract sees the list of the rows, each
 /// with the values that it shows.
@@ -104,12 +83,23 @@ impl<'a> SystemRows<'a> {
         WorldRow::of(entity, entries, self.query, self.world)
     }
 
-    /// All of them in their order, in one slice, as `record_rows` of `eco_bodies` goes over them. An `Err` comes where memory
-    /// is refused, and never where there is no row.
-    pub fn rows(&self, alloc: Global) -> Result<Vec<WorldRow<'_>>, AllocError>
-        ensures all { IfOk result (λ rows. map world_row rows.items ≡ self.now) }
-        ensures some { OnErr result (0 < length self.now) }
+    /// Those from one place to below another, in one slice, as `record_rows` of `eco_bodies` goes over them. Each costs an
+    /// entity and three references, and no value is read. An `Err` comes where memory is refused, and never where there is
+    /// none of them.
+    pub fn between(
+        &self,
+        alloc: Global,
+        first: usize,
+        end: usize,
+    ) -> Result<Vec<WorldRow<'_>>, AllocError>
+        requires { (first ≤ end) × (end ≤ length self.now) }
+        ensures all { IfOk result (λ rows. map world_row rows.items ≡ take (end - first) (drop first self.now)) }
+        ensures some { OnErr result (first < end) }
     {
-        rows(alloc, self.world, self.query, &self.results)
+        let mut rows = Vec::with_capacity(alloc, end - first)?;
+        for place in first..end {
+            rows.push(self.get(place))?;
+        }
+        Ok(rows)
     }
 }

@@ -1,8 +1,7 @@
-use Rattle.std.proofs.Common.{◌≡◌, map, take}
-use Rattle.eco_systems.specs.Rows.{valued}
+use Rattle.std.proofs.Common.{◌≡◌, ◌-◌, drop, map, take}
 use Rattle.eco_rows.specs.Rows.{world_row}
-use Rattle.eco_rows.proofs.system_rows.rows.Given as goal
+use Rattle.eco_rows.proofs.system_rows.SystemRows.between.Given as goal
 
 -- the rows so far
 abbrev pub invariant-loop-place : goal.invariant-loop-place
-invariant-loop-place l = map world_row l.rows.items ≡ take l.place (map (valued l.world l.query) l.results)
+invariant-loop-place l = map world_row l.rows.items ≡ take (l.place - l.first) (drop l.first l.self)

@@ -1,2 +1,10 @@
 pub mod Alike
+pub mod Batched
+pub mod Cut
+pub mod Fresh
+pub mod Grouped
+pub mod Merged
 pub mod Placed
+pub mod Recorded
+pub mod Turns
+pub mod Within

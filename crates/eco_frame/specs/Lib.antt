@@ -1,1 +1,5 @@
 pub mod Models
+pub mod Pieces
+pub mod Progresses
+pub mod Reports
+pub mod Stops

@@ -1,6 +1,16 @@
-//! Frames: the batches of a list of systems (Flecs manual, Systems).
+//! Frames: the batches of a list of systems, and their runs (Flecs manual, Systems).
 #![tactic(auto)]
 
+mod batch;
+mod frame;
+mod part;
+mod piece;
 mod points;
+mod progress;
+mod report;
+mod stop;
 
+pub use frame::run_frame;
 pub use points::sync_points;
+pub use report::FrameReport;
+pub use stop::FrameStop;

@@ -4,6 +4,7 @@
 mod arguments;
 mod case;
 mod fault;
+mod frames;
 mod group;
 mod scene;
 mod start;
@@ -11,8 +12,11 @@ mod start;
 use arguments::{Asked, Choice, read_arguments};
 use case::{CASES, Case, tenths_for_one};
 use fault::Fault;
+use frames::{FRAME_CASES, FrameCase};
 use std::process::ExitCode;
 use std::rt::Clock;
+use std::thread::Threads;
+use std::time::Duration;
 use std::{env, io};
 
 // The words of the command line.
@@ -24,7 +28,16 @@ fn words(rt: &HostRuntime) -> io::Result<Vec<String>> {
     Ok(words)
 }
 
-// The line of a case at one size: what one call took, or where nothing is to be measured the size alone.
+// The line of a case at one size: what one call took.
+fn print_time<R: Print>(rt: &R, name: &str, size: u32, time: Duration) -> Result<(), Fault> {
+    let tenths = tenths_for_one(time, size);
+    let whole = tenths / 10;
+    let rest = tenths % 10;
+    println!(rt; "{name} {size} {whole}.{rest}")?;
+    Ok(())
+}
+
+// The same, or where nothing is to be measured the size alone.
 fn print_line<R: Print + Clock + AllocGlobal>(
     rt: &R,
     choice: &Choice,
@@ -34,11 +47,28 @@ fn print_line<R: Print + Clock + AllocGlobal>(
     let name = case.name();
     if choice.is_run {
         let time = case.best_time(rt, rt.alloc(), size, choice.repeat)?;
-        let tenths = tenths_for_one(time, size);
-        let whole = tenths / 10;
-        let rest = tenths % 10;
-        println!(rt; "{name} {size} {whole}.{rest}")?;
+        print_time(rt, name, size, time)?;
     } else {
+        println!(rt; "{name} {size}")?;
+    }
+    Ok(())
+}
+
+// The line of a case of frames, if it is chosen.
+fn print_frames<R: Print + Clock + Threads + Sync + AllocGlobal>(
+    rt: &R,
+    choice: &Choice,
+    case: &FrameCase,
+) -> Result<(), Fault> {
+    let name = case.name();
+    if !name.starts_with(choice.prefix) || case.size() > choice.largest {
+        return Ok(());
+    }
+    if choice.is_run {
+        let time = case.best_time(rt, rt.alloc(), choice.repeat)?;
+        print_time(rt, name, case.size(), time)?;
+    } else {
+        let size = case.size();
         println!(rt; "{name} {size}")?;
     }
     Ok(())
@@ -61,15 +91,24 @@ fn print_case<R: Print + Clock + AllocGlobal>(
 }
 
 // The lines of all cases that are chosen.
-fn print_cases(rt: &HostRuntime, choice: &Choice) -> Result<(), Fault> {
+fn print_cases<R: Print + Clock + Threads + Sync + AllocGlobal>(
+    rt: &R,
+    choice: &Choice,
+) -> Result<(), Fault> {
     for case in CASES {
         print_case(rt, choice, case)?;
+    }
+    for case in FRAME_CASES {
+        print_frames(rt, choice, case)?;
     }
     Ok(())
 }
 
 // Does what the words ask for.
-fn answer(rt: &HostRuntime, words: &[&str]) -> Result<(), Fault> {
+fn answer<R: Print + Clock + Threads + Sync + AllocGlobal>(
+    rt: &R,
+    words: &[&str],
+) -> Result<(), Fault> {
     match read_arguments(rt.alloc(), words)? {
         Asked::Cases(choice) => print_cases(rt, &choice),
         Asked::Help(text) => {
@@ -79,18 +118,24 @@ fn answer(rt: &HostRuntime, words: &[&str]) -> Result<(), Fault> {
     }
 }
 
-// Does what the command line asks for.
-fn run(rt: &HostRuntime) -> Result<(), Fault> {
-    let owned = words(rt)?;
+// Does what the command line asks for, of which these are the words.
+fn run<R: Print + Clock + Threads + Sync + AllocGlobal>(
+    rt: &R,
+    owned: &[String],
+) -> Result<(), Fault> {
     let mut words = Vec::new(rt.alloc());
-    for word in &owned {
+    for word in owned {
         words.push(word.as_str())?;
     }
     answer(rt, words.as_slice())
 }
 
 fn main(rt: HostRuntime) -> ExitCode {
-    match run(&rt) {
+    let outcome = match words(&rt) {
+        Ok(owned) => run(&rt, &owned),
+        Err(fault) => Err(Fault::from(fault)),
+    };
+    match outcome {
         Ok(()) => ExitCode::from(0),
         Err(fault) => {
             // The status tells it too, so a standard error that is shut changes nothing.

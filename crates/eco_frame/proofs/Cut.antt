@@ -1,0 +1,61 @@
+-- Rows are cut into pieces one after another, from the first row on.
+use Rattle.std.proofs.Common.{◌≡◌, ℕ, zero, suc, ◌+◌, ◌-◌, ◌<◌, ◌≤◌, min, List, [], ◌∷◌, ◌++◌, map, take, drop, length, refl, sym, ap, ◌∙◌, append_assoc, arith}
+use Rattle.std.proofs.lemmas.List.{append-nil, drop-drop, drop_all, length-drop, take_min}
+use Rattle.std.proofs.Math.Seq.{drop-nil}
+use Rattle.eco_systems.specs.Recording.{cut, pieces_of}
+use Rattle.eco_systems.specs.Rows.{ValuedRow}
+use Rattle.eco_frame.specs.Pieces.{pieces_in}
+
+cut_nil : (n : ℕ) → cut n [] ≡ []
+cut_nil zero = refl
+cut_nil (suc n) = refl
+
+-- it doesn't matter how many pieces are asked for, where these are enough
+cut_enough : (m n : ℕ) (rows : List ValuedRow) → length rows ≤ m → length rows ≤ n → cut m rows ≡ cut n rows
+cut_enough m n [] h k = cut_nil m ∙ sym (cut_nil n)
+cut_enough zero n (r ∷ rows) h k = absurd (omega (arith, h))
+cut_enough (suc m) zero (r ∷ rows) h k = absurd (omega (arith, k))
+cut_enough (suc m) (suc n) (r ∷ rows) h k =
+    let len = length-drop 64 (r ∷ rows) in
+    ap (λ l. take 64 (r ∷ rows) ∷ l) (cut_enough m n (drop 64 (r ∷ rows)) (omega (arith, h, len)) (omega (arith, k, len)))
+
+-- the first piece, and those of the rest
+next_piece : (rows : List ValuedRow) → 0 < length rows → pieces_of rows ≡ take 64 rows ∷ pieces_of (drop 64 rows)
+next_piece [] h = absurd (omega (arith, h))
+next_piece (r ∷ rows) h =
+    let len = length-drop 64 (r ∷ rows) in
+    ap (λ l. take 64 (r ∷ rows) ∷ l) (cut_enough (length rows) (length (drop 64 (r ∷ rows))) (drop 64 (r ∷ rows)) (omega (arith, len)) (omega (arith, len)))
+
+-- so many rows as there are, and n at most, are taken off
+drop_min : (n : ℕ) (rows : List ValuedRow) → drop (min n (length rows)) rows ≡ drop n rows
+drop_min zero rows = let none : min 0 (length rows) ≡ 0 = omega arith in ap (λ m. drop m rows) none
+drop_min (suc n) [] = drop-nil (min (suc n) (length []))
+drop_min (suc n) (r ∷ rows) =
+    let first : min (suc n) (suc (length rows)) ≡ suc (min n (length rows)) = omega arith in
+    ap (λ m. drop m (r ∷ rows)) first ∙ drop_min n rows
+
+-- one piece more of a system's rows, from one place to another
+pub piece_more : {B : Type 0} (body : B) (rows : List ValuedRow) (first end : ℕ) (old pieces : List (B × List ValuedRow))
+    → first < length rows → end ≡ first + min 64 (length rows - first)
+    → pieces ++ pieces_in (body, drop first rows) ≡ old ++ pieces_in (body, rows)
+    → (pieces ++ (body, take (end - first) (drop first rows)) ∷ []) ++ pieces_in (body, drop end rows) ≡ old ++ pieces_in (body, rows)
+piece_more body rows first end old pieces h e inv =
+    let rest = drop first rows in
+    let len = length-drop first rows in
+    let count : end - first ≡ min 64 (length rest) = omega (arith, e, len) in
+    let now : take (end - first) rest ≡ take 64 rest = ap (λ m. take m rest) count ∙ take_min 64 rest in
+    let sum : first + min 64 (length rest) ≡ end = omega (arith, e, len) in
+    let later : drop end rows ≡ drop 64 rest = ap (λ m. drop m rows) (sym sum) ∙ sym (drop-drop (min 64 (length rest)) first rows) ∙ drop_min 64 rest in
+    let some : 0 < length rest = omega (arith, h, len) in
+    append_assoc pieces ((body, take (end - first) rest) ∷ []) (pieces_in (body, drop end rows))
+    ∙ ap (λ l. pieces ++ l)
+    (ap (λ l. (body, l) ∷ pieces_in (body, drop end rows)) now
+    ∙ ap (λ l. (body, take 64 rest) ∷ pieces_in (body, l)) later
+    ∙ ap (map (λ r. (body, r))) (sym (next_piece rest some)))
+    ∙ inv
+
+-- before the first piece, and behind the last
+pub no_piece : {B : Type 0} (body : B) (rows : List ValuedRow) (first : ℕ) (old pieces : List (B × List ValuedRow))
+    → length rows ≤ first → pieces ++ pieces_in (body, drop first rows) ≡ old ++ pieces_in (body, rows) → pieces ≡ old ++ pieces_in (body, rows)
+no_piece body rows first old pieces h inv =
+    sym (append-nil pieces) ∙ ap (λ l. pieces ++ pieces_in (body, l)) (sym (drop_all first rows h)) ∙ inv

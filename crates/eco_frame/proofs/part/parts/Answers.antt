@@ -1,0 +1,25 @@
+use Rattle.std.proofs.Common.{rules, ◌≡◌, ◌++◌, ◌∷◌, ◌+◌, ◌<◌, [], Some, flat_map, length, map, option_map, option_to_list, refl, slice_get, sym, take, ap, ◌∙◌, get_or}
+use Rattle.std.proofs.lemmas.Grind.{flat_map-append}
+use Rattle.std.proofs.lemmas.List.{append-nil, map_push, take_more}
+use Rattle.std.proofs.lemmas.Option.{slice_get_read}
+use Rattle.eco_frame.specs.Pieces.{part_at, part_of, seen_part}
+use Rattle.eco_frame.proofs.part.parts.Goals as goal
+
+pub loop-place-preserved : goal.loop-place-preserved
+loop-place-preserved g c =
+    let f = part_at c.args.world.now c.args.systems.now in
+    let places = c.args.places.now in
+    let k = c.loop-place.place-index in
+    let less = c.loop-place-test.true in
+    let place = get_or places k 0 in
+    let system = c.index-systems-place.result in
+    let part = c.in_ok-ask.field-0 in
+    let there = slice_get_read c.args.systems.now (length c.args.systems.now) place system refl (c.requires k 0 less) c.index-systems-place.is in
+    let one : f place ≡ part_of c.args.world.now system ∷ [] = ap (λ o. option_to_list (option_map (part_of c.args.world.now) o)) there in
+    let pushed : c.push.new.self.items ≡ c.loop-place.parts.items ++ part ∷ [] = search rules in
+    ap (map seen_part) pushed ∙ map_push seen_part c.loop-place.parts.items part
+    ∙ ap (λ ps. ps ++ seen_part part ∷ []) c.loop-place.invariant
+    ∙ ap (λ p. flat_map f (take k places) ++ p ∷ []) c.in_ok-ask.ensures.ok
+    ∙ ap (λ ps. flat_map f (take k places) ++ ps) (sym one ∙ sym (append-nil (f place)))
+    ∙ sym (flat_map-append f (take k places) (place ∷ []))
+    ∙ ap (flat_map f) (sym (take_more places k 0 less))

@@ -1,0 +1,77 @@
+//! A batch of systems: recorded on one world, and merged into it.
+ghost use Rattle.std.specs.Prelude.{◌≡◌, ◌+◌, ◌<◌, ◌≤◌, length, map, vec_capacity, vec_len, IfErr, IfOk, OnErr, OnOk};
+ghost use Rattle.std.specs.List.{All};
+ghost use Rattle.eco_ids.specs.declared.refusal.Refusal.TheVariants.{NoMoreIds};
+ghost use Rattle.eco_workers.specs.Taking.{IsStopped};
+ghost use Rattle.eco_world.specs.Merging.{all_commands};
+ghost use Rattle.eco_frame.specs.Models.{model_at, model_of};
+ghost use Rattle.eco_frame.specs.Pieces.{IsRecorded, IsRunOut};
+ghost use Rattle.eco_frame.specs.Progresses.{HasRun};
+
+use crate::part::{parts, pieces};
+use crate::progress::Progress;
+use eco_bodies::{System, SystemBody};
+use eco_ids::Refusal;
+use eco_stages::Stage;
+use eco_workers::run_batch;
+use eco_world::World;
+use std::alloc::Global;
+use std::thread::Threads;
+
+// Records the systems at some positions of declaration on a world. Answers the stages of their pieces in order, and how many
+// handles were drawn.
+fn record<B: SystemBody + Sync, R: Threads + Sync>(
+    rt: &R,
+    alloc: Global,
+    world: &World,
+    systems: &[System<B>],
+    places: &[usize],
+    workers: u32,
+) -> Result<(Vec<Stage>, u32), Refusal>
+    requires workers { (1 ≤ workers) × (workers ≤ 64) }
+    requires places { All (λ k. k < length systems.now) places.now }
+    ensures ok { IfOk result (λ r. IsRecorded workers world.now
+        (map (model_at (map (model_of B.reads_of B.writes_of B.kills_of B.taken B.commands) systems.now)) places.now)
+        (all_commands r.0.items) r.1) }
+    ensures most { IfOk result (λ r. length world.now.indices + r.1 ≤ world.now.limit) }
+    ensures why { IfErr result (λ e. IsStopped e) }
+    ensures out { IfErr result (λ e. e ≡ NoMoreIds
+        → IsRunOut B.taken B.commands world.now systems.now places.now) }
+{
+    world.is_lawful();
+    let parts = parts(alloc, world, systems, places)?;
+    let pieces = pieces(alloc, &parts)?;
+    run_batch(rt, alloc, &pieces, workers, world.high(), world.limit())
+}
+
+// Runs one batch more: the systems at some positions of declaration are recorded on the world, and what they recorded is merged
+// into it. What is refused changes nothing.
+pub(crate) fn run_next<B: SystemBody + Sync, R: Threads + Sync>(
+    rt: &R,
+    alloc: Global,
+    world: &mut World,
+    systems: &[System<B>],
+    places: &[usize],
+    workers: u32,
+    done: &mut Progress,
+) -> Result<(), Refusal>
+    requires workers { (1 ≤ workers) × (workers ≤ 64) }
+    requires places { All (λ k. k < length systems.now) places.now }
+    requires room { vec_len done.old.reports < vec_capacity done.old.reports }
+    ensures ok { OnOk result (HasRun workers world.old
+        (map (model_at (map (model_of B.reads_of B.writes_of B.kills_of B.taken B.commands) systems.now)) places.now)
+        done.old done.new world.new) }
+    ensures err { OnErr result ((world.new ≡ world.old) × (done.new ≡ done.old)) }
+    ensures why { IfErr result (λ e. IsStopped e) }
+    ensures out { IfErr result (λ e. e ≡ NoMoreIds
+        → IsRunOut B.taken B.commands world.new systems.now places.now) }
+{
+    let (stages, drawn) = record(rt, alloc, world, systems, places, workers)?;
+    // So many commands that they can't be counted have no room either.
+    let Some((commands, in_all)) = done.with_batch(&stages, drawn) else {
+        return Err(Refusal::OutOfMemory);
+    };
+    let report = world.merge(drawn, &stages)?;
+    done.push(report, commands, in_all);
+    Ok(())
+}

@@ -1,0 +1,112 @@
+//! Frames: all batches of a list of systems, one after another.
+ghost use Rattle.std.specs.Prelude.{◌≡◌, ◌<◌, ◌≤◌, [], length, map, take, vec_capacity, vec_len, IfErr, IfOk, OnOk};
+ghost use Rattle.std.specs.List.{All};
+ghost use Rattle.eco_ids.specs.declared.refusal.Refusal.TheVariants.{NoMoreIds};
+ghost use Rattle.eco_systems.specs.Frames.{BatchRuns, BatchRunsSolo};
+ghost use Rattle.eco_workers.specs.Taking.{IsStopped};
+ghost use Rattle.eco_frame.specs.Models.{ArePlaced, model_at, model_of};
+ghost use Rattle.eco_frame.specs.Progresses.{HaveRun};
+ghost use Rattle.eco_frame.specs.Reports.{AscendingRuns, Frames};
+ghost use Rattle.eco_frame.specs.Stops.{IsNextOut, IsWhy};
+
+use crate::batch::run_next;
+use crate::points::sync_points;
+use crate::progress::Progress;
+use crate::report::FrameReport;
+use crate::stop::FrameStop;
+use eco_bodies::{System, SystemBody, Systems};
+use eco_ids::Refusal;
+use eco_world::World;
+use std::alloc::{AllocError, Global};
+use std::thread::Threads;
+
+// The batches of a frame, and room for what they will have done.
+fn begin<B: SystemBody + Drop>(
+    alloc: Global,
+    world: &World,
+    systems: &Systems<B>,
+) -> Result<(Vec<Vec<usize>>, Progress), AllocError>
+    ensures placed { IfOk result (λ r. ArePlaced world.now
+        (map (model_of B.reads_of B.writes_of B.kills_of B.taken B.commands) systems.now)
+        (map (λ b. b.items) r.0.items)) }
+    ensures within { IfOk result (λ r. All (λ b. All (λ k. k < length systems.now) b.items) r.0.items) }
+    ensures none { IfOk result (λ r. (r.1.reports.items ≡ []) × (r.1.commands ≡ 0) × (r.1.drawn ≡ 0)
+        × (vec_len r.0 ≤ vec_capacity r.1.reports)) }
+{
+    eco_systems::laws::systems_are_ordered();
+    let batches = sync_points(alloc, world, systems)?;
+    let done = Progress::with_room(alloc, batches.len())?;
+    Ok((batches, done))
+}
+
+// Runs batches, one after another, until one is refused.
+fn run_all<B: SystemBody + Sync, R: Threads + Sync>(
+    rt: &R,
+    alloc: Global,
+    world: &mut World,
+    systems: &[System<B>],
+    batches: &[Vec<usize>],
+    workers: u32,
+    done: &mut Progress,
+) -> Result<(), Refusal>
+    requires workers { (1 ≤ workers) × (workers ≤ 64) }
+    requires places { All (λ b. All (λ k. k < length systems.now) b.items) batches.now }
+    requires none { (done.old.reports.items ≡ []) × (done.old.commands ≡ 0) × (done.old.drawn ≡ 0) }
+    requires room { length batches.now ≤ vec_capacity done.old.reports }
+    ensures so_far { HaveRun workers world.old
+        (map (λ b. map (model_at (map (model_of B.reads_of B.writes_of B.kills_of B.taken B.commands) systems.now))
+        b.items) (take (vec_len done.new.reports) batches.now)) done.new world.new }
+    ensures all { OnOk result (vec_len done.new.reports ≡ length batches.now) }
+    ensures why { IfErr result (λ e. IsStopped e) }
+    ensures out { IfErr result (λ e. e ≡ NoMoreIds → IsNextOut B.taken B.commands world.new systems.now
+        (map (λ b. b.items) batches.now) (vec_len done.new.reports)) }
+{
+    for places in batches {
+        run_next(rt, alloc, world, systems, places, workers, done)?;
+    }
+    Ok(())
+}
+
+/// Runs a frame of systems on a world (Flecs manual, Systems): for each batch between sync points, what its systems record on
+/// the world as it is then, by at most so many threads, 1 to 64, the caller's among them, is merged into it. So a frame leaves
+/// the world as the run of its systems one by one does, with the same fresh handles and outcomes, however many workers there
+/// are; which row draws which handle may differ. With one worker handles are drawn in the order of the rows.
+///
+/// It stops at a batch that is refused: with `NoMoreIds` where the rows of the batch draw more fresh handles than there are
+/// indices left, and with `OutOfMemory` where memory is refused, or where the batch has more than 16,777,216 pieces of 64 rows.
+/// The batches before it are merged then, and nothing else is done. A command that finds no memory is no reason to stop: its
+/// outcome is `OutOfMemory`.
+pub fn run_frame<B: SystemBody + Sync + Drop, R: Threads + Sync>(
+    rt: &R,
+    alloc: Global,
+    world: &mut World,
+    systems: &Systems<B>,
+    workers: u32,
+) -> Result<FrameReport, FrameStop>
+    requires workers { (1 ≤ workers) × (workers ≤ 64) }
+    ensures frame { Frames BatchRuns world.old
+        (map (model_of B.reads_of B.writes_of B.kills_of B.taken B.commands) systems.now) result world.new }
+    ensures alone { workers ≡ 1 → Frames AscendingRuns world.old
+        (map (model_of B.reads_of B.writes_of B.kills_of B.taken B.commands) systems.now) result world.new }
+    ensures solo { Frames BatchRunsSolo world.old
+        (map (model_of B.reads_of B.writes_of B.kills_of B.taken B.commands) systems.now) result world.new }
+    ensures why { IfErr result (λ stop. IsWhy B.taken B.commands
+        (model_of B.reads_of B.writes_of B.kills_of B.taken B.commands) world.old systems.now stop world.new) }
+{
+    world.is_lawful();
+    eco_systems::laws::frames_are_one_by_one();
+    eco_systems::laws::batches_are_unique();
+    let Ok((batches, mut done)) = begin(alloc, world, systems) else {
+        return Err(FrameStop {
+            batches: 0,
+            refusal: Refusal::OutOfMemory,
+        });
+    };
+    match run_all(rt, alloc, world, systems.as_slice(), &batches, workers, &mut done) {
+        Ok(()) => Ok(done.into_report()),
+        Err(refusal) => Err(FrameStop {
+            batches: done.reports.len(),
+            refusal,
+        }),
+    }
+}

@@ -61,9 +61,9 @@ impl Outlines {
     // One more system.
     fn push(&mut self, closed: &[Pattern], kills: bool) -> Result<(), AllocError>
         ensures { OnOk result (self.new ≡ self.old ++ record {
-            closed = closed.now;
-            writes_traits = list_any spec.writes_trait closed.now;
-            kills = kills;
+          closed = closed.now;
+          writes_traits = list_any spec.writes_trait closed.now;
+          kills = kills;
         } ∷ []) }
     {
         let start = self.closed.len();

@@ -22,27 +22,27 @@ use Rattle.eco_ids.proofs.Facts.{or_left, or_parts, or_right}
 use Rattle.eco_systems.specs.Batches.{Conflict, Disturbs, AreBatches}
 use Rattle.eco_systems.specs.Joining.{batched}
 use Rattle.eco_systems.specs.Phases.{in_order, order_of}
-use Rattle.eco_systems.specs.Systems.{SystemModel}
+use Rattle.eco_systems.specs.Systems.{SystemModel, system_reads}
 use Rattle.eco_systems.specs.Writes as writes
 use Rattle.eco_systems.specs.Writes.{SomeOf, InClosedPatterns, IsTraitWriter}
 use Rattle.eco_systems.proofs.JoinedOneByOne.{batched_are_all, batched_are_batches}
 use Rattle.eco_systems.proofs.Lists.{either, map_append}
 use Rattle.eco_systems.proofs.Orders.{order_is_of_positions}
-use Rattle.eco_batches.specs.Outlines.{ArePlacedBatches, IsOutline, clash_of, clash_at, disturbs, is_trait, is_trait_part, late_at, no_system, system_in}
-use Rattle.eco_batches.specs.Outlines.{system_of, system_at, systems_of, traits_in, writes_trait}
+use Rattle.eco_batches.specs.OutlineModels.{OutlineModel}
+use Rattle.eco_batches.specs.Outlines.{ArePlacedBatches, IsOutline, clash_of, clash_at, closed_in, disturbs, is_trait, is_trait_part, kills_in, kills_too, late_at}
+use Rattle.eco_batches.specs.Outlines.{no_system, reads_in, reads_of, system_in, system_of, system_at, systems_of, traits_in, writes_trait}
 use Rattle.eco_batches.specs.declared.declaration.Declared.{Declared}
-use Rattle.eco_batches.specs.declared.outline.Outline.{Outline}
 
 -- ---- an outline for each system
 
 module _ (w : WorldState) where
-  abbrev Outlined : Option Declared → Option Outline → Type 0
+  abbrev Outlined : Option Declared → Option OutlineModel → Type 0
   Outlined None None = Unit {0}
   Outlined None (Some o) = ⊥
   Outlined (Some d) None = ⊥
   Outlined (Some d) (Some o) = IsOutline w d o
 
-  outlined_at : (ds : List Declared) (os : List Outline) → AllZip (IsOutline w) ds os → (k : ℕ) → Outlined (slice_get ds k) (slice_get os k)
+  outlined_at : (ds : List Declared) (os : List OutlineModel) → AllZip (IsOutline w) ds os → (k : ℕ) → Outlined (slice_get ds k) (slice_get os k)
   outlined_at [] [] h k = tt
   outlined_at [] (o ∷ os) h k = absurd h
   outlined_at (d ∷ ds) [] h k = absurd h
@@ -71,7 +71,7 @@ module _ (w : WorldState) where
   nothing_closed (root h) = h
   nothing_closed (next c b) = nothing_closed c
 
-  traits_exact : (d : Option Declared) (o : Option Outline) → Outlined d o → IsTrue (traits_in o) ↔ IsTraitWriter w (system_in d)
+  traits_exact : (d : Option Declared) (o : Option OutlineModel) → Outlined d o → IsTrue (traits_in o) ↔ IsTraitWriter w (system_in d)
   traits_exact None None h = (λ t. absurd (true≢false (sym t)), λ x. absurd (nothing_closed (x.1).1))
   traits_exact None (Some o) h = absurd h
   traits_exact (Some d) None h = absurd h
@@ -80,7 +80,7 @@ module _ (w : WorldState) where
     λ x. h.traits ∙ (h.closed writes_trait).1 (x.0, x.1, same_trait x.0 ∙ x.2),
   )
 
-  module _ (ds : List Declared) (os : List Outline) (all : AllZip (IsOutline w) ds os) where
+  module _ (ds : List Declared) (os : List OutlineModel) (all : AllZip (IsOutline w) ds os) where
     some_exact : (ks : List ℕ) → IsTrue (list_any (λ k. traits_in (slice_get os k)) ks) ↔ SomeOf (IsTraitWriter w) (map (system_at ds) ks)
     some_exact [] = (λ t. absurd (true≢false (sym t)), λ x. absurd x)
     some_exact (k ∷ ks) = either (traits_in (slice_get os k)) (list_any (λ k. traits_in (slice_get os k)) ks)
@@ -89,61 +89,44 @@ module _ (w : WorldState) where
   no_disturbance : (t : SystemModel) → Disturbs w no_system t → ⊥
   no_disturbance t x = nothing_closed (x.1).1
 
-  not_disturbed : (s : SystemModel) → Disturbs w s no_system → ⊥
-  not_disturbed s x = true≢false (sym x.2)
+  kills_exact : (d : Option Declared) (o : Option OutlineModel) → Outlined d o → IsTrue (kills_in o) ↔ IsTrue (system_in d).kills
+  kills_exact None None h = (λ k. k, λ k. k)
+  kills_exact None (Some o) h = absurd h
+  kills_exact (Some d) None h = absurd h
+  kills_exact (Some d) (Some o) h = (λ k. sym h.kills ∙ k, λ k. h.kills ∙ k)
 
-  disturbs_exact : (d t : Declared) (o : Outline) → IsOutline w d o → IsTrue (disturbs o.closed.items t.reads.items) ↔ Disturbs w (system_of d) (system_of t)
-  disturbs_exact d t o h = h.closed (λ p. list_any (pattern_overlaps p) t.reads.items)
+  kills_too_exact : (d : Option Declared) → IsTrue (kills_too d) ↔ IsTrue (system_in d).kills
+  kills_too_exact None = (λ k. k, λ k. k)
+  kills_too_exact (Some d) = (λ k. k, λ k. k)
 
-  kills_exact : (d : Declared) (o : Outline) → IsOutline w d o → IsTrue o.kills ↔ IsTrue d.kills
-  kills_exact d o h = (λ k. sym h.kills ∙ k, λ k. h.kills ∙ k)
+  same_reads : (d : Option Declared) → reads_in d ≡ system_reads (system_in d)
+  same_reads None = refl
+  same_reads (Some d) = refl
+
+  disturbs_listed : (d : Option Declared) (o : Option OutlineModel) → Outlined d o → (t : SystemModel)
+      → IsTrue (disturbs (closed_in o) (system_reads t)) ↔ Disturbs w (system_in d) t
+  disturbs_listed None None h t = (λ k. absurd (true≢false (sym k)), λ x. absurd (no_disturbance t x))
+  disturbs_listed None (Some o) h t = absurd h
+  disturbs_listed (Some d) None h t = absurd h
+  disturbs_listed (Some d) (Some o) h t = h.closed (λ p. list_any (pattern_overlaps p) (system_reads t))
+
+  disturbs_exact : (d t : Option Declared) (o : Option OutlineModel) → Outlined d o
+      → IsTrue (disturbs (closed_in o) (reads_in t)) ↔ Disturbs w (system_in d) (system_in t)
+  disturbs_exact d t o h =
+      subst (λ reads. IsTrue (disturbs (closed_in o) reads) ↔ Disturbs w (system_in d) (system_in t)) (sym (same_reads t)) (disturbs_listed d o h (system_in t))
 
   module _ (late : Bool) (until : List SystemModel) (is_late : IsTrue late ↔ SomeOf (IsTraitWriter w) until) where
-    pair_exact : (s t : Option Declared) (o : Option Outline) → Outlined s o → IsTrue (clash_of o t late) ↔ Conflict w until (system_in s) (system_in t)
-    pair_exact None None None h = (
-      λ k. inr (inr (inl (is_late.0 k))),
-      λ x. late_only x,
-    )
-      where
-        late_only : Conflict w until no_system no_system → IsTrue late
-        late_only (inl k) = absurd (true≢false (sym k))
-        late_only (inr (inl k)) = absurd (true≢false (sym k))
-        late_only (inr (inr (inl x))) = is_late.1 x
-        late_only (inr (inr (inr x))) = absurd (no_disturbance no_system x)
-    pair_exact None (Some t) None h = (λ k. there (or_parts t.kills late k), λ x. here x)
-      where
-        there : IsTrue t.kills ⊎ IsTrue late → Conflict w until no_system (system_of t)
-        there (inl k) = inr (inl k)
-        there (inr k) = inr (inr (inl (is_late.0 k)))
-
-        here : Conflict w until no_system (system_of t) → IsTrue (t.kills || late)
-        here (inl k) = absurd (true≢false (sym k))
-        here (inr (inl k)) = or_left t.kills late k
-        here (inr (inr (inl x))) = or_right t.kills late (is_late.1 x)
-        here (inr (inr (inr x))) = absurd (no_disturbance (system_of t) x)
-    pair_exact None t (Some o) h = absurd h
-    pair_exact (Some s) t None h = absurd h
-    pair_exact (Some s) None (Some o) h = (λ k. there (or_parts o.kills late k), λ x. here x)
-      where
-        there : IsTrue o.kills ⊎ IsTrue late → Conflict w until (system_of s) no_system
-        there (inl k) = inl ((kills_exact s o h).0 k)
-        there (inr k) = inr (inr (inl (is_late.0 k)))
-
-        here : Conflict w until (system_of s) no_system → IsTrue (o.kills || late)
-        here (inl k) = or_left o.kills late ((kills_exact s o h).1 k)
-        here (inr (inl k)) = absurd (true≢false (sym k))
-        here (inr (inr (inl x))) = or_right o.kills late (is_late.1 x)
-        here (inr (inr (inr x))) = absurd (not_disturbed (system_of s) x)
-    pair_exact (Some s) (Some t) (Some o) h =
-        either o.kills (t.kills || (late || disturbs o.closed.items t.reads.items)) (kills_exact s o h)
-        (either t.kills (late || disturbs o.closed.items t.reads.items) (λ k. k, λ k. k)
-        (either late (disturbs o.closed.items t.reads.items) is_late (disturbs_exact s t o h)))
+    pair_exact : (s t : Option Declared) (o : Option OutlineModel) → Outlined s o → IsTrue (clash_of o t late) ↔ Conflict w until (system_in s) (system_in t)
+    pair_exact s t o h =
+        either (kills_in o) (kills_too t || (late || disturbs (closed_in o) (reads_in t))) (kills_exact s o h)
+        (either (kills_too t) (late || disturbs (closed_in o) (reads_in t)) (kills_too_exact t)
+        (either late (disturbs (closed_in o) (reads_in t)) is_late (disturbs_exact s t o h)))
 
   -- the systems of positions, and one more
   at_end : (ds : List Declared) (before : List ℕ) (t : ℕ) → map (system_at ds) (before ++ t ∷ []) ≡ map (system_at ds) before ++ system_at ds t ∷ []
   at_end ds before t = map_append (system_at ds) before (t ∷ [])
 
-  pub clash_exact : (ds : List Declared) (os : List Outline) → AllZip (IsOutline w) ds os → (before : List ℕ) (s t : ℕ) →
+  pub clash_exact : (ds : List Declared) (os : List OutlineModel) → AllZip (IsOutline w) ds os → (before : List ℕ) (s t : ℕ) →
       IsTrue (clash_at os ds before s t) ↔ Conflict w (map (system_at ds) before ++ system_at ds t ∷ []) (system_at ds s) (system_at ds t)
   clash_exact ds os all before s t =
       pair_exact (late_at os before t) (map (system_at ds) before ++ system_at ds t ∷ [])
@@ -177,7 +160,7 @@ not_none (x ∷ xs) b is h e = let z : suc (length xs) ≡ 0 = ap length e in ab
 pub none_placed : (w : WorldState) (ds : List Declared) → order_of (systems_of ds) ≡ [] → ArePlacedBatches w ds []
 none_placed w ds none = (sym none, sym (at_order ds) ∙ ap (map (system_at ds)) none)
 
-placed : (w : WorldState) (ds : List Declared) (os : List Outline) (order : List ℕ) → (order ≡ [] → ⊥) → order ≡ order_of (systems_of ds) →
+placed : (w : WorldState) (ds : List Declared) (os : List OutlineModel) (order : List ℕ) → (order ≡ [] → ⊥) → order ≡ order_of (systems_of ds) →
     AllZip (IsOutline w) ds os → ArePlacedBatches w ds (batched (clash_at os ds) [] [] order)
 placed w ds os [] some is all = absurd (some refl)
 placed w ds os (first ∷ rest) some is all = (
@@ -187,9 +170,8 @@ placed w ds os (first ∷ rest) some is all = (
 )
 
 -- the lists of positions are batches
-pub joined_are_batches : {V W E : Type 0} (w : WorldState) (ds : List Declared) (os shown : List Outline) (order : List ℕ) → (order ≡ [] → ⊥) →
-    order ≡ order_of (systems_of ds) → AllZip (IsOutline w) ds os → shown ≡ os → (content : W → List V) (items : V → List ℕ) (r : Result W E) →
-    IfOk r (λ b. map items (content b) ≡ batched (clash_at shown ds) [] [] order) → IfOk r (λ b. ArePlacedBatches w ds (map items (content b)))
-joined_are_batches w ds os shown order some is all same content items (Err e) h = h
-joined_are_batches w ds os shown order some is all same content items (Ok b) h =
-    subst (ArePlacedBatches w ds) (ap (λ os. batched (clash_at os ds) [] [] order) (sym same) ∙ sym h) (placed w ds os order some is all)
+pub joined_are_batches : {V W E : Type 0} (w : WorldState) (ds : List Declared) (os : List OutlineModel) (order : List ℕ) → (order ≡ [] → ⊥) →
+    order ≡ order_of (systems_of ds) → AllZip (IsOutline w) ds os → (content : W → List V) (items : V → List ℕ) (r : Result W E) →
+    IfOk r (λ b. map items (content b) ≡ batched (clash_at os ds) [] [] order) → IfOk r (λ b. ArePlacedBatches w ds (map items (content b)))
+joined_are_batches w ds os order some is all content items (Err e) h = h
+joined_are_batches w ds os order some is all content items (Ok b) h = subst (ArePlacedBatches w ds) (sym h) (placed w ds os order some is all)

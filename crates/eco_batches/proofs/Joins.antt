@@ -1,45 +1,167 @@
 -- The loop that joins systems one by one.
-use Rattle.std.proofs.Common.{◌≡◌, ℕ, Bool, true, false, cond, ◌||◌, List, [], ◌∷◌, ◌++◌, map, refl, sym, ap, ◌∙◌, append_assoc, Option, slice_get}
-use Rattle.std.specs.List.{list_any}
+use Rattle.std.proofs.Common.{◌≡◌, ℕ, Bool, true, false, true≢false, cond, ◌&&◌, ◌||◌, List, [], ◌∷◌, ◌++◌, map, refl, sym, ap, ◌∙◌, append_assoc, Option, slice_get, ◌+◌, ◌<◌, get_or, length, subst, take, drop}
+use Rattle.std.specs.List.{AllZip, list_any}
 use Rattle.std.proofs.lemmas.List.Folds.{list_any-append}
+use Rattle.eco_ids.specs.declared.pattern.Pattern.{Pattern}
+use Rattle.eco_ids.specs.Matching.{pattern_overlaps}
+use Rattle.eco_query.specs.Queries.{has_any}
 use Rattle.eco_systems.specs.Joining.{batched}
-use Rattle.eco_systems.proofs.Lists.{map_append}
-use Rattle.eco_batches.specs.Outlines.{clash_at, clash_of, late_at, traits_in}
+use Rattle.eco_systems.proofs.Lists.{map_append, zip_push}
+use Rattle.eco_systems.specs.Closing.{ListsClosed}
+use Rattle.eco_ids.specs.World.{WorldState}
+use Rattle.std.proofs.lemmas.List.{drop_more, take_more}
+use Rattle.eco_batches.specs.Open.{IsFresh, IsOpen, JoinsNext, JoinsOpen, stands_apart}
+use Rattle.eco_batches.specs.OutlineModels.{OutlineModel}
+use Rattle.eco_batches.specs.Outlines.{IsOutline, clash_at, clash_of, closed_in, disturbs, kills_in, kills_too, late_at, reads_in, traits_in, writes_trait}
+use Rattle.eco_batches.specs.Written.{overlaps}
+use Rattle.eco_batches.specs.declared.batch.Batch.{Batch}
 use Rattle.eco_batches.specs.declared.declaration.Declared.{Declared}
-use Rattle.eco_batches.specs.declared.outline.Outline.{Outline}
-
-or_none : (a : Bool) → (a || false) ≡ a
-or_none true = refl
-or_none false = refl
+use Rattle.eco_batches.proofs.Keyed.{or_none, or_joins}
 
 -- one position more
-pub late_more : (os : List Outline) (done : List ℕ) (at : ℕ) (before own : Bool) → before ≡ list_any (λ k. traits_in (slice_get os k)) done →
+pub late_more : (os : List OutlineModel) (done : List ℕ) (at : ℕ) (before own : Bool) → before ≡ list_any (λ k. traits_in (slice_get os k)) done →
     own ≡ traits_in (slice_get os at) → (before || own) ≡ late_at os done at
 late_more os done at before own b o =
     (λ i. b i || (o ∙ sym (or_none (traits_in (slice_get os at)))) i) ∙ sym (list_any-append (λ k. traits_in (slice_get os k)) done (at ∷ []))
 
--- what the loop asks is whether one of the batch clashes
-pub clash_found : (os : List Outline) (ds : List Declared) (before : List ℕ) (at : ℕ) (late : Bool) (o : Option Declared) (shown batch : List ℕ)
-    (result : Bool) →
-    result ≡ list_any (λ s. clash_of (slice_get os s) o late) shown → o ≡ slice_get ds at → late ≡ late_at os before at → shown ≡ batch →
-    list_any (λ s. clash_at os ds before s at) batch ≡ result
-clash_found os ds before at late o shown batch result is p q r = sym (is ∙ λ i. list_any (λ s. clash_of (slice_get os s) (p i) (q i)) (r i))
+-- ---- what is asked of each system of a batch, asked of all together
+
+apart : (a b c d : Bool) → ((a || b) || (c || d)) ≡ ((a || c) || (b || d))
+apart true b c d = refl
+apart false true true d = refl
+apart false true false d = refl
+apart false false c d = refl
+
+pub any_or : {A : Type 0} (f g : A → Bool) (xs : List A) → list_any (λ x. f x || g x) xs ≡ (list_any f xs || list_any g xs)
+any_or f g [] = refl
+any_or f g (x ∷ xs) = ap (λ b. (f x || g x) || b) (any_or f g xs) ∙ apart (f x) (g x) (list_any f xs) (list_any g xs)
+
+any_always : {A : Type 0} (b : Bool) (xs : List A) → list_any (λ x. b) xs ≡ (has_any xs && b)
+any_always b [] = refl
+any_always b (x ∷ xs) = by b xs
+  where
+    by : {A : Type 0} (b : Bool) (xs : List A) → (b || list_any (λ x. b) xs) ≡ b
+    by true xs = refl
+    by false [] = refl
+    by false (x ∷ xs) = by false xs
+
+any_never : {A : Type 0} (xs : List A) → list_any (λ x. false) xs ≡ false
+any_never [] = refl
+any_never (x ∷ xs) = any_never xs
+
+pub any_turned : {A B : Type 0} (f : A → B → Bool) (xs : List A) (ys : List B)
+    → list_any (λ x. list_any (f x) ys) xs ≡ list_any (λ y. list_any (λ x. f x y) xs) ys
+any_turned f [] ys = sym (any_never ys)
+any_turned f (x ∷ xs) ys = ap (λ b. list_any (f x) ys || b) (any_turned f xs ys) ∙ sym (any_or (f x) (λ y. list_any (λ x. f x y) xs) ys)
+
+-- ---- the batch that is open
+
+module _ (os : List OutlineModel) where
+  abbrev written_at : Pattern → ℕ → Bool
+  written_at read s = list_any (λ p. pattern_overlaps p read) (closed_in (slice_get os s))
+
+  -- a read is asked of all that is written
+  disturbed : (test : Pattern → Bool) (places : List ℕ) → ((read : Pattern) → test read ≡ list_any (written_at read) places) → (reads : List Pattern)
+      → list_any (λ s. disturbs (closed_in (slice_get os s)) reads) places ≡ list_any test reads
+  disturbed test places is reads =
+      (λ i. list_any (λ s. any_turned (λ p read. pattern_overlaps p read) (closed_in (slice_get os s)) reads i) places)
+      ∙ any_turned (λ s read. written_at read s) places reads
+      ∙ sym (λ i. list_any (λ read. is read i) reads)
+
+  parts : (some k b d : Bool) → (some ≡ false → k ≡ false) → (some ≡ false → d ≡ false) → (some && (k || (b || d))) ≡ (k || ((some && b) || d))
+  parts true k b d quiet calm = refl
+  parts false k b d quiet calm = λ i. sym (quiet refl) i || sym (calm refl) i
+
+  empty_false : (f : ℕ → Bool) (places : List ℕ) → has_any places ≡ false → list_any f places ≡ false
+  empty_false f [] h = refl
+  empty_false f (x ∷ xs) h = absurd (true≢false h)
+
+  pub apart_found : (b : Batch) → IsOpen os b → (d : Option Declared) (late : Bool)
+      → (has_any b.places.items && stands_apart b d late) ≡ list_any (λ s. clash_of (slice_get os s) d late) b.places.items
+  apart_found b h d late =
+      let places = b.places.items in
+      let K : ℕ → Bool = λ s. kills_in (slice_get os s) in
+      let D : ℕ → Bool = λ s. disturbs (closed_in (slice_get os s)) (reads_in d) in
+      let is : list_any D places ≡ list_any (overlaps b.written) (reads_in d) = disturbed (overlaps b.written) places h.written (reads_in d) in
+      (λ i. has_any places && (h.kills i || or_joins (kills_too d) late (sym is i) i))
+      ∙ parts (has_any places) (list_any K places) (kills_too d || late) (list_any D places) (empty_false K places) (empty_false D places)
+      ∙ (λ i. list_any K places || (sym (any_always (kills_too d || late) places) i || list_any D places))
+      ∙ (λ i. list_any K places || sym (any_or (λ s. kills_too d || late) D places) i)
+      ∙ sym (any_or K (λ s. (kills_too d || late) || D s) places)
+      ∙ (λ i. list_any (λ s. K s || sym (or_joins (kills_too d) late (D s)) i) places)
+
+  pub joins_open : (old new : Batch) (at : ℕ) (closed : List Pattern) → new.places.items ≡ old.places.items ++ at ∷ []
+      → new.kills ≡ (old.kills || kills_in (slice_get os at))
+      → ((read : Pattern) → overlaps new.written read ≡ (overlaps old.written read || list_any (λ p. pattern_overlaps p read) closed))
+      → closed ≡ closed_in (slice_get os at) → JoinsOpen os old at new
+  joins_open old new at closed places kills written own = record {
+    places = places;
+    stays = λ h. record {
+      kills = kills ∙ (λ i. h.kills i || sym (or_none (kills_in (slice_get os at))) i)
+          ∙ sym (list_any-append (λ k. kills_in (slice_get os k)) old.places.items (at ∷ []))
+          ∙ sym (ap (list_any (λ k. kills_in (slice_get os k))) places);
+      written = λ read. written read
+          ∙ (λ i. h.written read i || (ap (list_any (λ p. pattern_overlaps p read)) own ∙ sym (or_none (written_at read at))) i)
+          ∙ sym (list_any-append (written_at read) old.places.items (at ∷ []))
+          ∙ sym (ap (list_any (written_at read)) places);
+    };
+  }
+
+-- what is asked of the batch is whether one of it clashes
+pub clash_found : (os : List OutlineModel) (ds : List Declared) (before : List ℕ) (at : ℕ) (late : Bool) (o : Option Declared) (batch : List ℕ)
+    (result : Bool) → result ≡ list_any (λ s. clash_of (slice_get os s) o late) batch → o ≡ slice_get ds at → late ≡ late_at os before at
+    → list_any (λ s. clash_at os ds before s at) batch ≡ result
+clash_found os ds before at late o batch result is p q = sym (is ∙ λ i. list_any (λ s. clash_of (slice_get os s) (p i) (q i)) batch)
 
 -- a system opens a batch, or joins one
-module _ (clash : List ℕ → ℕ → ℕ → Bool) {V : Type 0} (items : V → List ℕ) (before : List ℕ) (at : ℕ) (rest : List ℕ) where
-  pub opened : (done new : List V) (last : V) (batch next : List ℕ) → new ≡ done ++ last ∷ [] → items last ≡ batch → next ≡ at ∷ [] →
-      list_any (λ s. clash before s at) batch ≡ true →
-      map items new ++ batched clash (before ++ at ∷ []) next rest ≡ map items done ++ batched clash before batch (at ∷ rest)
-  opened done new last batch next pushed is fresh c =
-      (λ i. (ap (map items) pushed ∙ map_append items done (last ∷ [])) i ++ batched clash (before ++ at ∷ []) (fresh i) rest)
-      ∙ ap (λ b. (map items done ++ b ∷ []) ++ batched clash (before ++ at ∷ []) (at ∷ []) rest) is
-      ∙ append_assoc (map items done) (batch ∷ []) (batched clash (before ++ at ∷ []) (at ∷ []) rest)
-      ∙ ap (λ b. map items done ++ cond b (batch ∷ batched clash (before ++ at ∷ []) (at ∷ []) rest)
-      (batched clash (before ++ at ∷ []) (batch ++ at ∷ []) rest)) (sym c)
+module _ (os : List OutlineModel) (ds : List Declared) {V : Type 0} (items : V → List ℕ) (before : List ℕ) (at : ℕ) (rest : List ℕ) where
+  abbrev clash : List ℕ → ℕ → ℕ → Bool
+  clash = clash_at os ds
 
-  pub joined_in : (done : List V) (batch next : List ℕ) → next ≡ batch ++ at ∷ [] → list_any (λ s. clash before s at) batch ≡ false →
-      map items done ++ batched clash (before ++ at ∷ []) next rest ≡ map items done ++ batched clash before batch (at ∷ rest)
-  joined_in done batch next pushed c =
-      ap (λ b. map items done ++ batched clash (before ++ at ∷ []) b rest) pushed
-      ∙ ap (λ b. map items done ++ cond b (batch ∷ batched clash (before ++ at ∷ []) (at ∷ []) rest)
-      (batched clash (before ++ at ∷ []) (batch ++ at ∷ []) rest)) (sym c)
+  pub opened : (done done' : List V) (last : V) (old mid new : Batch) → done' ≡ done ++ last ∷ [] → items last ≡ old.places.items → IsFresh mid
+      → JoinsOpen os mid at new → list_any (λ s. clash before s at) old.places.items ≡ true
+      → JoinsNext os ds before at rest (map items done) old (map items done') new
+  opened done done' last old mid new pushed is fresh joins c = record {
+    is_open = joins.stays (fresh.opens os);
+    total =
+        (λ i. (ap (map items) pushed ∙ map_append items done (last ∷ [])) i
+        ++ batched clash (before ++ at ∷ []) ((joins.places ∙ ap (λ p. p ++ at ∷ []) fresh.places) i) rest)
+        ∙ ap (λ b. (map items done ++ b ∷ []) ++ batched clash (before ++ at ∷ []) (at ∷ []) rest) is
+        ∙ append_assoc (map items done) (old.places.items ∷ []) (batched clash (before ++ at ∷ []) (at ∷ []) rest)
+        ∙ ap (λ b. map items done ++ cond b (old.places.items ∷ batched clash (before ++ at ∷ []) (at ∷ []) rest)
+        (batched clash (before ++ at ∷ []) (old.places.items ++ at ∷ []) rest)) (sym c);
+  }
+
+  pub joined_in : (done : List V) (old new : Batch) → IsOpen os old → JoinsOpen os old at new
+      → list_any (λ s. clash before s at) old.places.items ≡ false → JoinsNext os ds before at rest (map items done) old (map items done) new
+  joined_in done old new h joins c = record {
+    is_open = joins.stays h;
+    total =
+        ap (λ b. map items done ++ batched clash (before ++ at ∷ []) b rest) joins.places
+        ∙ ap (λ b. map items done ++ cond b (old.places.items ∷ batched clash (before ++ at ∷ []) (at ∷ []) rest)
+        (batched clash (before ++ at ∷ []) (old.places.items ++ at ∷ []) rest)) (sym c);
+  }
+
+-- the loop goes one position further
+pub join_more : (os : List OutlineModel) (ds : List Declared) {V : Type 0} (items : V → List ℕ) (order : List ℕ) (k d : ℕ) (done done' : List V)
+    (batch batch' : Batch) → k < length order
+    → map items done ++ batched (clash_at os ds) (take k order) batch.places.items (drop k order) ≡ batched (clash_at os ds) [] [] order
+    → JoinsNext os ds (take k order) (get_or order k d) (drop (k + 1) order) (map items done) batch (map items done') batch'
+    → map items done' ++ batched (clash_at os ds) (take (k + 1) order) batch'.places.items (drop (k + 1) order) ≡ batched (clash_at os ds) [] [] order
+join_more os ds items order k d done done' batch batch' below total joins =
+    ap (λ before. map items done' ++ batched (clash_at os ds) before batch'.places.items (drop (k + 1) order)) (take_more order k d below)
+    ∙ joins.total
+    ∙ ap (λ rest. map items done ++ batched (clash_at os ds) (take k order) batch.places.items rest) (sym (drop_more order k d below))
+    ∙ total
+
+-- one outline more
+pub outlined_more : (w : WorldState) (ds : List Declared) (k : ℕ) (d : Declared) (old new : List OutlineModel) (closed shown : List Pattern) → k < length ds
+    → AllZip (IsOutline w) (take k ds) old → ListsClosed w (get_or ds k d).writes.now closed → shown ≡ closed
+    → new ≡ old ++ record { closed = shown; writes_traits = list_any writes_trait shown; kills = (get_or ds k d).kills } ∷ []
+    → AllZip (IsOutline w) (take (k + 1) ds) new
+outlined_more w ds k d old new closed shown below all listed same pushed =
+    subst (AllZip (IsOutline w) (take (k + 1) ds)) (sym pushed)
+    (subst (λ xs. AllZip (IsOutline w) xs (old ++ record { closed = shown; writes_traits = list_any writes_trait shown; kills = (get_or ds k d).kills } ∷ []))
+    (sym (take_more ds k d below))
+    (zip_push (IsOutline w) (take k ds) old (get_or ds k d) _ all
+    (record { kills = refl; closed = subst (ListsClosed w (get_or ds k d).writes.now) (sym same) listed; traits = refl })))

@@ -1,3 +1,7 @@
 mod Clashes
+mod Closing
 mod Joins
+mod Keyed
 mod Orders
+mod Overlapped
+mod Parts

@@ -17,18 +17,22 @@ use Rattle.eco_systems.specs.Phases.{in_order, order_of}
 use Rattle.eco_systems.specs.Systems.{SystemModel}
 use Rattle.eco_systems.specs.declared.phase.Phase.TheVariants.{OnLoad}
 use Rattle.eco_batches.specs.declared.declaration.Declared.{Declared}
-use Rattle.eco_batches.specs.declared.outline.Outline.{Outline}
+use Rattle.eco_batches.specs.OutlineModels.{OutlineModel}
 
 abbrev pub WorldState : Type 0
 WorldState = world.WorldState
+
+-- all that it reads
+abbrev pub reads_of : Declared → List Pattern
+reads_of d = d.query_reads.now ++ d.body_reads.now
 
 -- the system that declares this; which of its reads are its query's, and what it records, doesn't matter here
 abbrev pub system_of : Declared → SystemModel
 system_of d = record {
   phase = d.phase;
   slots = [];
-  body_reads = d.reads.items;
-  writes = d.writes.items;
+  body_reads = reads_of d;
+  writes = d.writes.now;
   kills = d.kills;
   takes = λ row draws. false;
   records = λ row draws. [];
@@ -67,33 +71,49 @@ writes_trait (Two Any q) = true
 writes_trait (Two (Is r) q) = is_trait r || is_trait_part q
 
 -- an outline is that of a system
-pub record IsOutline (w : WorldState) (d : Declared) (o : Outline) : Type 0 where
+pub record IsOutline (w : WorldState) (d : Declared) (o : OutlineModel) : Type 0 where
   pub kills : o.kills ≡ d.kills
-  pub closed : ListsClosed w d.writes.items o.closed.items
-  pub traits : o.writes_traits ≡ list_any writes_trait o.closed.items
+  pub closed : ListsClosed w d.writes.now o.closed
+  pub traits : o.writes_traits ≡ list_any writes_trait o.closed
+
+-- the closed writes of a system
+abbrev pub closed_in : Option OutlineModel → List Pattern
+closed_in None = []
+closed_in (Some o) = o.closed
+
+-- the system writes traits
+abbrev pub traits_in : Option OutlineModel → Bool
+traits_in None = false
+traits_in (Some o) = o.writes_traits
+
+-- the system kills
+abbrev pub kills_in : Option OutlineModel → Bool
+kills_in None = false
+kills_in (Some o) = o.kills
+
+-- and so does a later one
+abbrev pub kills_too : Option Declared → Bool
+kills_too None = false
+kills_too (Some d) = d.kills
+
+abbrev pub reads_in : Option Declared → List Pattern
+reads_in None = []
+reads_in (Some d) = reads_of d
 
 -- a closed write overlaps a read
 abbrev pub disturbs : List Pattern → List Pattern → Bool
 disturbs closed reads = list_any (λ p. list_any (pattern_overlaps p) reads) closed
 
 -- two systems clash; `late` says that the later one or one before it writes traits
-abbrev pub clash_of : Option Outline → Option Declared → Bool → Bool
-clash_of None None late = late
-clash_of (Some o) None late = o.kills || late
-clash_of None (Some d) late = d.kills || late
-clash_of (Some o) (Some d) late = o.kills || (d.kills || (late || disturbs o.closed.items d.reads.items))
-
--- the system writes traits
-abbrev pub traits_in : Option Outline → Bool
-traits_in None = false
-traits_in (Some o) = o.writes_traits
+abbrev pub clash_of : Option OutlineModel → Option Declared → Bool → Bool
+clash_of o d late = kills_in o || (kills_too d || (late || disturbs (closed_in o) (reads_in d)))
 
 -- the system at t writes traits, or one of those before it
-abbrev pub late_at : List Outline → List ℕ → ℕ → Bool
+abbrev pub late_at : List OutlineModel → List ℕ → ℕ → Bool
 late_at os before t = list_any (λ k. traits_in (slice_get os k)) (before ++ t ∷ [])
 
 -- the systems at s and t clash, where these come before t
-abbrev pub clash_at : List Outline → List Declared → List ℕ → ℕ → ℕ → Bool
+abbrev pub clash_at : List OutlineModel → List Declared → List ℕ → ℕ → ℕ → Bool
 clash_at os ds before s t = clash_of (slice_get os s) (slice_get ds t) (late_at os before t)
 
 -- the lists hold all positions of declaration in the order in which the systems run, and the systems there are the batches

@@ -1,10 +1,10 @@
 //! What a system's writes bring with them.
-ghost use Rattle.std.specs.Prelude.{◌≡◌, ◌↔◌, ◌⊎◌, ◌++◌, ◌∷◌, [], map, IfOk, OnOk, IsTrue};
+ghost use Rattle.std.specs.Prelude.{◌≡◌, ◌++◌, map, IfOk, IsFalse, OnOk};
 ghost use Rattle.std.specs.List.{list_any};
-ghost use Rattle.eco_ids.specs.declared.pattern.Pattern.{Pattern as PatternData};
-ghost use Rattle.eco_ids.specs.World.{is_exclusive};
 ghost use Rattle.eco_systems.specs.Closing.{ListsClosed, Among, head_of, with_head};
 ghost use Rattle.eco_systems.specs.Writes as writes;
+ghost use Rattle.eco_traits.specs.Closure.{LacksWith};
+ghost use Rattle.eco_traits.specs.Prospect as traits;
 
 use eco_ids::entity::{EXCLUSIVE, WITH};
 use eco_ids::{Entity, Id, Part, Pattern};
@@ -60,6 +60,32 @@ fn add_widened<H: Holdings>(
     Ok(())
 }
 
+// Whether the id is a pair of With.
+fn is_with(id: Id) -> bool
+    ensures { result ≡ traits.is_with id }
+{
+    match id {
+        Id::One(_) => false,
+        Id::Two(relationship, _) => relationship.is(WITH),
+    }
+}
+
+fn any_with(ids: &[Id]) -> bool
+    ensures { result ≡ list_any traits.is_with ids.now }
+{
+    ids.iter().any(|id| is_with(*id))
+}
+
+// Whether the entity has a pair of With: few have, and the others bring nothing.
+fn brings_more<H: Holdings>(holdings: &H, entity: Entity) -> bool
+    ensures { IsFalse result → LacksWith (H.world holdings.now) entity }
+{
+    match holdings.type_of(entity) {
+        Some(ids) => any_with(ids.as_slice()),
+        None => false,
+    }
+}
+
 // Puts the closed writes of one pattern behind others.
 fn add_closed<H: Holdings>(
     alloc: Global,
@@ -73,8 +99,29 @@ fn add_closed<H: Holdings>(
         closed.push(pattern)?;
         return Ok(());
     };
+    if !brings_more(holdings, head) {
+        return add_widened(holdings, pattern, &[head], closed);
+    }
     let heads = reached(alloc, holdings, WITH, head)?;
     add_widened(holdings, pattern, heads.as_slice(), closed)
+}
+
+/// Lists the closed writes of some patterns in the place of whatever the list has: each with what it brings by With (Flecs
+/// manual, Component Traits, "With"), pairs of an exclusive relationship widened to all its pairs. In no order, and some may
+/// come twice.
+pub(crate) fn list_closed<H: Holdings>(
+    alloc: Global,
+    holdings: &H,
+    writes: &[Pattern],
+    closed: &mut Vec<Pattern>,
+) -> Result<(), AllocError>
+    ensures { OnOk result (ListsClosed (H.world holdings.now) writes.now closed.new.items) }
+{
+    closed.clear();
+    for pattern in writes {
+        add_closed(alloc, holdings, *pattern, closed)?;
+    }
+    Ok(())
 }
 
 /// The closed writes of some patterns: each with what it brings by With (Flecs manual, Component Traits, "With"), pairs of an
@@ -88,8 +135,6 @@ pub fn closed_writes<H: Holdings>(
     ensures { IfOk result (λ closed. ListsClosed (H.world holdings.now) writes.now closed.items) }
 {
     let mut closed = Vec::new(alloc);
-    for pattern in writes {
-        add_closed(alloc, holdings, *pattern, &mut closed)?;
-    }
+    list_closed(alloc, holdings, writes, &mut closed)?;
     Ok(closed)
 }

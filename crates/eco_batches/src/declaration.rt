@@ -2,28 +2,18 @@
 use eco_ids::Pattern;
 use eco_systems::Phase;
 
-/// What a system declares of itself (Flecs manual, Systems, "Sync points"): when it runs, all patterns that it reads, those of its query among them and whatever
-/// their access, those that it writes, and whether it deletes or clears entities.
-#[derive(Debug)]
-pub struct Declared {
+/// What a system declares of itself (Flecs manual, Systems, "Sync points"): when it runs, all patterns that it reads, those that it
+/// writes, and whether it deletes or clears entities. It borrows them, so a frame that asks anew each time copies nothing.
+#[derive(Clone, Copy, Debug)]
+pub struct Declared<'a> {
     /// When it runs.
     pub phase: Phase,
-    /// All patterns that it reads.
-    pub reads: Vec<Pattern>,
+    /// The patterns of its query, whatever their access.
+    pub query_reads: &'a [Pattern],
+    /// The patterns that its body reads besides.
+    pub body_reads: &'a [Pattern],
     /// The patterns that match what it adds, sets and removes.
-    pub writes: Vec<Pattern>,
+    pub writes: &'a [Pattern],
     /// Whether it deletes or clears entities.
     pub kills: bool,
-}
-
-// By hand, so that dropping it is one call: a derived drop is proved anew at each early return of whoever holds it.
-impl Drop for Declared {
-    fn drop(self) {
-        let Declared {
-            phase: _,
-            reads: _,
-            writes: _,
-            kills: _,
-        } = self;
-    }
 }

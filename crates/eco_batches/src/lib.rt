@@ -1,11 +1,13 @@
 //! Sync points: which systems of a frame are recorded on one world (Flecs manual, Systems, "Sync points").
 #![tactic(auto)]
 
+mod batch;
 mod closed;
 mod declaration;
 mod order;
 mod outline;
 mod sync;
+mod written;
 
 pub use closed::closed_writes;
 pub use declaration::Declared;

@@ -1,31 +1,110 @@
 //! What is worked out of each system once.
-ghost use Rattle.std.specs.Prelude.{◌≡◌, IfOk};
+ghost use Rattle.std.specs.Prelude.{◌≡◌, ◌∷◌, ◌++◌, [], IfOk, OnOk, slice_get};
 ghost use Rattle.std.specs.List.{AllZip, list_any};
 ghost use Rattle.eco_batches.specs.Outlines as spec;
 ghost use Rattle.eco_batches.specs.Outlines.{IsOutline};
 
-use crate::closed::closed_writes;
+use crate::closed::list_closed;
 use crate::declaration::Declared;
 use eco_ids::entity::{BUILTIN_COUNT, CHILD_OF};
 use eco_ids::{Entity, Part, Pattern};
 use eco_traits::Holdings;
 use std::alloc::{AllocError, Global};
+use std::marker::Model;
 
-/// The closed writes of a system, whether one of them writes traits, and whether the system kills.
-pub(crate) struct Outline {
-    pub closed: Vec<Pattern>,
-    pub writes_traits: bool,
-    pub kills: bool,
+// Where the closed writes of a system stand among those of all, whether one of them writes traits, and whether the system kills.
+#[derive(Clone, Copy)]
+struct Outline {
+    start: usize,
+    end: usize,
+    writes_traits: bool,
+    kills: bool,
+}
+
+/// What is worked out of some systems, by their positions of declaration: their closed writes, which all stand in one list,
+/// whether one of these writes traits, and whether the system kills.
+pub(crate) struct Outlines {
+    closed: Vec<Pattern>,
+    list: Vec<Outline>,
 }
 
 // By hand, so that dropping it is one call: a derived drop is proved anew at each early return of whoever holds it.
-impl Drop for Outline {
+impl Drop for Outlines {
     fn drop(self) {
-        let Outline {
-            closed: _,
-            writes_traits: _,
-            kills: _,
-        } = self;
+        let Outlines { closed: _, list: _ } = self;
+    }
+}
+
+impl Model for Outlines {
+    ghost use Rattle.std.specs.Prelude.{List, length, map};
+    ghost use Rattle.std.specs.List.{AllByRecursion};
+    ghost use Rattle.eco_batches.specs.OutlineModels.{OutlineModel, outline_of, IsWithin};
+
+    ghost Value = { List OutlineModel };
+
+    ghost view = { λ o. map (outline_of o.closed.items) o.list.items };
+
+    ghost invariant = { λ o. AllByRecursion (IsWithin (length o.closed.items)) o.list.items };
+}
+
+impl Outlines {
+    // Of no systems, with room for so many that write one pattern each.
+    fn with_capacity(alloc: Global, count: usize) -> Result<Outlines, AllocError>
+        ensures { IfOk result (λ o. o ≡ []) }
+    {
+        Ok(Outlines {
+            closed: Vec::with_capacity(alloc, count)?,
+            list: Vec::with_capacity(alloc, count)?,
+        })
+    }
+
+    // One more system.
+    fn push(&mut self, closed: &[Pattern], kills: bool) -> Result<(), AllocError>
+        ensures { OnOk result (self.new ≡ self.old ++ record {
+          closed = closed.now;
+          writes_traits = list_any spec.writes_trait closed.now;
+          kills = kills;
+        } ∷ []) }
+    {
+        let start = self.closed.len();
+        self.closed.extend_from_slice(closed)?;
+        self.list.push(Outline {
+            start,
+            end: self.closed.len(),
+            writes_traits: writes_some_trait(closed),
+            kills,
+        })?;
+        Ok(())
+    }
+
+    /// The closed writes of the system at a position, none where there is no system.
+    pub fn closed(&self, at: usize) -> &[Pattern]
+        ensures { result.now ≡ spec.closed_in (slice_get self.now at) }
+    {
+        match self.list.get(at) {
+            Some(outline) => &self.closed[outline.start..outline.end],
+            None => &[],
+        }
+    }
+
+    /// Whether it writes traits.
+    pub fn writes_traits(&self, at: usize) -> bool
+        ensures { result ≡ spec.traits_in (slice_get self.now at) }
+    {
+        match self.list.get(at) {
+            Some(outline) => outline.writes_traits,
+            None => false,
+        }
+    }
+
+    /// Whether it kills.
+    pub fn kills(&self, at: usize) -> bool
+        ensures { result ≡ spec.kills_in (slice_get self.now at) }
+    {
+        match self.list.get(at) {
+            Some(outline) => outline.kills,
+            None => false,
+        }
     }
 }
 
@@ -64,34 +143,19 @@ fn writes_some_trait(closed: &[Pattern]) -> bool
     closed.iter().any(|pattern| writes_trait(*pattern))
 }
 
-// Works out a system.
-fn worked_out<H: Holdings>(
-    alloc: Global,
-    holdings: &H,
-    system: &Declared,
-) -> Result<Outline, AllocError>
-    ensures { IfOk result (λ o. IsOutline (H.world holdings.now) system.now o) }
-{
-    let closed = closed_writes(alloc, holdings, &system.writes)?;
-    let writes_traits = writes_some_trait(&closed);
-    Ok(Outline {
-        closed,
-        writes_traits,
-        kills: system.kills,
-    })
-}
-
 /// Works out each system.
-pub(crate) fn outlines<H: Holdings>(
+pub(crate) fn work_out<H: Holdings>(
     alloc: Global,
     holdings: &H,
     systems: &[Declared],
-) -> Result<Vec<Outline>, AllocError>
-    ensures { IfOk result (λ os. AllZip (IsOutline (H.world holdings.now)) systems.now os.items) }
+) -> Result<Outlines, AllocError>
+    ensures { IfOk result (λ os. AllZip (IsOutline (H.world holdings.now)) systems.now os) }
 {
-    let mut outlines = Vec::new(alloc);
+    let mut outlines = Outlines::with_capacity(alloc, systems.len())?;
+    let mut closed = Vec::new(alloc);
     for system in systems {
-        outlines.push(worked_out(alloc, holdings, system)?)?;
+        list_closed(alloc, holdings, system.writes, &mut closed)?;
+        outlines.push(&closed, system.kills)?;
     }
     Ok(outlines)
 }

@@ -2,10 +2,10 @@
 ghost use Rattle.std.specs.Prelude.{◌≡◌, ◌++◌, ◌∷◌, [], length, IfErr, MatchOption, MatchResult, OnErr, OnOk, string_bytes};
 ghost use Rattle.eco_ids.specs.declared.refusal.Refusal.TheVariants.{OutOfMemory};
 ghost use Rattle.eco_ids.specs.Names.{is_text};
-ghost use Rattle.eco_bodies.specs.Added.{IsAdded, add_refusal, is_named};
+ghost use Rattle.eco_query.specs.Queries.{reads};
 
 use crate::script::Script;
-use eco_ids::{Refusal, is_name};
+use eco_ids::{Pattern, Refusal, is_name};
 use eco_query::Query;
 use eco_systems::Phase;
 use std::alloc::Global;
@@ -20,8 +20,11 @@ pub struct System<B> {
     pub phase: Phase,
     /// What it asks for.
     pub query: Query,
+    /// The patterns of its query, listed once: each frame asks for them.
+    pub query_reads: Vec<Pattern>,
     /// What it does with each row.
     pub body: B,
+    ghost listed: { query_reads.items ≡ reads query },
 }
 
 // By hand, so that dropping it is one call: a derived drop is proved anew at each early return of whoever holds it.
@@ -31,6 +34,7 @@ impl<B: Drop> Drop for System<B> {
             name: _,
             phase: _,
             query: _,
+            query_reads: _,
             body: _,
         } = self;
     }
@@ -90,6 +94,8 @@ impl<B> Model for Systems<B> {
 }
 
 impl<B: Drop> Systems<B> {
+    ghost use Rattle.eco_bodies.specs.Added.{IsAdded, add_refusal, is_named};
+
     /// No system. What is added takes its memory from `alloc`.
     pub fn new(alloc: Global) -> Systems<B>
         ensures { result ≡ [] }
@@ -151,7 +157,11 @@ impl<B: Drop> Systems<B> {
                 body,
             });
         }
-        let (Ok(()), Ok(name)) = (self.list.reserve(1), String::from_str(self.alloc, name)) else {
+        let (Ok(()), Ok(name), Ok(query_reads)) = (
+            self.list.reserve(1),
+            String::from_str(self.alloc, name),
+            query.reads(self.alloc),
+        ) else {
             return Err(NotAdded {
                 refusal: Refusal::OutOfMemory,
                 query,
@@ -162,6 +172,7 @@ impl<B: Drop> Systems<B> {
             name,
             phase,
             query,
+            query_reads,
             body,
         });
         Ok(())

@@ -8,7 +8,7 @@ use Rattle.eco_systems.specs.Batches.{joined, AreBatches}
 use Rattle.eco_systems.specs.Phases.{in_order, order_of}
 use Rattle.eco_systems.specs.Rows.{ValuedRow}
 use Rattle.eco_systems.specs.Systems.{SystemModel, system_reads}
-use Rattle.eco_batches.specs.Outlines.{no_system}
+use Rattle.eco_batches.specs.Outlines.{no_system, reads_of}
 use Rattle.eco_batches.specs.declared.declaration.Declared.{Declared}
 use Rattle.eco_bodies.specs.Bodies.{system_with}
 use Rattle.eco_bodies.specs.declared.systems.System.{System}
@@ -22,8 +22,8 @@ model_of reads writes kills taken commands s =
 -- what is declared is what the system declares
 pub record Declares (s : SystemModel) (d : Declared) : Type 0 where
   pub phase : d.phase ≡ s.phase
-  pub reads : d.reads.items ≡ system_reads s
-  pub writes : d.writes.items ≡ s.writes
+  pub reads : reads_of d ≡ system_reads s
+  pub writes : d.writes.now ≡ s.writes
   pub kills : d.kills ≡ s.kills
 
 -- the system at a position of declaration

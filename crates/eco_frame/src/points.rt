@@ -9,32 +9,30 @@ use eco_traits::Holdings;
 use std::alloc::{AllocError, Global};
 
 // What a system declares.
-fn declaration<B: SystemBody>(alloc: Global, system: &System<B>) -> Result<Declared, AllocError>
-    ensures { IfOk result (λ d. Declares
-        (model_of B.reads_of B.writes_of B.kills_of B.taken B.commands system.now) d) }
+fn declaration<B: SystemBody>(system: &System<B>) -> Declared<'_>
+    ensures { Declares
+        (model_of B.reads_of B.writes_of B.kills_of B.taken B.commands system.now) result }
 {
-    let mut reads = system.query.reads(alloc)?;
-    reads.extend_from_slice(system.body.reads())?;
-    let writes = Vec::from_slice(alloc, system.body.writes())?;
-    Ok(Declared {
+    Declared {
         phase: system.phase,
-        reads,
-        writes,
+        query_reads: &system.query_reads,
+        body_reads: system.body.reads(),
+        writes: system.body.writes(),
         kills: system.body.kills(),
-    })
+    }
 }
 
 // What each of some systems declares.
 fn declarations<B: SystemBody>(
     alloc: Global,
     systems: &[System<B>],
-) -> Result<Vec<Declared>, AllocError>
+) -> Result<Vec<Declared<'_>>, AllocError>
     ensures { IfOk result (λ ds. AllZip (λ s d. Declares
         (model_of B.reads_of B.writes_of B.kills_of B.taken B.commands s) d) systems.now ds.items) }
 {
-    let mut declarations = Vec::new(alloc);
+    let mut declarations = Vec::with_capacity(alloc, systems.len())?;
     for system in systems {
-        declarations.push(declaration(alloc, system)?)?;
+        declarations.push(declaration(system))?;
     }
     Ok(declarations)
 }

@@ -11,6 +11,6 @@ returns-then-is_empty g c =
 
 pub returns : goal.returns
 returns g c =
-    joined_are_batches (g.H.Holdings.world c.args.holdings.now) c.args.systems.now c.in_ok-worked_out.worked_out.items c.deref.result.now c.args.order.now
+    joined_are_batches (g.H.Holdings.world c.args.holdings.now) c.args.systems.now c.in_ok-outlines.outlines c.args.order.now
     (not_none c.args.order.now c.is_empty.result c.is_empty.ensures c.if-is_empty.false)
-    c.requires c.in_ok-worked_out.ensures c.deref.ensures.value (λ v. v.items) (λ b. b.items) c.join.result c.join.ensures
+    c.requires c.in_ok-outlines.ensures (λ v. v.items) (λ b. b.items) c.join.result c.join.ensures

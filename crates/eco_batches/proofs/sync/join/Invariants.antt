@@ -1,12 +1,14 @@
 use Rattle.std.proofs.Common.{◌≡◌, ◌++◌, [], map, slice_get, take, drop}
 use Rattle.std.specs.List.{list_any}
 use Rattle.eco_systems.specs.Joining.{batched}
+use Rattle.eco_batches.specs.Open.{IsOpen}
 use Rattle.eco_batches.specs.Outlines.{clash_at, traits_in}
 use Rattle.eco_batches.proofs.sync.join.Given as goal
 
 abbrev pub invariant-loop-at : goal.invariant-loop-at
 invariant-loop-at l = record {
   late : l.late ≡ list_any (λ k. traits_in (slice_get l.outlines k)) (take l.at-index l.order);
-  total : map (λ b. b.items) l.done.items ++ batched (clash_at l.outlines l.systems) (take l.at-index l.order) l.batch.items (drop l.at-index l.order)
+  is_open : IsOpen l.outlines l.batch;
+  total : map (λ b. b.items) l.done.items ++ batched (clash_at l.outlines l.systems) (take l.at-index l.order) l.batch.places.items (drop l.at-index l.order)
       ≡ batched (clash_at l.outlines l.systems) [] [] l.order;
 }

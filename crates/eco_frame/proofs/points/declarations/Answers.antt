@@ -12,7 +12,7 @@ loop-system-preserved g c =
     let b = g.B.SystemBody in
     let R : System g.row.B.Denot → Declared → Type 0 = λ s d. Declares (model_of b.reads_of b.writes_of b.kills_of b.taken b.commands s) d in
     subst (λ os. AllZip R (take (c.loop-system.system-index + 1) c.args.systems.now) os) (sym c.in_ok-push.ensures.items)
-    (subst (λ ds. AllZip R ds (c.loop-system.declarations.items ++ c.in_ok-declaration.field-0 ∷ []))
+    (subst (λ ds. AllZip R ds (c.loop-system.declarations.items ++ c.declaration.result ∷ []))
     (sym (take_more c.args.systems.now c.loop-system.system-index c.system-item.result c.loop-system-test.true))
-    (zip_push R (take c.loop-system.system-index c.args.systems.now) c.loop-system.declarations.items _ c.in_ok-declaration.field-0 c.loop-system.invariant
-    (subst (λ s. R s c.in_ok-declaration.field-0) c.system-item.is c.in_ok-declaration.ensures)))
+    (zip_push R (take c.loop-system.system-index c.args.systems.now) c.loop-system.declarations.items _ c.declaration.result c.loop-system.invariant
+    (subst (λ s. R s c.declaration.result) c.system-item.is c.declaration.ensures)))

@@ -2,10 +2,10 @@ use Rattle.std.proofs.Common.{[], sym, subst}
 use Rattle.std.proofs.lemmas.List.{take_all}
 use Rattle.eco_systems.specs.Closing.{ListsClosed}
 use Rattle.eco_systems.proofs.ClosedLists.{lists_none, lists_more}
-use Rattle.eco_batches.proofs.closed.closed_writes.Goals as goal
+use Rattle.eco_batches.proofs.closed.list_closed.Goals as goal
 
 pub loop-pattern-init : goal.loop-pattern-init
-loop-pattern-init g c = subst (ListsClosed (g.H.Holdings.world c.args.holdings.now) []) (sym c.new-closed.ensures.items)
+loop-pattern-init g c = subst (ListsClosed (g.H.Holdings.world c.args.holdings.now) []) (sym c.clear.ensures.items)
     (lists_none (g.H.Holdings.world c.args.holdings.now))
 
 pub loop-pattern-preserved : goal.loop-pattern-preserved

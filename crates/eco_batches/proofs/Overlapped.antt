@@ -1,0 +1,187 @@
+-- Patterns that are put in one by one, by keys.
+use Rattle.std.proofs.Common.{◌≡◌, Bool, true, false, ◌||◌, ◌&&◌, List, [], ◌∷◌, ◌++◌, refl, sym, ap, ◌∙◌, Ordering, Less, Equal, Greater, is_eq, Option, Some, None}
+use Rattle.std.specs.List.{list_any}
+use Rattle.std.specs.Ordering.{ordering_then}
+use Rattle.std.proofs.lemmas.List.Folds.{list_any-append}
+use Rattle.std.proofs.lemmas.Option.{same_Some, none-some}
+use Rattle.eco_ids.specs.declared.entity.Entity.{Entity}
+use Rattle.eco_ids.specs.declared.id.Id.TheVariants as id
+use Rattle.eco_ids.specs.declared.pattern.Part.{Part}
+use Rattle.eco_ids.specs.declared.pattern.Part.TheVariants.{Is, Each, Any}
+use Rattle.eco_ids.specs.declared.pattern.Pattern.{Pattern}
+use Rattle.eco_ids.specs.declared.pattern.Pattern.TheVariants.{One, Two}
+use Rattle.eco_ids.specs.Matching.{pattern_overlaps}
+use Rattle.eco_ids.specs.Order.{entity_cmp, entity_eq, has_item, id_cmp, id_eq}
+use Rattle.eco_query.specs.Queries.{has_any}
+use Rattle.eco_batches.specs.Keys.{named}
+use Rattle.eco_batches.specs.Written.{overlaps, overlaps_pairs, HasAllPairs, HasPair, HasPairs, HasSingle, HasWild, IsNothing}
+use Rattle.eco_batches.specs.declared.written.Written.{Written}
+use Rattle.eco_batches.proofs.Keyed.{or_none, or_joins}
+
+or_true : (a : Bool) → (a || true) ≡ true
+or_true true = refl
+or_true false = refl
+
+and_true : (a : Bool) → (a && true) ≡ a
+and_true true = refl
+and_true false = refl
+
+-- what is new comes last
+last_of_two : (a e x : Bool) → ((a || e) || x) ≡ ((a || x) || e)
+last_of_two true e x = refl
+last_of_two false true x = sym (or_true x)
+last_of_two false false x = sym (or_none x)
+
+last_of_three : (a e w x : Bool) → (((a || e) || w) || x) ≡ (((a || w) || x) || e)
+last_of_three true e w x = refl
+last_of_three false true w x = sym (or_true (w || x))
+last_of_three false false w x = sym (or_none (w || x))
+
+second_last : (a w e x : Bool) → ((a || (w || e)) || x) ≡ (((a || w) || x) || e)
+second_last true w e x = refl
+second_last false w e x = last_of_two w e x
+
+pair_eq : (r t u v : Entity) → id_eq (id.Two r t) (id.Two u v) ≡ (entity_eq r u && entity_eq t v)
+pair_eq r t u v = by (entity_cmp r u) (entity_cmp t v)
+  where
+    by : (a b : Ordering) → is_eq (ordering_then a b) ≡ (is_eq a && is_eq b)
+    by Less b = refl
+    by Equal b = refl
+    by Greater b = refl
+
+abbrev among : List Pattern → Pattern → Bool
+among patterns read = list_any (λ p. pattern_overlaps p read) patterns
+
+-- nothing overlaps where there are no keys
+pub nothing : (s : Written) → s.ids.keys ≡ [] → s.wide.keys ≡ [] → s.relationships.keys ≡ [] → s.targets.keys ≡ [] → s.wild.items ≡ [] → IsNothing s
+nothing s ids wide relationships targets wild (One e) = ap (λ k. has_item id_cmp k (id.One e)) ids
+nothing s ids wide relationships targets wild (Two p q) = λ i. pairs (named p) (named q) i || among (wild i) (Two p q)
+  where
+    pairs : (a b : Option Entity) → overlaps_pairs s a b ≡ false
+    pairs (Some r) (Some t) = λ i. has_item id_cmp (ids i) (id.Two r t) || has_item entity_cmp (wide i) r
+    pairs (Some r) None = ap (λ k. has_item entity_cmp k r) relationships
+    pairs None (Some t) = λ i. has_item entity_cmp (targets i) t || has_any (wide i)
+    pairs None None = ap has_any relationships
+
+module _ (s s' : Written) where
+  same_pairs : ((r t : Entity) → has_item id_cmp s'.ids.keys (id.Two r t) ≡ has_item id_cmp s.ids.keys (id.Two r t)) → s'.wide.keys ≡ s.wide.keys
+      → s'.relationships.keys ≡ s.relationships.keys → s'.targets.keys ≡ s.targets.keys → (a b : Option Entity) → overlaps_pairs s' a b ≡ overlaps_pairs s a b
+  same_pairs ids wide relationships targets (Some r) (Some t) = λ i. ids r t i || has_item entity_cmp (wide i) r
+  same_pairs ids wide relationships targets (Some r) None = ap (λ k. has_item entity_cmp k r) relationships
+  same_pairs ids wide relationships targets None (Some t) = λ i. has_item entity_cmp (targets i) t || has_any (wide i)
+  same_pairs ids wide relationships targets None None = ap has_any relationships
+
+  pub single_more : (e : Entity) → HasSingle s e s' → (read : Pattern) → overlaps s' read ≡ (overlaps s read || pattern_overlaps (One e) read)
+  single_more e h (One f) = h.ids.members (id.One f)
+  single_more e h (Two p q) =
+      (λ i. same_pairs (λ r t. h.ids.members (id.Two r t) ∙ or_none _) h.wide h.relationships h.targets (named p) (named q) i || among (h.wild i) (Two p q))
+      ∙ sym (or_none (overlaps s (Two p q)))
+
+  pub wild_more : (p q : Part) → HasWild s (Two p q) s' → (read : Pattern) → overlaps s' read ≡ (overlaps s read || pattern_overlaps (Two p q) read)
+  wild_more p q h (One f) = ap (λ k. has_item id_cmp k (id.One f)) h.ids ∙ sym (or_none (has_item id_cmp s.ids.keys (id.One f)))
+  wild_more p q h (Two a b) =
+      (λ i. same_pairs (λ r t. ap (λ k. has_item id_cmp k (id.Two r t)) h.ids) h.wide h.relationships h.targets (named a) (named b) i
+      || (ap (λ k. among k (Two a b)) h.wild ∙ list_any-append (λ w. pattern_overlaps w (Two a b)) s.wild.items (Two p q ∷ [])
+      ∙ ap (λ c. among s.wild.items (Two a b) || c) (or_none (pattern_overlaps (Two p q) (Two a b)))) i)
+      ∙ or_joins (overlaps_pairs s (named a) (named b)) (among s.wild.items (Two a b)) (pattern_overlaps (Two p q) (Two a b))
+
+  -- one pair more
+  module _ (r t : Entity) (h : HasPair s r t s') where
+    of_relationship : (u : Entity) (read : Pattern) → (has_item entity_cmp s'.relationships.keys u || among s'.wild.items read)
+        ≡ ((has_item entity_cmp s.relationships.keys u || among s.wild.items read) || (entity_eq r u && true))
+    of_relationship u read =
+        (λ i. h.relationships.members u i || among (h.wild i) read)
+        ∙ last_of_two (has_item entity_cmp s.relationships.keys u) (entity_eq r u) (among s.wild.items read)
+        ∙ ap (λ e. (has_item entity_cmp s.relationships.keys u || among s.wild.items read) || e) (sym (and_true (entity_eq r u)))
+
+    with_target : (v : Entity) (read : Pattern) → ((has_item entity_cmp s'.targets.keys v || has_any s'.wide.keys) || among s'.wild.items read)
+        ≡ (((has_item entity_cmp s.targets.keys v || has_any s.wide.keys) || among s.wild.items read) || entity_eq t v)
+    with_target v read =
+        (λ i. (h.targets.members v i || has_any (h.wide i)) || among (h.wild i) read)
+        ∙ last_of_three (has_item entity_cmp s.targets.keys v) (entity_eq t v) (has_any s.wide.keys) (among s.wild.items read)
+
+    of_any : (read : Pattern) → (has_any s'.relationships.keys || among s'.wild.items read)
+        ≡ ((has_any s.relationships.keys || among s.wild.items read) || true)
+    of_any read = (λ i. h.relationships.some i || among s'.wild.items read) ∙ sym (or_true (has_any s.relationships.keys || among s.wild.items read))
+
+    pub pair_more : (read : Pattern) → overlaps s' read ≡ (overlaps s read || pattern_overlaps (Two (Is r) (Is t)) read)
+    pair_more (One f) = h.ids.members (id.One f)
+    pair_more (Two (Is u) (Is v)) =
+        (λ i. ((h.ids.members (id.Two u v) ∙ ap (λ e. has_item id_cmp s.ids.keys (id.Two u v) || e) (pair_eq r t u v)) i || has_item entity_cmp (h.wide i) u)
+        || among (h.wild i) (Two (Is u) (Is v)))
+        ∙ last_of_three (has_item id_cmp s.ids.keys (id.Two u v)) (entity_eq r u && entity_eq t v) (has_item entity_cmp s.wide.keys u)
+        (among s.wild.items (Two (Is u) (Is v)))
+    pair_more (Two (Is u) Each) = of_relationship u (Two (Is u) Each)
+    pair_more (Two (Is u) Any) = of_relationship u (Two (Is u) Any)
+    pair_more (Two Each (Is v)) = with_target v (Two Each (Is v))
+    pair_more (Two Any (Is v)) = with_target v (Two Any (Is v))
+    pair_more (Two Each Each) = of_any (Two Each Each)
+    pair_more (Two Each Any) = of_any (Two Each Any)
+    pair_more (Two Any Each) = of_any (Two Any Each)
+    pair_more (Two Any Any) = of_any (Two Any Any)
+
+  -- all pairs of a relationship
+  module _ (r : Entity) (h : HasAllPairs s r s') where
+    of_wide : (u v : Entity) (read : Pattern)
+        → ((has_item id_cmp s'.ids.keys (id.Two u v) || has_item entity_cmp s'.wide.keys u) || among s'.wild.items read)
+        ≡ (((has_item id_cmp s.ids.keys (id.Two u v) || has_item entity_cmp s.wide.keys u) || among s.wild.items read) || (entity_eq r u && true))
+    of_wide u v read =
+        (λ i. (has_item id_cmp (h.ids i) (id.Two u v) || h.wide.members u i) || among (h.wild i) read)
+        ∙ second_last (has_item id_cmp s.ids.keys (id.Two u v)) (has_item entity_cmp s.wide.keys u) (entity_eq r u) (among s.wild.items read)
+        ∙ ap (λ e. ((has_item id_cmp s.ids.keys (id.Two u v) || has_item entity_cmp s.wide.keys u) || among s.wild.items read) || e)
+        (sym (and_true (entity_eq r u)))
+
+    all_of_relationship : (u : Entity) (read : Pattern) → (has_item entity_cmp s'.relationships.keys u || among s'.wild.items read)
+        ≡ ((has_item entity_cmp s.relationships.keys u || among s.wild.items read) || (entity_eq r u && true))
+    all_of_relationship u read =
+        (λ i. h.relationships.members u i || among (h.wild i) read)
+        ∙ last_of_two (has_item entity_cmp s.relationships.keys u) (entity_eq r u) (among s.wild.items read)
+        ∙ ap (λ e. (has_item entity_cmp s.relationships.keys u || among s.wild.items read) || e) (sym (and_true (entity_eq r u)))
+
+    any_target : (v : Entity) (read : Pattern) → ((has_item entity_cmp s'.targets.keys v || has_any s'.wide.keys) || among s'.wild.items read)
+        ≡ (((has_item entity_cmp s.targets.keys v || has_any s.wide.keys) || among s.wild.items read) || true)
+    any_target v read =
+        (λ i. (has_item entity_cmp s'.targets.keys v || h.wide.some i) || among s'.wild.items read)
+        ∙ ap (λ b. b || among s'.wild.items read) (or_true (has_item entity_cmp s'.targets.keys v))
+        ∙ sym (or_true ((has_item entity_cmp s.targets.keys v || has_any s.wide.keys) || among s.wild.items read))
+
+    all_of_any : (read : Pattern) → (has_any s'.relationships.keys || among s'.wild.items read)
+        ≡ ((has_any s.relationships.keys || among s.wild.items read) || true)
+    all_of_any read = (λ i. h.relationships.some i || among s'.wild.items read) ∙ sym (or_true (has_any s.relationships.keys || among s.wild.items read))
+
+    all_more : (read : Pattern) → overlaps s' read ≡ (overlaps s read || pattern_overlaps (Two (Is r) Each) read)
+    all_more (One f) = ap (λ k. has_item id_cmp k (id.One f)) h.ids ∙ sym (or_none (has_item id_cmp s.ids.keys (id.One f)))
+    all_more (Two (Is u) (Is v)) = of_wide u v (Two (Is u) (Is v))
+    all_more (Two (Is u) Each) = all_of_relationship u (Two (Is u) Each)
+    all_more (Two (Is u) Any) = all_of_relationship u (Two (Is u) Any)
+    all_more (Two Each (Is v)) = any_target v (Two Each (Is v))
+    all_more (Two Any (Is v)) = any_target v (Two Any (Is v))
+    all_more (Two Each Each) = all_of_any (Two Each Each)
+    all_more (Two Each Any) = all_of_any (Two Each Any)
+    all_more (Two Any Each) = all_of_any (Two Any Each)
+    all_more (Two Any Any) = all_of_any (Two Any Any)
+
+  -- pairs of one relationship, by the entities that the pattern names
+  pub pairs_more : (p q : Part) (r : Entity) (o : Option Entity) → Some r ≡ named p → o ≡ named q → HasPairs s r o s'
+      → (read : Pattern) → overlaps s' read ≡ (overlaps s read || pattern_overlaps (Two p q) read)
+  pairs_more Each q r o at to h read = absurd (none-some r (sym at))
+  pairs_more Any q r o at to h read = absurd (none-some r (sym at))
+  pairs_more (Is e) q r (Some t) at to h read = by q to
+    where
+      by : (q : Part) → Some t ≡ named q → overlaps s' read ≡ (overlaps s read || pattern_overlaps (Two (Is e) q) read)
+      by (Is f) k = pair_more r t h read ∙ λ i. overlaps s read || pattern_overlaps (Two (Is (same_Some r e at i)) (Is (same_Some t f k i))) read
+      by Each k = absurd (none-some t (sym k))
+      by Any k = absurd (none-some t (sym k))
+  pairs_more (Is e) q r None at to h read = by q to
+    where
+      wild : (q : Part) → pattern_overlaps (Two (Is r) Each) read ≡ pattern_overlaps (Two (Is e) Each) read
+      wild q = ap (λ x. pattern_overlaps (Two (Is x) Each) read) (same_Some r e at)
+
+      any_is_each : (read : Pattern) → pattern_overlaps (Two (Is e) Each) read ≡ pattern_overlaps (Two (Is e) Any) read
+      any_is_each (One f) = refl
+      any_is_each (Two a b) = refl
+
+      by : (q : Part) → None ≡ named q → overlaps s' read ≡ (overlaps s read || pattern_overlaps (Two (Is e) q) read)
+      by (Is f) k = absurd (none-some f k)
+      by Each k = all_more r h read ∙ ap (λ b. overlaps s read || b) (wild Each)
+      by Any k = all_more r h read ∙ ap (λ b. overlaps s read || b) (wild Any ∙ any_is_each read)

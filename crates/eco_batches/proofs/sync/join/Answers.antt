@@ -1,0 +1,28 @@
+use Rattle.std.proofs.Common.{◌++◌, ◌+◌, [], map, refl, sym, ap, ◌∙◌, get_or, take, drop, slice_get}
+use Rattle.std.specs.List.{list_any}
+use Rattle.std.proofs.lemmas.List.{take_more}
+use Rattle.eco_systems.specs.Joining.{batched}
+use Rattle.eco_batches.specs.Outlines.{clash_at, traits_in}
+use Rattle.eco_batches.proofs.Joins.{join_more}
+use Rattle.eco_batches.proofs.sync.join.Goals as goal
+
+pub loop-at-init : goal.loop-at-init
+loop-at-init c = record {
+  late = refl;
+  is_open = c.in_ok-batch.ensures.opens c.args.outlines.now;
+  total = λ i. map (λ b. b.items) (c.new-done.ensures.items i)
+      ++ batched (clash_at c.args.outlines.now c.args.systems.now) [] (c.in_ok-batch.ensures.places i) c.args.order.now;
+}
+
+pub loop-at-preserved : goal.loop-at-preserved
+loop-at-preserved c =
+    let order = c.args.order.now in
+    let k = c.loop-at.at-index in
+    let is_late = c.is_late-late.ensures (take k order) c.loop-at.invariant.late in
+    let joins = c.in_ok-join_next.ensures (take k order) (drop (k + 1) order) is_late c.loop-at.invariant.is_open in
+    record {
+      late = is_late ∙ ap (list_any (λ s. traits_in (slice_get c.args.outlines.now s))) (sym (take_more order k 0 c.loop-at-test.true));
+      is_open = joins.is_open;
+      total = join_more c.args.outlines.now c.args.systems.now (λ b. b.items) order k 0 c.loop-at.done.items c.join_next.new.done.items c.loop-at.batch
+          c.join_next.new.batch c.loop-at-test.true c.loop-at.invariant.total joins;
+    }

@@ -1,0 +1,20 @@
+-- Keys that are noted.
+use Rattle.std.specs.Prelude.{◌≡◌, Bool, true, ◌||◌, List, Option, Some, None}
+use Rattle.std.specs.declared.cmp.Ordering.{Ordering}
+use Rattle.std.specs.Ordering.{eq_by_cmp}
+use Rattle.eco_ids.specs.declared.entity.Entity.{Entity}
+use Rattle.eco_ids.specs.declared.pattern.Part.{Part}
+use Rattle.eco_ids.specs.declared.pattern.Part.TheVariants.{Is, Each, Any}
+use Rattle.eco_ids.specs.Order.{has_item}
+use Rattle.eco_query.specs.Queries.{has_any}
+
+-- the entity of a part, which a wildcard has not
+abbrev pub named : Part → Option Entity
+named (Is e) = Some e
+named Each = None
+named Any = None
+
+-- the new keys are the old ones and x
+pub record IsNoted {K : Type 0} (R : K → K → Ordering) (old : List K) (x : K) (new : List K) : Type 0 where
+  pub members : (y : K) → has_item R new y ≡ (has_item R old y || eq_by_cmp R x y)
+  pub some : has_any new ≡ true

@@ -2,7 +2,7 @@
 ghost use Rattle.std.specs.Prelude.{◌≡◌, ◌++◌, ◌∷◌, [], length, IfErr, MatchOption, MatchResult, OnErr, OnOk, string_bytes};
 ghost use Rattle.eco_ids.specs.declared.refusal.Refusal.TheVariants.{OutOfMemory};
 ghost use Rattle.eco_ids.specs.Names.{is_text};
-ghost use Rattle.eco_query.specs.Queries.{reads};
+ghost use Rattle.eco_query.specs.Queries.{HasPositive, reads};
 
 use crate::script::Script;
 use eco_ids::{Pattern, Refusal, is_name};
@@ -25,6 +25,7 @@ pub struct System<B> {
     /// What it does with each row.
     pub body: B,
     ghost listed: { query_reads.items ≡ reads query },
+    ghost positive: { HasPositive query },
 }
 
 // By hand, so that dropping it is one call: a derived drop is proved anew at each early return of whoever holds it.
@@ -168,6 +169,7 @@ impl<B: Drop> Systems<B> {
                 body,
             });
         };
+        query.is_positive();
         self.list.push_reserved(System {
             name,
             phase,

@@ -1,6 +1,6 @@
 -- From what workers answer for the pieces of a batch to what its systems record.
-use Rattle.std.proofs.Common.{◌≡◌, ℕ, ◌+◌, ◌<◌, ◌≤◌, Bool, List, [], ◌∷◌, ◌++◌, map, length, get_or, Some, refl, sym, ap, ◌∙◌, subst, append_assoc, arith}
-use Rattle.std.proofs.Common.{flat_map, option_map, option_to_list, slice_get, unwrap_or, inl, inr}
+use Rattle.std.proofs.Common.{◌≡◌, ℕ, ◌<◌, ◌≤◌, Bool, List, [], ◌∷◌, ◌++◌, map, length, refl, sym, ap, ◌∙◌, subst, append_assoc, arith}
+use Rattle.std.proofs.Common.{flat_map, option_map, option_to_list, unwrap_or, inl, inr}
 use Rattle.std.proofs.lemmas.Option.{slice_get-map, slice_get_cases}
 use Rattle.std.specs.List.{AllByRecursion, AllZip}
 use Rattle.eco_ids.specs.declared.entity.Entity.{Entity}
@@ -17,10 +17,10 @@ use Rattle.eco_workers.specs.Batches.{AreStages, IsBatch, IsOut}
 use Rattle.eco_workers.specs.Taking.{by_index, fresh}
 use Rattle.eco_world.specs.Merging.{all_commands}
 use Rattle.eco_frame.specs.Models.{model_at, model_of}
-use Rattle.eco_frame.specs.Pieces.{IsRecorded, part_at, part_of, piece_commands, piece_taken, pieces_at, pieces_in}
+use Rattle.eco_frame.specs.Pieces.{IsRecorded, Settled, part_at, part_of, piece_commands, piece_taken, pieces_at, pieces_in}
 use Rattle.eco_frame.proofs.Fresh.{ascending_batch, fresh_batch}
 use Rattle.eco_frame.proofs.Grouped.{AreGrouped, grouped, joined_map}
-use Rattle.eco_frame.proofs.Recorded.{Settled, pieces_record}
+use Rattle.eco_frame.proofs.Recorded.{pieces_record}
 
 -- ---- lists
 
@@ -131,8 +131,7 @@ module _ {B : Type 0} (reads writes : B → List Pattern) (kills : B → Bool) (
       let are = all_record c.0 g.0 g.1 g.4 in
       let all : joined (map joined g.1) ≡ all_commands stages = joined_twice g.1 ∙ ap joined g.3
       ∙ ap joined (sym (map_itself stages)) ∙ sym (flat_is_joined (λ s. s) stages) in
-      let new = fresh_batch (length w.indices) n b.draws draws shape b.ascend b.each in
-      (
+      let new = fresh_batch (length w.indices) n b.draws draws shape b.ascend b.each in (
         draws,
         subst (λ ms. BatchRecords w ms draws (all_commands stages)) (sym c.2) (subst (BatchRecords w (map model c.0) draws) all are),
         new.0,

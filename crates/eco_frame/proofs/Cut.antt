@@ -29,7 +29,7 @@ next_piece (r ∷ rows) h =
 -- so many rows as there are, and n at most, are taken off
 drop_min : (n : ℕ) (rows : List ValuedRow) → drop (min n (length rows)) rows ≡ drop n rows
 drop_min zero rows = let none : min 0 (length rows) ≡ 0 = omega arith in ap (λ m. drop m rows) none
-drop_min (suc n) [] = drop-nil (min (suc n) (length []))
+drop_min (suc n) [] = drop-nil (min (suc n) 0)
 drop_min (suc n) (r ∷ rows) =
     let first : min (suc n) (suc (length rows)) ≡ suc (min n (length rows)) = omega arith in
     ap (λ m. drop m (r ∷ rows)) first ∙ drop_min n rows

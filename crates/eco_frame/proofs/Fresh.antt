@@ -1,5 +1,5 @@
 -- Batches of which each number from a base to below a limit is drawn once: as fresh handles, their draws are what frames ask of draws.
-use Rattle.std.proofs.Common.{◌≡◌, ◌↔◌, ℕ, zero, suc, ◌+◌, ◌-◌, ◌<◌, ◌≤◌, min, Bool, true, false, not, cond, ◌&&◌, ◌||◌, eqb, leb, ltb, List, [], ◌∷◌, ◌++◌}
+use Rattle.std.proofs.Common.{◌≡◌, ℕ, zero, suc, ◌+◌, ◌-◌, ◌<◌, ◌≤◌, min, Bool, true, not, cond, ◌&&◌, ◌||◌, eqb, ltb, List, [], ◌∷◌, ◌++◌}
 use Rattle.std.proofs.Common.{length, map, IsTrue, is_eq, is_lt, refl, sym, ap, ◌∙◌, subst, arith}
 use Rattle.std.specs.List.{All, AllByRecursion, concat, list_all, range_with_len}
 use Rattle.std.specs.Ordering.{nat_cmp, ordering_then}
@@ -142,7 +142,7 @@ fresh_until base limit own draws shape up each =
     let is : drawn draws ≡ map fresh xs = ap joined shape ∙ joined_fresh own in
     let count : length (drawn draws) ≡ limit - base = ap length is ∙ length-map xs fresh ∙ length_is base limit xs all in
     let has : (e : Entity) → has_item entity_cmp (drawn draws) e ≡ (eqb 0 e.generation && ltb 0 (once base limit e.index)) =
-        λ e. ap (λ l. has_item entity_cmp l e) is ∙ has_fresh xs e ∙ ap (λ t. eqb 0 e.generation && ltb 0 t) (all e.index) in (
+    λ e. ap (λ l. has_item entity_cmp l e) is ∙ has_fresh xs e ∙ ap (λ t. eqb 0 e.generation && ltb 0 t) (all e.index) in (
       record {
         exact = λ e. (
           λ k. inside (length (drawn draws)) e.index e.generation count (sym (has e) ∙ k),
@@ -187,8 +187,8 @@ ascending_batch base n own draws shape up each =
     let size : (base + n) - base ≡ n = omega arith in
     let count : length (drawn draws) ≡ n = ap length is ∙ length-map xs fresh ∙ length_is base (base + n) xs all ∙ size in
     let has : (e : Entity) → has_item entity_cmp (map fresh xs) e ≡ has_item entity_cmp (fresh_from base n) e = λ e.
-        has_fresh xs e ∙ ap (λ t. eqb 0 e.generation && ltb 0 t) (all e.index ∙ sym (times_range base n e.index))
-        ∙ sym (has_fresh (range_with_len base n) e) in
+    has_fresh xs e ∙ ap (λ t. eqb 0 e.generation && ltb 0 t) (all e.index ∙ sym (times_range base n e.index))
+    ∙ sym (has_fresh (range_with_len base n) e) in
     is ∙ same_members entity_cmp_total same_entity (map fresh xs) (fresh_from base n) (fresh_up xs ∙ up) (fresh_up (range_with_len base n) ∙ range_up base n)
-        (λ e. (λ k. sym (has e) ∙ k, λ k. has e ∙ k))
+    (λ e. (λ k. sym (has e) ∙ k, λ k. has e ∙ k))
     ∙ ap (fresh_from base) (sym count)

@@ -4,7 +4,6 @@ use Rattle.std.proofs.lemmas.List.{map-append}
 use Rattle.eco_ids.specs.Run.{Command}
 use Rattle.eco_systems.specs.Batches.{joined}
 use Rattle.eco_workers.specs.Batches.{AreStages}
-use Rattle.eco_workers.specs.Entries.{IsStage}
 
 pub joined_map : {A B : Type 0} (f : A → B) (xss : List (List A)) → joined (map (map f) xss) ≡ map f (joined xss)
 joined_map f [] = refl

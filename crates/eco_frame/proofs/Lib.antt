@@ -5,6 +5,7 @@ pub mod Fresh
 pub mod Grouped
 pub mod Merged
 pub mod Placed
+pub mod Ran
 pub mod Recorded
 pub mod Turns
 pub mod Within

@@ -1,15 +1,15 @@
 -- A batch that was recorded and merged has run.
-use Rattle.std.proofs.Common.{◌≡◌, ℕ, ◌+◌, ◌≤◌, Bool, true, false, true≢false, List, [], ◌∷◌, ◌++◌, length, Result, Ok, Err, is_ok, refl, sym, ap, ◌∙◌, subst, arith}
-use Rattle.std.proofs.Common.{IsTrue, MatchBool, unwrap_or, vec_capacity, suc}
+use Rattle.std.proofs.Common.{◌≡◌, ℕ, ◌+◌, ◌≤◌, Bool, true, true≢false, List, [], ◌∷◌, length, Ok, Err, is_ok, refl, sym, ap, ◌∙◌, subst}
+use Rattle.std.proofs.Common.{IsTrue, MatchBool, unwrap_or, suc}
 use Rattle.std.specs.Result.{result_ok}
 use Rattle.std.proofs.lemmas.Bool.{le-leb}
 use Rattle.eco_ids.specs.declared.refusal.Refusal.{Refusal}
 use Rattle.eco_ids.specs.declared.refusal.Refusal.TheVariants.{NoMoreIds, OutOfMemory}
 use Rattle.eco_ids.specs.Births.{may_admit}
-use Rattle.eco_ids.specs.Outcome.{Meets, Refuses, is_out_of_memory}
+use Rattle.eco_ids.specs.Outcome.{Meets, Refuses}
 use Rattle.eco_ids.specs.Run.{Command, Runs}
 use Rattle.eco_ids.specs.World.{WorldState, entities}
-use Rattle.eco_systems.specs.Frames.{Outcomes, drawn, with_admitted}
+use Rattle.eco_systems.specs.Frames.{Outcomes, with_admitted}
 use Rattle.eco_systems.specs.Systems.{SystemModel}
 use Rattle.eco_world.specs.Merging.{Merges, RunsAdmitted}
 use Rattle.eco_frame.specs.Pieces.{IsRecorded}
@@ -57,8 +57,15 @@ has_run workers w new batch cs n before after os r most m total draws count more
     record {
       draws = r.0;
       outcomes = os;
-      runs = (((r.2, subst (λ k. IsTrue (may_admit (entities w) k)) (sym r.3) (admits w n cs most)), cs, r.1,
-          subst (λ k. Runs (with_admitted k w) cs os new) (sym r.3) runs), r.4);
+      runs = (
+        (
+          (r.2, subst (λ k. IsTrue (may_admit (entities w) k)) (sym r.3) (admits w n cs most)),
+          cs,
+          r.1,
+          subst (λ k. Runs (with_admitted k w) cs os new) (sym r.3) runs,
+        ),
+        r.4,
+      );
       reports = is.reports;
       commands = is.commands_are ∙ count ∙ ap (λ k. before.commands + k) (sym len);
       drawn = is.drawn_are ∙ more ∙ ap (λ k. before.drawn + k) (sym r.3);

@@ -1,25 +1,19 @@
 -- What pieces record is what their systems record.
-use Rattle.std.proofs.Common.{◌≡◌, ℕ, ◌+◌, ◌≤◌, ◌<◌, List, [], ◌∷◌, ◌++◌, map, take, drop, length, Bool, Some, refl, sym, ap, ◌∙◌, subst, arith}
-use Rattle.std.proofs.Common.{flat_map, length-append, IsTrue, eq-eqb}
+use Rattle.std.proofs.Common.{◌≡◌, ℕ, ◌≤◌, List, [], ◌∷◌, ◌++◌, map, take, drop, length, Bool, refl, sym, ap, ◌∙◌, subst, arith}
+use Rattle.std.proofs.Common.{length-append, eq-eqb}
 use Rattle.std.proofs.lemmas.List.{take-append-drop, length-take-le, length-map, nil_from_length}
 use Rattle.eco_ids.specs.declared.entity.Entity.{Entity}
 use Rattle.eco_ids.specs.declared.pattern.Pattern.{Pattern}
 use Rattle.eco_ids.specs.Run.{Command}
-use Rattle.eco_ids.specs.World.{WorldState}
 use Rattle.eco_systems.specs.Batches.{joined}
-use Rattle.eco_systems.specs.Recording.{BatchRecords, PiecesRecord, RowsRecord, pieces_of}
-use Rattle.eco_systems.specs.Rows.{ValuedRow, rows_of}
-use Rattle.eco_bodies.specs.Taking.{commands_of, taken_of, takes}
+use Rattle.eco_systems.specs.Recording.{PiecesRecord, RowsRecord}
+use Rattle.eco_systems.specs.Rows.{ValuedRow}
+use Rattle.eco_bodies.specs.Taking.{commands_of, taken_of}
 use Rattle.eco_bodies.specs.declared.systems.System.{System}
 use Rattle.eco_workers.specs.Batches.{AreStages}
 use Rattle.eco_workers.specs.Taking.{by_index, fresh}
 use Rattle.eco_frame.specs.Models.{model_of}
-use Rattle.eco_frame.specs.Pieces.{part_of, piece_commands, piece_taken, pieces_in}
-
--- the law of bodies: what they look at is what they take
-abbrev pub Settled : {B : Type 0} → (B → ValuedRow → List Entity → ℕ) → (B → ValuedRow → List Entity → List Command) → Type 0
-Settled {B} taken commands = (b : B) (row : ValuedRow) (mine later : List Entity) → taken b row (mine ++ later) ≡ length mine
-    → (taken b row mine ≡ length mine) × (commands b row (mine ++ later) ≡ commands b row mine)
+use Rattle.eco_frame.specs.Pieces.{Settled, piece_commands, piece_taken}
 
 module _ {B : Type 0} (reads writes : B → List Pattern) (kills : B → Bool) (taken : B → ValuedRow → List Entity → ℕ)
     (commands : B → ValuedRow → List Entity → List Command) (settled : Settled taken commands) where
@@ -36,8 +30,7 @@ module _ {B : Type 0} (reads writes : B → List Pattern) (kills : B → Bool) (
       let len = ap length split in
       let most : n ≤ length draws = omega (arith, h) in
       let long : length mine ≡ n = length-take-le n draws most in
-      let own = settled s.body row mine others (ap (taken s.body row) split ∙ sym long) in
-      (
+      let own = settled s.body row mine others (ap (taken s.body row) split ∙ sym long) in (
         mine,
         others,
         commands_of (commands s.body) (taken s.body) rows others,
@@ -60,8 +53,7 @@ module _ {B : Type 0} (reads writes : B → List Pattern) (kills : B → Bool) (
   pieces_record s (p ∷ ps) (d ∷ ds) [] h = absurd h
   pieces_record s (p ∷ ps) (d ∷ ds) (x ∷ xs) h =
       let draws = map fresh d in
-      let record_ = rows_record s p draws (h.0.0 ∙ sym (length-map d fresh)) in
-      (
+      let record_ = rows_record s p draws (h.0.0 ∙ sym (length-map d fresh)) in (
         x,
         joined xs,
         subst (RowsRecord (model_of reads writes kills taken commands s) p draws) (sym h.0.1) record_,

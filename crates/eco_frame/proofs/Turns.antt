@@ -1,10 +1,9 @@
 -- Batches that ran one after another, and one more.
-use Rattle.std.proofs.Common.{◌≡◌, ℕ, ◌+◌, List, [], ◌∷◌, ◌++◌, length, refl, sym, ap, ◌∙◌, subst, append_assoc, arith, length-append, map}
+use Rattle.std.proofs.Common.{◌≡◌, ℕ, ◌+◌, List, [], ◌∷◌, ◌++◌, length, refl, sym, ap, ◌∙◌, subst, append_assoc, arith, length-append}
 use Rattle.std.proofs.lemmas.List.{append-nil}
 use Rattle.eco_ids.specs.World.{WorldState}
-use Rattle.eco_systems.specs.Batches.{AreBatches, joined}
-use Rattle.eco_systems.specs.Frames.{BatchDraws, Goes, GoesSoFar, InTurn, Outcomes, drawn}
-use Rattle.eco_systems.specs.Phases.{in_order}
+use Rattle.eco_systems.specs.Batches.{joined}
+use Rattle.eco_systems.specs.Frames.{BatchDraws, InTurn, Outcomes, drawn}
 use Rattle.eco_systems.specs.Systems.{SystemModel}
 use Rattle.eco_frame.specs.Progresses.{HasRun, HaveRun, RunsBy}
 use Rattle.eco_frame.specs.Reports.{drawn_in}
@@ -25,7 +24,7 @@ module _ (Goes : WorldState → List SystemModel → BatchDraws → Outcomes →
 module _ (One Other : WorldState → List SystemModel → BatchDraws → Outcomes → WorldState → Type 0)
     (weaker : (w : WorldState) (b : List SystemModel) (d : BatchDraws) (o : Outcomes) (new : WorldState) → One w b d o new → Other w b d o new) where
   -- batches that go in one way go in the other
-  turns_weaker : (w : WorldState) (bs : List (List SystemModel)) (ds : List BatchDraws) (os : Outcomes) (new : WorldState)
+  pub turns_weaker : (w : WorldState) (bs : List (List SystemModel)) (ds : List BatchDraws) (os : Outcomes) (new : WorldState)
       → InTurn One w bs ds os new → InTurn Other w bs ds os new
   turns_weaker w [] [] os new h = h
   turns_weaker w [] (x ∷ ds) os new h = absurd h

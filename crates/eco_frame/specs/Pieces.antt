@@ -1,5 +1,5 @@
 -- The systems of a batch with their rows, and the pieces that these are cut into.
-use Rattle.std.specs.Prelude.{◌≡◌, ℕ, ◌+◌, ◌-◌, List, drop, flat_map, length, map, option_map, option_to_list, slice_get, take}
+use Rattle.std.specs.Prelude.{◌≡◌, ℕ, ◌-◌, ◌++◌, List, drop, flat_map, length, map, option_map, option_to_list, slice_get, take}
 use Rattle.eco_ids.specs.declared.entity.Entity.{Entity}
 use Rattle.eco_ids.specs.Run.{Command}
 use Rattle.eco_ids.specs.World.{WorldState}
@@ -57,6 +57,12 @@ module _ {B : Type 0} where
     abbrev pub IsRunOut : WorldState → List (System B) → List ℕ → Type 0
     IsRunOut w systems places =
         IsOut (by_index piece_commands) (by_index piece_taken) (pieces_at w systems places) (length w.indices) w.limit
+
+-- the law of bodies: what they look at of the handles that are there to draw is what they take
+abbrev pub Settled : {B : Type 0} → (B → ValuedRow → List Entity → ℕ) → (B → ValuedRow → List Entity → List Command) → Type 0
+Settled {B} taken commands =
+    (b : B) (row : ValuedRow) (mine later : List Entity) → taken b row (mine ++ later) ≡ length mine
+    → (taken b row mine ≡ length mine) × (commands b row (mine ++ later) ≡ commands b row mine)
 
 -- a batch recorded these commands, and drew so many handles, which are fresh; of one worker they ascend over all pieces in order
 abbrev pub IsRecorded : ℕ → WorldState → List SystemModel → List Command → ℕ → Type 0

@@ -1,5 +1,5 @@
 -- What a frame has done so far.
-use Rattle.std.specs.Prelude.{◌≡◌, ℕ, ◌+◌, List, [], ◌∷◌, ◌++◌, length, vec_len, vec_capacity}
+use Rattle.std.specs.Prelude.{◌≡◌, ℕ, ◌+◌, List, [], ◌∷◌, ◌++◌, length, vec_capacity}
 use Rattle.eco_ids.specs.World.{WorldState}
 use Rattle.eco_systems.specs.Batches.{joined}
 use Rattle.eco_systems.specs.Frames.{AreAscending, BatchDraws, BatchRuns, InTurn, Outcomes, drawn}

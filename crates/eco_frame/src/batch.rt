@@ -5,7 +5,7 @@ ghost use Rattle.eco_ids.specs.declared.refusal.Refusal.TheVariants.{NoMoreIds};
 ghost use Rattle.eco_workers.specs.Taking.{IsStopped};
 ghost use Rattle.eco_world.specs.Merging.{all_commands};
 ghost use Rattle.eco_frame.specs.Models.{model_at, model_of};
-ghost use Rattle.eco_frame.specs.Pieces.{IsRecorded, IsRunOut};
+ghost use Rattle.eco_frame.specs.Pieces.{IsRecorded, IsRunOut, Settled};
 ghost use Rattle.eco_frame.specs.Progresses.{HasRun};
 
 use crate::part::{parts, pieces};
@@ -17,6 +17,11 @@ use eco_workers::run_batch;
 use eco_world::World;
 use std::alloc::Global;
 use std::thread::Threads;
+
+// Does nothing, and its contract is the law of bodies that they look at no more of the handles than they take.
+fn are_settled<B: SystemBody>()
+    ensures { Settled B.taken B.commands }
+{}
 
 // Records the systems at some positions of declaration on a world. Answers the stages of their pieces in order, and how many
 // handles were drawn.
@@ -39,6 +44,7 @@ fn record<B: SystemBody + Sync, R: Threads + Sync>(
         → IsRunOut B.taken B.commands world.now systems.now places.now) }
 {
     world.is_lawful();
+    are_settled::<B>();
     let parts = parts(alloc, world, systems, places)?;
     let pieces = pieces(alloc, &parts)?;
     run_batch(rt, alloc, &pieces, workers, world.high(), world.limit())

@@ -1,8 +1,9 @@
 //! Frames: all batches of a list of systems, one after another.
 ghost use Rattle.std.specs.Prelude.{◌≡◌, ◌<◌, ◌≤◌, [], length, map, take, vec_capacity, vec_len, IfErr, IfOk, OnOk};
-ghost use Rattle.std.specs.List.{All};
+ghost use Rattle.std.specs.List.{All, AllByRecursion};
 ghost use Rattle.eco_ids.specs.declared.refusal.Refusal.TheVariants.{NoMoreIds};
 ghost use Rattle.eco_systems.specs.Frames.{BatchRuns, BatchRunsSolo};
+ghost use Rattle.eco_systems.specs.Systems.{IsLawfulSystem};
 ghost use Rattle.eco_workers.specs.Taking.{IsStopped};
 ghost use Rattle.eco_frame.specs.Models.{ArePlaced, model_at, model_of};
 ghost use Rattle.eco_frame.specs.Progresses.{HaveRun};
@@ -14,11 +15,21 @@ use crate::points::sync_points;
 use crate::progress::Progress;
 use crate::report::FrameReport;
 use crate::stop::FrameStop;
-use eco_bodies::{System, SystemBody, Systems};
+use eco_bodies::{System, SystemBody, Systems, systems_are_lawful};
 use eco_ids::Refusal;
 use eco_world::World;
 use std::alloc::{AllocError, Global};
 use std::thread::Threads;
+
+// Does nothing, and its contract says that the systems keep the law of systems.
+fn are_lawful<B: SystemBody>(systems: &[System<B>])
+    ensures { AllByRecursion IsLawfulSystem
+        (map (model_of B.reads_of B.writes_of B.kills_of B.taken B.commands) systems.now) }
+{
+    for system in systems {
+        systems_are_lawful(system.phase, &system.query, &system.body);
+    }
+}
 
 // The batches of a frame, and room for what they will have done.
 fn begin<B: SystemBody + Drop>(
@@ -96,13 +107,22 @@ pub fn run_frame<B: SystemBody + Sync + Drop, R: Threads + Sync>(
     world.is_lawful();
     eco_systems::laws::frames_are_one_by_one();
     eco_systems::laws::batches_are_unique();
+    are_lawful(systems.as_slice());
     let Ok((batches, mut done)) = begin(alloc, world, systems) else {
         return Err(FrameStop {
             batches: 0,
             refusal: Refusal::OutOfMemory,
         });
     };
-    match run_all(rt, alloc, world, systems.as_slice(), &batches, workers, &mut done) {
+    match run_all(
+        rt,
+        alloc,
+        world,
+        systems.as_slice(),
+        &batches,
+        workers,
+        &mut done,
+    ) {
         Ok(()) => Ok(done.into_report()),
         Err(refusal) => Err(FrameStop {
             batches: done.reports.len(),

@@ -33,7 +33,10 @@ impl Model for FrameReport {
     ghost Value = { FrameDone };
 
     ghost view = { λ r. record {
-        batches = length r.reports.items; outcomes = joined r.reports.items; drawn = r.drawn } };
+      batches = length r.reports.items;
+      outcomes = joined r.reports.items;
+      drawn = r.drawn;
+    } };
 
     ghost invariant = { λ r. r.commands ≡ length (joined r.reports.items) };
 }
@@ -43,7 +46,10 @@ impl FrameReport {
     pub(crate) fn of(reports: Vec<Report>, commands: usize, drawn: u32) -> FrameReport
         requires { commands ≡ length (joined reports.items) }
         ensures { result ≡ record {
-            batches = length reports.items; outcomes = joined reports.items; drawn = drawn } }
+          batches = length reports.items;
+          outcomes = joined reports.items;
+          drawn = drawn;
+        } }
     {
         FrameReport {
             reports,

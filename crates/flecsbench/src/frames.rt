@@ -83,11 +83,7 @@ impl Simulation {
     }
 
     // So many entities, each with these values of the components.
-    fn make_entities(
-        &mut self,
-        count: u32,
-        values: &[(Entity, Value)],
-    ) -> Result<(), Refusal> {
+    fn make_entities(&mut self, count: u32, values: &[(Entity, Value)]) -> Result<(), Refusal> {
         for _ in 0..count {
             let entity = self.world.create(None)?;
             for (component, value) in values {

@@ -1,4 +1,4 @@
-use Rattle.std.proofs.Common.{◌≡◌, ℕ, ◌-◌, ◌≤◌, ◌++◌, drop, length, map}
+use Rattle.std.proofs.Common.{◌≡◌, ◌-◌, ◌≤◌, ◌++◌, drop, length, map}
 use Rattle.eco_frame.specs.Pieces.{pieces_in, seen_part, seen_piece}
 use Rattle.eco_frame.proofs.part.add_pieces.Given as goal
 

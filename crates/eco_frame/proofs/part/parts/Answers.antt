@@ -1,4 +1,4 @@
-use Rattle.std.proofs.Common.{rules, ◌≡◌, ◌++◌, ◌∷◌, ◌+◌, ◌<◌, [], Some, flat_map, length, map, option_map, option_to_list, refl, slice_get, sym, take, ap, ◌∙◌, get_or}
+use Rattle.std.proofs.Common.{rules, ◌≡◌, ◌++◌, ◌∷◌, [], flat_map, length, map, option_map, option_to_list, refl, sym, take, ap, ◌∙◌, get_or}
 use Rattle.std.proofs.lemmas.Grind.{flat_map-append}
 use Rattle.std.proofs.lemmas.List.{append-nil, map_push, take_more}
 use Rattle.std.proofs.lemmas.Option.{slice_get_read}

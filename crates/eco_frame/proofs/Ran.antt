@@ -1,0 +1,87 @@
+-- Frames that ran, and their reports.
+use Rattle.std.proofs.Common.{◌≡◌, ℕ, ◌≤◌, List, [], ◌∷◌, ◌++◌, length, map, take, drop, Result, Ok, Err, refl, sym, ap, ◌∙◌, subst, arith}
+use Rattle.std.proofs.lemmas.List.{map-append, take-append-drop, take_all}
+use Rattle.std.specs.List.{AllByRecursion}
+use Rattle.eco_ids.specs.Lawful.{IsLawful}
+use Rattle.eco_ids.specs.World.{WorldState}
+use Rattle.eco_systems.specs.Batches.{AreBatches, joined}
+use Rattle.eco_systems.specs.Frames.{BatchDraws, BatchRuns, BatchRunsSolo, Outcomes}
+use Rattle.eco_systems.specs.Laws.{FramesAreSolo, StoppedAreSolo}
+use Rattle.eco_systems.specs.Phases.{in_order}
+use Rattle.eco_systems.specs.Systems.{IsLawfulSystem, SystemModel}
+use Rattle.eco_frame.specs.Models.{ArePlaced, model_at}
+use Rattle.eco_frame.specs.Progresses.{HaveRun, RunsBy, done_of}
+use Rattle.eco_frame.specs.Reports.{AscendingRuns, FrameDone, Frames}
+use Rattle.eco_frame.specs.declared.progress.Progress.{Progress}
+use Rattle.eco_frame.specs.declared.stop.FrameStop.{FrameStop}
+use Rattle.eco_frame.proofs.Turns.{turns_weaker}
+
+map_twice : {V A X : Type 0} (f : A → X) (items : V → List A) (vs : List V) → map (λ v. map f (items v)) vs ≡ map (map f) (map items vs)
+map_twice f items [] = refl
+map_twice f items (v ∷ vs) = ap (λ l. map f (items v) ∷ l) (map_twice f items vs)
+
+-- it stopped before its first batch
+pub stopped_at_once : (Way : WorldState → List SystemModel → BatchDraws → Outcomes → WorldState → Type 0) (w : WorldState) (systems : List SystemModel)
+    (batches : List (List SystemModel)) → AreBatches w (in_order systems) batches → (stop : FrameStop) → stop.batches ≡ 0 → Frames Way w systems (Err stop) w
+stopped_at_once Way w systems batches h stop none = ([], [], ([], batches, h, (refl, refl)), none)
+
+module _ (workers : ℕ) (w new : WorldState) (systems : List SystemModel) {V : Type 0} (items : V → List ℕ) (batches : List V) (p : Progress) where
+  -- all batches ran
+  pub all_ran : ArePlaced w systems (map items batches) → HaveRun workers w (map (λ b. map (model_at systems) (items b)) batches) p new
+      → Frames (RunsBy workers) w systems (Ok (done_of p)) new
+  all_ran placed h =
+      let shape = map_twice (model_at systems) items batches in
+      (h.draws, (map (λ b. map (model_at systems) (items b)) batches, subst (AreBatches w (in_order systems)) (sym shape) placed.1, h.run), h.count, h.drawn)
+
+  -- the first ones ran
+  pub some_ran : (k : ℕ) (stop : FrameStop) → stop.batches ≡ length p.reports.items → ArePlaced w systems (map items batches)
+      → HaveRun workers w (map (λ b. map (model_at systems) (items b)) (take k batches)) p new → Frames (RunsBy workers) w systems (Err stop) new
+  some_ran k stop count placed h =
+      let f : V → List SystemModel = λ b. map (model_at systems) (items b) in
+      let whole : map f (take k batches) ++ map f (drop k batches) ≡ map (map (model_at systems)) (map items batches) =
+      sym (map-append f (take k batches) (drop k batches)) ∙ ap (map f) (take-append-drop k batches) ∙ map_twice (model_at systems) items batches in (
+        h.draws,
+        joined p.reports.items,
+        (map f (take k batches), map f (drop k batches), subst (AreBatches w (in_order systems)) (sym whole) placed.1, h.run),
+        count ∙ h.count,
+      )
+
+-- the same, as the code finds systems and batches
+module _ (workers : ℕ) (w new : WorldState) {S V : Type 0} (f : S → SystemModel) (items : V → List ℕ) (own systems : List S) (those batches : List V) (p : Progress)
+    (same : own ≡ systems) (alike : those ≡ batches) (placed : ArePlaced w (map f systems) (map items batches)) (n : ℕ)
+    (ran : HaveRun workers w (map (λ b. map (model_at (map f own)) (items b)) (take n those)) p new) where
+  found : HaveRun workers w (map (λ b. map (model_at (map f systems)) (items b)) (take n batches)) p new
+  found = subst (λ bs. HaveRun workers w (map (λ b. map (model_at (map f systems)) (items b)) (take n bs)) p new) alike
+      (subst (λ ss. HaveRun workers w (map (λ b. map (model_at (map f ss)) (items b)) (take n those)) p new) same ran)
+
+  pub whole_frame : n ≡ length those → (r : FrameDone) → r ≡ done_of p → Frames (RunsBy workers) w (map f systems) (Ok r) new
+  whole_frame all r is =
+      let enough : length batches ≤ n = let long = ap length alike in omega (arith, all, long) in
+      subst (λ x. Frames (RunsBy workers) w (map f systems) (Ok x) new) (sym is)
+      (all_ran workers w new (map f systems) items batches p placed
+      (subst (λ bs. HaveRun workers w (map (λ b. map (model_at (map f systems)) (items b)) bs) p new) (take_all n batches enough) found))
+
+  pub stopped_frame : (stop : FrameStop) → stop.batches ≡ length p.reports.items → Frames (RunsBy workers) w (map f systems) (Err stop) new
+  stopped_frame stop count = some_ran workers w new (map f systems) items batches p n stop count placed found
+
+-- a frame whose batches go in one way is one whose batches go in the other
+frames_weaker : (One Other : WorldState → List SystemModel → BatchDraws → Outcomes → WorldState → Type 0)
+    → ((w : WorldState) (b : List SystemModel) (d : BatchDraws) (o : Outcomes) (new : WorldState) → One w b d o new → Other w b d o new)
+    → (w : WorldState) (systems : List SystemModel) (r : Result FrameDone FrameStop) (new : WorldState) → Frames One w systems r new → Frames Other w systems r new
+frames_weaker One Other weaker w systems (Ok r) new h =
+    (h.0, (h.1.0, h.1.1, turns_weaker One Other weaker w h.1.0 h.0 r.outcomes new h.1.2), h.2, h.3)
+frames_weaker One Other weaker w systems (Err s) new h =
+    (h.0, h.1, (h.2.0, h.2.1, h.2.2, turns_weaker One Other weaker w h.2.0 h.0 h.1 new h.2.3), h.3)
+
+module _ (workers : ℕ) (w : WorldState) (systems : List SystemModel) (r : Result FrameDone FrameStop) (new : WorldState) where
+  pub frame_of : Frames (RunsBy workers) w systems r new → Frames BatchRuns w systems r new
+  frame_of = frames_weaker (RunsBy workers) BatchRuns (λ v b d o n h. h.0) w systems r new
+
+  pub alone_of : Frames (RunsBy workers) w systems r new → workers ≡ 1 → Frames AscendingRuns w systems r new
+  alone_of f one = frames_weaker (RunsBy workers) AscendingRuns (λ v b d o n h. (h.0, h.1 one)) w systems r new f
+
+-- a frame of lawful systems on a lawful world is the run of its systems one by one
+pub solo_of : FramesAreSolo → StoppedAreSolo → (w : WorldState) (systems : List SystemModel) (r : Result FrameDone FrameStop) (new : WorldState)
+    → IsLawful w → AllByRecursion IsLawfulSystem systems → Frames BatchRuns w systems r new → Frames BatchRunsSolo w systems r new
+solo_of whole stopped w systems (Ok r) new lawful all h = (h.0, whole w systems h.0 r.outcomes new lawful all h.1, h.2, h.3)
+solo_of whole stopped w systems (Err s) new lawful all h = (h.0, h.1, stopped w systems h.0 h.1 new lawful all h.2, h.3)

@@ -30,6 +30,7 @@ mod exchanging;
 mod preparing;
 mod searching;
 mod stepping;
+mod sweeping;
 mod turning;
 mod widths;
 
@@ -261,18 +262,6 @@ impl Archetypes {
             self.by_id.take_all(type_list.as_slice(), slot);
             self.edges.cut(slot);
             self.caches.forget(slot);
-        }
-    }
-
-    /// Drops those tables in these slots that have no rows. No row changes. It takes no memory.
-    pub fn drop_each(&mut self, slots: &[usize])
-        ensures rowless { (others : List ℕ) →
-            RowlessIn self.old (slots.now ++ others) → RowlessIn self.new others }
-        ensures rows { SameRows self.old self.new }
-        ensures widths { KeepsWidths self.old self.new }
-    {
-        for slot in slots {
-            self.drop_empty(*slot);
         }
     }
 

@@ -248,8 +248,8 @@ impl Archetypes {
         }
     }
 
-    // What `drop_empty` does, apart, so that a table with rows costs no more than a look at it. Every table is dropped here:
-    // what is to be told of dropped tables is told here.
+    // What `drop_empty` does, apart, so that a table with rows costs no more than a look at it. Tables are dropped here
+    // and in `drop_together`: what is to be told of dropped tables is told in both.
     #[cold]
     #[inline(never)]
     fn forget(&mut self, slot: usize)

@@ -19,3 +19,4 @@ pub mod Widths
 pub mod NewWidths
 pub mod Named
 mod Places
+pub mod Sweeping

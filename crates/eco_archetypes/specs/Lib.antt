@@ -7,3 +7,4 @@ pub mod Edges
 pub mod Widths
 pub mod Archetypes
 pub mod Naming
+pub mod Sweeping

@@ -30,6 +30,7 @@ mod exchanging;
 mod preparing;
 mod searching;
 mod stepping;
+mod sweeping;
 mod turning;
 mod widths;
 
@@ -247,8 +248,8 @@ impl Archetypes {
         }
     }
 
-    // What `drop_empty` does, apart, so that a table with rows costs no more than a look at it. Every table is dropped here:
-    // what is to be told of dropped tables is told here.
+    // What `drop_empty` does, apart, so that a table with rows costs no more than a look at it. Tables are dropped here
+    // and in `drop_together`: what is to be told of dropped tables is told in both.
     #[cold]
     #[inline(never)]
     fn forget(&mut self, slot: usize)
@@ -261,18 +262,6 @@ impl Archetypes {
             self.by_id.take_all(type_list.as_slice(), slot);
             self.edges.cut(slot);
             self.caches.forget(slot);
-        }
-    }
-
-    /// Drops those tables in these slots that have no rows. No row changes. It takes no memory.
-    pub fn drop_each(&mut self, slots: &[usize])
-        ensures rowless { (others : List ℕ) →
-            RowlessIn self.old (slots.now ++ others) → RowlessIn self.new others }
-        ensures rows { SameRows self.old self.new }
-        ensures widths { KeepsWidths self.old self.new }
-    {
-        for slot in slots {
-            self.drop_empty(*slot);
         }
     }
 

@@ -1,10 +1,13 @@
 //! Edges between the slots of tables: which table an id more or less leads to.
-ghost use Rattle.std.specs.Prelude.{◌≡◌, ◌≢◌, ◌≤◌, ◌<◌, [], ℕ, length, List, Option, IsTrue, None, Some, OnOk, OnErr};
+ghost use Rattle.std.specs.Prelude.{◌≡◌, cond, ◌≢◌, ◌≤◌, ◌<◌, [], ℕ, length, List, Option, IsTrue, None, Some, OnOk, OnErr};
+ghost use Rattle.std.specs.HashMap.{get};
 ghost use Rattle.std.specs.Map.{lookup};
 ghost use Rattle.eco_ids.specs.declared.id.Id.{Id as Ids};
+ghost use Rattle.eco_archetypes.specs.Sweeping.{has_table, kept_if, KeepsEdges};
 ghost use Rattle.eco_archetypes.specs.Edges.{edge, same_id, IsTwofold, SameEdges, Puts, Links, TakesBack, Cuts};
 
 use eco_ids::Id;
+use eco_tables::Tables;
 use indexmap::IndexMap;
 use indexmap::map::Slice;
 use std::alloc::{AllocError, Global};
@@ -55,6 +58,13 @@ impl Edges {
         ensures err { OnErr result (SameEdges self.old.lists.items self.new.lists.items) }
     {
         link_both(self.alloc, &mut self.lists, from, id, to)
+    }
+
+    /// The edges from slots without a table, and to such slots, go. It takes no memory.
+    pub fn keep_there(&mut self, tables: &Tables)
+        ensures { KeepsEdges (has_table tables.now) self.old.lists.items self.new.lists.items }
+    {
+        keep_in_each(&mut self.lists, tables);
     }
 
     /// No edge leads from the slot or to it from now on. It takes no memory.
@@ -163,5 +173,28 @@ fn cut_all(alloc: Global, lists: &mut Vec<IndexMap<Id, usize>>, slot: usize)
         take_back(lists, &mut own);
         // Its room serves the edges of the next table in the slot.
         lists[slot] = own;
+    }
+}
+
+// Of each list the edges between slots that have tables stay.
+fn keep_in_each(lists: &mut Vec<IndexMap<Id, usize>>, tables: &Tables)
+    ensures { KeepsEdges (has_table tables.now) lists.old.items lists.new.items }
+{
+    for slot in 0..lists.len() {
+        keep_own(&mut lists[slot], slot, tables);
+    }
+}
+
+// Of the edges of a slot those stay that lead to a table, where the slot has one.
+fn keep_own(own: &mut IndexMap<Id, usize>, slot: usize, tables: &Tables)
+    ensures { (i : Ids) → get same_id own.new i
+        ≡ cond (has_table tables.now slot) (kept_if (has_table tables.now) (get same_id own.old i)) None }
+{
+    if tables.contains(slot) {
+        // No two ids are equal, as the length says.
+        let _count = own.len();
+        own.retain(|_, to| tables.contains(*to));
+    } else {
+        own.clear();
     }
 }

@@ -25,6 +25,7 @@ mod names;
 mod numbers;
 mod shortest;
 mod slots;
+mod sweeping;
 mod turning;
 
 /// No model: the crate's contracts read the one field. A key of which no slot is listed is not kept, so the index does not

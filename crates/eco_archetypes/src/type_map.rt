@@ -2,9 +2,11 @@
 ghost use Rattle.std.specs.Prelude.{◌≡◌, ◌<◌, cond, List, Some, None, OnOk, IfOk};
 ghost use Rattle.std.specs.HashMap.{IsEmpty, IsUnchanged, Updates, get, spare};
 ghost use Rattle.eco_ids.specs.declared.id.Id.{Id as Ids};
+ghost use Rattle.eco_archetypes.specs.Sweeping.{has_table, kept_if};
 ghost use Rattle.eco_archetypes.specs.TypeMap.{same_ids};
 
 use eco_ids::TypeList;
+use eco_tables::Tables;
 use indexmap::IndexMap;
 use std::alloc::{AllocError, Global};
 
@@ -54,6 +56,16 @@ impl TypeMap {
         ensures { Updates same_ids self.old.slots self.new.slots type_list (Some slot) }
     {
         let _ = self.slots.insert(type_list, slot).unwrap();
+    }
+
+    /// The types whose slots have no table go. It takes no memory.
+    pub fn keep_there(&mut self, tables: &Tables)
+        ensures { (t : List Ids) → get same_ids self.new.slots t
+            ≡ kept_if (has_table tables.now) (get same_ids self.old.slots t) }
+    {
+        // No two types are equal, as the length says.
+        let _count = self.slots.len();
+        self.slots.retain(|_, slot| tables.contains(*slot));
     }
 
     /// The type has no slot from now on.

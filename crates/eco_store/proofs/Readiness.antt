@@ -16,7 +16,7 @@ use Rattle.eco_ids.proofs.Lists.{not_equal}
 use Rattle.eco_store.specs.declared.moving.Move.{Move}
 use Rattle.eco_archetypes.specs.Archetypes.{type_at, KeepsTypes, KeepsRoom, SameSlots, SameTypes}
 use Rattle.eco_store.specs.Preparing.{PreparedState, nothing_prepared, with_arrival, with_target, move_to, moves_of, has_move, AreOfDifferent, arriving}
-use Rattle.eco_store.specs.Preparing.{staying, IsReady, SameIn}
+use Rattle.eco_store.specs.Preparing.{staying, Includes, IsReady, SameIn}
 use Rattle.eco_archetypes.proofs.ArchetypeLemmas.{sets_types, typed_table}
 use Rattle.eco_store.proofs.Pouring.{same_ids_in, still_there, kept_type}
 use Rattle.eco_store.proofs.RowChanges.{is_equal}
@@ -135,6 +135,14 @@ targeted s p n ready = record {
   stays = λ k d within. still_targeted p n (get_or p.arrivals k d).1 (ready.stays k d within);
   room = ready.room;
 }
+
+-- who goes where is as before
+pub same_arrivals : (p q : PreparedState) → q.arrivals ≡ p.arrivals → q ≡ record p { targets = q.targets; idle = q.idle }
+same_arrivals p q same = λ t. record { arrivals = same t; targets = q.targets; idle = q.idle }
+
+-- the targets are as before
+pub same_included : (p q : PreparedState) → q.targets ≡ p.targets → Includes q.targets p.targets
+same_included p q same m = subst (λ slots. IsTrue (list_any (nat_eq m) slots)) (sym same)
 
 -- the slot is one of the targets
 pub is_targeted : (p : PreparedState) (n : ℕ) → IsTrue (list_any (nat_eq n) (with_target p n).targets)

@@ -47,6 +47,10 @@ pub record PreparedState : Type 0 where
   pub targets : List ℕ
   pub idle : List ℕ
 
+-- each of these slots is among the others
+abbrev pub Includes : List ℕ → List ℕ → Type 0
+Includes all some = (n : ℕ) → IsTrue (list_any (nat_eq n) some) → IsTrue (list_any (nat_eq n) all)
+
 -- each of these slots has what it had
 abbrev pub SameIn : List (Option TableState) → List (Option TableState) → List ℕ → Type 0
 SameIn old new slots = (n : ℕ) → IsTrue (list_any (nat_eq n) slots) → slot_of new n ≡ slot_of old n

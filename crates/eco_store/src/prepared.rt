@@ -1,5 +1,5 @@
 //! Moves of entities to other tables that have their room and are not yet made.
-ghost use Rattle.std.specs.Prelude.{◌≡◌, ◌∷◌, ◌↔◌, [], List, ℕ, length, nat_eq, not, IfOk, IfSome, IfNone, IsTrue, OnOk, OnErr};
+ghost use Rattle.std.specs.Prelude.{◌≡◌, ◌∷◌, ◌↔◌, [], List, ℕ, length, nat_eq, not, IfOk, IfSome, IfNone, IsTrue, IsFalse, OnOk, OnErr};
 ghost use Rattle.std.specs.List.{list_any};
 ghost use Rattle.eco_ids.specs.declared.entity.Entity.{Entity as Entities};
 ghost use Rattle.eco_ids.specs.Order.{entity_eq};
@@ -17,6 +17,9 @@ mod planning;
 // it is alone in them, each loses its last row.
 const IDLE_COUNT: usize = 8;
 
+// From so many tables on, those that lose all rows go together.
+const MANY_TABLES: usize = 16;
+
 /// A contract sees who goes to which slot, the next one first, and the slots whose tables stay though they may be without
 /// rows: those to which moves go, and the idle ones, whose tables lost their last row and are likely to get one soon again.
 #[derive(Drop)]
@@ -29,6 +32,8 @@ pub struct Prepared {
     idle: [usize; IDLE_COUNT],
     // Which of them goes next, counted round.
     turn: usize,
+    // Tables that lose all rows stay as targets.
+    gathers: bool,
 }
 
 impl Model for Prepared {
@@ -52,6 +57,7 @@ impl Prepared {
             targets: IndexSet::new(alloc),
             idle: [0; IDLE_COUNT],
             turn: 0,
+            gathers: false,
         }
     }
 
@@ -65,6 +71,7 @@ impl Prepared {
             targets: IndexSet::new(self.alloc),
             idle: self.idle,
             turn: self.turn,
+            gathers: false,
         }
     }
 
@@ -134,6 +141,23 @@ impl Prepared {
         Ok(added)
     }
 
+    /// So many tables may lose all rows: if they are many, each of them stays as a target from then on, and goes with the
+    /// others once nothing is prepared. Where there is no memory for that, they go one by one.
+    pub fn expect(&mut self, count: usize)
+        ensures { self.new ≡ self.old }
+    {
+        self.gathers = count >= MANY_TABLES && self.targets.reserve(count).is_ok();
+    }
+
+    /// The table in this slot lost all rows. The answer says whether it is one of the targets from then on, as tables are
+    /// that go together.
+    pub fn gather(&mut self, slot: usize) -> bool
+        ensures stays { IsTrue result → self.new ≡ with_target self.old slot }
+        ensures same { IsFalse result → self.new ≡ self.old }
+    {
+        self.gathers && self.add_target(slot).is_ok()
+    }
+
     /// The entity, which has no move to come, goes to this slot, before all others. An `Err` comes where memory is refused,
     /// and changes nothing.
     pub fn add(&mut self, entity: Entity, slot: usize) -> Result<(), AllocError>
@@ -170,5 +194,6 @@ impl Prepared {
     {
         self.arrivals.clear();
         self.targets.clear();
+        self.gathers = false;
     }
 }

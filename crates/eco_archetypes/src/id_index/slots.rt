@@ -1,8 +1,10 @@
 //! The slots of the tables that one key finds.
-ghost use Rattle.std.specs.Prelude.{◌≡◌, ◌≢◌, ◌∷◌, [], nat_eq, true, false, Some, IfOk, OnOk, OnErr};
+ghost use Rattle.std.specs.Prelude.{◌≡◌, ◌≢◌, ◌∷◌, ◌&&◌, ℕ, [], nat_eq, true, false, Some, IfOk, OnOk, OnErr};
 ghost use Rattle.std.specs.List.{list_any, IsDistinct};
+ghost use Rattle.eco_archetypes.specs.Sweeping.{has_table};
 ghost use Rattle.eco_archetypes.specs.IdIndex.{slots_of, is_empty, is_only, SameSlotsOf, TurnsSlot};
 
+use eco_tables::Tables;
 use indexmap::IndexSet;
 use std::alloc::{AllocError, Global};
 use std::slice;
@@ -63,6 +65,21 @@ impl Slots {
     {
         let slots = self.as_slice();
         slots.len() == 1 && slots[0] == slot
+    }
+
+    /// The slots without a table go. The answer is whether one is left; if not, a slot may still stand here.
+    pub fn keep_there(&mut self, tables: &Tables) -> bool
+        ensures left { (n : ℕ) → (result && list_any (nat_eq n) (slots_of self.new))
+            ≡ (list_any (nat_eq n) (slots_of self.old) && has_table tables.now n) }
+        ensures full { result ≡ true → is_empty (Some self.new) ≡ false }
+    {
+        match self {
+            Slots::One(own) => tables.contains(*own),
+            Slots::Many(slots) => {
+                slots.retain(|slot| tables.contains(*slot));
+                !slots.is_empty()
+            }
+        }
     }
 
     /// Takes the slot from the others, if it is one of them.

@@ -59,6 +59,8 @@ impl Layout {
             .prepared
             .plan_changes(entities, &mut self.archetypes, changes);
         if let Ok(transfers) = &planned {
+            self.prepared
+                .expect(dead.len().min(self.archetypes.tables().len()));
             // The tables of the transfers stay, though the deaths may leave them without rows.
             carry_out(
                 entities,

@@ -1,12 +1,12 @@
-use Rattle.std.proofs.Common.{◌≡◌, ◌-◌, length, take, drop, refl, sym, ap, subst, ◌∙◌, arith}
+use Rattle.std.proofs.Common.{◌≡◌, ◌-◌, length, take, drop, refl, sym, ap, ◌∙◌, arith}
 use Rattle.std.proofs.lemmas.List.{length-drop, take_all}
 use Rattle.eco_ids.specs.Order.{entity_cmp, has_item}
 use Rattle.eco_store.specs.Deaths.{after_deaths}
 use Rattle.eco_store.specs.Preparing.{PreparedState}
 use Rattle.eco_store.specs.Store.{read}
-use Rattle.eco_store.specs.Transfers.{Thins}
 use Rattle.eco_store.proofs.Dying.{more_die, nobody_dies}
-use Rattle.eco_store.proofs.Thinning.{thins_same, thins_both}
+use Rattle.eco_store.proofs.Readiness.{same_arrivals}
+use Rattle.eco_store.proofs.Thinning.{thins_same, thins_both, thins_fewer}
 use Rattle.eco_store.proofs.deaths.kill_all.Goals as goal
 
 pub loop-done-init : goal.loop-done-init
@@ -17,6 +17,7 @@ loop-done-init c = record {
   ready = c.requires.ready;
   tidy = c.requires.tidy;
   same = refl;
+  grown = λ n there. there;
   left = refl;
   thins = thins_same c.args.archetypes.now c.args.prepared.now.targets;
 }
@@ -39,11 +40,14 @@ loop-done-preserved c =
           ∙ more_die (read c.args.entities.now c.args.archetypes.now) es done c.kill_next-done.result;
       ready = next.ready;
       tidy = next.tidy;
-      same = next.same ∙ ap (λ (q : PreparedState). record q { idle = c.kill_next-done.new.prepared.idle }) was.same;
+      same =
+          same_arrivals c.args.prepared.now c.kill_next-done.new.prepared
+          (ap (λ (q : PreparedState). q.arrivals) next.same ∙ ap (λ (q : PreparedState). q.arrivals) was.same);
+      grown = λ n there. next.grown n (was.grown n there);
       left = next.left ∙ was.left;
       thins =
           thins_both c.args.archetypes.now s s1 c.args.prepared.now.targets was.thins
-          (subst (Thins s s1) (ap (λ (q : PreparedState). q.targets) was.same) next.thins);
+          (thins_fewer s s1 c.loop-done.prepared.targets c.args.prepared.now.targets was.grown next.thins);
     }
 
 pub returns-clause-read : goal.returns-clause-read

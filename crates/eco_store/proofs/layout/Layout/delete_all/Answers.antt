@@ -28,7 +28,7 @@ carry_out-requires-clause-store c =
     (subst (IsStore w) (sym (ap (λ (l : LayoutState). l.tables) c.self.view_is)) before)
 
 pub carry_out-requires-clause-tidy : goal.carry_out-requires-clause-tidy
-carry_out-requires-clause-tidy c = c.plan_changes-planned.ensures.tidy
+carry_out-requires-clause-tidy c = rw c.expect.ensures c.plan_changes-planned.ensures.tidy
 
 pub invariant_of-self : goal.invariant_of-self
 invariant_of-self c = c.forget-2.ensures.laid

@@ -1,7 +1,7 @@
 use Rattle.std.proofs.Common.{◌≡◌, ◌+◌, ◌++◌, ◌∷◌, [], take, get_or, sym, ap, ◌∙◌, subst, take_all}
 use Rattle.std.proofs.lemmas.List.{take_more, append_assoc}
 use Rattle.eco_archetypes.specs.Archetypes.{RowlessIn}
-use Rattle.eco_archetypes.proofs.archetypes.Archetypes.drop_each.Goals as goal
+use Rattle.eco_archetypes.proofs.archetypes.Archetypes.drop_in_turn.Goals as goal
 
 pub loop-slot-preserved : goal.loop-slot-preserved
 loop-slot-preserved c =

@@ -1,0 +1,11 @@
+use Rattle.eco_archetypes.specs.IdIndex.{lists_of}
+use Rattle.eco_archetypes.proofs.Sweeping.{found_swept, less_kept}
+use Rattle.eco_archetypes.proofs.Widths.{kept_widths}
+use Rattle.eco_archetypes.proofs.archetypes.Archetypes.drop_together.Goals as goal
+
+pub invariant_of-self : goal.invariant_of-self
+invariant_of-self c =
+    let own = c.self.inside in
+    found_swept own.tables c.drop_tables.new.tables c.drop_tables.ensures.less own.by_type.slots c.keep_there.new.self.slots
+    (lists_of own.by_id.slots) (lists_of c.keep_there-2.new.self.slots) own.edges.lists.items c.keep_there-3.new.self.lists.items c.self.invariant
+    c.keep_there.ensures c.keep_there-2.ensures c.keep_there-3.ensures (c.drop_tables.ensures.exact c.self.invariant.cached)

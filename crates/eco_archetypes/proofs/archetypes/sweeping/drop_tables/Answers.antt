@@ -1,0 +1,34 @@
+use Rattle.std.proofs.Common.{◌≡◌, ◌+◌, ◌++◌, ◌∷◌, [], take, get_or, refl, inl, sym, ap, ◌∙◌, subst, take_all}
+use Rattle.std.proofs.lemmas.List.{take_more, append_assoc}
+use Rattle.eco_archetypes.specs.Archetypes.{RowlessIn}
+use Rattle.eco_archetypes.proofs.Sweeping.{less_both}
+use Rattle.eco_archetypes.proofs.archetypes.sweeping.drop_tables.Goals as goal
+
+pub loop-slot-init : goal.loop-slot-init
+loop-slot-init c = record {
+  less = λ n. inl refl;
+  rowless = λ others was. was;
+  rows = λ n row. refl;
+  exact = λ was. was;
+}
+
+pub loop-slot-preserved : goal.loop-slot-preserved
+loop-slot-preserved c =
+    let xs = c.args.slots.now in
+    let i = c.loop-slot.slot-index in
+    record {
+      less = less_both c.args.tables.now c.loop-slot.tables c.drop_table.new.tables c.loop-slot.invariant.less c.drop_table.ensures.less;
+      rowless = λ others was.
+          let parts : take (i + 1) xs ++ others ≡ take i xs ++ (get_or xs i 0 ∷ others) =
+          ap (λ ys. ys ++ others) (take_more xs i 0 c.loop-slot-test.true) ∙ append_assoc (take i xs) (get_or xs i 0 ∷ []) others in
+          c.drop_table.ensures.rowless others
+          (c.loop-slot.invariant.rowless (get_or xs i 0 ∷ others) (subst (RowlessIn c.args.tables.now) parts was));
+      rows = λ n row. c.drop_table.ensures.rows n row ∙ c.loop-slot.invariant.rows n row;
+      exact = λ was. c.drop_table.ensures.exact (c.loop-slot.invariant.exact was);
+    }
+
+pub returns-clause-rowless : goal.returns-clause-rowless
+returns-clause-rowless c = λ others was.
+    let xs = c.args.slots.now in
+    let all : take c.loop-slot.slot-index xs ≡ xs = take_all c.loop-slot.slot-index xs c.loop-slot-test.false in
+    c.loop-slot.invariant.rowless others (subst (λ ys. RowlessIn c.args.tables.now (ys ++ others)) (sym all) was)

@@ -1,0 +1,13 @@
+use Rattle.std.proofs.Common.{ℕ, List, ◌++◌, take}
+use Rattle.eco_archetypes.specs.Archetypes.{type_at, RowlessIn, SameRows}
+use Rattle.eco_archetypes.specs.Caching.{AreExact}
+use Rattle.eco_archetypes.specs.Sweeping.{IsLess}
+use Rattle.eco_archetypes.proofs.archetypes.sweeping.drop_tables.Given as goal
+
+abbrev pub invariant-loop-slot : goal.invariant-loop-slot
+invariant-loop-slot l = record {
+  less : IsLess l.initial.tables l.tables;
+  rowless : (others : List ℕ) → RowlessIn l.initial.tables (take l.slot-index l.slots ++ others) → RowlessIn l.tables others;
+  rows : SameRows l.initial.tables l.tables;
+  exact : AreExact (type_at l.initial.tables) l.initial.caches.list.items → AreExact (type_at l.tables) l.caches.list.items;
+}

@@ -1,0 +1,86 @@
+//! Tables without rows go: one by one, or where they are many all at once.
+ghost use Rattle.std.specs.Prelude.{◌≡◌, ◌++◌, ◌∷◌, List, ℕ};
+ghost use Rattle.eco_archetypes.specs.Archetypes.{type_at, RowlessIn, SameRows};
+ghost use Rattle.eco_archetypes.specs.Caching.{AreExact};
+ghost use Rattle.eco_archetypes.specs.Sweeping.{IsLess};
+ghost use Rattle.eco_archetypes.specs.Widths.{KeepsWidths};
+
+use crate::archetypes::Archetypes;
+use crate::caches::Caches;
+use eco_tables::Tables;
+
+// Fewer tables than these go one by one.
+const MANY_TABLES: usize = 16;
+
+// So many tables are looked at for the cost of taking one out by itself.
+const LOOKED_AT: usize = 8;
+
+impl Archetypes {
+    /// Drops those tables in these slots that have no rows. No row changes. It takes no memory.
+    pub fn drop_each(&mut self, slots: &[usize])
+        ensures rowless { (others : List ℕ) →
+            RowlessIn self.old (slots.now ++ others) → RowlessIn self.new others }
+        ensures rows { SameRows self.old self.new }
+        ensures widths { KeepsWidths self.old self.new }
+    {
+        if slots.len() >= MANY_TABLES && self.tables.len() / LOOKED_AT <= slots.len() {
+            self.drop_together(slots);
+        } else {
+            self.drop_in_turn(slots);
+        }
+    }
+
+    // What `drop_each` does with few tables.
+    fn drop_in_turn(&mut self, slots: &[usize])
+        ensures rowless { (others : List ℕ) →
+            RowlessIn self.old (slots.now ++ others) → RowlessIn self.new others }
+        ensures rows { SameRows self.old self.new }
+        ensures widths { KeepsWidths self.old self.new }
+    {
+        for slot in slots {
+            self.drop_empty(*slot);
+        }
+    }
+
+    // What `drop_each` does with many tables: what leads to tables is gone through once, and what leads to none goes. Taken
+    // out by itself, each table would be looked for in all maps.
+    fn drop_together(&mut self, slots: &[usize])
+        ensures rowless { (others : List ℕ) →
+            RowlessIn self.old (slots.now ++ others) → RowlessIn self.new others }
+        ensures rows { SameRows self.old self.new }
+        ensures widths { KeepsWidths self.old self.new }
+    {
+        drop_tables(&mut self.tables, &mut self.caches, slots);
+        self.by_type.keep_there(&self.tables);
+        self.by_id.keep_there(&self.tables);
+        self.edges.keep_there(&self.tables);
+    }
+}
+
+// Drops those tables in these slots that have no rows, and tells the caches.
+fn drop_tables(tables: &mut Tables, caches: &mut Caches, slots: &[usize])
+    ensures less { IsLess tables.old tables.new }
+    ensures rowless { (others : List ℕ) →
+        RowlessIn tables.old (slots.now ++ others) → RowlessIn tables.new others }
+    ensures rows { SameRows tables.old tables.new }
+    ensures exact { AreExact (type_at tables.old) caches.old.list.items
+        → AreExact (type_at tables.new) caches.new.list.items }
+{
+    for slot in slots {
+        drop_table(tables, caches, *slot);
+    }
+}
+
+// Drops the table in a slot if it has no rows, and tells the caches.
+fn drop_table(tables: &mut Tables, caches: &mut Caches, slot: usize)
+    ensures less { IsLess tables.old tables.new }
+    ensures rowless { (others : List ℕ) →
+        RowlessIn tables.old (slot ∷ others) → RowlessIn tables.new others }
+    ensures rows { SameRows tables.old tables.new }
+    ensures exact { AreExact (type_at tables.old) caches.old.list.items
+        → AreExact (type_at tables.new) caches.new.list.items }
+{
+    if tables.drop_empty(slot).is_some() {
+        caches.forget(slot);
+    }
+}

@@ -283,26 +283,26 @@ module _ (l : Laws) (w : WorldState) where
   replies_once (step.cache text) = plainly _ (on_query text _ (λ q. meets _ _ _ (answers_once _ _)))
   replies_once (step.cached n) = plainly _ (added_once (slice_get w.queries n))
   replies_once (step.merge n ss) = merge_once l w n ss (has_stages ss || may_merge w n [])
-
   replies_once (step.system name phase text actions) = λ r q new other f g p h. absurd p
   replies_once step.frame = λ r q new other f g p h. absurd p
 
 -- systems: their texts name one at most
 module _ (l : Laws) (s : ScriptState) where
+  -- what was read is gone on with
+  abbrev Onward : {A C : Type 0} → (A → Result C Refusal → Type 0) → Result C Refusal → Result A Refusal → Type 0
+  Onward Goes r k = MatchResult k (λ x. Goes x r) (λ why. r ≡ Err why)
+
   -- a text is read, and gone on with: refused for want of memory, so is the answer
   then_once : {A C : Type 0} (Reads : Result A Refusal → Type 0) (Goes : A → Result C Refusal → Type 0)
       → ((n m : Result A Refusal) → n ≢ Err OutOfMemory → m ≢ Err OutOfMemory → Reads n → Reads m → n ≡ m)
       → ((x : A) (r q : Result C Refusal) → IsFalse (is_out_of_memory r) → IsFalse (is_out_of_memory q) → Goes x r → Goes x q → r ≡ q)
       → (r q : Result C Refusal) → IsFalse (is_out_of_memory r) → IsFalse (is_out_of_memory q) → Then Reads Goes r → Then Reads Goes q → r ≡ q
   then_once {A} {C} Reads Goes one goes r q f g (n, p, c) (m, h, d) =
-      same n c (subst (Onward q) (sym (one n m (plain r f n c) (plain q g m d) p h)) d) where
-        abbrev Onward : Result C Refusal → Result A Refusal → Type 0
-        Onward r k = MatchResult k (λ x. Goes x r) (λ why. r ≡ Err why)
+      same n c (subst (Onward Goes q) (sym (one n m (plain r f n c) (plain q g m d) p h)) d) where
+        plain : (r : Result C Refusal) → IsFalse (is_out_of_memory r) → (n : Result A Refusal) → Onward Goes r n → n ≡ Err OutOfMemory → ⊥
+        plain r f n c none = let a = subst (Onward Goes r) none c in true≢false (sym (ap is_out_of_memory a) ∙ f)
 
-        plain : (r : Result C Refusal) → IsFalse (is_out_of_memory r) → (n : Result A Refusal) → Onward r n → n ≡ Err OutOfMemory → ⊥
-        plain r f n c none = let a = subst (Onward r) none c in true≢false (sym (ap is_out_of_memory a) ∙ f)
-
-        same : (n : Result A Refusal) → Onward r n → Onward q n → r ≡ q
+        same : (n : Result A Refusal) → Onward Goes r n → Onward Goes q n → r ≡ q
         same (Ok x) c d = goes x r q f g c d
         same (Err why) a b = a ∙ sym b
 

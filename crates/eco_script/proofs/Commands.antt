@@ -6,7 +6,7 @@ use Rattle.eco_stages.specs.Outcomes.{Outcomes}
 use Rattle.eco_script.specs.Text.{command_line, command_lines}
 
 lines_append : (k : ℕ) (xs ys : Outcomes) → command_lines k (xs ++ ys) ≡ command_lines k xs ++ command_lines (k + length xs) ys
-lines_append k [] ys = refl
+lines_append k [] ys = let same : k ≡ k + 0 = omega arith in ap (λ n. command_lines n ys) same
 lines_append k (x ∷ xs) ys =
     let count : k + 1 + length xs ≡ k + length (x ∷ xs) = omega arith in
     ap (λ t. command_line k x ++ t) (lines_append (k + 1) xs ys ∙ ap (λ n. command_lines (k + 1) xs ++ command_lines n ys) count)

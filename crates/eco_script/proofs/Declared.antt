@@ -4,6 +4,7 @@ use Rattle.std.proofs.Common.{IsFalse, refl, ap, subst, true≢false, ◌∙◌,
 use Rattle.std.specs.Bool.{⊤}
 use Rattle.std.specs.List.{list_any}
 use Rattle.std.proofs.lemmas.List.{map-append}
+use Rattle.eco_ids.specs.declared.pattern.Pattern.{Pattern}
 use Rattle.eco_ids.specs.declared.refusal.Refusal.{Refusal}
 use Rattle.eco_ids.specs.declared.refusal.Refusal.TheVariants.{BadName, OutOfMemory, SystemNameTaken}
 use Rattle.eco_ids.specs.Names.{is_name, is_text}
@@ -15,6 +16,8 @@ use Rattle.eco_systems.specs.declared.phase.Phase.{Phase}
 use Rattle.eco_systems.specs.Frames.{BatchRuns}
 use Rattle.eco_bodies.specs.Actions.{first_refusal, is_kill, script_writes}
 use Rattle.eco_bodies.specs.Added.{IsAdded, add_refusal, is_named}
+use Rattle.eco_bodies.specs.Bodies.{system_with}
+use Rattle.eco_bodies.specs.Scripts.{script_commands, script_taken}
 use Rattle.eco_bodies.specs.declared.action.Action.{Action}
 use Rattle.eco_bodies.specs.declared.script.Script.{Script}
 use Rattle.eco_bodies.specs.declared.systems.System.{System}
@@ -70,6 +73,21 @@ refusal_so systems name = ap (λ b. outcome.first_refusal ((not (is_name name), 
 
 -- ---- systems
 
+-- a system of the list by what it shows
+abbrev shape : List ℕ → Phase → List QuerySlot → List Action → List Pattern → Bool → NamedSystem
+shape name phase slots acts writes kills =
+    record { name = name; system = system_with phase slots [] writes kills (script_taken acts) (script_commands writes acts) }
+
+shaped : (s : System Script) (name : List ℕ) (phase : Phase) (slots : List QuerySlot) (acts : List Action) (writes : List Pattern) (kills : Bool)
+    → string_bytes s.name ≡ name → s.phase ≡ phase → s.query ≡ slots → s.body.actions.items ≡ acts → s.body.writes.items ≡ writes → s.body.kills ≡ kills
+    → named s ≡ shape name phase slots acts writes kills
+shaped s name phase slots acts writes kills n p q a w k =
+    ap (λ x. shape x s.phase s.query s.body.actions.items s.body.writes.items s.body.kills) n
+    ∙ ap (λ x. shape name x s.query s.body.actions.items s.body.writes.items s.body.kills) p
+    ∙ ap (λ x. shape name phase x s.body.actions.items s.body.writes.items s.body.kills) q
+    ∙ ap (λ x. shape name phase slots x s.body.writes.items s.body.kills) a
+    ∙ ap (λ x. shape name phase slots acts x s.body.kills) w ∙ ap (λ x. shape name phase slots acts writes x) k
+
 module _ (w : WorldState) (old : List (System Script)) (name : List ℕ) (phase : Phase) (text : List ℕ) (acts : List texts.Action) where
   -- one of the texts was refused, or memory was wanting
   pub refused_system : (why : Refusal) → (IsFalse (is_out_of_memory {A = NamedSystem} (Err why)) → ReadsSystem (reached w old) name phase text acts (Err why))
@@ -123,7 +141,9 @@ module _ (w : WorldState) (old : List (System Script)) (name : List ℕ) (phase 
       which None at none =
           let (these, made, names) = named_of body None at read in
           let system = script_system name phase slots these in
-          let same : named s ≡ system = rw (n, p, q, b, made.actions_are, made.writes_are, made.kills_are) refl in
+          let same : named s ≡ system =
+          shaped s name phase slots these (script_writes slots these) (list_any is_kill these) n p q (ap (λ (x : Script). x.actions.items) b ∙ made.actions_are)
+          (ap (λ (x : Script). x.writes.items) b ∙ made.writes_are) (ap (λ (x : Script). x.kills) b ∙ made.kills_are) in
           let more : map named new ≡ map named old ++ system ∷ [] =
           ap (map named) is ∙ map-append named old (s ∷ []) ∙ ap (λ d. map named old ++ d ∷ []) same in
           (Ok system, names, refl, ap (λ ds. let t : ScriptState = record { world = w; systems = ds } in t) more)

@@ -95,7 +95,7 @@ abbrev OnceInMemory : {S : Type 0} → (Result Reply Refusal → S → Type 0) �
 OnceInMemory {S} Step = (r q : Result Reply Refusal) (new other : S) → IsFalse (has_wanted r) → IsFalse (has_wanted q)
     → Step r new → Step q other → (r ≡ q) × (new ≡ other)
 
-plainly : (Step : Result Reply Refusal → WorldState → Type 0) → Once Step → OnceInMemory Step
+plainly : {S : Type 0} (Step : Result Reply Refusal → S → Type 0) → Once Step → OnceInMemory Step
 plainly Step one r q new other f g p h =
     one r q new other (neither_is (is_out_of_memory r) _ f).0 (neither_is (is_out_of_memory q) _ g).0 p h
 

@@ -20,9 +20,15 @@ use Rattle.eco_ids.specs.World.{WorldState, entities, is_alive, with_entities}
 use Rattle.eco_query.specs.Grammar.{SpellsId, SpellsQuery, SpellsRef}
 use Rattle.eco_query.specs.Queries.{QuerySlot}
 use Rattle.eco_query.specs.Readings.{Reads, ReadsInMemory, ReadsOnce, entity_at, id_of, ok_both, ok_map, query_of}
-use Rattle.eco_script.specs.Recording.{Names, ReadsCommand, ReadsCommands, has_stages}
+use Rattle.eco_systems.specs.declared.phase.Phase.{Phase}
+use Rattle.eco_bodies.specs.declared.action.Action.{Action}
+use Rattle.eco_script.specs.Laws.{is_frame}
+use Rattle.eco_script.specs.Recording.{Names, ReadsAction, ReadsActions, ReadsCommand, ReadsCommands, ReadsEach, has_stages}
 use Rattle.eco_script.specs.References.{ReadsBoth, ReadsEntity, ReadsId, ReadsQuery}
-use Rattle.eco_script.specs.Replies.{Reply, merged, shown, replied, AnswersAdded, Calls, On, OnCommands, OnEntity, OnId, OnQuery, Replies}
+use Rattle.eco_script.specs.Replies.{Reply, done, merged, shown, replied, with_declared, AnswersAdded, Calls, Declares, On, OnCommands, OnEntity, OnId, OnQuery, ReadsSystem}
+use Rattle.eco_script.specs.Replies.{Replies, StepReplies, Then}
+use Rattle.eco_script.specs.States.{NamedSystem, ScriptState}
+use Rattle.eco_steps.specs.Actions as texts
 use Rattle.eco_steps.specs.Commands.{Command}
 use Rattle.eco_steps.specs.Commands as command
 use Rattle.eco_steps.specs.Steps as step
@@ -36,12 +42,12 @@ neither_is true b e = cc
 neither_is false b e = (refl, e)
 
 -- one answer and one end at most, where it is not that memory was wanting
-abbrev Once : {A : Type 0} → (Result A Refusal → WorldState → Type 0) → Type 0
-Once {A} Step = (r q : Result A Refusal) (new other : WorldState) → IsFalse (is_out_of_memory r) → IsFalse (is_out_of_memory q)
+abbrev Once : {A S : Type 0} → (Result A Refusal → S → Type 0) → Type 0
+Once {A} {S} Step = (r q : Result A Refusal) (new other : S) → IsFalse (is_out_of_memory r) → IsFalse (is_out_of_memory q)
     → Step r new → Step q other → (r ≡ q) × (new ≡ other)
 
-meets_once : {A : Type 0} (Step : Result A Refusal → WorldState → Type 0) (may : Bool) (w : WorldState)
-    → ((r q : Result A Refusal) (new other : WorldState) → Step r new → Step q other → (r ≡ q) × (new ≡ other)) → Once (Meets Step may w)
+meets_once : {A S : Type 0} (Step : Result A Refusal → S → Type 0) (may : Bool) (w : S)
+    → ((r q : Result A Refusal) (new other : S) → Step r new → Step q other → (r ≡ q) × (new ≡ other)) → Once (Meets Step may w)
 meets_once Step may w one r q new other f g p h = one r q new other (rw f at p) (rw g at h)
 
 answers_once : {A : Type 0} (x : A) (after : WorldState) (r q : Result A Refusal) (new other : WorldState)
@@ -85,13 +91,35 @@ in_memory n some (inl read) = read
 in_memory n some (inr (x, spelled, is, none)) = absurd (some none)
 
 -- likewise, where memory was wanting for no command of a merge either
-abbrev OnceInMemory : (Result Reply Refusal → WorldState → Type 0) → Type 0
-OnceInMemory Step = (r q : Result Reply Refusal) (new other : WorldState) → IsFalse (has_wanted r) → IsFalse (has_wanted q)
+abbrev OnceInMemory : {S : Type 0} → (Result Reply Refusal → S → Type 0) → Type 0
+OnceInMemory {S} Step = (r q : Result Reply Refusal) (new other : S) → IsFalse (has_wanted r) → IsFalse (has_wanted q)
     → Step r new → Step q other → (r ≡ q) × (new ≡ other)
 
-plainly : (Step : Result Reply Refusal → WorldState → Type 0) → Once Step → OnceInMemory Step
+plainly : {S : Type 0} (Step : Result Reply Refusal → S → Type 0) → Once Step → OnceInMemory Step
 plainly Step one r q new other f g p h =
     one r q new other (neither_is (is_out_of_memory r) _ f).0 (neither_is (is_out_of_memory q) _ g).0 p h
+
+names_once : {A C : Type 0} (Reads : Result A Refusal → Type 0) (make : A → C) → ((n m : Result A Refusal) → Reads n → Reads m → n ≡ m)
+    → (r q : Result C Refusal) → Names Reads make r → Names Reads make q → r ≡ q
+names_once Reads make one r q (x, p, is) (y, h, at) = is ∙ ap (ok_map make) (one x y p h) ∙ sym at
+
+-- texts that are each read in one way at most
+module _ {T C : Type 0} (One : T → Result C Refusal → Type 0) where
+  -- what stands behind the first
+  abbrev Behind : List T → Result (List C) Refusal → Result C Refusal → Type 0
+  Behind ts r first =
+      MatchResult first (λ x. (rest : Result (List C) Refusal) × ReadsEach One ts rest × (r ≡ ok_map (λ xs. x ∷ xs) rest)) (λ why. r ≡ Err why)
+
+  behind_once : (ts : List T) → ((r q : Result (List C) Refusal) → ReadsEach One ts r → ReadsEach One ts q → r ≡ q)
+      → (r q : Result (List C) Refusal) (x : Result C Refusal) → Behind ts r x → Behind ts q x → r ≡ q
+  behind_once ts others r q (Ok x) (rest, more, is) (other, less, at) = is ∙ ap (ok_map (λ xs. x ∷ xs)) (others rest other more less) ∙ sym at
+  behind_once ts others r q (Err why) is at = is ∙ sym at
+
+  each_once : ((t : T) (r q : Result C Refusal) → One t r → One t q → r ≡ q)
+      → (ts : List T) (r q : Result (List C) Refusal) → ReadsEach One ts r → ReadsEach One ts q → r ≡ q
+  each_once one [] r q p h = p ∙ sym h
+  each_once one (t ∷ ts) r q (x, first, p) (y, other, h) =
+      behind_once ts (λ a b m k. each_once one ts a b m k) r q x p (subst (Behind ts q) (sym (one t x y first other)) h)
 
 -- the laws of what the steps stand on
 pub record Laws : Type 0 where
@@ -150,10 +178,6 @@ module _ (l : Laws) where
     both_once e i n m (x, y, p, q, is) (u, v, h, k, at) =
         is ∙ ap (λ a. ok_both (λ s t. (s, t)) a y) (entity_once e x u p h) ∙ ap (λ b. ok_both (λ s t. (s, t)) u b) (id_once i y v q k) ∙ sym at
 
-    names_once : {A : Type 0} (Reads : Result A Refusal → Type 0) (make : A → run.Command) → ((n m : Result A Refusal) → Reads n → Reads m → n ≡ m)
-        → (r q : Result run.Command Refusal) → Names Reads make r → Names Reads make q → r ≡ q
-    names_once Reads make one r q (x, p, is) (y, h, at) = is ∙ ap (ok_map make) (one x y p h) ∙ sym at
-
     command_once : (c : Command) (r q : Result run.Command Refusal) → ReadsCommand w c r → ReadsCommand w c q → r ≡ q
     command_once (command.create e) = names_once _ _ (entity_once e)
     command_once (command.add e i) = names_once _ _ (both_once e i)
@@ -165,20 +189,20 @@ module _ (l : Laws) where
     command_once (command.delete_with i) = names_once _ _ (id_once i)
     command_once (command.remove_all i) = names_once _ _ (id_once i)
 
-    -- what stands behind the first command
-    abbrev Behind : List Command → Result (List run.Command) Refusal → Result run.Command Refusal → Type 0
-    Behind cs r first =
-        MatchResult first (λ x. (rest : Result (List run.Command) Refusal) × ReadsCommands w cs rest × (r ≡ ok_map (λ xs. x ∷ xs) rest)) (λ why. r ≡ Err why)
-
-    behind_once : (cs : List Command) → ((r q : Result (List run.Command) Refusal) → ReadsCommands w cs r → ReadsCommands w cs q → r ≡ q)
-        → (r q : Result (List run.Command) Refusal) (x : Result run.Command Refusal) → Behind cs r x → Behind cs q x → r ≡ q
-    behind_once cs others r q (Ok x) (rest, more, is) (other, less, at) = is ∙ ap (ok_map (λ xs. x ∷ xs)) (others rest other more less) ∙ sym at
-    behind_once cs others r q (Err why) is at = is ∙ sym at
-
     commands_once : (cs : List Command) (r q : Result (List run.Command) Refusal) → ReadsCommands w cs r → ReadsCommands w cs q → r ≡ q
-    commands_once [] r q p h = p ∙ sym h
-    commands_once (c ∷ cs) r q (x, one, p) (y, two, h) =
-        behind_once cs (λ a b m k. commands_once cs a b m k) r q x p (subst (Behind cs q) (sym (command_once c x y one two)) h)
+    commands_once = each_once (ReadsCommand w) command_once
+
+    action_once : (a : texts.Action) (r q : Result Action Refusal) → ReadsAction w a r → ReadsAction w a q → r ≡ q
+    action_once (texts.add i) = names_once _ _ (id_once i)
+    action_once (texts.remove i) = names_once _ _ (id_once i)
+    action_once (texts.put slot v) = λ r q is at. is ∙ sym at
+    action_once (texts.sum into from) = λ r q is at. is ∙ sym at
+    action_once texts.kill = λ r q is at. is ∙ sym at
+    action_once (texts.spawn None) = λ r q is at. is ∙ sym at
+    action_once (texts.spawn (Some i)) = names_once _ _ (id_once i)
+
+    actions_once : (acts : List texts.Action) (r q : Result (List Action) Refusal) → ReadsActions w acts r → ReadsActions w acts q → r ≡ q
+    actions_once = each_once (ReadsAction w) action_once
 
     merges_once : (n : ℕ) (cs : List run.Command) (may : Bool) (x y : Result Outcomes Refusal) (new other : WorldState)
         → IsFalse (has_wanted (replied merged x)) → IsFalse (has_wanted (replied merged y))
@@ -259,20 +283,75 @@ module _ (l : Laws) (w : WorldState) where
   replies_once (step.cache text) = plainly _ (on_query text _ (λ q. meets _ _ _ (answers_once _ _)))
   replies_once (step.cached n) = plainly _ (added_once (slice_get w.queries n))
   replies_once (step.merge n ss) = merge_once l w n ss (has_stages ss || may_merge w n [])
+  replies_once (step.system name phase text actions) = λ r q new other f g p h. absurd p
+  replies_once step.frame = λ r q new other f g p h. absurd p
 
-  does_once : (s : step.Step) (t u : List ℕ) (m n : WorldState) → DoesInMemory w s t m → DoesInMemory w s u n → (t ≡ u) × (m ≡ n)
-  does_once s t u m n (r, p, f, e) (q, h, g, k) =
-      let (same, end) = replies_once s r q m n f g p h in
-      (e ∙ ap (λ v. step_lines v r) end ∙ ap (step_lines n) same ∙ sym k, end)
+-- systems: their texts name one at most
+module _ (l : Laws) (s : ScriptState) where
+  -- what was read is gone on with
+  abbrev Onward : {A C : Type 0} → (A → Result C Refusal → Type 0) → Result C Refusal → Result A Refusal → Type 0
+  Onward Goes r k = MatchResult k (λ x. Goes x r) (λ why. r ≡ Err why)
 
-pub text_once : (l : Laws) (w : WorldState) (ss : List step.Step) (t u : List ℕ) (e f : WorldState)
-    → TextInMemory w ss t e → TextInMemory w ss u f → (t ≡ u) × (e ≡ f)
-text_once l w [] t u e f (p, q) (h, k) = (p ∙ sym h, q ∙ sym k)
-text_once l w (s ∷ ss) t u e f (a, xs, m, d, more, p) (b, ys, n, g, rest, h) =
-    let (first, mid) = does_once l w s a b m n d g in
-    let (others, end) = text_once l m ss xs ys e f more (subst (λ v. TextInMemory v ss ys f) (sym mid) rest) in
-    (p ∙ ap (λ x. x ++ xs) first ∙ ap (λ y. b ++ y) others ∙ sym h, end)
+  -- a text is read, and gone on with: refused for want of memory, so is the answer
+  then_once : {A C : Type 0} (Reads : Result A Refusal → Type 0) (Goes : A → Result C Refusal → Type 0)
+      → ((n m : Result A Refusal) → n ≢ Err OutOfMemory → m ≢ Err OutOfMemory → Reads n → Reads m → n ≡ m)
+      → ((x : A) (r q : Result C Refusal) → IsFalse (is_out_of_memory r) → IsFalse (is_out_of_memory q) → Goes x r → Goes x q → r ≡ q)
+      → (r q : Result C Refusal) → IsFalse (is_out_of_memory r) → IsFalse (is_out_of_memory q) → Then Reads Goes r → Then Reads Goes q → r ≡ q
+  then_once {A} {C} Reads Goes one goes r q f g (n, p, c) (m, h, d) =
+      same n c (subst (Onward Goes q) (sym (one n m (plain r f n c) (plain q g m d) p h)) d) where
+        plain : (r : Result C Refusal) → IsFalse (is_out_of_memory r) → (n : Result A Refusal) → Onward Goes r n → n ≡ Err OutOfMemory → ⊥
+        plain r f n c none = let a = subst (Onward Goes r) none c in true≢false (sym (ap is_out_of_memory a) ∙ f)
 
-pub text_may_be : (w : WorldState) (ss : List step.Step) (t : List ℕ) (e : WorldState) → TextInMemory w ss t e → Text w ss t e
-text_may_be w [] t e h = h
-text_may_be w (s ∷ ss) t e (a, xs, m, (r, p, f, is), more, h) = (a, xs, m, (r, p, is), text_may_be m ss xs e more, h)
+        same : (n : Result A Refusal) → Onward Goes r n → Onward Goes q n → r ≡ q
+        same (Ok x) c d = goes x r q f g c d
+        same (Err why) a b = a ∙ sym b
+
+  system_once : (name : List ℕ) (phase : Phase) (text : List ℕ) (acts : List texts.Action) (r q : Result NamedSystem Refusal)
+      → IsFalse (is_out_of_memory r) → IsFalse (is_out_of_memory q)
+      → ReadsSystem s name phase text acts r → ReadsSystem s name phase text acts q → r ≡ q
+  unfolding ReadsQuery
+  system_once name phase text acts =
+      then_once (ReadsQuery s.world text) _ (λ n m p h a b. l.queries (lookup s.world) text n m (in_memory n p a) (in_memory m h b))
+      (λ slots. then_once (ReadsActions s.world acts) _ (λ n m _ _ a b. actions_once l s.world acts n m a b)
+      (λ named r q _ _ is at. is ∙ sym at))
+
+  declares_once : (name : List ℕ) (phase : Phase) (text : List ℕ) (acts : List texts.Action) → Once (Declares s name phase text acts)
+  declares_once name phase text acts r q new other f g p h =
+      let (x, one, is, a) = rw f at p in
+      let (y, two, at, b) = rw g at h in
+      let same : x ≡ y = system_once name phase text acts x y (replied_plain (λ _. done) x ∙ ap is_out_of_memory (sym is) ∙ f)
+      (replied_plain (λ _. done) y ∙ ap is_out_of_memory (sym at) ∙ g) one two in
+      (is ∙ ap (replied (λ _. done)) same ∙ sym at, a ∙ ap (with_declared s) same ∙ sym b)
+
+  same_state : (a b : ScriptState) → a.world ≡ b.world → a.systems ≡ b.systems → a ≡ b
+  same_state a b p q =
+      ap (λ w. let c : ScriptState = record { world = w; systems = a.systems } in c) p
+      ∙ ap (λ ds. let c : ScriptState = record { world = b.world; systems = ds } in c) q
+
+  world_once : (t : step.Step) → OnceInMemory (λ r (new : ScriptState). Replies s.world t r new.world × (new.systems ≡ s.systems))
+  world_once t r q new other f g (p, a) (h, b) =
+      let (same, end) = replies_once l s.world t r q new.world other.world f g p h in (same, same_state new other end (a ∙ sym b))
+
+  step_once : (t : step.Step) → IsFalse (is_frame t) → OnceInMemory (StepReplies s t)
+  step_once (step.system name phase text acts) plain = plainly _ (declares_once name phase text acts)
+  step_once step.frame plain = absurd (true≢false plain)
+  step_once t plain = world_once t
+
+  does_once : (t : step.Step) (a b : List ℕ) (m n : ScriptState) → IsFalse (is_frame t) → DoesInMemory s t a m → DoesInMemory s t b n
+      → (a ≡ b) × (m ≡ n)
+  does_once t a b m n plain (r, p, f, e) (q, h, g, k) =
+      let (same, end) = step_once t plain r q m n f g p h in
+      (e ∙ ap (λ v. step_lines v.world r) end ∙ ap (step_lines n.world) same ∙ sym k, end)
+
+pub text_once : (l : Laws) (s : ScriptState) (ss : List step.Step) (t u : List ℕ) (e f : ScriptState) → IsFalse (list_any is_frame ss)
+    → TextInMemory s ss t e → TextInMemory s ss u f → (t ≡ u) × (e ≡ f)
+text_once l s [] t u e f plain (p, q) (h, k) = (p ∙ sym h, q ∙ sym k)
+text_once l s (x ∷ xs) t u e f plain (a, rest, m, d, more, p) (b, other, n, g, less, h) =
+    let (one, others) = neither_is (is_frame x) (list_any is_frame xs) plain in
+    let (first, mid) = does_once l s x a b m n one d g in
+    let (same, end) = text_once l m xs rest other e f others more (subst (λ v. TextInMemory v xs other f) (sym mid) less) in
+    (p ∙ ap (λ v. v ++ rest) first ∙ ap (λ v. b ++ v) same ∙ sym h, end)
+
+pub text_may_be : (s : ScriptState) (ss : List step.Step) (t : List ℕ) (e : ScriptState) → TextInMemory s ss t e → Text s ss t e
+text_may_be s [] t e h = h
+text_may_be s (x ∷ xs) t e (a, rest, m, (r, p, f, is), more, h) = (a, rest, m, (r, p, is), text_may_be m xs rest e more, h)

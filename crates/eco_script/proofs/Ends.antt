@@ -1,5 +1,5 @@
 -- Each step has some answer on every world: what it can't be done for, what it is done with, or that memory was wanting.
-use Rattle.std.proofs.Common.{◌≡◌, ℕ, Bool, true, false, not, ◌&&◌, List, [], ◌∷◌, map, Option, Some, None, Result, Ok, Err, is_some, inl, refl, MatchBool}
+use Rattle.std.proofs.Common.{◌≡◌, ℕ, Bool, true, false, not, ◌&&◌, List, [], ◌∷◌, map, Option, Some, None, Result, Ok, Err, is_some, inl, inr, refl, MatchBool}
 use Rattle.std.proofs.Common.{arith, slice_get}
 use Rattle.std.specs.List.{list_all}
 use Rattle.eco_ids.specs.declared.entity.Entity.{Entity}
@@ -26,16 +26,18 @@ use Rattle.eco_ids.specs.World.{WorldState, has, names_living, is_alive, living,
 use Rattle.eco_query.specs.Grammar.{SpellsId, SpellsQuery, SpellsRef}
 use Rattle.eco_query.specs.Queries.{QuerySlot}
 use Rattle.eco_query.specs.Readings.{ReadsAll, entity_at, id_of, query_of}
+use Rattle.eco_frame.specs.declared.stop.FrameStop.{FrameStop}
+use Rattle.eco_script.specs.States.{ScriptState}
 use Rattle.eco_script.specs.References.{ReadsEntity, ReadsId, ReadsQuery}
-use Rattle.eco_script.specs.Replies.{Reply, truth, got, shown, listed, found, merged, replied, AnswersAdded, Calls, On, OnEntity, OnId, OnQuery, Replies}
+use Rattle.eco_script.specs.Replies.{Reply, truth, got, shown, listed, found, merged, stopped, replied, AnswersAdded, Calls, On, OnEntity, OnId, OnQuery, Replies, StepReplies}
 use Rattle.eco_steps.specs.Steps as step
 use Rattle.eco_script.specs.Text.{Does, step_lines}
 use Rattle.eco_script.specs.Values.{shown_value}
 use Rattle.eco_ids.specs.Names.{lookup, is_proper, is_taken, is_same_name}
 
--- some answer, and some world after it
-abbrev Ends : {A : Type 0} → (Result A Refusal → WorldState → Type 0) → Type 0
-Ends {A} Step = (r : Result A Refusal) × (new : WorldState) × Step r new
+-- some answer, and some state after it
+abbrev Ends : {A S : Type 0} → (Result A Refusal → S → Type 0) → Type 0
+Ends {A} {S} Step = (r : Result A Refusal) × (new : S) × Step r new
 
 -- it is not that memory was wanting
 abbrev is_plain : Refusal → Bool
@@ -161,6 +163,11 @@ empty_merge_ends w n true e =
     let after = with_entities w (indexed.admitted n (entities w)) in (Ok (merged []), after, (Ok [], refl, (Ok [], rw e ([], refl, refl), refl)))
 empty_merge_ends w n false e = (Err NoMoreIds, w, (Ok [], refl, (Err NoMoreIds, rw e (refl, refl), refl)))
 
+-- a step on the world alone
+of_world : (old : ScriptState) (s : step.Step) → Ends (Replies old.world s)
+    → Ends (λ r (new : ScriptState). Replies old.world s r new.world × (new.systems ≡ old.systems))
+of_world old s (r, new, p) = (r, record { world = new; systems = old.systems }, (p, refl))
+
 -- under any names each text is answered in some way
 pub record TextsRead : Type 0 where
   pub refs : (entity_named : List ℕ → Option Entity) → ReadsAll SpellsRef (entity_at entity_named)
@@ -192,27 +199,49 @@ module _ (texts : TextsRead) where
       → ((q : List QuerySlot) → Ends (Goes q)) → Ends (OnQuery w text Goes)
   on_query w text Goes goes = on_ends (ReadsQuery w text) w Goes (reads_query w text) goes
 
-  replies_end : (w : WorldState) (s : step.Step) → Ends (Replies w s)
-  replies_end w (step.create name) = calls_end _ _ (create_ends w name)
-  replies_end w (step.component name n) = calls_end _ _ (component_ends w (Some name) n)
-  replies_end w (step.add e i) = on_entity w e _ (λ x. on_id w i _ (λ y. calls_end _ _ (add_ends w x y)))
-  replies_end w (step.remove e i) = on_entity w e _ (λ x. on_id w i _ (λ y. calls_end _ _ (remove_ends w x y)))
-  replies_end w (step.set e i v) = on_entity w e _ (λ x. on_id w i _ (λ y. calls_end _ _ (set_ends w x y v)))
-  replies_end w (step.clear e) = on_entity w e _ (λ x. calls_end _ _ (clear_ends w x))
-  replies_end w (step.remove_all i) = on_id w i _ (λ y. calls_end _ _ (remove_all_ends w y))
-  replies_end w (step.delete e) = on_entity w e _ (λ x. calls_end _ _ (delete_ends w x))
-  replies_end w (step.delete_with i) = on_id w i _ (λ y. calls_end _ _ (delete_with_ends w y))
-  replies_end w (step.rename e name) = on_entity w e _ (λ x. calls_end _ _ (rename_ends w x name))
-  replies_end w (step.has e i) = on_entity w e _ (λ x. on_id w i _ (λ y. (Ok (truth (has w x y)), w, (refl, refl))))
-  replies_end w (step.get e i) = on_entity w e _ (λ x. on_id w i _ (λ y. (Ok (got (shown_value w x y)), w, (refl, refl))))
-  replies_end w (step.show e) = on_entity w e _ (λ x. show_ends w x (is_alive w x))
-  replies_end w step.list = (Ok (listed (map (λ p. p.0) (living w))), w, (refl, refl))
-  replies_end w (step.query text) = on_query w text _ (λ q. (Ok (found (answer w (asked q))), w, (refl, refl)))
-  replies_end w (step.cache text) = on_query w text _ (λ q. calls_end _ _ (Err OutOfMemory, w, (refl, refl)))
-  replies_end w (step.cached n) = added_ends w (slice_get w.queries n)
-  replies_end w (step.merge n []) = empty_merge_ends w n (may_admit (entities w) n) refl
-  replies_end w (step.merge n (s ∷ ss)) = (Err OutOfMemory, w, (refl, refl))
+  step_ends : (old : ScriptState) (s : step.Step) → Ends (StepReplies old s)
+  step_ends old (step.create name) =
+      of_world old (step.create name) (calls_end _ _ (create_ends old.world name))
+  step_ends old (step.component name n) =
+      of_world old (step.component name n) (calls_end _ _ (component_ends old.world (Some name) n))
+  step_ends old (step.add e i) =
+      of_world old (step.add e i) (on_entity old.world e _ (λ x. on_id old.world i _ (λ y. calls_end _ _ (add_ends old.world x y))))
+  step_ends old (step.remove e i) =
+      of_world old (step.remove e i) (on_entity old.world e _ (λ x. on_id old.world i _ (λ y. calls_end _ _ (remove_ends old.world x y))))
+  step_ends old (step.set e i v) =
+      of_world old (step.set e i v) (on_entity old.world e _ (λ x. on_id old.world i _ (λ y. calls_end _ _ (set_ends old.world x y v))))
+  step_ends old (step.clear e) =
+      of_world old (step.clear e) (on_entity old.world e _ (λ x. calls_end _ _ (clear_ends old.world x)))
+  step_ends old (step.remove_all i) =
+      of_world old (step.remove_all i) (on_id old.world i _ (λ y. calls_end _ _ (remove_all_ends old.world y)))
+  step_ends old (step.delete e) =
+      of_world old (step.delete e) (on_entity old.world e _ (λ x. calls_end _ _ (delete_ends old.world x)))
+  step_ends old (step.delete_with i) =
+      of_world old (step.delete_with i) (on_id old.world i _ (λ y. calls_end _ _ (delete_with_ends old.world y)))
+  step_ends old (step.rename e name) =
+      of_world old (step.rename e name) (on_entity old.world e _ (λ x. calls_end _ _ (rename_ends old.world x name)))
+  step_ends old (step.has e i) =
+      of_world old (step.has e i) (on_entity old.world e _ (λ x. on_id old.world i _ (λ y. (Ok (truth (has old.world x y)), old.world, (refl, refl)))))
+  step_ends old (step.get e i) =
+      of_world old (step.get e i) (on_entity old.world e _ (λ x. on_id old.world i _ (λ y. (Ok (got (shown_value old.world x y)), old.world, (refl, refl)))))
+  step_ends old (step.show e) =
+      of_world old (step.show e) (on_entity old.world e _ (λ x. show_ends old.world x (is_alive old.world x)))
+  step_ends old step.list =
+      of_world old step.list (Ok (listed (map (λ p. p.0) (living old.world))), old.world, (refl, refl))
+  step_ends old (step.query text) =
+      of_world old (step.query text) (on_query old.world text _ (λ q. (Ok (found (answer old.world (asked q))), old.world, (refl, refl))))
+  step_ends old (step.cache text) =
+      of_world old (step.cache text) (on_query old.world text _ (λ q. calls_end _ _ (Err OutOfMemory, old.world, (refl, refl))))
+  step_ends old (step.cached n) =
+      of_world old (step.cached n) (added_ends old.world (slice_get old.world.queries n))
+  step_ends old (step.merge n []) =
+      of_world old (step.merge n []) (empty_merge_ends old.world n (may_admit (entities old.world) n) refl)
+  step_ends old (step.merge n (s ∷ ss)) =
+      of_world old (step.merge n (s ∷ ss)) (Err OutOfMemory, old.world, (refl, refl))
+  step_ends old (step.system name phase text actions) = (Err OutOfMemory, old, (refl, refl))
+  step_ends old step.frame =
+      let stop : FrameStop = record { batches = 0; refusal = OutOfMemory } in (Ok (stopped stop), old, (Err stop, inr (refl, refl), refl))
 
-  -- some lines, and some world after them
-  pub some_step : (s : step.Step) (w : WorldState) → (t : List ℕ) × (e : WorldState) × Does w s t e
-  some_step s w = let (r, new, p) = replies_end w s in (step_lines new r, new, (r, p, refl))
+  -- some lines, and some state after them
+  pub some_step : (s : step.Step) (old : ScriptState) → (t : List ℕ) × (e : ScriptState) × Does old s t e
+  some_step s old = let (r, new, p) = step_ends old s in (step_lines new.world r, new, (r, p, refl))

@@ -1,3 +1,5 @@
+pub mod Commands
+pub mod Declared
 pub mod Determined
 pub mod Devices
 pub mod Ends

@@ -1,4 +1,4 @@
--- Commands whose texts are read one after another on one world, and the merge of what was recorded.
+-- Texts that are read one after another on one world, and the merge of what was recorded.
 use Rattle.std.proofs.Common.{◌≡◌, ◌<◌, ℕ, ◌+◌, ◌||◌, zero, suc, false, List, [], ◌∷◌, ◌++◌, flat_map, length, take, drop, Option, Some, None}
 use Rattle.std.proofs.Common.{Result, Ok, Err, OnOk, is_err, IsTrue, IsFalse, refl, sym, ap, subst, ◌∙◌, option_map, slice_get, arith}
 use Rattle.std.specs.Option.{IsSome}
@@ -15,7 +15,7 @@ use Rattle.eco_steps.specs.Commands.{Command}
 use Rattle.eco_steps.specs.Steps as step
 use Rattle.eco_stages.specs.Outcomes.{Outcomes}
 use Rattle.eco_world.specs.Merging.{Merges, may_merge}
-use Rattle.eco_script.specs.Recording.{ReadsCommand, ReadsCommands, has_stages}
+use Rattle.eco_script.specs.Recording.{ReadsCommand, ReadsCommands, ReadsEach, has_stages}
 use Rattle.eco_script.specs.Replies.{Replies, merged, replied}
 
 -- what is there in a list is there in a view of it
@@ -39,19 +39,20 @@ module _ {A : Type 0} (xs : List A) (k : ℕ) (x : A) (at : slice_get xs k ≡ S
 pub flat_more : {A : Type 0} (ss : List (List A)) (s : List A) → flat_map (λ t. t) (ss ++ s ∷ []) ≡ flat_map (λ t. t) ss ++ s
 flat_more ss s = flat_map-append (λ t. t) ss (s ∷ []) ∙ ap (λ t. flat_map (λ t. t) ss ++ t) (append-nil s)
 
-module _ (w : WorldState) where
-  behind_none : (r : Result (List run.Command) Refusal) → ok_map (λ ys. [] ++ ys) r ≡ r
+-- texts that are read one after another in one way
+module _ {T C : Type 0} (One : T → Result C Refusal → Type 0) where
+  behind_none : (r : Result (List C) Refusal) → ok_map (λ ys. [] ++ ys) r ≡ r
   behind_none (Ok ys) = refl
   behind_none (Err why) = refl
 
-  behind_more : (x : run.Command) (xs : List run.Command) (r : Result (List run.Command) Refusal)
+  behind_more : (x : C) (xs : List C) (r : Result (List C) Refusal)
       → ok_map (λ ys. (x ∷ xs) ++ ys) r ≡ ok_map (λ ys. x ∷ ys) (ok_map (λ ys. xs ++ ys) r)
   behind_more x xs (Ok ys) = refl
   behind_more x xs (Err why) = refl
 
-  -- behind commands that were read, others are read
-  pub reads_append : (cs ds : List Command) (xs : List run.Command) (r : Result (List run.Command) Refusal)
-      → ReadsCommands w cs (Ok xs) → ReadsCommands w ds r → ReadsCommands w (cs ++ ds) (ok_map (λ ys. xs ++ ys) r)
+  -- behind what was read, others are read
+  pub reads_append : (cs ds : List T) (xs : List C) (r : Result (List C) Refusal)
+      → ReadsEach One cs (Ok xs) → ReadsEach One ds r → ReadsEach One (cs ++ ds) (ok_map (λ ys. xs ++ ys) r)
   reads_append [] ds xs r e p = let q : xs ≡ [] = cc in rw (q, behind_none r) p
   reads_append (c ∷ cs) ds xs r (Err why, read, is) p = cc
   reads_append (c ∷ cs) ds xs r (Ok x, read, (Err why, more, is)) p = cc
@@ -60,26 +61,26 @@ module _ (w : WorldState) where
       rw (q, behind_more x ys r) (Ok x, read, (ok_map (λ zs. ys ++ zs) r, reads_append cs ds ys r more p, refl))
 
   -- behind one that is refused, none is read
-  pub reads_refused : (cs ds : List Command) (why : Refusal) → ReadsCommands w cs (Err why) → ReadsCommands w (cs ++ ds) (Err why)
+  pub reads_refused : (cs ds : List T) (why : Refusal) → ReadsEach One cs (Err why) → ReadsEach One (cs ++ ds) (Err why)
   reads_refused [] ds why e = cc
   reads_refused (c ∷ cs) ds why (Err other, read, is) = (Err other, read, is)
   reads_refused (c ∷ cs) ds why (Ok x, read, (Ok ys, more, is)) = cc
   reads_refused (c ∷ cs) ds why (Ok x, read, (Err other, more, is)) = (Ok x, read, (Err other, reads_refused cs ds other more, is))
 
-  module _ (cs : List Command) (k : ℕ) (c : Command) (xs : List run.Command) (at : slice_get cs k ≡ Some c)
-      (read : ReadsCommands w (take k cs) (Ok xs)) where
-    -- one more command was read
-    pub command_more : (x : run.Command) → ReadsCommand w c (Ok x) → ReadsCommands w (take (k + 1) cs) (Ok (xs ++ x ∷ []))
-    command_more x p =
+  module _ (cs : List T) (k : ℕ) (c : T) (xs : List C) (at : slice_get cs k ≡ Some c) (read : ReadsEach One (take k cs) (Ok xs)) where
+    -- one more was read
+    pub one_more : (x : C) → One c (Ok x) → ReadsEach One (take (k + 1) cs) (Ok (xs ++ x ∷ []))
+    one_more x p =
         rw (front_more cs k c at) (reads_append (take k cs) (c ∷ []) xs (Ok (x ∷ [])) read (Ok x, p, (Ok [], refl, refl)))
 
     -- one was refused
-    pub command_refused : (why : Refusal) → ReadsCommand w c (Err why) → ReadsCommands w cs (Err why)
-    command_refused why p =
-        let front : ReadsCommands w (take (k + 1) cs) (Err why) =
+    pub one_refused : (why : Refusal) → One c (Err why) → ReadsEach One cs (Err why)
+    one_refused why p =
+        let front : ReadsEach One (take (k + 1) cs) (Err why) =
         rw (front_more cs k c at) (reads_append (take k cs) (c ∷ []) xs (Err why) read (Err why, p, refl)) in
-        subst (λ ds. ReadsCommands w ds (Err why)) (take-append-drop (k + 1) cs) (reads_refused (take (k + 1) cs) (drop (k + 1) cs) why front)
+        subst (λ ds. ReadsEach One ds (Err why)) (take-append-drop (k + 1) cs) (reads_refused (take (k + 1) cs) (drop (k + 1) cs) why front)
 
+module _ (w : WorldState) where
   module _ (ss : List (List Command)) (k : ℕ) (s : List Command) (xs : List run.Command) (at : slice_get ss k ≡ Some s)
       (read : ReadsCommands w (flat_map (λ t. t) (take k ss)) (Ok xs)) where
     stage_read : (r : Result (List run.Command) Refusal) → ReadsCommands w s r
@@ -87,7 +88,7 @@ module _ (w : WorldState) where
     stage_read r p =
         subst (λ cs. ReadsCommands w cs (ok_map (λ ys. xs ++ ys) r))
         (sym (flat_more (take k ss) s) ∙ ap (λ ts. flat_map (λ t. t) ts) (sym (front_more ss k s at)))
-        (reads_append (flat_map (λ t. t) (take k ss)) s xs r read p)
+        (reads_append (ReadsCommand w) (flat_map (λ t. t) (take k ss)) s xs r read p)
 
     -- one more stage was read
     pub stage_more : (ys : List run.Command) → ReadsCommands w s (Ok ys) → ReadsCommands w (flat_map (λ t. t) (take (k + 1) ss)) (Ok (xs ++ ys))
@@ -99,7 +100,7 @@ module _ (w : WorldState) where
         let whole : flat_map (λ t. t) (take (k + 1) ss) ++ flat_map (λ t. t) (drop (k + 1) ss) ≡ flat_map (λ t. t) ss =
         sym (flat_map-append (λ t. t) (take (k + 1) ss) (drop (k + 1) ss)) ∙ ap (λ ts. flat_map (λ t. t) ts) (take-append-drop (k + 1) ss) in
         subst (λ cs. ReadsCommands w cs (Err why)) whole
-        (reads_refused (flat_map (λ t. t) (take (k + 1) ss)) (flat_map (λ t. t) (drop (k + 1) ss)) why (stage_read (Err why) p))
+        (reads_refused (ReadsCommand w) (flat_map (λ t. t) (take (k + 1) ss)) (flat_map (λ t. t) (drop (k + 1) ss)) why (stage_read (Err why) p))
 
   -- there is a stage where one stands at a place
   pub stages_there : (ss : List (List Command)) (i : ℕ) → i < length ss → IsTrue (has_stages ss)

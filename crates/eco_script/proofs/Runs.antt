@@ -9,24 +9,24 @@ use Rattle.std.specs.Prelude.{◌⊎◌}
 use Rattle.serde_json.specs.Data.{Data}
 use Rattle.serde_json.specs.Read.{read}
 use Rattle.eco_steps.specs.Script.{Script, IsScript, IsScriptData}
-use Rattle.eco_ids.specs.World.{WorldState, first_world}
+use Rattle.eco_script.specs.States.{ScriptState, first_state}
 use Rattle.eco_script.specs.Beginning.{IsBeginning}
 use Rattle.eco_steps.specs.Steps.{Step}
 use Rattle.eco_script.specs.Text.{Does, Text}
 use Rattle.eco_script.proofs.Ends.{TextsRead, some_step}
 
-pub Text-append : (xs ys : List Step) (w m e : WorldState) (t u : List ℕ) → Text w xs t m → Text m ys u e → Text w (xs ++ ys) (t ++ u) e
+pub Text-append : (xs ys : List Step) (w m e : ScriptState) (t u : List ℕ) → Text w xs t m → Text m ys u e → Text w (xs ++ ys) (t ++ u) e
 Text-append [] ys w m e t u (tn, mw) q = rw (tn, ← mw) q
 Text-append (x ∷ xs) ys w m e t u (first, rest, mid, does, more, te) q =
     (first, rest ++ u, mid, does, Text-append xs ys mid m e rest u more q, ap (λ s. s ++ u) te ∙ append_assoc first rest u)
 
-pub Text-one : (s : Step) (w m : WorldState) (t : List ℕ) → Does w s t m → Text w (s ∷ []) t m
+pub Text-one : (s : Step) (w m : ScriptState) (t : List ℕ) → Does w s t m → Text w (s ∷ []) t m
 Text-one s w m t d = (t, [], m, d, (refl, refl), sym (append-nil t))
 
-pub Text-more : (xs : List Step) (s : Step) (w m e : WorldState) (t u : List ℕ) → Text w xs t m → Does m s u e → Text w (xs ++ s ∷ []) (t ++ u) e
+pub Text-more : (xs : List Step) (s : Step) (w m e : ScriptState) (t u : List ℕ) → Text w xs t m → Does m s u e → Text w (xs ++ s ∷ []) (t ++ u) e
 Text-more xs s w m e t u p d = Text-append xs (s ∷ []) w m e t u p (Text-one s m e u d)
 
-pub some_text : TextsRead → (ss : List Step) (w : WorldState) → (t : List ℕ) × (e : WorldState) × Text w ss t e
+pub some_text : TextsRead → (ss : List Step) (w : ScriptState) → (t : List ℕ) × (e : ScriptState) × Text w ss t e
 some_text texts [] w = ([], w, (refl, refl))
 some_text texts (s ∷ ss) w =
     let one = some_step texts s w in
@@ -38,7 +38,7 @@ begins t q r u more e = rw e (simp append_assoc)
 
 -- what is said of the front of a list, and of all of it
 module _ {X : Type 0} (f : X → Step) (xs : List X) where
-  text_more : (i : ℕ) (x : X) (w m e : WorldState) (t u : List ℕ) → i < length xs → x ≡ get_or xs i x → Text w (map f (take i xs)) t m
+  text_more : (i : ℕ) (x : X) (w m e : ScriptState) (t u : List ℕ) → i < length xs → x ≡ get_or xs i x → Text w (map f (take i xs)) t m
       → Does m (f x) u e → Text w (map f (take (i + 1) xs)) (t ++ u) e
   text_more i x w m e t u lt is p does =
       let front : map f (take (i + 1) xs) ≡ map f (take i xs) ++ f x ∷ [] =
@@ -46,8 +46,8 @@ module _ {X : Type 0} (f : X → Step) (xs : List X) where
       rw front (Text-more (map f (take i xs)) (f x) w m e t u p does)
 
   -- a run goes on to some end
-  text_goes_on : TextsRead → (i : ℕ) (w m : WorldState) (t : List ℕ) → Text w (map f (take i xs)) t m
-      → (more : List ℕ) × (e : WorldState) × Text w (map f xs) (t ++ more) e
+  text_goes_on : TextsRead → (i : ℕ) (w m : ScriptState) (t : List ℕ) → Text w (map f (take i xs)) t m
+      → (more : List ℕ) × (e : ScriptState) × Text w (map f xs) (t ++ more) e
   text_goes_on texts i w m t p =
       let rest = some_text texts (map f (drop i xs)) m in
       let whole : map f xs ≡ map f (take i xs) ++ map f (drop i xs) =
@@ -55,64 +55,64 @@ module _ {X : Type 0} (f : X → Step) (xs : List X) where
       (rest.0, rest.1, rw whole (Text-append (map f (take i xs)) (map f (drop i xs)) w m rest.1 t rest.0 p rest.2))
 
   -- the steps so far have a text, of which this much is not written yet
-  abbrev pub Gathered : ℕ → WorldState → WorldState → Option (List ℕ) → Option (List ℕ) → List ℕ → Type 0
+  abbrev pub Gathered : ℕ → ScriptState → ScriptState → Option (List ℕ) → Option (List ℕ) → List ℕ → Type 0
   Gathered i w m a b rest = (done : List ℕ) × Text w (map f (take i xs)) (done ++ rest) m × Appends a b done
 
   -- what is written where the run stops
-  abbrev Stopped : WorldState → Option (List ℕ) → Option (List ℕ) → Type 0
-  Stopped w a b = (part : List ℕ) × (text : List ℕ) × (end : WorldState) × Text w (map f xs) text end × IsBeginning part text × Appends a b part
+  abbrev Stopped : ScriptState → Option (List ℕ) → Option (List ℕ) → Type 0
+  Stopped w a b = (part : List ℕ) × (text : List ℕ) × (end : ScriptState) × Text w (map f xs) text end × IsBeginning part text × Appends a b part
 
   -- one more step was run
-  pub gathered_more : (i : ℕ) (x : X) (w m e : WorldState) (a b : Option (List ℕ)) (rest more u : List ℕ) → i < length xs → x ≡ get_or xs i x
+  pub gathered_more : (i : ℕ) (x : X) (w m e : ScriptState) (a b : Option (List ℕ)) (rest more u : List ℕ) → i < length xs → x ≡ get_or xs i x
       → Gathered i w m a b rest → Does m (f x) u e → more ≡ rest ++ u → Gathered (i + 1) w e a b more
   gathered_more i x w m e a b rest more u lt at (done, p, h) does is =
       let whole : (done ++ rest) ++ u ≡ done ++ more = append_assoc done rest u ∙ ap (λ t. done ++ t) (sym is) in
       (done, rw (← whole) (text_more i x w m e (done ++ rest) u lt at p does), h)
 
   -- some of it was written
-  pub gathered_less : (i : ℕ) (w m : WorldState) (a b c : Option (List ℕ)) (rest part left : List ℕ) → rest ≡ part ++ left
+  pub gathered_less : (i : ℕ) (w m : ScriptState) (a b c : Option (List ℕ)) (rest part left : List ℕ) → rest ≡ part ++ left
       → Gathered i w m a b rest → Appends b c part → Gathered i w m a c left
   gathered_less i w m a b c rest part left is (done, p, h) k =
       let whole : done ++ rest ≡ (done ++ part) ++ left = ap (λ t. done ++ t) is ∙ sym (append_assoc done part left) in
       (done ++ part, rw (← whole) p, Appends-more a b c done part h k)
 
   -- all steps were run, and the rest was written
-  pub gathered_all : (i : ℕ) (w e : WorldState) (a b c : Option (List ℕ)) (rest : List ℕ) → length xs ≤ i → Gathered i w e a b rest → Appends b c rest
-      → (text : List ℕ) × Text w (map f xs) text e × Appends a c text
+  pub gathered_all : (i : ℕ) (w e : ScriptState) (a b c : Option (List ℕ)) (rest : List ℕ) → length xs ≤ i → Gathered i w e a b rest → Appends b c rest
+      → (text : List ℕ) × (last : ScriptState) × Text w (map f xs) text last × Appends a c text
   gathered_all i w e a b c rest end (done, p, h) k =
-      (done ++ rest, subst (λ ys. Text w (map f ys) (done ++ rest) e) (take_all i xs end) p, Appends-more a b c done rest h k)
+      (done ++ rest, e, subst (λ ys. Text w (map f ys) (done ++ rest) e) (take_all i xs end) p, Appends-more a b c done rest h k)
 
   -- the run stops between two steps
-  pub stopped_between : TextsRead → (i : ℕ) (w m : WorldState) (a b : Option (List ℕ)) (rest : List ℕ) → Gathered i w m a b rest → Stopped w a b
+  pub stopped_between : TextsRead → (i : ℕ) (w m : ScriptState) (a b : Option (List ℕ)) (rest : List ℕ) → Gathered i w m a b rest → Stopped w a b
   stopped_between texts i w m a b rest (done, p, h) =
       let on = text_goes_on texts i w m (done ++ rest) p in
       (done, (done ++ rest) ++ on.0, on.1, on.2, (rest ++ on.0, append_assoc done rest on.0), h)
 
   -- or while it writes
-  pub stopped_within : TextsRead → (i : ℕ) (w m : WorldState) (a b c : Option (List ℕ)) (rest : List ℕ) → Gathered i w m a b rest
+  pub stopped_within : TextsRead → (i : ℕ) (w m : ScriptState) (a b c : Option (List ℕ)) (rest : List ℕ) → Gathered i w m a b rest
       → ((q : List ℕ) × IsBeginning q rest × Appends b c q) → Stopped w a c
   stopped_within texts i w m a b c rest (done, p, h) (q, (r, er), hq) =
       let on = text_goes_on texts i w m (done ++ rest) p in
       (done ++ q, (done ++ rest) ++ on.0, on.1, on.2, (r ++ on.0, begins done q r rest on.0 er), Appends-more a b c done q h hq)
 
-Text-at : (w v e : WorldState) (ss rs : List Step) (t : List ℕ) → w ≡ v → ss ≡ rs → Text w ss t e → Text v rs t e
+Text-at : (w v e : ScriptState) (ss rs : List Step) (t : List ℕ) → w ≡ v → ss ≡ rs → Text w ss t e → Text v rs t e
 Text-at w v e ss rs t p q h = rw (← p, ← q) h
 
 -- the text of a run is that of the script that was read
-text_of : (bytes : List ℕ) (script : Script) (w e : WorldState) (ss : List Step) (t : List ℕ)
-    → IsScript bytes script → w ≡ first_world script.limit → ss ≡ script.steps
+text_of : (bytes : List ℕ) (script : Script) (w e : ScriptState) (ss : List Step) (t : List ℕ)
+    → IsScript bytes script → w ≡ first_state script.limit → ss ≡ script.steps
     → Text w ss t e → IsTextOf bytes t
-text_of bytes script w e ss t is at_start are h = (script, e, is, Text-at w (first_world script.limit) e ss script.steps t at_start are h)
+text_of bytes script w e ss t is at_start are h = (script, e, is, Text-at w (first_state script.limit) e ss script.steps t at_start are h)
 
-pub ran_bytes : (bytes : List ℕ) (script : Script) (w e : WorldState) (ss : List Step) (a b : Option (List ℕ))
-    → IsScript bytes script → w ≡ first_world script.limit → ss ≡ script.steps
-    → ((t : List ℕ) × Text w ss t e × Appends a b t)
+pub ran_bytes : (bytes : List ℕ) (script : Script) (w : ScriptState) (ss : List Step) (a b : Option (List ℕ))
+    → IsScript bytes script → w ≡ first_state script.limit → ss ≡ script.steps
+    → ((t : List ℕ) × (e : ScriptState) × Text w ss t e × Appends a b t)
     → (t : List ℕ) × IsTextOf bytes t × Appends a b t
-ran_bytes bytes script w e ss a b is at_start are (t, h, k) = (t, text_of bytes script w e ss t is at_start are h, k)
+ran_bytes bytes script w ss a b is at_start are (t, e, h, k) = (t, text_of bytes script w e ss t is at_start are h, k)
 
-pub stopped_bytes : (bytes : List ℕ) (script : Script) (w : WorldState) (ss : List Step) (a b : Option (List ℕ))
-    → IsScript bytes script → w ≡ first_world script.limit → ss ≡ script.steps
-    → ((part : List ℕ) × (text : List ℕ) × (end : WorldState) × Text w ss text end × IsBeginning part text × Appends a b part)
+pub stopped_bytes : (bytes : List ℕ) (script : Script) (w : ScriptState) (ss : List Step) (a b : Option (List ℕ))
+    → IsScript bytes script → w ≡ first_state script.limit → ss ≡ script.steps
+    → ((part : List ℕ) × (text : List ℕ) × (end : ScriptState) × Text w ss text end × IsBeginning part text × Appends a b part)
     → Keeps a b ⊎ ((part : List ℕ) × (text : List ℕ) × IsTextOf bytes text × IsBeginning part text × Appends a b part)
 stopped_bytes bytes script w ss a b is at_start are (part, text, e, h, begin, k) =
     inr (part, text, text_of bytes script w e ss text is at_start are h, begin, k)

@@ -4,7 +4,7 @@ use Rattle.eco_ids.specs.declared.refusal.Refusal.{Refusal}
 use Rattle.eco_script.specs.ShownViews.{shown_view}
 use Rattle.eco_script.specs.Replies as spec
 use Rattle.eco_script.specs.declared.reply.Reply.{Reply}
-use Rattle.eco_script.specs.declared.reply.Reply.TheVariants.{Done, Made, Truth, Got, Shown, Listed, Found, Kept, Merged}
+use Rattle.eco_script.specs.declared.reply.Reply.TheVariants.{Done, Made, Truth, Got, Shown, Listed, Found, Kept, Merged, Framed, Stopped}
 
 -- the reply, with what its lists have
 abbrev pub reply_view : Reply → spec.Reply
@@ -17,6 +17,8 @@ reply_view (Listed es) = spec.listed es.items
 reply_view (Found results) = spec.found results
 reply_view (Kept query) = spec.kept query.0
 reply_view (Merged report) = spec.merged report
+reply_view (Framed report) = spec.framed report
+reply_view (Stopped stop) = spec.stopped stop
 
 -- the answer, with its reply so
 abbrev pub answer_view : Result Reply Refusal → Result spec.Reply Refusal

@@ -7,6 +7,8 @@ pub mod References
 pub mod Replies
 pub mod Run
 pub mod ShownViews
+pub mod States
 pub mod Statuses
+pub mod Systems
 pub mod Text
 pub mod Values

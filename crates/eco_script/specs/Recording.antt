@@ -1,15 +1,26 @@
--- What the commands of a script name on the world before their merge.
-use Rattle.std.specs.Prelude.{◌≡◌, Bool, true, false, List, [], ◌∷◌, Result, Ok, Err, MatchResult}
+-- What the commands and actions of a script name on a world.
+use Rattle.std.specs.Prelude.{◌≡◌, Bool, true, false, List, [], ◌∷◌, Option, Some, None, Result, Ok, Err, MatchResult}
 use Rattle.eco_ids.specs.declared.refusal.Refusal.{Refusal}
 use Rattle.eco_ids.specs.Run as run
 use Rattle.eco_ids.specs.World.{WorldState}
 use Rattle.eco_query.specs.Readings.{ok_map}
+use Rattle.eco_bodies.specs.declared.action.Action.{Action}
+use Rattle.eco_bodies.specs.declared.action.Action.TheVariants.{AddId, RemoveId, Put, Sum, Kill, Spawn}
+use Rattle.eco_steps.specs.Actions as texts
 use Rattle.eco_steps.specs.Commands.{Command, create, add, remove, set, clear, rename, delete, delete_with, remove_all}
 use Rattle.eco_script.specs.References.{ReadsBoth, ReadsEntity, ReadsId}
 
 -- what is read is named, and this is made of it; or it is refused
-abbrev pub Names : {A : Type 0} → (Result A Refusal → Type 0) → (A → run.Command) → Result run.Command Refusal → Type 0
+abbrev pub Names : {A C : Type 0} → (Result A Refusal → Type 0) → (A → C) → Result C Refusal → Type 0
 Names {A} Reads make r = (x : Result A Refusal) × Reads x × (r ≡ ok_map make x)
+
+-- texts are read one after another in this way: all of them, or the refusal of the first that is refused
+module _ {T C : Type 0} (One : T → Result C Refusal → Type 0) where
+  abbrev pub ReadsEach : List T → Result (List C) Refusal → Type 0
+  ReadsEach [] r = r ≡ Ok []
+  ReadsEach (t ∷ ts) r =
+      (first : Result C Refusal) × One t first
+      × MatchResult first (λ x. (rest : Result (List C) Refusal) × ReadsEach ts rest × (r ≡ ok_map (λ xs. x ∷ xs) rest)) (λ why. r ≡ Err why)
 
 -- the command that the texts name on a world, or the refusal of the first text that is refused
 abbrev pub ReadsCommand : WorldState → Command → Result run.Command Refusal → Type 0
@@ -23,12 +34,23 @@ ReadsCommand w (delete e) = Names (ReadsEntity w e) (λ x. run.Delete x)
 ReadsCommand w (delete_with i) = Names (ReadsId w i) (λ y. run.DeleteWith y)
 ReadsCommand w (remove_all i) = Names (ReadsId w i) (λ y. run.RemoveAll y)
 
--- commands are read one after another, all on this world: all of them, or the refusal of the first that is refused
+-- the commands that texts name, all on this world
 abbrev pub ReadsCommands : WorldState → List Command → Result (List run.Command) Refusal → Type 0
-ReadsCommands w [] r = r ≡ Ok []
-ReadsCommands w (c ∷ cs) r =
-    (first : Result run.Command Refusal) × ReadsCommand w c first
-    × MatchResult first (λ x. (rest : Result (List run.Command) Refusal) × ReadsCommands w cs rest × (r ≡ ok_map (λ xs. x ∷ xs) rest)) (λ why. r ≡ Err why)
+ReadsCommands w = ReadsEach (ReadsCommand w)
+
+-- the action that the texts name on a world, or the refusal of its text
+abbrev pub ReadsAction : WorldState → texts.Action → Result Action Refusal → Type 0
+ReadsAction w (texts.add i) = Names (ReadsId w i) (λ y. AddId y)
+ReadsAction w (texts.remove i) = Names (ReadsId w i) (λ y. RemoveId y)
+ReadsAction w (texts.put slot v) = λ r. r ≡ Ok (Put slot v)
+ReadsAction w (texts.sum into from) = λ r. r ≡ Ok (Sum into from)
+ReadsAction w texts.kill = λ r. r ≡ Ok Kill
+ReadsAction w (texts.spawn None) = λ r. r ≡ Ok (Spawn None)
+ReadsAction w (texts.spawn (Some i)) = Names (ReadsId w i) (λ y. Spawn (Some y))
+
+-- the actions that texts name, all on this world
+abbrev pub ReadsActions : WorldState → List texts.Action → Result (List Action) Refusal → Type 0
+ReadsActions w = ReadsEach (ReadsAction w)
 
 -- there is a stage
 abbrev pub has_stages : List (List Command) → Bool

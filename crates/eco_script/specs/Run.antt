@@ -1,14 +1,14 @@
 -- What a run of the program writes.
 use Rattle.std.specs.Prelude.{◌⊎◌, ℕ, List, Option, Some, None, ⊤}
 use Rattle.std.specs.Io.KnownBytes.{Appends, Keeps}
-use Rattle.eco_ids.specs.World.{WorldState, first_world}
 use Rattle.eco_script.specs.Beginning.{IsBeginning}
 use Rattle.eco_steps.specs.Script.{Script, IsScript}
+use Rattle.eco_script.specs.States.{ScriptState, first_state}
 use Rattle.eco_script.specs.Text.{Text}
 
--- the bytes are a script, and the text is that of a run of it on a new world
+-- the bytes are a script, and the text is that of a run of it on a new world, without systems
 abbrev pub IsTextOf : List ℕ → List ℕ → Type 0
-IsTextOf bytes text = (script : Script) × (end : WorldState) × IsScript bytes script × Text (first_world script.limit) script.steps text end
+IsTextOf bytes text = (script : Script) × (end : ScriptState) × IsScript bytes script × Text (first_state script.limit) script.steps text end
 
 -- Each of these is said of the bytes that the reader had, and of those that the writer held before and after. Of a device
 -- that tells no bytes nothing is said.

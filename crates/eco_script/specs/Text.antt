@@ -1,5 +1,5 @@
 -- The text that a run of steps writes.
-use Rattle.std.specs.Prelude.{◌≡◌, ℕ, Bool, true, false, ◌||◌, List, [], ◌∷◌, ◌++◌, length, map, flat_map, codes, decimal, Option, Some, None, Result, Ok, Err}
+use Rattle.std.specs.Prelude.{◌≡◌, ℕ, ◌+◌, Bool, true, false, ◌||◌, List, [], ◌∷◌, ◌++◌, length, map, flat_map, codes, decimal, Option, Some, None, Result, Ok, Err}
 use Rattle.std.specs.Prelude.{IsFalse}
 use Rattle.std.specs.List.{list_any}
 use Rattle.eco_ids.specs.declared.entity.Entity.{Entity}
@@ -10,8 +10,11 @@ use Rattle.eco_ids.specs.Refusals.{refusal_text}
 use Rattle.eco_ids.specs.Step.{own_name}
 use Rattle.eco_ids.specs.Text.{entity_text}
 use Rattle.eco_ids.specs.World.{WorldState, held_by}
+use Rattle.eco_frame.specs.Reports.{FrameDone}
+use Rattle.eco_frame.specs.declared.stop.FrameStop.{FrameStop}
 use Rattle.eco_script.specs.Lines.{entity_line, row_line, shown_text}
-use Rattle.eco_script.specs.Replies.{Reply, done, made, truth, got, shown, listed, found, kept, merged, Replies}
+use Rattle.eco_script.specs.Replies.{Reply, done, made, truth, got, shown, listed, found, kept, merged, framed, stopped, StepReplies}
+use Rattle.eco_script.specs.States.{ScriptState}
 use Rattle.eco_steps.specs.Steps.{Step}
 use Rattle.eco_script.specs.Values.{Shown, shown_value}
 use Rattle.eco_stages.specs.Outcomes.{Outcomes}
@@ -39,6 +42,25 @@ abbrev pub outcome_line : Result (Unit {0}) Refusal → List ℕ
 outcome_line (Ok _) = codes "ok\n"
 outcome_line (Err why) = refused_line why
 
+-- the line of a command of a frame, by its number among all commands of the frame, for a refused one alone
+abbrev pub command_line : ℕ → Result (Unit {0}) Refusal → List ℕ
+command_line k (Ok _) = []
+command_line k (Err why) = codes "cmd " ++ decimal k ++ codes " " ++ refused_line why
+
+-- the lines of commands, the first of which has this number
+abbrev pub command_lines : ℕ → Outcomes → List ℕ
+command_lines k [] = []
+command_lines k (o ∷ os) = command_line k o ++ command_lines (k + 1) os
+
+-- the lines of a frame: how many batches and how many commands it had, and those of its commands
+abbrev pub framed_lines : FrameDone → List ℕ
+framed_lines r =
+    codes "ok " ++ decimal r.batches ++ codes " " ++ decimal (length r.outcomes) ++ codes "\n" ++ command_lines 0 r.outcomes
+
+-- the line of a frame that stopped: how many batches were merged, and why it stopped
+abbrev pub stopped_line : FrameStop → List ℕ
+stopped_line stop = codes "stopped " ++ decimal stop.batches ++ codes " " ++ refused_line stop.refusal
+
 -- the lines of a reply, on the world that the step leaves
 abbrev pub reply_lines : WorldState → Reply → List ℕ
 reply_lines w done = codes "ok\n"
@@ -50,39 +72,44 @@ reply_lines w (listed es) = codes "ok " ++ decimal (length es) ++ codes "\n" ++ 
 reply_lines w (found rows) = codes "ok " ++ decimal (length rows) ++ codes "\n" ++ flat_map (λ r. row_line r.entity r.entries) rows
 reply_lines w (kept n) = codes "ok " ++ decimal n ++ codes "\n"
 reply_lines w (merged outcomes) = codes "ok " ++ decimal (length outcomes) ++ codes "\n" ++ flat_map outcome_line outcomes
+reply_lines w (framed r) = framed_lines r
+reply_lines w (stopped stop) = stopped_line stop
 
 -- the lines of a step's answer
 abbrev pub step_lines : WorldState → Result Reply Refusal → List ℕ
 step_lines w (Ok reply) = reply_lines w reply
 step_lines w (Err why) = refused_line why
 
--- the outcomes of the commands of a merge
+-- the outcomes of the commands of a merge or of a frame, and why a frame stopped
 abbrev pub outcomes_of : Result Reply Refusal → Outcomes
 outcomes_of (Ok (merged outcomes)) = outcomes
+outcomes_of (Ok (framed r)) = r.outcomes
+outcomes_of (Ok (stopped stop)) = Err stop.refusal ∷ []
 outcomes_of _ = []
 
--- memory was wanting for the step, or for a command of its merge
+-- memory was wanting for the step, or for a command of its merge or frame
 abbrev pub has_wanted : Result Reply Refusal → Bool
 has_wanted r = is_out_of_memory r || list_any is_out_of_memory (outcomes_of r)
 
--- the step may take the old world to the new one, and these are its lines
-abbrev pub Does : WorldState → Step → List ℕ → WorldState → Type 0
-Does old s lines new = (r : Result Reply Refusal) × Replies old s r new × (lines ≡ step_lines new r)
+-- the step may take the old state to the new one, and these are its lines
+abbrev pub Does : ScriptState → Step → List ℕ → ScriptState → Type 0
+Does old s lines new = (r : Result Reply Refusal) × StepReplies old s r new × (lines ≡ step_lines new.world r)
 
 -- likewise, and memory was not wanting
-abbrev pub DoesInMemory : WorldState → Step → List ℕ → WorldState → Type 0
-DoesInMemory old s lines new = (r : Result Reply Refusal) × Replies old s r new × IsFalse (has_wanted r) × (lines ≡ step_lines new r)
+abbrev pub DoesInMemory : ScriptState → Step → List ℕ → ScriptState → Type 0
+DoesInMemory old s lines new =
+    (r : Result Reply Refusal) × StepReplies old s r new × IsFalse (has_wanted r) × (lines ≡ step_lines new.world r)
 
--- steps, one after another, each of which takes a world to the next so, with their lines
-abbrev pub TextBy : (WorldState → Step → List ℕ → WorldState → Type 0) → WorldState → List Step → List ℕ → WorldState → Type 0
+-- steps, one after another, each of which takes a state to the next so, with their lines
+abbrev pub TextBy : (ScriptState → Step → List ℕ → ScriptState → Type 0) → ScriptState → List Step → List ℕ → ScriptState → Type 0
 TextBy One old [] text new = (text ≡ []) × (new ≡ old)
 TextBy One old (s ∷ ss) text new =
-    (first : List ℕ) × (rest : List ℕ) × (mid : WorldState) × One old s first mid × TextBy One mid ss rest new × (text ≡ first ++ rest)
+    (first : List ℕ) × (rest : List ℕ) × (mid : ScriptState) × One old s first mid × TextBy One mid ss rest new × (text ≡ first ++ rest)
 
--- the steps, one after another, may take the old world to the new one, and this is their text
-abbrev pub Text : WorldState → List Step → List ℕ → WorldState → Type 0
+-- the steps, one after another, may take the old state to the new one, and this is their text
+abbrev pub Text : ScriptState → List Step → List ℕ → ScriptState → Type 0
 Text = TextBy Does
 
 -- likewise, and memory was never wanting
-abbrev pub TextInMemory : WorldState → List Step → List ℕ → WorldState → Type 0
+abbrev pub TextInMemory : ScriptState → List Step → List ℕ → ScriptState → Type 0
 TextInMemory = TextBy DoesInMemory

@@ -1,19 +1,25 @@
-//! Runs one step on a world.
+//! Runs one step of a script.
 
-ghost use Rattle.std.specs.Prelude.{option_map};
+ghost use Rattle.std.specs.Prelude.{◌≤◌, IsFalse, option_map};
+ghost use Rattle.eco_ids.specs.Outcome.{is_out_of_memory};
 ghost use Rattle.eco_script.specs.Answers.{answer_view};
-ghost use Rattle.eco_script.specs.Replies.{Replies};
+ghost use Rattle.eco_script.specs.Replies.{Declares, Replies, StepReplies};
+ghost use Rattle.eco_script.specs.Systems.{reached, ReadsBody};
 ghost use Rattle.eco_steps.specs.Steps as steps;
-ghost use Rattle.eco_steps.specs.Views.{stages_view, step_view};
+ghost use Rattle.eco_steps.specs.Views.{actions_view, stages_view, step_view};
 
-use crate::recording::record_stages;
+use crate::recording::{read_actions, record_stages};
 use crate::references::{read_entity, read_id, read_query};
 use crate::reply::Reply;
 use crate::shown_value::ShownValue;
+use eco_bodies::{Script, Systems};
+use eco_frame::run_frame;
 use eco_ids::{Refusal, Value};
-use eco_steps::{Arity, Stages, Step};
-use eco_world::{QueryId, World};
+use eco_steps::{Actions, Arity, Stages, Step};
+use eco_systems::Phase;
+use eco_world::{Query, QueryId, World};
 use std::alloc::Global;
+use std::thread::Threads;
 
 fn create(world: &mut World, name: Option<&str>) -> Result<Reply, Refusal>
     ensures { Replies world.old (steps.create (option_map (λ s. s.now) name.entry))
@@ -163,9 +169,70 @@ fn merge(
     Ok(Reply::Merged(report))
 }
 
-/// Runs a step on a world. What is recorded for a merge takes its memory from `alloc`.
-pub fn perform(alloc: Global, world: &mut World, step: &Step<'_>) -> Result<Reply, Refusal>
-    ensures { Replies world.old (step_view step.now) (answer_view result) world.new }
+// The body of a system, for the rows of a query.
+fn read_body(
+    alloc: Global,
+    world: &World,
+    query: &Query,
+    actions: Actions<'_>,
+) -> Result<Script, Refusal>
+    ensures { IsFalse (is_out_of_memory result)
+        → ReadsBody world.now query.now (actions_view actions.entry) result }
+{
+    let actions = read_actions(alloc, world, actions)?;
+    Script::new(alloc, query, actions)
+}
+
+fn system(
+    alloc: Global,
+    world: &World,
+    systems: &mut Systems<Script>,
+    name: &str,
+    phase: Phase,
+    text: &str,
+    actions: Actions<'_>,
+) -> Result<Reply, Refusal>
+    ensures { Declares (reached world.now systems.old) name.now phase text.now (actions_view actions.entry)
+        (answer_view result) (reached world.now systems.new) }
+{
+    let query = read_query(text, world)?;
+    let body = read_body(alloc, world, &query, actions)?;
+    match systems.add(name, phase, query, body) {
+        Ok(()) => Ok(Reply::Done),
+        Err(not_added) => Err(not_added.refusal),
+    }
+}
+
+fn frame<R: Threads + Sync>(
+    rt: &R,
+    alloc: Global,
+    world: &mut World,
+    systems: &Systems<Script>,
+    workers: u32,
+) -> Reply
+    requires { (1 ≤ workers) × (workers ≤ 64) }
+    ensures { StepReplies (reached world.old systems.now) steps.frame
+        (answer_view (Ok result)) (reached world.new systems.now) }
+{
+    match run_frame(rt, alloc, world, systems, workers) {
+        Ok(report) => Reply::Framed(report),
+        Err(stop) => Reply::Stopped(stop),
+    }
+}
+
+/// Runs a step on a world, with the systems declared so far; a frame of them has so many workers, 1 to 64. What is recorded for a
+/// merge, and what is kept of a system, take their memory from `alloc`.
+pub fn perform<R: Threads + Sync>(
+    rt: &R,
+    alloc: Global,
+    world: &mut World,
+    systems: &mut Systems<Script>,
+    workers: u32,
+    step: &Step<'_>,
+) -> Result<Reply, Refusal>
+    requires { (1 ≤ workers) × (workers ≤ 64) }
+    ensures { StepReplies (reached world.old systems.old) (step_view step.now)
+        (answer_view result) (reached world.new systems.new) }
 {
     match *step {
         Step::Create(name) => create(world, name),
@@ -186,5 +253,12 @@ pub fn perform(alloc: Global, world: &mut World, step: &Step<'_>) -> Result<Repl
         Step::Cache { text } => cache(world, text),
         Step::Cached { query } => cached(world, query),
         Step::Merge { admitted, stages } => merge(alloc, world, admitted, stages),
+        Step::System {
+            name,
+            phase,
+            query,
+            actions,
+        } => system(alloc, world, systems, name, phase, query, actions),
+        Step::Frame => Ok(frame(rt, alloc, world, systems, workers)),
     }
 }

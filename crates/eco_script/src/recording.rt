@@ -1,17 +1,19 @@
-//! Stages recorded from the texts of a script, all of which are read on one world.
+//! Stages and actions from the texts of a script, all of which are read on one world.
 
-ghost use Rattle.std.specs.Prelude.{◌≡◌, IfOk, IsFalse, IsTrue, flat_map, option_map, string_bytes};
+ghost use Rattle.std.specs.Prelude.{◌≡◌, Some, IfOk, IsFalse, IsTrue, flat_map, option_map, string_bytes};
 ghost use Rattle.eco_ids.specs.Outcome.{is_out_of_memory};
 ghost use Rattle.eco_query.specs.Readings.{ok_map};
-ghost use Rattle.eco_script.specs.Recording.{ReadsCommand, ReadsCommands, has_stages};
+ghost use Rattle.eco_script.specs.Recording.{ReadsAction, ReadsActions, ReadsCommand, ReadsCommands, has_stages};
 ghost use Rattle.eco_stages.specs.Commands.{command_of};
+ghost use Rattle.eco_steps.specs.Actions as actions;
 ghost use Rattle.eco_steps.specs.Commands as texts;
-ghost use Rattle.eco_steps.specs.Views.{command_view, commands_view, stages_view};
+ghost use Rattle.eco_steps.specs.Views.{action_view, actions_view, command_view, commands_view, stages_view};
 ghost use Rattle.eco_world.specs.Merging.{all_commands};
 
 use crate::references::{read_both, read_entity, read_id};
+use eco_bodies::Action;
 use eco_ids::{Refusal, Value};
-use eco_steps::{Commands, Stages};
+use eco_steps::{Actions, Commands, Stages};
 use eco_world::{Command, Stage, World};
 use std::alloc::{AllocError, Global};
 
@@ -145,4 +147,56 @@ pub fn record_stages(
         recorded.push_reserved(stage);
     }
     Ok(recorded)
+}
+
+fn add_id(world: &World, id: &str) -> Result<Action, Refusal>
+    ensures { ReadsAction world.now (actions.add id.now) result }
+{
+    Ok(Action::AddId(read_id(id, world)?))
+}
+
+fn remove_id(world: &World, id: &str) -> Result<Action, Refusal>
+    ensures { ReadsAction world.now (actions.remove id.now) result }
+{
+    Ok(Action::RemoveId(read_id(id, world)?))
+}
+
+fn spawn(world: &World, id: &str) -> Result<Action, Refusal>
+    ensures { ReadsAction world.now (actions.spawn (Some id.now)) result }
+{
+    Ok(Action::Spawn(Some(read_id(id, world)?)))
+}
+
+// The action that texts name on a world.
+fn read_action(world: &World, action: eco_steps::Action<'_>) -> Result<Action, Refusal>
+    ensures { ReadsAction world.now (action_view action.entry) result }
+{
+    match action {
+        eco_steps::Action::Add { id } => add_id(world, id),
+        eco_steps::Action::Remove { id } => remove_id(world, id),
+        eco_steps::Action::Put { slot, value } => Ok(Action::Put { slot, value }),
+        eco_steps::Action::Sum { into, from } => Ok(Action::Sum { into, from }),
+        eco_steps::Action::Kill => Ok(Action::Kill),
+        eco_steps::Action::Spawn { id: None } => Ok(Action::Spawn(None)),
+        eco_steps::Action::Spawn { id: Some(id) } => spawn(world, id),
+    }
+}
+
+/// The actions of a system, whose texts are read in their order on a world.
+///
+/// The error is that of the first text that is refused, or `OutOfMemory` where there is none for the list.
+pub fn read_actions(
+    alloc: Global,
+    world: &World,
+    actions: Actions<'_>,
+) -> Result<Vec<Action>, Refusal>
+    ensures { IsFalse (is_out_of_memory result)
+        → ReadsActions world.now (actions_view actions.entry) (ok_map (λ v. v.items) result) }
+{
+    let mut read = Vec::with_capacity(alloc, actions.len())?;
+    for place in 0..actions.len() {
+        let action = read_action(world, actions.get(place).unwrap())?;
+        read.push_reserved(action);
+    }
+    Ok(read)
 }

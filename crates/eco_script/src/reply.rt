@@ -1,12 +1,15 @@
 //! What the steps of a script answer.
 
-ghost use Rattle.std.specs.Prelude.{◌≡◌, ◌++◌, OnOk, string_bytes, flat_map};
+ghost use Rattle.std.specs.Prelude.{◌≡◌, ◌+◌, ◌≤◌, ◌++◌, length, IfOk, OnOk, string_bytes, flat_map};
+ghost use Rattle.eco_systems.specs.Batches.{joined};
 ghost use Rattle.eco_script.specs.Answers.{answer_view, reply_view};
 ghost use Rattle.eco_script.specs.Lines.{row_line};
-ghost use Rattle.eco_script.specs.Text.{line_of, outcome_line, refused_line, reply_lines, step_lines};
+ghost use Rattle.eco_script.specs.Text.{command_line, command_lines, framed_lines, line_of, outcome_line, refused_line, reply_lines};
+ghost use Rattle.eco_script.specs.Text.{step_lines, stopped_line};
 
 use crate::lines::{EntityLine, RowLine};
 use crate::shown_value::ShownValue;
+use eco_frame::{FrameReport, FrameStop};
 use eco_ids::{Entity, Refusal};
 use eco_world::{QueryId, Report, Results, World};
 use std::alloc::AllocError;
@@ -32,6 +35,10 @@ pub enum Reply {
     Kept(QueryId),
     /// The outcomes of the commands of a merge, in order.
     Merged(Report),
+    /// What a frame did that ran to its end.
+    Framed(FrameReport),
+    /// Where a frame stopped.
+    Stopped(FrameStop),
 }
 
 // Adds the line of a refusal.
@@ -62,6 +69,69 @@ fn push_outcome_lines(text: &mut String, report: &Report) -> Result<(), AllocErr
         push_outcome_line(text, outcome)?;
     }
     Ok(())
+}
+
+// Adds the line of a command of a frame, if it was refused.
+fn push_command_line(
+    text: &mut String,
+    number: usize,
+    outcome: Result<(), Refusal>,
+) -> Result<(), AllocError>
+    ensures { OnOk result (string_bytes text.new
+        ≡ string_bytes text.old ++ command_line number outcome) }
+{
+    match outcome {
+        Ok(()) => Ok(()),
+        Err(refusal) => write!(text, "cmd {number} refused {refusal}\n"),
+    }
+}
+
+// Adds the lines of commands of a frame, the first of which has this number, and gives the number of the one behind them.
+fn push_command_lines(text: &mut String, first: usize, report: &Report) -> Result<usize, AllocError>
+    requires { first + length report.now ≤ usize.MAX }
+    ensures lines { OnOk result (string_bytes text.new
+        ≡ string_bytes text.old ++ command_lines first report.now) }
+    ensures next { IfOk result (λ n. n ≡ first + length report.now) }
+{
+    let mut number = first;
+    for outcome in report.iter() {
+        push_command_line(text, number, outcome)?;
+        number += 1;
+    }
+    Ok(number)
+}
+
+// Adds the lines of the commands of a frame.
+fn push_frame_lines(text: &mut String, reports: &[Report]) -> Result<(), AllocError>
+    requires { length (joined reports.now) ≤ usize.MAX }
+    ensures { OnOk result (string_bytes text.new
+        ≡ string_bytes text.old ++ command_lines 0 (joined reports.now)) }
+{
+    let mut number = 0;
+    for report in reports {
+        number = push_command_lines(text, number, report)?;
+    }
+    Ok(())
+}
+
+// Adds the lines of a frame.
+fn push_framed(text: &mut String, report: &FrameReport) -> Result<(), AllocError>
+    ensures { OnOk result (string_bytes text.new
+        ≡ string_bytes text.old ++ framed_lines report.now) }
+{
+    let batches = report.batches();
+    let commands = report.commands();
+    write!(text, "ok {batches} {commands}\n")?;
+    push_frame_lines(text, report.reports())
+}
+
+// Adds the line of a frame that stopped.
+fn push_stopped(text: &mut String, stop: &FrameStop) -> Result<(), AllocError>
+    ensures { OnOk result (string_bytes text.new
+        ≡ string_bytes text.old ++ stopped_line stop.now) }
+{
+    let FrameStop { batches, refusal } = *stop;
+    write!(text, "stopped {batches} refused {refusal}\n")
 }
 
 // Adds the lines of entities.
@@ -131,6 +201,8 @@ impl Reply {
                 write!(text, "ok {count}\n")?;
                 push_outcome_lines(text, report)
             }
+            Reply::Framed(report) => push_framed(text, report),
+            Reply::Stopped(stop) => push_stopped(text, stop),
         }
     }
 }

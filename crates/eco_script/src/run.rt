@@ -1,10 +1,11 @@
 //! Runs of scripts.
 
-ghost use Rattle.std.specs.Prelude.{◌≡◌, ◌≢◌, ℕ, ◌+◌, ◌^◌, ◌<◌, ◌≤◌, List, ◌++◌, Some, OnOk, OnErr, IsErrOf, map, string_bytes};
+ghost use Rattle.std.specs.Prelude.{◌≡◌, ◌≢◌, ℕ, ◌+◌, ◌^◌, ◌<◌, ◌≤◌, List, [], ◌++◌, Some, OnOk, OnErr, IsErrOf, map, string_bytes};
 ghost use Rattle.std.specs.Io.KnownBytes.{Appends};
-ghost use Rattle.eco_ids.specs.World.{WorldState};
 ghost use Rattle.eco_script.specs.Beginning.{IsBeginning};
 ghost use Rattle.eco_script.specs.Run.{Ran, WasNotRead, WasStopped};
+ghost use Rattle.eco_script.specs.States.{ScriptState};
+ghost use Rattle.eco_script.specs.Systems.{reached};
 ghost use Rattle.eco_script.specs.Text.{Does, Text};
 ghost use Rattle.eco_steps.specs.Views.{step_view};
 
@@ -12,25 +13,32 @@ use crate::device::{DeviceFailed, ScriptReader, ScriptWriter};
 use crate::fault::Fault;
 use crate::status::Status;
 use crate::{perform, reply, transfer};
+use eco_bodies::Systems;
 use eco_steps::{ReadError, Script, Step};
 use eco_world::World;
 use serde_json::Value;
 use std::alloc::{AllocError, Global};
+use std::thread::Threads;
 
 // How many bytes of lines are gathered before they are written.
 const GATHERED: usize = 65_536;
 
 // Runs a step, and puts its lines behind others. The error is want of memory for the lines.
-fn run_step(
+fn run_step<R: Threads + Sync>(
+    rt: &R,
     alloc: Global,
     world: &mut World,
+    systems: &mut Systems,
+    workers: u32,
     step: &Step<'_>,
     text: &mut String,
 ) -> Result<(), AllocError>
-    ensures { OnOk result ((lines : List ℕ) × Does world.old (step_view step.now) lines world.new
+    requires { (1 ≤ workers) × (workers ≤ 64) }
+    ensures { OnOk result ((lines : List ℕ)
+        × Does (reached world.old systems.old) (step_view step.now) lines (reached world.new systems.new)
         × (string_bytes text.new ≡ string_bytes text.old ++ lines)) }
 {
-    let answer = perform::perform(alloc, world, step);
+    let answer = perform::perform(rt, alloc, world, systems, workers, step);
     reply::push_step_lines(text, world, &answer)
 }
 
@@ -52,25 +60,30 @@ fn write_many<W: ScriptWriter>(writer: &mut W, text: &mut String) -> Result<(), 
 }
 
 // Runs the steps on a world, and writes their lines.
-fn run_steps<W: ScriptWriter>(
+fn run_steps<R: Threads + Sync, W: ScriptWriter>(
+    rt: &R,
     alloc: Global,
     world: &mut World,
+    workers: u32,
     steps: &[Step<'_>],
     writer: &mut W,
 ) -> Result<(), Fault>
+    requires workers { (1 ≤ workers) × (workers ≤ 64) }
     requires countable { W.failures writer.old + 1 < 2 ^ 64 }
-    ensures ok { OnOk result ((text : List ℕ) × Text world.old (map step_view steps.now) text world.new
+    ensures ok { OnOk result ((text : List ℕ) × (end : ScriptState)
+        × Text (reached world.old []) (map step_view steps.now) text end
         × Appends (W.held writer.old) (W.held writer.new) text) }
-    ensures err { OnErr result ((part : List ℕ) × (text : List ℕ) × (end : WorldState)
-        × Text world.old (map step_view steps.now) text end
+    ensures err { OnErr result ((part : List ℕ) × (text : List ℕ) × (end : ScriptState)
+        × Text (reached world.old []) (map step_view steps.now) text end
         × IsBeginning part text × Appends (W.held writer.old) (W.held writer.new) part) }
     ensures device { IsErrOf result Fault.Device → W.failures writer.new ≡ W.failures writer.old + 1 }
     ensures read { IsErrOf result Fault.NotRead → ⊥ }
 {
     eco_query::laws::texts_are_read();
+    let mut systems = Systems::new(alloc);
     let mut text = String::new(alloc);
     for step in steps {
-        let Ok(()) = run_step(alloc, world, step, &mut text) else {
+        let Ok(()) = run_step(rt, alloc, world, &mut systems, workers, step, &mut text) else {
             return Err(Fault::Memory);
         };
         let Ok(()) = write_many(writer, &mut text) else {
@@ -84,7 +97,14 @@ fn run_steps<W: ScriptWriter>(
 }
 
 // Runs the script that some bytes are, and says why it gave up.
-fn run_bytes<W: ScriptWriter>(alloc: Global, bytes: &[u8], writer: &mut W) -> Result<(), Fault>
+fn run_bytes<R: Threads + Sync, W: ScriptWriter>(
+    rt: &R,
+    alloc: Global,
+    bytes: &[u8],
+    writer: &mut W,
+    workers: u32,
+) -> Result<(), Fault>
+    requires workers { (1 ≤ workers) × (workers ≤ 64) }
     requires countable { W.failures writer.old + 1 < 2 ^ 64 }
     ensures ok { OnOk result (Ran (Some bytes.now) (W.held writer.old) (W.held writer.new)) }
     ensures not_read { IsErrOf result Fault.NotRead
@@ -105,14 +125,23 @@ fn run_bytes<W: ScriptWriter>(alloc: Global, bytes: &[u8], writer: &mut W) -> Re
     let Ok(mut world) = World::new(alloc, script.limit) else {
         return Err(Fault::Memory);
     };
-    run_steps(alloc, &mut world, script.steps.as_slice(), writer)
+    run_steps(
+        rt,
+        alloc,
+        &mut world,
+        workers,
+        script.steps.as_slice(),
+        writer,
+    )
 }
 
 /// Reads a script to the end of the input, and runs it on a world of its own. Its lines go to the writer in the
 /// order of the steps, many at a time.
 ///
-/// All work is done on the calling thread, whatever the number of workers, 1 to 64.
-pub fn run_script<R: ScriptReader, W: ScriptWriter>(
+/// Frames of the script's systems have so many workers, 1 to 64, of which the calling thread is one. How many there are changes
+/// nothing but which row of a frame draws which fresh handle.
+pub fn run_script<T: Threads + Sync, R: ScriptReader, W: ScriptWriter>(
+    rt: &T,
     alloc: Global,
     reader: &mut R,
     writer: &mut W,
@@ -133,12 +162,11 @@ pub fn run_script<R: ScriptReader, W: ScriptWriter>(
     ensures no_other { result ≢ Status.BadArguments }
     ensures reads { R.calls reader.new ≤ R.calls reader.old + 16777216 }
 {
-    let _ = workers;
     let bytes = match transfer::read_all(alloc, reader) {
         Ok(bytes) => bytes,
         Err(_) => return Status::Stopped,
     };
-    match run_bytes(alloc, bytes.as_slice(), writer) {
+    match run_bytes(rt, alloc, bytes.as_slice(), writer, workers) {
         Ok(()) => Status::Ran,
         Err(Fault::NotRead) => Status::NotRead,
         Err(_) => Status::Stopped,

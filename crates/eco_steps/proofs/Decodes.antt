@@ -1,55 +1,28 @@
 -- What is found in a value is exactly the script that it is.
-use Rattle.std.proofs.Common.{◌≡◌, ◌+◌, ◌≤◌, ◌^◌, ◌<◌, ◌-◌, ℕ, ℤ, pos, negsuc, Bool, true, false, List, [], ◌∷◌, ◌++◌, length, take, drop, replicate, map}
-use Rattle.std.proofs.Common.{nat_lt, nat_le, ◌&&◌, Option, Some, None, option_map, option_and_then, if◌then◌else◌, refl, ap, sym, ◌∙◌, codes, arith}
-use Rattle.std.proofs.Common.{get_or, set as set_at, to_z, of_z}
-use Rattle.std.specs.Int.{w64}
-use Rattle.std.specs.List.{AllZip}
+use Rattle.std.proofs.Common.{◌≡◌, ◌≤◌, ℕ, true, List, [], ◌∷◌}
+use Rattle.std.proofs.Common.{Option, Some, None, option_map, option_and_then, refl, ap, sym, ◌∙◌, codes, arith}
 use Rattle.std.specs.Str.{bytes_eq}
-use Rattle.std.proofs.lemmas.Int.{to_z-of_z}
-use Rattle.std.proofs.lemmas.List.{append-nil, drop_all, drop-drop, drop-replicate, drop-set-lt, length-drop, length-map, length-replicate, take-append-drop}
-use Rattle.std.proofs.lemmas.List.{take_more_set}
-use Rattle.std.proofs.lemmas.Slice.Eq.{bytes_eq-Decides}
-use Rattle.std.proofs.lemmas.Option.{option_and_then_some, some_pair_parts}
-use Rattle.serde_json.specs.Data.{Data, null, boolean, number, string, array, object, unsigned, negative, float}
+use Rattle.std.proofs.lemmas.Option.{option_and_then_some}
+use Rattle.serde_json.specs.Data.{Data, number, string, unsigned}
 use Rattle.serde_json.specs.Find.{as_str}
-use Rattle.eco_ids.specs.declared.value.TheConstants.{FIELD_COUNT, LARGEST_ARITY}
+use Rattle.eco_ids.specs.declared.value.TheConstants.{LARGEST_ARITY}
 use Rattle.eco_ids.specs.declared.value.Value.{Value}
-use Rattle.eco_steps.specs.Decode.{items_list, list_in, each_in, name_in, number_in, integer_in, value_of_items, value_in, step_of_none}
-use Rattle.eco_steps.specs.Decode.{step_of_one, step_of_text, step_of_texts, step_of_two, step_of_three, step_of, words_of, words_in}
-use Rattle.eco_steps.specs.Decode.{alone_in, command_of, command_in, stage_in, stages_in, merge_of, step_with, step_in, parts_of, parts_in, script_of, script_in}
+use Rattle.eco_steps.specs.Decode.{list_in, each_in, name_in, number_in, value_in, step_of_none}
+use Rattle.eco_steps.specs.Decode.{step_of_one, step_of_text, step_of_texts, step_of_two, step_of_three, step_of, words_in}
+use Rattle.eco_steps.specs.Decode.{alone_in, command_of, command_in, stage_in, stages_in, merge_of, phase_of, actions_in, system_with, system_of, step_with, step_in, parts_of, parts_in, script_of, script_in}
 use Rattle.eco_steps.specs.Script.{Script, IsScriptData, IsScript}
 use Rattle.eco_steps.specs.Steps.{Step, create, component, add, remove, set, clear, remove_all, delete, delete_with, rename, has, get, show, list, query}
-use Rattle.eco_steps.specs.Steps.{cache, cached, merge}
+use Rattle.eco_steps.specs.Steps.{cache, cached, merge, system, frame, phase_word}
+use Rattle.eco_systems.specs.declared.phase.Phase.{Phase}
+use Rattle.eco_steps.specs.Actions.{Action}
 use Rattle.eco_steps.specs.Commands.{Command}
 use Rattle.eco_steps.specs.Commands as command
-use Rattle.eco_steps.specs.Steps.{IsIntegerData, IsValueData, IsCommandData, IsStageData, IsStagesData, IsStepData, value_with, written, list_data, name_data}
-use Rattle.eco_steps.proofs.Values.{items_list-items_of, items_of-items_list, each_found, each_is, one_more}
+use Rattle.eco_steps.specs.Steps.{IsCommandData, IsStageData, IsStagesData, IsStepData, written, list_data}
+use Rattle.eco_steps.proofs.Values.{items_list-items_of, each_found, each_is}
+use Rattle.eco_steps.proofs.Parts.{number_in_range, value_found, chosen, word_is, str_is, name_is, number_is, list_is, value_is, words_is}
+use Rattle.eco_steps.proofs.Acts.{phase_found, phase_is, actions_found, actions_are}
 
 -- ---- what is written is found
-
-number_in_range : (low high n : ℕ) → low ≤ n → n ≤ high → number_in low high (number (unsigned n)) ≡ Some n
-number_in_range low high n l h = grind arith
-
-integer_found : (d : Data) (z : ℤ) → IsIntegerData d z → integer_in d ≡ Some z
-integer_found d (pos n) (is, fits) = let small : n < 2 ^ 63 = fits.sfits in rw is (grind arith)
-integer_found d (negsuc n) (is, fits) = let small : n < 2 ^ 63 = fits.sfits in rw is (grind arith)
-
--- a list of as many items is that long
-same_length : {A B : Type 0} (R : A → B → Type 0) (xs : List A) (ys : List B) → AllZip R xs ys → length xs ≡ length ys
-same_length R [] [] are = refl
-same_length R [] (y ∷ ys) are = absurd are
-same_length R (x ∷ xs) [] are = absurd are
-same_length R (x ∷ xs) (y ∷ ys) are = grind (arith, same_length R xs ys are.1)
-
-value_of : (ds : List Data) (zs : List ℤ) → 1 ≤ length ds → length ds ≤ FIELD_COUNT → each_in integer_in ds ≡ Some zs
-    → value_of_items ds ≡ Some (value_with zs)
-value_of ds zs l h e = rw e (grind arith)
-
-value_found : (d : Data) (v : Value) → IsValueData d v → value_in d ≡ Some v
-value_found d v is =
-    let long = same_length IsIntegerData is.items is.fields is.are_integers in
-    rw (is.is_list, items_list-items_of is.items, is.filled)
-    (value_of is.items is.fields (omega arith) (omega arith) (each_found integer_in IsIntegerData integer_found is.items is.fields is.are_integers))
 
 command_found : (d : Data) (c : Command) → IsCommandData d c → command_in d ≡ Some c
 command_found d (command.create handle) is = rw is refl
@@ -92,6 +65,8 @@ step_found d (cached n) (is, most) = rw (is, number_in_range 0 4294967295 n (ome
 step_found d (merge n stages) (value, is, most, of) =
     let at : number_in 0 1048576 (number (unsigned n)) ≡ Some n = number_in_range 0 1048576 n (omega arith) most in
     rw (is, at, stages_found value stages of) refl
+step_found d (system name phase text actions) (value, is, are) = rw (is, phase_found phase, actions_found value actions are) refl
+step_found d frame is = rw is refl
 
 script_in_data : (d : Data) (s : Script) → IsScriptData d s → script_in d ≡ Some s
 script_in_data d s is =
@@ -104,142 +79,11 @@ script_in_data d s is =
 
 -- ---- what is found is what is written
 
--- an `if` that gives something gives that of one side
-chosen : {A : Type 0} (P : Type 0) (b : Bool) (x y : Option A) (z : A) → (if b then x else y) ≡ Some z
-    → (b ≡ true → x ≡ Some z → P) → (y ≡ Some z → P) → P
-chosen P true x y z e at_true at_false = at_true refl e
-chosen P false x y z e at_true at_false = at_false e
-
-word_is : (w c : List ℕ) → bytes_eq w c ≡ true → w ≡ c
-word_is w c e = (bytes_eq-Decides w c).0 e
-
-str_is : (d : Data) (t : List ℕ) → as_str d ≡ Some t → d ≡ string t
-str_is (string s) t e = grind arith
-str_is null t e = cc
-str_is (boolean b) t e = cc
-str_is (number n) t e = cc
-str_is (array ds) t e = cc
-str_is (object ms) t e = cc
-
-name_is : (d : Data) (n : Option (List ℕ)) → name_in d ≡ Some n → d ≡ name_data n
-name_is null n e = grind arith
-name_is (string s) n e = grind arith
-name_is (boolean b) n e = cc
-name_is (number m) n e = cc
-name_is (array ds) n e = cc
-name_is (object ms) n e = cc
-
-number_is : (low high : ℕ) (d : Data) (n : ℕ) → number_in low high d ≡ Some n → (d ≡ number (unsigned n)) × (low ≤ n) × (n ≤ high)
-number_is low high (number (unsigned m)) n e = grind arith
-number_is low high (number (negative z)) n e = cc
-number_is low high (number (float x)) n e = cc
-number_is low high null n e = cc
-number_is low high (boolean b) n e = cc
-number_is low high (string s) n e = cc
-number_is low high (array ds) n e = cc
-number_is low high (object ms) n e = cc
-
-list_is : (d : Data) (ds : List Data) → list_in d ≡ Some ds → d ≡ list_data ds
-list_is (array is) ds e = let q : items_list is ≡ ds = cc in rw (← q, items_of-items_list is) refl
-list_is null ds e = cc
-list_is (boolean b) ds e = cc
-list_is (number n) ds e = cc
-list_is (string s) ds e = cc
-list_is (object ms) ds e = cc
-
--- a number below a limit, and the whole number that it makes
-small_is : (make : ℕ → ℤ) (n : ℕ) (z : ℤ) → (if nat_lt n (2 ^ 63) then Some (make n) else None) ≡ Some z → (make n ≡ z) × (n < 2 ^ 63)
-small_is make n z e = grind arith
-
-integer_is : (d : Data) (z : ℤ) → integer_in d ≡ Some z → IsIntegerData d z
-integer_is (number (unsigned n)) z e =
-    let (is, small) = small_is (λ k. pos k) n z e in rw (← is) (refl, record { sfits = small })
-integer_is (number (negative (pos n))) z e = cc
-integer_is (number (negative (negsuc n))) z e =
-    let (is, small) = small_is (λ k. negsuc k) n z e in rw (← is) (refl, record { sfits = small })
-integer_is (number (float x)) z e = cc
-integer_is null z e = cc
-integer_is (boolean b) z e = cc
-integer_is (string s) z e = cc
-integer_is (array ds) z e = cc
-integer_is (object ms) z e = cc
-
--- a list of as many items as there may be fields
-few : (ds : List Data) (o : Option Value) (v : Value) → (if nat_le 1 (length ds) && nat_le (length ds) FIELD_COUNT then o else None) ≡ Some v
-    → (1 ≤ length ds) × (length ds ≤ FIELD_COUNT) × (o ≡ Some v)
-few ds o v e = grind arith
-
--- each of the items is a field
-fields_are : (ds : List Data) (v : Value) → value_of_items ds ≡ Some v → IsValueData (list_data ds) v
-fields_are ds v e = counted (each_in integer_in ds) refl (few ds (option_map value_with (each_in integer_in ds)) v e) where
-  counted : (o : Option (List ℤ)) → each_in integer_in ds ≡ o → (1 ≤ length ds) × (length ds ≤ FIELD_COUNT) × (option_map value_with o ≡ Some v)
-      → IsValueData (list_data ds) v
-  counted None n (low, high, h) = cc
-  counted (Some fields) n (low, high, h) =
-      let are = each_is integer_in IsIntegerData integer_is ds fields n in
-      let long = same_length IsIntegerData ds fields are in
-      record { items = ds; fields = fields; is_list = refl; are_integers = are; at_least = omega arith; at_most = omega arith; filled = cc }
-
-value_is : (d : Data) (v : Value) → value_in d ≡ Some v → IsValueData d v
-value_is d v e = option_and_then_some value_of_items (list_in d) v e (λ ds is h. rw (list_is d ds is) (fields_are ds v h))
-
--- the fields that were read, with zeros behind them, are the value
-pub value_read : (ds : List Data) (fields : List ℤ) (i : ℕ) → i ≡ length ds → 1 ≤ length ds → length ds ≤ FIELD_COUNT
-    → each_in integer_in ds ≡ Some (take i fields) → drop i fields ≡ replicate (FIELD_COUNT - i) (pos 0)
-    → value_of_items ds ≡ Some (record { 0 = fields })
-value_read ds fields i count low high found zeros =
-    let long : length ds ≡ length (take i fields) = same_length IsIntegerData ds (take i fields)
-    (each_is integer_in IsIntegerData integer_is ds (take i fields) found) in
-    let whole : take i fields ++ replicate (FIELD_COUNT - length (take i fields)) (pos 0) ≡ fields =
-    ap (λ n. take i fields ++ replicate (FIELD_COUNT - n) (pos 0)) (sym long ∙ sym count) ∙ ap (λ t. take i fields ++ t) (sym zeros)
-    ∙ take-append-drop i fields in
-    value_of ds (take i fields) low high found ∙ ap (λ fs. let v : Value = record { 0 = fs } in Some v) whole
-
--- likewise, where nothing is left of the items
-pub value_read_all : {X : Type 0} (f : X → Data) (items : List X) (d : Data) (fields : List ℤ) (i : ℕ) → i ≡ length items
-    → 1 ≤ length items → length items ≤ FIELD_COUNT
-    → Some (map f items) ≡ list_in d
-    → each_in integer_in (map f items) ≡ option_map (λ zs. take i fields ++ zs) (each_in integer_in (map f (drop i items)))
-    → drop i fields ≡ replicate (FIELD_COUNT - i) (pos 0) → Some (record { 0 = fields }) ≡ value_in d
-value_read_all f items d fields i count low high is found zeros =
-    let long = length-map items f in
-    let none : drop i items ≡ [] = drop_all i items (omega arith) in
-    let all : each_in integer_in (map f items) ≡ Some (take i fields) =
-    found ∙ ap (λ xs. option_map (λ zs. take i fields ++ zs) (each_in integer_in (map f xs))) none ∙ ap Some (append-nil (take i fields)) in
-    sym (value_read (map f items) fields i (omega arith) (omega arith) (omega arith) all zeros) ∙ ap (λ o. option_and_then value_of_items o) is
-
-neither : (b : Bool) → let none : Option Value = None in none ≡ (if b then none else none)
-neither true = refl
-neither false = refl
-
--- one more field was read, into the place of a zero
-pub field_read : {X : Type 0} (f : X → Data) (items : List X) (i : ℕ) (item : X) (fields : List ℤ) (z : ℤ) → i < length items
-    → length items ≤ FIELD_COUNT → Some z ≡ integer_in (f (get_or items i item))
-    → each_in integer_in (map f items) ≡ option_map (λ zs. take i fields ++ zs) (each_in integer_in (map f (drop i items)))
-    → drop i fields ≡ replicate (FIELD_COUNT - i) (pos 0)
-    → let new = set_at fields i (to_z w64 (of_z w64 z)) in
-    (each_in integer_in (map f items) ≡ option_map (λ zs. take (i + 1) new ++ zs) (each_in integer_in (map f (drop (i + 1) items))))
-    × (drop (i + 1) new ≡ replicate (FIELD_COUNT - (i + 1)) (pos 0))
-field_read f items i item fields z there small is found zeros =
-    let kept : to_z w64 (of_z w64 z) ≡ z = to_z-of_z w64 z (integer_is (f (get_or items i item)) z (sym is)).1 in
-    let left = sym (length-drop i fields) ∙ ap (λ xs. length xs) zeros ∙ length-replicate (FIELD_COUNT - i) (pos 0) in
-    let behind : drop (i + 1) fields ≡ replicate (FIELD_COUNT - i - 1) (pos 0) =
-    sym (drop-drop 1 i fields) ∙ ap (λ xs. drop 1 xs) zeros ∙ drop-replicate 1 (FIELD_COUNT - i) (pos 0) in
-    let count : FIELD_COUNT - i - 1 ≡ FIELD_COUNT - (i + 1) = omega arith in
-    rw kept (
-      one_more f integer_in items i item (take i fields) (take (i + 1) (set_at fields i z)) z there is (take_more_set fields i z (omega arith)) found,
-      drop-set-lt (i + 1) fields i z (omega arith) ∙ behind ∙ ap (λ n. replicate n (pos 0)) count,
-    )
-
--- where an item is no field, the value is none
-pub no_value : {X : Type 0} (f : X → Data) (items : List X) (d : Data) → Some (map f items) ≡ list_in d → each_in integer_in (map f items) ≡ None
-    → None ≡ value_in d
-no_value f items d is none = rw (← is, none) (neither (nat_le 1 (length (map f items)) && nat_le (length (map f items)) FIELD_COUNT))
-
 none_is : (w : List ℕ) (s : Step) → step_of_none w ≡ Some s → IsStepData (written w []) s
 none_is w s e =
     chosen _ (bytes_eq w (codes "create")) _ _ s e (λ t h. let q : s ≡ create None = cc in rw (q, word_is w _ t) refl)
-    (λ f. chosen _ (bytes_eq w (codes "list")) _ _ s f (λ t h. let q : s ≡ list = cc in rw (q, word_is w _ t) refl) (λ h. cc))
+    (λ f. chosen _ (bytes_eq w (codes "list")) _ _ s f (λ t h. let q : s ≡ list = cc in rw (q, word_is w _ t) refl)
+    (λ g. chosen _ (bytes_eq w (codes "frame")) _ _ s g (λ t h. let q : s ≡ frame = cc in rw (q, word_is w _ t) refl) (λ h. cc)))
 
 text_is : (w x : List ℕ) (s : Step) → step_of_text w x ≡ Some s → IsStepData (written w (string x ∷ [])) s
 text_is w x s e =
@@ -316,18 +160,6 @@ step_of_is w (a ∷ b ∷ c ∷ []) s e =
     (λ y of l. rw (str_is a x at, str_is b y of) (three_is w x y c s l)))
 step_of_is w (a ∷ b ∷ c ∷ d ∷ ds) s e = cc
 
--- what has a word in front is written so
-words_are : (es : List Data) (w : List ℕ) (ds : List Data) → words_of es ≡ Some (w, ds) → list_data es ≡ written w ds
-words_are [] w ds e = cc
-words_are (word ∷ rest) w ds e = said (as_str word) refl e where
-  said : (o : Option (List ℕ)) → as_str word ≡ o → option_map {U = List ℕ × List Data} (λ t. (t, rest)) o ≡ Some (w, ds)
-      → list_data (word ∷ rest) ≡ written w ds
-  said None is h = cc
-  said (Some t) is h = let (p, q) = some_pair_parts t w rest ds h in rw (str_is word t is, p, q) refl
-
-words_is : (d : Data) (w : List ℕ) (ds : List Data) → words_in d ≡ Some (w, ds) → d ≡ written w ds
-words_is d w ds e = option_and_then_some words_of (list_in d) (w, ds) e (λ es is h. list_is d es is ∙ words_are es w ds h)
-
 -- a value of a word and arguments is the step that they are
 alone_is : (d : Data) (s : Step) → alone_in d ≡ Some s → IsStepData d s
 alone_is d s e =
@@ -354,6 +186,8 @@ of_step d (query text) c e is = cc
 of_step d (cache text) c e is = cc
 of_step d (cached n) c e is = cc
 of_step d (merge n stages) c e is = cc
+of_step d (system name phase text actions) c e is = cc
+of_step d frame c e is = cc
 
 command_is : (d : Data) (c : Command) → command_in d ≡ Some c → IsCommandData d c
 command_is d c e = option_and_then_some command_of (alone_in d) c e (λ s is h. of_step d s c h (alone_is d s is))
@@ -381,10 +215,37 @@ merge_is w (a ∷ b ∷ []) s t e =
       staged n (is, low, high) (Some stages) k h =
           let q : s ≡ merge n stages = cc in rw (is, q, word_is w _ t) (b, refl, high, stages_is b stages k)
 
+system_with_is : (w n : List ℕ) (a b c : Data) (s : Step) → bytes_eq w (codes "system") ≡ true → system_with n a b c ≡ Some s
+    → IsStepData (written w (string n ∷ a ∷ b ∷ c ∷ [])) s
+system_with_is w n a b c s t e =
+    option_and_then_some (λ p. option_and_then (λ x. option_map (system n p x) (actions_in c)) (as_str b)) (option_and_then phase_of (as_str a)) s e
+    (λ p is h. option_and_then_some (λ x. option_map (system n p x) (actions_in c)) (as_str b) s h
+    (λ x at k. acting p (phase_is a p is) x (str_is b x at) (actions_in c) refl k)) where
+      acting : (p : Phase) → a ≡ string (phase_word p) → (x : List ℕ) → b ≡ string x → (o : Option (List Action)) → actions_in c ≡ o
+          → option_map (system n p x) o ≡ Some s → IsStepData (written w (string n ∷ a ∷ b ∷ c ∷ [])) s
+      acting p is x at None k h = cc
+      acting p is x at (Some actions) k h =
+          let q : s ≡ system n p x actions = cc in rw (is, at, q, word_is w _ t) (c, refl, actions_are c actions k)
+
+system_is : (w : List ℕ) (ds : List Data) (s : Step) → bytes_eq w (codes "system") ≡ true → system_of ds ≡ Some s → IsStepData (written w ds) s
+system_is w [] s t e = cc
+system_is w (a ∷ []) s t e = cc
+system_is w (a ∷ b ∷ []) s t e = cc
+system_is w (a ∷ b ∷ c ∷ []) s t e = cc
+system_is w (a ∷ b ∷ c ∷ d ∷ f ∷ ds) s t e = cc
+system_is w (a ∷ b ∷ c ∷ d ∷ []) s t e =
+    option_and_then_some (λ n. system_with n b c d) (as_str a) s e (λ n at h. rw (str_is a n at) (system_with_is w n b c d s t h))
+
+-- a word with arguments that are a step that may hold others, or are one that holds none
+step_with_is : (w : List ℕ) (ds : List Data) (s : Step) → step_with w ds ≡ Some s → IsStepData (written w ds) s
+step_with_is w ds s e =
+    chosen _ (bytes_eq w (codes "merge")) _ _ s e (merge_is w ds s)
+    (λ f. chosen _ (bytes_eq w (codes "system")) _ _ s f (system_is w ds s) (step_of_is w ds s))
+
 step_is : (d : Data) (s : Step) → step_in d ≡ Some s → IsStepData d s
 step_is d s e =
     option_and_then_some (λ p. step_with p.0 p.1) (words_in d) s e
-    (λ p is h. rw (words_is d p.0 p.1 is) (chosen _ (bytes_eq p.0 (codes "merge")) _ _ s h (merge_is p.0 p.1 s) (step_of_is p.0 p.1 s)))
+    (λ p is h. rw (words_is d p.0 p.1 is) (step_with_is p.0 p.1 s h))
 
 -- items beside a limit
 abbrev with_limit : Option (List Data) → ℕ → Option (ℕ × List Data)

@@ -1,2 +1,4 @@
+pub mod Acts
 pub mod Decodes
+pub mod Parts
 pub mod Values

@@ -7,8 +7,12 @@ use Rattle.serde_json.specs.Data.{Data, null, boolean, number, string, array, ob
 use Rattle.serde_json.specs.Find.{as_number, as_str, as_array, as_u64}
 use Rattle.eco_ids.specs.declared.value.TheConstants.{FIELD_COUNT, LARGEST_ARITY}
 use Rattle.eco_ids.specs.declared.value.Value.{Value}
+use Rattle.eco_systems.specs.declared.phase.Phase.{Phase}
+use Rattle.eco_systems.specs.declared.phase.Phase.TheVariants.{OnLoad, PostLoad, PreUpdate, OnUpdate, OnValidate, PostUpdate, PreStore, OnStore}
 use Rattle.eco_steps.specs.Steps.{Step, create, component, add, remove, set, clear, remove_all, delete, delete_with, rename, has, get, show, list, query}
-use Rattle.eco_steps.specs.Steps.{cache, cached, merge, value_with}
+use Rattle.eco_steps.specs.Steps.{cache, cached, merge, system, frame, value_with, phase_word}
+use Rattle.eco_steps.specs.Actions.{Action}
+use Rattle.eco_steps.specs.Actions as action
 use Rattle.eco_steps.specs.Commands.{Command}
 use Rattle.eco_steps.specs.Commands as command
 use Rattle.eco_steps.specs.Script.{Script}
@@ -63,7 +67,8 @@ name_in (object ms) = None
 abbrev pub step_of_none : List ℕ → Option Step
 step_of_none word =
     if bytes_eq word (codes "create") then Some (create None)
-    else (if bytes_eq word (codes "list") then Some list else None)
+    else (if bytes_eq word (codes "list") then Some list
+    else (if bytes_eq word (codes "frame") then Some frame else None))
 
 -- the step with this word and one text
 abbrev pub step_of_text : List ℕ → List ℕ → Option Step
@@ -144,6 +149,8 @@ command_of (query text) = None
 command_of (cache text) = None
 command_of (cached n) = None
 command_of (merge admitted stages) = None
+command_of (system name phase text actions) = None
+command_of frame = None
 
 -- the command that a value is
 abbrev pub command_in : Data → Option Command
@@ -163,9 +170,71 @@ merge_of (admitted ∷ stages ∷ []) =
     option_and_then (λ n. option_map (merge n) (stages_in stages)) (number_in 0 1048576 admitted)
 merge_of _ = None
 
+-- the phase of a word
+abbrev pub phase_of : List ℕ → Option Phase
+phase_of word =
+    if bytes_eq word (phase_word OnLoad) then Some OnLoad
+    else (if bytes_eq word (phase_word PostLoad) then Some PostLoad
+    else (if bytes_eq word (phase_word PreUpdate) then Some PreUpdate
+    else (if bytes_eq word (phase_word OnUpdate) then Some OnUpdate
+    else (if bytes_eq word (phase_word OnValidate) then Some OnValidate
+    else (if bytes_eq word (phase_word PostUpdate) then Some PostUpdate
+    else (if bytes_eq word (phase_word PreStore) then Some PreStore
+    else (if bytes_eq word (phase_word OnStore) then Some OnStore else None)))))))
+
+-- the action with this word and no argument
+abbrev pub action_of_none : List ℕ → Option Action
+action_of_none word =
+    if bytes_eq word (codes "kill") then Some action.kill
+    else (if bytes_eq word (codes "spawn") then Some (action.spawn None) else None)
+
+-- the action with this word and one text
+abbrev pub action_of_text : List ℕ → List ℕ → Option Action
+action_of_text word text =
+    if bytes_eq word (codes "add") then Some (action.add text)
+    else (if bytes_eq word (codes "remove") then Some (action.remove text)
+    else (if bytes_eq word (codes "spawn") then Some (action.spawn (Some text)) else None))
+
+-- the number of a slot
+abbrev pub slot_in : Data → Option ℕ
+slot_in = number_in 0 31
+
+-- the action with this word, a slot and one more argument
+abbrev pub action_of_slot : List ℕ → ℕ → Data → Option Action
+action_of_slot word slot d =
+    if bytes_eq word (codes "put") then option_map (action.put slot) (value_in d)
+    else (if bytes_eq word (codes "sum") then option_map (action.sum slot) (slot_in d) else None)
+
+-- the action with this word and these arguments, by how many there are
+abbrev pub action_of : List ℕ → List Data → Option Action
+action_of w [] = action_of_none w
+action_of w (d ∷ []) = option_and_then (action_of_text w) (as_str d)
+action_of w (d ∷ e ∷ []) = option_and_then (λ slot. action_of_slot w slot e) (slot_in d)
+action_of w (d ∷ e ∷ f ∷ ds) = None
+
+-- the action that a value is
+abbrev pub action_in : Data → Option Action
+action_in d = option_and_then (λ p. action_of p.0 p.1) (words_in d)
+
+-- the actions that a value lists
+abbrev pub actions_in : Data → Option (List Action)
+actions_in d = option_and_then (each_in action_in) (list_in d)
+
+-- the system with this name and these further arguments
+abbrev pub system_with : List ℕ → Data → Data → Data → Option Step
+system_with name phase text actions =
+    option_and_then (λ p. option_and_then (λ t. option_map (system name p t) (actions_in actions)) (as_str text)) (option_and_then phase_of (as_str phase))
+
+-- the system with these arguments
+abbrev pub system_of : List Data → Option Step
+system_of (name ∷ phase ∷ text ∷ actions ∷ []) = option_and_then (λ n. system_with n phase text actions) (as_str name)
+system_of _ = None
+
 -- the step with this word and these arguments
 abbrev pub step_with : List ℕ → List Data → Option Step
-step_with w ds = if bytes_eq w (codes "merge") then merge_of ds else step_of w ds
+step_with w ds =
+    if bytes_eq w (codes "merge") then merge_of ds
+    else (if bytes_eq w (codes "system") then system_of ds else step_of w ds)
 
 -- the step that a value is
 abbrev pub step_in : Data → Option Step

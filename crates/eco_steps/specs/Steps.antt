@@ -7,12 +7,16 @@ use Rattle.serde_json.specs.Find.{of_integer}
 use Rattle.serde_json.specs.View.{items_of}
 use Rattle.eco_ids.specs.declared.value.TheConstants.{FIELD_COUNT, LARGEST_ARITY}
 use Rattle.eco_ids.specs.declared.value.Value.{Value}
+use Rattle.eco_systems.specs.declared.phase.Phase.{Phase}
+use Rattle.eco_systems.specs.declared.phase.Phase.TheVariants.{OnLoad, PostLoad, PreUpdate, OnUpdate, OnValidate, PostUpdate, PreStore, OnStore}
+use Rattle.eco_steps.specs.Actions.{Action}
+use Rattle.eco_steps.specs.Actions as action
 use Rattle.eco_steps.specs.Commands.{Command}
 use Rattle.eco_steps.specs.Commands as command
 
 -- what a script may ask for, with its texts as they are written: an entity by its name or handle, an id likewise or a pair,
--- a name, or a query; a query that was added before, by its number; and a merge of stages, with how many more indices it
--- makes known
+-- a name, or a query; a query that was added before, by its number; a merge of stages, with how many more indices it
+-- makes known; a system with its name, its phase, its query and its actions; and a frame of the systems declared so far
 pub data Step : Type 0 where
   create : Option (List ℕ) → Step
   component : List ℕ → ℕ → Step
@@ -32,6 +36,8 @@ pub data Step : Type 0 where
   cache : List ℕ → Step
   cached : ℕ → Step
   merge : ℕ → List (List Command) → Step
+  system : List ℕ → Phase → List ℕ → List Action → Step
+  frame : Step
 
 -- a list of JSON values
 abbrev pub list_data : List Data → Data
@@ -85,6 +91,37 @@ IsStageData d commands = (items : List Data) × (d ≡ list_data items) × AllZi
 abbrev pub IsStagesData : Data → List (List Command) → Type 0
 IsStagesData d stages = (items : List Data) × (d ≡ list_data items) × AllZip IsStageData items stages
 
+-- the word of a phase
+abbrev pub phase_word : Phase → List ℕ
+phase_word OnLoad = codes "OnLoad"
+phase_word PostLoad = codes "PostLoad"
+phase_word PreUpdate = codes "PreUpdate"
+phase_word OnUpdate = codes "OnUpdate"
+phase_word OnValidate = codes "OnValidate"
+phase_word PostUpdate = codes "PostUpdate"
+phase_word PreStore = codes "PreStore"
+phase_word OnStore = codes "OnStore"
+
+-- the JSON value is the number of this slot, which is one that a query may have: of 32 terms at most, counted from 0
+abbrev pub IsSlotData : Data → ℕ → Type 0
+IsSlotData d slot = (d ≡ number (unsigned slot)) × (slot ≤ 31)
+
+-- the JSON value is this action
+abbrev pub IsActionData : Data → Action → Type 0
+IsActionData d (action.add id) = d ≡ written (codes "add") (string id ∷ [])
+IsActionData d (action.remove id) = d ≡ written (codes "remove") (string id ∷ [])
+IsActionData d (action.put slot v) =
+    (place : Data) × (value : Data) × (d ≡ written (codes "put") (place ∷ value ∷ [])) × IsSlotData place slot × IsValueData value v
+IsActionData d (action.sum into from) =
+    (place : Data) × (other : Data) × (d ≡ written (codes "sum") (place ∷ other ∷ [])) × IsSlotData place into × IsSlotData other from
+IsActionData d action.kill = d ≡ written (codes "kill") []
+IsActionData d (action.spawn None) = d ≡ written (codes "spawn") []
+IsActionData d (action.spawn (Some id)) = d ≡ written (codes "spawn") (string id ∷ [])
+
+-- the JSON value is the list of these actions
+abbrev pub IsActionsData : Data → List Action → Type 0
+IsActionsData d actions = (items : List Data) × (d ≡ list_data items) × AllZip IsActionData items actions
+
 -- the JSON value is this step
 abbrev pub IsStepData : Data → Step → Type 0
 IsStepData d (create None) = d ≡ written (codes "create") []
@@ -108,3 +145,6 @@ IsStepData d (cache text) = d ≡ written (codes "cache") (string text ∷ [])
 IsStepData d (cached n) = (d ≡ written (codes "cached") (number (unsigned n) ∷ [])) × (n ≤ 4294967295)
 IsStepData d (merge admitted stages) =
     (value : Data) × (d ≡ written (codes "merge") (number (unsigned admitted) ∷ value ∷ [])) × (admitted ≤ 1048576) × IsStagesData value stages
+IsStepData d (system name phase text actions) =
+    (value : Data) × (d ≡ written (codes "system") (string name ∷ string (phase_word phase) ∷ string text ∷ value ∷ [])) × IsActionsData value actions
+IsStepData d frame = d ≡ written (codes "frame") []

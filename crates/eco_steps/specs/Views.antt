@@ -3,12 +3,16 @@ use Rattle.std.specs.Prelude.{List, [], map, option_map}
 use Rattle.std.specs.Option.{unwrap_or}
 use Rattle.serde_json.specs.View.{view}
 use Rattle.eco_steps.specs.Commands as commands
-use Rattle.eco_steps.specs.Decode.{each_in, command_in, stage_in}
+use Rattle.eco_steps.specs.Actions as acts
+use Rattle.eco_steps.specs.Decode.{each_in, action_in, command_in, stage_in}
 use Rattle.eco_steps.specs.Steps as script
 use Rattle.eco_steps.specs.Script as whole
 use Rattle.eco_steps.specs.declared.step.Step.{Step}
 use Rattle.eco_steps.specs.declared.step.Step.TheVariants.{Create, Component, Add, Remove, Set, Clear, RemoveAll, Delete, DeleteWith, Rename, Has, Get, Show}
 use Rattle.eco_steps.specs.declared.step.Step.TheVariants as variant
+use Rattle.eco_steps.specs.declared.action.Action.{Action}
+use Rattle.eco_steps.specs.declared.action.Action.TheVariants as action
+use Rattle.eco_steps.specs.declared.actions.Actions.{Actions}
 use Rattle.eco_steps.specs.declared.command.Command.{Command}
 use Rattle.eco_steps.specs.declared.command.Command.TheVariants as command
 use Rattle.eco_steps.specs.declared.commands.Commands.{Commands}
@@ -35,6 +39,19 @@ commands_view s = unwrap_or (each_in command_in (map view s.values.now)) []
 abbrev pub stages_view : Stages → List (List commands.Command)
 stages_view s = unwrap_or (each_in stage_in (map view s.values.now)) []
 
+-- the action, with the texts that it borrows
+abbrev pub action_view : Action → acts.Action
+action_view (action.Add id) = acts.add id.now
+action_view (action.Remove id) = acts.remove id.now
+action_view (action.Put slot value) = acts.put slot value
+action_view (action.Sum into from) = acts.sum into from
+action_view action.Kill = acts.kill
+action_view (action.Spawn id) = acts.spawn (option_map (λ s. s.now) id)
+
+-- the actions of the values that are kept, which are actions all
+abbrev pub actions_view : Actions → List acts.Action
+actions_view s = unwrap_or (each_in action_in (map view s.values.now)) []
+
 -- the step, with the texts that it borrows
 abbrev pub step_view : Step → script.Step
 step_view (Create name) = script.create (option_map (λ s. s.now) name)
@@ -55,6 +72,8 @@ step_view (variant.Query text) = script.query text.now
 step_view (variant.Cache text) = script.cache text.now
 step_view (variant.Cached query) = script.cached query
 step_view (variant.Merge admitted stages) = script.merge admitted (stages_view stages)
+step_view (variant.System name phase query actions) = script.system name.now phase query.now (actions_view actions)
+step_view variant.Frame = script.frame
 
 -- the script, step by step
 abbrev pub script_view : Script → whole.Script

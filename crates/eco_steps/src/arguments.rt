@@ -2,7 +2,7 @@
 
 ghost use Rattle.std.specs.Prelude.{◌≡◌, map, option_map};
 ghost use Rattle.serde_json.specs.View.{view};
-ghost use Rattle.eco_steps.specs.Decode.{integer_in, list_in, name_in, number_in, value_in};
+ghost use Rattle.eco_steps.specs.Decode.{integer_in, list_in, name_in, number_in, value_in, words_in};
 
 use eco_ids::FIELD_COUNT;
 use serde_json::Value;
@@ -36,6 +36,14 @@ pub fn read_list(value: &Value) -> Option<&[Value]>
         Some(items) => Some(items.as_slice()),
         None => None,
     }
+}
+
+/// A word, and what stands behind it in its list.
+pub fn read_words(value: &Value) -> Option<(&str, &[Value])>
+    ensures { option_map (λ p. (p.0.now, map view p.1.now)) result ≡ words_in (view value.now) }
+{
+    let (word, arguments) = read_list(value)?.split_first()?;
+    Some((word.as_str()?, arguments))
 }
 
 // A whole number of 64 bits.

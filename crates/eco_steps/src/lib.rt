@@ -1,16 +1,21 @@
 //! Scripts read: which script a JSON value is, with the steps that it asks for.
 #![tactic(auto)]
 
+mod action;
+mod actions;
 mod arguments;
 mod arity;
 mod command;
 mod commands;
 pub mod laws;
+mod phase;
 mod read_error;
 mod script;
 mod stages;
 mod step;
 
+pub use action::Action;
+pub use actions::Actions;
 pub use arity::Arity;
 pub use command::Command;
 pub use commands::Commands;

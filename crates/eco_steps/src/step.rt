@@ -3,11 +3,14 @@
 ghost use Rattle.std.specs.Prelude.{◌≡◌, map, option_map};
 ghost use Rattle.serde_json.specs.View.{view};
 ghost use Rattle.eco_steps.specs.Decode.{alone_in, merge_of, step_in, step_of, step_of_none, step_of_one};
-ghost use Rattle.eco_steps.specs.Decode.{step_of_text, step_of_texts, step_of_two, step_of_three, words_in};
+ghost use Rattle.eco_steps.specs.Decode.{step_of_text, step_of_texts, step_of_two, step_of_three, system_of, system_with};
 
-use crate::arguments::{read_list, read_name, read_number, read_value};
+use crate::actions::Actions;
+use crate::arguments::{read_name, read_number, read_value, read_words};
 use crate::arity::Arity;
+use crate::phase::read_phase;
 use crate::stages::Stages;
+use eco_systems::Phase;
 use serde_json::Value;
 
 /// What a script may ask for, with the texts of the value that it was read from.
@@ -72,14 +75,13 @@ pub enum Step<'a> {
         admitted: u32,
         stages: Stages<'a>,
     },
-}
-
-// A word, and what stands behind it in its list.
-fn read_words(value: &Value) -> Option<(&str, &[Value])>
-    ensures { option_map (λ p. (p.0.now, map view p.1.now)) result ≡ words_in (view value.now) }
-{
-    let (word, arguments) = read_list(value)?.split_first()?;
-    Some((word.as_str()?, arguments))
+    System {
+        name: &'a str,
+        phase: Phase,
+        query: &'a str,
+        actions: Actions<'a>,
+    },
+    Frame,
 }
 
 impl<'a> Step<'a> {
@@ -92,6 +94,7 @@ impl<'a> Step<'a> {
         let step = match word {
             "create" => Step::Create(None),
             "list" => Step::List,
+            "frame" => Step::Frame,
             _ => return None,
         };
         Some(step)
@@ -204,6 +207,34 @@ impl<'a> Step<'a> {
         })
     }
 
+    // A system with this name and these further arguments.
+    fn system_with(
+        name: &'a str,
+        phase: &Value,
+        query: &'a Value,
+        actions: &'a Value,
+    ) -> Option<Step<'a>>
+        ensures { option_map step_view result
+            ≡ system_with name.entry.now (view phase.now) (view query.now) (view actions.now) }
+    {
+        Some(Step::System {
+            name,
+            phase: read_phase(phase)?,
+            query: query.as_str()?,
+            actions: Actions::read(actions)?,
+        })
+    }
+
+    // A system with these arguments.
+    fn system(arguments: &'a [Value]) -> Option<Step<'a>>
+        ensures { option_map step_view result ≡ system_of (map view arguments.now) }
+    {
+        let [name, phase, query, actions] = arguments else {
+            return None;
+        };
+        Step::system_with(name.as_str()?, phase, query, actions)
+    }
+
     /// The step that a value is, if it is one that holds no other.
     pub(crate) fn read_alone(value: &'a Value) -> Option<Step<'a>>
         ensures { option_map step_view result ≡ alone_in (view value.now) }
@@ -219,6 +250,7 @@ impl<'a> Step<'a> {
         let (word, arguments) = read_words(value)?;
         match word {
             "merge" => Step::merge(arguments),
+            "system" => Step::system(arguments),
             _ => Step::of(word, arguments),
         }
     }

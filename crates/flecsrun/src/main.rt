@@ -9,6 +9,7 @@ mod arguments;
 use arguments::Args;
 use eco_script::{Counted, Status, run_script};
 use std::process::ExitCode;
+use std::thread::Threads;
 use std::{env, io};
 
 // The words of the command line.
@@ -38,13 +39,13 @@ fn ask(rt: &HostRuntime) -> Result<Args, Status>
     arguments::read_arguments(rt.alloc(), words.as_slice())
 }
 
-// Does what the command line asks for.
-fn answer(rt: &HostRuntime) -> Status {
+// Does what the command line asks for, frames by the threads of a handle.
+fn answer<T: Threads + Sync>(rt: &HostRuntime, threads: &T) -> Status {
     match ask(rt) {
         Ok(Args::Run(workers)) => {
             let mut reader = Counted::new(rt.reader());
             let mut writer = Counted::new(io::writer(rt));
-            run_script(rt.alloc(), &mut reader, &mut writer, workers)
+            run_script(threads, rt.alloc(), &mut reader, &mut writer, workers)
         }
         Ok(Args::Help(text)) => match rt.print(text.as_str()) {
             Ok(()) => Status::Ran,
@@ -55,7 +56,7 @@ fn answer(rt: &HostRuntime) -> Status {
 }
 
 fn main(rt: HostRuntime) -> ExitCode {
-    let status = answer(&rt);
+    let status = answer(&rt, &rt);
     if let Some(message) = status.message() {
         // The status tells it too, so a standard error that is shut changes nothing.
         let _ = eprintln!(rt; "{message}");

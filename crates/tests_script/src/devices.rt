@@ -2,6 +2,7 @@
 use eco_script::{Counted, DeviceFailed, ScriptReader, ScriptWriter, Status, run_script};
 use std::alloc::Global;
 use std::io;
+use std::thread::Threads;
 
 const SCRIPT: &str =
     r#"[1, 16, [["create", "a"], ["component", "P", 2], ["add", "a", "(a, a)"], ["set", "a", "P", [3, -4]], ["get", "a", "P"], ["query", "(a, a)"], ["show", "a"], ["clear", "a"], ["has", "a", "b"]]]"#;
@@ -103,13 +104,13 @@ impl io::Write for Full {
 
 // Runs the script over a writer with room for so many bytes. It gives the status, and whether so many bytes of the front of
 // the text were written.
-fn run_into(alloc: Global, room: usize) -> (Status, bool) {
+fn run_into<R: Threads + Sync>(rt: &R, alloc: Global, room: usize) -> (Status, bool) {
     let mut reader = Counted::new(SCRIPT.as_bytes());
     let mut writer = Counted::new(Full {
         bytes: Vec::new(alloc),
         room,
     });
-    let status = run_script(alloc, &mut reader, &mut writer, 1);
+    let status = run_script(rt, alloc, &mut reader, &mut writer, 1);
     let written = writer.inner().bytes.as_slice();
     (
         status,
@@ -118,7 +119,12 @@ fn run_into(alloc: Global, room: usize) -> (Status, bool) {
 }
 
 // Runs the script over devices that fail at these calls, and gives the status and what was written.
-fn run_over(alloc: Global, read_fails_at: u64, write_fails_at: u32) -> (Status, Vec<u8>) {
+fn run_over<R: Threads + Sync>(
+    rt: &R,
+    alloc: Global,
+    read_fails_at: u64,
+    write_fails_at: u32,
+) -> (Status, Vec<u8>) {
     let mut reader = Slow {
         rest: SCRIPT.as_bytes(),
         calls: 0,
@@ -131,13 +137,13 @@ fn run_over(alloc: Global, read_fails_at: u64, write_fails_at: u32) -> (Status, 
         fails_at: write_fails_at,
         failures: 0,
     };
-    let status = run_script(alloc, &mut reader, &mut writer, 1);
+    let status = run_script(rt, alloc, &mut reader, &mut writer, 1);
     (status, writer.bytes)
 }
 
 #[test]
 fn writes_in_small_parts(rt: HostRuntime) {
-    let (status, bytes) = run_over(rt.alloc(), u64::MAX, u32::MAX);
+    let (status, bytes) = run_over(&rt, rt.alloc(), u64::MAX, u32::MAX);
     assert_eq!(rt; status, Status::Ran);
     assert!(rt; bytes.as_slice() == TEXT.as_bytes());
 }
@@ -145,7 +151,7 @@ fn writes_in_small_parts(rt: HostRuntime) {
 #[test]
 fn stops_where_a_read_fails(rt: HostRuntime) {
     for call in 0..29u64 {
-        let (status, bytes) = run_over(rt.alloc(), call, u32::MAX);
+        let (status, bytes) = run_over(&rt, rt.alloc(), call, u32::MAX);
         assert_eq!(rt; status, Status::Stopped, "at {call}");
         assert!(rt; bytes.is_empty(), "at {call}");
     }
@@ -154,7 +160,7 @@ fn stops_where_a_read_fails(rt: HostRuntime) {
 #[test]
 fn stops_where_a_write_fails(rt: HostRuntime) {
     for call in 0..43u32 {
-        let (status, bytes) = run_over(rt.alloc(), u64::MAX, call);
+        let (status, bytes) = run_over(&rt, rt.alloc(), u64::MAX, call);
         assert_eq!(rt; status, Status::Stopped, "at {call}");
         assert!(rt; TEXT.as_bytes().starts_with(bytes.as_slice()), "at {call}");
     }
@@ -163,25 +169,25 @@ fn stops_where_a_write_fails(rt: HostRuntime) {
 #[test]
 fn stops_where_a_writer_is_full(rt: HostRuntime) {
     for room in 0..TEXT.len() {
-        let (status, is_front) = run_into(rt.alloc(), room);
+        let (status, is_front) = run_into(&rt, rt.alloc(), room);
         assert_eq!(rt; status, Status::Stopped, "at {room}");
         assert!(rt; is_front, "at {room}");
     }
-    let (status, is_whole) = run_into(rt.alloc(), TEXT.len());
+    let (status, is_whole) = run_into(&rt, rt.alloc(), TEXT.len());
     assert_eq!(rt; status, Status::Ran);
     assert!(rt; is_whole);
 }
 
 // The status of a run of some bytes, and whether it wrote nothing.
-fn run(alloc: Global, bytes: &[u8]) -> (Status, bool) {
+fn run<R: Threads + Sync>(rt: &R, alloc: Global, bytes: &[u8]) -> (Status, bool) {
     let mut reader = Counted::new(bytes);
     let mut writer = Counted::new(Vec::new(alloc));
-    let status = run_script(alloc, &mut reader, &mut writer, 1);
+    let status = run_script(rt, alloc, &mut reader, &mut writer, 1);
     (status, writer.inner().as_slice().is_empty())
 }
 
 #[test]
 fn other_bytes_than_a_text_are_not_read(rt: HostRuntime) {
-    let run = run(rt.alloc(), b"[1, 64, [[\"create\", \"\xff\"]]]");
+    let run = run(&rt, rt.alloc(), b"[1, 64, [[\"create\", \"\xff\"]]]");
     assert_eq!(rt; run, (Status::NotRead, true));
 }

@@ -1,7 +1,8 @@
-use Rattle.std.proofs.Common.{Err, ap, map}
+use Rattle.std.proofs.Common.{Err, [], ap, map}
 use Rattle.std.proofs.lemmas.Result.{on_ok_weaker, on_err_weaker}
 use Rattle.serde_json.specs.View.{view}
 use Rattle.eco_steps.specs.Views.{step_view, script_view}
+use Rattle.eco_script.specs.Systems.{reached}
 use Rattle.eco_script.proofs.Devices.{Keeps-same}
 use Rattle.eco_script.proofs.Runs.{no_script_bytes, ran_bytes, stopped_bytes}
 use Rattle.eco_script.proofs.run.run_bytes.Goals as goal
@@ -21,13 +22,13 @@ returns-in-Err-NotAScript-clause-not_read g c = λ _. (
 pub returns-clause-ok : goal.returns-clause-ok
 returns-clause-ok g c =
     on_ok_weaker _
-    (ran_bytes c.args.bytes.now (script_view c.in-Ok-read.script) _ _ _ _ _ (
+    (ran_bytes c.args.bytes.now (script_view c.in-Ok-read.script) _ _ _ _ (
       c.in-Ok.ensures.ok.0,
       view c.in-Ok.value,
       c.in-Ok.ensures.ok.1,
       c.in-Ok-read.ensures.ok,
     )
-    c.in-Ok-new.ensures.ok (ap (λ ss. map step_view ss) c.as_slice.ensures.value))
+    (ap (λ w. reached w []) c.in-Ok-new.ensures.ok) (ap (λ ss. map step_view ss) c.as_slice.ensures.value))
     c.run_steps.ensures.ok
 
 pub returns-clause-err : goal.returns-clause-err
@@ -39,5 +40,5 @@ returns-clause-err g c =
       c.in-Ok.ensures.ok.1,
       c.in-Ok-read.ensures.ok,
     )
-    c.in-Ok-new.ensures.ok (ap (λ ss. map step_view ss) c.as_slice.ensures.value))
+    (ap (λ w. reached w []) c.in-Ok-new.ensures.ok) (ap (λ ss. map step_view ss) c.as_slice.ensures.value))
     c.run_steps.ensures.err

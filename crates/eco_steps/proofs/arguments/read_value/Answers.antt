@@ -1,7 +1,7 @@
 use Rattle.std.proofs.Common.{arith, ◌∙◌, ap}
 use Rattle.serde_json.specs.View.{view}
 use Rattle.eco_steps.specs.Decode.{integer_in}
-use Rattle.eco_steps.proofs.Decodes.{field_read, no_value, value_read_all}
+use Rattle.eco_steps.proofs.Parts.{field_read, no_value, value_read_all}
 use Rattle.eco_steps.proofs.Values.{none_more}
 use Rattle.eco_steps.proofs.arguments.read_value.Goals as goal
 

@@ -1,0 +1,109 @@
+-- What is found in a value is exactly the phase, or the actions, that it is.
+use Rattle.std.proofs.Common.{◌≡◌, ℕ, true, List, [], ◌∷◌, Option, Some, None, option_map, option_and_then, refl, codes, arith}
+use Rattle.std.specs.Str.{bytes_eq}
+use Rattle.std.proofs.lemmas.Option.{option_and_then_some}
+use Rattle.serde_json.specs.Data.{Data, string}
+use Rattle.serde_json.specs.Find.{as_str}
+use Rattle.eco_ids.specs.declared.value.Value.{Value}
+use Rattle.eco_systems.specs.declared.phase.Phase.{Phase}
+use Rattle.eco_systems.specs.declared.phase.Phase.TheVariants.{OnLoad, PostLoad, PreUpdate, OnUpdate, OnValidate, PostUpdate, PreStore, OnStore}
+use Rattle.eco_steps.specs.Actions.{Action, add, remove, put, sum, kill, spawn}
+use Rattle.eco_steps.specs.Decode.{list_in, each_in, value_in, slot_in, phase_of, action_of_none, action_of_text, action_of_slot, action_of}
+use Rattle.eco_steps.specs.Decode.{action_in, actions_in, words_in}
+use Rattle.eco_steps.specs.Steps.{IsSlotData, IsActionData, IsActionsData, phase_word, written}
+use Rattle.eco_steps.proofs.Parts.{number_in_range, value_found, chosen, word_is, str_is, number_is, list_is, value_is, words_is}
+use Rattle.eco_steps.proofs.Values.{items_list-items_of, each_found, each_is}
+
+-- ---- phases
+
+pub phase_found : (p : Phase) → phase_of (phase_word p) ≡ Some p
+phase_found OnLoad = refl
+phase_found PostLoad = refl
+phase_found PreUpdate = refl
+phase_found OnUpdate = refl
+phase_found OnValidate = refl
+phase_found PostUpdate = refl
+phase_found PreStore = refl
+phase_found OnStore = refl
+
+word_of : (w : List ℕ) (p : Phase) → phase_of w ≡ Some p → w ≡ phase_word p
+word_of w p e =
+    chosen _ (bytes_eq w (phase_word OnLoad)) _ _ p e (λ t h. let q : p ≡ OnLoad = cc in rw q (word_is w _ t))
+    (λ f. chosen _ (bytes_eq w (phase_word PostLoad)) _ _ p f (λ t h. let q : p ≡ PostLoad = cc in rw q (word_is w _ t))
+    (λ g. chosen _ (bytes_eq w (phase_word PreUpdate)) _ _ p g (λ t h. let q : p ≡ PreUpdate = cc in rw q (word_is w _ t))
+    (λ k. chosen _ (bytes_eq w (phase_word OnUpdate)) _ _ p k (λ t h. let q : p ≡ OnUpdate = cc in rw q (word_is w _ t))
+    (λ l. chosen _ (bytes_eq w (phase_word OnValidate)) _ _ p l (λ t h. let q : p ≡ OnValidate = cc in rw q (word_is w _ t))
+    (λ m. chosen _ (bytes_eq w (phase_word PostUpdate)) _ _ p m (λ t h. let q : p ≡ PostUpdate = cc in rw q (word_is w _ t))
+    (λ n. chosen _ (bytes_eq w (phase_word PreStore)) _ _ p n (λ t h. let q : p ≡ PreStore = cc in rw q (word_is w _ t))
+    (λ o. chosen _ (bytes_eq w (phase_word OnStore)) _ _ p o (λ t h. let q : p ≡ OnStore = cc in rw q (word_is w _ t)) (λ r. cc))))))))
+
+pub phase_is : (d : Data) (p : Phase) → option_and_then phase_of (as_str d) ≡ Some p → d ≡ string (phase_word p)
+phase_is d p e = option_and_then_some phase_of (as_str d) p e (λ w is h. rw (← word_of w p h) (str_is d w is))
+
+-- ---- what is written is found
+
+slot_found : (d : Data) (n : ℕ) → IsSlotData d n → slot_in d ≡ Some n
+slot_found d n (is, most) = rw is (number_in_range 0 31 n (omega arith) most)
+
+action_found : (d : Data) (a : Action) → IsActionData d a → action_in d ≡ Some a
+action_found d (add i) is = rw is refl
+action_found d (remove i) is = rw is refl
+action_found d (put n v) (place, value, is, at, of) = rw (is, slot_found place n at, value_found value v of) refl
+action_found d (sum n m) (place, other, is, at, of) = rw (is, slot_found place n at, slot_found other m of) refl
+action_found d kill is = rw is refl
+action_found d (spawn None) is = rw is refl
+action_found d (spawn (Some i)) is = rw is refl
+
+pub actions_found : (d : Data) (actions : List Action) → IsActionsData d actions → actions_in d ≡ Some actions
+actions_found d actions (items, is, are) = rw (is, items_list-items_of items) (each_found action_in IsActionData action_found items actions are)
+
+-- ---- what is found is what is written
+
+slot_is : (d : Data) (n : ℕ) → slot_in d ≡ Some n → IsSlotData d n
+slot_is d n e = let (is, low, high) = number_is 0 31 d n e in (is, high)
+
+none_is : (w : List ℕ) (a : Action) → action_of_none w ≡ Some a → IsActionData (written w []) a
+none_is w a e =
+    chosen _ (bytes_eq w (codes "kill")) _ _ a e (λ t h. let q : a ≡ kill = cc in rw (q, word_is w _ t) refl)
+    (λ f. chosen _ (bytes_eq w (codes "spawn")) _ _ a f (λ t h. let q : a ≡ spawn None = cc in rw (q, word_is w _ t) refl) (λ h. cc))
+
+text_is : (w x : List ℕ) (a : Action) → action_of_text w x ≡ Some a → IsActionData (written w (string x ∷ [])) a
+text_is w x a e =
+    chosen _ (bytes_eq w (codes "add")) _ _ a e (λ t h. let q : a ≡ add x = cc in rw (q, word_is w _ t) refl)
+    (λ f. chosen _ (bytes_eq w (codes "remove")) _ _ a f (λ t h. let q : a ≡ remove x = cc in rw (q, word_is w _ t) refl)
+    (λ g. chosen _ (bytes_eq w (codes "spawn")) _ _ a g (λ t h. let q : a ≡ spawn (Some x) = cc in rw (q, word_is w _ t) refl) (λ h. cc)))
+
+put_is : (w : List ℕ) (d e : Data) (n : ℕ) (a : Action) → IsSlotData d n → bytes_eq w (codes "put") ≡ true → option_map (put n) (value_in e) ≡ Some a
+    → IsActionData (written w (d ∷ e ∷ [])) a
+put_is w d e n a at t f = valued (value_in e) refl f where
+  valued : (o : Option Value) → value_in e ≡ o → option_map (put n) o ≡ Some a → IsActionData (written w (d ∷ e ∷ [])) a
+  valued None is h = cc
+  valued (Some v) is h = let q : a ≡ put n v = cc in rw (q, word_is w _ t) (d, e, refl, at, value_is e v is)
+
+sum_is : (w : List ℕ) (d e : Data) (n : ℕ) (a : Action) → IsSlotData d n → bytes_eq w (codes "sum") ≡ true → option_map (sum n) (slot_in e) ≡ Some a
+    → IsActionData (written w (d ∷ e ∷ [])) a
+sum_is w d e n a at t f = counted (slot_in e) refl f where
+  counted : (o : Option ℕ) → slot_in e ≡ o → option_map (sum n) o ≡ Some a → IsActionData (written w (d ∷ e ∷ [])) a
+  counted None is h = cc
+  counted (Some m) is h = let q : a ≡ sum n m = cc in rw (q, word_is w _ t) (d, e, refl, at, slot_is e m is)
+
+slots_are : (w : List ℕ) (d e : Data) (n : ℕ) (a : Action) → IsSlotData d n → action_of_slot w n e ≡ Some a → IsActionData (written w (d ∷ e ∷ [])) a
+slots_are w d e n a at f =
+    chosen _ (bytes_eq w (codes "put")) _ _ a f (put_is w d e n a at)
+    (λ g. chosen _ (bytes_eq w (codes "sum")) _ _ a g (sum_is w d e n a at) (λ h. cc))
+
+action_of_is : (w : List ℕ) (ds : List Data) (a : Action) → action_of w ds ≡ Some a → IsActionData (written w ds) a
+action_of_is w [] a e = none_is w a e
+action_of_is w (d ∷ []) a e = option_and_then_some (action_of_text w) (as_str d) a e (λ x is h. rw (str_is d x is) (text_is w x a h))
+action_of_is w (d ∷ f ∷ []) a e =
+    option_and_then_some (λ n. action_of_slot w n f) (slot_in d) a e (λ n is h. slots_are w d f n a (slot_is d n is) h)
+action_of_is w (d ∷ f ∷ g ∷ ds) a e = cc
+
+action_is : (d : Data) (a : Action) → action_in d ≡ Some a → IsActionData d a
+action_is d a e =
+    option_and_then_some (λ p. action_of p.0 p.1) (words_in d) a e (λ p is h. rw (words_is d p.0 p.1 is) (action_of_is p.0 p.1 a h))
+
+pub actions_are : (d : Data) (actions : List Action) → actions_in d ≡ Some actions → IsActionsData d actions
+actions_are d actions e =
+    option_and_then_some (each_in action_in) (list_in d) actions e
+    (λ items is h. (items, list_is d items is, each_is action_in IsActionData action_is items actions h))

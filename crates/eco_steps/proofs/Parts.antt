@@ -1,0 +1,192 @@
+-- Numbers, texts, names and values of steps: what is found in one is exactly what it is written as.
+use Rattle.std.proofs.Common.{◌≡◌, ◌+◌, ◌≤◌, ◌^◌, ◌<◌, ◌-◌, ℕ, ℤ, pos, negsuc, Bool, true, false, List, [], ◌∷◌, ◌++◌, length, take, drop, replicate, map}
+use Rattle.std.proofs.Common.{nat_lt, nat_le, ◌&&◌, Option, Some, None, option_map, option_and_then, if◌then◌else◌, refl, ap, sym, ◌∙◌, arith}
+use Rattle.std.proofs.Common.{get_or, set as set_at, to_z, of_z}
+use Rattle.std.specs.Int.{w64}
+use Rattle.std.specs.List.{AllZip}
+use Rattle.std.specs.Str.{bytes_eq}
+use Rattle.std.proofs.lemmas.Int.{to_z-of_z}
+use Rattle.std.proofs.lemmas.List.{append-nil, drop_all, drop-drop, drop-replicate, drop-set-lt, length-drop, length-map, length-replicate, take-append-drop}
+use Rattle.std.proofs.lemmas.List.{take_more_set}
+use Rattle.std.proofs.lemmas.Slice.Eq.{bytes_eq-Decides}
+use Rattle.std.proofs.lemmas.Option.{option_and_then_some, some_pair_parts}
+use Rattle.serde_json.specs.Data.{Data, null, boolean, number, string, array, object, unsigned, negative, float}
+use Rattle.serde_json.specs.Find.{as_str}
+use Rattle.eco_ids.specs.declared.value.TheConstants.{FIELD_COUNT}
+use Rattle.eco_ids.specs.declared.value.Value.{Value}
+use Rattle.eco_steps.specs.Decode.{items_list, list_in, each_in, name_in, number_in, integer_in, value_of_items, value_in}
+use Rattle.eco_steps.specs.Decode.{words_of, words_in}
+use Rattle.eco_steps.specs.Steps.{IsIntegerData, IsValueData, value_with, written, list_data, name_data}
+use Rattle.eco_steps.proofs.Values.{items_list-items_of, items_of-items_list, each_found, each_is, one_more}
+
+-- ---- what is written is found
+
+pub number_in_range : (low high n : ℕ) → low ≤ n → n ≤ high → number_in low high (number (unsigned n)) ≡ Some n
+number_in_range low high n l h = grind arith
+
+integer_found : (d : Data) (z : ℤ) → IsIntegerData d z → integer_in d ≡ Some z
+integer_found d (pos n) (is, fits) = let small : n < 2 ^ 63 = fits.sfits in rw is (grind arith)
+integer_found d (negsuc n) (is, fits) = let small : n < 2 ^ 63 = fits.sfits in rw is (grind arith)
+
+-- a list of as many items is that long
+same_length : {A B : Type 0} (R : A → B → Type 0) (xs : List A) (ys : List B) → AllZip R xs ys → length xs ≡ length ys
+same_length R [] [] are = refl
+same_length R [] (y ∷ ys) are = absurd are
+same_length R (x ∷ xs) [] are = absurd are
+same_length R (x ∷ xs) (y ∷ ys) are = grind (arith, same_length R xs ys are.1)
+
+value_of : (ds : List Data) (zs : List ℤ) → 1 ≤ length ds → length ds ≤ FIELD_COUNT → each_in integer_in ds ≡ Some zs
+    → value_of_items ds ≡ Some (value_with zs)
+value_of ds zs l h e = rw e (grind arith)
+
+pub value_found : (d : Data) (v : Value) → IsValueData d v → value_in d ≡ Some v
+value_found d v is =
+    let long = same_length IsIntegerData is.items is.fields is.are_integers in
+    rw (is.is_list, items_list-items_of is.items, is.filled)
+    (value_of is.items is.fields (omega arith) (omega arith) (each_found integer_in IsIntegerData integer_found is.items is.fields is.are_integers))
+
+-- ---- what is found is what is written
+
+-- an `if` that gives something gives that of one side
+pub chosen : {A : Type 0} (P : Type 0) (b : Bool) (x y : Option A) (z : A) → (if b then x else y) ≡ Some z
+    → (b ≡ true → x ≡ Some z → P) → (y ≡ Some z → P) → P
+chosen P true x y z e at_true at_false = at_true refl e
+chosen P false x y z e at_true at_false = at_false e
+
+pub word_is : (w c : List ℕ) → bytes_eq w c ≡ true → w ≡ c
+word_is w c e = (bytes_eq-Decides w c).0 e
+
+pub str_is : (d : Data) (t : List ℕ) → as_str d ≡ Some t → d ≡ string t
+str_is (string s) t e = grind arith
+str_is null t e = cc
+str_is (boolean b) t e = cc
+str_is (number n) t e = cc
+str_is (array ds) t e = cc
+str_is (object ms) t e = cc
+
+pub name_is : (d : Data) (n : Option (List ℕ)) → name_in d ≡ Some n → d ≡ name_data n
+name_is null n e = grind arith
+name_is (string s) n e = grind arith
+name_is (boolean b) n e = cc
+name_is (number m) n e = cc
+name_is (array ds) n e = cc
+name_is (object ms) n e = cc
+
+pub number_is : (low high : ℕ) (d : Data) (n : ℕ) → number_in low high d ≡ Some n → (d ≡ number (unsigned n)) × (low ≤ n) × (n ≤ high)
+number_is low high (number (unsigned m)) n e = grind arith
+number_is low high (number (negative z)) n e = cc
+number_is low high (number (float x)) n e = cc
+number_is low high null n e = cc
+number_is low high (boolean b) n e = cc
+number_is low high (string s) n e = cc
+number_is low high (array ds) n e = cc
+number_is low high (object ms) n e = cc
+
+pub list_is : (d : Data) (ds : List Data) → list_in d ≡ Some ds → d ≡ list_data ds
+list_is (array is) ds e = let q : items_list is ≡ ds = cc in rw (← q, items_of-items_list is) refl
+list_is null ds e = cc
+list_is (boolean b) ds e = cc
+list_is (number n) ds e = cc
+list_is (string s) ds e = cc
+list_is (object ms) ds e = cc
+
+-- a number below a limit, and the whole number that it makes
+small_is : (make : ℕ → ℤ) (n : ℕ) (z : ℤ) → (if nat_lt n (2 ^ 63) then Some (make n) else None) ≡ Some z → (make n ≡ z) × (n < 2 ^ 63)
+small_is make n z e = grind arith
+
+integer_is : (d : Data) (z : ℤ) → integer_in d ≡ Some z → IsIntegerData d z
+integer_is (number (unsigned n)) z e =
+    let (is, small) = small_is (λ k. pos k) n z e in rw (← is) (refl, record { sfits = small })
+integer_is (number (negative (pos n))) z e = cc
+integer_is (number (negative (negsuc n))) z e =
+    let (is, small) = small_is (λ k. negsuc k) n z e in rw (← is) (refl, record { sfits = small })
+integer_is (number (float x)) z e = cc
+integer_is null z e = cc
+integer_is (boolean b) z e = cc
+integer_is (string s) z e = cc
+integer_is (array ds) z e = cc
+integer_is (object ms) z e = cc
+
+-- a list of as many items as there may be fields
+few : (ds : List Data) (o : Option Value) (v : Value) → (if nat_le 1 (length ds) && nat_le (length ds) FIELD_COUNT then o else None) ≡ Some v
+    → (1 ≤ length ds) × (length ds ≤ FIELD_COUNT) × (o ≡ Some v)
+few ds o v e = grind arith
+
+-- each of the items is a field
+fields_are : (ds : List Data) (v : Value) → value_of_items ds ≡ Some v → IsValueData (list_data ds) v
+fields_are ds v e = counted (each_in integer_in ds) refl (few ds (option_map value_with (each_in integer_in ds)) v e) where
+  counted : (o : Option (List ℤ)) → each_in integer_in ds ≡ o → (1 ≤ length ds) × (length ds ≤ FIELD_COUNT) × (option_map value_with o ≡ Some v)
+      → IsValueData (list_data ds) v
+  counted None n (low, high, h) = cc
+  counted (Some fields) n (low, high, h) =
+      let are = each_is integer_in IsIntegerData integer_is ds fields n in
+      let long = same_length IsIntegerData ds fields are in
+      record { items = ds; fields = fields; is_list = refl; are_integers = are; at_least = omega arith; at_most = omega arith; filled = cc }
+
+pub value_is : (d : Data) (v : Value) → value_in d ≡ Some v → IsValueData d v
+value_is d v e = option_and_then_some value_of_items (list_in d) v e (λ ds is h. rw (list_is d ds is) (fields_are ds v h))
+
+-- the fields that were read, with zeros behind them, are the value
+pub value_read : (ds : List Data) (fields : List ℤ) (i : ℕ) → i ≡ length ds → 1 ≤ length ds → length ds ≤ FIELD_COUNT
+    → each_in integer_in ds ≡ Some (take i fields) → drop i fields ≡ replicate (FIELD_COUNT - i) (pos 0)
+    → value_of_items ds ≡ Some (record { 0 = fields })
+value_read ds fields i count low high found zeros =
+    let long : length ds ≡ length (take i fields) = same_length IsIntegerData ds (take i fields)
+    (each_is integer_in IsIntegerData integer_is ds (take i fields) found) in
+    let whole : take i fields ++ replicate (FIELD_COUNT - length (take i fields)) (pos 0) ≡ fields =
+    ap (λ n. take i fields ++ replicate (FIELD_COUNT - n) (pos 0)) (sym long ∙ sym count) ∙ ap (λ t. take i fields ++ t) (sym zeros)
+    ∙ take-append-drop i fields in
+    value_of ds (take i fields) low high found ∙ ap (λ fs. let v : Value = record { 0 = fs } in Some v) whole
+
+-- likewise, where nothing is left of the items
+pub value_read_all : {X : Type 0} (f : X → Data) (items : List X) (d : Data) (fields : List ℤ) (i : ℕ) → i ≡ length items
+    → 1 ≤ length items → length items ≤ FIELD_COUNT
+    → Some (map f items) ≡ list_in d
+    → each_in integer_in (map f items) ≡ option_map (λ zs. take i fields ++ zs) (each_in integer_in (map f (drop i items)))
+    → drop i fields ≡ replicate (FIELD_COUNT - i) (pos 0) → Some (record { 0 = fields }) ≡ value_in d
+value_read_all f items d fields i count low high is found zeros =
+    let long = length-map items f in
+    let none : drop i items ≡ [] = drop_all i items (omega arith) in
+    let all : each_in integer_in (map f items) ≡ Some (take i fields) =
+    found ∙ ap (λ xs. option_map (λ zs. take i fields ++ zs) (each_in integer_in (map f xs))) none ∙ ap Some (append-nil (take i fields)) in
+    sym (value_read (map f items) fields i (omega arith) (omega arith) (omega arith) all zeros) ∙ ap (λ o. option_and_then value_of_items o) is
+
+neither : (b : Bool) → let none : Option Value = None in none ≡ (if b then none else none)
+neither true = refl
+neither false = refl
+
+-- one more field was read, into the place of a zero
+pub field_read : {X : Type 0} (f : X → Data) (items : List X) (i : ℕ) (item : X) (fields : List ℤ) (z : ℤ) → i < length items
+    → length items ≤ FIELD_COUNT → Some z ≡ integer_in (f (get_or items i item))
+    → each_in integer_in (map f items) ≡ option_map (λ zs. take i fields ++ zs) (each_in integer_in (map f (drop i items)))
+    → drop i fields ≡ replicate (FIELD_COUNT - i) (pos 0)
+    → let new = set_at fields i (to_z w64 (of_z w64 z)) in
+    (each_in integer_in (map f items) ≡ option_map (λ zs. take (i + 1) new ++ zs) (each_in integer_in (map f (drop (i + 1) items))))
+    × (drop (i + 1) new ≡ replicate (FIELD_COUNT - (i + 1)) (pos 0))
+field_read f items i item fields z there small is found zeros =
+    let kept : to_z w64 (of_z w64 z) ≡ z = to_z-of_z w64 z (integer_is (f (get_or items i item)) z (sym is)).1 in
+    let left = sym (length-drop i fields) ∙ ap (λ xs. length xs) zeros ∙ length-replicate (FIELD_COUNT - i) (pos 0) in
+    let behind : drop (i + 1) fields ≡ replicate (FIELD_COUNT - i - 1) (pos 0) =
+    sym (drop-drop 1 i fields) ∙ ap (λ xs. drop 1 xs) zeros ∙ drop-replicate 1 (FIELD_COUNT - i) (pos 0) in
+    let count : FIELD_COUNT - i - 1 ≡ FIELD_COUNT - (i + 1) = omega arith in
+    rw kept (
+      one_more f integer_in items i item (take i fields) (take (i + 1) (set_at fields i z)) z there is (take_more_set fields i z (omega arith)) found,
+      drop-set-lt (i + 1) fields i z (omega arith) ∙ behind ∙ ap (λ n. replicate n (pos 0)) count,
+    )
+
+-- where an item is no field, the value is none
+pub no_value : {X : Type 0} (f : X → Data) (items : List X) (d : Data) → Some (map f items) ≡ list_in d → each_in integer_in (map f items) ≡ None
+    → None ≡ value_in d
+no_value f items d is none = rw (← is, none) (neither (nat_le 1 (length (map f items)) && nat_le (length (map f items)) FIELD_COUNT))
+
+-- what has a word in front is written so
+words_are : (es : List Data) (w : List ℕ) (ds : List Data) → words_of es ≡ Some (w, ds) → list_data es ≡ written w ds
+words_are [] w ds e = cc
+words_are (word ∷ rest) w ds e = said (as_str word) refl e where
+  said : (o : Option (List ℕ)) → as_str word ≡ o → option_map {U = List ℕ × List Data} (λ t. (t, rest)) o ≡ Some (w, ds)
+      → list_data (word ∷ rest) ≡ written w ds
+  said None is h = cc
+  said (Some t) is h = let (p, q) = some_pair_parts t w rest ds h in rw (str_is word t is, p, q) refl
+
+pub words_is : (d : Data) (w : List ℕ) (ds : List Data) → words_in d ≡ Some (w, ds) → d ≡ written w ds
+words_is d w ds e = option_and_then_some words_of (list_in d) (w, ds) e (λ es is h. list_is d es is ∙ words_are es w ds h)

@@ -1,0 +1,90 @@
+//! Actions of systems: which action a JSON value is.
+
+ghost use Rattle.std.specs.Prelude.{◌≡◌, map, option_map};
+ghost use Rattle.serde_json.specs.View.{view};
+ghost use Rattle.eco_steps.specs.Decode.{action_in, action_of, action_of_none, action_of_slot, action_of_text, slot_in};
+ghost use Rattle.eco_steps.specs.Views.{action_view};
+
+use crate::arguments::{read_number, read_value, read_words};
+use serde_json::Value;
+
+/// What a system of a script may do with a row of its query, with the texts of the value that it was read from. Slots are counted
+/// from 0, and are 31 at most.
+#[derive(Clone, Copy)]
+pub enum Action<'a> {
+    Add { id: &'a str },
+    Remove { id: &'a str },
+    Put { slot: usize, value: eco_ids::Value },
+    Sum { into: usize, from: usize },
+    Kill,
+    Spawn { id: Option<&'a str> },
+}
+
+// The number of a slot.
+fn read_slot(value: &Value) -> Option<usize>
+    ensures { result ≡ slot_in (view value.now) }
+{
+    Some(read_number(value, 0, 31)? as usize)
+}
+
+impl<'a> Action<'a> {
+    // An action without arguments.
+    fn of_none(word: &str) -> Option<Action<'a>>
+        ensures { option_map action_view result ≡ action_of_none word.now }
+    {
+        match word {
+            "kill" => Some(Action::Kill),
+            "spawn" => Some(Action::Spawn { id: None }),
+            _ => None,
+        }
+    }
+
+    // An action with one text.
+    fn of_text(word: &str, id: &'a str) -> Option<Action<'a>>
+        ensures { option_map action_view result ≡ action_of_text word.now id.entry.now }
+    {
+        match word {
+            "add" => Some(Action::Add { id }),
+            "remove" => Some(Action::Remove { id }),
+            "spawn" => Some(Action::Spawn { id: Some(id) }),
+            _ => None,
+        }
+    }
+
+    // An action with a slot and another argument.
+    fn of_slot(word: &str, slot: usize, argument: &Value) -> Option<Action<'a>>
+        ensures { option_map action_view result ≡ action_of_slot word.now slot (view argument.now) }
+    {
+        match word {
+            "put" => Some(Action::Put {
+                slot,
+                value: read_value(argument)?,
+            }),
+            "sum" => Some(Action::Sum {
+                into: slot,
+                from: read_slot(argument)?,
+            }),
+            _ => None,
+        }
+    }
+
+    // An action with these arguments.
+    fn of(word: &str, arguments: &'a [Value]) -> Option<Action<'a>>
+        ensures { option_map action_view result ≡ action_of word.now (map view arguments.now) }
+    {
+        match arguments {
+            [] => Action::of_none(word),
+            [id] => Action::of_text(word, id.as_str()?),
+            [slot, argument] => Action::of_slot(word, read_slot(slot)?, argument),
+            _ => None,
+        }
+    }
+
+    /// The action that a value is, if it is one.
+    pub(crate) fn read(value: &'a Value) -> Option<Action<'a>>
+        ensures { option_map action_view result ≡ action_in (view value.now) }
+    {
+        let (word, arguments) = read_words(value)?;
+        Action::of(word, arguments)
+    }
+}

@@ -1,0 +1,48 @@
+//! The actions of a system, as a script gives them.
+
+ghost use Rattle.std.specs.Prelude.{◌≡◌, length, map, IsSome, option_map};
+ghost use Rattle.std.specs.List.{slice_get};
+ghost use Rattle.serde_json.specs.View.{view};
+ghost use Rattle.eco_steps.specs.Decode.{action_in, each_in, actions_in};
+
+use crate::action::Action;
+use crate::arguments::read_list;
+use serde_json::Value;
+
+/// A list of actions, which borrows them from the value that it was read from. Each is read again when it is asked for, so a list
+/// of any length takes no memory.
+#[derive(Clone, Copy)]
+pub struct Actions<'a> {
+    values: &'a [Value],
+    ghost are_actions: { IsSome (each_in action_in (map view values.now)) },
+}
+
+impl<'a> Actions<'a> {
+    ghost use Rattle.eco_steps.specs.Views.{action_view, actions_view};
+
+    /// The actions that a value lists, if it is a list of actions.
+    pub(crate) fn read(value: &'a Value) -> Option<Actions<'a>>
+        ensures { option_map actions_view result ≡ actions_in (view value.now) }
+    {
+        let values = read_list(value)?;
+        for item in values {
+            Action::read(item)?;
+        }
+        Some(Actions { values })
+    }
+
+    /// How many actions there are.
+    pub fn len(&self) -> usize
+        ensures { result ≡ length (actions_view self.now) }
+    {
+        self.values.len()
+    }
+
+    /// The action at a place, counted from 0, if there is one.
+    pub fn get(&self, place: usize) -> Option<Action<'a>>
+        ensures { option_map action_view result ≡ slice_get (actions_view self.now) place }
+    {
+        let value = self.values.get(place)?;
+        Action::read(value)
+    }
+}

@@ -14,6 +14,8 @@ mod draws;
 #[cfg(test)]
 mod filter;
 #[cfg(test)]
+mod frames;
+#[cfg(test)]
 mod generations;
 #[cfg(test)]
 mod hostile;

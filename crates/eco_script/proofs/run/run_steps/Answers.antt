@@ -1,11 +1,15 @@
 use Rattle.std.proofs.Common.{[], refl, ap, ◌+◌, ◌∙◌}
 use Rattle.eco_steps.specs.Views.{step_view}
+use Rattle.eco_script.specs.Systems.{reached}
 use Rattle.eco_script.proofs.Devices.{Appends-none}
 use Rattle.eco_script.proofs.Runs.{stopped_between, stopped_within, gathered_all, gathered_more, gathered_less}
 use Rattle.eco_script.proofs.run.run_steps.Goals as goal
 
 pub loop-step-init : goal.loop-step-init
-loop-step-init g c = record { ran = ([], (c.new-text.ensures.bytes, refl), Appends-none _); counted = refl }
+loop-step-init g c = record {
+  ran = ([], (c.new-text.ensures.bytes, ap (reached c.args.world.now) c.new-systems.ensures), Appends-none _);
+  counted = refl;
+}
 
 pub returns-in_default-clause-err : goal.returns-in_default-clause-err
 returns-in_default-clause-err g c =

@@ -29,7 +29,7 @@ pub laid_nothing : (s : List (Option TableState)) (p : PreparedState) (idle : Li
 laid_nothing s p idle nothing few = record {
   ready = ready_nothing s p idle nothing;
   tidy = subst (λ (q : PreparedState). RowlessIn s (staying q)) (sym nothing) few;
-  done = λ none_left. ap (λ (q : PreparedState). q.targets) nothing;
+  done = λ none_left. (ap (λ (q : PreparedState). q.targets) nothing, ap (λ (q : PreparedState). q.gathered) nothing);
 }
 
 -- a move is to come, so tables may stay for it
@@ -111,8 +111,8 @@ module _ (s : List (Option TableState)) (p : PreparedState) (laid : IsLaid s p) 
   pub idle : p ≡ nothing_prepared p.idle
   idle =
       let arrivals = none_go s p.arrivals none in
-      let targets = laid.done arrivals in
-      λ t. record { arrivals = arrivals t; targets = targets t; idle = p.idle }
+      let (targets, gathered) = laid.done arrivals in
+      λ t. record { arrivals = arrivals t; targets = targets t; gathered = gathered t; idle = p.idle }
 
   idle_ready : (s' : List (Option TableState)) → IsReady s' p
   idle_ready s' = ready_nothing s' p p.idle idle
@@ -135,5 +135,7 @@ pub still_laid : (s : List (Option TableState)) (p q : PreparedState) → q ≡ 
 still_laid s p q same done ready tidy = record {
   ready = ready;
   tidy = tidy;
-  done = λ none. ap (λ (x : PreparedState). x.targets) same ∙ done (sym (ap (λ (x : PreparedState). x.arrivals) same) ∙ none);
+  done = λ none.
+      let (targets, gathered) = done (sym (ap (λ (x : PreparedState). x.arrivals) same) ∙ none) in
+      (ap (λ (x : PreparedState). x.targets) same ∙ targets, ap (λ (x : PreparedState). x.gathered) same ∙ gathered);
 }

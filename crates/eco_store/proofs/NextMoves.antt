@@ -37,10 +37,10 @@ module _ (s : List (Option TableState)) (p p' : PreparedState) (a : Entity × �
 module _ (s : List (Option TableState)) (p p' : PreparedState) (a : Entity × ℕ) (first_is : p.arrivals ≡ a ∷ p'.arrivals) (targets : p'.targets ≡ p.targets)
     (ready : IsReady s p) where
   abbrev whole : PreparedState
-  whole = record { arrivals = a ∷ p'.arrivals; targets = p'.targets; idle = p.idle }
+  whole = record p { arrivals = a ∷ p'.arrivals; targets = p'.targets }
 
   was_ready : IsReady s whole
-  was_ready = subst (IsReady s) (λ t. record { arrivals = first_is t; targets = sym targets t; idle = p.idle }) ready
+  was_ready = subst (IsReady s) (λ t. record p { arrivals = first_is t; targets = sym targets t }) ready
 
   -- the next move has its table, with room
   pub next_there : IsSome (slot_of s a.1)

@@ -16,7 +16,7 @@ use Rattle.eco_ids.proofs.Lists.{not_equal}
 use Rattle.eco_store.specs.declared.moving.Move.{Move}
 use Rattle.eco_archetypes.specs.Archetypes.{type_at, KeepsTypes, KeepsRoom, SameSlots, SameTypes}
 use Rattle.eco_store.specs.Preparing.{PreparedState, nothing_prepared, with_arrival, with_target, move_to, moves_of, has_move, AreOfDifferent, arriving}
-use Rattle.eco_store.specs.Preparing.{staying, Includes, IsReady, SameIn}
+use Rattle.eco_store.specs.Preparing.{staying, with_gathered, IsReady, SameIn}
 use Rattle.eco_archetypes.proofs.ArchetypeLemmas.{sets_types, typed_table}
 use Rattle.eco_store.proofs.Pouring.{same_ids_in, still_there, kept_type}
 use Rattle.eco_store.proofs.RowChanges.{is_equal}
@@ -137,12 +137,12 @@ targeted s p n ready = record {
 }
 
 -- who goes where is as before
-pub same_arrivals : (p q : PreparedState) → q.arrivals ≡ p.arrivals → q ≡ record p { targets = q.targets; idle = q.idle }
-same_arrivals p q same = λ t. record { arrivals = same t; targets = q.targets; idle = q.idle }
+pub same_plan : (p q : PreparedState) → q.arrivals ≡ p.arrivals → q.targets ≡ p.targets → q ≡ record p { gathered = q.gathered; idle = q.idle }
+same_plan p q arrivals targets = λ t. record { arrivals = arrivals t; targets = targets t; gathered = q.gathered; idle = q.idle }
 
--- the targets are as before
-pub same_included : (p q : PreparedState) → q.targets ≡ p.targets → Includes q.targets p.targets
-same_included p q same m = subst (λ slots. IsTrue (list_any (nat_eq m) slots)) (sym same)
+-- more tables go together
+pub ready_gathered : (s : List (Option TableState)) (p : PreparedState) (n : ℕ) → IsReady s p → IsReady s (with_gathered p n)
+ready_gathered s p n ready = record { there = ready.there; stays = ready.stays; room = ready.room }
 
 -- the slot is one of the targets
 pub is_targeted : (p : PreparedState) (n : ℕ) → IsTrue (list_any (nat_eq n) (with_target p n).targets)

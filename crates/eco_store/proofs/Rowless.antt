@@ -11,7 +11,7 @@ use Rattle.eco_ids.proofs.Lists.{not_equal}
 use Rattle.eco_archetypes.specs.Archetypes.{is_rowless, RowlessIn, SameRows, SameTypes}
 use Rattle.eco_store.specs.declared.transfer.Transfer.{Transfer}
 use Rattle.eco_store.specs.Transfers.{AreNamed, Pours}
-use Rattle.eco_store.specs.Preparing.{PreparedState, staying, with_target}
+use Rattle.eco_store.specs.Preparing.{PreparedState, staying, with_gathered, with_target}
 use Rattle.eco_ids.proofs.Facts.{or_right}
 use Rattle.eco_archetypes.proofs.ArchetypeLemmas.{type_there, there_as_typed}
 use Rattle.eco_store.proofs.Readiness.{is_targeted, still_targeted}
@@ -158,36 +158,69 @@ rowless_rested s slots idle k slot before at =
 pub among_more : (slots others : List ℕ) (m : ℕ) → IsTrue (list_any (nat_eq m) slots) → IsTrue (list_any (nat_eq m) (slots ++ others))
 among_more slots others m there = list_any-append (nat_eq m) slots others ∙ ap (λ b. b || list_any (nat_eq m) others) there
 
+pub among_last : (slots others : List ℕ) (m : ℕ) → IsTrue (list_any (nat_eq m) others) → IsTrue (list_any (nat_eq m) (slots ++ others))
+among_last slots others m there =
+    list_any-append (nat_eq m) slots others ∙ or_right (list_any (nat_eq m) slots) (list_any (nat_eq m) others) there
+
 -- a slot whose table is not without rows
 pub rowless_but : (s : List (Option TableState)) (n : ℕ) (slots : List ℕ) → is_rowless s n ≡ false → RowlessIn s (n ∷ slots) → RowlessIn s slots
 rowless_but s n slots has_rows was m empty =
     let other : m ≢ n = λ here. true≢false (sym empty ∙ ap (is_rowless s) here ∙ has_rows) in
     sym (ap (λ b. b || list_any (nat_eq m) slots) (not_equal m n other)) ∙ was m empty
 
--- the tables of the transfers are in these slots, and so in more
-pub named_beside : (slots others : List ℕ) (ts : List Transfer) → AreNamed slots ts → AreNamed (slots ++ others) ts
-named_beside slots others ts named k d within =
-    let t = get_or ts k d in
-    let both = named k d within in
-    (among_more slots others t.from both.0, among_more slots others t.to both.1)
+-- the tables of the transfers are targets, and so they stay
+pub named_stay : (p : PreparedState) (ts : List Transfer) → AreNamed p.targets ts → AreNamed (staying p) ts
+named_stay p ts named k d within =
+    let both = named k d within in (stays (get_or ts k d).from both.0, stays (get_or ts k d).to both.1)
+  where
+    stays : (m : ℕ) → IsTrue (list_any (nat_eq m) p.targets) → IsTrue (list_any (nat_eq m) (staying p))
+    stays m there = among_more (p.gathered ++ p.targets) p.idle m (among_last p.gathered p.targets m there)
+
+-- whether a slot is one of those that stay
+among_staying : (p : PreparedState) (m : ℕ) → list_any (nat_eq m) (staying p)
+    ≡ ((list_any (nat_eq m) p.gathered || list_any (nat_eq m) p.targets) || list_any (nat_eq m) p.idle)
+among_staying p m =
+    list_any-append (nat_eq m) (p.gathered ++ p.targets) p.idle
+    ∙ ap (λ b. b || list_any (nat_eq m) p.idle) (list_any-append (nat_eq m) p.gathered p.targets)
 
 -- a slot becomes one of the targets
 pub rowless_targeted : (s : List (Option TableState)) (p : PreparedState) (n : ℕ) → RowlessIn s (n ∷ staying p) → RowlessIn s (staying (with_target p n))
 rowless_targeted s p n =
-    let more = (with_target p n).targets in
     rowless_more s (n ∷ staying p) (staying (with_target p n)) (λ m there.
-    elim (cases_eq m n) [
-      | inl here ↦ among_more more p.idle m (subst (λ k. IsTrue (list_any (nat_eq k) more)) (sym here) (is_targeted p n))
+    rw (among_staying (with_target p n) m)
+    (elim (cases_eq m n) [
+      | inl here ↦
+          now_there (list_any (nat_eq m) p.gathered) (list_any (nat_eq m) (with_target p n).targets) (list_any (nat_eq m) p.idle)
+          (subst (λ k. IsTrue (list_any (nat_eq k) (with_target p n).targets)) (sym here) (is_targeted p n))
       | inr other ↦
-          rw (list_any-append (nat_eq m) more p.idle)
-          (or_left_kept (list_any (nat_eq m) p.targets) (list_any (nat_eq m) more) (list_any (nat_eq m) p.idle) (still_targeted p n m)
-          (rw (list_any-append (nat_eq m) p.targets p.idle) at (sym (ap (λ b. b || list_any (nat_eq m) (staying p)) (not_equal m n other)) ∙ there)))
-    ])
+          still_there (list_any (nat_eq m) p.gathered) (list_any (nat_eq m) p.targets) (list_any (nat_eq m) (with_target p n).targets)
+          (list_any (nat_eq m) p.idle) (still_targeted p n m)
+          (sym (among_staying p m) ∙ sym (ap (λ b. b || list_any (nat_eq m) (staying p)) (not_equal m n other)) ∙ there)
+    ]))
   where
-    or_left_kept : (a b c : Bool) → (IsTrue a → IsTrue b) → IsTrue (a || c) → IsTrue (b || c)
-    or_left_kept true b c kept h = ap (λ x. x || c) (kept refl)
-    or_left_kept false true c kept h = refl
-    or_left_kept false false c kept h = h
+    now_there : (a b c : Bool) → IsTrue b → IsTrue ((a || b) || c)
+    now_there true b c h = refl
+    now_there false b c h = ap (λ x. x || c) h
+
+    still_there : (a b b' c : Bool) → (IsTrue b → IsTrue b') → IsTrue ((a || b) || c) → IsTrue ((a || b') || c)
+    still_there true b b' c kept h = refl
+    still_there false true b' c kept h = ap (λ x. x || c) (kept refl)
+    still_there false false true c kept h = refl
+    still_there false false false c kept h = h
+
+-- a slot is gathered
+pub rowless_gathered : (s : List (Option TableState)) (p : PreparedState) (n : ℕ) → RowlessIn s (n ∷ staying p) → RowlessIn s (staying (with_gathered p n))
+rowless_gathered s p n =
+    rowless_more s (n ∷ staying p) (staying (with_gathered p n)) (λ m there.
+    rw (among_staying (with_gathered p n) m)
+    (rw (list_any-append (nat_eq m) p.gathered (n ∷ []))
+    (last (nat_eq m n) (list_any (nat_eq m) p.gathered) (list_any (nat_eq m) p.targets) (list_any (nat_eq m) p.idle)
+    (sym (ap (λ b. nat_eq m n || b) (among_staying p m)) ∙ there))))
+  where
+    last : (x a b c : Bool) → IsTrue (x || ((a || b) || c)) → IsTrue (((a || (x || false)) || b) || c)
+    last x true b c h = refl
+    last true false b c h = refl
+    last false false b c h = h
 
 -- one more slot may be without rows
 pub rowless_beside : (s : List (Option TableState)) (n : ℕ) (slots : List ℕ) → RowlessIn s slots → RowlessIn s (n ∷ slots)

@@ -9,7 +9,7 @@ use Rattle.eco_archetypes.specs.Archetypes.{type_at}
 use Rattle.eco_archetypes.proofs.ArchetypeLemmas.{sets_types}
 use Rattle.eco_store.specs.declared.transfer.Transfer.{Transfer}
 use Rattle.eco_store.specs.declared.type_change.TypeChange.{TypeChange}
-use Rattle.eco_store.specs.Preparing.{Includes, SameIn}
+use Rattle.eco_store.specs.Preparing.{SameIn}
 use Rattle.eco_store.specs.Transfers.{change_of, AreNamed, IsPlan, HasRoom, Thins, due}
 use Rattle.eco_store.proofs.Pouring.{changes_alike, plan_alike, due_fewer, due_none}
 use Rattle.eco_store.proofs.Readiness.{room_won}
@@ -22,14 +22,6 @@ thins_both s s1 s2 slots a b = record {
   types = λ n among. b.types n among ∙ a.types n among;
   rows = λ n among. omega (arith, a.rows n among, b.rows n among);
   room = λ n among. omega (arith, a.room n among, b.room n among);
-}
-
--- fewer tables
-pub thins_fewer : (s s' : List (Option TableState)) (many few : List ℕ) → Includes many few → Thins s s' many → Thins s s' few
-thins_fewer s s' many few more thins = record {
-  types = λ n among. thins.types n (more n among);
-  rows = λ n among. thins.rows n (more n among);
-  room = λ n among. thins.room n (more n among);
 }
 
 -- rows of a table went, and then tables outside of these slots may have gone

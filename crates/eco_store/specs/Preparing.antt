@@ -41,35 +41,32 @@ AreOfDifferent ms = AllPairs (λ one other. one.entity ≢ other.entity) ms
 -- ---- as they are kept
 
 -- arrivals: who goes to which slot, the next one first; targets: slots whose tables stay though they may be without rows;
--- idle: slots whose tables lost their last row, and stay too
+-- gathered: slots whose tables lost all rows and are to go together; idle: slots whose tables lost their last row, and stay too
 pub record PreparedState : Type 0 where
   pub arrivals : List (Entity × ℕ)
   pub targets : List ℕ
+  pub gathered : List ℕ
   pub idle : List ℕ
-
--- each of these slots is among the others
-abbrev pub Includes : List ℕ → List ℕ → Type 0
-Includes all some = (n : ℕ) → IsTrue (list_any (nat_eq n) some) → IsTrue (list_any (nat_eq n) all)
 
 -- each of these slots has what it had
 abbrev pub SameIn : List (Option TableState) → List (Option TableState) → List ℕ → Type 0
 SameIn old new slots = (n : ℕ) → IsTrue (list_any (nat_eq n) slots) → slot_of new n ≡ slot_of old n
 
--- neither a move nor a target
+-- neither a move nor a target, and nothing is gathered
 abbrev pub nothing_prepared : List ℕ → PreparedState
-nothing_prepared idle = record { arrivals = []; targets = []; idle = idle }
+nothing_prepared idle = record { arrivals = []; targets = []; gathered = []; idle = idle }
 
 -- the slots whose tables may be without rows
 abbrev pub staying : PreparedState → List ℕ
-staying p = p.targets ++ p.idle
+staying p = p.gathered ++ p.targets ++ p.idle
 
 -- the slot is an idle one from then on, in the place of another
 abbrev pub Rests : PreparedState → PreparedState → ℕ → ℕ → Type 0
 Rests old new slot before = (k : ℕ) × (slice_get old.idle k ≡ Some before) × (new ≡ record old { idle = slice_set old.idle k slot })
 
--- where no move is left, no table stays for one
+-- where no move is left, no table stays for one, nor to go with others
 abbrev pub HasNoIdleTarget : PreparedState → Type 0
-HasNoIdleTarget p = p.arrivals ≡ [] → p.targets ≡ []
+HasNoIdleTarget p = p.arrivals ≡ [] → (p.targets ≡ []) × (p.gathered ≡ [])
 
 -- one more, before all others
 abbrev pub with_arrival : PreparedState → Entity × ℕ → PreparedState
@@ -78,6 +75,10 @@ with_arrival p a = record p { arrivals = a ∷ p.arrivals }
 -- one more, if it is none of them
 abbrev pub with_target : PreparedState → ℕ → PreparedState
 with_target p n = record p { targets = if list_any (nat_eq n) p.targets then p.targets else p.targets ++ n ∷ [] }
+
+-- one more to go with others
+abbrev pub with_gathered : PreparedState → ℕ → PreparedState
+with_gathered p n = record p { gathered = p.gathered ++ n ∷ [] }
 
 -- the move to the type of the table in the arrival's slot
 abbrev pub move_to : List (Option TableState) → Entity × ℕ → Move

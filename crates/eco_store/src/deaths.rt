@@ -6,7 +6,7 @@ ghost use Rattle.eco_entities.specs.Needs.{need};
 ghost use Rattle.eco_ids.specs.Indices.{is_alive, with_death};
 ghost use Rattle.eco_ids.specs.Order.{entity_cmp, has_item};
 ghost use Rattle.eco_store.specs.Deaths.{after_deaths};
-ghost use Rattle.eco_store.specs.Preparing.{staying, moves_of, Includes, IsReady};
+ghost use Rattle.eco_store.specs.Preparing.{staying, moves_of, IsReady};
 ghost use Rattle.eco_store.specs.Retyping.{after_changes, IsOneWay};
 ghost use Rattle.eco_store.specs.Store.{IsStore, read};
 ghost use Rattle.eco_store.specs.Transfers.{change_of, AreNamed, HasRoom, IsPlan, Thins};
@@ -68,8 +68,7 @@ fn kill_all(
         ≡ after_deaths (read entities.old archetypes.old) (has_item entity_cmp dead.now) }
     ensures ready { IsReady archetypes.new prepared.new }
     ensures tidy { RowlessIn archetypes.new (staying prepared.new) }
-    ensures same { prepared.new ≡ record prepared.old { targets = prepared.new.targets; idle = prepared.new.idle } }
-    ensures grown { Includes prepared.new.targets prepared.old.targets }
+    ensures same { prepared.new ≡ record prepared.old { gathered = prepared.new.gathered; idle = prepared.new.idle } }
     ensures left { moves_of archetypes.new prepared.new ≡ moves_of archetypes.old prepared.old }
     ensures thins { Thins archetypes.old archetypes.new prepared.old.targets }
 {

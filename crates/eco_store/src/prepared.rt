@@ -3,7 +3,7 @@ ghost use Rattle.std.specs.Prelude.{◌≡◌, ◌∷◌, ◌↔◌, [], List, �
 ghost use Rattle.std.specs.List.{list_any};
 ghost use Rattle.eco_ids.specs.declared.entity.Entity.{Entity as Entities};
 ghost use Rattle.eco_ids.specs.Order.{entity_eq};
-ghost use Rattle.eco_store.specs.Preparing.{nothing_prepared, with_arrival, with_target, Rests};
+ghost use Rattle.eco_store.specs.Preparing.{nothing_prepared, with_arrival, with_gathered, with_target, Rests};
 
 use eco_ids::Entity;
 use indexmap::{IndexMap, IndexSet};
@@ -21,18 +21,21 @@ const IDLE_COUNT: usize = 8;
 const MANY_TABLES: usize = 16;
 
 /// A contract sees who goes to which slot, the next one first, and the slots whose tables stay though they may be without
-/// rows: those to which moves go, and the idle ones, whose tables lost their last row and are likely to get one soon again.
+/// rows: those to which moves go, those that go together once nothing is prepared, and the idle ones, whose tables lost their
+/// last row and are likely to get one soon again.
 #[derive(Drop)]
 pub struct Prepared {
     alloc: Global,
     // The next one is the last.
     arrivals: IndexMap<Entity, usize>,
     targets: IndexSet<usize>,
+    // A plain list: a table that lost all rows gets none before the list is cleared, so it comes once.
+    gathered: Vec<usize>,
     // Any slots, before tables have lost their last row.
     idle: [usize; IDLE_COUNT],
     // Which of them goes next, counted round.
     turn: usize,
-    // Tables that lose all rows stay as targets.
+    // Tables that lose all rows are gathered.
     gathers: bool,
 }
 
@@ -43,7 +46,8 @@ impl Model for Prepared {
     ghost Value = { PreparedState };
 
     ghost view = { λ p.
-        record { arrivals = reverse p.arrivals.entries; targets = p.targets.keys; idle = p.idle } };
+        record { arrivals = reverse p.arrivals.entries; targets = p.targets.keys; gathered = p.gathered.items;
+            idle = p.idle } };
 }
 
 impl Prepared {
@@ -55,13 +59,14 @@ impl Prepared {
             alloc,
             arrivals: IndexMap::new(alloc),
             targets: IndexSet::new(alloc),
+            gathered: Vec::new(alloc),
             idle: [0; IDLE_COUNT],
             turn: 0,
             gathers: false,
         }
     }
 
-    /// Neither a move nor a target, and the same idle slots.
+    /// Neither a move nor a target nor anything gathered, and the same idle slots.
     pub fn emptied(&self) -> Prepared
         ensures { result ≡ nothing_prepared self.now.idle }
     {
@@ -69,17 +74,18 @@ impl Prepared {
             alloc: self.alloc,
             arrivals: IndexMap::new(self.alloc),
             targets: IndexSet::new(self.alloc),
+            gathered: Vec::new(self.alloc),
             idle: self.idle,
             turn: self.turn,
             gathers: false,
         }
     }
 
-    /// Whether there is neither a move nor a target.
+    /// Whether there is neither a move nor a target, and nothing is gathered.
     pub fn is_idle(&self) -> bool
         ensures { IsTrue result ↔ (self.now ≡ nothing_prepared self.now.idle) }
     {
-        self.targets.is_empty() && self.arrivals.is_empty()
+        self.targets.is_empty() && self.arrivals.is_empty() && self.gathered.is_empty()
     }
 
     /// Whether no move is left.
@@ -104,11 +110,18 @@ impl Prepared {
         self.targets.contains(&slot)
     }
 
-    /// The slots whose tables stay, each once.
+    /// The slots whose tables stay for moves, each once.
     pub fn targets(&self) -> &[usize]
         ensures { result.now ≡ self.now.targets }
     {
         self.targets.as_slice()
+    }
+
+    /// The slots whose tables go together.
+    pub fn gathered(&self) -> &[usize]
+        ensures { result.now ≡ self.now.gathered }
+    {
+        self.gathered.as_slice()
     }
 
     /// Who goes next, and to which slot.
@@ -123,6 +136,7 @@ impl Prepared {
     /// The next move is made: it is none of those to come.
     pub fn take_next(&mut self) -> Option<(Entity, usize)>
         ensures targets { self.new.targets ≡ self.old.targets }
+        ensures gathered { self.new.gathered ≡ self.old.gathered }
         ensures idle { self.new.idle ≡ self.old.idle }
         ensures some { IfSome result (λ a. self.old.arrivals ≡ a ∷ self.new.arrivals) }
         ensures none { IfNone result ((self.old.arrivals ≡ []) × (self.new.arrivals ≡ [])) }
@@ -141,21 +155,24 @@ impl Prepared {
         Ok(added)
     }
 
-    /// So many tables may lose all rows: if they are many, each of them stays as a target from then on, and goes with the
-    /// others once nothing is prepared. Where there is no memory for that, they go one by one.
+    /// So many tables may lose all rows: if they are many, they go together once nothing is prepared. Where there is no memory
+    /// for that, they go one by one.
     pub fn expect(&mut self, count: usize)
         ensures { self.new ≡ self.old }
     {
-        self.gathers = count >= MANY_TABLES && self.targets.reserve(count).is_ok();
+        self.gathers = count >= MANY_TABLES && self.gathered.reserve(count).is_ok();
     }
 
-    /// The table in this slot lost all rows. The answer says whether it is one of the targets from then on, as tables are
-    /// that go together.
+    /// The table in this slot lost all rows. The answer says whether it goes with others.
     pub fn gather(&mut self, slot: usize) -> bool
-        ensures stays { IsTrue result → self.new ≡ with_target self.old slot }
+        ensures gathered { IsTrue result → self.new ≡ with_gathered self.old slot }
         ensures same { IsFalse result → self.new ≡ self.old }
     {
-        self.gathers && self.add_target(slot).is_ok()
+        if self.gathers && self.gathered.len() < self.gathered.capacity() {
+            self.gathered.push_reserved(slot);
+            return true;
+        }
+        false
     }
 
     /// The entity, which has no move to come, goes to this slot, before all others. An `Err` comes where memory is refused,
@@ -188,12 +205,13 @@ impl Prepared {
         before
     }
 
-    /// Neither a move nor a target is left.
+    /// Neither a move nor a target is left, and nothing is gathered.
     pub fn clear(&mut self)
         ensures { self.new ≡ nothing_prepared self.old.idle }
     {
         self.arrivals.clear();
         self.targets.clear();
+        self.gathered.clear();
         self.gathers = false;
     }
 }

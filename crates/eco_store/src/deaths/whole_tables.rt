@@ -6,7 +6,7 @@ ghost use Rattle.eco_entities.specs.Needs.{need};
 ghost use Rattle.eco_ids.specs.Order.{entity_cmp, has_item};
 ghost use Rattle.eco_store.specs.Deaths.{after_deaths, with_deaths};
 ghost use Rattle.eco_store.specs.Layout.{rows_in};
-ghost use Rattle.eco_store.specs.Preparing.{staying, moves_of, Includes, IsReady};
+ghost use Rattle.eco_store.specs.Preparing.{staying, moves_of, IsReady};
 ghost use Rattle.eco_store.specs.Store.{IsStore, read};
 ghost use Rattle.eco_store.specs.Transfers.{Thins};
 ghost use Rattle.eco_tables.specs.Table.{entities_of};
@@ -40,8 +40,7 @@ pub fn kill_next(
         ≡ after_deaths (read entities.old archetypes.old) (has_item entity_cmp (take result dead.now)) }
     ensures ready { IsReady archetypes.new prepared.new }
     ensures tidy { RowlessIn archetypes.new (staying prepared.new) }
-    ensures same { prepared.new ≡ record prepared.old { targets = prepared.new.targets; idle = prepared.new.idle } }
-    ensures grown { Includes prepared.new.targets prepared.old.targets }
+    ensures same { prepared.new ≡ record prepared.old { gathered = prepared.new.gathered; idle = prepared.new.idle } }
     ensures left { moves_of archetypes.new prepared.new ≡ moves_of archetypes.old prepared.old }
     ensures thins { Thins archetypes.old archetypes.new prepared.old.targets }
 {
@@ -87,8 +86,7 @@ fn kill_rows(
         (has_item entity_cmp (entities_of (rows_in archetypes.old slot))) }
     ensures ready { IsReady archetypes.new prepared.new }
     ensures tidy { RowlessIn archetypes.new (staying prepared.new) }
-    ensures same { prepared.new ≡ record prepared.old { targets = prepared.new.targets; idle = prepared.new.idle } }
-    ensures grown { Includes prepared.new.targets prepared.old.targets }
+    ensures same { prepared.new ≡ record prepared.old { gathered = prepared.new.gathered; idle = prepared.new.idle } }
     ensures left { moves_of archetypes.new prepared.new ≡ moves_of archetypes.old prepared.old }
     ensures thins { Thins archetypes.old archetypes.new prepared.old.targets }
 {

@@ -15,7 +15,7 @@ impl Layout {
     {
         let mut archetypes = self.archetypes.try_copy()?;
         // Of the tables that stay for moves to come those without rows are not needed.
-        archetypes.drop_each(self.prepared.targets());
+        self.prepared.drop_staying(&mut archetypes);
         Ok(Layout {
             archetypes,
             prepared: self.prepared.emptied(),

@@ -4,7 +4,7 @@ ghost use Rattle.eco_tables.specs.Tables.{slot_of};
 ghost use Rattle.eco_archetypes.specs.Archetypes.{RowlessIn};
 ghost use Rattle.eco_archetypes.specs.Widths.{KeepsWidths};
 ghost use Rattle.eco_store.specs.Layout.{rows_in, SetsRows, TakesRow};
-ghost use Rattle.eco_store.specs.Preparing.{staying, moves_of, Includes, IsReady};
+ghost use Rattle.eco_store.specs.Preparing.{staying, moves_of, IsReady};
 ghost use Rattle.eco_store.specs.Transfers.{Thins};
 
 use crate::prepared::Prepared;
@@ -40,8 +40,7 @@ impl Prepared {
         ensures rows { SetsRows (rows_in archetypes.old) (rows_in archetypes.new) slot [] }
         ensures ready { IsReady archetypes.new self.new }
         ensures tidy { RowlessIn archetypes.new (staying self.new) }
-        ensures same { self.new ≡ record self.old { targets = self.new.targets; idle = self.new.idle } }
-        ensures grown { Includes self.new.targets self.old.targets }
+        ensures same { self.new ≡ record self.old { gathered = self.new.gathered; idle = self.new.idle } }
         ensures left { moves_of archetypes.new self.new ≡ moves_of archetypes.old self.old }
         ensures thins { Thins archetypes.old archetypes.new self.old.targets }
         ensures widths { KeepsWidths archetypes.old archetypes.new }

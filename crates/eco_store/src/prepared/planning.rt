@@ -1,6 +1,7 @@
 //! The tables and the room of moves to come.
-ghost use Rattle.std.specs.Prelude.{◌≡◌, ◌∷◌, [], ℕ, Some, nat_eq, not, IsTrue, IfOk, OnOk};
+ghost use Rattle.std.specs.Prelude.{◌≡◌, ◌≤◌, ◌∷◌, [], ℕ, Some, nat_eq, not, IsTrue, IfOk, OnOk};
 ghost use Rattle.std.specs.List.{list_any};
+ghost use Rattle.eco_tables.specs.Tables.{table_in};
 ghost use Rattle.eco_archetypes.specs.Archetypes.{type_at, KeepsTypes, RowlessIn, SameRows};
 ghost use Rattle.eco_store.specs.Layout.{IsLaid};
 ghost use Rattle.eco_store.specs.Preparing.{nothing_prepared, staying, moves_of, has_move, IsReady, SameIn};
@@ -14,7 +15,21 @@ use crate::type_change::TypeChange;
 use eco_archetypes::Archetypes;
 use eco_entities::EntityIndex;
 use eco_ids::TypeList;
+use eco_tables::Tables;
 use std::alloc::AllocError;
+
+// So much room is worth more than the table costs to be made again, once as many rows have come.
+const MUCH_ROOM: usize = 1024;
+
+// Whether the table in a slot has much room.
+fn is_large(tables: &Tables, slot: usize) -> bool
+    ensures { IsTrue result → MUCH_ROOM ≤ (table_in tables.now slot).room }
+{
+    match tables.get(slot) {
+        Some(table) => table.room() >= MUCH_ROOM,
+        None => false,
+    }
+}
 
 impl Prepared {
     /// Nothing is prepared from then on, and of the tables that stayed for moves to come those without rows go. It takes no
@@ -29,8 +44,19 @@ impl Prepared {
         ensures rows { SameRows archetypes.old archetypes.new }
         ensures widths { KeepsWidths archetypes.old archetypes.new }
     {
-        archetypes.drop_each(self.targets());
+        self.drop_staying(archetypes);
         self.clear();
+    }
+
+    /// Drops those tables that stay for moves to come, or to go with others, and have no rows. It takes no memory.
+    pub fn drop_staying(&self, archetypes: &mut Archetypes)
+        requires { RowlessIn archetypes.old (staying self.now) }
+        ensures rowless { RowlessIn archetypes.new self.now.idle }
+        ensures rows { SameRows archetypes.old archetypes.new }
+        ensures widths { KeepsWidths archetypes.old archetypes.new }
+    {
+        archetypes.drop_each(self.gathered());
+        archetypes.drop_each(self.targets());
     }
 
     /// Where no move is left, the tables that stayed for moves go, if they have no rows. It takes no memory.
@@ -48,7 +74,8 @@ impl Prepared {
     }
 
     /// A row left the table in this slot. If it was the last one, the table stays as an idle one, and the one whose place it
-    /// takes is dropped if it has no rows; where moves go to either, that one stays in any case. It takes no memory.
+    /// takes is dropped if it has no rows; a table with much room is dropped itself. Where moves go to either, that one stays in
+    /// any case. It takes no memory.
     #[inline]
     pub fn release(&mut self, archetypes: &mut Archetypes, slot: usize)
         requires ready { IsReady archetypes.old self.old }
@@ -61,15 +88,36 @@ impl Prepared {
         ensures rows { SameRows archetypes.old archetypes.new }
         ensures widths { KeepsWidths archetypes.old archetypes.new }
     {
-        if archetypes.tables().is_rowless(slot) && !self.is_resting(slot) {
-            self.rest(archetypes, slot);
+        if archetypes.tables().is_rowless(slot)
+            && (is_large(archetypes.tables(), slot) || !self.is_resting(slot))
+        {
+            self.leave(archetypes, slot);
         }
     }
 
-    // The table in this slot is an idle one from then on, and the one whose place it takes goes. Apart, as a row mostly leaves
-    // others behind, or comes back to where it was.
+    // The table in this slot goes where it has much room, unless moves go there, else it is an idle one. Apart, as a row mostly
+    // leaves others behind, or comes back to where it was.
     #[cold]
     #[inline(never)]
+    fn leave(&mut self, archetypes: &mut Archetypes, slot: usize)
+        requires ready { IsReady archetypes.old self.old }
+        requires tidy { RowlessIn archetypes.old (slot ∷ staying self.old) }
+        ensures ready { IsReady archetypes.new self.new }
+        ensures tidy { RowlessIn archetypes.new (staying self.new) }
+        ensures same { self.new ≡ record self.old { idle = self.new.idle } }
+        ensures left { moves_of archetypes.new self.new ≡ moves_of archetypes.old self.old }
+        ensures targets { SameIn archetypes.old archetypes.new self.old.targets }
+        ensures rows { SameRows archetypes.old archetypes.new }
+        ensures widths { KeepsWidths archetypes.old archetypes.new }
+    {
+        if is_large(archetypes.tables(), slot) && !self.is_target(slot) {
+            archetypes.drop_empty(slot);
+            return;
+        }
+        self.rest(archetypes, slot);
+    }
+
+    // The table in this slot is an idle one from then on, and the one whose place it takes goes.
     fn rest(&mut self, archetypes: &mut Archetypes, slot: usize)
         requires ready { IsReady archetypes.old self.old }
         requires tidy { RowlessIn archetypes.old (slot ∷ staying self.old) }

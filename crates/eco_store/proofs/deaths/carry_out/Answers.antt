@@ -1,8 +1,8 @@
 use Rattle.std.proofs.Common.{sym, ap, subst, ◌∙◌}
-use Rattle.eco_store.specs.Preparing.{staying}
+use Rattle.eco_store.specs.Preparing.{PreparedState, staying}
 use Rattle.eco_store.specs.Retyping.{after_changes, IsOneWay}
 use Rattle.eco_store.specs.Transfers.{AreNamed}
-use Rattle.eco_store.proofs.Rowless.{named_beside}
+use Rattle.eco_store.proofs.Rowless.{named_stay}
 use Rattle.eco_store.proofs.Thinning.{plan_thinned, room_thinned, same_changes}
 use Rattle.eco_store.proofs.deaths.carry_out.Goals as goal
 
@@ -36,7 +36,5 @@ pub returns-clause-tidy : goal.returns-clause-tidy
 returns-clause-tidy c =
     let p = c.kill_all.new.prepared in
     let ts = c.args.transfers.now in
-    let named : AreNamed p.targets ts = λ k d within.
-    let both = c.requires.named k d within in
-    (c.kill_all.ensures.grown _ both.0, c.kill_all.ensures.grown _ both.1) in
-    c.move_all.ensures.rowless (staying p) (named_beside p.targets p.idle ts named) c.kill_all.ensures.tidy
+    let named = subst (λ slots. AreNamed slots ts) (sym (ap (λ (q : PreparedState). q.targets) c.kill_all.ensures.same)) c.requires.named in
+    c.move_all.ensures.rowless (staying p) (named_stay p ts named) c.kill_all.ensures.tidy

@@ -1,12 +1,13 @@
-use Rattle.std.proofs.Common.{◌≡◌, ◌-◌, length, take, drop, refl, sym, ap, ◌∙◌, arith}
+use Rattle.std.proofs.Common.{◌≡◌, ◌-◌, length, take, drop, refl, sym, ap, subst, ◌∙◌, arith}
 use Rattle.std.proofs.lemmas.List.{length-drop, take_all}
 use Rattle.eco_ids.specs.Order.{entity_cmp, has_item}
 use Rattle.eco_store.specs.Deaths.{after_deaths}
 use Rattle.eco_store.specs.Preparing.{PreparedState}
 use Rattle.eco_store.specs.Store.{read}
+use Rattle.eco_store.specs.Transfers.{Thins}
 use Rattle.eco_store.proofs.Dying.{more_die, nobody_dies}
-use Rattle.eco_store.proofs.Readiness.{same_arrivals}
-use Rattle.eco_store.proofs.Thinning.{thins_same, thins_both, thins_fewer}
+use Rattle.eco_store.proofs.Readiness.{same_plan}
+use Rattle.eco_store.proofs.Thinning.{thins_same, thins_both}
 use Rattle.eco_store.proofs.deaths.kill_all.Goals as goal
 
 pub loop-done-init : goal.loop-done-init
@@ -17,7 +18,6 @@ loop-done-init c = record {
   ready = c.requires.ready;
   tidy = c.requires.tidy;
   same = refl;
-  grown = λ n there. there;
   left = refl;
   thins = thins_same c.args.archetypes.now c.args.prepared.now.targets;
 }
@@ -41,13 +41,13 @@ loop-done-preserved c =
       ready = next.ready;
       tidy = next.tidy;
       same =
-          same_arrivals c.args.prepared.now c.kill_next-done.new.prepared
-          (ap (λ (q : PreparedState). q.arrivals) next.same ∙ ap (λ (q : PreparedState). q.arrivals) was.same);
-      grown = λ n there. next.grown n (was.grown n there);
+          same_plan c.args.prepared.now c.kill_next-done.new.prepared
+          (ap (λ (q : PreparedState). q.arrivals) next.same ∙ ap (λ (q : PreparedState). q.arrivals) was.same)
+          (ap (λ (q : PreparedState). q.targets) next.same ∙ ap (λ (q : PreparedState). q.targets) was.same);
       left = next.left ∙ was.left;
       thins =
           thins_both c.args.archetypes.now s s1 c.args.prepared.now.targets was.thins
-          (thins_fewer s s1 c.loop-done.prepared.targets c.args.prepared.now.targets was.grown next.thins);
+          (subst (Thins s s1) (ap (λ (q : PreparedState). q.targets) was.same) next.thins);
     }
 
 pub returns-clause-read : goal.returns-clause-read

@@ -9,7 +9,7 @@ use Rattle.eco_store.specs.Preparing.{PreparedState}
 use Rattle.eco_store.specs.Store.{read}
 use Rattle.eco_store.proofs.Clearing.{begun_rows, no_entity, unplaced_dead}
 use Rattle.eco_store.proofs.Dying.{first_dies, first_passes}
-use Rattle.eco_store.proofs.Readiness.{same_arrivals, same_included}
+use Rattle.eco_store.proofs.Readiness.{same_plan}
 use Rattle.eco_store.proofs.StoreChanges.{placed_record, row_within}
 use Rattle.eco_store.proofs.Values.{alive_same}
 use Rattle.eco_store.proofs.deaths.whole_tables.kill_next.Goals as goal
@@ -73,8 +73,5 @@ returns-clause-read c =
 
 pub returns-clause-same : goal.returns-clause-same
 returns-clause-same c =
-    same_arrivals c.args.prepared.now c.kill.new.prepared (ap (λ (q : PreparedState). q.arrivals) c.kill.ensures.same)
-
-pub returns-clause-grown : goal.returns-clause-grown
-returns-clause-grown c =
-    same_included c.args.prepared.now c.kill.new.prepared (ap (λ (q : PreparedState). q.targets) c.kill.ensures.same)
+    let same = c.kill.ensures.same in
+    same_plan c.args.prepared.now c.kill.new.prepared (ap (λ (q : PreparedState). q.arrivals) same) (ap (λ (q : PreparedState). q.targets) same)

@@ -27,13 +27,15 @@ release-requires-clause-tidy c =
     let s = c.self.inside.archetypes in
     let p' = c.take_next.new.self in
     let to = c.unwrap-to.result.1 in
-    let same : staying p' ≡ staying c.self.inside.prepared = λ t. c.take_next.ensures.targets t ++ c.take_next.ensures.idle t in
+    let same : staying p' ≡ staying c.self.inside.prepared = λ t.
+    c.take_next.ensures.gathered t ++ c.take_next.ensures.targets t ++ c.take_next.ensures.idle t in
     rowless_moved s _ c.args.place.table c.args.place.row to (staying p') c.shift-moved.ensures.moves
     (rowless_beside s to (staying p') (subst (RowlessIn s) (sym same) c.self.invariant.tidy))
 
 pub finish-requires-clause-tidy : goal.finish-requires-clause-tidy
 finish-requires-clause-tidy c =
-    let same : staying c.take_next.new.self ≡ staying c.self.inside.prepared = λ t. c.take_next.ensures.targets t ++ c.take_next.ensures.idle t in
+    let same : staying c.take_next.new.self ≡ staying c.self.inside.prepared = λ t.
+    c.take_next.ensures.gathered t ++ c.take_next.ensures.targets t ++ c.take_next.ensures.idle t in
     elim c.if-place-to.branch [
       | then-place-to w ↦ rw w.self-inside-is w.release.ensures.tidy
       | else-place-to w ↦ rw w.self-inside-is (subst (RowlessIn c.self.inside.archetypes) (sym same) c.self.invariant.tidy)

@@ -9,5 +9,6 @@ returns-clause-ok c =
       arrivals = arrived _ c.args.entity c.args.slot (entity_ties c.args.entity) c.self.inside.arrivals c.insert.new.self.entries c.in_ok-insert.ensures.entries
           (rw (← c.self.view_is) at c.requires) t;
       targets = c.self.inside.targets.keys;
+      gathered = c.self.inside.gathered.items;
       idle = c.self.inside.idle;
     })

@@ -3,7 +3,7 @@ use Rattle.std.specs.List.{list_any}
 use Rattle.eco_tables.specs.Tables.{slot_of, rowless_type}
 use Rattle.eco_store.specs.Preparing.{PreparedState}
 use Rattle.eco_store.proofs.Readiness.{ready_idle, ready_spared, moves_spared, spares_dropped, same_targets}
-use Rattle.eco_store.proofs.Rowless.{among_more, rowless_rested, rowless_twice}
+use Rattle.eco_store.proofs.Rowless.{among_last, among_more, rowless_rested, rowless_twice}
 use Rattle.eco_store.proofs.prepared.Prepared.rest.Goals as goal
 
 -- the targets are the same
@@ -28,8 +28,8 @@ returns-then-not-is_target-clause-tidy c =
     let p = c.args.self.now in
     let (k, at, same) = c.set_idle-before.ensures in
     rw same
-    (c.drop_empty.ensures.rowless (p.targets ++ slice_set p.idle k c.args.slot)
-    (rowless_rested c.args.archetypes.now p.targets p.idle k c.args.slot c.set_idle-before.result at c.requires.tidy))
+    (c.drop_empty.ensures.rowless (p.gathered ++ p.targets ++ slice_set p.idle k c.args.slot)
+    (rowless_rested c.args.archetypes.now (p.gathered ++ p.targets) p.idle k c.args.slot c.set_idle-before.result at c.requires.tidy))
 
 pub returns-then-not-is_target-clause-left : goal.returns-then-not-is_target-clause-left
 returns-then-not-is_target-clause-left c =
@@ -53,8 +53,8 @@ returns-else-not-is_target-clause-tidy c =
     let rested = slice_set p.idle k c.args.slot in
     let among = same_among n p _ _ _ true c.is_target.ensures same c.if-not-is_target.false in
     rw same
-    (rowless_twice s n (p.targets ++ rested) (among_more p.targets rested n among)
-    (rowless_rested s p.targets p.idle k c.args.slot n at c.requires.tidy))
+    (rowless_twice s n (p.gathered ++ p.targets ++ rested) (among_more (p.gathered ++ p.targets) rested n (among_last p.gathered p.targets n among))
+    (rowless_rested s (p.gathered ++ p.targets) p.idle k c.args.slot n at c.requires.tidy))
 
 pub returns-then-not-is_target-clause-targets : goal.returns-then-not-is_target-clause-targets
 returns-then-not-is_target-clause-targets c =

@@ -1,12 +1,11 @@
-use Rattle.std.proofs.Common.{[], ◌≡◌, ◌∷◌, refl, sym, ap, subst, ◌∙◌, arith, IsTrue, nat_eq}
-use Rattle.std.specs.List.{list_any}
+use Rattle.std.proofs.Common.{[], ◌≡◌, ◌∷◌, refl, sym, ap, subst, ◌∙◌, arith}
 use Rattle.eco_tables.specs.Tables.{cleared, table_in}
 use Rattle.eco_archetypes.specs.Archetypes.{RowlessIn}
 use Rattle.eco_store.specs.Layout.{rows_in, SetsRows}
 use Rattle.eco_store.specs.Preparing.{staying, moves_of, PreparedState, IsReady, SameIn}
 use Rattle.eco_store.proofs.LaidRows.{rows_alike, sets_rows}
-use Rattle.eco_store.proofs.Readiness.{ready_spared, moves_spared, same_arrivals, same_included, spares_without, still_targeted, targeted}
-use Rattle.eco_store.proofs.Rowless.{rowless_emptied, rowless_targeted}
+use Rattle.eco_store.proofs.Readiness.{ready_spared, moves_spared, ready_gathered, same_plan, spares_without}
+use Rattle.eco_store.proofs.Rowless.{rowless_emptied, rowless_gathered}
 use Rattle.eco_store.proofs.Thinning.{thins_without}
 use Rattle.eco_store.proofs.prepared.Prepared.take_rows.Goals as goal
 
@@ -20,8 +19,8 @@ returns-then-gather-clause-ready c =
     let n = c.args.slot in
     let s1 = c.clear.new.self in
     let t = cleared (table_in s n) in
-    subst (IsReady s1) (sym (c.gather.ensures.stays c.if-gather.true))
-    (targeted s1 p n (ready_spared s s1 p (spares_without s s1 p n t c.requires.there c.clear.ensures.rows refl (omega arith)) c.requires.ready))
+    subst (IsReady s1) (sym (c.gather.ensures.gathered c.if-gather.true))
+    (ready_gathered s1 p n (ready_spared s s1 p (spares_without s s1 p n t c.requires.there c.clear.ensures.rows refl (omega arith)) c.requires.ready))
 
 pub returns-then-gather-clause-tidy : goal.returns-then-gather-clause-tidy
 returns-then-gather-clause-tidy c =
@@ -29,17 +28,13 @@ returns-then-gather-clause-tidy c =
     let p = c.args.self.now in
     let n = c.args.slot in
     let s1 = c.clear.new.self in
-    subst (λ q. RowlessIn s1 (staying q)) (sym (c.gather.ensures.stays c.if-gather.true))
-    (rowless_targeted s1 p n (rowless_emptied s s1 n (staying p) _ c.clear.ensures.rows c.requires.tidy))
+    subst (λ q. RowlessIn s1 (staying q)) (sym (c.gather.ensures.gathered c.if-gather.true))
+    (rowless_gathered s1 p n (rowless_emptied s s1 n (staying p) _ c.clear.ensures.rows c.requires.tidy))
 
 pub returns-then-gather-clause-same : goal.returns-then-gather-clause-same
 returns-then-gather-clause-same c =
-    same_arrivals c.args.self.now c.gather.new.self (ap (λ (q : PreparedState). q.arrivals) (c.gather.ensures.stays c.if-gather.true))
-
-pub returns-then-gather-clause-grown : goal.returns-then-gather-clause-grown
-returns-then-gather-clause-grown c = λ m there.
-    subst (λ (q : PreparedState). IsTrue (list_any (nat_eq m) q.targets)) (sym (c.gather.ensures.stays c.if-gather.true))
-    (still_targeted c.args.self.now c.args.slot m there)
+    let same = c.gather.ensures.gathered c.if-gather.true in
+    same_plan c.args.self.now c.gather.new.self (ap (λ (q : PreparedState). q.arrivals) same) (ap (λ (q : PreparedState). q.targets) same)
 
 pub returns-then-gather-clause-left : goal.returns-then-gather-clause-left
 returns-then-gather-clause-left c =
@@ -48,7 +43,7 @@ returns-then-gather-clause-left c =
     let n = c.args.slot in
     let s1 = c.clear.new.self in
     let t = cleared (table_in s n) in
-    ap (moves_of s1) (c.gather.ensures.stays c.if-gather.true)
+    ap (moves_of s1) (c.gather.ensures.gathered c.if-gather.true)
     ∙ moves_spared s s1 p (spares_without s s1 p n t c.requires.there c.clear.ensures.rows refl (omega arith))
 
 pub returns-then-gather-clause-thins : goal.returns-then-gather-clause-thins
@@ -82,13 +77,8 @@ returns-clause-rows c =
 pub returns-clause-same : goal.returns-clause-same
 returns-clause-same c =
     let same = c.gather.ensures.same c.if-gather.false in
-    same_arrivals c.args.self.now c.release.new.self
+    same_plan c.args.self.now c.release.new.self
     (ap (λ (q : PreparedState). q.arrivals) c.release.ensures.same ∙ ap (λ (q : PreparedState). q.arrivals) same)
-
-pub returns-clause-grown : goal.returns-clause-grown
-returns-clause-grown c =
-    let same = c.gather.ensures.same c.if-gather.false in
-    same_included c.args.self.now c.release.new.self
     (ap (λ (q : PreparedState). q.targets) c.release.ensures.same ∙ ap (λ (q : PreparedState). q.targets) same)
 
 pub returns-clause-left : goal.returns-clause-left

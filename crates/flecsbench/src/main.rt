@@ -8,6 +8,7 @@ mod frames;
 mod group;
 mod scene;
 mod start;
+mod work;
 
 use arguments::{Asked, Choice, read_arguments};
 use case::{CASES, Case, tenths_for_one};

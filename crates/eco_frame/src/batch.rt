@@ -8,7 +8,7 @@ ghost use Rattle.eco_frame.specs.Models.{model_at, model_of};
 ghost use Rattle.eco_frame.specs.Pieces.{IsRecorded, IsRunOut, Settled};
 ghost use Rattle.eco_frame.specs.Progresses.{HasRun};
 
-use crate::part::{parts, pieces};
+use crate::part::{Part, parts, pieces};
 use crate::progress::Progress;
 use eco_bodies::{System, SystemBody};
 use eco_ids::Refusal;
@@ -22,6 +22,27 @@ use std::thread::Threads;
 fn are_settled<B: SystemBody>()
     ensures { Settled B.taken B.commands }
 {}
+
+// How many pieces of light bodies make one more thread worth its start: some 4,000 rows.
+const LIGHT_PIECES: usize = 64;
+
+// Whether all bodies are light.
+fn are_light<B: SystemBody>(parts: &[Part<'_, B>]) -> bool {
+    parts.iter().all(|part| part.body.is_light())
+}
+
+// How many workers record so many pieces: as many as may, but where all bodies are light one, and one more for each further
+// `LIGHT_PIECES`.
+fn workers_for<B: SystemBody>(parts: &[Part<'_, B>], pieces: usize, workers: u32) -> u32
+    requires { 1 ≤ workers }
+    ensures { (1 ≤ result) × (result ≤ workers) }
+{
+    if !are_light(parts) {
+        return workers;
+    }
+    let most = 1 + pieces / LIGHT_PIECES;
+    most.min(workers as usize) as u32
+}
 
 // Records the systems at some positions of declaration on a world. Answers the stages of their pieces in order, and how many
 // handles were drawn.
@@ -47,6 +68,7 @@ fn record<B: SystemBody + Sync, R: Threads + Sync>(
     are_settled::<B>();
     let parts = parts(alloc, world, systems, places)?;
     let pieces = pieces(alloc, &parts)?;
+    let workers = workers_for(&parts, pieces.len(), workers);
     run_batch(rt, alloc, &pieces, workers, world.high(), world.limit())
 }
 

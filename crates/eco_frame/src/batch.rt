@@ -23,24 +23,33 @@ fn are_settled<B: SystemBody>()
     ensures { Settled B.taken B.commands }
 {}
 
-// How many pieces of light bodies make one more thread worth its start: some 4,000 rows.
-const LIGHT_PIECES: usize = 64;
+// How many rows of light bodies make one more thread worth its start.
+const LIGHT_ROWS: usize = 4096;
 
 // Whether all bodies are light.
 fn are_light<B: SystemBody>(parts: &[Part<'_, B>]) -> bool {
     parts.iter().all(|part| part.body.is_light())
 }
 
-// How many workers record so many pieces: as many as may, but where all bodies are light one, and one more for each further
-// `LIGHT_PIECES`.
-fn workers_for<B: SystemBody>(parts: &[Part<'_, B>], pieces: usize, workers: u32) -> u32
+// How many rows there are in all.
+fn count_rows<B>(parts: &[Part<'_, B>]) -> usize {
+    let mut rows = 0usize;
+    for part in parts {
+        rows = rows.saturating_add(part.rows.len());
+    }
+    rows
+}
+
+// How many workers record the parts: as many as may, but where all bodies are light one, and one more for each further
+// `LIGHT_ROWS`.
+fn workers_for<B: SystemBody>(parts: &[Part<'_, B>], workers: u32) -> u32
     requires { 1 ≤ workers }
     ensures { (1 ≤ result) × (result ≤ workers) }
 {
     if !are_light(parts) {
         return workers;
     }
-    let most = 1 + pieces / LIGHT_PIECES;
+    let most = 1 + count_rows(parts) / LIGHT_ROWS;
     most.min(workers as usize) as u32
 }
 
@@ -68,7 +77,7 @@ fn record<B: SystemBody + Sync, R: Threads + Sync>(
     are_settled::<B>();
     let parts = parts(alloc, world, systems, places)?;
     let pieces = pieces(alloc, &parts)?;
-    let workers = workers_for(&parts, pieces.len(), workers);
+    let workers = workers_for(&parts, workers);
     run_batch(rt, alloc, &pieces, workers, world.high(), world.limit())
 }
 

@@ -46,6 +46,12 @@ pub trait SystemBody {
     fn kills(&self) -> bool
         ensures { result ≡ kills_of self.now };
 
+    /// Whether it records a row in so short a time that another thread is worth its start for thousands of rows alone. A body
+    /// that waits for others, or works long, is not light, and none is unless it says so.
+    fn is_light(&self) -> bool {
+        false
+    }
+
     /// Records the commands for a row, behind those of the stage. No draw was refused before. Refused with `NoMoreIds` where
     /// a draw was refused, else with `OutOfMemory`; the stage then may hold some of the commands, and is not merged.
     fn record<R: BodyRow, D: Draws>(

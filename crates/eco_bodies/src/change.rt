@@ -1,7 +1,6 @@
 //! An action recorded for a row.
-ghost use Rattle.std.specs.Prelude.{◌≡◌, ◌++◌, ◌∷◌, [], false, option_map, option_to_list, IfErr, IfOk, List, OnOk};
+ghost use Rattle.std.specs.Prelude.{◌≡◌, ◌++◌, ◌∷◌, [], false, option_to_list, IfErr, IfOk, List, OnOk, Some};
 ghost use Rattle.eco_ids.specs.declared.entity.Entity.{Entity as EntityData};
-ghost use Rattle.eco_ids.specs.declared.refusal.Refusal.TheVariants.{OutOfMemory};
 ghost use Rattle.eco_stages.specs.Commands.{command_of};
 ghost use Rattle.eco_systems.specs.Systems.{matches_one};
 ghost use Rattle.eco_bodies.specs.Lent.{item_at};
@@ -15,8 +14,10 @@ use crate::sum::sum_of;
 use eco_ids::{Entity, Id, Pattern, Refusal, Value};
 use eco_stages::{Command, Stage};
 use eco_workers::Draws;
+use std::alloc::AllocError;
 
 // Whether one of some patterns matches.
+#[inline(always)]
 fn matches_one(patterns: &[Pattern], id: Id) -> bool
     ensures { result ≡ matches_one patterns.now id }
 {
@@ -24,6 +25,7 @@ fn matches_one(patterns: &[Pattern], id: Id) -> bool
 }
 
 // The entry of a slot.
+#[inline(always)]
 fn entry_at<R: BodyRow>(row: &R, slot: usize) -> Option<Id>
     ensures { result ≡ item_at (R.row_of row.now).entries slot }
 {
@@ -34,6 +36,7 @@ fn entry_at<R: BodyRow>(row: &R, slot: usize) -> Option<Id>
 }
 
 // The value of a slot's entry, where there are both.
+#[inline(always)]
 fn value_at<R: BodyRow>(row: &R, slot: usize) -> Option<Value>
     ensures { result ≡ value_at (R.row_of row.now) slot }
 {
@@ -44,6 +47,7 @@ fn value_at<R: BodyRow>(row: &R, slot: usize) -> Option<Value>
 }
 
 // The sum of the values of two slots, where there are both.
+#[inline(always)]
 fn sum_at<R: BodyRow>(row: &R, into: usize, from: usize) -> Option<Value>
     ensures { result ≡ sum_at (R.row_of row.now) into from }
 {
@@ -53,56 +57,81 @@ fn sum_at<R: BodyRow>(row: &R, into: usize, from: usize) -> Option<Value>
     Some(sum_of(value, other))
 }
 
-// An entry is set to a value, where there are both and the entry matches one of the patterns.
-fn set_of(
+// Records a command.
+#[inline(always)]
+fn push(stage: &mut Stage, command: Command) -> Result<(), AllocError>
+    ensures { OnOk result (stage.new ≡ stage.old ++ command_of command ∷ []) }
+{
+    match stage.record(command) {
+        Ok(()) => Ok(()),
+        Err(_) => Err(AllocError),
+    }
+}
+
+// Records that an entry is set to a value, where it is there and matches one of the patterns.
+#[inline(always)]
+fn set_entry(
     writes: &[Pattern],
     entity: Entity,
     entry: Option<Id>,
-    value: Option<Value>,
-) -> Option<Command>
-    ensures { option_map command_of result ≡ set_of writes.now entity entry value }
+    value: Value,
+    stage: &mut Stage,
+) -> Result<(), AllocError>
+    ensures { OnOk result (stage.new
+        ≡ stage.old ++ option_to_list (set_of writes.now entity entry (Some value))) }
 {
-    let (Some(id), Some(value)) = (entry, value) else {
-        return None;
-    };
-    if !matches_one(writes, id) {
-        return None;
-    }
-    Some(Command::Set(entity, id, value))
-}
-
-// The change of the row's entity that an action records.
-fn change_of<R: BodyRow>(writes: &[Pattern], row: &R, action: Action) -> Option<Command>
-    ensures { option_map command_of result ≡ change_of writes.now (R.row_of row.now) action }
-{
-    let entity = row.entity();
-    match action {
-        Action::AddId(id) => Some(Command::Add(entity, id)),
-        Action::RemoveId(id) => Some(Command::Remove(entity, id)),
-        Action::Put { slot, value } => { set_of(writes, entity, entry_at(row, slot), Some(value)) }
-        Action::Sum { into, from } => {
-            set_of(writes, entity, entry_at(row, into), sum_at(row, into, from))
-        }
-        Action::Kill => Some(Command::Delete(entity)),
-        Action::Spawn(_) => None,
-    }
-}
-
-// Records a command, if there is one.
-fn record_one(stage: &mut Stage, command: Option<Command>) -> Result<(), Refusal>
-    ensures ok { OnOk result (stage.new ≡ stage.old ++ option_to_list (option_map command_of command)) }
-    ensures err { IfErr result (λ why. why ≡ OutOfMemory) }
-{
-    let Some(command) = command else {
+    let Some(id) = entry else {
         return Ok(());
     };
-    match stage.record(command) {
-        Ok(()) => Ok(()),
-        Err(_) => Err(Refusal::OutOfMemory),
+    if !matches_one(writes, id) {
+        return Ok(());
+    }
+    push(stage, Command::Set(entity, id, value))
+}
+
+// Records that the entry of a slot is set to the sum of its value and another's, where there are both.
+#[inline(always)]
+fn add_up<R: BodyRow>(
+    writes: &[Pattern],
+    row: &R,
+    into: usize,
+    from: usize,
+    stage: &mut Stage,
+) -> Result<(), AllocError>
+    ensures { OnOk result (stage.new ≡ stage.old ++ option_to_list (set_of writes.now
+        (R.row_of row.now).entity (item_at (R.row_of row.now).entries into) (sum_at (R.row_of row.now) into from))) }
+{
+    match sum_at(row, into, from) {
+        Some(value) => set_entry(writes, row.entity(), entry_at(row, into), value, stage),
+        None => Ok(()),
+    }
+}
+
+// Records the change of the row's entity that an action makes.
+#[inline(always)]
+fn record_change<R: BodyRow>(
+    writes: &[Pattern],
+    action: &Action,
+    row: &R,
+    stage: &mut Stage,
+) -> Result<(), AllocError>
+    ensures { OnOk result (stage.new
+        ≡ stage.old ++ option_to_list (change_of writes.now (R.row_of row.now) action.now)) }
+{
+    match *action {
+        Action::AddId(id) => push(stage, Command::Add(row.entity(), id)),
+        Action::RemoveId(id) => push(stage, Command::Remove(row.entity(), id)),
+        Action::Put { slot, value } => {
+            set_entry(writes, row.entity(), entry_at(row, slot), value, stage)
+        }
+        Action::Sum { into, from } => add_up(writes, row, into, from, stage),
+        Action::Kill => push(stage, Command::Delete(row.entity())),
+        Action::Spawn(_) => Ok(()),
     }
 }
 
 // Draws a handle and records its making, and that it gets the id.
+#[inline(always)]
 fn spawn<D: Draws>(id: Option<Id>, draws: &mut D, stage: &mut Stage) -> Result<(), Refusal>
     requires { D.is_dry draws.old ≡ false }
     ensures rest { D.rest draws.new ≡ D.rest draws.old }
@@ -114,15 +143,18 @@ fn spawn<D: Draws>(id: Option<Id>, draws: &mut D, stage: &mut Stage) -> Result<(
         (D.is_dry draws.new)) }
 {
     let entity = draws.draw()?;
-    record_one(stage, Some(Command::Create(entity)))?;
-    let added = id.map(|id| Command::Add(entity, id));
-    record_one(stage, added)
+    push(stage, Command::Create(entity))?;
+    if let Some(id) = id {
+        push(stage, Command::Add(entity, id))?;
+    }
+    Ok(())
 }
 
 /// Records an action for a row.
+#[inline(always)]
 pub(crate) fn record_action<R: BodyRow, D: Draws>(
     writes: &[Pattern],
-    action: Action,
+    action: &Action,
     row: &R,
     draws: &mut D,
     stage: &mut Stage,
@@ -130,14 +162,17 @@ pub(crate) fn record_action<R: BodyRow, D: Draws>(
     requires { D.is_dry draws.old ≡ false }
     ensures rest { D.rest draws.new ≡ D.rest draws.old }
     ensures wet { IfOk result (λ _. D.is_dry draws.new ≡ false) }
-    ensures ok { IfOk result (λ _. Took (action_commands writes.now (R.row_of row.now)) takes_draws action
+    ensures ok { IfOk result (λ _. Took (action_commands writes.now (R.row_of row.now)) takes_draws action.now
         (D.so_far draws.old) (D.so_far draws.new) stage.old stage.new) }
     ensures why { IfErr result (λ why. why ≡ stopped_by (D.is_dry draws.new)) }
-    ensures err { IfErr result (λ _. Broke (takes_draws action) (D.so_far draws.old) (D.so_far draws.new)
+    ensures err { IfErr result (λ _. Broke (takes_draws action.now) (D.so_far draws.old) (D.so_far draws.new)
         (D.is_dry draws.new)) }
 {
-    match action {
+    match *action {
         Action::Spawn(id) => spawn(id, draws, stage),
-        _ => record_one(stage, change_of(writes, row, action)),
+        _ => {
+            record_change(writes, action, row, stage)?;
+            Ok(())
+        }
     }
 }

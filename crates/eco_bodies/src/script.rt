@@ -44,6 +44,7 @@ impl Drop for Script {
 }
 
 // Records the actions for a row, in their order.
+#[inline(always)]
 fn record_actions<R: BodyRow, D: Draws>(
     writes: &[Pattern],
     actions: &[Action],
@@ -61,7 +62,7 @@ fn record_actions<R: BodyRow, D: Draws>(
         (D.so_far draws.old) (D.so_far draws.new) (D.is_dry draws.new)) }
 {
     for action in actions {
-        record_action(writes, *action, row, draws, stage)?;
+        record_action(writes, action, row, draws, stage)?;
     }
     Ok(())
 }
@@ -113,6 +114,11 @@ impl SystemBody for Script {
         self.kills
     }
 
+    fn is_light(&self) -> bool {
+        true
+    }
+
+    #[inline]
     fn record<R: BodyRow, D: Draws>(
         &self,
         row: &R,

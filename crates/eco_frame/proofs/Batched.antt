@@ -113,12 +113,12 @@ module _ {B : Type 0} (reads writes : B → List Pattern) (kills : B → Bool) (
   )
 
   -- what the workers answer for the pieces of a batch is recorded by its systems
-  pub recorded : {P : Type 0} (see : P → B × List ValuedRow) (workers : ℕ) (systems : List (System B)) (places : List ℕ) (pieces : List P) (n : ℕ)
+  pub recorded : {P : Type 0} (see : P → B × List ValuedRow) (workers used : ℕ) (few : workers ≡ 1 → used ≡ 1) (systems : List (System B)) (places : List ℕ) (pieces : List P) (n : ℕ)
       (stages : List (List Command)) → AllByRecursion (λ k. k < length systems) places → map see pieces ≡ pieces_at w systems places
-      → IsBatch (by_index (λ p. piece_commands taken commands (see p))) (by_index (λ p. piece_taken taken commands (see p))) workers pieces
+      → IsBatch (by_index (λ p. piece_commands taken commands (see p))) (by_index (λ p. piece_taken taken commands (see p))) used pieces
       (length w.indices) n stages
       → IsRecorded workers w (map (model_at (map model systems)) places) (all_commands stages) n
-  recorded see workers systems places pieces n stages within seen b =
+  recorded see workers used few systems places pieces n stages within seen b =
       let f = by_index (piece_commands taken commands) in
       let t = by_index (piece_taken taken commands) in
       let c = chosen systems places within in
@@ -136,5 +136,5 @@ module _ {B : Type 0} (reads writes : B → List Pattern) (kills : B → Bool) (
         subst (λ ms. BatchRecords w ms draws (all_commands stages)) (sym c.2) (subst (BatchRecords w (map model c.0) draws) all are),
         new.0,
         new.1,
-        λ one. ascending_batch (length w.indices) n b.draws draws shape (b.alone one) b.each,
+        λ one. ascending_batch (length w.indices) n b.draws draws shape (b.alone (few one)) b.each,
       )

@@ -1,5 +1,6 @@
 pub mod Alike
 pub mod Batched
+pub mod Between
 pub mod Cut
 pub mod Fresh
 pub mod Grouped

@@ -8,7 +8,7 @@ ghost use Rattle.eco_frame.specs.Models.{model_at, model_of};
 ghost use Rattle.eco_frame.specs.Pieces.{IsRecorded, IsRunOut, Settled};
 ghost use Rattle.eco_frame.specs.Progresses.{HasRun};
 
-use crate::part::{parts, pieces};
+use crate::part::{Part, parts, pieces};
 use crate::progress::Progress;
 use eco_bodies::{System, SystemBody};
 use eco_ids::Refusal;
@@ -22,6 +22,36 @@ use std::thread::Threads;
 fn are_settled<B: SystemBody>()
     ensures { Settled B.taken B.commands }
 {}
+
+// How many rows of light bodies make one more thread worth its start.
+const LIGHT_ROWS: usize = 4096;
+
+// Whether all bodies are light.
+fn are_light<B: SystemBody>(parts: &[Part<'_, B>]) -> bool {
+    parts.iter().all(|part| part.body.is_light())
+}
+
+// How many rows there are in all.
+fn count_rows<B>(parts: &[Part<'_, B>]) -> usize {
+    let mut rows = 0usize;
+    for part in parts {
+        rows = rows.saturating_add(part.rows.len());
+    }
+    rows
+}
+
+// How many workers record the parts: as many as may, but where all bodies are light one, and one more for each further
+// `LIGHT_ROWS`.
+fn workers_for<B: SystemBody>(parts: &[Part<'_, B>], workers: u32) -> u32
+    requires { 1 ≤ workers }
+    ensures { (1 ≤ result) × (result ≤ workers) }
+{
+    if !are_light(parts) {
+        return workers;
+    }
+    let most = 1 + count_rows(parts) / LIGHT_ROWS;
+    most.min(workers as usize) as u32
+}
 
 // Records the systems at some positions of declaration on a world. Answers the stages of their pieces in order, and how many
 // handles were drawn.
@@ -47,6 +77,7 @@ fn record<B: SystemBody + Sync, R: Threads + Sync>(
     are_settled::<B>();
     let parts = parts(alloc, world, systems, places)?;
     let pieces = pieces(alloc, &parts)?;
+    let workers = workers_for(&parts, workers);
     run_batch(rt, alloc, &pieces, workers, world.high(), world.limit())
 }
 

@@ -58,7 +58,6 @@ pub(crate) fn parts<'a, B: SystemBody>(
 
 // Puts the pieces of a part behind others.
 fn add_pieces<'a, B: SystemBody>(
-    alloc: Global,
     part: &'a Part<'a, B>,
     pieces: &mut Vec<RowsPiece<'a, B>>,
 ) -> Result<(), AllocError>
@@ -69,7 +68,6 @@ fn add_pieces<'a, B: SystemBody>(
     while first < part.rows.len() {
         let end = first + PIECE.min(part.rows.len() - first);
         pieces.push(RowsPiece {
-            alloc,
             body: part.body,
             rows: &part.rows,
             first,
@@ -89,7 +87,7 @@ pub(crate) fn pieces<'a, B: SystemBody>(
 {
     let mut pieces = Vec::new(alloc);
     for part in parts {
-        add_pieces(alloc, part, &mut pieces)?;
+        add_pieces(part, &mut pieces)?;
     }
     Ok(pieces)
 }

@@ -1,17 +1,16 @@
 //! Pieces of a batch.
-ghost use Rattle.std.specs.Prelude.{◌≤◌, length, OnErr};
+ghost use Rattle.std.specs.Prelude.{◌≡◌, ◌-◌, ◌≤◌, drop, false, length, take, IfErr, IfOk};
 ghost use Rattle.eco_bodies.specs.Taking.{commands_of, taken_of};
+ghost use Rattle.eco_workers.specs.Taking.{Broke, Took, stopped_by};
 
-use eco_bodies::{Draws, SystemBody, record_rows};
+use eco_bodies::{Draws, SystemBody};
 use eco_ids::Refusal;
 use eco_rows::SystemRows;
 use eco_stages::Stage;
 use eco_workers::Piece;
-use std::alloc::Global;
 
 // Consecutive rows of a system, which one thread records: those from one place to below another.
 pub(crate) struct RowsPiece<'a, B> {
-    pub(crate) alloc: Global,
     pub(crate) body: &'a B,
     pub(crate) rows: &'a SystemRows<'a>,
     pub(crate) first: usize,
@@ -23,13 +22,40 @@ pub(crate) struct RowsPiece<'a, B> {
 impl<B> Drop for RowsPiece<'_, B> {
     fn drop(self) {
         let RowsPiece {
-            alloc: _,
             body: _,
             rows: _,
             first: _,
             end: _,
         } = self;
     }
+}
+
+// Records the rows from one place to below another, in their order, each lent as its turn comes. It stops at the first that is
+// refused.
+fn record_between<B: SystemBody, D: Draws>(
+    body: &B,
+    rows: &SystemRows<'_>,
+    first: usize,
+    end: usize,
+    draws: &mut D,
+    stage: &mut Stage,
+) -> Result<(), Refusal>
+    requires wet { D.is_dry draws.old ≡ false }
+    requires places { (first ≤ end) × (end ≤ length rows.now) }
+    ensures rest { D.rest draws.new ≡ D.rest draws.old }
+    ensures wet { IfOk result (λ _. D.is_dry draws.new ≡ false) }
+    ensures ok { IfOk result (λ _. Took
+        (commands_of (B.commands body.now) (B.taken body.now) (take (end - first) (drop first rows.now)))
+        (taken_of (B.taken body.now) (take (end - first) (drop first rows.now)))
+        (D.so_far draws.old) (D.so_far draws.new) stage.old stage.new) }
+    ensures why { IfErr result (λ why. why ≡ stopped_by (D.is_dry draws.new)) }
+    ensures err { IfErr result (λ _. Broke (taken_of (B.taken body.now) (take (end - first) (drop first rows.now)))
+        (D.so_far draws.old) (D.so_far draws.new) (D.is_dry draws.new)) }
+{
+    for place in first..end {
+        body.record(&rows.get(place), draws, stage)?;
+    }
+    Ok(())
 }
 
 impl<B: SystemBody> Piece for RowsPiece<'_, B> {
@@ -40,7 +66,6 @@ impl<B: SystemBody> Piece for RowsPiece<'_, B> {
     ghost taken = { λ p. taken_of (B.taken p.body.now) (rows_in p) };
 
     fn record<D: Draws>(&self, draws: &mut D, stage: &mut Stage) -> Result<(), Refusal> {
-        let rows = self.rows.between(self.alloc, self.first, self.end)?;
-        record_rows(self.body, rows.as_slice(), draws, stage)
+        record_between(self.body, self.rows, self.first, self.end, draws, stage)
     }
 }

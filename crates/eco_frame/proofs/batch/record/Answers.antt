@@ -1,4 +1,4 @@
-use Rattle.std.proofs.Common.{◌≡◌, ◌<◌, flat_map, length, map, subst, ap, ◌∙◌}
+use Rattle.std.proofs.Common.{◌≡◌, ◌<◌, flat_map, length, map, subst, ap, ◌∙◌, arith}
 use Rattle.std.proofs.lemmas.List.Elements.{recursion_from_All}
 use Rattle.std.proofs.lemmas.Result.{IfErr-weaker, IfOk-weaker}
 use Rattle.eco_workers.specs.Batches.{IsBatch, IsOut}
@@ -17,12 +17,14 @@ returns-clause-ok g c =
     let pieces = c.in_ok-pieces.pieces.items in
     let seen : map seen_piece pieces ≡ pieces_at w c.args.systems.now places =
     c.in_ok-pieces.ensures ∙ ap (λ ps. flat_map pieces_in (map seen_part ps)) c.deref.ensures.value ∙ ap (flat_map pieces_in) c.in_ok-parts.ensures.ok in
+    let used = c.workers_for-workers.result in
+    let few : c.args.workers ≡ 1 → used ≡ 1 = λ one. (let some = c.workers_for-workers.ensures in omega (arith, some, one)) in
     let within = recursion_from_All (λ k. k < length c.args.systems.now) places c.requires.places in
     IfOk-weaker c.run_batch.result _ _
-    (λ r h. recorded b.reads_of b.writes_of b.kills_of b.taken b.commands c.are_settled.ensures w seen_piece c.args.workers c.args.systems.now places pieces
-    r.1 r.0.items within seen
-    (subst (λ base. IsBatch f t c.args.workers pieces base r.1 r.0.items) c.high.ensures
-    (subst (λ ps. IsBatch f t c.args.workers ps c.high.result r.1 r.0.items) c.deref-2.ensures.value h)))
+    (λ r h. recorded b.reads_of b.writes_of b.kills_of b.taken b.commands c.are_settled.ensures w seen_piece c.args.workers used few c.args.systems.now places
+    pieces r.1 r.0.items within seen
+    (subst (λ base. IsBatch f t used pieces base r.1 r.0.items) c.high.ensures
+    (subst (λ ps. IsBatch f t used ps c.high.result r.1 r.0.items) c.deref-3.ensures.value h)))
     c.run_batch.ensures.batch
 
 pub returns-clause-out : goal.returns-clause-out
@@ -40,5 +42,5 @@ returns-clause-out g c =
     (subst (λ n. IsOut (by_index f) (by_index t) (map seen_piece pieces) (length w.indices) n) c.limit.ensures
     (subst (λ n. IsOut (by_index f) (by_index t) (map seen_piece pieces) n c.limit.result) c.high.ensures
     (out_seen seen_piece (by_index f) (by_index t) pieces c.high.result c.limit.result
-    (subst (λ ps. IsOut (by_index (λ p. f (seen_piece p))) (by_index (λ p. t (seen_piece p))) ps c.high.result c.limit.result) c.deref-2.ensures.value (h no))))))
+    (subst (λ ps. IsOut (by_index (λ p. f (seen_piece p))) (by_index (λ p. t (seen_piece p))) ps c.high.result c.limit.result) c.deref-3.ensures.value (h no))))))
     c.run_batch.ensures.out

@@ -1,11 +1,13 @@
 //! In a long run of all steps, merges among them, each query that a world keeps answers what it answers when it is asked anew, and
-//! so it does in a copy.
+//! so it does in a copy. Its tables are those of the whole listing that a plain filter leaves.
 use crate::answers::{are_rows, take_step};
 use crate::draws::Draws;
-use crate::questions::{draw_entity, draw_id, draw_question};
+use crate::filter::count_choices;
+use crate::questions::{Question, draw_entity, draw_id, draw_question};
 use eco_ids::{Entity, Refusal, Value};
+use eco_query::Term;
 use eco_world::{Command, Query, QueryId, Results, Row, Stage, TableRows, World};
-use std::alloc::Global;
+use std::alloc::{AllocError, Global};
 
 // A command about the living.
 fn draw_command(draws: &mut Draws, living: &[Entity]) -> Command {
@@ -64,11 +66,24 @@ fn add(world: &mut World, text: &str) -> Result<QueryId, Refusal> {
     world.add_query(query)
 }
 
+// A query that a world keeps: its number, the query once more, and what it asks.
+#[derive(Drop)]
+struct Kept {
+    number: QueryId,
+    query: Query,
+    terms: Vec<Term>,
+}
+
 // Adds a query about the living, and reads it once more.
-fn keep(alloc: Global, world: &mut World, draws: &mut Draws) -> Result<(QueryId, Query), Refusal> {
-    let question = draw_question(alloc, draws, &world.living()?)?;
-    let number = add(world, question.text.as_str())?;
-    Ok((number, world.read_query(question.text.as_str())?))
+fn keep(alloc: Global, world: &mut World, draws: &mut Draws) -> Result<Kept, Refusal> {
+    let Question { terms, text } = draw_question(alloc, draws, &world.living()?)?;
+    let number = add(world, text.as_str())?;
+    let query = world.read_query(text.as_str())?;
+    Ok(Kept {
+        number,
+        query,
+        terms,
+    })
 }
 
 // Adds five of them.
@@ -76,7 +91,7 @@ fn keep_five(
     alloc: Global,
     world: &mut World,
     draws: &mut Draws,
-    kept: &mut Vec<(QueryId, Query)>,
+    kept: &mut Vec<Kept>,
 ) -> Result<(), Refusal> {
     for _ in 0..5 {
         kept.push(keep(alloc, world, draws)?)?;
@@ -121,35 +136,60 @@ fn count_results(
     Ok(is_right.then_some(results.len()))
 }
 
-// Whether they give the tables that it has.
+// Whether there is a choice of an entry for each term on those who stand in the table.
+fn fulfils(world: &World, table: &TableRows<'_>, terms: &[Term]) -> bool {
+    table
+        .entities
+        .first()
+        .is_some_and(|entity| count_choices(world, *entity, terms) > 0)
+}
+
+// The tables of the whole listing that fulfil the terms.
+fn filtered<'a>(
+    alloc: Global,
+    world: &'a World,
+    terms: &[Term],
+) -> Result<Vec<TableRows<'a>>, AllocError> {
+    let mut found = Vec::new(alloc);
+    for table in &world.tables()? {
+        if fulfils(world, table, terms) {
+            found.push(*table)?;
+        }
+    }
+    Ok(found)
+}
+
+// Whether they give these tables, by the number and without.
 fn give_tables(
     world: &World,
     copy: &World,
-    number: QueryId,
-    query: &Query,
+    kept: &Kept,
+    tables: &[TableRows<'_>],
 ) -> Result<bool, Refusal> {
-    let tables = world.tables_of(query)?;
-    Ok(has_tables(world, number, &tables)? && has_tables(copy, number, &tables)?)
+    let is_asked = are_same(&world.tables_of(&kept.query)?, tables);
+    let is_kept = has_tables(world, kept.number, tables)?;
+    Ok(is_asked && is_kept && has_tables(copy, kept.number, tables)?)
 }
 
-// How many results it has, if they give these and the tables.
+// How many results it has, if they give these and the tables that the filter leaves.
 fn answered(
+    alloc: Global,
     world: &World,
     copy: &World,
-    number: QueryId,
-    query: &Query,
+    kept: &Kept,
 ) -> Result<Option<usize>, Refusal> {
-    let count = count_results(world, copy, number, query)?;
-    let is_right = give_tables(world, copy, number, query)?;
+    let count = count_results(world, copy, kept.number, &kept.query)?;
+    let tables = filtered(alloc, world, &kept.terms)?;
+    let is_right = give_tables(world, copy, kept, &tables)?;
     Ok(count.filter(|_| is_right))
 }
 
 // How many results the queries have together, if all of them are right.
-fn all_answered(world: &World, kept: &[(QueryId, Query)]) -> Result<Option<usize>, Refusal> {
+fn all_answered(alloc: Global, world: &World, kept: &[Kept]) -> Result<Option<usize>, Refusal> {
     let copy = world.try_copy()?;
     let mut found = 0usize;
-    for (number, query) in kept {
-        match answered(world, &copy, *number, query)? {
+    for query in kept {
+        match answered(alloc, world, &copy, query)? {
             Some(count) => found = found.saturating_add(count),
             None => return Ok(None),
         }
@@ -162,14 +202,14 @@ fn run(
     alloc: Global,
     world: &mut World,
     draws: &mut Draws,
-    kept: &[(QueryId, Query)],
+    kept: &[Kept],
     steps: u32,
 ) -> Result<Option<usize>, Refusal> {
     let mut found = 0usize;
     for _ in 0..steps {
         let living = world.living()?;
         let _refused_or_done = change(alloc, world, draws, &living);
-        match all_answered(world, kept)? {
+        match all_answered(alloc, world, kept)? {
             Some(count) => found = found.saturating_add(count),
             None => return Ok(None),
         }

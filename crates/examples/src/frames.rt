@@ -100,11 +100,7 @@ fn sail<R: Print + Threads + Sync + AllocGlobal>(
 }
 
 // Adds the system of a body in Rust.
-fn add_wake(
-    world: &World,
-    wake: Entity,
-    systems: &mut Systems<Wake>,
-) -> Result<(), Refusal> {
+fn add_wake(world: &World, wake: Entity, systems: &mut Systems<Wake>) -> Result<(), Refusal> {
     let query = world.read_query("[in] Position, Ship")?;
     systems
         .add("note", Phase::PostUpdate, query, Wake::new(wake))

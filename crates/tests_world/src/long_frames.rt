@@ -49,7 +49,12 @@ fn lines(alloc: Global, world: &World, known: u32) -> Result<Vec<String>, AllocE
 }
 
 /// Whether both worlds are the same, but for which index from `known` on is whose.
-pub fn are_same(alloc: Global, world: &World, other: &World, known: u32) -> Result<bool, AllocError> {
+pub fn are_same(
+    alloc: Global,
+    world: &World,
+    other: &World,
+    known: u32,
+) -> Result<bool, AllocError> {
     let is_same = lines(alloc, world, known)? == lines(alloc, other, known)?;
     Ok(is_same && world.high() == other.high() && agrees(alloc, world)?)
 }
@@ -205,7 +210,13 @@ fn are_right<R: Threads + Sync>(rt: &R, alloc: Global, seed: u64, workers: u32) 
 #[test]
 fn frames_are_their_systems_one_by_one(rt: HostRuntime) {
     for workers in [1, 2, 8] {
-        assert!(rt; are_right(&rt, rt.alloc(), 2026, workers), "by {workers} workers");
-        assert!(rt; are_right(&rt, rt.alloc(), 7, workers), "by {workers} workers");
+        assert!(rt;
+            are_right(&rt, rt.alloc(), 2026, workers),
+            "by {workers} workers"
+        );
+        assert!(rt;
+            are_right(&rt, rt.alloc(), 7, workers),
+            "by {workers} workers"
+        );
     }
 }

@@ -103,7 +103,12 @@ impl Recording {
     }
 
     // Records the actions for each row.
-    fn act_all(&mut self, world: &World, rows: &[Row], actions: [Action; 2]) -> Result<(), Refusal> {
+    fn act_all(
+        &mut self,
+        world: &World,
+        rows: &[Row],
+        actions: [Action; 2],
+    ) -> Result<(), Refusal> {
         for row in rows {
             self.act(world, row, actions[0])?;
             self.act(world, row, actions[1])?;

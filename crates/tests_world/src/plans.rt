@@ -83,7 +83,10 @@ fn ids_of(kind: u32) -> (&'static str, [Action; 2]) {
         5 => ("(In, _), P", [remove(pair(16, 19)), add(pair(15, 20))]),
         6 => ("V, !P", [add(one(9)), remove(one(10))]),
         7 => ("[none] P, !V", [add(one(10)), remove(one(11))]),
-        8 => ("(In, a), !Z", [add(Id::Two(CHILD_OF, at(18))), add(one(14))]),
+        8 => (
+            "(In, a), !Z",
+            [add(Id::Two(CHILD_OF, at(18))), add(one(14))],
+        ),
         9 => ("(ChildOf, *), M", [remove(pair(15, 19)), add(one(14))]),
         10 => ("(Likes, a), (In, *)", [add(pair(9, 18)), add(one(13))]),
         _ => ("?T, P, V", [remove(one(10)), add(one(13))]),
@@ -99,7 +102,10 @@ fn others_of(kind: u32) -> (&'static str, [Action; 2]) {
         3 => ("Z", [Action::Kill, spawn(one(13))]),
         4 => ("Z, (Likes, *)", [Action::Kill, Action::Kill]),
         5 => ("Rel", [add(Id::One(EXCLUSIVE)), add(Id::Two(WITH, at(17)))]),
-        6 => ("Rel", [remove(Id::One(EXCLUSIVE)), add(Id::Two(WITH, at(16)))]),
+        6 => (
+            "Rel",
+            [remove(Id::One(EXCLUSIVE)), add(Id::Two(WITH, at(16)))],
+        ),
         _ => (
             "Rel, !Exclusive",
             [remove(Id::Two(WITH, at(16))), remove(Id::Two(WITH, at(17)))],

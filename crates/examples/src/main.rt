@@ -1,11 +1,15 @@
 //! The world's calls by example: ships, which are afloat because they are ships, where they are and where they sail, and where
-//! they lie.
+//! they lie; and at last the ships sail.
 #![tactic(auto)]
+
+mod frames;
+mod wake;
 
 use anyhow::Result;
 use eco_ids::entity::WITH;
 use eco_ids::{Entity, Id, Refusal, Value};
 use eco_world::{TableRows, Values, World};
+use std::thread::Threads;
 
 // What ships can be and have.
 #[derive(Clone, Copy)]
@@ -149,7 +153,7 @@ fn close_quay<R: Print + AllocGlobal>(
 }
 
 // The world is passed on by reference: a function that owns it would have its end to prove at each way out.
-fn show<R: Print + AllocGlobal>(rt: &R, world: &mut World) -> Result<()> {
+fn show<R: Print + Threads + Sync + AllocGlobal>(rt: &R, world: &mut World) -> Result<()> {
     let terms = declare(world)?;
     let fleet = launch(world, terms)?;
     print_afloat(rt, world)?;
@@ -157,7 +161,8 @@ fn show<R: Print + AllocGlobal>(rt: &R, world: &mut World) -> Result<()> {
     print_ships(rt, world, terms, fleet)?;
     print_all_courses(rt, world, terms)?;
     print_refusal(rt, world)?;
-    close_quay(rt, world, terms, fleet)
+    close_quay(rt, world, terms, fleet)?;
+    frames::show(rt, world, fleet.heron, terms.position)
 }
 
 fn main(rt: HostRuntime) -> Result<()> {

@@ -1,19 +1,15 @@
 //! The cases of frames: systems that run on a world.
 use crate::fault::Fault;
-use eco_bodies::{Action, Script, Systems};
-use eco_frame::run_frame;
-use eco_ids::{Entity, Id, Refusal, Value};
-use eco_systems::Phase;
-use eco_world::World;
+use crate::heavy::Heavy;
+use crate::simulation::Simulation;
+use eco_bodies::{Script, SystemBody};
+use eco_ids::Refusal;
 use std::alloc::Global;
 use std::rt::Clock;
 use std::thread::Threads;
 use std::time::{Duration, Instant};
 
-// All indices of a world lie below it.
-const LIMIT: u32 = 1_048_576;
-
-/// What is there before the time is taken, where the size of a case is N.
+/// What is there before the time is taken, where the size of a case is N, and what is measured.
 #[derive(Clone, Copy)]
 enum FrameStart {
     /// N entities have values of two components, and one system adds the second to the first. A frame was run before.
@@ -22,6 +18,10 @@ enum FrameStart {
     Many,
     /// N entities have a tag, and one system makes an entity with another tag for each.
     Spawn,
+    /// N entities have a value, and one system sets each to a number that takes long to find. A frame was run before.
+    Heavy,
+    /// N systems of ten patterns each, of which the batches are made and none runs.
+    Points,
 }
 
 /// A case: its name, its size, what is there before, how many frames are measured, and how many workers record.
@@ -37,129 +37,25 @@ pub const FRAME_CASES: &[FrameCase] = &[
     FrameCase("frame_many/2", 6_500, FrameStart::Many, 100, 2),
     FrameCase("frame_many/4", 6_500, FrameStart::Many, 100, 4),
     FrameCase("frame_spawn", 100_000, FrameStart::Spawn, 1, 1),
+    FrameCase("frame_heavy/1", 100_000, FrameStart::Heavy, 1, 1),
+    FrameCase("frame_heavy/2", 100_000, FrameStart::Heavy, 1, 2),
+    FrameCase("frame_heavy/4", 100_000, FrameStart::Heavy, 1, 4),
+    FrameCase("sync_points_1000", 1_000, FrameStart::Points, 1, 1),
 ];
 
-// A world and its systems.
-struct Simulation {
-    world: World,
-    systems: Systems<Script>,
-}
-
-// By hand, so that dropping it is one call: a derived drop is proved anew at each early return of whoever holds it.
-impl Drop for Simulation {
-    fn drop(self) {
-        let Simulation {
-            world: _,
-            systems: _,
-        } = self;
-    }
-}
-
-impl Simulation {
-    // Nothing but what lives from the start.
-    fn new(alloc: Global) -> Result<Simulation, Refusal> {
-        Ok(Simulation {
-            world: World::new(alloc, LIMIT)?,
-            systems: Systems::new(alloc),
-        })
-    }
-
-    // Adds a system of one action, which is named by a number.
-    fn add_system(
-        &mut self,
-        alloc: Global,
-        number: u32,
-        text: &str,
-        action: Action,
-    ) -> Result<(), Refusal> {
-        let name = format!(in alloc; "s{number}")?;
-        let query = self.world.read_query(text)?;
-        let actions = Vec::from_slice(alloc, &[action])?;
-        let body = Script::new(alloc, &query, actions)?;
-        match self.systems.add(&name, Phase::OnUpdate, query, body) {
-            Ok(()) => Ok(()),
-            Err(refused) => Err(refused.refusal),
-        }
-    }
-
-    // So many entities, each with these values of the components.
-    fn make_entities(&mut self, count: u32, values: &[(Entity, Value)]) -> Result<(), Refusal> {
-        for _ in 0..count {
-            let entity = self.world.create(None)?;
-            for (component, value) in values {
-                self.world.set(entity, Id::One(*component), *value)?;
-            }
-        }
-        Ok(())
-    }
-
-    // Begins the case `Sum`.
-    fn make_sum(&mut self, alloc: Global, size: u32) -> Result<(), Refusal> {
-        let position = self.world.component(Some("P"), 2)?;
-        let velocity = self.world.component(Some("V"), 2)?;
-        self.make_entities(
-            size,
-            &[
-                (position, Value([1, 2, 0, 0])),
-                (velocity, Value([3, 4, 0, 0])),
-            ],
-        )?;
-        self.add_system(
-            alloc,
-            0,
-            "[inout] P, [in] V",
-            Action::Sum { into: 0, from: 1 },
-        )
-    }
-
-    // Begins the case `Many`.
-    fn make_many(&mut self, alloc: Global, size: u32) -> Result<(), Refusal> {
-        for number in 0..size / 100 {
-            let component = self.world.component(None, 1)?;
-            self.make_entities(1, &[(component, Value([1, 0, 0, 0]))])?;
-            let text = format!(in alloc; "{component}")?;
-            self.add_system(alloc, number, &text, Action::Sum { into: 0, from: 0 })?;
-        }
-        Ok(())
-    }
-
-    // Begins the case `Spawn`.
-    fn make_spawn(&mut self, alloc: Global, size: u32) -> Result<(), Refusal> {
-        let tag = self.world.create(Some("T"))?;
-        let other = self.world.create(Some("U"))?;
-        for _ in 0..size {
-            let entity = self.world.create(None)?;
-            self.world.add(entity, Id::One(tag))?;
-        }
-        self.add_system(alloc, 0, "T", Action::Spawn(Some(Id::One(other))))
-    }
-
-    // Makes what is there before the frames that are measured.
-    fn make(&mut self, alloc: Global, start: FrameStart, size: u32) -> Result<(), Refusal> {
-        match start {
-            FrameStart::Sum => self.make_sum(alloc, size),
-            FrameStart::Many => self.make_many(alloc, size),
-            FrameStart::Spawn => self.make_spawn(alloc, size),
-        }
-    }
-
-    // Runs so many frames, and answers how many commands ran.
-    fn run<R: Threads + Sync>(
-        &mut self,
-        rt: &R,
-        alloc: Global,
-        frames: u32,
-        workers: u32,
-    ) -> Result<usize, Refusal> {
-        let workers = workers.clamp(1, 64);
-        let mut commands = 0usize;
-        for _ in 0..frames {
-            match run_frame(rt, alloc, &mut self.world, &self.systems, workers) {
-                Ok(report) => commands = commands.saturating_add(report.commands()),
-                Err(stop) => return Err(stop.refusal),
-            }
-        }
-        Ok(commands)
+// Makes what is there before the frames of scripts.
+fn make(
+    simulation: &mut Simulation<Script>,
+    alloc: Global,
+    start: FrameStart,
+    size: u32,
+) -> Result<(), Refusal> {
+    match start {
+        FrameStart::Sum => simulation.make_sum(alloc, size),
+        FrameStart::Many => simulation.make_many(alloc, size),
+        FrameStart::Spawn => simulation.make_spawn(alloc, size),
+        FrameStart::Points => simulation.make_points(alloc, size),
+        FrameStart::Heavy => Ok(()),
     }
 }
 
@@ -169,7 +65,7 @@ impl FrameCase {
         self.0
     }
 
-    /// How many rows are recorded.
+    /// How many rows are recorded, or how many systems there are.
     pub fn size(&self) -> u32 {
         self.1
     }
@@ -188,13 +84,49 @@ impl FrameCase {
         Ok(best)
     }
 
-    // How long the frames of one run took. Neither what comes before nor giving up the world is timed.
+    // How long one run took. Neither what comes before nor giving up the world is timed.
     fn time<R: Clock + Threads + Sync>(&self, rt: &R, alloc: Global) -> Result<Duration, Fault> {
-        let mut simulation = Simulation::new(alloc)?;
-        simulation.make(alloc, self.2, self.1)?;
-        if !matches!(self.2, FrameStart::Spawn) {
-            simulation.run(rt, alloc, 1, self.4)?;
+        if matches!(self.2, FrameStart::Heavy) {
+            return self.time_heavy(rt, alloc);
         }
+        let mut simulation = Simulation::new(alloc)?;
+        make(&mut simulation, alloc, self.2, self.1)?;
+        match self.2 {
+            FrameStart::Points => time_points(rt, alloc, &simulation),
+            FrameStart::Spawn => self.time_frames(rt, alloc, &mut simulation),
+            _ => self.time_later_frames(rt, alloc, &mut simulation),
+        }
+    }
+
+    // The same of the case with a body of its own.
+    fn time_heavy<R: Clock + Threads + Sync>(
+        &self,
+        rt: &R,
+        alloc: Global,
+    ) -> Result<Duration, Fault> {
+        let mut simulation: Simulation<Heavy> = Simulation::new(alloc)?;
+        simulation.make_heavy(self.1)?;
+        self.time_later_frames(rt, alloc, &mut simulation)
+    }
+
+    // How long the frames take after a first one.
+    fn time_later_frames<B: SystemBody + Sync + Drop, R: Clock + Threads + Sync>(
+        &self,
+        rt: &R,
+        alloc: Global,
+        simulation: &mut Simulation<B>,
+    ) -> Result<Duration, Fault> {
+        simulation.run(rt, alloc, 1, self.4)?;
+        self.time_frames(rt, alloc, simulation)
+    }
+
+    // How long the frames take.
+    fn time_frames<B: SystemBody + Sync + Drop, R: Clock + Threads + Sync>(
+        &self,
+        rt: &R,
+        alloc: Global,
+        simulation: &mut Simulation<B>,
+    ) -> Result<Duration, Fault> {
         let start = Instant::now(rt)?;
         let commands = simulation.run(rt, alloc, self.3, self.4)?;
         let time = start.elapsed(rt)?;
@@ -203,5 +135,21 @@ impl FrameCase {
         } else {
             Err(Fault::WrongAnswer)
         }
+    }
+}
+
+// How long it takes to make the batches of a thousand systems, which are ten.
+fn time_points<C: Clock>(
+    clock: &C,
+    alloc: Global,
+    simulation: &Simulation<Script>,
+) -> Result<Duration, Fault> {
+    let start = Instant::now(clock)?;
+    let batches = simulation.cut(alloc)?;
+    let time = start.elapsed(clock)?;
+    if batches == 10 {
+        Ok(time)
+    } else {
+        Err(Fault::WrongAnswer)
     }
 }

@@ -6,7 +6,9 @@ mod case;
 mod fault;
 mod frames;
 mod group;
+mod heavy;
 mod scene;
+mod simulation;
 mod start;
 mod work;
 

@@ -22,7 +22,13 @@ mod hostile;
 #[cfg(test)]
 mod layout;
 #[cfg(test)]
+mod long_frames;
+#[cfg(test)]
 mod merging;
+#[cfg(test)]
+mod one_by_one;
+#[cfg(test)]
+mod plans;
 #[cfg(test)]
 mod queries;
 #[cfg(test)]
@@ -35,5 +41,7 @@ mod scripts;
 mod searching;
 #[cfg(test)]
 mod store;
+#[cfg(test)]
+mod sweeps;
 #[cfg(test)]
 mod systems;

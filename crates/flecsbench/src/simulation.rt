@@ -1,0 +1,178 @@
+//! A world and its systems.
+use crate::group::Group;
+use crate::heavy::Heavy;
+use eco_bodies::{Action, Script, SystemBody, Systems};
+use eco_frame::{run_frame, sync_points};
+use eco_ids::{Entity, Id, Refusal, Value};
+use eco_systems::Phase;
+use eco_world::World;
+use std::alloc::{AllocError, Global};
+use std::thread::Threads;
+
+// All indices of a world lie below it.
+const LIMIT: u32 = 1_048_576;
+
+// How many terms the query of a system has in the case of sync points.
+const TERMS: u32 = 10;
+
+/// A world with the systems of a frame, which have bodies of one type.
+pub struct Simulation<B> {
+    world: World,
+    systems: Systems<B>,
+}
+
+// By hand, so that dropping it is one call: a derived drop is proved anew at each early return of whoever holds it.
+impl<B: Drop> Drop for Simulation<B> {
+    fn drop(self) {
+        let Simulation {
+            world: _,
+            systems: _,
+        } = self;
+    }
+}
+
+impl<B: SystemBody + Sync + Drop> Simulation<B> {
+    /// Nothing but what lives from the start.
+    pub fn new(alloc: Global) -> Result<Simulation<B>, Refusal> {
+        Ok(Simulation {
+            world: World::new(alloc, LIMIT)?,
+            systems: Systems::new(alloc),
+        })
+    }
+
+    // So many entities, each with these values of the components.
+    fn make_entities(&mut self, count: u32, values: &[(Entity, Value)]) -> Result<(), Refusal> {
+        for _ in 0..count {
+            let entity = self.world.create(None)?;
+            for (component, value) in values {
+                self.world.set(entity, Id::One(*component), *value)?;
+            }
+        }
+        Ok(())
+    }
+
+    /// Runs so many frames, and answers how many commands ran.
+    pub fn run<R: Threads + Sync>(
+        &mut self,
+        rt: &R,
+        alloc: Global,
+        frames: u32,
+        workers: u32,
+    ) -> Result<usize, Refusal> {
+        let workers = workers.clamp(1, 64);
+        let mut commands = 0usize;
+        for _ in 0..frames {
+            match run_frame(rt, alloc, &mut self.world, &self.systems, workers) {
+                Ok(report) => commands = commands.saturating_add(report.commands()),
+                Err(stop) => return Err(stop.refusal),
+            }
+        }
+        Ok(commands)
+    }
+
+    /// Makes the batches of the systems, and answers how many they are.
+    pub fn cut(&self, alloc: Global) -> Result<usize, AllocError> {
+        Ok(sync_points(alloc, &self.world, &self.systems)?.len())
+    }
+}
+
+// The query of a system that asks for ten components, from one on each hundredth, and writes the first.
+fn text_of_ten(alloc: Global, components: Group, number: u32) -> Result<String, AllocError> {
+    let first = components.at(number);
+    let mut text = format!(in alloc; "[inout] {first}")?;
+    for term in 1..TERMS {
+        let component = components.at(number.wrapping_add(100 * term));
+        let slot = format!(in alloc; ", [in] {component}")?;
+        text.push_str(slot.as_str())?;
+    }
+    Ok(text)
+}
+
+impl Simulation<Script> {
+    // Adds a system of one action, which is named by a number.
+    fn add_system(
+        &mut self,
+        alloc: Global,
+        number: u32,
+        text: &str,
+        action: Action,
+    ) -> Result<(), Refusal> {
+        let name = format!(in alloc; "s{number}")?;
+        let query = self.world.read_query(text)?;
+        let actions = Vec::from_slice(alloc, &[action])?;
+        let body = Script::new(alloc, &query, actions)?;
+        match self.systems.add(&name, Phase::OnUpdate, query, body) {
+            Ok(()) => Ok(()),
+            Err(refused) => Err(refused.refusal),
+        }
+    }
+
+    /// So many entities have values of two components, and a system adds the second to the first.
+    pub fn make_sum(&mut self, alloc: Global, size: u32) -> Result<(), Refusal> {
+        let position = self.world.component(Some("P"), 2)?;
+        let velocity = self.world.component(Some("V"), 2)?;
+        self.make_entities(
+            size,
+            &[
+                (position, Value([1, 2, 0, 0])),
+                (velocity, Value([3, 4, 0, 0])),
+            ],
+        )?;
+        self.add_system(
+            alloc,
+            0,
+            "[inout] P, [in] V",
+            Action::Sum { into: 0, from: 1 },
+        )
+    }
+
+    /// A hundredth as many components of one field, each of which one entity has and one system doubles.
+    pub fn make_many(&mut self, alloc: Global, size: u32) -> Result<(), Refusal> {
+        for number in 0..size / 100 {
+            let component = self.world.component(None, 1)?;
+            self.make_entities(1, &[(component, Value([1, 0, 0, 0]))])?;
+            let text = format!(in alloc; "{component}")?;
+            self.add_system(alloc, number, &text, Action::Sum { into: 0, from: 0 })?;
+        }
+        Ok(())
+    }
+
+    /// So many entities have a tag, and a system makes an entity with another tag for each.
+    pub fn make_spawn(&mut self, alloc: Global, size: u32) -> Result<(), Refusal> {
+        let tag = self.world.create(Some("T"))?;
+        let other = self.world.create(Some("U"))?;
+        for _ in 0..size {
+            let entity = self.world.create(None)?;
+            self.world.add(entity, Id::One(tag))?;
+        }
+        self.add_system(alloc, 0, "T", Action::Spawn(Some(Id::One(other))))
+    }
+
+    /// As many systems as components: each asks for ten of these, from its own on each hundredth, and writes its own. So of a
+    /// thousand each hundred systems are a batch.
+    pub fn make_points(&mut self, alloc: Global, size: u32) -> Result<(), Refusal> {
+        let components = Group::new(self.world.high(), size);
+        for _ in 0..size {
+            self.world.component(None, 1)?;
+        }
+        for number in 0..size {
+            let text = text_of_ten(alloc, components, number)?;
+            self.add_system(alloc, number, &text, Action::Sum { into: 0, from: 0 })?;
+        }
+        Ok(())
+    }
+}
+
+impl Simulation<Heavy> {
+    /// So many entities have a value of one field, and a system sets each to a number that takes long to find.
+    pub fn make_heavy(&mut self, size: u32) -> Result<(), Refusal> {
+        let component = self.world.component(Some("P"), 1)?;
+        self.make_entities(size, &[(component, Value([1, 0, 0, 0]))])?;
+        let query = self.world.read_query("P")?;
+        let body = Heavy::new(component);
+        match self.systems.add("mix", Phase::OnUpdate, query, body) {
+            Ok(()) => Ok(()),
+            Err(refused) => Err(refused.refusal),
+        }
+    }
+}

@@ -1,4 +1,4 @@
-use Rattle.std.proofs.Common.{sym, ap, subst, ◌∙◌}
+use Rattle.std.proofs.Common.{sym, subst, ◌∙◌}
 use Rattle.eco_store.specs.Preparing.{staying}
 use Rattle.eco_store.specs.Retyping.{after_changes, IsOneWay}
 use Rattle.eco_store.specs.Transfers.{AreNamed}

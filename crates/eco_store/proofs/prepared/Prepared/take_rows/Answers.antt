@@ -1,4 +1,4 @@
-use Rattle.std.proofs.Common.{[], ◌≡◌, ◌∷◌, refl, sym, ap, subst, ◌∙◌, arith, IsTrue, nat_eq}
+use Rattle.std.proofs.Common.{[], ◌∷◌, refl, sym, ap, subst, ◌∙◌, arith, IsTrue, nat_eq}
 use Rattle.std.specs.List.{list_any}
 use Rattle.eco_tables.specs.Tables.{cleared, table_in}
 use Rattle.eco_archetypes.specs.Archetypes.{RowlessIn}

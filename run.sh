@@ -9,9 +9,9 @@ usage: ./run.sh SCRIPT [--workers N]     runs a script, and shows its lines
        ./run.sh --help                   shows this
 
 The built program is started if it is newer than all sources. Else the script is run by a trial build, which
-proves nothing, is thrown away after the run, and takes about a minute each time. --build proves all that the
-program stands on, which takes some twenty processor minutes once, and after a change of the sources as long as
-it takes to prove what has changed.
+proves nothing, is thrown away after the run, and takes some three minutes each time. --build proves all that
+the program stands on, which takes about an hour of processor time once, and after a change of the sources as
+long as it takes to prove what has changed.
 
 The status is that of the program (docs/FORMATS.md): 0 where the script was run, 1 where it was stopped, 2 where
 it is not read, 64 for bad arguments. N is 1 to 64. It is 127 where the program has to be built and the kit's
@@ -54,13 +54,14 @@ case ${1-} in
 -*) refuse "there is no option $1" ;;
 esac
 
-# Runs a command on the script, and says where help is if it was not read.
+# Runs a command on the script, and says where help is if it was not read, or the arguments were bad.
 run() {
     status=0
     "$@" || status=$?
-    if [ "$status" -eq 2 ]; then
-        echo "run.sh: docs/FORMATS.md says under 'A script that is not read' how to find the fault" >&2
-    fi
+    case $status in
+    2) echo "run.sh: docs/FORMATS.md says under 'A script that is not read' how to find the fault" >&2 ;;
+    64) echo "run.sh: see ./run.sh --help" >&2 ;;
+    esac
     exit "$status"
 }
 

@@ -43,14 +43,16 @@ fn is_least(pattern: Pattern, ids: &[Id], id: Id) -> bool
 
 // Whether an id that matches is below another with its filling.
 fn has_less(pattern: Pattern, ids: &[Id], id: Id) -> bool
-    ensures { result ≡ list_any (λ j. is_lt (id_cmp j id) && (pattern_matches pattern j && same_filling pattern j id)) ids.now }
+    ensures { result ≡ list_any
+        (λ j. is_lt (id_cmp j id) && (pattern_matches pattern j && same_filling pattern j id)) ids.now }
 {
     ids.iter().any(|j| is_less(pattern, *j, id))
 }
 
 // Whether an id that matches is below another with its filling.
 fn is_less(pattern: Pattern, id: Id, other: Id) -> bool
-    ensures { result ≡ (is_lt (id_cmp id other) && (pattern_matches pattern id && same_filling pattern id other)) }
+    ensures { result
+        ≡ (is_lt (id_cmp id other) && (pattern_matches pattern id && same_filling pattern id other)) }
 {
     id < other && pattern.matches(id) && fills_alike(pattern, id, other)
 }
@@ -91,7 +93,8 @@ fn add_least_of(
     ids: &[Id],
     entries: &mut Vec<Option<Id>>,
 ) -> Result<(), AllocError>
-    ensures { OnOk result (entries.new.items ≡ entries.old.items ++ map Some (filter (is_least_match pattern ids.now) ids.now)) }
+    ensures { OnOk result (entries.new.items
+        ≡ entries.old.items ++ map Some (filter (is_least_match pattern ids.now) ids.now)) }
 {
     if has_any(pattern) {
         add_least_alike(pattern, ids, entries)
@@ -118,7 +121,8 @@ fn add_matches(
     ids: &[Id],
     entries: &mut Vec<Option<Id>>,
 ) -> Result<(), AllocError>
-    ensures { OnOk result (entries.new.items ≡ entries.old.items ++ map Some (filter (pattern_matches pattern) ids.now)) }
+    ensures { OnOk result (entries.new.items
+        ≡ entries.old.items ++ map Some (filter (pattern_matches pattern) ids.now)) }
 {
     for id in ids {
         if pattern.matches(*id) {
@@ -134,7 +138,8 @@ fn add_least_alike(
     ids: &[Id],
     entries: &mut Vec<Option<Id>>,
 ) -> Result<(), AllocError>
-    ensures { OnOk result (entries.new.items ≡ entries.old.items ++ map Some (filter (is_least_match pattern ids.now) ids.now)) }
+    ensures { OnOk result (entries.new.items
+        ≡ entries.old.items ++ map Some (filter (is_least_match pattern ids.now) ids.now)) }
 {
     for id in ids {
         if is_least(pattern, ids, *id) {
@@ -151,7 +156,8 @@ pub fn add_entries(
     ids: &TypeList,
     entries: &mut Vec<Option<Id>>,
 ) -> Result<(), AllocError>
-    ensures { OnOk result (entries.new.items ≡ entries.old.items ++ entries_of ids.now (term_view slot.now.term)) }
+    ensures { OnOk result (entries.new.items
+        ≡ entries.old.items ++ entries_of ids.now (term_view slot.now.term)) }
 {
     match &slot.term {
         Term::And(pattern) => add_least(pattern, ids.as_slice(), entries)?,
@@ -181,7 +187,8 @@ fn add_first(
     alternatives: &[Id],
     entries: &mut Vec<Option<Id>>,
 ) -> Result<(), AllocError>
-    ensures { OnOk result (entries.new.items ≡ entries.old.items ++ map Some (option_to_list (find (has_item id_cmp ids.now) alternatives.now))) }
+    ensures { OnOk result (entries.new.items ≡ entries.old.items
+        ++ map Some (option_to_list (find (has_item id_cmp ids.now) alternatives.now))) }
 {
     if let Some(id) = first_of(ids, alternatives) {
         entries.push(Some(id))?;

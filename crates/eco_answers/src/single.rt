@@ -16,7 +16,8 @@ pub fn add_only(
     entries: &mut Vec<Option<Id>>,
 ) -> Result<bool, AllocError>
     ensures only { IfOk result (λ is. IsTrue is →
-        map (λ c. entries.old.items ++ c) (definitions.choices ids.now (asks slots.now)) ≡ entries.new.items ∷ []) }
+        map (λ c. entries.old.items ++ c) (definitions.choices ids.now (asks slots.now))
+        ≡ entries.new.items ∷ []) }
     ensures long { IfOk result (λ is. IsTrue is →
         length entries.new.items ≡ length entries.old.items + length slots.now) }
 {

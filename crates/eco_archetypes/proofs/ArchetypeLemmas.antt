@@ -138,7 +138,8 @@ module _ {S E : Type 0} {ks : List Cache} (s s' : List (Option TableState)) (m m
   }
 
   -- two tables are joined by an id, of whose types one has it alone besides what the other has
-  pub found_linked : (a b : ℕ) (i : Id) (ids : List Id) → IsArchetypes s m l g ks → Links g g' a i b → type_at s a ≡ Some ids → type_at s b ≡ Some (toggled ids i)
+  pub found_linked : (a b : ℕ) (i : Id) (ids : List Id) → IsArchetypes s m l g ks → Links g g' a i b → type_at s a ≡ Some ids →
+      type_at s b ≡ Some (toggled ids i)
       → toggled (toggled ids i) i ≡ ids
       → IsArchetypes s m l g' ks
   found_linked a b i ids found links from to twice = record {

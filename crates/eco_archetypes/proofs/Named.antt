@@ -1,5 +1,6 @@
 -- Whom the types of tables name is whom a key is kept of.
-use Rattle.std.proofs.Common.{◌≡◌, ℕ, zero, suc, Bool, true, false, ◌||◌, ◌↔◌, inl, inr, List, [], ◌∷◌, nat_eq, nat_lt, length, Option, Some, None, option_map, is_some, refl, sym, ap, ◌∙◌, true≢false, IsTrue}
+use Rattle.std.proofs.Common.{◌≡◌, ℕ, zero, suc, Bool, true, false, ◌||◌, ◌↔◌, inl, inr, List, [], ◌∷◌, nat_eq, nat_lt, length, Option, Some, None}
+use Rattle.std.proofs.Common.{option_map, is_some, refl, sym, ap, ◌∙◌, true≢false, IsTrue}
 use Rattle.std.specs.List.{list_any}
 use Rattle.std.specs.HashMap.{HashMap, get}
 use Rattle.std.proofs.lemmas.Bool.{or_left}

@@ -1,15 +1,15 @@
 -- What is left of what leads to tables where many of them went.
-use Rattle.std.proofs.Common.{◌≡◌, ◌≢◌, ◌⊎◌, ℕ, ◌<◌, ◌≤◌, ◌+◌, ◌&&◌, ◌||◌, Bool, true, false, not, cond, List, [], ◌∷◌, ◌++◌, length, set, nat_eq, true≢false}
-use Rattle.std.proofs.Common.{rules, OnSome, Option, Some, None, IsSome, option_map, is_some, refl, sym, ap, subst, ◌∙◌, arith, inl, inr}
-use Rattle.std.specs.Prelude.{nat_lt, IfSome, filter, slice_get}
+use Rattle.std.proofs.Common.{◌≡◌, ◌≢◌, ℕ, ◌<◌, ◌≤◌, ◌+◌, ◌&&◌, ◌||◌, Bool, true, false, not, cond, List, [], ◌∷◌, length, set, nat_eq, true≢false}
+use Rattle.std.proofs.Common.{rules, OnSome, Option, Some, None, option_map, is_some, refl, sym, ap, subst, ◌∙◌, arith, inl, inr}
+use Rattle.std.specs.Prelude.{nat_lt, filter}
 use Rattle.std.specs.Bool.{Decides}
 use Rattle.std.specs.Cmp.{IsEquivalence}
 use Rattle.std.specs.HashMap.{HashMap, get}
-use Rattle.std.specs.List.{All, IsDistinct, list_any}
+use Rattle.std.specs.List.{IsDistinct, list_any}
 use Rattle.std.specs.Map.{lookup, keys_of}
 use Rattle.std.specs.Map.Calls.{RetainsPairs}
 use Rattle.std.proofs.lemmas.Map.{NonePasses}
-use Rattle.std.proofs.lemmas.Map.Entries.{lookup-filter-values, option_filter, none_past_head, All-lookup}
+use Rattle.std.proofs.lemmas.Map.Entries.{lookup-filter-values, option_filter, none_past_head}
 use Rattle.std.proofs.lemmas.Map.Keys.{IsDistinct-tail}
 use Rattle.std.proofs.lemmas.Map.Views.{any-filter_same}
 use Rattle.std.proofs.lemmas.Bool.{cases_eq, cases_lt}
@@ -30,7 +30,7 @@ use Rattle.eco_archetypes.specs.declared.id_index.slots.Slots.{Slots}
 use Rattle.eco_archetypes.specs.Archetypes.{type_at, type_matches, IsArchetypes}
 use Rattle.eco_archetypes.specs.Caching.{AreExact, ChangesType}
 use Rattle.eco_archetypes.specs.Edges.{edge, edge_of, same_id, toggled, IsTwofold}
-use Rattle.eco_archetypes.specs.IdIndex.{same_key, slots_of, has_slot, is_empty, KeepsNoEmpty, Lists}
+use Rattle.eco_archetypes.specs.IdIndex.{same_key, slots_of, has_slot, is_empty, Lists}
 use Rattle.eco_archetypes.specs.Sweeping.{has_table, kept_if, IsLess, KeepsListed, KeepsEdges}
 use Rattle.eco_archetypes.specs.TypeMap.{same_ids}
 use Rattle.eco_archetypes.proofs.ArchetypeLemmas.{changes_type}

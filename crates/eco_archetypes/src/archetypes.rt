@@ -71,8 +71,8 @@ impl Model for Archetypes {
 
     ghost view = { λ a. a.tables };
 
-    ghost invariant = { λ a.
-        IsArchetypes a.tables a.by_type.slots (lists_of a.by_id.slots) a.edges.lists.items a.caches.list.items };
+    ghost invariant = { λ a. IsArchetypes a.tables a.by_type.slots (lists_of a.by_id.slots)
+        a.edges.lists.items a.caches.list.items };
 }
 
 impl Archetypes {

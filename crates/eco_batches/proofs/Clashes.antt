@@ -1,36 +1,24 @@
 -- Two outlines clash exactly where their systems conflict.
-use Rattle.std.proofs.Common.{◌≡◌, ℕ, zero, suc, ◌==◌, Bool, false, ◌&&◌, not, ◌||◌, ◌↔◌, ◌⊎◌, inl, inr, List, [], ◌∷◌, ◌++◌, map, length, refl, sym, ap, ◌∙◌}
-use Rattle.std.proofs.Common.{subst}
+use Rattle.std.proofs.Common.{◌≡◌, ℕ, zero, suc, ◌==◌, Bool, false, ◌||◌, ◌↔◌, List, [], ◌∷◌, ◌++◌, map, length, refl, sym, ap, ◌∙◌, subst}
 use Rattle.std.proofs.Common.{true≢false, IsTrue, Option, Some, None, IfOk, Result, Ok, Err, slice_get, arith, eqb-true}
-use Rattle.std.proofs.lemmas.Option.{same_Some, none-some}
 use Rattle.std.specs.List.{AllZip, list_any}
-use Rattle.eco_ids.specs.declared.edition.Edition.{Edition}
-use Rattle.eco_ids.specs.declared.edition.Edition.TheVariants.{First}
-use Rattle.eco_ids.specs.declared.entity.Entity.{Entity}
-use Rattle.eco_ids.specs.declared.entity.TheConstants.{CHILD_OF}
-use Rattle.eco_ids.specs.declared.pattern.Part.{Part}
-use Rattle.eco_ids.specs.declared.pattern.Part.TheVariants.{Is, Each, Any}
+use Rattle.std.proofs.lemmas.Bool.Decides.{Decides-or}
+use Rattle.std.proofs.lemmas.List.{map-append}
+use Rattle.std.proofs.lemmas.Option.{same_Some, none-some}
 use Rattle.eco_ids.specs.declared.pattern.Pattern.{Pattern}
-use Rattle.eco_ids.specs.declared.pattern.Pattern.TheVariants.{One, Two}
-use Rattle.eco_ids.specs.Builtin.{is_among_first}
-use Rattle.eco_ids.specs.Edition.{builtin_count}
 use Rattle.eco_ids.specs.Least.{root, next}
 use Rattle.eco_ids.specs.Matching.{pattern_overlaps}
-use Rattle.eco_ids.specs.Order.{entity_eq}
 use Rattle.eco_ids.specs.World.{WorldState}
-use Rattle.eco_ids.proofs.Facts.{or_left, or_parts, or_right}
+use Rattle.eco_ids.proofs.Further.{found_at}
 use Rattle.eco_systems.specs.Batches.{Conflict, Disturbs, AreBatches}
 use Rattle.eco_systems.specs.Joining.{batched}
+use Rattle.eco_systems.specs.Laws.{JoiningMakesBatches, OrderHasSystems}
 use Rattle.eco_systems.specs.Phases.{in_order, order_of}
 use Rattle.eco_systems.specs.Systems.{SystemModel, system_reads}
-use Rattle.eco_systems.specs.Writes as writes
-use Rattle.eco_systems.specs.Writes.{SomeOf, InClosedPatterns, IsTraitWriter}
-use Rattle.eco_systems.proofs.JoinedOneByOne.{batched_are_all, batched_are_batches}
-use Rattle.eco_systems.proofs.Lists.{either, map_append}
-use Rattle.eco_systems.proofs.Orders.{order_is_of_positions}
+use Rattle.eco_systems.specs.Writes.{SomeOf, InClosedPatterns, IsTraitWriter, writes_trait}
 use Rattle.eco_batches.specs.OutlineModels.{OutlineModel}
-use Rattle.eco_batches.specs.Outlines.{ArePlacedBatches, IsOutline, clash_of, clash_at, closed_in, disturbs, is_trait, is_trait_part, kills_in, kills_too, late_at}
-use Rattle.eco_batches.specs.Outlines.{no_system, reads_in, reads_of, system_in, system_of, system_at, systems_of, traits_in, writes_trait}
+use Rattle.eco_batches.specs.Outlines.{ArePlacedBatches, IsOutline, clash_of, clash_at, closed_in, disturbs, kills_in, kills_too, late_at}
+use Rattle.eco_batches.specs.Outlines.{no_system, reads_in, system_in, system_of, system_at, systems_of, traits_in}
 use Rattle.eco_batches.specs.declared.declaration.Declared.{Declared}
 
 -- ---- an outline for each system
@@ -49,24 +37,6 @@ module _ (w : WorldState) where
   outlined_at (d ∷ ds) (o ∷ os) h zero = h.0
   outlined_at (d ∷ ds) (o ∷ os) h (suc k) = outlined_at ds os h.1 k
 
-  -- the built-ins are the same in each edition
-  same_entity : (e : Entity) → is_trait e ≡ writes.is_trait w e
-  same_entity e = by w.edition
-    where
-      by : (edition : Edition) → is_trait e ≡ (is_among_first (builtin_count edition) e && not (entity_eq e CHILD_OF))
-      by First = refl
-
-  same_part : (p : Part) → is_trait_part p ≡ writes.is_trait_part w p
-  same_part (Is e) = same_entity e
-  same_part Each = refl
-  same_part Any = refl
-
-  same_trait : (p : Pattern) → writes_trait p ≡ writes.writes_trait w p
-  same_trait (One e) = same_entity e
-  same_trait (Two Each q) = refl
-  same_trait (Two Any q) = refl
-  same_trait (Two (Is r) q) = λ i. same_entity r i || same_part q i
-
   nothing_closed : {p : Pattern} → InClosedPatterns w [] p → ⊥
   nothing_closed (root h) = h
   nothing_closed (next c b) = nothing_closed c
@@ -76,14 +46,14 @@ module _ (w : WorldState) where
   traits_exact None (Some o) h = absurd h
   traits_exact (Some d) None h = absurd h
   traits_exact (Some d) (Some o) h = (
-    λ t. let p = (h.closed writes_trait).0 (sym h.traits ∙ t) in (p.0, p.1, sym (same_trait p.0) ∙ p.2),
-    λ x. h.traits ∙ (h.closed writes_trait).1 (x.0, x.1, same_trait x.0 ∙ x.2),
+    λ t. (h.closed (writes_trait w.edition)).0 (sym h.traits ∙ t),
+    λ x. h.traits ∙ (h.closed (writes_trait w.edition)).1 x,
   )
 
   module _ (ds : List Declared) (os : List OutlineModel) (all : AllZip (IsOutline w) ds os) where
     some_exact : (ks : List ℕ) → IsTrue (list_any (λ k. traits_in (slice_get os k)) ks) ↔ SomeOf (IsTraitWriter w) (map (system_at ds) ks)
     some_exact [] = (λ t. absurd (true≢false (sym t)), λ x. absurd x)
-    some_exact (k ∷ ks) = either (traits_in (slice_get os k)) (list_any (λ k. traits_in (slice_get os k)) ks)
+    some_exact (k ∷ ks) = Decides-or (traits_in (slice_get os k)) (list_any (λ k. traits_in (slice_get os k)) ks)
         (traits_exact (slice_get ds k) (slice_get os k) (outlined_at ds os all k)) (some_exact ks)
 
   no_disturbance : (t : SystemModel) → Disturbs w no_system t → ⊥
@@ -118,13 +88,13 @@ module _ (w : WorldState) where
   module _ (late : Bool) (until : List SystemModel) (is_late : IsTrue late ↔ SomeOf (IsTraitWriter w) until) where
     pair_exact : (s t : Option Declared) (o : Option OutlineModel) → Outlined s o → IsTrue (clash_of o t late) ↔ Conflict w until (system_in s) (system_in t)
     pair_exact s t o h =
-        either (kills_in o) (kills_too t || (late || disturbs (closed_in o) (reads_in t))) (kills_exact s o h)
-        (either (kills_too t) (late || disturbs (closed_in o) (reads_in t)) (kills_too_exact t)
-        (either late (disturbs (closed_in o) (reads_in t)) is_late (disturbs_exact s t o h)))
+        Decides-or (kills_in o) (kills_too t || (late || disturbs (closed_in o) (reads_in t))) (kills_exact s o h)
+        (Decides-or (kills_too t) (late || disturbs (closed_in o) (reads_in t)) (kills_too_exact t)
+        (Decides-or late (disturbs (closed_in o) (reads_in t)) is_late (disturbs_exact s t o h)))
 
   -- the systems of positions, and one more
   at_end : (ds : List Declared) (before : List ℕ) (t : ℕ) → map (system_at ds) (before ++ t ∷ []) ≡ map (system_at ds) before ++ system_at ds t ∷ []
-  at_end ds before t = map_append (system_at ds) before (t ∷ [])
+  at_end ds before t = map-append (system_at ds) before (t ∷ [])
 
   pub clash_exact : (ds : List Declared) (os : List OutlineModel) → AllZip (IsOutline w) ds os → (before : List ℕ) (s t : ℕ) →
       IsTrue (clash_at os ds before s t) ↔ Conflict w (map (system_at ds) before ++ system_at ds t ∷ []) (system_at ds s) (system_at ds t)
@@ -141,12 +111,10 @@ declared_there [] k s h = absurd (none-some s h)
 declared_there (d ∷ ds) zero s h = same_Some (system_of d) s h
 declared_there (d ∷ ds) (suc k) s h = declared_there ds k s h
 
-map_itself : {A : Type 0} (xs : List A) → map (λ x. x) xs ≡ xs
-map_itself [] = refl
-map_itself (x ∷ xs) = ap (λ ys. x ∷ ys) (map_itself xs)
-
-at_order : (ds : List Declared) → map (system_at ds) (order_of (systems_of ds)) ≡ in_order (systems_of ds)
-at_order ds = order_is_of_positions (system_at ds) (λ s. s) (systems_of ds) (declared_there ds) ∙ map_itself (in_order (systems_of ds))
+-- the systems stand in their order at the positions in it
+at_order : OrderHasSystems → (ds : List Declared) → map (system_at ds) (order_of (systems_of ds)) ≡ in_order (systems_of ds)
+at_order has ds =
+    found_at (slice_get (systems_of ds)) (system_at ds) (declared_there ds) (order_of (systems_of ds)) (in_order (systems_of ds)) (has (systems_of ds))
 
 -- a list is empty where its length is 0
 pub is_none : (order : List ℕ) (b : Bool) → b ≡ (length order == 0) → IsTrue b → order ≡ []
@@ -157,21 +125,23 @@ pub not_none : (order : List ℕ) (b : Bool) → b ≡ (length order == 0) → b
 not_none [] b is h e = true≢false (sym is ∙ h)
 not_none (x ∷ xs) b is h e = let z : suc (length xs) ≡ 0 = ap length e in absurd (omega (arith, z))
 
-pub none_placed : (w : WorldState) (ds : List Declared) → order_of (systems_of ds) ≡ [] → ArePlacedBatches w ds []
-none_placed w ds none = (sym none, sym (at_order ds) ∙ ap (map (system_at ds)) none)
+pub none_placed : OrderHasSystems → (w : WorldState) (ds : List Declared) → order_of (systems_of ds) ≡ [] → ArePlacedBatches w ds []
+none_placed has w ds none = (sym none, sym (at_order has ds) ∙ ap (map (system_at ds)) none)
 
-placed : (w : WorldState) (ds : List Declared) (os : List OutlineModel) (order : List ℕ) → (order ≡ [] → ⊥) → order ≡ order_of (systems_of ds) →
-    AllZip (IsOutline w) ds os → ArePlacedBatches w ds (batched (clash_at os ds) [] [] order)
-placed w ds os [] some is all = absurd (some refl)
-placed w ds os (first ∷ rest) some is all = (
-  batched_are_all w (system_at ds) (clash_at os ds) (clash_exact w ds os all) first rest ∙ is,
-  subst (λ ss. AreBatches w ss (map (map (system_at ds)) (batched (clash_at os ds) [] [] (first ∷ rest)))) (ap (map (system_at ds)) is ∙ at_order ds)
-      (batched_are_batches w (system_at ds) (clash_at os ds) (clash_exact w ds os all) first rest),
-)
+module _ (has : OrderHasSystems) (makes : JoiningMakesBatches) (w : WorldState) (ds : List Declared) (os : List OutlineModel) where
+  placed : (order : List ℕ) → (order ≡ [] → ⊥) → order ≡ order_of (systems_of ds) → AllZip (IsOutline w) ds os →
+      ArePlacedBatches w ds (batched (clash_at os ds) [] [] order)
+  placed [] some is all = absurd (some refl)
+  placed (first ∷ rest) some is all =
+      let joined = makes w (system_at ds) (clash_at os ds) (clash_exact w ds os all) first rest in (
+        joined.0 ∙ is,
+        subst (λ ss. AreBatches w ss (map (map (system_at ds)) (batched (clash_at os ds) [] [] (first ∷ rest))))
+            (ap (map (system_at ds)) is ∙ at_order has ds) joined.1,
+      )
 
--- the lists of positions are batches
-pub joined_are_batches : {V W E : Type 0} (w : WorldState) (ds : List Declared) (os : List OutlineModel) (order : List ℕ) → (order ≡ [] → ⊥) →
-    order ≡ order_of (systems_of ds) → AllZip (IsOutline w) ds os → (content : W → List V) (items : V → List ℕ) (r : Result W E) →
-    IfOk r (λ b. map items (content b) ≡ batched (clash_at os ds) [] [] order) → IfOk r (λ b. ArePlacedBatches w ds (map items (content b)))
-joined_are_batches w ds os order some is all content items (Err e) h = h
-joined_are_batches w ds os order some is all content items (Ok b) h = subst (ArePlacedBatches w ds) (sym h) (placed w ds os order some is all)
+  -- the lists of positions are batches
+  pub joined_are_batches : {V W E : Type 0} (order : List ℕ) → (order ≡ [] → ⊥) → order ≡ order_of (systems_of ds) → AllZip (IsOutline w) ds os →
+      (content : W → List V) (items : V → List ℕ) (r : Result W E) → IfOk r (λ b. map items (content b) ≡ batched (clash_at os ds) [] [] order) →
+      IfOk r (λ b. ArePlacedBatches w ds (map items (content b)))
+  joined_are_batches order some is all content items (Err e) h = h
+  joined_are_batches order some is all content items (Ok b) h = subst (ArePlacedBatches w ds) (sym h) (placed order some is all)

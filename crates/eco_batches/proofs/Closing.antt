@@ -1,10 +1,11 @@
 -- Where With brings nothing.
-use Rattle.std.proofs.Common.{◌≡◌, Bool, true, false, ◌||◌, ◌↔◌, ◌⊎◌, inl, inr, List, [], ◌∷◌, refl, sym, ap, ◌∙◌, subst, IsTrue, IsFalse, true≢false, Result, Ok, Err, OnOk, Option, Some, None, option_map}
+use Rattle.std.proofs.Common.{◌≡◌, Bool, true, false, ◌||◌, ◌↔◌, ◌⊎◌, inl, inr, List, [], ◌∷◌, refl, sym, ap, ◌∙◌, subst, IsTrue, IsFalse, true≢false, Result}
+use Rattle.std.proofs.Common.{Ok, Err, OnOk, Option, Some, None, option_map}
 use Rattle.std.specs.List.{list_any}
 use Rattle.eco_ids.specs.declared.entity.Entity.{Entity}
 use Rattle.eco_ids.specs.declared.entity.TheConstants.{WITH}
 use Rattle.eco_ids.specs.declared.id.Id.{Id}
-use Rattle.eco_ids.specs.declared.id.Id.TheVariants.{One, Two}
+use Rattle.eco_ids.specs.declared.id.Id.TheVariants.{Two}
 use Rattle.eco_ids.specs.Least.{root, next}
 use Rattle.eco_ids.specs.Order.{entity_cmp, entity_eq, has_item, id_cmp, id_eq}
 use Rattle.eco_ids.specs.Traits.{Reaches}
@@ -46,7 +47,10 @@ lacks_with w e ids own shown same none x = by (record_of w e) own
 
 -- a walk leads nowhere else
 pub alone : (w : WorldState) (h : Entity) → LacksWith w h → (x : Entity) → IsTrue (has_item entity_cmp (h ∷ []) x) ↔ Reaches w WITH h x
-alone w h lacks x = (λ t. there (or_parts (entity_eq h x) false t), λ r. or_left (entity_eq h x) false (subst (λ y. IsTrue (entity_eq h y)) (sym (here r)) (entity_eq_itself h)))
+alone w h lacks x = (
+  λ t. there (or_parts (entity_eq h x) false t),
+  λ r. or_left (entity_eq h x) false (subst (λ y. IsTrue (entity_eq h y)) (sym (here r)) (entity_eq_itself h)),
+)
   where
     there : IsTrue (entity_eq h x) ⊎ IsTrue false → Reaches w WITH h x
     there (inl t) = root (sym (entity_eq_is h x t))

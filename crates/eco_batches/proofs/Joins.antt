@@ -1,18 +1,22 @@
 -- The loop that joins systems one by one.
-use Rattle.std.proofs.Common.{◌≡◌, ℕ, Bool, true, false, true≢false, cond, ◌&&◌, ◌||◌, List, [], ◌∷◌, ◌++◌, map, refl, sym, ap, ◌∙◌, append_assoc, Option, slice_get, ◌+◌, ◌<◌, get_or, length, subst, take, drop}
+use Rattle.std.proofs.Common.{◌≡◌, ℕ, ◌+◌, ◌<◌, Bool, true, false, cond, ◌&&◌, ◌||◌, List, [], ◌∷◌, ◌++◌, map, length, get_or, take, drop, Option}
+use Rattle.std.proofs.Common.{slice_get, refl, sym, ap, ◌∙◌, subst, true≢false, append_assoc}
 use Rattle.std.specs.List.{AllZip, list_any}
+use Rattle.std.proofs.lemmas.List.{drop_more, map-append, take_more}
 use Rattle.std.proofs.lemmas.List.Folds.{list_any-append}
+use Rattle.eco_ids.specs.declared.edition.Edition.{Edition}
+use Rattle.eco_ids.specs.declared.edition.Edition.TheVariants.{First}
 use Rattle.eco_ids.specs.declared.pattern.Pattern.{Pattern}
 use Rattle.eco_ids.specs.Matching.{pattern_overlaps}
+use Rattle.eco_ids.specs.World.{WorldState}
+use Rattle.eco_ids.proofs.Further.{zip_push}
 use Rattle.eco_query.specs.Queries.{has_any}
 use Rattle.eco_systems.specs.Joining.{batched}
-use Rattle.eco_systems.proofs.Lists.{map_append, zip_push}
 use Rattle.eco_systems.specs.Closing.{ListsClosed}
-use Rattle.eco_ids.specs.World.{WorldState}
-use Rattle.std.proofs.lemmas.List.{drop_more, take_more}
+use Rattle.eco_systems.specs.Writes.{writes_trait}
 use Rattle.eco_batches.specs.Open.{IsFresh, IsOpen, JoinsNext, JoinsOpen, stands_apart}
 use Rattle.eco_batches.specs.OutlineModels.{OutlineModel}
-use Rattle.eco_batches.specs.Outlines.{IsOutline, clash_at, clash_of, closed_in, disturbs, kills_in, kills_too, late_at, reads_in, traits_in, writes_trait}
+use Rattle.eco_batches.specs.Outlines.{IsOutline, clash_at, clash_of, closed_in, disturbs, kills_in, kills_too, late_at, reads_in, traits_in}
 use Rattle.eco_batches.specs.Written.{overlaps}
 use Rattle.eco_batches.specs.declared.batch.Batch.{Batch}
 use Rattle.eco_batches.specs.declared.declaration.Declared.{Declared}
@@ -124,7 +128,7 @@ module _ (os : List OutlineModel) (ds : List Declared) {V : Type 0} (items : V �
   opened done done' last old mid new pushed is fresh joins c = record {
     is_open = joins.stays (fresh.opens os);
     total =
-        (λ i. (ap (map items) pushed ∙ map_append items done (last ∷ [])) i
+        (λ i. (ap (map items) pushed ∙ map-append items done (last ∷ [])) i
         ++ batched clash (before ++ at ∷ []) ((joins.places ∙ ap (λ p. p ++ at ∷ []) fresh.places) i) rest)
         ∙ ap (λ b. (map items done ++ b ∷ []) ++ batched clash (before ++ at ∷ []) (at ∷ []) rest) is
         ∙ append_assoc (map items done) (old.places.items ∷ []) (batched clash (before ++ at ∷ []) (at ∷ []) rest)
@@ -154,14 +158,21 @@ join_more os ds items order k d done done' batch batch' below total joins =
     ∙ ap (λ rest. map items done ++ batched (clash_at os ds) (take k order) batch.places.items rest) (sym (drop_more order k d below))
     ∙ total
 
+-- there is one edition
+the_edition : (edition : Edition) → First ≡ edition
+the_edition First = refl
+
 -- one outline more
 pub outlined_more : (w : WorldState) (ds : List Declared) (k : ℕ) (d : Declared) (old new : List OutlineModel) (closed shown : List Pattern) → k < length ds
     → AllZip (IsOutline w) (take k ds) old → ListsClosed w (get_or ds k d).writes.now closed → shown ≡ closed
-    → new ≡ old ++ record { closed = shown; writes_traits = list_any writes_trait shown; kills = (get_or ds k d).kills } ∷ []
+    → new ≡ old ++ record { closed = shown; writes_traits = list_any (writes_trait First) shown; kills = (get_or ds k d).kills } ∷ []
     → AllZip (IsOutline w) (take (k + 1) ds) new
 outlined_more w ds k d old new closed shown below all listed same pushed =
+    let made : OutlineModel = record { closed = shown; writes_traits = list_any (writes_trait First) shown; kills = (get_or ds k d).kills } in
     subst (AllZip (IsOutline w) (take (k + 1) ds)) (sym pushed)
-    (subst (λ xs. AllZip (IsOutline w) xs (old ++ record { closed = shown; writes_traits = list_any writes_trait shown; kills = (get_or ds k d).kills } ∷ []))
-    (sym (take_more ds k d below))
-    (zip_push (IsOutline w) (take k ds) old (get_or ds k d) _ all
-    (record { kills = refl; closed = subst (ListsClosed w (get_or ds k d).writes.now) (sym same) listed; traits = refl })))
+    (subst (λ xs. AllZip (IsOutline w) xs (old ++ made ∷ [])) (sym (take_more ds k d below))
+    (zip_push (IsOutline w) (take k ds) old (get_or ds k d) made all (record {
+      kills = refl;
+      closed = subst (ListsClosed w (get_or ds k d).writes.now) (sym same) listed;
+      traits = ap (λ e. list_any (writes_trait e) shown) (the_edition w.edition);
+    })))

@@ -6,7 +6,7 @@ use Rattle.std.proofs.lemmas.List.Folds.{list_any-append}
 use Rattle.indexmap.specs.IndexSet.{insert_key}
 use Rattle.eco_ids.specs.declared.entity.Entity.{Entity}
 use Rattle.eco_ids.specs.declared.id.Id.{Id}
-use Rattle.eco_ids.specs.Order.{entity_cmp, entity_eq, has_item, id_cmp, id_eq}
+use Rattle.eco_ids.specs.Order.{entity_cmp, has_item, id_cmp}
 use Rattle.eco_ids.specs.OrderLaws.{entity_ties, id_ties}
 use Rattle.eco_ids.specs.contracts.entity.EntityPartialEq.TheImpl as entity_impl
 use Rattle.eco_ids.specs.contracts.id.IdPartialEq.TheImpl as id_impl

@@ -1,12 +1,11 @@
 -- Closed writes of all systems in one list.
-use Rattle.std.proofs.Common.{◌≡◌, ℕ, ◌-◌, ◌+◌, ◌≤◌, Bool, List, [], ◌∷◌, ◌++◌, map, length, take, drop, refl, sym, ap, ◌∙◌, arith, length-append, length-drop}
+use Rattle.std.proofs.Common.{◌≡◌, ℕ, ◌-◌, ◌+◌, ◌≤◌, List, [], ◌∷◌, ◌++◌, map, length, take, drop, refl, ap, ◌∙◌, arith, length-append, length-drop}
 use Rattle.std.specs.Prelude.{slice_range}
 use Rattle.std.specs.List.{AllByRecursion}
 use Rattle.std.proofs.Math.Seq.{drop-append_seam}
-use Rattle.std.proofs.lemmas.List.{drop-append-le, take-append-le, take_all}
+use Rattle.std.proofs.lemmas.List.{drop-append-le, map-append, take-append-le, take_all}
 use Rattle.eco_ids.specs.declared.pattern.Pattern.{Pattern}
-use Rattle.eco_systems.proofs.Lists.{map_append}
-use Rattle.eco_batches.specs.OutlineModels.{OutlineModel, outline_of, IsWithin}
+use Rattle.eco_batches.specs.OutlineModels.{outline_of, IsWithin}
 use Rattle.eco_batches.specs.declared.outline.Outline.{Outline}
 
 part_kept : (all more : List Pattern) (start end : ℕ) → start ≤ end → end ≤ length all → slice_range (all ++ more) start end ≡ slice_range all start end
@@ -29,7 +28,7 @@ pub pushed : (all own all' : List Pattern) (os os' : List Outline) (o : Outline)
     → AllByRecursion (IsWithin (length all)) os → o.start ≡ length all → o.end ≡ length all'
     → map (outline_of all') os' ≡ map (outline_of all) os ++ record { closed = own; writes_traits = o.writes_traits; kills = o.kills } ∷ []
 pushed all own all' os os' o more last h start end =
-    (λ i. map (outline_of (more i)) (last i)) ∙ map_append (outline_of (all ++ own)) os (o ∷ [])
+    (λ i. map (outline_of (more i)) (last i)) ∙ map-append (outline_of (all ++ own)) os (o ∷ [])
     ∙ λ i. kept all own os h i ++ record {
       closed = ((λ j. slice_range (all ++ own) (start j) ((end ∙ ap length more) j)) ∙ own_part all own) i;
       writes_traits = o.writes_traits;

@@ -1,5 +1,5 @@
 -- Keys that are noted.
-use Rattle.std.specs.Prelude.{◌≡◌, Bool, true, ◌||◌, List, Option, Some, None}
+use Rattle.std.specs.Prelude.{◌≡◌, true, ◌||◌, List, Option, Some, None}
 use Rattle.std.specs.declared.cmp.Ordering.{Ordering}
 use Rattle.std.specs.Ordering.{eq_by_cmp}
 use Rattle.eco_ids.specs.declared.entity.Entity.{Entity}

@@ -1,20 +1,14 @@
 -- What is worked out of each system once, and when two clash.
-use Rattle.std.specs.Prelude.{◌≡◌, ℕ, Bool, false, true, not, ◌&&◌, ◌||◌, List, [], ◌∷◌, ◌++◌, map, slice_get, Option, Some, None}
+use Rattle.std.specs.Prelude.{◌≡◌, ℕ, Bool, false, ◌||◌, List, [], ◌∷◌, ◌++◌, map, slice_get, Option, Some, None}
 use Rattle.std.specs.List.{list_any}
-use Rattle.eco_ids.specs.declared.entity.Entity.{Entity}
-use Rattle.eco_ids.specs.declared.entity.TheConstants.{BUILTIN_COUNT, CHILD_OF}
-use Rattle.eco_ids.specs.declared.pattern.Part.{Part}
-use Rattle.eco_ids.specs.declared.pattern.Part.TheVariants.{Is, Each, Any}
 use Rattle.eco_ids.specs.declared.pattern.Pattern.{Pattern}
-use Rattle.eco_ids.specs.declared.pattern.Pattern.TheVariants.{One, Two}
-use Rattle.eco_ids.specs.Builtin.{is_among_first}
 use Rattle.eco_ids.specs.Matching.{pattern_overlaps}
-use Rattle.eco_ids.specs.Order.{entity_eq}
 use Rattle.eco_ids.specs.World as world
 use Rattle.eco_systems.specs.Batches.{joined, AreBatches}
 use Rattle.eco_systems.specs.Closing.{ListsClosed}
 use Rattle.eco_systems.specs.Phases.{in_order, order_of}
 use Rattle.eco_systems.specs.Systems.{SystemModel}
+use Rattle.eco_systems.specs.Writes.{writes_trait}
 use Rattle.eco_systems.specs.declared.phase.Phase.TheVariants.{OnLoad}
 use Rattle.eco_batches.specs.declared.declaration.Declared.{Declared}
 use Rattle.eco_batches.specs.OutlineModels.{OutlineModel}
@@ -54,27 +48,11 @@ system_at ds k = system_in (slice_get ds k)
 abbrev pub systems_of : List Declared → List SystemModel
 systems_of ds = map system_of ds
 
--- a built-in other than ChildOf
-abbrev pub is_trait : Entity → Bool
-is_trait e = is_among_first BUILTIN_COUNT e && not (entity_eq e CHILD_OF)
-
-abbrev pub is_trait_part : Part → Bool
-is_trait_part (Is e) = is_trait e
-is_trait_part Each = false
-is_trait_part Any = false
-
--- a trait is in the pattern, or the pattern is one of pairs of any relationship
-abbrev pub writes_trait : Pattern → Bool
-writes_trait (One e) = is_trait e
-writes_trait (Two Each q) = true
-writes_trait (Two Any q) = true
-writes_trait (Two (Is r) q) = is_trait r || is_trait_part q
-
 -- an outline is that of a system
 pub record IsOutline (w : WorldState) (d : Declared) (o : OutlineModel) : Type 0 where
   pub kills : o.kills ≡ d.kills
   pub closed : ListsClosed w d.writes.now o.closed
-  pub traits : o.writes_traits ≡ list_any writes_trait o.closed
+  pub traits : o.writes_traits ≡ list_any (writes_trait w.edition) o.closed
 
 -- the closed writes of a system
 abbrev pub closed_in : Option OutlineModel → List Pattern

@@ -89,8 +89,8 @@ impl Batch {
     /// Whether one of its systems can't be recorded on one world with a later one. `late` says that the later one or a system
     /// before it writes traits.
     pub fn clashes(&self, later: Option<&Declared>, late: bool) -> bool
-        ensures { (os : List OutlineModel) → IsOpen os self.now → result
-            ≡ list_any (λ s. clash_of (slice_get os s) (option_copied later.entry) late) self.now.places.items }
+        ensures { (os : List OutlineModel) → IsOpen os self.now → result ≡ list_any
+            (λ s. clash_of (slice_get os s) (option_copied later.entry) late) self.now.places.items }
     {
         self.has_clash(later, late)
     }

@@ -1,5 +1,5 @@
 //! What a system's writes bring with them.
-ghost use Rattle.std.specs.Prelude.{◌≡◌, ◌++◌, map, IfOk, IsFalse, OnOk};
+ghost use Rattle.std.specs.Prelude.{◌≡◌, ◌++◌, map, IsFalse, OnOk};
 ghost use Rattle.std.specs.List.{list_any};
 ghost use Rattle.eco_systems.specs.Closing.{ListsClosed, Among, head_of, with_head};
 ghost use Rattle.eco_systems.specs.Writes as writes;
@@ -95,6 +95,7 @@ fn add_closed<H: Holdings>(
 ) -> Result<(), AllocError>
     ensures { OnOk result (Among (H.world holdings.now) pattern closed.old.items closed.new.items) }
 {
+    eco_systems::laws::closed_writes_are_listed();
     let Some(head) = head_of(pattern) else {
         closed.push(pattern)?;
         return Ok(());
@@ -108,7 +109,7 @@ fn add_closed<H: Holdings>(
 
 /// Lists the closed writes of some patterns in the place of whatever the list has: each with what it brings by With (Flecs
 /// manual, Component Traits, "With"), pairs of an exclusive relationship widened to all its pairs. In no order, and some may
-/// come twice.
+/// come twice. `AllocError` comes where memory for them is refused.
 pub(crate) fn list_closed<H: Holdings>(
     alloc: Global,
     holdings: &H,
@@ -117,24 +118,10 @@ pub(crate) fn list_closed<H: Holdings>(
 ) -> Result<(), AllocError>
     ensures { OnOk result (ListsClosed (H.world holdings.now) writes.now closed.new.items) }
 {
+    eco_systems::laws::closed_writes_are_listed();
     closed.clear();
     for pattern in writes {
         add_closed(alloc, holdings, *pattern, closed)?;
     }
     Ok(())
-}
-
-/// The closed writes of some patterns: each with what it brings by With (Flecs manual, Component Traits, "With"), pairs of an
-/// exclusive relationship widened to all its pairs. In no order, and some may come twice. `AllocError` comes where memory for
-/// them is refused.
-pub fn closed_writes<H: Holdings>(
-    alloc: Global,
-    holdings: &H,
-    writes: &[Pattern],
-) -> Result<Vec<Pattern>, AllocError>
-    ensures { IfOk result (λ closed. ListsClosed (H.world holdings.now) writes.now closed.items) }
-{
-    let mut closed = Vec::new(alloc);
-    list_closed(alloc, holdings, writes, &mut closed)?;
-    Ok(closed)
 }

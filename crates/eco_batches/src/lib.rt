@@ -9,6 +9,5 @@ mod outline;
 mod sync;
 mod written;
 
-pub use closed::closed_writes;
 pub use declaration::Declared;
 pub use sync::sync_points;

@@ -1,6 +1,8 @@
 //! What is worked out of each system once.
 ghost use Rattle.std.specs.Prelude.{◌≡◌, ◌∷◌, ◌++◌, [], IfOk, OnOk, slice_get};
 ghost use Rattle.std.specs.List.{AllZip, list_any};
+ghost use Rattle.eco_ids.specs.declared.edition.Edition.TheVariants.{First};
+ghost use Rattle.eco_systems.specs.Writes as writes;
 ghost use Rattle.eco_batches.specs.Outlines as spec;
 ghost use Rattle.eco_batches.specs.Outlines.{IsOutline};
 
@@ -62,7 +64,7 @@ impl Outlines {
     fn push(&mut self, closed: &[Pattern], kills: bool) -> Result<(), AllocError>
         ensures { OnOk result (self.new ≡ self.old ++ record {
           closed = closed.now;
-          writes_traits = list_any spec.writes_trait closed.now;
+          writes_traits = list_any (writes.writes_trait First) closed.now;
           kills = kills;
         } ∷ []) }
     {
@@ -110,13 +112,13 @@ impl Outlines {
 
 // A built-in other than ChildOf.
 fn is_trait(entity: Entity) -> bool
-    ensures { result ≡ spec.is_trait entity }
+    ensures { result ≡ writes.is_trait First entity }
 {
     entity.is_among_first(BUILTIN_COUNT) && !entity.is(CHILD_OF)
 }
 
 fn is_trait_part(part: Part) -> bool
-    ensures { result ≡ spec.is_trait_part part }
+    ensures { result ≡ writes.is_trait_part First part }
 {
     match part {
         Part::Is(entity) => is_trait(entity),
@@ -126,7 +128,7 @@ fn is_trait_part(part: Part) -> bool
 
 // A trait is in the pattern, or the pattern is one of pairs of any relationship.
 fn writes_trait(pattern: Pattern) -> bool
-    ensures { result ≡ spec.writes_trait pattern }
+    ensures { result ≡ writes.writes_trait First pattern }
 {
     match pattern {
         Pattern::One(entity) => is_trait(entity),
@@ -138,7 +140,7 @@ fn writes_trait(pattern: Pattern) -> bool
 }
 
 fn writes_some_trait(closed: &[Pattern]) -> bool
-    ensures { result ≡ list_any spec.writes_trait closed.now }
+    ensures { result ≡ list_any (writes.writes_trait First) closed.now }
 {
     closed.iter().any(|pattern| writes_trait(*pattern))
 }

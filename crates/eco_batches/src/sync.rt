@@ -83,6 +83,8 @@ fn cut<H: Holdings>(
     ensures { IfOk result (λ batches. ArePlacedBatches (H.world holdings.now) systems.now
         (map (λ b. b.items) batches.items)) }
 {
+    eco_systems::laws::systems_are_ordered();
+    eco_systems::laws::batches_are_unique();
     if order.is_empty() {
         return Ok(Vec::new(alloc));
     }

@@ -1,5 +1,6 @@
 -- What a root, or a table that falls, leads to.
-use Rattle.std.proofs.Common.{◌≡◌, ℕ, zero, suc, ◌+◌, ◌<◌, get_or, length, take, Bool, true, false, cond, not, nat_eq, nat_lt, ◌&&◌, ◌||◌, ◌↔◌, ◌⊎◌, inl, inr, List, [], ◌∷◌, ◌++◌, map, filter, flat_map, Option, Some, None}
+use Rattle.std.proofs.Common.{◌≡◌, ℕ, zero, suc, ◌+◌, ◌<◌, get_or, length, take, Bool, true, false, cond, not, nat_eq, nat_lt, ◌&&◌, ◌||◌, ◌↔◌, ◌⊎◌, inl, inr}
+use Rattle.std.proofs.Common.{List, [], ◌∷◌, ◌++◌, map, filter, flat_map, Option, Some, None}
 use Rattle.std.proofs.Common.{unwrap_or, option_map, is_some, refl, sym, ap, ◌∙◌, subst, true≢false, IsTrue, arith}
 use Rattle.std.proofs.Math.Bool.{or-false}
 use Rattle.std.proofs.Math.Seq.{take-suc}
@@ -24,7 +25,8 @@ use Rattle.eco_tables.specs.Table.{TableState, entities_of}
 use Rattle.eco_tables.specs.Tables.{no_table, slot_of, table_in}
 use Rattle.eco_archetypes.specs.Archetypes.{is_found, is_found_by, type_at, type_matches}
 use Rattle.eco_archetypes.specs.TypeTests.{names_any}
-use Rattle.eco_cleanup.specs.Nodes.{Appends, AreStarts, all_nodes, falls, has_rows, is_named, is_one_of, leads, named_node, nodes_at, nodes_from, touches, touches_by}
+use Rattle.eco_cleanup.specs.Nodes.{Appends, AreStarts, all_nodes, falls, has_rows, is_named, is_one_of, leads, named_node, nodes_at, nodes_from, touches}
+use Rattle.eco_cleanup.specs.Nodes.{touches_by}
 use Rattle.eco_cleanup.specs.declared.node.Node.{Node}
 use Rattle.eco_cleanup.specs.declared.node.Node.TheVariants.{Root, Falling, Named}
 use Rattle.eco_cleanup.specs.contracts.node.NodePartialEq.TheImpl as node_impl
@@ -236,10 +238,12 @@ module _ (w : WorldState) (slots : List (Option TableState)) (m : Entity) where
 
   -- those of all three patterns are all that are touched
   both_ways : (n : ℕ) (f : Bool)
-      → (((is_found (One m) (slot_of slots n) && f) || (is_found (Two (Is m) Any) (slot_of slots n) && f)) || (is_found (Two Any (Is m)) (slot_of slots n) && f))
+      → (((is_found (One m) (slot_of slots n) && f) || (is_found (Two (Is m) Any) (slot_of slots n) && f))
+      || (is_found (Two Any (Is m)) (slot_of slots n) && f))
       ≡ (is_named slots m n && f)
   both_ways n f =
-      ap (λ t. t || (is_found (Two Any (Is m)) (slot_of slots n) && f)) (spread (is_found (One m) (slot_of slots n)) (is_found (Two (Is m) Any) (slot_of slots n)) f)
+      ap (λ t. t || (is_found (Two Any (Is m)) (slot_of slots n) && f))
+      (spread (is_found (One m) (slot_of slots n)) (is_found (Two (Is m) Any) (slot_of slots n)) f)
       ∙ spread (is_found (One m) (slot_of slots n) || is_found (Two (Is m) Any) (slot_of slots n)) (is_found (Two Any (Is m)) (slot_of slots n)) f
       ∙ ap (λ t. t && f) (sym (found_three m (slot_of slots n)))
 

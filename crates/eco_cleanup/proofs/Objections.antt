@@ -89,13 +89,15 @@ module _ (w : WorldState) (dead : List Entity) where
   outside_first es =
       first_alike entity_cmp_total (λ e. false || list_any (λ x. one_stays x e) es) (stays_of es)
       (λ e. spread_right (not (has_item entity_cmp dead e)) (λ x. entity_eq x e) es) (first_outside dead es)
-      (fold_first entity_cmp_total (λ one e. former entity_cmp one (counted e (not (has_item entity_cmp dead e)))) one_stays step (λ e. false) None es (λ e. refl))
+      (fold_first entity_cmp_total (λ one e. former entity_cmp one (counted e (not (has_item entity_cmp dead e))))
+      one_stays step (λ e. false) None es (λ e. refl))
     where
       step : (p : Entity → Bool) (one : Option Entity) (x : Entity) → IsFirst entity_cmp_total p one
           → IsFirst entity_cmp_total (λ e. p e || one_stays x e) (former entity_cmp one (counted x (not (has_item entity_cmp dead x))))
       step p one x f =
           former_first entity_cmp_total p (one_stays x) one (counted x (not (has_item entity_cmp dead x))) f
-          (counted_first entity_cmp_total (one_stays x) x (not (has_item entity_cmp dead x)) (ap (λ t. t && not (has_item entity_cmp dead x)) (entity_eq_itself x))
+          (counted_first entity_cmp_total (one_stays x) x (not (has_item entity_cmp dead x))
+          (ap (λ t. t && not (has_item entity_cmp dead x)) (entity_eq_itself x))
           (λ b h. sym (entity_eq_is x b (first (entity_eq x b) (not (has_item entity_cmp dead b)) h))))
 
   -- ---- objections

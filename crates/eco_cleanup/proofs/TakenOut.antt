@@ -1,21 +1,20 @@
 -- Entities die, and ids go from the types of the others.
-use Rattle.std.proofs.Common.{◌≡◌, ◌≢◌, ℕ, zero, suc, ◌+◌, ◌<◌, Bool, true, false, true≢false, cond, not, ◌||◌, ◌&&◌, T, List, [], ◌∷◌, map, filter, fold}
-use Rattle.std.proofs.Common.{length, get_or, slice_get, Some, None, unwrap_or, nat_lt, IsTrue, IsFalse, refl, sym, ap, ◌∙◌, subst, arith, is_eq, is_lt, Less}
-use Rattle.std.proofs.Common.{Equal, Greater}
-use Rattle.std.specs.List.{All, Contains, list_all, list_any}
-use Rattle.std.specs.FinMap.Entries.{find, where_key, is_sorted, below_all}
+use Rattle.std.proofs.Common.{◌≡◌, ◌≢◌, ℕ, zero, suc, ◌+◌, ◌<◌, Bool, true, false, true≢false, cond, not, ◌||◌, T, List, [], ◌∷◌, map, filter, fold}
+use Rattle.std.proofs.Common.{length, get_or, slice_get, Some, unwrap_or, nat_lt, IsTrue, IsFalse, refl, sym, ap, ◌∙◌, arith}
+use Rattle.std.specs.List.{All, Contains, list_any}
+use Rattle.std.specs.FinMap.Entries.{find, where_key, is_sorted}
 use Rattle.std.proofs.lemmas.List.Elements.{All-contains, All-head, All-map, All-tail}
-use Rattle.std.proofs.lemmas.Option.{none-some}
 use Rattle.eco_ids.specs.declared.entity.Entity.{Entity}
 use Rattle.eco_ids.specs.declared.id.Id.{Id}
 use Rattle.eco_ids.specs.declared.value.Value.{Value}
 use Rattle.eco_ids.specs.Indices.{Indexed, IndexState, Retired, Free, Living, map_from, map_state, raised, record_of}
 use Rattle.eco_ids.specs.Losses.{keeping, left_at}
-use Rattle.eco_ids.specs.Order.{has_item, id_cmp, id_eq, is_ascending}
+use Rattle.eco_ids.specs.Order.{has_item, id_cmp, is_ascending}
 use Rattle.eco_ids.specs.World.{Record, zeros}
 use Rattle.eco_ids.proofs.Ascending.{first_T, second_T}
+use Rattle.eco_ids.proofs.Entries.{apart, sorted_is}
 use Rattle.eco_ids.proofs.Exact.{keys, keys_find}
-use Rattle.eco_ids.proofs.Facts.{id_eq_is, id_eq_itself, to_T}
+use Rattle.eco_ids.proofs.Facts.{id_eq_itself, to_T}
 use Rattle.eco_ids.proofs.Losses.{keeps_all}
 use Rattle.eco_ids.proofs.SameIds.{same_ids-Decides}
 use Rattle.eco_ids.proofs.States.{record_at}
@@ -32,22 +31,6 @@ abbrev Held : Type 0
 Held = List (Id × Value)
 
 -- ---- values under some of their ids
-
-none_below : (i : Id) (held : Held) → T (below_all id_cmp i held) → find id_cmp i held ≡ None
-none_below i [] below = refl
-none_below i (p ∷ held) below =
-    elim (id_cmp i p.0) as (λ o. T (is_lt o && below_all id_cmp i held) → cond (is_eq o) (Some p.1) (find id_cmp i held) ≡ None) [
-      | Less ↦ λ rest. none_below i held rest
-      | Equal ↦ λ no_case. absurd no_case
-      | Greater ↦ λ no_case. absurd no_case
-    ] below
-
-apart : (i : Id) (p : Id × Value) (held : Held) (v : Value) → T (below_all id_cmp p.0 held) → find id_cmp i held ≡ Some v → id_eq i p.0 ≡ false
-apart i p held v below at = by (id_eq i p.0) refl
-  where
-    by : (b : Bool) → id_eq i p.0 ≡ b → b ≡ false
-    by true e = absurd (none-some v (sym (none_below i held (subst (λ j. T (below_all id_cmp j held)) (sym (id_eq_is i p.0 e)) below)) ∙ at))
-    by false e = refl
 
 -- what has the old values is the old under its own ids
 retyped_part : (test : Id → Bool) (part old : Held) → T (is_sorted id_cmp part) → ((i : Id) (v : Value) → find id_cmp i part ≡ Some v → value_in old i ≡ v)
@@ -66,15 +49,6 @@ retyped_part test (p ∷ part) old up values =
 ids_retyped : (ids : List Id) (held : Held) → keys (retyped ids held) ≡ ids
 ids_retyped [] held = refl
 ids_retyped (i ∷ ids) held = ap (λ xs. i ∷ xs) (ids_retyped ids held)
-
--- ids ascend as what is held under them does
-below_same : (i : Id) (held : Held) → below_all id_cmp i held ≡ list_all (λ j. is_lt (id_cmp i j)) (keys held)
-below_same i [] = refl
-below_same i (p ∷ held) = ap (λ b. is_lt (id_cmp i p.0) && b) (below_same i held)
-
-sorted_same : (held : Held) → is_sorted id_cmp held ≡ is_ascending id_cmp (keys held)
-sorted_same [] = refl
-sorted_same (p ∷ held) = λ t. below_same p.0 held t && sorted_same held t
 
 -- ---- one record
 
@@ -222,6 +196,6 @@ all_left v dies goes cs takes =
             let among = takes.all e r at lives some in
             having goes cs r takes.each among
             ∙ ap (λ held. record r { held = held })
-            (retyped_part (λ i. not (goes i)) r.held r.held (to_T (is_sorted id_cmp r.held) (sorted_same r.held ∙ ascending r among))
+            (retyped_part (λ i. not (goes i)) r.held r.held (to_T (is_sorted id_cmp r.held) (sorted_is r.held ∙ ascending r among))
             (λ i v found. ap (λ o. unwrap_or o zeros) found))
         by false none = lacking goes cs r takes.each none ∙ none_goes goes r none

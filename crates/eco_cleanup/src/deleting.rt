@@ -73,8 +73,8 @@ pub fn carry_out(
 
 // What the delete does, unless a policy forbids it.
 fn plan_delete(alloc: Global, store: &Store, roots: &[Entity]) -> Result<Plan, Refusal>
-    ensures planned { IfOk result (λ p.
-        IsPlan store.now.entities (λ x. IsTrue (has_item entity_cmp roots.now x)) p.dead.items p.changes.items) }
+    ensures planned { IfOk result (λ p. IsPlan store.now.entities
+        (λ x. IsTrue (has_item entity_cmp roots.now x)) p.dead.items p.changes.items) }
     ensures judged { (members : List EntityData)
         → IsDoomedList (world_of store.now.entities) (λ x. IsTrue (has_item entity_cmp roots.now x)) members
         → Answers (world_of store.now.entities) members result }
@@ -101,7 +101,8 @@ fn nodes_of(alloc: Global, entities: &[Entity]) -> Result<Vec<Node>, AllocError>
 // What the delete of all who have such an id does, unless a policy forbids it.
 fn plan_delete_with(alloc: Global, store: &Store, pattern: Pattern) -> Result<Plan, Refusal>
     ensures planned { IfOk result (λ p. IsPlan store.now.entities
-        (λ x. IsTrue (has_item entity_cmp (entities_with store.now.entities pattern) x)) p.dead.items p.changes.items) }
+        (λ x. IsTrue (has_item entity_cmp (entities_with store.now.entities pattern) x))
+        p.dead.items p.changes.items) }
     ensures judged { (members : List EntityData)
         → IsDoomedList (world_of store.now.entities)
         (λ x. IsTrue (has_item entity_cmp (entities_with store.now.entities pattern) x)) members

@@ -25,8 +25,8 @@ impl Ties<'_> {
     pub fn judge(&self, alloc: Global, starts: &[Node]) -> Result<Doomed, Refusal>
         requires shown { IsShown self.now.store.now.entities self.now.places }
         requires starts { AreStarts starts.now }
-        ensures searched { IfOk result (λ d. IsSearch (world_of self.now.store.now.entities) self.now.places starts.now
-            d.nodes.keys) }
+        ensures searched { IfOk result (λ d. IsSearch (world_of self.now.store.now.entities)
+            self.now.places starts.now d.nodes.keys) }
         ensures judged { (members : List EntityData)
             → IsDoomedList (world_of self.now.store.now.entities)
             (λ x. IsTrue (has_item entity_cmp (taken_among self.now.places starts.now) x)) members
@@ -45,7 +45,8 @@ impl Ties<'_> {
     /// The least objection to the deaths that were found: of the least holder, and for it of the least member. Each table
     /// that names one who dies and does not fall is judged once. It takes no memory.
     pub fn first_objection(&self, doomed: &Doomed) -> Option<Objection>
-        ensures { result ≡ first_objection (world_of self.now.store.now.entities) self.now.places doomed.now.nodes.keys }
+        ensures { result ≡ first_objection (world_of self.now.store.now.entities)
+            self.now.places doomed.now.nodes.keys }
     {
         let mut first = None;
         for node in doomed.nodes.as_slice() {
@@ -55,7 +56,8 @@ impl Ties<'_> {
     }
 
     fn objection_of(&self, doomed: &Doomed, node: Node) -> Option<Objection>
-        ensures { result ≡ objection_of (world_of self.now.store.now.entities) self.now.places doomed.now.nodes.keys node }
+        ensures { result ≡ objection_of (world_of self.now.store.now.entities)
+            self.now.places doomed.now.nodes.keys node }
     {
         match node {
             Node::Named(slot) if !doomed.falls(slot) => {

@@ -30,7 +30,8 @@ impl Ties<'_> {
         requires shown { IsShown self.now.store.now.entities self.now.places }
         requires starts { AreStarts starts.now }
         ensures planned { IfOk result (λ p. IsPlan self.now.store.now.entities
-            (λ x. IsTrue (has_item entity_cmp (taken_among self.now.places starts.now) x)) p.dead.items p.changes.items) }
+            (λ x. IsTrue (has_item entity_cmp (taken_among self.now.places starts.now) x))
+            p.dead.items p.changes.items) }
         ensures judged { (members : List EntityData)
             → IsDoomedList (world_of self.now.store.now.entities)
             (λ x. IsTrue (has_item entity_cmp (taken_among self.now.places starts.now) x)) members
@@ -128,7 +129,8 @@ impl Ties<'_> {
 
     // The list without the ids that name one who dies.
     fn spared(&self, doomed: &Doomed, ids: &TypeList) -> Result<TypeList, AllocError>
-        ensures spared { IfOk result (λ t. t ≡ spared (taken_among self.now.places doomed.now.nodes.keys) ids.now) }
+        ensures spared { IfOk result (λ t.
+            t ≡ spared (taken_among self.now.places doomed.now.nodes.keys) ids.now) }
         ensures ascending { IfOk result (λ t. IsTrue (is_ascending id_cmp ids.now)) }
     {
         let mut kept = ids.try_copy()?;

@@ -48,7 +48,8 @@ impl Graph for Ties<'_> {
 impl Ties<'_> {
     /// All that deaths by these nodes lead to.
     pub fn search(&self, alloc: Global, starts: &[Node]) -> Result<Doomed, AllocError>
-        ensures { IfOk result (λ d. IsSearch (world_of self.now.store.now.entities) self.now.places starts.now d.nodes.keys) }
+        ensures { IfOk result (λ d. IsSearch (world_of self.now.store.now.entities)
+            self.now.places starts.now d.nodes.keys) }
     {
         let nodes = least_set(alloc, self, starts)?;
         Ok(Doomed { nodes })
@@ -77,7 +78,8 @@ impl Ties<'_> {
         pattern: Pattern,
         found: &mut Vec<Node>,
     ) -> Result<(), AllocError>
-        ensures { OnOk result (Appends (touches_by (world_of self.now.store.now.entities) self.now.places member pattern)
+        ensures { OnOk result (Appends
+            (touches_by (world_of self.now.store.now.entities) self.now.places member pattern)
             found.old.items found.new.items) }
     {
         for slot in self.places.archetypes().listed(pattern) {

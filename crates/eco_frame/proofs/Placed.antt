@@ -4,33 +4,30 @@ use Rattle.std.proofs.Common.{◌++◌, Some, refl, sym, ap, ◌∙◌, map, if�
 use Rattle.std.proofs.Common.{slice_get, unwrap_or}
 use Rattle.std.specs.Prelude.{flat_map}
 use Rattle.std.specs.List.{AllZip}
+use Rattle.std.proofs.lemmas.List.{map-append}
 use Rattle.eco_ids.specs.World.{WorldState}
+use Rattle.eco_ids.proofs.Further.{found_at}
 use Rattle.eco_systems.specs.Batches.{joined}
+use Rattle.eco_systems.specs.Laws.{OrderHasSystems}
 use Rattle.eco_systems.specs.Phases.{in_order, order_of, phases, positions_from, rank}
 use Rattle.eco_systems.specs.Systems.{SystemModel}
 use Rattle.eco_systems.specs.declared.phase.Phase.{Phase}
-use Rattle.eco_systems.proofs.Lists.{map_append}
-use Rattle.eco_systems.proofs.Orders.{order_is_of_positions}
 use Rattle.eco_batches.specs.Outlines.{ArePlacedBatches, system_at, system_of, systems_of}
 use Rattle.eco_batches.specs.declared.declaration.Declared.{Declared}
 use Rattle.eco_frame.specs.Models.{ArePlaced, Declares, model_at}
 use Rattle.eco_frame.proofs.Alike.{Alike, Same, same_batches}
 
-map_itself : (xs : List SystemModel) → map (λ s. s) xs ≡ xs
-map_itself [] = refl
-map_itself (x ∷ xs) = ap (λ l. x ∷ l) (map_itself xs)
-
 joined_map : (at : ℕ → SystemModel) (places : List (List ℕ)) → map at (joined places) ≡ joined (map (map at) places)
 joined_map at [] = refl
-joined_map at (p ∷ ps) = map_append at p (joined ps) ∙ ap (λ l. map at p ++ l) (joined_map at ps)
+joined_map at (p ∷ ps) = map-append at p (joined ps) ∙ ap (λ l. map at p ++ l) (joined_map at ps)
 
 model_there : (systems : List SystemModel) (k : ℕ) (s : SystemModel) → slice_get systems k ≡ Some s → model_at systems k ≡ s
 model_there systems k s h = ap (λ o. unwrap_or o (model_at [] 0)) h
 
-whole : (systems : List SystemModel) (places : List (List ℕ)) → joined places ≡ order_of systems
+whole : OrderHasSystems → (systems : List SystemModel) (places : List (List ℕ)) → joined places ≡ order_of systems
     → in_order systems ≡ joined (map (map (model_at systems)) places)
-whole systems places h =
-    sym (map_itself (in_order systems)) ∙ sym (order_is_of_positions (model_at systems) (λ s. s) systems (model_there systems))
+whole has systems places h =
+    sym (found_at (slice_get systems) (model_at systems) (model_there systems) (order_of systems) (in_order systems) (has systems))
     ∙ ap (map (model_at systems)) (sym h) ∙ joined_map (model_at systems) places
 
 same_of : (s : SystemModel) (d : Declared) → Declares s d → Same (system_of d) s
@@ -70,12 +67,12 @@ module _ (at others : ℕ → SystemModel) (same : (k : ℕ) → Same (at k) (ot
   all_alike (p ∷ ps) = (alike p, all_alike ps)
 
 -- the batches of what some systems declare are theirs
-pub placed : (w : WorldState) (ss : List SystemModel) (ds : List Declared) (places : List (List ℕ)) → AllZip Declares ss ds
+pub placed : OrderHasSystems → (w : WorldState) (ss : List SystemModel) (ds : List Declared) (places : List (List ℕ)) → AllZip Declares ss ds
     → ArePlacedBatches w ds places → ArePlaced w ss places
-placed w ss ds places h p =
+placed has w ss ds places h p =
     let order = p.0 ∙ orders ss ds h in (
       order,
-      same_batches w (in_order (systems_of ds)) (in_order ss) _ _ (whole ss places order)
+      same_batches w (in_order (systems_of ds)) (in_order ss) _ _ (whole has ss places order)
           (all_alike (system_at ds) (model_at ss) (same_at ss ds h) places) p.1,
     )
 
@@ -86,6 +83,6 @@ zip_map f (x ∷ xs) [] h = absurd h
 zip_map f (x ∷ xs) (d ∷ ds) h = (h.0, zip_map f xs ds h.1)
 
 -- the same of things that stand for systems
-pub placed_of : {A : Type 0} (f : A → SystemModel) (w : WorldState) (xs : List A) (ds : List Declared) (places : List (List ℕ))
+pub placed_of : OrderHasSystems → {A : Type 0} (f : A → SystemModel) (w : WorldState) (xs : List A) (ds : List Declared) (places : List (List ℕ))
     → AllZip (λ s d. Declares (f s) d) xs ds → ArePlacedBatches w ds places → ArePlaced w (map f xs) places
-placed_of f w xs ds places h = placed w (map f xs) ds places (zip_map f xs ds h)
+placed_of has f w xs ds places h = placed has w (map f xs) ds places (zip_map f xs ds h)

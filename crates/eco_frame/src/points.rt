@@ -49,6 +49,7 @@ pub fn sync_points<H: Holdings, B: SystemBody + Drop>(
         (map (model_of B.reads_of B.writes_of B.kills_of B.taken B.commands) systems.now)
         (map (λ b. b.items) batches.items)) }
 {
+    eco_systems::laws::systems_are_ordered();
     let declared = declarations(alloc, systems.as_slice())?;
     eco_batches::sync_points(alloc, holdings, &declared)
 }

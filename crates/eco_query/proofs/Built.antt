@@ -7,7 +7,6 @@ use Rattle.eco_ids.specs.declared.id.Id.{Id}
 use Rattle.eco_ids.specs.declared.refusal.Refusal.{Refusal}
 use Rattle.std.proofs.Common.{drop-cons}
 use Rattle.eco_ids.specs.Terms as terms
-use Rattle.eco_ids.specs.Terms.{QueryTerm}
 use Rattle.eco_query.specs.Grammar.{WrittenAtom, alternatives, WrittenSlot, IsProperAtom}
 use Rattle.eco_query.specs.Reader.Machine.{body_of}
 use Rattle.eco_query.specs.Reader.Points.{atom_view, is_bare_head}

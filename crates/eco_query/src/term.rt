@@ -89,8 +89,8 @@ impl Term {
         })
     }
 
-    // Puts the patterns that it reads behind others.
-    pub(crate) fn add_patterns(&self, patterns: &mut Vec<Pattern>) -> Result<(), AllocError>
+    /// Puts the patterns that it reads behind others. `AllocError` comes where memory for them is refused.
+    pub fn add_patterns(&self, patterns: &mut Vec<Pattern>) -> Result<(), AllocError>
         ensures { OnOk result (patterns.new.items
             ≡ patterns.old.items ++ patterns_of (term_view self.now)) }
     {

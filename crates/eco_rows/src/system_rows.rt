@@ -93,7 +93,8 @@ impl<'a> SystemRows<'a> {
         end: usize,
     ) -> Result<Vec<WorldRow<'_>>, AllocError>
         requires { (first ≤ end) × (end ≤ length self.now) }
-        ensures all { IfOk result (λ rows. map world_row rows.items ≡ take (end - first) (drop first self.now)) }
+        ensures all { IfOk result (λ rows.
+            map world_row rows.items ≡ take (end - first) (drop first self.now)) }
         ensures some { OnErr result (first < end) }
     {
         let mut rows = Vec::with_capacity(alloc, end - first)?;

@@ -1,5 +1,5 @@
 -- Systems that are declared, and frames of them.
-use Rattle.std.proofs.Common.{◌≡◌, ℕ, Bool, false, List, [], ◌∷◌, ◌++◌, map, Option, Some, None, Result, Ok, Err, IfOk, IfErr, IsOkAnd, MatchOption}
+use Rattle.std.proofs.Common.{◌≡◌, ℕ, Bool, List, [], ◌∷◌, ◌++◌, map, Option, Some, None, Result, Ok, Err, IfOk, IfErr, IsOkAnd, MatchOption}
 use Rattle.std.proofs.Common.{IsFalse, refl, ap, subst, true≢false, ◌∙◌, ◌||◌, not, inl, string_bytes}
 use Rattle.std.specs.Bool.{⊤}
 use Rattle.std.specs.List.{list_any}

@@ -29,7 +29,8 @@ use Rattle.eco_query.specs.Readings.{ReadsAll, entity_at, id_of, query_of}
 use Rattle.eco_frame.specs.declared.stop.FrameStop.{FrameStop}
 use Rattle.eco_script.specs.States.{ScriptState}
 use Rattle.eco_script.specs.References.{ReadsEntity, ReadsId, ReadsQuery}
-use Rattle.eco_script.specs.Replies.{Reply, truth, got, shown, listed, found, merged, stopped, replied, AnswersAdded, Calls, On, OnEntity, OnId, OnQuery, Replies, StepReplies}
+use Rattle.eco_script.specs.Replies.{Reply, truth, got, shown, listed, found, merged, stopped, replied, AnswersAdded, Calls, On, OnEntity, OnId, OnQuery}
+use Rattle.eco_script.specs.Replies.{Replies, StepReplies}
 use Rattle.eco_steps.specs.Steps as step
 use Rattle.eco_script.specs.Text.{Does, step_lines}
 use Rattle.eco_script.specs.Values.{shown_value}

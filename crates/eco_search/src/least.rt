@@ -20,7 +20,8 @@ pub trait Graph {
     /// Appends whatever the node leads to, in any order, all of it known. `AllocError` comes where no memory is to be had
     /// for it.
     fn append_next(&self, node: Self::Node, found: &mut Vec<Self::Node>) -> Result<(), AllocError>
-        ensures exact { OnOk result (Appends Self.Node.eq (leads self.now node) found.old.items found.new.items) }
+        ensures exact { OnOk result (Appends Self.Node.eq (leads self.now node)
+            found.old.items found.new.items) }
         ensures within { Covers Self.Node.eq (nodes self.now) (leads self.now node) };
 
     ghost same: { (a b : Self.Node) → Self.Node.eq a b ≡ true → a ≡ b };

@@ -9,7 +9,8 @@ use Rattle.eco_ids.specs.declared.value.TheConstants.{LARGEST_ARITY}
 use Rattle.eco_ids.specs.declared.value.Value.{Value}
 use Rattle.eco_steps.specs.Decode.{list_in, each_in, name_in, number_in, value_in, step_of_none}
 use Rattle.eco_steps.specs.Decode.{step_of_one, step_of_text, step_of_texts, step_of_two, step_of_three, step_of, words_in}
-use Rattle.eco_steps.specs.Decode.{alone_in, command_of, command_in, stage_in, stages_in, merge_of, phase_of, actions_in, system_with, system_of, step_with, step_in, parts_of, parts_in, script_of, script_in}
+use Rattle.eco_steps.specs.Decode.{alone_in, command_of, command_in, stage_in, stages_in, merge_of, phase_of, actions_in, system_with, system_of, step_with}
+use Rattle.eco_steps.specs.Decode.{step_in, parts_of, parts_in, script_of, script_in}
 use Rattle.eco_steps.specs.Script.{Script, IsScriptData, IsScript}
 use Rattle.eco_steps.specs.Steps.{Step, create, component, add, remove, set, clear, remove_all, delete, delete_with, rename, has, get, show, list, query}
 use Rattle.eco_steps.specs.Steps.{cache, cached, merge, system, frame, phase_word}

@@ -32,7 +32,8 @@ fn read_parts(value: &Value) -> Option<(u32, &[Value])>
 // The steps of a list, if each item is one.
 fn read_steps(alloc: Global, values: &[Value]) -> Result<Vec<Step<'_>>, ReadError>
     ensures ok { IfOk result (λ v. each_in step_in (map view values.now) ≡ Some (map step_view v.items)) }
-    ensures not_a_script { IsErrOf result ReadError.NotAScript → each_in step_in (map view values.now) ≡ None }
+    ensures not_a_script { IsErrOf result ReadError.NotAScript
+        → each_in step_in (map view values.now) ≡ None }
 {
     let mut steps = Vec::with_capacity(alloc, values.len())?;
     for value in values {

@@ -68,7 +68,8 @@ fn kill_all(
         ≡ after_deaths (read entities.old archetypes.old) (has_item entity_cmp dead.now) }
     ensures ready { IsReady archetypes.new prepared.new }
     ensures tidy { RowlessIn archetypes.new (staying prepared.new) }
-    ensures same { prepared.new ≡ record prepared.old { gathered = prepared.new.gathered; idle = prepared.new.idle } }
+    ensures same { prepared.new
+        ≡ record prepared.old { gathered = prepared.new.gathered; idle = prepared.new.idle } }
     ensures left { moves_of archetypes.new prepared.new ≡ moves_of archetypes.old prepared.old }
     ensures thins { Thins archetypes.old archetypes.new prepared.old.targets }
 {

@@ -52,9 +52,12 @@ impl<'a> Places<'a> {
     /// The slot of the table in which the entity stands; none, where it doesn't live. It takes no memory.
     #[inline]
     pub fn slot_of(&self, entity: Entity) -> Option<usize>
-        ensures some { IfSome result (λ n. (row : ℕ) × (r : Row) × (row_at self.now n row ≡ Some r) × (r.entity ≡ entity)) }
-        ensures only { IfSome result (λ n. (m row : ℕ) (r : Row) → row_at self.now m row ≡ Some r → r.entity ≡ entity → m ≡ n) }
-        ensures none { IfNone result ((n row : ℕ) (r : Row) → row_at self.now n row ≡ Some r → r.entity ≢ entity) }
+        ensures some { IfSome result (λ n.
+            (row : ℕ) × (r : Row) × (row_at self.now n row ≡ Some r) × (r.entity ≡ entity)) }
+        ensures only { IfSome result (λ n.
+            (m row : ℕ) (r : Row) → row_at self.now m row ≡ Some r → r.entity ≡ entity → m ≡ n) }
+        ensures none { IfNone result
+            ((n row : ℕ) (r : Row) → row_at self.now n row ≡ Some r → r.entity ≢ entity) }
     {
         let place = self.entities.place_of(entity)?;
         Some(place.table)

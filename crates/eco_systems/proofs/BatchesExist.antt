@@ -1,6 +1,8 @@
 -- A lawful world has batches: its closed writes can be listed, so that what conflicts is decided.
-use Rattle.std.proofs.Common.{◌≡◌, Bool, ◌||◌, ◌↔◌, ◌⊎◌, inl, inr, List, [], ◌∷◌, ◌++◌, map, refl, sym, ap, subst, true≢false, IsTrue, Option, Some, None}
+use Rattle.std.proofs.Common.{◌≡◌, Bool, ◌||◌, ◌↔◌, ◌⊎◌, inl, inr, List, [], ◌∷◌, ◌++◌, map, refl, sym, subst, true≢false, IsTrue, Option, Some, None}
 use Rattle.std.specs.List.{list_any}
+use Rattle.std.proofs.lemmas.Bool.Decides.{Decides-or}
+use Rattle.std.proofs.lemmas.List.{map-id}
 use Rattle.eco_ids.specs.declared.entity.Entity.{Entity}
 use Rattle.eco_ids.specs.declared.entity.TheConstants.{WITH}
 use Rattle.eco_ids.specs.declared.id.Id.TheVariants as id
@@ -23,11 +25,6 @@ use Rattle.eco_systems.specs.Systems.{SystemModel, system_reads}
 use Rattle.eco_systems.specs.Writes.{IsTraitWriter, SomeOf, widened, writes_trait}
 use Rattle.eco_systems.proofs.ClosedLists.{among_reached, among_wild, lists_none, passes_left, passes_parts, passes_right}
 use Rattle.eco_systems.proofs.JoinedOneByOne.{batched_are_batches}
-use Rattle.eco_systems.proofs.Lists.{either}
-
-pub map_itself : {A : Type 0} (xs : List A) → map (λ x. x) xs ≡ xs
-map_itself [] = refl
-map_itself (x ∷ xs) = ap (λ ys. x ∷ ys) (map_itself xs)
 
 module _ (w : WorldState) (l : IsLawful w) where
   -- With leads to the living, but for where it begins
@@ -47,11 +44,10 @@ module _ (w : WorldState) (l : IsLawful w) where
   closed_more p old = by (head_of p) refl
     where
       by : (o : Option Entity) → head_of p ≡ o → (new : List Pattern) × Among w p old new
-      by None at = (old ++ p ∷ [], among_wild w p at old (old ++ p ∷ []) refl)
+      by None at = (old ++ p ∷ [], among_wild w p old at)
       by (Some h) at =
           let xs = heads h in
-          let new : List Pattern = old ++ map (λ x. widened w (with_head p x)) xs.0 in
-          (new, among_reached w p h at xs.0 xs.1 old new refl)
+          (old ++ map (λ x. widened w (with_head p x)) xs.0, among_reached w p h xs.0 old at xs.1)
 
   closed_list : (writes : List Pattern) → (closed : List Pattern) × ListsClosed w writes closed
   closed_list [] = ([], lists_none w)
@@ -76,7 +72,7 @@ module _ (w : WorldState) (l : IsLawful w) where
   -- ---- what conflicts, as a test
 
   abbrev writes_some : SystemModel → Bool
-  writes_some s = list_any (writes_trait w) (closed_list s.writes).0
+  writes_some s = list_any (writes_trait w.edition) (closed_list s.writes).0
 
   abbrev disturbs : SystemModel → SystemModel → Bool
   disturbs s t = list_any (λ p. list_any (pattern_overlaps p) (system_reads t)) (closed_list s.writes).0
@@ -86,20 +82,20 @@ module _ (w : WorldState) (l : IsLawful w) where
 
   some_writes : (ss : List SystemModel) → IsTrue (list_any writes_some ss) ↔ SomeOf (IsTraitWriter w) ss
   some_writes [] = (λ t. absurd (true≢false (sym t)), λ x. absurd x)
-  some_writes (s ∷ ss) = either (writes_some s) (list_any writes_some ss) ((closed_list s.writes).1 (writes_trait w)) (some_writes ss)
+  some_writes (s ∷ ss) = Decides-or (writes_some s) (list_any writes_some ss) ((closed_list s.writes).1 (writes_trait w.edition)) (some_writes ss)
 
   clash_exact : (before : List SystemModel) (s t : SystemModel) → IsTrue (clash before s t) ↔ Conflict w (map (λ x. x) before ++ t ∷ []) s t
   clash_exact before s t =
-      subst (λ xs. IsTrue (clash before s t) ↔ Conflict w (xs ++ t ∷ []) s t) (sym (map_itself before))
-      (either s.kills (t.kills || (list_any writes_some (before ++ t ∷ []) || disturbs s t)) (λ k. k, λ k. k)
-      (either t.kills (list_any writes_some (before ++ t ∷ []) || disturbs s t) (λ k. k, λ k. k)
-      (either (list_any writes_some (before ++ t ∷ [])) (disturbs s t) (some_writes (before ++ t ∷ []))
+      subst (λ xs. IsTrue (clash before s t) ↔ Conflict w (xs ++ t ∷ []) s t) (sym (map-id before))
+      (Decides-or s.kills (t.kills || (list_any writes_some (before ++ t ∷ []) || disturbs s t)) (λ k. k, λ k. k)
+      (Decides-or t.kills (list_any writes_some (before ++ t ∷ []) || disturbs s t) (λ k. k, λ k. k)
+      (Decides-or (list_any writes_some (before ++ t ∷ [])) (disturbs s t) (some_writes (before ++ t ∷ []))
       ((closed_list s.writes).1 (λ p. list_any (pattern_overlaps p) (system_reads t))))))
 
   pub batches_of : (systems : List SystemModel) → (batches : List (List SystemModel)) × AreBatches w systems batches
   batches_of [] = ([], refl)
   batches_of (s ∷ systems) = (
     map (map (λ x. x)) (batched clash [] [] (s ∷ systems)),
-    subst (λ xs. AreBatches w xs (map (map (λ x. x)) (batched clash [] [] (s ∷ systems)))) (map_itself (s ∷ systems))
+    subst (λ xs. AreBatches w xs (map (map (λ x. x)) (batched clash [] [] (s ∷ systems)))) (map-id (s ∷ systems))
         (batched_are_batches w (λ x. x) clash clash_exact s systems),
   )

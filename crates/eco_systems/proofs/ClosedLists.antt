@@ -1,8 +1,7 @@
 -- Closed writes, pattern by pattern.
-use Rattle.std.proofs.Common.{◌≡◌, ℕ, ◌+◌, ◌<◌, Bool, false, ◌||◌, ◌↔◌, ◌⊎◌, inl, inr, List, [], ◌∷◌, ◌++◌, map, take, get_or, length, refl, sym, ap}
+use Rattle.std.proofs.Common.{◌≡◌, Bool, false, ◌||◌, ◌↔◌, ◌⊎◌, inl, inr, List, [], ◌∷◌, ◌++◌, map, refl, sym, ap}
 use Rattle.std.proofs.Common.{◌∙◌, subst, true≢false, IsTrue, Some, None}
 use Rattle.std.specs.List.{list_any}
-use Rattle.std.proofs.lemmas.List.{take_more}
 use Rattle.std.proofs.lemmas.Option.{same_Some, none-some}
 use Rattle.std.proofs.lemmas.List.Folds.{list_any-append}
 use Rattle.eco_ids.specs.declared.entity.Entity.{Entity}
@@ -75,22 +74,20 @@ module _ (w : WorldState) where
   passes_right xs ys test h = (h.0, ((h.1).0, into_right xs ys (h.1).1, (h.1).2), h.2)
 
   -- one pattern more
-  pub lists_more : (writes : List Pattern) (k : ℕ) (d : Pattern) (old new : List Pattern) → k < length writes → ListsClosed w (take k writes) old →
-      Among w (get_or writes k d) old new → ListsClosed w (take (k + 1) writes) new
-  lists_more writes k d old new l h more = subst (λ ws. ListsClosed w ws new) (sym (take_more writes k d l)) (λ test. (
-    λ t. there test ((more test).0 t),
-    λ c. (more test).1 (here test (passes_parts (take k writes) (get_or writes k d ∷ []) test c)),
-  ))
+  pub lists_more : (writes : List Pattern) (p : Pattern) (old new : List Pattern) → ListsClosed w writes old → Among w p old new →
+      ListsClosed w (writes ++ p ∷ []) new
+  lists_more writes p old new h more test = (
+    λ t. there ((more test).0 t),
+    λ c. (more test).1 (here (passes_parts writes (p ∷ []) test c)),
+  )
     where
-      there : (test : Pattern → Bool) → IsTrue (list_any test old) ⊎ ClosedPasses w (get_or writes k d ∷ []) test →
-          ClosedPasses w (take k writes ++ get_or writes k d ∷ []) test
-      there test (inl o) = passes_left (take k writes) (get_or writes k d ∷ []) test ((h test).0 o)
-      there test (inr c) = passes_right (take k writes) (get_or writes k d ∷ []) test c
+      there : IsTrue (list_any test old) ⊎ ClosedPasses w (p ∷ []) test → ClosedPasses w (writes ++ p ∷ []) test
+      there (inl o) = passes_left writes (p ∷ []) test ((h test).0 o)
+      there (inr c) = passes_right writes (p ∷ []) test c
 
-      here : (test : Pattern → Bool) → ClosedPasses w (take k writes) test ⊎ ClosedPasses w (get_or writes k d ∷ []) test →
-          IsTrue (list_any test old) ⊎ ClosedPasses w (get_or writes k d ∷ []) test
-      here test (inl c) = inl ((h test).1 c)
-      here test (inr c) = inr c
+      here : ClosedPasses w writes test ⊎ ClosedPasses w (p ∷ []) test → IsTrue (list_any test old) ⊎ ClosedPasses w (p ∷ []) test
+      here (inl c) = inl ((h test).1 c)
+      here (inr c) = inr c
 
   pub lists_none : ListsClosed w [] []
   lists_none test = (λ h. absurd (true≢false (sym h)), λ c. absurd (nothing (c.1).1))
@@ -166,12 +163,11 @@ module _ (w : WorldState) where
   has_head (Two Each q) h is = absurd (none-some h is)
   has_head (Two Any q) h is = absurd (none-some h is)
 
-  pub among_reached : (p : Pattern) (h : Entity) → head_of p ≡ Some h → (heads : List Entity) →
-      ((x : Entity) → IsTrue (has_item entity_cmp heads x) ↔ Reaches w WITH h x)
-      → (old new : List Pattern) → new ≡ old ++ map (λ x. widened w (with_head p x)) heads → Among w p old new
-  among_reached p h at heads exact old new made test = (
-    λ t. there (or_parts (list_any test old) _ (sym (ap (list_any test) made ∙ list_any-append test old (map (λ x. widened w (with_head p x)) heads)) ∙ t)),
-    λ c. ap (list_any test) made ∙ list_any-append test old (map (λ x. widened w (with_head p x)) heads) ∙ here c,
+  pub among_reached : (p : Pattern) (h : Entity) (heads : List Entity) (old : List Pattern) → head_of p ≡ Some h →
+      ((x : Entity) → IsTrue (has_item entity_cmp heads x) ↔ Reaches w WITH h x) → Among w p old (old ++ map (λ x. widened w (with_head p x)) heads)
+  among_reached p h heads old at exact test = (
+    λ t. there (or_parts (list_any test old) _ (sym (list_any-append test old (map (λ x. widened w (with_head p x)) heads)) ∙ t)),
+    λ c. list_any-append test old (map (λ x. widened w (with_head p x)) heads) ∙ here c,
   )
     where
       is : HasHead p h
@@ -223,10 +219,10 @@ module _ (w : WorldState) where
   is_wild (Two Each q) at = tt
   is_wild (Two Any q) at = tt
 
-  pub among_wild : (p : Pattern) → head_of p ≡ None → (old new : List Pattern) → new ≡ old ++ p ∷ [] → Among w p old new
-  among_wild p at old new made test = (
-    λ t. there (or_parts (list_any test old) _ (sym (ap (list_any test) made ∙ list_any-append test old (p ∷ [])) ∙ t)),
-    λ c. ap (list_any test) made ∙ list_any-append test old (p ∷ []) ∙ here c,
+  pub among_wild : (p : Pattern) (old : List Pattern) → head_of p ≡ None → Among w p old (old ++ p ∷ [])
+  among_wild p old at test = (
+    λ t. there (or_parts (list_any test old) _ (sym (list_any-append test old (p ∷ [])) ∙ t)),
+    λ c. list_any-append test old (p ∷ []) ∙ here c,
   )
     where
       is : IsWild p

@@ -40,13 +40,13 @@ abbrev pub TraitsWithin : WorldState → WorldState → Type 0
 TraitsWithin start w = (x : Entity) (j : Id) → IsTraitId j → IsTrue (has w x j) → IsTrue (has start x j)
 
 -- Exclusive and With are built-ins in each edition
-exclusive_writes : (w : WorldState) → IsTrue (writes_trait w (One EXCLUSIVE))
+exclusive_writes : (w : WorldState) → IsTrue (writes_trait w.edition (One EXCLUSIVE))
 exclusive_writes w = by w.edition
   where
     by : (edition : Edition) → IsTrue (is_among_first (builtin_count edition) EXCLUSIVE && true)
     by First = refl
 
-with_writes : (w : WorldState) (u : Part) → IsTrue (writes_trait w (Two (Is WITH) u))
+with_writes : (w : WorldState) (u : Part) → IsTrue (writes_trait w.edition (Two (Is WITH) u))
 with_writes w u = or_left _ _ (by w.edition)
   where
     by : (edition : Edition) → IsTrue (is_among_first (builtin_count edition) WITH && true)
@@ -60,7 +60,7 @@ Covered start writes j = (q : Pattern) × InClosedPatterns start writes q × IsT
 
 -- patterns of which none writes a trait
 abbrev pub NoTraits : WorldState → List Pattern → Type 0
-NoTraits start writes = (p : Pattern) → IsClosedWrite start writes p → IsTrue (writes_trait start p) → ⊥
+NoTraits start writes = (p : Pattern) → IsClosedWrite start writes p → IsTrue (writes_trait start.edition p) → ⊥
 
 pub no_traits : (start : WorldState) (s : SystemModel) → (IsTraitWriter start s → ⊥) → NoTraits start s.writes
 no_traits start s n p closed writes = n (p, closed, writes)
@@ -110,7 +110,8 @@ module _ (start : WorldState) (writes : List Pattern) where
     -- no trait comes by such an add
     no_trait_added : (q : Pattern) (j : Id) → InClosedPatterns start writes q → IsTrue (pattern_matches q j) → IsTraitId j → ⊥
     no_trait_added (One own) (id.One e) member m trait =
-        plain (One own) (One own, member, refl) (subst (λ y. IsTrue (writes_trait start (One y))) (sym (entity_eq_is own e m ∙ trait)) (exclusive_writes start))
+        plain (One own) (One own, member, refl)
+        (subst (λ y. IsTrue (writes_trait start.edition (One y))) (sym (entity_eq_is own e m ∙ trait)) (exclusive_writes start))
     no_trait_added (One own) (id.Two r t) member m trait = absurd (true≢false (sym m))
     no_trait_added (Two p u) (id.One e) member m trait = absurd (true≢false (sym m))
     no_trait_added (Two Each u) (id.Two r t) member m trait = not_each u member
@@ -118,9 +119,9 @@ module _ (start : WorldState) (writes : List Pattern) where
     no_trait_added (Two (Is own) u) (id.Two r t) member m trait =
         plain (widened start (Two (Is own) u)) (Two (Is own) u, member, refl) (still_trait (is_exclusive start own) (entity_eq_is own r (first _ _ m) ∙ trait))
       where
-        still_trait : (b : Bool) → own ≡ WITH → IsTrue (writes_trait start (cond b (Two (Is own) Each) (Two (Is own) u)))
-        still_trait true e = subst (λ y. IsTrue (writes_trait start (Two (Is y) Each))) (sym e) (with_writes start Each)
-        still_trait false e = subst (λ y. IsTrue (writes_trait start (Two (Is y) u))) (sym e) (with_writes start u)
+        still_trait : (b : Bool) → own ≡ WITH → IsTrue (writes_trait start.edition (cond b (Two (Is own) Each) (Two (Is own) u)))
+        still_trait true e = subst (λ y. IsTrue (writes_trait start.edition (Two (Is y) Each))) (sym e) (with_writes start Each)
+        still_trait false e = subst (λ y. IsTrue (writes_trait start.edition (Two (Is y) u))) (sym e) (with_writes start u)
 
   -- ---- a widened pattern matches what it matched
 

@@ -1,6 +1,6 @@
 -- Every frame is the run of its systems one by one.
-use Rattle.std.proofs.Common.{◌≡◌, ℕ, zero, suc, Bool, true, false, cond, List, [], ◌∷◌, ◌++◌, length, replicate, refl, sym, ap, ◌∙◌, subst, IsTrue}
-use Rattle.std.proofs.Common.{inl, inr, Option, None, option_map, unwrap_or, MatchBool, Ok, slice_get, filter}
+use Rattle.std.proofs.Common.{◌≡◌, ℕ, Bool, true, false, cond, List, [], ◌∷◌, ◌++◌, length, refl, sym, ap, ◌∙◌, subst, IsTrue}
+use Rattle.std.proofs.Common.{inl, inr, Option, option_map, unwrap_or, MatchBool, Ok, filter}
 use Rattle.std.specs.Prelude.{flat_map}
 use Rattle.std.specs.List.{AllByRecursion}
 use Rattle.std.specs.Option.{option_and_then}
@@ -11,14 +11,14 @@ use Rattle.eco_ids.specs.declared.entity.Entity.{Entity}
 use Rattle.eco_ids.specs.declared.id.Id.{Id}
 use Rattle.eco_ids.specs.declared.refusal.Refusal.TheVariants.{NoMoreIds}
 use Rattle.eco_ids.specs.Births.{may_admit}
-use Rattle.eco_ids.specs.Indices.{Indexed, IndexState, Free, record_in, admitted}
+use Rattle.eco_ids.specs.Indices.{Indexed, admitted}
 use Rattle.eco_ids.specs.Lawful.{IsLawful}
 use Rattle.eco_ids.specs.Matching.{pattern_matches}
 use Rattle.eco_ids.specs.Outcome.{Answers, Refuses}
 use Rattle.eco_ids.specs.Order.{id_cmp}
 use Rattle.eco_ids.specs.Run.{Command, Runs}
 use Rattle.eco_ids.specs.World.{WorldState, Record, entities, record_of}
-use Rattle.eco_ids.proofs.Admits.{admits_lawful}
+use Rattle.eco_ids.proofs.Admits.{admits_lawful, more_free}
 use Rattle.eco_ids.proofs.Keeps.{has_in}
 use Rattle.eco_ids.proofs.Runs.{runs_lawful}
 use Rattle.eco_query.specs.Queries.{reads}
@@ -39,16 +39,6 @@ use Rattle.eco_systems.proofs.Runs.{runs_split, records_declared, runs_traits, r
 use Rattle.eco_systems.proofs.Same.{LooksSame, looks_then}
 
 -- ---- indices that are admitted show in no answer
-
-free_there : (n k g : ℕ) → record_in {A = Record} (slice_get (replicate n (Free 0)) k) g ≡ None
-free_there zero k g = refl
-free_there (suc n) zero g = refl
-free_there (suc n) (suc k) g = free_there n k g
-
-more_free : (xs : List (IndexState Record)) (n k g : ℕ) → record_in (slice_get (xs ++ replicate n (Free 0)) k) g ≡ record_in (slice_get xs k) g
-more_free [] n k g = free_there n k g
-more_free (x ∷ xs) n zero g = refl
-more_free (x ∷ xs) n (suc k) g = more_free xs n k g
 
 module _ (w : WorldState) (n : ℕ) where
   same_records : (x : Entity) → record_of (with_admitted n w) x ≡ record_of w x

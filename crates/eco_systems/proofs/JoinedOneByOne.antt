@@ -2,7 +2,7 @@
 use Rattle.std.proofs.Common.{◌≡◌, Bool, true, false, cond, ◌↔◌, inl, inr, List, [], ◌∷◌, ◌++◌, map, refl, sym, ap, ◌∙◌, subst, true≢false, IsTrue, IsFalse}
 use Rattle.std.proofs.Common.{append_assoc}
 use Rattle.std.specs.List.{list_any}
-use Rattle.std.proofs.lemmas.List.{append-nil}
+use Rattle.std.proofs.lemmas.List.{append-nil, map-append}
 use Rattle.eco_ids.specs.World.{WorldState}
 use Rattle.eco_ids.proofs.Facts.{or_left, or_parts, or_right}
 use Rattle.eco_systems.specs.Batches.{Conflict, AreTogether, AreCut, AreBatches, joined}
@@ -10,7 +10,6 @@ use Rattle.eco_systems.specs.Joining.{batched}
 use Rattle.eco_systems.specs.Laws.{JoiningMakesBatches}
 use Rattle.eco_systems.specs.Systems.{SystemModel}
 use Rattle.eco_systems.specs.Writes.{SomeOf}
-use Rattle.eco_systems.proofs.Lists.{map_append}
 
 module _ (w : WorldState) (before : List SystemModel) (t : SystemModel) where
   -- nobody of these conflicts with t, which comes after them
@@ -65,9 +64,9 @@ module _ {A : Type 0} (w : WorldState) (at : A → SystemModel) (clash : List A 
     together = subst (λ b. AreTogether w (map at done) [] (map at b)) (sym (append-nil batch)) together;
     areCut = subst (λ b. AreCut w (map at done ++ map at b) (map at b) (map (map at) later)) (sym (append-nil batch))
         (subst (λ bs. AreCut w (map at done ++ map at batch) (map at batch) (map (map at) bs)) (sym next.is) (
-          subst (λ xs. SomeOf (Conflicts xs t) (map at batch)) (map_append at done batch) (some_clash (done ++ batch) t batch clashes),
-          subst (λ xs. AreTogether w xs [] (map at (t ∷ next.more))) (map_append at done batch) next.together,
-          subst (λ xs. AreCut w (xs ++ map at (t ∷ next.more)) (map at (t ∷ next.more)) (map (map at) next.others)) (map_append at done batch) next.areCut,
+          subst (λ xs. SomeOf (Conflicts xs t) (map at batch)) (map-append at done batch) (some_clash (done ++ batch) t batch clashes),
+          subst (λ xs. AreTogether w xs [] (map at (t ∷ next.more))) (map-append at done batch) next.together,
+          subst (λ xs. AreCut w (xs ++ map at (t ∷ next.more)) (map at (t ∷ next.more)) (map (map at) next.others)) (map-append at done batch) next.areCut,
         ));
   }
 
@@ -76,9 +75,9 @@ module _ {A : Type 0} (w : WorldState) (at : A → SystemModel) (clash : List A 
       → AreTogether w (map at done) [] (map at (batch ++ t ∷ []))
   together_more done batch t together clashes =
       let none : NoneConflicts w (map at done) (at t) (map at batch) = λ h.
-      true≢false (sym (clash_some (done ++ batch) t batch (subst (λ xs. SomeOf (Conflicts xs t) (map at batch)) (sym (map_append at done batch)) h))
+      true≢false (sym (clash_some (done ++ batch) t batch (subst (λ xs. SomeOf (Conflicts xs t) (map at batch)) (sym (map-append at done batch)) h))
       ∙ clashes) in
-      subst (AreTogether w (map at done) []) (sym (map_append at batch (t ∷ []))) (together_push w (map at done) (at t) [] (map at batch) together none)
+      subst (AreTogether w (map at done) []) (sym (map-append at batch (t ∷ []))) (together_push w (map at done) (at t) [] (map at batch) together none)
 
   extended : (done batch : List A) (t : A) (rest : List A) (batches : List (List A)) → Goes done (batch ++ t ∷ []) rest batches →
       Goes done batch (t ∷ rest) batches
@@ -113,7 +112,7 @@ module _ {A : Type 0} (w : WorldState) (at : A → SystemModel) (clash : List A 
 
   map_joined : (xss : List (List A)) → map at (joined xss) ≡ joined (map (map at) xss)
   map_joined [] = refl
-  map_joined (xs ∷ xss) = map_append at xs (joined xss) ∙ ap (λ ys. map at xs ++ ys) (map_joined xss)
+  map_joined (xs ∷ xss) = map-append at xs (joined xss) ∙ ap (λ ys. map at xs ++ ys) (map_joined xss)
 
   first_goes : (first : A) (rest : List A) → Goes [] (first ∷ []) rest (batched clash (first ∷ []) (first ∷ []) rest)
   first_goes first rest = goes [] (first ∷ []) rest (λ h. h, tt)

@@ -1,15 +1,15 @@
 mod Answers
 mod BatchesExist
-pub mod ClosedLists
+mod ClosedLists
 mod Covered
 mod FrameRows
 mod Frames
 mod FramesExist
 mod FreshDraws
-pub mod JoinedOneByOne
-pub mod Lists
+mod JoinedOneByOne
+mod Lists
 mod OneCut
-pub mod Orders
+mod Orders
 mod Rows
 mod Runs
 mod RunsEnd

@@ -1,11 +1,12 @@
 -- Lists that are filtered, searched and gathered.
-use Rattle.std.proofs.Common.{◌≡◌, Bool, true, false, cond, ◌&&◌, ◌||◌, List, [], ◌∷◌, ◌++◌, map, filter, refl, sym, ap, ◌∙◌, is_lt, IsTrue, ◌↔◌, ◌⊎◌, inl, inr}
+use Rattle.std.proofs.Common.{◌≡◌, Bool, true, false, cond, ◌&&◌, ◌||◌, List, [], ◌∷◌, ◌++◌, map, filter, refl, sym, ap, ◌∙◌, is_lt, IsTrue}
 use Rattle.std.specs.Prelude.{flat_map}
-use Rattle.std.specs.List.{list_any, list_all, AllByRecursion, AllZip}
+use Rattle.std.specs.List.{list_any, list_all, AllByRecursion}
+use Rattle.std.proofs.lemmas.List.{map-append}
 use Rattle.eco_ids.specs.declared.id.Id.{Id}
 use Rattle.eco_ids.specs.Order.{id_cmp, id_eq, has_item, is_ascending}
 use Rattle.eco_ids.proofs.Ascending.{both, first, second}
-use Rattle.eco_ids.proofs.Facts.{id_eq_is, or_left, or_parts, or_right}
+use Rattle.eco_ids.proofs.Facts.{id_eq_is}
 use Rattle.eco_ids.proofs.IdOrder.{id_cmp_total, same_id}
 use Rattle.eco_ids.proofs.Members.{same_members}
 
@@ -127,28 +128,6 @@ pub map_after : {A B C : Type 0} (f : A → B) (g : B → C) (xs : List A) → m
 map_after f g [] = refl
 map_after f g (x ∷ xs) = ap (λ ys. g (f x) ∷ ys) (map_after f g xs)
 
-pub map_append : {A B : Type 0} (f : A → B) (xs ys : List A) → map f (xs ++ ys) ≡ map f xs ++ map f ys
-map_append f [] ys = refl
-map_append f (x ∷ xs) ys = ap (λ zs. f x ∷ zs) (map_append f xs ys)
-
 pub map_gathered : {A B C : Type 0} (f : A → List B) (g : B → C) (xs : List A) → map g (flat_map f xs) ≡ flat_map (λ x. map g (f x)) xs
 map_gathered f g [] = refl
-map_gathered f g (x ∷ xs) = map_append g (f x) (flat_map f xs) ∙ ap (λ zs. map g (f x) ++ zs) (map_gathered f g xs)
-
-pub zip_push : {A B : Type 0} (R : A → B → Type 0) (xs : List A) (ys : List B) (x : A) (y : B) → AllZip R xs ys → R x y → AllZip R (xs ++ x ∷ []) (ys ++ y ∷ [])
-zip_push R [] [] x y h r = (r, tt)
-zip_push R [] (b ∷ ys) x y h r = absurd h
-zip_push R (a ∷ xs) [] x y h r = absurd h
-zip_push R (a ∷ xs) (b ∷ ys) x y h r = (h.0, zip_push R xs ys x y h.1 r)
-
--- a test of two parts, each exact
-pub either : {A B : Type 0} (a b : Bool) → IsTrue a ↔ A → IsTrue b ↔ B → IsTrue (a || b) ↔ (A ⊎ B)
-either {A = A} {B = B} a b p q = (λ h. there (or_parts a b h), λ h. here h)
-  where
-    there : IsTrue a ⊎ IsTrue b → A ⊎ B
-    there (inl h) = inl (p.0 h)
-    there (inr h) = inr (q.0 h)
-
-    here : A ⊎ B → IsTrue (a || b)
-    here (inl x) = or_left a b (p.1 x)
-    here (inr y) = or_right a b (q.1 y)
+map_gathered f g (x ∷ xs) = map-append g (f x) (flat_map f xs) ∙ ap (λ zs. map g (f x) ++ zs) (map_gathered f g xs)

@@ -138,7 +138,8 @@ module _ (w new : WorldState) (slots : List QuerySlot) (positive : HasPositive s
             ]
         | inr a ↦ elim (lived_or_empty (slice_get w.indices k)) as (λ _. rows_at (rows_with new slots) k (slice_get new.indices k) ≡ rows_at
             (rows_with w slots) k (slice_get w.indices k)) [
-              | inl b ↦ a.1 (rows_with new slots) k ∙ sym (lived_rows w k b.0 b.1 b.2 ∙ sym (same (here k b.0)) ∙ no_rows new slots positive (here k b.0) (a.0 b.0))
+              | inl b ↦ a.1 (rows_with new slots) k
+                  ∙ sym (lived_rows w k b.0 b.1 b.2 ∙ sym (same (here k b.0)) ∙ no_rows new slots positive (here k b.0) (a.0 b.0))
               | inr b ↦ a.1 (rows_with new slots) k ∙ sym (b.1 (rows_with w slots) k)
             ]
       ]

@@ -1,17 +1,23 @@
 -- The laws above the definitions, as the contracts of `src/laws.rt` cite them.
-use Rattle.std.specs.Prelude.{◌≡◌, ◌↔◌, ℕ, Bool, IsTrue, List, [], ◌∷◌, ◌++◌, length, map, slice_get, Some, Err, ◌⊎◌}
+use Rattle.std.specs.Prelude.{◌≡◌, ◌↔◌, ℕ, Bool, IsTrue, List, [], ◌∷◌, ◌++◌, length, map, slice_get, Some, None, Err, ◌⊎◌}
 use Rattle.std.specs.List.{AllByRecursion}
 use Rattle.eco_ids.specs.declared.entity.Entity.{Entity}
+use Rattle.eco_ids.specs.declared.entity.TheConstants.{WITH}
+use Rattle.eco_ids.specs.declared.pattern.Pattern.{Pattern}
 use Rattle.eco_ids.specs.declared.refusal.Refusal.{Refusal}
 use Rattle.eco_ids.specs.Lawful.{IsLawful}
+use Rattle.eco_ids.specs.Order.{entity_cmp, has_item}
 use Rattle.eco_ids.specs.Run.{Command, Runs}
+use Rattle.eco_ids.specs.Traits.{Reaches}
 use Rattle.eco_ids.specs.World.{WorldState}
 use Rattle.eco_systems.specs.Batches.{AreBatches, Conflict, joined}
+use Rattle.eco_systems.specs.Closing.{Among, ListsClosed, head_of, with_head}
 use Rattle.eco_systems.specs.Frames.{BatchDraws, Outcomes, IsFrame, IsSolo, IsFrameSoFar, IsSoloSoFar, IsStopped, AreAscending, AreFresh}
 use Rattle.eco_systems.specs.Joining.{batched}
 use Rattle.eco_systems.specs.Phases.{in_order, order_of}
 use Rattle.eco_systems.specs.Rows.{ValuedRow}
 use Rattle.eco_systems.specs.Systems.{IsLawfulSystem, SystemModel}
+use Rattle.eco_systems.specs.Writes.{widened}
 
 -- a frame of lawful systems on a lawful world is the run of its systems one by one: with the same draws, outcomes and last world
 abbrev pub FramesAreSolo : Type 0
@@ -68,6 +74,27 @@ JoiningMakesBatches =
     → ((before : List ℕ) (s t : ℕ) → IsTrue (clash before s t) ↔ Conflict w (map at before ++ at t ∷ []) (at s) (at t))
     → (first : ℕ) (rest : List ℕ)
     → (joined (batched clash [] [] (first ∷ rest)) ≡ first ∷ rest) × AreBatches w (map at (first ∷ rest)) (map (map at) (batched clash [] [] (first ∷ rest)))
+
+-- no patterns have no closed writes
+abbrev pub NoneAreListed : Type 0
+NoneAreListed = (w : WorldState) → ListsClosed w [] []
+
+-- the closed writes of some patterns, and among them those of one more, are those of all these patterns
+abbrev pub OneMoreIsListed : Type 0
+OneMoreIsListed =
+    (w : WorldState) (writes : List Pattern) (p : Pattern) (old new : List Pattern)
+    → ListsClosed w writes old → Among w p old new → ListsClosed w (writes ++ p ∷ []) new
+
+-- the closed writes of a pattern with a head are it with each head that With leads to, widened
+abbrev pub HeadsAreAmong : Type 0
+HeadsAreAmong =
+    (w : WorldState) (p : Pattern) (head : Entity) (heads : List Entity) (old : List Pattern) → head_of p ≡ Some head
+    → ((x : Entity) → IsTrue (has_item entity_cmp heads x) ↔ Reaches w WITH head x)
+    → Among w p old (old ++ map (λ x. widened w (with_head p x)) heads)
+
+-- a pattern without a head is closed by itself
+abbrev pub HeadlessAreAmong : Type 0
+HeadlessAreAmong = (w : WorldState) (p : Pattern) (old : List Pattern) → head_of p ≡ None → Among w p old (old ++ p ∷ [])
 
 -- at the positions of declaration, in the order in which the systems run, stand the systems as they run
 abbrev pub OrderHasSystems : Type 0

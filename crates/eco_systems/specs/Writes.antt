@@ -1,5 +1,6 @@
 -- What a system's writes bring with them, and which systems write traits.
 use Rattle.std.specs.Prelude.{◌≡◌, Bool, true, false, not, ◌&&◌, ◌||◌, IsTrue, List, [], ◌∷◌, if◌then◌else◌, ◌⊎◌}
+use Rattle.eco_ids.specs.declared.edition.Edition.{Edition}
 use Rattle.eco_ids.specs.declared.entity.Entity.{Entity}
 use Rattle.eco_ids.specs.declared.entity.TheConstants.{CHILD_OF, WITH}
 use Rattle.eco_ids.specs.declared.id.Id.TheVariants as id
@@ -7,7 +8,8 @@ use Rattle.eco_ids.specs.declared.pattern.Part.{Part}
 use Rattle.eco_ids.specs.declared.pattern.Part.TheVariants.{Is, Each, Any}
 use Rattle.eco_ids.specs.declared.pattern.Pattern.{Pattern}
 use Rattle.eco_ids.specs.declared.pattern.Pattern.TheVariants.{One, Two}
-use Rattle.eco_ids.specs.Builtin.{is_builtin}
+use Rattle.eco_ids.specs.Builtin.{is_among_first}
+use Rattle.eco_ids.specs.Edition.{builtin_count}
 use Rattle.eco_ids.specs.Least.{Least}
 use Rattle.eco_ids.specs.Order.{entity_eq}
 use Rattle.eco_ids.specs.World.{WorldState, has, is_exclusive}
@@ -45,22 +47,22 @@ widened w (Two (Is r) q) = if is_exclusive w r then Two (Is r) Each else Two (Is
 abbrev pub IsClosedWrite : WorldState → List Pattern → Pattern → Type 0
 IsClosedWrite w writes p = (q : Pattern) × InClosedPatterns w writes q × (p ≡ widened w q)
 
--- a built-in other than ChildOf
-abbrev pub is_trait : WorldState → Entity → Bool
-is_trait w e = is_builtin w e && not (entity_eq e CHILD_OF)
+-- a built-in of the edition other than ChildOf
+abbrev pub is_trait : Edition → Entity → Bool
+is_trait edition e = is_among_first (builtin_count edition) e && not (entity_eq e CHILD_OF)
 
-abbrev pub is_trait_part : WorldState → Part → Bool
-is_trait_part w (Is e) = is_trait w e
-is_trait_part w Each = false
-is_trait_part w Any = false
+abbrev pub is_trait_part : Edition → Part → Bool
+is_trait_part edition (Is e) = is_trait edition e
+is_trait_part edition Each = false
+is_trait_part edition Any = false
 
 -- the pattern holds a built-in other than ChildOf, or is one of pairs of any relationship
-abbrev pub writes_trait : WorldState → Pattern → Bool
-writes_trait w (One e) = is_trait w e
-writes_trait w (Two Each q) = true
-writes_trait w (Two Any q) = true
-writes_trait w (Two (Is r) q) = is_trait w r || is_trait_part w q
+abbrev pub writes_trait : Edition → Pattern → Bool
+writes_trait edition (One e) = is_trait edition e
+writes_trait edition (Two Each q) = true
+writes_trait edition (Two Any q) = true
+writes_trait edition (Two (Is r) q) = is_trait edition r || is_trait_part edition q
 
 -- one of its closed writes is such
 abbrev pub IsTraitWriter : WorldState → SystemModel → Type 0
-IsTraitWriter w s = (p : Pattern) × IsClosedWrite w s.writes p × IsTrue (writes_trait w p)
+IsTraitWriter w s = (p : Pattern) × IsClosedWrite w s.writes p × IsTrue (writes_trait w.edition p)

@@ -1,7 +1,8 @@
 //! Laws of frames: each function does nothing, and its contract is the law.
 ghost use Rattle.std.specs.Prelude.{◌≡◌};
 ghost use Rattle.eco_systems.specs.Laws.{AscendingAreFresh, BatchesAreUnique, BatchesExist, FramesAreSolo, FramesExist};
-ghost use Rattle.eco_systems.specs.Laws.{FramesKeepLawful, JoiningMakesBatches, OrderHasSystems};
+ghost use Rattle.eco_systems.specs.Laws.{FramesKeepLawful, HeadlessAreAmong, HeadsAreAmong, JoiningMakesBatches};
+ghost use Rattle.eco_systems.specs.Laws.{NoneAreListed, OneMoreIsListed, OrderHasSystems};
 ghost use Rattle.eco_systems.specs.Laws.{RefusedCommandsChangeNothing, StoppedAreSolo, StoppedAtOnceChangesNothing};
 ghost use Rattle.eco_systems.specs.Phases.{phases};
 ghost use Rattle.eco_systems.specs.declared.phase.TheConstants.{PHASES};
@@ -29,6 +30,15 @@ pub fn batches_are_unique()
     ensures exist { BatchesExist }
     ensures unique { BatchesAreUnique }
     ensures joining { JoiningMakesBatches }
+{}
+
+/// Closed writes are listed pattern by pattern: no patterns have none, one more pattern adds its own, a pattern with a head has
+/// those with the heads that With leads to, and one without a head is closed by itself.
+pub fn closed_writes_are_listed()
+    ensures none { NoneAreListed }
+    ensures more { OneMoreIsListed }
+    ensures heads { HeadsAreAmong }
+    ensures headless { HeadlessAreAmong }
 {}
 
 /// Draws that ascend over all pieces are fresh.

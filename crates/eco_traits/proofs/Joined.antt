@@ -2,34 +2,24 @@
 use Rattle.std.proofs.lemmas.Grind.{common_steps}
 use Rattle.std.proofs.Common.{arith, rules}
 use Rattle.std.proofs.Common.{◌≡◌, if◌then◌else◌, ℕ, ◌+◌, ◌<◌, Bool, true, false, cond, not, ◌&&◌, ◌||◌, List, [], ◌∷◌, filter, fold, length, take, get_or}
-use Rattle.std.proofs.Common.{refl, sym, ap, ◌∙◌, true≢false, IsTrue, Option, Some, None, Result, Ok, option_copied, option_map, unwrap_or, is_some, is_lt}
+use Rattle.std.proofs.Common.{refl, sym, ap, ◌∙◌, true≢false, IsTrue, Option, Some, None, Result, Ok, option_copied, option_map, unwrap_or, is_some}
 use Rattle.std.proofs.lemmas.List.{take_more}
 use Rattle.std.proofs.lemmas.List.Sums.{fold-append}
 use Rattle.std.specs.Borrow.{Bor}
-use Rattle.std.specs.FinMap.Entries.{where_key, below_all, is_sorted, is_sorted-where_key}
-use Rattle.std.specs.List.{list_all}
+use Rattle.std.specs.FinMap.Entries.{where_key, is_sorted-where_key}
 use Rattle.eco_ids.specs.declared.entity.Entity.{Entity}
 use Rattle.eco_ids.specs.declared.id.Id.{Id}
-use Rattle.eco_ids.specs.declared.value.Value.{Value}
 use Rattle.eco_ids.specs.declared.refusal.Refusal.{Refusal}
 use Rattle.eco_ids.specs.Order.{id_cmp, id_eq, has_item, is_ascending, with_item, without_item}
 use Rattle.eco_ids.specs.Step.{IsClosure, Judges, is_replaced, with_closure}
 use Rattle.eco_ids.specs.World.{WorldState, Record, has, names_living, record_of}
 use Rattle.std.proofs.lemmas.Bool.{and_right, or_left}
-use Rattle.eco_ids.proofs.Exact.{id_eq_sym, keys, keys_kept, keys_zeros}
+use Rattle.eco_ids.proofs.Entries.{sorted_is}
+use Rattle.eco_ids.proofs.Exact.{id_eq_sym, keys_kept, keys_zeros}
 use Rattle.eco_ids.proofs.Facts.{to_T, or_right, id_eq_is, id_eq_itself}
 use Rattle.eco_traits.specs.Target.{ExtendsTo, LeadsTo, type_of_record}
 
 -- ---- the ids of what is held
-
-below_is : (x : Id) (es : List (Id × Value)) → below_all id_cmp x es ≡ list_all (λ y. is_lt (id_cmp x y)) (keys es)
-below_is x [] = refl
-below_is x (e ∷ es) = ap (λ b. is_lt (id_cmp x e.0) && b) (below_is x es)
-
--- entries are in order where their ids are
-sorted_is : (es : List (Id × Value)) → is_sorted id_cmp es ≡ is_ascending id_cmp (keys es)
-sorted_is [] = refl
-sorted_is (e ∷ es) = λ t. below_is e.0 es t && sorted_is es t
 
 -- what isn't replaced, and each id of the closure put in its place
 type_with : (w : WorldState) (s : List Id) (d : Record) → IsTrue (is_ascending id_cmp (type_of_record d))

@@ -133,7 +133,8 @@ fn short_way<H: Holdings>(
     requires own { Some own.now ≡ type_of_entity (H.world holdings.now) entity }
     requires traits { Some traits.now ≡ type_of_entity (H.world holdings.now) (head_of added) }
     ensures among { IfSome result (IsAmong own.now) }
-    ensures replaces { IfSome result (λ replaced. Replaces (H.world holdings.now) entity added own.now replaced) }
+    ensures replaces { IfSome result (λ replaced.
+        Replaces (H.world holdings.now) entity added own.now replaced) }
 {
     match added {
         Id::One(_) => None,
@@ -197,8 +198,9 @@ fn may_close<H: Holdings>(
 
 // The pair among the ids that one more pair of the relationship replaces, or none; no answer where there are several.
 fn replaced_by(own: &TypeList, relationship: Entity, traits: &TypeList) -> Option<Option<Id>>
-    ensures left { IfSome result (λ replaced. spared replaced own.now
-        ≡ filter (λ id. not (has_item id_cmp traits.now (One EXCLUSIVE) && step.is_pair_of relationship id)) own.now) }
+    ensures left { IfSome result (λ replaced. spared replaced own.now ≡ filter
+        (λ id. not (has_item id_cmp traits.now (One EXCLUSIVE) && step.is_pair_of relationship id))
+        own.now) }
     ensures among { IfSome result (IsAmong own.now) }
     ensures ascending { IsTrue (is_ascending id_cmp own.now) }
 {

@@ -10,8 +10,9 @@ use Rattle.eco_ids.specs.declared.entity.Entity.{Entity}
 use Rattle.eco_ids.specs.World.{Record, WorldState, has, zeros, record_of}
 use Rattle.eco_traits.specs.Target.{type_of_record}
 use Rattle.eco_world.specs.Types.{type_of}
+use Rattle.eco_ids.proofs.Entries.{apart, none_below}
 use Rattle.eco_ids.proofs.Exact.{id_eq_sym, keys_find, keys_kept}
-use Rattle.eco_ids.proofs.Facts.{id_eq_is, id_eq_itself}
+use Rattle.eco_ids.proofs.Facts.{id_eq_itself}
 use Rattle.eco_ids.proofs.IdOrder.{id_cmp_total, same_id}
 use Rattle.eco_ids.proofs.Ascending.{first_T, second_T}
 use Rattle.eco_tables.specs.Column.{value_in, retyped, with_held}
@@ -31,28 +32,12 @@ both : (a b : Bool) → T a → T b → T (a && b)
 both true b p q = q
 both false b p q = p
 
-none_below : (i : Id) (held : Held) → T (below_all id_cmp i held) → find id_cmp i held ≡ None
-none_below i [] below = refl
-none_below i (p ∷ held) below =
-    elim (id_cmp i p.0) as (λ o. T (is_lt o && below_all id_cmp i held) → cond (is_eq o) (Some p.1) (find id_cmp i held) ≡ None) [
-      | Less ↦ λ rest. none_below i held rest
-      | Equal ↦ λ no_case. absurd no_case
-      | Greater ↦ λ no_case. absurd no_case
-    ] below
-
 below_less : (i j : Id) (held : Held) → id_cmp i j ≡ Less → T (below_all id_cmp j held) → T (below_all id_cmp i held)
 below_less i j [] l below = tt
 below_less i j (p ∷ held) l below =
     both _ _ (subst (λ r. T (is_lt r)) (sym (id_cmp_total.trans i j p.0 l (less _ (first_T _ _ below)))) tt) (below_less i j held l (second_T _ _ below))
 
 -- ---- other ids
-
-apart : (i : Id) (p : Id × Value) (held : Held) (v : Value) → T (below_all id_cmp p.0 held) → find id_cmp i held ≡ Some v → id_eq i p.0 ≡ false
-apart i p held v below at = go (id_eq i p.0) refl
-  where
-    go : (b : Bool) → id_eq i p.0 ≡ b → b ≡ false
-    go true e = absurd (none-some v (sym (none_below i held (subst (λ j. T (below_all id_cmp j held)) (sym (id_eq_is i p.0 e)) below)) ∙ at))
-    go false e = refl
 
 -- what has the old values, and zeros where there was none, is the old under its own ids
 pub retyped_is : (new old : Held) → T (is_sorted id_cmp new) → ((i : Id) (v : Value) → find id_cmp i new ≡ Some v → value_in old i ≡ v) →

@@ -40,7 +40,8 @@ pub fn kill_next(
         ≡ after_deaths (read entities.old archetypes.old) (has_item entity_cmp (take result dead.now)) }
     ensures ready { IsReady archetypes.new prepared.new }
     ensures tidy { RowlessIn archetypes.new (staying prepared.new) }
-    ensures same { prepared.new ≡ record prepared.old { gathered = prepared.new.gathered; idle = prepared.new.idle } }
+    ensures same { prepared.new
+        ≡ record prepared.old { gathered = prepared.new.gathered; idle = prepared.new.idle } }
     ensures left { moves_of archetypes.new prepared.new ≡ moves_of archetypes.old prepared.old }
     ensures thins { Thins archetypes.old archetypes.new prepared.old.targets }
 {
@@ -86,7 +87,8 @@ fn kill_rows(
         (has_item entity_cmp (entities_of (rows_in archetypes.old slot))) }
     ensures ready { IsReady archetypes.new prepared.new }
     ensures tidy { RowlessIn archetypes.new (staying prepared.new) }
-    ensures same { prepared.new ≡ record prepared.old { gathered = prepared.new.gathered; idle = prepared.new.idle } }
+    ensures same { prepared.new
+        ≡ record prepared.old { gathered = prepared.new.gathered; idle = prepared.new.idle } }
     ensures left { moves_of archetypes.new prepared.new ≡ moves_of archetypes.old prepared.old }
     ensures thins { Thins archetypes.old archetypes.new prepared.old.targets }
 {

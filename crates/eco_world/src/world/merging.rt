@@ -47,7 +47,8 @@ impl World {
     // The commands of all stages are done, and their outcomes appended.
     fn run_all(&mut self, stages: &[Stage], outcomes: &mut Outcomes)
         requires { length outcomes.old.outcomes + length (all_commands stages.now) ≤ outcomes.old.room }
-        ensures { Appends self.old (all_commands stages.now) outcomes.old.outcomes outcomes.new.outcomes self.new }
+        ensures { Appends self.old (all_commands stages.now)
+            outcomes.old.outcomes outcomes.new.outcomes self.new }
     {
         eco_ids::laws::runs_keep_lawful();
         for stage in stages {

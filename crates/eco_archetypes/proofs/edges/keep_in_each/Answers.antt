@@ -1,7 +1,6 @@
-use Rattle.std.proofs.Common.{cond, None, refl, sym, ap, ◌∙◌, arith}
-use Rattle.eco_archetypes.specs.Sweeping.{has_table, kept_if}
-use Rattle.eco_archetypes.proofs.EdgeLists.{at_slot}
-use Rattle.eco_archetypes.proofs.Sweeping.{swept_all, swept_more}
+use Rattle.std.proofs.Common.{arith}
+use Rattle.eco_archetypes.specs.Sweeping.{has_table}
+use Rattle.eco_archetypes.proofs.Sweeping.{swept_all}
 use Rattle.eco_archetypes.proofs.edges.keep_in_each.Goals as goal
 
 pub returns : goal.returns

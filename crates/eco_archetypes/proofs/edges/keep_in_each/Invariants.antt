@@ -1,4 +1,4 @@
-use Rattle.std.proofs.Common.{◌≡◌, ℕ, length, cond, None}
+use Rattle.std.proofs.Common.{◌≡◌, ℕ, length, cond}
 use Rattle.std.specs.Prelude.{nat_lt}
 use Rattle.eco_ids.specs.declared.id.Id.{Id}
 use Rattle.eco_archetypes.specs.Edges.{edge}

@@ -1,4 +1,4 @@
-use Rattle.std.proofs.Common.{rules, cond, None, get_or, sym, ap, ◌∙◌}
+use Rattle.std.proofs.Common.{rules, cond, None, sym, ap, ◌∙◌}
 use Rattle.std.specs.HashMap.{get}
 use Rattle.std.proofs.lemmas.Map.Made.{filter_same_pairs}
 use Rattle.eco_ids.proofs.SameIds.{id_eq-Decides}

@@ -1,4 +1,4 @@
-use Rattle.std.proofs.Common.{◌++◌, ◌+◌, [], map, refl, sym, ap, ◌∙◌, get_or, take, drop, slice_get}
+use Rattle.std.proofs.Common.{◌++◌, ◌+◌, [], map, refl, sym, ap, ◌∙◌, take, drop, slice_get}
 use Rattle.std.specs.List.{list_any}
 use Rattle.std.proofs.lemmas.List.{take_more}
 use Rattle.eco_systems.specs.Joining.{batched}

@@ -1,6 +1,6 @@
 use Rattle.eco_ids.proofs.Common.{flat_map, map, ap, refl, ◌∙◌, take_all}
 use Rattle.eco_query.specs.Queries.{slot_view}
-use Rattle.eco_query.proofs.Matched.{flat_map_further}
+use Rattle.eco_ids.proofs.Further.{flat_map_further}
 use Rattle.eco_bodies.specs.Actions.{action_writes}
 use Rattle.eco_bodies.proofs.writes.script_writes.Goals as goal
 

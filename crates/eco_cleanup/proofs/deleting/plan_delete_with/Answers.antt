@@ -36,5 +36,6 @@ returns-clause-judged c =
     subst (λ (test : Entity → Bool). (members : List Entity) → IsDoomed w (λ x. IsTrue (test x)) members → Answers w members c.plan.result)
     (λ t e. tables_taken v slots c.places-places.ensures c.args.pattern found
     (rw c.archetypes.ensures at c.in_ok-slots.ensures.all) e t)
-    (subst (λ nodes. (members : List Entity) → IsDoomed w (λ x. IsTrue (has_item entity_cmp (taken_among slots nodes) x)) members → Answers w members c.plan.result)
+    (subst (λ nodes. (members : List Entity) → IsDoomed w (λ x. IsTrue (has_item entity_cmp (taken_among slots nodes) x)) members
+    → Answers w members c.plan.result)
     listed c.plan.ensures.judged)

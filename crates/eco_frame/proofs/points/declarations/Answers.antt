@@ -1,7 +1,7 @@
 use Rattle.std.proofs.Common.{◌++◌, ◌∷◌, [], sym, subst, take, ◌+◌}
 use Rattle.std.specs.List.{AllZip}
 use Rattle.std.proofs.lemmas.List.{take_more}
-use Rattle.eco_systems.proofs.Lists.{zip_push}
+use Rattle.eco_ids.proofs.Further.{zip_push}
 use Rattle.eco_batches.specs.declared.declaration.Declared.{Declared}
 use Rattle.eco_bodies.specs.declared.systems.System.{System}
 use Rattle.eco_frame.specs.Models.{Declares, model_of}

@@ -19,6 +19,6 @@ returns g c =
     IfOk-weaker c.sync_points.result
     (λ batches. ArePlacedBatches w c.deref.result.now (map (λ v. v.items) batches.items))
     (λ batches. ArePlaced w (map f c.args.systems.now) (map (λ v. v.items) batches.items))
-    (λ batches h. placed_of f w c.args.systems.now c.in_ok-declared.declared.items (map (λ v. v.items) batches.items) declared
-    (subst (λ ds. ArePlacedBatches w ds (map (λ v. v.items) batches.items)) c.deref.ensures.value h))
+    (λ batches h. placed_of c.systems_are_ordered.ensures.order f w c.args.systems.now c.in_ok-declared.declared.items (map (λ v. v.items) batches.items)
+    declared (subst (λ ds. ArePlacedBatches w ds (map (λ v. v.items) batches.items)) c.deref.ensures.value h))
     c.sync_points.ensures

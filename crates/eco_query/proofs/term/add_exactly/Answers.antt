@@ -1,6 +1,6 @@
 use Rattle.eco_ids.proofs.Common.{◌++◌, map, ap, ◌∙◌, refl, take_all}
+use Rattle.eco_ids.proofs.Further.{map_further}
 use Rattle.eco_query.specs.Queries as queries
-use Rattle.eco_query.proofs.Matched.{map_further}
 use Rattle.eco_query.proofs.term.add_exactly.Goals as goal
 
 pub loop-id-preserved : goal.loop-id-preserved

@@ -1,6 +1,5 @@
 use Rattle.eco_archetypes.specs.IdIndex.{lists_of}
-use Rattle.eco_archetypes.proofs.Sweeping.{found_swept, less_kept}
-use Rattle.eco_archetypes.proofs.Widths.{kept_widths}
+use Rattle.eco_archetypes.proofs.Sweeping.{found_swept}
 use Rattle.eco_archetypes.proofs.archetypes.Archetypes.drop_together.Goals as goal
 
 pub invariant_of-self : goal.invariant_of-self

@@ -41,7 +41,8 @@ returns-clause-room c =
     let slots = c.self.inside.slots.items in
     let within = some_within slots c.args.slot (rw (← c.self.view_is) at c.requires) in
     let there = at_slot slots c.args.slot c.index_mut.result.now c.in-Some.table c.index_mut.ensures.value within c.in-Some.is in
-    subst (λ (t : TableState). OnOk c.reserve_more.result (t.room + c.args.more ≤ (table_in (set slots c.args.slot (Some c.reserve_more.new.self)) c.args.slot).room))
+    subst (λ (t : TableState). OnOk c.reserve_more.result (t.room + c.args.more
+    ≤ (table_in (set slots c.args.slot (Some c.reserve_more.new.self)) c.args.slot).room))
     (own_is c.args.self.now slots c.args.slot c.in-Some.table c.reserve_more.new.self c.self.view_is there)
     (subst (λ (t : TableState). OnOk c.reserve_more.result (c.in-Some.table.room + c.args.more ≤ t.room))
     (sym (new_is c.args.self.now slots c.args.slot c.in-Some.table c.reserve_more.new.self c.self.view_is there)) c.reserve_more.ensures.room)

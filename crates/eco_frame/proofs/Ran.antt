@@ -47,7 +47,8 @@ module _ (workers : ℕ) (w new : WorldState) (systems : List SystemModel) {V : 
       )
 
 -- the same, as the code finds systems and batches
-module _ (workers : ℕ) (w new : WorldState) {S V : Type 0} (f : S → SystemModel) (items : V → List ℕ) (own systems : List S) (those batches : List V) (p : Progress)
+module _ (workers : ℕ) (w new : WorldState) {S V : Type 0} (f : S → SystemModel) (items : V → List ℕ)
+    (own systems : List S) (those batches : List V) (p : Progress)
     (same : own ≡ systems) (alike : those ≡ batches) (placed : ArePlaced w (map f systems) (map items batches)) (n : ℕ)
     (ran : HaveRun workers w (map (λ b. map (model_at (map f own)) (items b)) (take n those)) p new) where
   found : HaveRun workers w (map (λ b. map (model_at (map f systems)) (items b)) (take n batches)) p new
@@ -67,7 +68,8 @@ module _ (workers : ℕ) (w new : WorldState) {S V : Type 0} (f : S → SystemMo
 -- a frame whose batches go in one way is one whose batches go in the other
 frames_weaker : (One Other : WorldState → List SystemModel → BatchDraws → Outcomes → WorldState → Type 0)
     → ((w : WorldState) (b : List SystemModel) (d : BatchDraws) (o : Outcomes) (new : WorldState) → One w b d o new → Other w b d o new)
-    → (w : WorldState) (systems : List SystemModel) (r : Result FrameDone FrameStop) (new : WorldState) → Frames One w systems r new → Frames Other w systems r new
+    → (w : WorldState) (systems : List SystemModel) (r : Result FrameDone FrameStop) (new : WorldState)
+    → Frames One w systems r new → Frames Other w systems r new
 frames_weaker One Other weaker w systems (Ok r) new h =
     (h.0, (h.1.0, h.1.1, turns_weaker One Other weaker w h.1.0 h.0 r.outcomes new h.1.2), h.2, h.3)
 frames_weaker One Other weaker w systems (Err s) new h =

@@ -30,4 +30,5 @@ pub batches_within : {A V : Type 0} (items : V → List ℕ) (xs : List A) (foun
     → All (λ b. All (λ k. k < n) (items b)) batches
 batches_within items xs found order batches are there n long =
     let all = subst (AllByRecursion (λ k. k < length xs)) (sym are) (all_within xs order found there) in
-    All-from_recursion (λ b. All (λ k. k < n) (items b)) batches (all_parts items n batches (subst (λ m. AllByRecursion (λ k. k < m) (joined (map items batches))) long all))
+    All-from_recursion (λ b. All (λ k. k < n) (items b)) batches
+    (all_parts items n batches (subst (λ m. AllByRecursion (λ k. k < m) (joined (map items batches))) long all))

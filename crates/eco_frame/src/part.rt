@@ -46,7 +46,8 @@ pub(crate) fn parts<'a, B: SystemBody>(
     places: &[usize],
 ) -> Result<Vec<Part<'a, B>>, Refusal>
     requires { All (λ k. k < length systems.now) places.now }
-    ensures ok { IfOk result (λ ps. map seen_part ps.items ≡ flat_map (part_at world.now systems.now) places.now) }
+    ensures ok { IfOk result (λ ps. map seen_part ps.items
+        ≡ flat_map (part_at world.now systems.now) places.now) }
     ensures err { IfErr result (λ why. why ≡ OutOfMemory) }
 {
     let mut parts = Vec::with_capacity(alloc, places.len())?;

@@ -49,7 +49,8 @@ fn record_between<B: SystemBody, D: Draws>(
         (taken_of (B.taken body.now) (take (end - first) (drop first rows.now)))
         (D.so_far draws.old) (D.so_far draws.new) stage.old stage.new) }
     ensures why { IfErr result (λ why. why ≡ stopped_by (D.is_dry draws.new)) }
-    ensures err { IfErr result (λ _. Broke (taken_of (B.taken body.now) (take (end - first) (drop first rows.now)))
+    ensures err { IfErr result (λ _. Broke
+        (taken_of (B.taken body.now) (take (end - first) (drop first rows.now)))
         (D.so_far draws.old) (D.so_far draws.new) (D.is_dry draws.new)) }
 {
     for place in first..end {

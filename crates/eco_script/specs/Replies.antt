@@ -87,8 +87,8 @@ abbrev pub AnswersAdded : WorldState → Option (List QueryTerm) → Result Repl
 AnswersAdded w None = Refuses NoSuchQuery w
 AnswersAdded w (Some slots) = Meets (Answers (found (answer w slots)) w) (may_query w slots) w
 
--- what a step on the world alone answers, and the world after it; a system and a frame are no such steps. Texts are read from left to right, and the first that is refused
--- is the step's refusal. A listing may find no memory, and so may a query that has a result, one that is added, and a merge that
+-- what a step on the world alone answers, and the world after it; a system and a frame are no such steps. Texts are read from left to right, and the first
+-- that is refused is the step's refusal. A listing may find no memory, and so may a query that has a result, one that is added, and a merge that
 -- has stages or makes indices known.
 abbrev pub Replies : WorldState → step.Step → Result Reply Refusal → WorldState → Type 0
 Replies w (step.create name) = Calls (Meets (Creates w name) (may_create w name) w) made

@@ -42,5 +42,6 @@ returns-clause-out g c =
     (subst (λ n. IsOut (by_index f) (by_index t) (map seen_piece pieces) (length w.indices) n) c.limit.ensures
     (subst (λ n. IsOut (by_index f) (by_index t) (map seen_piece pieces) n c.limit.result) c.high.ensures
     (out_seen seen_piece (by_index f) (by_index t) pieces c.high.result c.limit.result
-    (subst (λ ps. IsOut (by_index (λ p. f (seen_piece p))) (by_index (λ p. t (seen_piece p))) ps c.high.result c.limit.result) c.deref-3.ensures.value (h no))))))
+    (subst (λ ps. IsOut (by_index (λ p. f (seen_piece p))) (by_index (λ p. t (seen_piece p))) ps c.high.result c.limit.result)
+    c.deref-3.ensures.value (h no))))))
     c.run_batch.ensures.out

@@ -14,6 +14,6 @@ returns-clause-ok g c =
     let batch = map (model_at (map (model_of b.reads_of b.writes_of b.kills_of b.taken b.commands) c.args.systems.now)) c.args.places.now in
     let before = c.args.done.now in
     let merged = subst (λ ss. Merges w n (all_commands ss) (Ok c.in_ok-report.report) new) c.deref-2.ensures.value c.in_ok-report.ensures in
-    has_run c.args.workers w new batch (all_commands stages) n before c.push.new.self c.in_ok-report.report c.in_ok-stages.ensures.ok c.in_ok-stages.ensures.most
-    merged c.in-Some.commands c.in-Some.in_all
+    has_run c.args.workers w new batch (all_commands stages) n before c.push.new.self c.in_ok-report.report c.in_ok-stages.ensures.ok
+    c.in_ok-stages.ensures.most merged c.in-Some.commands c.in-Some.in_all
     (c.in-Some.ensures.0 ∙ ap (λ ss. before.commands + length (all_commands ss)) c.deref.ensures.value) c.in-Some.ensures.1 c.push.ensures

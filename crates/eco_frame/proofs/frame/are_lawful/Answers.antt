@@ -25,4 +25,5 @@ pub returns : goal.returns
 returns g c =
     let b = g.B.SystemBody in
     let f : System g.row.B.Denot → SystemModel = model_of b.reads_of b.writes_of b.kills_of b.taken b.commands in
-    subst (λ ss. AllByRecursion IsLawfulSystem (map f ss)) (take_all c.loop-system.system-index c.args.systems.now c.loop-system-test.false) c.loop-system.invariant
+    subst (λ ss. AllByRecursion IsLawfulSystem (map f ss))
+    (take_all c.loop-system.system-index c.args.systems.now c.loop-system-test.false) c.loop-system.invariant

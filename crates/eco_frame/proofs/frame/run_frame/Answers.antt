@@ -44,8 +44,8 @@ returns-in-Ok-run_all-clause-frame g c =
     let new = c.run_all.new.world in
     let systems = c.args.systems.now in
     let p = c.run_all.new.done in
-    let ran = whole_frame c.args.workers w new f (λ v. v.items) c.as_slice-2.result.now systems c.deref.result.now c.in-Ok.batches.items p c.as_slice-2.ensures c.deref.ensures.value
-    c.in-Ok.ensures.placed (vec_len p.reports) c.in-Ok-run_all.ensures.so_far c.in-Ok-run_all.ensures.all c.into_report.result c.into_report.ensures in
+    let ran = whole_frame c.args.workers w new f (λ v. v.items) c.as_slice-2.result.now systems c.deref.result.now c.in-Ok.batches.items p
+    c.as_slice-2.ensures c.deref.ensures.value c.in-Ok.ensures.placed (vec_len p.reports) c.in-Ok-run_all.ensures.so_far c.in-Ok-run_all.ensures.all c.into_report.result c.into_report.ensures in
     frame_of c.args.workers w (map f systems) (Ok c.into_report.result) new ran
 
 pub returns-in-Ok-run_all-clause-alone : goal.returns-in-Ok-run_all-clause-alone
@@ -56,8 +56,8 @@ returns-in-Ok-run_all-clause-alone g c one =
     let new = c.run_all.new.world in
     let systems = c.args.systems.now in
     let p = c.run_all.new.done in
-    let ran = whole_frame c.args.workers w new f (λ v. v.items) c.as_slice-2.result.now systems c.deref.result.now c.in-Ok.batches.items p c.as_slice-2.ensures c.deref.ensures.value
-    c.in-Ok.ensures.placed (vec_len p.reports) c.in-Ok-run_all.ensures.so_far c.in-Ok-run_all.ensures.all c.into_report.result c.into_report.ensures in
+    let ran = whole_frame c.args.workers w new f (λ v. v.items) c.as_slice-2.result.now systems c.deref.result.now c.in-Ok.batches.items p
+    c.as_slice-2.ensures c.deref.ensures.value c.in-Ok.ensures.placed (vec_len p.reports) c.in-Ok-run_all.ensures.so_far c.in-Ok-run_all.ensures.all c.into_report.result c.into_report.ensures in
     alone_of c.args.workers w (map f systems) (Ok c.into_report.result) new ran one
 
 pub returns-in-Ok-run_all-clause-solo : goal.returns-in-Ok-run_all-clause-solo
@@ -68,8 +68,8 @@ returns-in-Ok-run_all-clause-solo g c =
     let new = c.run_all.new.world in
     let systems = c.args.systems.now in
     let p = c.run_all.new.done in
-    let ran = whole_frame c.args.workers w new f (λ v. v.items) c.as_slice-2.result.now systems c.deref.result.now c.in-Ok.batches.items p c.as_slice-2.ensures c.deref.ensures.value
-    c.in-Ok.ensures.placed (vec_len p.reports) c.in-Ok-run_all.ensures.so_far c.in-Ok-run_all.ensures.all c.into_report.result c.into_report.ensures in
+    let ran = whole_frame c.args.workers w new f (λ v. v.items) c.as_slice-2.result.now systems c.deref.result.now c.in-Ok.batches.items p
+    c.as_slice-2.ensures c.deref.ensures.value c.in-Ok.ensures.placed (vec_len p.reports) c.in-Ok-run_all.ensures.so_far c.in-Ok-run_all.ensures.all c.into_report.result c.into_report.ensures in
     let lawful = subst (λ ss. AllByRecursion IsLawfulSystem (map f ss)) c.as_slice.ensures c.are_lawful.ensures in
     let laws = c.frames_are_one_by_one.ensures in
     solo_of laws.whole laws.stopped w (map f systems) (Ok c.into_report.result) new c.is_lawful.ensures lawful
@@ -84,8 +84,8 @@ returns-clause-frame g c =
     let systems = c.args.systems.now in
     let p = c.run_all.new.done in
     let stop : FrameStop = record { batches = c.len.result; refusal = c.in-Err.refusal } in
-    let ran = stopped_frame c.args.workers w new f (λ v. v.items) c.as_slice-2.result.now systems c.deref.result.now c.in-Ok.batches.items p c.as_slice-2.ensures c.deref.ensures.value
-    c.in-Ok.ensures.placed (vec_len p.reports) c.in-Err.ensures.so_far stop (c.len.ensures ∙ p.reports.ok.0) in
+    let ran = stopped_frame c.args.workers w new f (λ v. v.items) c.as_slice-2.result.now systems c.deref.result.now c.in-Ok.batches.items p
+    c.as_slice-2.ensures c.deref.ensures.value c.in-Ok.ensures.placed (vec_len p.reports) c.in-Err.ensures.so_far stop (c.len.ensures ∙ p.reports.ok.0) in
     frame_of c.args.workers w (map f systems) (Err stop) new ran
 
 pub returns-clause-alone : goal.returns-clause-alone
@@ -97,8 +97,8 @@ returns-clause-alone g c one =
     let systems = c.args.systems.now in
     let p = c.run_all.new.done in
     let stop : FrameStop = record { batches = c.len.result; refusal = c.in-Err.refusal } in
-    let ran = stopped_frame c.args.workers w new f (λ v. v.items) c.as_slice-2.result.now systems c.deref.result.now c.in-Ok.batches.items p c.as_slice-2.ensures c.deref.ensures.value
-    c.in-Ok.ensures.placed (vec_len p.reports) c.in-Err.ensures.so_far stop (c.len.ensures ∙ p.reports.ok.0) in
+    let ran = stopped_frame c.args.workers w new f (λ v. v.items) c.as_slice-2.result.now systems c.deref.result.now c.in-Ok.batches.items p
+    c.as_slice-2.ensures c.deref.ensures.value c.in-Ok.ensures.placed (vec_len p.reports) c.in-Err.ensures.so_far stop (c.len.ensures ∙ p.reports.ok.0) in
     alone_of c.args.workers w (map f systems) (Err stop) new ran one
 
 pub returns-clause-solo : goal.returns-clause-solo
@@ -110,8 +110,8 @@ returns-clause-solo g c =
     let systems = c.args.systems.now in
     let p = c.run_all.new.done in
     let stop : FrameStop = record { batches = c.len.result; refusal = c.in-Err.refusal } in
-    let ran = stopped_frame c.args.workers w new f (λ v. v.items) c.as_slice-2.result.now systems c.deref.result.now c.in-Ok.batches.items p c.as_slice-2.ensures c.deref.ensures.value
-    c.in-Ok.ensures.placed (vec_len p.reports) c.in-Err.ensures.so_far stop (c.len.ensures ∙ p.reports.ok.0) in
+    let ran = stopped_frame c.args.workers w new f (λ v. v.items) c.as_slice-2.result.now systems c.deref.result.now c.in-Ok.batches.items p
+    c.as_slice-2.ensures c.deref.ensures.value c.in-Ok.ensures.placed (vec_len p.reports) c.in-Err.ensures.so_far stop (c.len.ensures ∙ p.reports.ok.0) in
     let lawful = subst (λ ss. AllByRecursion IsLawfulSystem (map f ss)) c.as_slice.ensures c.are_lawful.ensures in
     let laws = c.frames_are_one_by_one.ensures in
     solo_of laws.whole laws.stopped w (map f systems) (Err stop) new c.is_lawful.ensures lawful

@@ -126,7 +126,10 @@ fn record_adds(stage: &mut Stage, work: &Work) -> Result<(), Refusal> {
 // The stage sets each id of its entity to the value.
 fn record_sets(stage: &mut Stage, work: &Work, value: Value) -> Result<(), Refusal> {
     for turn in 0..work.entities().len() {
-        record(stage, Command::Set(work.entities()[turn], work.id_at(turn), value))?;
+        record(
+            stage,
+            Command::Set(work.entities()[turn], work.id_at(turn), value),
+        )?;
     }
     Ok(())
 }

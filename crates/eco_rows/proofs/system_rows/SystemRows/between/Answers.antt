@@ -18,9 +18,9 @@ loop-place-preserved c =
     let less : k < length (drop first all) = let len = length-drop first all in omega (arith, low, within, len) in
     let pushed : c.push.new.self.items ≡ c.loop-place.rows.items ++ row ∷ [] = search rules in
     let at =
-        get_or-drop first all k (world_row row)
-        ∙ ap (λ n. get_or all n (world_row row)) same
-        ∙ get_or_from_slice_get all place (world_row row) (world_row row) c.get.ensures in
+    get_or-drop first all k (world_row row)
+    ∙ ap (λ n. get_or all n (world_row row)) same
+    ∙ get_or_from_slice_get all place (world_row row) (world_row row) c.get.ensures in
     let next : (place + 1) - first ≡ k + 1 = omega (arith, low) in
     ap (map world_row) pushed ∙ map_push world_row c.loop-place.rows.items row ∙ ap (λ rs. rs ++ world_row row ∷ []) c.loop-place.invariant
     ∙ ap (λ r. take k (drop first all) ++ r ∷ []) (sym at)

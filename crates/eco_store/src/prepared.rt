@@ -46,8 +46,12 @@ impl Model for Prepared {
     ghost Value = { PreparedState };
 
     ghost view = { λ p.
-        record { arrivals = reverse p.arrivals.entries; targets = p.targets.keys; gathered = p.gathered.items;
-            idle = p.idle } };
+        record {
+          arrivals = reverse p.arrivals.entries;
+          targets = p.targets.keys;
+          gathered = p.gathered.items;
+          idle = p.idle;
+        } };
 }
 
 impl Prepared {

@@ -98,7 +98,7 @@ impl<'a> SystemRows<'a> {
     {
         let mut rows = Vec::with_capacity(alloc, end - first)?;
         for place in first..end {
-            rows.push(self.get(place))?;
+            rows.push_reserved(self.get(place));
         }
         Ok(rows)
     }

@@ -1,5 +1,5 @@
 //! All rows of a query, lent from a world.
-ghost use Rattle.std.specs.Prelude.{◌≡◌, ◌==◌, ◌<◌, ◌≤◌, ◌-◌, drop, length, map, slice_get, take, IfErr, IfOk, IsTrue, OnErr, Some};
+ghost use Rattle.std.specs.Prelude.{◌≡◌, ◌==◌, ◌<◌, length, slice_get, IfErr, IfOk, IsTrue, OnErr, Some};
 ghost use Rattle.eco_ids.specs.declared.refusal.Refusal.TheVariants.{OutOfMemory};
 ghost use Rattle.eco_answers.specs.Answers.{asked};
 ghost use Rattle.eco_systems.specs.Rows.{rows_of};
@@ -10,7 +10,6 @@ use crate::row::WorldRow;
 use eco_ids::Refusal;
 use eco_query::Query;
 use eco_world::{Results, World};
-use std::alloc::{AllocError, Global};
 use std::marker::Model;
 
 /// A query's results on a world, which lend their rows (Flecs manual, Systems). A contract sees the list of the rows, each
@@ -81,26 +80,5 @@ impl<'a> SystemRows<'a> {
     {
         let (entity, entries) = self.results.get(place);
         WorldRow::of(entity, entries, self.query, self.world)
-    }
-
-    /// Those from one place to below another, in one slice, as `record_rows` of `eco_bodies` goes over them. Each costs an
-    /// entity and three references, and no value is read. An `Err` comes where memory is refused, and never where there is
-    /// none of them.
-    pub fn between(
-        &self,
-        alloc: Global,
-        first: usize,
-        end: usize,
-    ) -> Result<Vec<WorldRow<'_>>, AllocError>
-        requires { (first ≤ end) × (end ≤ length self.now) }
-        ensures all { IfOk result (λ rows.
-            map world_row rows.items ≡ take (end - first) (drop first self.now)) }
-        ensures some { OnErr result (first < end) }
-    {
-        let mut rows = Vec::with_capacity(alloc, end - first)?;
-        for place in first..end {
-            rows.push(self.get(place))?;
-        }
-        Ok(rows)
     }
 }

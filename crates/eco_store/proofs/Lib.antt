@@ -22,6 +22,7 @@ pub mod Stepping
 pub mod Exchanges
 pub mod WholeMoves
 pub mod Needing
+pub mod Lent
 pub mod Taking
 pub mod Dying
 pub mod Clearing

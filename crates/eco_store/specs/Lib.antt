@@ -8,4 +8,5 @@ pub mod Retyping
 pub mod Transfers
 pub mod Preparing
 pub mod Layout
+pub mod Lent
 pub mod Worlds

@@ -12,6 +12,7 @@ ghost use Rattle.eco_ids.specs.declared.id.Id.{Id as Ids};
 ghost use Rattle.eco_entities.specs.Registration.{entity_at, name_of};
 ghost use Rattle.eco_store.specs.Placing.{Opposes};
 ghost use Rattle.eco_store.specs.Store.{Admission, Creates, Renames, MakesAlive, held_by, own_arity, fits, record_name, type_of, with_written, Stands, IsShown};
+ghost use Rattle.eco_store.specs.Lent.{KeepData, KeepsData};
 
 use crate::layout::Layout;
 use eco_entities::EntityIndex;
@@ -140,10 +141,12 @@ impl Store {
         self.entities.lookup(name)
     }
 
-    // The table in which a living entity stands, and its row.
-    fn stand(&self, e: Entity) -> Option<(&Table, usize)>
-        ensures { MatchOption result (record_of self.now.entities e ≡ None)
+    /// The table in which a living entity stands, and its row.
+    #[inline]
+    pub fn stand(&self, e: Entity) -> Option<(&Table, usize)>
+        ensures stands { MatchOption result (record_of self.now.entities e ≡ None)
             (λ x. Stands (record_of self.now.entities e) x.0.now x.1) }
+        ensures kept { IfSome result (λ x. KeepsData self.now.entities x.0.now) }
     {
         let place = self.entities.place_of(e)?;
         let table = self.layout.tables().get(place.table).unwrap();
@@ -178,9 +181,10 @@ impl Store {
     }
 
     /// The tables, to read. Each living entity stands in one row, in the table of its own ids, and no two tables have the
-    /// same type.
+    /// same type. They keep fields of each id that is data.
     pub fn tables(&self) -> &Tables
         ensures shown { IsShown self.now.entities result.now }
+        ensures kept { KeepData self.now.entities result.now }
         ensures kinds { (n m : ℕ) (ids : List Ids) →
             type_at result.now n ≡ Some ids → type_at result.now m ≡ Some ids → n ≡ m }
     {

@@ -1,5 +1,6 @@
 pub mod Copies
 pub mod Held
+pub mod Kept
 pub mod Packing
 pub mod RowIds
 pub mod Rows

@@ -76,6 +76,7 @@ fn narrowed<const N: usize>(value: Value) -> [i64; N]
 }
 
 // The value of these fields.
+#[inline(always)]
 #[tactic(auto, using(crate::proofs::Packing::fits_widened))]
 fn widened<const N: usize>(fields: [i64; N]) -> Value
     requires { N ≤ FIELD_COUNT }
@@ -283,6 +284,7 @@ impl Column {
     }
 
     /// The value in a row.
+    #[inline(always)]
     pub fn value(&self, row: usize) -> Value
         requires { row < length self.now.values }
         ensures value { result ≡ slice_index_or self.now.values row zeros }

@@ -70,6 +70,7 @@ fn find_near(columns: &[Column], place: usize, id: Id) -> Option<usize>
 }
 
 /// The value of an id in a row, if one of the columns has the id.
+#[inline]
 pub fn find_value(columns: &[Column], row: usize, id: Id) -> Option<Value>
     requires ascending { IsTrue (is_ascending id_cmp (map (λ c. c.id) columns.now)) }
     requires row { All (λ c. row < length c.values) columns.now }

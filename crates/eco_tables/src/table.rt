@@ -1,5 +1,5 @@
 //! A table: the entities of one type, and a column of values for each id that is data.
-ghost use Rattle.std.specs.Prelude.{◌≡◌, ℕ, ◌<◌, ◌≤◌, ◌+◌, ◌-◌, ◌^◌, ◌++◌, [], ◌∷◌, length, map, slice_index_or, slice_set, is_some, unwrap_or, OnOk, IsOk, IfOk, IfSome, IfNone, IsSome, IsTrue, slice_get, IsFalse};
+ghost use Rattle.std.specs.Prelude.{◌≡◌, ℕ, ◌<◌, ◌≤◌, ◌+◌, ◌-◌, ◌^◌, ◌++◌, [], ◌∷◌, length, map, slice_index_or, slice_set, is_some, unwrap_or, OnOk, IsOk, IfOk, IfSome, IsSome, IsTrue, slice_get, IsFalse, MatchOption, nat_lt, Some};
 ghost use Rattle.eco_ids.specs.declared.id.Id.{Id as Ids};
 ghost use Rattle.std.specs.List.{swap_remove, All};
 ghost use Rattle.std.specs.FinMap.Entries.{find};
@@ -7,6 +7,7 @@ ghost use Rattle.eco_ids.specs.Order.{id_cmp, has_item};
 ghost use Rattle.eco_ids.specs.World.{zeros};
 ghost use Rattle.eco_tables.specs.Column.{value_in, with_held, retyped};
 ghost use Rattle.eco_tables.specs.Table.{TableState, Row, entities_of, HasIds, Agree, FitsId, width_in, empty_table};
+ghost use Rattle.eco_tables.specs.Kept.{IsUnkept};
 ghost use Rattle.eco_tables.specs.Tables.{cleared, new_row, no_row, with_room, with_row, with_rows, with_written, without_row, without_rows};
 ghost use Rattle.eco_tables.specs.Values.{shown};
 
@@ -133,7 +134,7 @@ impl Table {
     /// the id.
     pub fn values(&self, id: Id) -> Option<Values<'_>>
         ensures shown { IfSome result (λ v. shown v ≡ map (λ r. value_in r.held id) self.now.rows) }
-        ensures none { IfNone result (unwrap_or (width_in self.now id) 0 ≡ 0) }
+        ensures kept { is_some result ≡ nat_lt 0 (unwrap_or (width_in self.now id) 0) }
     {
         let place = find_column(self.columns.as_slice(), id)?;
         Some(self.columns[place].values())
@@ -157,6 +158,18 @@ impl Table {
             None if self.type_list.has(id) => Some(Value::ZERO),
             None => None,
         }
+    }
+
+    /// The value of an id in a row, where fields of it are kept: none where the type lacks the id, or where each value of it is
+    /// zeros, as it has no column.
+    #[inline(always)]
+    pub fn kept_value(&self, row: usize, id: Id) -> Option<Value>
+        requires { row < length self.now.rows }
+        ensures { MatchOption result (IsUnkept self.now row id)
+            (λ v. (r : Row) → find id_cmp id (slice_index_or self.now.rows row r).held ≡ Some v) }
+    {
+        let place = find_column(self.columns.as_slice(), id)?;
+        Some(self.columns[place].value(row))
     }
 
     /// Writes that one value, which is no wider than the id's, and takes no memory. The answer is whether the type has the

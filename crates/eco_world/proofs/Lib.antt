@@ -1,6 +1,7 @@
 pub mod Asking
 pub mod Cached
 pub mod Changes
+pub mod Data
 pub mod Deleting
 pub mod Extending
 pub mod Fitting

@@ -1,13 +1,14 @@
 -- The tables that a world lists.
-use Rattle.std.specs.Prelude.{◌≡◌, ℕ, Bool, List, Option, IsSome, filter, map, unwrap_or}
+use Rattle.std.specs.Prelude.{◌≡◌, ℕ, Bool, true, ◌&&◌, List, Option, IsSome, filter, is_some, map, nat_lt, unwrap_or}
 use Rattle.std.specs.List.Sorted.{IsSortedByKey}
 use Rattle.std.specs.Cmp.Lexicographic.{slice_cmp}
 use Rattle.eco_ids.specs.declared.entity.Entity.{Entity}
 use Rattle.eco_ids.specs.declared.id.Id.{Id}
 use Rattle.eco_ids.specs.declared.pattern.Pattern.{Pattern}
 use Rattle.eco_ids.specs.declared.value.Value.{Value}
+use Rattle.eco_ids.specs.Data.{arity}
 use Rattle.eco_ids.specs.Layout.{ListedTable, IsLayout, tables_with}
-use Rattle.eco_ids.specs.Order.{id_cmp}
+use Rattle.eco_ids.specs.Order.{has_item, id_cmp}
 use Rattle.eco_ids.specs.World.{WorldState, held_by}
 use Rattle.eco_query.specs.Queries.{QuerySlot, matches_type}
 use Rattle.eco_tables.specs.Column.{value_in}
@@ -31,17 +32,17 @@ shown_of t = record { ids = t.ids; entities = entities_of t.rows }
 abbrev pub shown_at : List (Option TableState) → ℕ → ListedTable
 shown_at slots n = shown_of (table_in slots n)
 
--- the entities of a listed table, and the table that lends its values
-abbrev pub lent : TableRows → List Entity × TableState
-lent t = (t.entities.now, t.table.now)
+-- a listed table with the table that lends its values, and the world that knows what is data
+abbrev pub lent : TableRows → ListedTable × TableState × WorldState
+lent t = (listed_of t, t.table.now, t.world.now)
 
--- a table of the store with its entities
-abbrev pub lent_of : TableState → List Entity × TableState
-lent_of t = (entities_of t.rows, t)
+-- a table of the store, as a world lists and lends it
+abbrev pub lent_of : WorldState → TableState → ListedTable × TableState × WorldState
+lent_of w t = (shown_of t, t, w)
 
--- the table in a slot with its entities
-abbrev pub lent_at : List (Option TableState) → ℕ → List Entity × TableState
-lent_at slots n = lent_of (table_in slots n)
+-- the table in a slot, as a world lists and lends it
+abbrev pub lent_at : WorldState → List (Option TableState) → ℕ → ListedTable × TableState × WorldState
+lent_at w slots n = lent_of w (table_in slots n)
 
 -- the value of the id in each row, in their order; zeros where the type lacks it
 abbrev pub column_in : TableState → Id → List Value
@@ -51,13 +52,20 @@ column_in t i = map (λ r. value_in r.held i) t.rows
 abbrev pub lent_by : TableRows → Id → List Value
 lent_by t i = column_in t.table.now i
 
--- how many fields it keeps of them; none where its type lacks the id
-abbrev pub fields_kept : TableRows → Id → ℕ
-fields_kept t i = unwrap_or (width_in t.table.now i) 0
+-- it lends values of the id: the id is data, and the table keeps fields of it
+abbrev pub is_lent : TableRows → Id → Bool
+is_lent t i = is_some (arity t.world.now i) && nat_lt 0 (unwrap_or (width_in t.table.now i) 0)
 
--- of each id it lends what its entities have in the world, in their order; zeros where they lack the id
-abbrev pub LendsValues : WorldState → TableRows → Type 0
-LendsValues w t = (i : Id) → lent_by t i ≡ map (λ e. value_in (held_by w e) i) t.entities.now
+-- the table keeps a width for each of its ids, which may be 0
+abbrev pub IsWhole : TableRows → Type 0
+IsWhole t = (i : Id) → has_item id_cmp t.table.now.ids i ≡ true → IsSome (width_in t.table.now i)
+
+-- a listed table lends what its entities have in the world
+pub record LendsValues (w : WorldState) (t : TableRows) : Type 0 where
+  -- of each id, in their order; zeros where they lack the id
+  pub values : (i : Id) → lent_by t i ≡ map (λ e. value_in (held_by w e) i) t.entities.now
+  -- of exactly those of its ids that are data
+  pub data_ids : (i : Id) → is_lent t i ≡ (has_item id_cmp t.ids.now i && is_some (arity w i))
 
 -- the slot has a table
 abbrev pub HasTable : List (Option TableState) → ℕ → Type 0

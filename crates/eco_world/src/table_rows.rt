@@ -1,7 +1,8 @@
 //! A table as a world lists it.
-ghost use Rattle.std.specs.Prelude.{◌≡◌, IfNone, IfSome};
+ghost use Rattle.std.specs.Prelude.{◌≡◌, IfSome, is_some};
 ghost use Rattle.eco_tables.specs.Values.{shown};
 
+use crate::world::World;
 use eco_ids::{Entity, Id};
 use eco_store::Table;
 use eco_tables::Values;
@@ -16,29 +17,38 @@ pub struct TableRows<'a> {
     pub entities: &'a [Entity],
     // Where the values stand.
     table: &'a Table,
+    // Which knows what is data.
+    world: &'a World,
 }
 
 impl<'a> TableRows<'a> {
-    ghost use Rattle.eco_world.specs.Layouts.{fields_kept, lent_by, listed_of, shown_of};
+    ghost use Rattle.eco_world.specs.Layouts.{is_lent, IsWhole, lent, lent_by, lent_of, listed_of, shown_of};
 
     // The table's type and its entities.
-    pub(crate) fn of(table: &'a Table) -> TableRows<'a>
+    pub(crate) fn of(world: &'a World, table: &'a Table) -> TableRows<'a>
         ensures listed { listed_of result ≡ shown_of table.now }
-        ensures table { result.table.now ≡ table.now }
+        ensures lent { lent result ≡ lent_of world.now table.now }
+        ensures whole { IsWhole result }
     {
+        table.ids_have_widths();
         TableRows {
             ids: table.type_list().as_slice(),
             entities: table.rows(),
             table,
+            world,
         }
     }
 
     /// The values of an id, one for each of the entities and in their order. A slice has so many fields of each value as are
-    /// kept of the id: those past them are 0. None where the table keeps none, as where its type lacks the id.
+    /// kept of the id: those past them are 0. The values are lent exactly where the id is one of the type's and is data.
     pub fn values(&self, id: Id) -> Option<Values<'a>>
         ensures shown { IfSome result (λ values. shown values ≡ lent_by self.now id) }
-        ensures none { IfNone result (fields_kept self.now id ≡ 0) }
+        ensures lent { is_some result ≡ is_lent self.now id }
     {
+        // A table may keep fields of a pair of a built-in, which is no data.
+        if self.world.arity(id).is_none() {
+            return None;
+        }
         self.table.values(id)
     }
 }

@@ -1,7 +1,6 @@
 //! The world and what it answers.
-ghost use Rattle.std.specs.Prelude.{◌≡◌, ◌≤◌, ◌<◌, false, IfErr, IfOk, IsTrue, length, map, OnErr, OnOk, option_map, true};
+ghost use Rattle.std.specs.Prelude.{◌≡◌, ◌≤◌, ◌<◌, false, IfErr, IfOk, is_some, IsTrue, length, map, OnErr, OnOk, option_map, true};
 ghost use Rattle.std.specs.Option.{option_copied};
-ghost use Rattle.std.specs.FinMap.Entries.{find};
 ghost use Rattle.eco_ids.specs.declared.refusal.Refusal.TheVariants.{OutOfMemory};
 ghost use Rattle.eco_ids.specs.Data.{arity, arity_of, value_of};
 ghost use Rattle.eco_ids.specs.Lawful.{IsLawful};
@@ -171,11 +170,12 @@ impl World {
 
     /// The value of the id, where the entity lives, has the id, and the id is data (Flecs manual, Entities and
     /// Components). It takes no memory.
+    #[inline]
     pub fn get(&self, entity: Entity, id: Id) -> Option<Value>
         ensures { result ≡ value_of self.now entity id }
     {
         if self.arity(id).is_some() {
-            self.held_value(entity, id)
+            self.data_value(entity, id)
         } else {
             None
         }
@@ -201,11 +201,15 @@ impl World {
         self.store.type_of(entity)
     }
 
-    // The value at an id that a living entity has: zeros where the id is no data.
-    fn held_value(&self, entity: Entity, id: Id) -> Option<Value>
-        ensures { result ≡ find id_cmp id (held_by self.now entity) }
+    // The value at an id that is data: one look at the entity, and one at the columns of its table.
+    #[inline(always)]
+    fn data_value(&self, entity: Entity, id: Id) -> Option<Value>
+        requires { is_some (arity self.now id) ≡ true }
+        ensures { result ≡ value_of self.now entity id }
     {
-        self.store.value(entity, id)
+        self.is_lawful();
+        let (table, row) = self.store.stand(entity)?;
+        table.kept_value(row, id)
     }
 
     /// How many fields the values of the id have, where it is data: an entity's are its own; a pair has its

@@ -7,6 +7,7 @@ ghost use Rattle.eco_tables.specs.Tables.{slot_of, table_in};
 ghost use Rattle.eco_archetypes.specs.Archetypes.{type_at, is_found, is_found_by};
 ghost use Rattle.eco_store.specs.Holders.{passes, has_match, entities_whose, entities_with, is_holder, holders};
 ghost use Rattle.eco_store.specs.Retyping.{IsTypeBy, IsTypeWith};
+ghost use Rattle.eco_store.specs.Lent.{KeepData};
 ghost use Rattle.eco_store.specs.Store.{IsShown};
 
 use crate::store::Store;
@@ -35,6 +36,7 @@ impl Store {
     /// the test's patterns finds. An `Err` comes where memory is refused, and never where no living entity's type passes.
     pub fn tables_by<T: TypeTest>(&self, test: &T) -> Result<Found<'_>, AllocError>
         ensures shown { IfOk result (λ f. IsShown self.now.entities f.tables.now) }
+        ensures kept { IfOk result (λ f. KeepData self.now.entities f.tables.now) }
         ensures listed { IfOk result (λ f. (n : ℕ) →
             list_any (nat_eq n) f.slots.items ≡ is_found_by (T.test test.now) (slot_of f.tables.now n)) }
         ensures distinct { IfOk result (λ f. IsDistinct nat_eq f.slots.items) }

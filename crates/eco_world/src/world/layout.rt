@@ -3,7 +3,7 @@ ghost use Rattle.std.specs.Prelude.{◌≡◌, ◌<◌, All, IfOk, IsTrue, lengt
 ghost use Rattle.std.specs.List.Sorted.{IsPermutation};
 ghost use Rattle.eco_ids.specs.Layout.{IsLayout};
 ghost use Rattle.eco_world.specs.Queries.{is_answered, is_matched, is_passed};
-ghost use Rattle.eco_world.specs.Layouts.{HasTable, IsByType, lent, lent_at, LendsValues, listed, ListsBy, ListsOf, ListsWith, shown_at};
+ghost use Rattle.eco_world.specs.Layouts.{HasTable, IsByType, IsWhole, lent, lent_at, LendsValues, listed, ListsBy, ListsOf, ListsWith, shown_at};
 
 use crate::table_rows::TableRows;
 use crate::world::World;
@@ -11,7 +11,7 @@ use eco_answers::Asking;
 use eco_ids::Pattern;
 use eco_query::Query;
 use eco_store::{Tables, TypeTest};
-use std::alloc::{AllocError, Global};
+use std::alloc::AllocError;
 
 impl World {
     /// The tables of the world (Flecs manual, Queries, archetypes): each type that some living entity has, with all who
@@ -27,7 +27,7 @@ impl World {
             if let Some(table) = slot
                 && table.row_count() > 0
             {
-                tables.push(TableRows::of(table))?;
+                tables.push(TableRows::of(self, table))?;
             }
         }
         sort_by_type(&mut tables);
@@ -66,7 +66,7 @@ impl World {
         ensures some { OnErr result (IsTrue (is_passed self.now (T.test test.now))) }
     {
         let found = self.store.tables_by(test)?;
-        let mut tables = tables_in(self.alloc, found.tables, &found.slots)?;
+        let mut tables = tables_in(self, found.tables, &found.slots)?;
         sort_by_type(&mut tables);
         Ok(tables)
     }
@@ -74,19 +74,20 @@ impl World {
 
 // The tables in these slots, each of which has one.
 fn tables_in<'a>(
-    alloc: Global,
+    world: &'a World,
     tables: &'a Tables,
     slots: &[usize],
 ) -> Result<Vec<TableRows<'a>>, AllocError>
     requires { All (HasTable tables.now) slots.now }
     ensures all { IfOk result (λ found. listed found.items ≡ map (shown_at tables.now) slots.now) }
-    ensures lent { IfOk result (λ found. map lent found.items ≡ map (lent_at tables.now) slots.now) }
+    ensures lent { IfOk result (λ found. map lent found.items ≡ map (lent_at world.now tables.now) slots.now) }
+    ensures whole { IfOk result (λ found. All IsWhole found.items) }
     ensures some { OnErr result (0 < length slots.now) }
 {
-    let mut found = Vec::with_capacity(alloc, slots.len())?;
+    let mut found = Vec::with_capacity(world.alloc, slots.len())?;
     for slot in slots {
         let table = tables.get(*slot).unwrap();
-        found.push(TableRows::of(table))?;
+        found.push(TableRows::of(world, table))?;
     }
     Ok(found)
 }

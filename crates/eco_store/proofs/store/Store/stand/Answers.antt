@@ -2,6 +2,7 @@ use Rattle.std.proofs.Common.{sym, ap, ◌∙◌}
 use Rattle.std.specs.Option.{option_copied}
 use Rattle.eco_tables.specs.Tables.{slot_of}
 use Rattle.eco_archetypes.proofs.ArchetypeLemmas.{there_by_row}
+use Rattle.eco_store.proofs.Lent.{kept_there}
 use Rattle.eco_store.proofs.StoreChanges.{some_from_copied, row_within}
 use Rattle.eco_store.proofs.Values.{stands_there}
 use Rattle.eco_store.proofs.store.Store.stand.Goals as goal
@@ -14,9 +15,15 @@ unwrap-table-requires c =
     (row_within c.self.inside.entities c.self.inside.layout.tables c.args.e c.in_ok-place.place c.self.invariant.store
     (sym c.place_of.ensures ∙ c.in_ok-place.was)))
 
-pub returns : goal.returns
-returns c =
+pub returns-clause-stands : goal.returns-clause-stands
+returns-clause-stands c =
     rw (← c.self.view_is)
     (stands_there c.self.inside.entities c.self.inside.layout.tables c.args.e c.in_ok-place.place c.unwrap-table.result.now c.self.invariant.store
     (sym c.place_of.ensures ∙ c.in_ok-place.was)
+    (sym (c.get.ensures ∙ ap (λ s. slot_of s c.in_ok-place.place.table) c.tables.ensures.same) ∙ ap option_copied c.unwrap-table.ensures))
+
+pub returns-clause-kept : goal.returns-clause-kept
+returns-clause-kept c =
+    rw (← c.self.view_is)
+    (kept_there c.self.inside.entities c.self.inside.layout.tables c.in_ok-place.place.table c.unwrap-table.result.now c.self.invariant.covers
     (sym (c.get.ensures ∙ ap (λ s. slot_of s c.in_ok-place.place.table) c.tables.ensures.same) ∙ ap option_copied c.unwrap-table.ensures))

@@ -1,12 +1,17 @@
 use Rattle.eco_store.specs.Store.{read}
 use Rattle.eco_store.proofs.Holders.{some_held}
 use Rattle.eco_ids.proofs.Results.{err_says}
+use Rattle.eco_store.proofs.Lent.{kept_data}
 use Rattle.eco_store.proofs.Values.{shows}
 use Rattle.eco_store.proofs.store.Store.tables_by.Goals as goal
 
 pub returns-clause-shown : goal.returns-clause-shown
 returns-clause-shown g c = rw (← c.self.view_is, c.tables-tables.ensures.same)
     (shows c.self.inside.entities c.self.inside.layout.tables c.self.invariant.store (rw c.tables-tables.ensures.same at c.rows_have_ids.ensures))
+
+pub returns-clause-kept : goal.returns-clause-kept
+returns-clause-kept g c = rw (← c.self.view_is, c.tables-tables.ensures.same)
+    (kept_data c.self.inside.entities c.self.inside.layout.tables c.self.invariant.covers)
 
 pub returns-in_err-slots-clause-some : goal.returns-in_err-slots-clause-some
 returns-in_err-slots-clause-some g c =

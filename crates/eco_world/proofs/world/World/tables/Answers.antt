@@ -31,10 +31,12 @@ returns-clause-values c =
     let qs = asked_by c.self.inside.queries.items in
     let slots = c.tables.result.now in
     let old = c.loop-slot.tables.items in
-    let all : map lent old ≡ lent_rows slots =
+    let w = world_with c.self.inside.store.entities qs in
+    let run = rw (← c.self.view_is) at c.loop-slot.invariant.1 in
+    let all : map lent old ≡ lent_rows w slots =
     sym (append-nil (map lent old))
-    ∙ ap (λ ss. map lent old ++ lent_rows ss) (sym (none_left (iter_rest c.loop-slot.slot-iterator) c.in-None.ensures.steps.0))
-    ∙ c.loop-slot.invariant.1 ∙ ap lent_rows (ap iter_rest c.into_iter-slot-iterator.ensures.into_iter_gives ∙ c.iter-slot-items.ensures) in
+    ∙ ap (λ ss. map lent old ++ lent_rows w ss) (sym (none_left (iter_rest c.loop-slot.slot-iterator) c.in-None.ensures.steps.0))
+    ∙ run ∙ ap (lent_rows w) (ap iter_rest c.into_iter-slot-iterator.ensures.into_iter_gives ∙ c.iter-slot-items.ensures) in
     rw (← c.self.view_is)
-    (all_lend (world_with c.self.inside.store.entities qs) slots c.tables.ensures.shown old c.sort_by_type.new.tables.items c.sort_by_type.ensures.same
-    (λ x p. with_rows_in_slots slots x (subst (λ xs. Contains xs x) all p)))
+    (all_lend w slots c.tables.ensures.shown c.tables.ensures.kept c.self.invariant old c.sort_by_type.new.tables.items c.sort_by_type.ensures.same
+    (λ x p. with_rows_in_slots w slots x (subst (λ xs. Contains xs x) all p)) c.loop-slot.invariant.2)

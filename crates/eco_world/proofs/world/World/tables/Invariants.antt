@@ -1,6 +1,7 @@
 use Rattle.std.proofs.Common.{◌≡◌, ◌++◌, map}
 use Rattle.std.specs.Slice.Iter.{iter_rest}
-use Rattle.eco_world.specs.Layouts.{lent, listed}
+use Rattle.std.specs.List.{All}
+use Rattle.eco_world.specs.Layouts.{IsWhole, lent, listed}
 use Rattle.eco_world.proofs.Lending.{lent_rows}
 use Rattle.eco_world.proofs.Tabled.{with_rows}
 use Rattle.eco_world.proofs.world.World.tables.Given as goal
@@ -8,4 +9,5 @@ use Rattle.eco_world.proofs.world.World.tables.Given as goal
 abbrev pub invariant-loop-slot : goal.invariant-loop-slot
 invariant-loop-slot l =
     (listed l.tables.items ++ with_rows (iter_rest l.slot-iterator) ≡ with_rows (iter_rest l.initial.slot-iterator))
-    × (map lent l.tables.items ++ lent_rows (iter_rest l.slot-iterator) ≡ lent_rows (iter_rest l.initial.slot-iterator))
+    × (map lent l.tables.items ++ lent_rows l.self (iter_rest l.slot-iterator) ≡ lent_rows l.self (iter_rest l.initial.slot-iterator))
+    × All IsWhole l.tables.items

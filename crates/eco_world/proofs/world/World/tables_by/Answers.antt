@@ -46,10 +46,12 @@ returns-clause-values g c =
     let slots = c.in_ok-found.found.tables.now in
     let ns = c.in_ok-found.found.slots.items in
     let old = c.in_ok-tables.tables.items in
-    let all : map lent old ≡ map (lent_at slots) ns = c.in_ok-tables.ensures.lent ∙ ap (map (lent_at slots)) c.deref.ensures.value in
+    let w = world_with c.self.inside.store.entities qs in
+    let listed_are = rw (← c.self.view_is) at c.in_ok-tables.ensures.lent in
+    let all : map lent old ≡ map (lent_at w slots) ns = listed_are ∙ ap (map (lent_at w slots)) c.deref.ensures.value in
     rw (← c.self.view_is)
-    (all_lend (world_with c.self.inside.store.entities qs) slots c.in_ok-found.ensures.shown old c.sort_by_type.new.tables.items c.sort_by_type.ensures.same
-    (λ x p. in_slots slots ns x (subst (λ xs. Contains xs x) all p)))
+    (all_lend w slots c.in_ok-found.ensures.shown c.in_ok-found.ensures.kept c.self.invariant old c.sort_by_type.new.tables.items
+    c.sort_by_type.ensures.same (λ x p. in_slots w slots ns x (subst (λ xs. Contains xs x) all p)) c.in_ok-tables.ensures.whole)
 
 pub returns-in_err-tables-clause-some : goal.returns-in_err-tables-clause-some
 returns-in_err-tables-clause-some g c =

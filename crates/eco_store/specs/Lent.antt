@@ -1,0 +1,17 @@
+-- What is data has fields in the tables.
+use Rattle.std.specs.Prelude.{◌≡◌, ◌≤◌, ℕ, List, Option, Some}
+use Rattle.eco_ids.specs.declared.id.Id.{Id}
+use Rattle.eco_ids.specs.Indices.{Indexed}
+use Rattle.eco_ids.specs.World.{Record}
+use Rattle.eco_entities.specs.Needs.{fields_for}
+use Rattle.eco_tables.specs.Table.{TableState, width_in}
+use Rattle.eco_tables.specs.Tables.{table_in}
+use Rattle.eco_store.specs.Store.{arity}
+
+-- the table keeps as many fields of each of its ids as the id's arity says: what is data has a column
+abbrev pub KeepsData : Indexed Record → TableState → Type 0
+KeepsData w t = (i : Id) (n : ℕ) → width_in t i ≡ Some n → fields_for (arity w i) ≤ n
+
+-- each of the tables does
+abbrev pub KeepData : Indexed Record → List (Option TableState) → Type 0
+KeepData w slots = (n : ℕ) → KeepsData w (table_in slots n)

@@ -1,0 +1,129 @@
+-- What is data has fields in the tables, and so its values are found there.
+use Rattle.std.proofs.Common.{◌≡◌, ◌≤◌, ◌<◌, ℕ, zero, suc, Bool, true, false, ◌&&◌, nat_lt, List, [], ◌∷◌, get_or, length, Option, None, Some, is_some, option_and_then}
+use Rattle.std.proofs.Common.{option_map, unwrap_or, if◌then◌else◌, IsSome, IsTrue, MatchOption, arith, refl, sym, ap, subst, ◌∙◌, true≢false}
+use Rattle.std.specs.Option.{option_or}
+use Rattle.std.specs.FinMap.Entries.{find}
+use Rattle.std.proofs.lemmas.Bool.Decides.{nat_tests}
+use Rattle.eco_ids.specs.declared.entity.Entity.{Entity}
+use Rattle.eco_ids.specs.declared.id.Id.{Id}
+use Rattle.eco_ids.specs.declared.id.Id.TheVariants.{One, Two}
+use Rattle.eco_ids.specs.declared.value.Value.{Value}
+use Rattle.eco_ids.specs.Builtin.{is_builtin}
+use Rattle.eco_ids.specs.Data.{arity, arity_of, value_of}
+use Rattle.eco_ids.specs.Lawful.{IsLawful, is_proper_arity}
+use Rattle.eco_ids.specs.Order.{id_cmp, id_eq, has_item}
+use Rattle.eco_ids.specs.World.{WorldState, Record, entities, record_of}
+use Rattle.eco_ids.proofs.Exact.{id_eq_sym}
+use Rattle.eco_entities.specs.Needs.{fields_for}
+use Rattle.eco_tables.specs.Kept.{IsUnkept}
+use Rattle.eco_tables.specs.Table.{TableState, Row, paired, width_in}
+use Rattle.eco_tables.specs.Tables.{no_row}
+use Rattle.eco_store.specs.Store as store
+use Rattle.eco_store.specs.Lent.{KeepsData}
+use Rattle.eco_store.specs.Store.{Stands}
+
+-- ---- an arity is one field at least
+
+proper_wide : (w : WorldState) (o : Option ℕ) → IsTrue (is_proper_arity w.edition o) → is_some o ≡ true → 1 ≤ fields_for o
+proper_wide w None proper some = absurd (true≢false (sym some))
+proper_wide w (Some zero) proper some = absurd (true≢false (sym proper))
+proper_wide w (Some (suc n)) proper some = omega arith
+
+own_wide : (w : WorldState) → IsLawful w → (e : Entity) → is_some (arity_of w e) ≡ true → 1 ≤ fields_for (arity_of w e)
+own_wide w lawful e = by (record_of w e) refl
+  where
+    by : (o : Option Record) → record_of w e ≡ o → is_some (option_and_then (λ (r : Record). r.arity) o) ≡ true
+        → 1 ≤ fields_for (option_and_then (λ (r : Record). r.arity) o)
+    by None at some = absurd (true≢false (sym some))
+    by (Some r) at some = proper_wide w r.arity (lawful.orderly.records e r at).arity some
+
+-- what is data has a field at least, as the store has it
+pub data_wide : (w : WorldState) → IsLawful w → (i : Id) → is_some (arity w i) ≡ true → 1 ≤ fields_for (store.arity (entities w) i)
+data_wide w lawful (One e) some = own_wide w lawful e some
+data_wide w lawful (Two r t) some = by (is_builtin w r) some
+  where
+    either : (o : Option ℕ) → arity_of w r ≡ o → is_some (option_or o (arity_of w t)) ≡ true → 1 ≤ fields_for (option_or o (arity_of w t))
+    either None at some = own_wide w lawful t some
+    either (Some n) at some = subst (λ o. 1 ≤ fields_for o) at (own_wide w lawful r (ap is_some at))
+
+    by : (b : Bool) → is_some (if b then None else option_or (arity_of w r) (arity_of w t)) ≡ true
+        → 1 ≤ fields_for (option_or (arity_of w r) (arity_of w t))
+    by true none = absurd (true≢false (sym none))
+    by false some = either (arity_of w r) refl some
+
+-- ---- a value that is read in a row
+
+-- who stands in a row has one
+pub stands_within : (o : Option Record) (t : TableState) (row : ℕ) → Stands o t row → row < length t.rows
+stands_within None t row there = absurd there
+stands_within (Some k) t row there = there.within
+
+-- what a search of the row's columns finds is the entity's value
+pub value_kept : (w : WorldState) → IsLawful w → (e : Entity) (i : Id) (t : TableState) (row : ℕ) (v : Option Value)
+    → Stands (record_of w e) t row → KeepsData (entities w) t → is_some (arity w i) ≡ true
+    → MatchOption v (IsUnkept t row i) (λ x. (r : Row) → find id_cmp i (get_or t.rows row r).held ≡ Some x) → v ≡ value_of w e i
+value_kept w lawful e i t row v stands kept some found =
+    held (record_of w e) stands
+    ∙ sym (ap (λ b. if b then find id_cmp i (unwrap_or (option_map (λ (r : Record). r.held) (record_of w e)) []) else None) some)
+  where
+    held : (o : Option Record) → Stands o t row → v ≡ find id_cmp i (unwrap_or (option_map (λ (r : Record). r.held) o) [])
+    held None there = absurd there
+    held (Some k) there = by v found
+      where
+        absent : (o : Option ℕ) → width_in t i ≡ o
+            → MatchOption o ((r : Row) → find id_cmp i (get_or t.rows row r).held ≡ None) (λ n. n ≡ 0) → None ≡ find id_cmp i k.held
+        absent None at none = sym (ap (find id_cmp i) (there.held no_row) ∙ none no_row)
+        absent (Some n) at none =
+            let wide = kept i n at in
+            let least = data_wide w lawful i some in
+            absurd (omega (arith, none))
+
+        by : (o : Option Value) → MatchOption o (IsUnkept t row i) (λ x. (r : Row) → find id_cmp i (get_or t.rows row r).held ≡ Some x)
+            → o ≡ find id_cmp i k.held
+        by None unkept = absent (width_in t i) refl unkept
+        by (Some x) at = sym (ap (find id_cmp i) (there.held no_row) ∙ at no_row)
+
+-- who isn't living has none
+pub value_absent : (w : WorldState) (e : Entity) (i : Id) → record_of w e ≡ None → None ≡ value_of w e i
+value_absent w e i dead =
+    sym (ap (λ o. if is_some (arity w i) then find id_cmp i (unwrap_or (option_map (λ (r : Record). r.held) o) []) else None) dead
+    ∙ by (is_some (arity w i)))
+  where
+    by : (b : Bool) → ◌≡◌ {A = Option Value} (if b then None else None) None
+    by true = refl
+    by false = refl
+
+-- ---- columns that are lent
+
+unpaired : (ids : List Id) (ws : List ℕ) (i : Id) → has_item id_cmp ids i ≡ false → find id_cmp i (paired ids ws) ≡ None
+unpaired [] ws i none = refl
+unpaired (j ∷ js) [] i none = refl
+unpaired (j ∷ js) (n ∷ ws) i none = by (id_eq j i) refl (unpaired js ws i)
+  where
+    by : (b : Bool) → id_eq j i ≡ b → (has_item id_cmp js i ≡ false → find id_cmp i (paired js ws) ≡ None)
+        → find id_cmp i (paired (j ∷ js) (n ∷ ws)) ≡ None
+    by true e rest = let bad = rw e at none in absurd (true≢false bad)
+    by false e rest =
+        let later = rw e at none in
+        let back : id_eq i j ≡ false = id_eq_sym i j ∙ e in
+        rw back (rest later)
+
+-- a table that keeps fields of its data lends the values of exactly those of its ids
+pub data_lent : (w : WorldState) → IsLawful w → (t : TableState) → KeepsData (entities w) t
+    → ((i : Id) → has_item id_cmp t.ids i ≡ true → IsSome (width_in t i)) → (i : Id)
+    → (is_some (arity w i) && nat_lt 0 (unwrap_or (width_in t i) 0)) ≡ (has_item id_cmp t.ids i && is_some (arity w i))
+data_lent w lawful t kept whole i = by (is_some (arity w i)) refl (has_item id_cmp t.ids i) refl
+  where
+    wide : (o : Option ℕ) → width_in t i ≡ o → IsSome o → is_some (arity w i) ≡ true → nat_lt 0 (unwrap_or o 0) ≡ true
+    wide None at there some = absurd (true≢false (sym there))
+    wide (Some n) at there some =
+        let own = kept i n at in
+        let least = data_wide w lawful i some in
+        let positive : 0 < n = omega arith in
+        grind (arith, nat_tests)
+
+    by : (b : Bool) → is_some (arity w i) ≡ b → (h : Bool) → has_item id_cmp t.ids i ≡ h → (b && nat_lt 0 (unwrap_or (width_in t i) 0)) ≡ (h && b)
+    by false e true there = refl
+    by false e false there = refl
+    by true e true there = wide (width_in t i) refl (whole i there) e
+    by true e false there = ap (λ o. nat_lt 0 (unwrap_or o 0)) (unpaired t.ids t.widths i there)

@@ -1,9 +1,12 @@
-use Rattle.std.proofs.Common.{◌≡◌, ◌++◌, ◌∙◌, map, sym, ap, subst, append-nil, Contains}
+use Rattle.std.proofs.Common.{rules, ◌≡◌, true, nat_lt, length, Some, [], ◌∷◌, ◌++◌, ◌∙◌, map, sym, ap, subst, append-nil, Contains}
+use Rattle.std.proofs.Common.{List, append_assoc, arith, cond}
 use Rattle.std.specs.List.{IsDistinct}
 use Rattle.std.specs.Slice.Iter.{iter_rest}
+use Rattle.std.proofs.lemmas.Bool.Decides.{nat_tests}
+use Rattle.std.proofs.lemmas.List.{map-append}
 use Rattle.std.proofs.lemmas.List.Sorted.{IsPermutation-map}
 use Rattle.eco_world.specs.Worlds.{asked_by, world_with}
-use Rattle.eco_world.specs.Layouts.{lent, listed, listed_of}
+use Rattle.eco_world.specs.Layouts.{lent, lent_of, listed, listed_of, shown_of}
 use Rattle.eco_world.proofs.Lending.{all_lend, lent_rows, with_rows_in_slots}
 use Rattle.eco_world.proofs.Tabled.{all_covered, kinds_differ, none_left, with_rows}
 use Rattle.eco_world.proofs.Layouts.{covers_moved, layout_of, same_type, sorted_tables, Covers}
@@ -40,3 +43,30 @@ returns-clause-values c =
     rw (← c.self.view_is)
     (all_lend w slots c.tables.ensures.shown c.tables.ensures.kept c.self.invariant old c.sort_by_type.new.tables.items c.sort_by_type.ensures.same
     (λ x p. with_rows_in_slots w slots x (subst (λ xs. Contains xs x) all p)) c.loop-slot.invariant.2)
+
+-- a list that grows by one, whose image comes next among those that are to come
+grown : {A B : Type 0} (f : A → B) (xs new : List A) (x : A) (y : B) (rest later all : List B) → new ≡ xs ++ x ∷ [] → f x ≡ y → y ∷ rest ≡ later
+    → map f xs ++ later ≡ all → map f new ++ rest ≡ all
+grown f xs new x y rest later all pushed is next was =
+    ap (λ ns. map f ns ++ rest) pushed ∙ ap (λ ys. ys ++ rest) (map-append f xs (x ∷ [])) ∙ append_assoc (map f xs) (f x ∷ []) rest
+    ∙ ap (λ z. map f xs ++ z ∷ rest) is ∙ ap (λ zs. map f xs ++ zs) next ∙ was
+
+pub loop-slot-preserved-in-loop-slot : goal.loop-slot-preserved-in-loop-slot
+loop-slot-preserved-in-loop-slot c =
+    let w = c.args.self.now in
+    let rest = iter_rest c.next.new.self in
+    let old = c.loop-slot.tables.items in
+    let new = c.push.new.self.items in
+    let t = c.in-Some-slot.table in
+    let was = c.loop-slot.invariant in
+    let steps : iter_rest c.loop-slot.slot-iterator ≡ Some t ∷ rest = c.in-Some.ensures.steps ∙ ap (λ o. o ∷ rest) c.in-Some-slot.is in
+    let some : nat_lt 0 (length t.rows) ≡ true = let count = c.row_count.ensures in let more = c.if-row_count-gt0.true in grind (arith, nat_tests) in
+    let pushed : new ≡ old ++ c.of.result ∷ [] = c.in_ok-push.ensures.items in
+    let shows : shown_of t ∷ with_rows rest ≡ with_rows (iter_rest c.loop-slot.slot-iterator) =
+    sym (ap (λ b. cond b (shown_of t ∷ with_rows rest) (with_rows rest)) some) ∙ ap with_rows (sym steps) in
+    let lends : lent_of w t ∷ lent_rows w rest ≡ lent_rows w (iter_rest c.loop-slot.slot-iterator) =
+    sym (ap (λ b. cond b (lent_of w t ∷ lent_rows w rest) (lent_rows w rest)) some) ∙ ap (lent_rows w) (sym steps) in (
+      grown listed_of old new c.of.result (shown_of t) (with_rows rest) _ _ pushed c.of.ensures.listed shows was.0,
+      grown lent old new c.of.result (lent_of w t) (lent_rows w rest) _ _ pushed c.of.ensures.lent lends was.1,
+      search rules,
+    )

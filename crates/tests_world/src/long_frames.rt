@@ -192,7 +192,7 @@ fn is_enough(totals: Totals) -> bool {
     totals.batches.saturating_add(50) < totals.systems
         && totals.commands > 10_000
         && totals.refused > 100
-        && totals.drawn > 1_000
+        && totals.drawn > 500
 }
 
 // Whether a hundred frames are right.

@@ -1,5 +1,5 @@
 -- The number that a row of the heavy case is set to.
-use Rattle.std.proofs.Common.{◌≡◌, ℕ, ◌+◌, ◌*◌, ◌%◌, ◌/◌, ◌^◌, suc, pos, List, [], ◌∷◌, IsTrue, subst, sym}
+use Rattle.std.proofs.Common.{◌≡◌, ℕ, ◌+◌, ◌*◌, ◌%◌, ◌/◌, ◌^◌, zero, suc, pos, List, [], ◌∷◌, IsTrue, subst, sym}
 use Rattle.eco_ids.specs.declared.entity.Entity.{Entity}
 use Rattle.eco_ids.specs.declared.id.Id.TheVariants as id
 use Rattle.eco_ids.specs.declared.pattern.Pattern.{Pattern}
@@ -12,7 +12,7 @@ use Rattle.eco_systems.specs.Systems.{matches_one}
 
 -- after so many steps
 abbrev pub mixed : ℕ → ℕ → ℕ
-mixed 0 n = n
+mixed zero n = n
 mixed (suc k) n = ((mixed k n * mixed k n) % 2 ^ 64 + 1442695040888963407) % 2 ^ 64
 
 -- the half of it, which a field can hold

@@ -19,6 +19,7 @@ const STEP: u64 = 1_442_695_040_888_963_407;
 #[derive(Drop)]
 pub struct Heavy {
     component: Entity,
+    rounds: u32,
     writes: [Pattern; 1],
     ghost own: { writes ≡ pattern.One component ∷ [] },
 }
@@ -28,27 +29,28 @@ impl Heavy {
     pub fn new(component: Entity) -> Heavy {
         Heavy {
             component,
+            rounds: ROUNDS,
             writes: [Pattern::One(component)],
         }
     }
 }
 
-// A number that follows from the seed by many steps.
-fn mixed(seed: u32) -> u64
-    ensures { result ≡ spec.mixed ROUNDS seed }
+// A number that follows from the seed by so many steps.
+fn mixed(rounds: u32, seed: u32) -> u64
+    ensures { result ≡ spec.mixed rounds seed }
 {
     let mut number = u64::from(seed);
-    for _ in 0..ROUNDS {
+    for _ in 0..rounds {
         number = number.wrapping_mul(number).wrapping_add(STEP);
     }
     number
 }
 
 // The value of an entity at this index.
-fn value_of(index: u32) -> Value
-    ensures { result ≡ spec.value_of ROUNDS index }
+fn value_of(rounds: u32, index: u32) -> Value
+    ensures { result ≡ spec.value_of rounds index }
 {
-    Value([(mixed(index) / 2) as i64, 0, 0, 0])
+    Value([(mixed(rounds, index) / 2) as i64, 0, 0, 0])
 }
 
 impl SystemBody for Heavy {
@@ -59,7 +61,7 @@ impl SystemBody for Heavy {
     ghost kills_of = { λ s. false };
 
     ghost commands = { λ s row draws.
-        run.Set row.entity (id.One s.component) (spec.value_of ROUNDS row.entity.index) ∷ [] };
+        run.Set row.entity (id.One s.component) (spec.value_of s.rounds row.entity.index) ∷ [] };
 
     ghost taken = { λ s row draws. 0 };
 
@@ -82,7 +84,7 @@ impl SystemBody for Heavy {
         stage: &mut Stage,
     ) -> Result<(), Refusal> {
         let entity = row.entity();
-        let value = value_of(entity.index);
+        let value = value_of(self.rounds, entity.index);
         match stage.record(Command::Set(entity, Id::One(self.component), value)) {
             Ok(()) => Ok(()),
             Err(_) => Err(Refusal::OutOfMemory),

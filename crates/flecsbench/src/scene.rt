@@ -1,6 +1,5 @@
 //! The worlds that cases are about, and the calls that are measured.
 use crate::group::{Group, Ids};
-use crate::work::Work;
 use eco_ids::{Entity, Id, Refusal, Value};
 use eco_world::{Command, Query, QueryId, Results, Stage, Values, World};
 use std::alloc::Global;
@@ -12,8 +11,7 @@ const LIMIT: u32 = 1_048_576;
 /// A world, and the entities and ids that a case is about, in the order of its calls, or the query that it asks.
 pub struct Scene {
     world: World,
-    alloc: Global,
-    work: Work,
+    work: Vec<(Entity, Id)>,
     query: Option<Query>,
     // A query that was added to the world.
     kept: Option<QueryId>,
@@ -34,7 +32,6 @@ impl Drop for Scene {
     fn drop(self) {
         let Scene {
             world: _,
-            alloc: _,
             work: _,
             query: _,
             kept: _,
@@ -116,20 +113,17 @@ fn record(stage: &mut Stage, command: Command) -> Result<(), Refusal> {
 }
 
 // The stage adds each id to its entity.
-fn record_adds(stage: &mut Stage, work: &Work) -> Result<(), Refusal> {
-    for turn in 0..work.entities().len() {
-        record(stage, Command::Add(work.entities()[turn], work.id_at(turn)))?;
+fn record_adds(stage: &mut Stage, work: &[(Entity, Id)]) -> Result<(), Refusal> {
+    for (entity, id) in work {
+        record(stage, Command::Add(*entity, *id))?;
     }
     Ok(())
 }
 
 // The stage sets each id of its entity to the value.
-fn record_sets(stage: &mut Stage, work: &Work, value: Value) -> Result<(), Refusal> {
-    for turn in 0..work.entities().len() {
-        record(
-            stage,
-            Command::Set(work.entities()[turn], work.id_at(turn), value),
-        )?;
+fn record_sets(stage: &mut Stage, work: &[(Entity, Id)], value: Value) -> Result<(), Refusal> {
+    for (entity, id) in work {
+        record(stage, Command::Set(*entity, *id, value))?;
     }
     Ok(())
 }
@@ -140,8 +134,7 @@ impl Scene {
         let world = World::new(alloc, LIMIT)?;
         Ok(Scene {
             world,
-            alloc,
-            work: Work::new(alloc),
+            work: Vec::new(alloc),
             query: None,
             kept: None,
             results: None,
@@ -224,7 +217,10 @@ impl Scene {
 
     /// So many calls are to be about the entities and the ids, each at its turn.
     pub fn plan(&mut self, count: u32, entities: Group, ids: Ids) -> Result<(), Refusal> {
-        self.work.plan(count, entities, ids)?;
+        self.work.clear();
+        for turn in 0..count {
+            self.work.push((entities.at(turn), ids.at(turn)))?;
+        }
         Ok(())
     }
 
@@ -235,18 +231,16 @@ impl Scene {
 
     /// Adds each id to its entity.
     pub fn add(&mut self) -> Result<(), Refusal> {
-        for turn in 0..self.work.entities().len() {
-            let entity = self.work.entities()[turn];
-            self.world.add(entity, self.work.id_at(turn))?;
+        for (entity, id) in &self.work {
+            self.world.add(*entity, *id)?;
         }
         Ok(())
     }
 
     /// Sets each id of its entity to the value.
     pub fn set(&mut self, value: Value) -> Result<(), Refusal> {
-        for turn in 0..self.work.entities().len() {
-            let entity = self.work.entities()[turn];
-            self.world.set(entity, self.work.id_at(turn), value)?;
+        for (entity, id) in &self.work {
+            self.world.set(*entity, *id, value)?;
         }
         Ok(())
     }
@@ -307,7 +301,7 @@ impl Scene {
 
     /// Deletes each entity.
     pub fn delete(&mut self) -> Result<(), Refusal> {
-        for entity in self.work.entities() {
+        for (entity, _) in &self.work {
             self.world.delete(*entity)?;
         }
         Ok(())
@@ -323,21 +317,26 @@ impl Scene {
 
     // Removes each id from its entity.
     fn remove(&mut self) -> Result<(), Refusal> {
-        for turn in 0..self.work.entities().len() {
-            let entity = self.work.entities()[turn];
-            self.world.remove(entity, self.work.id_at(turn))?;
+        for (entity, id) in &self.work {
+            self.world.remove(*entity, *id)?;
         }
         Ok(())
     }
 
     // Removes the first id from all entities by one call.
     fn remove_from_all(&mut self) -> Result<(), Refusal> {
-        self.world.remove_all(self.work.id_at(0))
+        match self.work.first() {
+            Some((_, id)) => self.world.remove_all(*id),
+            None => Ok(()),
+        }
     }
 
     // Deletes all entities that have the first id by one call.
     fn delete_with(&mut self) -> Result<(), Refusal> {
-        self.world.delete_with(self.work.id_at(0))
+        match self.work.first() {
+            Some((_, id)) => self.world.delete_with(*id),
+            None => Ok(()),
+        }
     }
 
     // Adds the ids to their entities and removes them, so many times.
@@ -352,9 +351,8 @@ impl Scene {
     // The sum of the first fields of all values.
     fn sum(&self) -> i64 {
         let mut sum: i64 = 0;
-        for turn in 0..self.work.entities().len() {
-            let entity = self.work.entities()[turn];
-            if let Some(value) = self.world.get(entity, self.work.id_at(turn)) {
+        for (entity, id) in &self.work {
+            if let Some(value) = self.world.get(*entity, *id) {
                 sum = sum.wrapping_add(value.0[0]);
             }
         }
@@ -363,13 +361,12 @@ impl Scene {
 
     // The sum of the first fields of the first id's values, of all tables of the query.
     fn sum_columns(&self) -> Result<i64, Refusal> {
-        let Some(query) = &self.query else {
+        let (Some(query), Some((_, id))) = (&self.query, self.work.first()) else {
             return Ok(0);
         };
-        let id = self.work.id_at(0);
         let mut sum: i64 = 0;
         for table in &self.world.tables_of(query)? {
-            if let Some(Values::Two(rows)) = table.values(id) {
+            if let Some(Values::Two(rows)) = table.values(*id) {
                 sum = sum.wrapping_add(sum_first(rows));
             }
         }
@@ -417,7 +414,7 @@ impl Scene {
 
     // How many entities have the id, by a query that is read first.
     fn count(&self, id: Id) -> Result<usize, Refusal> {
-        let text = format!(in self.alloc; "{id}")?;
+        let text = format!(in *self.work.allocator(); "{id}")?;
         let query = self.world.read_query(text.as_str())?;
         Ok(self.world.results(&query)?.len())
     }
@@ -425,8 +422,8 @@ impl Scene {
     // How many results queries for each of the ids have together.
     fn count_by_texts(&self) -> Result<usize, Refusal> {
         let mut found = 0usize;
-        for turn in 0..self.work.entities().len() {
-            found = found.saturating_add(self.count(self.work.id_at(turn))?);
+        for (_, id) in &self.work {
+            found = found.saturating_add(self.count(*id)?);
         }
         Ok(found)
     }

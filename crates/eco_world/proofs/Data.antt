@@ -1,18 +1,21 @@
 -- What is data has fields in the tables, and so its values are found there.
-use Rattle.std.proofs.Common.{◌≡◌, ◌≤◌, ◌<◌, ℕ, zero, suc, Bool, true, false, ◌&&◌, nat_lt, List, [], ◌∷◌, get_or, length, Option, None, Some, is_some, option_and_then}
-use Rattle.std.proofs.Common.{option_map, unwrap_or, if◌then◌else◌, IsSome, IsTrue, MatchOption, arith, refl, sym, ap, subst, ◌∙◌, true≢false}
+use Rattle.std.proofs.Common.{◌≡◌, ◌≤◌, ◌<◌, ℕ, zero, suc, Bool, true, false, not, ◌&&◌, ◌||◌, ◌==◌, nat_lt, List, [], ◌∷◌, get_or, length, Option, None, Some, is_some, option_and_then}
+use Rattle.std.proofs.Common.{option_map, unwrap_or, if◌then◌else◌, IfSome, IsSome, IsTrue, MatchOption, arith, refl, sym, ap, subst, ◌∙◌, true≢false}
 use Rattle.std.specs.Option.{option_or}
 use Rattle.std.specs.FinMap.Entries.{find}
 use Rattle.std.proofs.lemmas.Bool.Decides.{nat_tests}
+use Rattle.std.proofs.lemmas.Option.{none-some}
 use Rattle.eco_ids.specs.declared.entity.Entity.{Entity}
 use Rattle.eco_ids.specs.declared.id.Id.{Id}
 use Rattle.eco_ids.specs.declared.id.Id.TheVariants.{One, Two}
 use Rattle.eco_ids.specs.declared.value.Value.{Value}
+use Rattle.eco_ids.specs.declared.value.TheConstants.{FIELD_COUNT}
 use Rattle.eco_ids.specs.Builtin.{is_builtin}
-use Rattle.eco_ids.specs.Data.{arity, arity_of, value_of}
+use Rattle.eco_ids.specs.Data.{arity, arity_of, is_zero_past, value_of}
 use Rattle.eco_ids.specs.Lawful.{IsLawful, is_proper_arity}
 use Rattle.eco_ids.specs.Order.{id_cmp, id_eq, has_item}
-use Rattle.eco_ids.specs.World.{WorldState, Record, entities, record_of}
+use Rattle.eco_ids.specs.World.{WorldState, Record, entities, held_by, record_of}
+use Rattle.eco_ids.proofs.Ascending.{second}
 use Rattle.eco_ids.proofs.Exact.{id_eq_sym}
 use Rattle.eco_entities.specs.Needs.{fields_for}
 use Rattle.eco_tables.specs.Kept.{IsUnkept}
@@ -21,6 +24,7 @@ use Rattle.eco_tables.specs.Tables.{no_row}
 use Rattle.eco_store.specs.Store as store
 use Rattle.eco_store.specs.Lent.{KeepsData}
 use Rattle.eco_store.specs.Store.{Stands}
+use Rattle.eco_world.specs.Refs.{StandsIn}
 
 -- ---- an arity is one field at least
 
@@ -59,7 +63,7 @@ stands_within None t row there = absurd there
 stands_within (Some k) t row there = there.within
 
 -- what a search of the row's columns finds is the entity's value
-pub value_kept : (w : WorldState) → IsLawful w → (e : Entity) (i : Id) (t : TableState) (row : ℕ) (v : Option Value)
+value_kept : (w : WorldState) → IsLawful w → (e : Entity) (i : Id) (t : TableState) (row : ℕ) (v : Option Value)
     → Stands (record_of w e) t row → KeepsData (entities w) t → is_some (arity w i) ≡ true
     → MatchOption v (IsUnkept t row i) (λ x. (r : Row) → find id_cmp i (get_or t.rows row r).held ≡ Some x) → v ≡ value_of w e i
 value_kept w lawful e i t row v stands kept some found =
@@ -82,6 +86,51 @@ value_kept w lawful e i t row v stands kept some found =
             → o ≡ find id_cmp i k.held
         by None unkept = absent (width_in t i) refl unkept
         by (Some x) at = sym (ap (find id_cmp i) (there.held no_row) ∙ at no_row)
+
+-- an id that is no data has only zeros
+zeros_only : (w : WorldState) → IsLawful w → (e : Entity) (i : Id) (v : Value) → is_some (arity w i) ≡ false → find id_cmp i (held_by w e) ≡ Some v
+    → is_zero_past 0 v ≡ true
+zeros_only w lawful e i v no_data = by (record_of w e) refl
+  where
+    no_arity : (o : Option ℕ) → is_some o ≡ false → unwrap_or o 0 ≡ 0
+    no_arity None h = refl
+    no_arity (Some n) h = absurd (true≢false h)
+
+    by : (o : Option Record) → record_of w e ≡ o → find id_cmp i (unwrap_or (option_map (λ (r : Record). r.held) o) []) ≡ Some v → is_zero_past 0 v ≡ true
+    by None at found = absurd (none-some v found)
+    by (Some r) at found =
+        subst (λ n. is_zero_past n v ≡ true) (no_arity (arity w i) no_data)
+        (second (length v.0 == FIELD_COUNT) _ ((lawful.orderly.records e r at).values i v found))
+
+-- an id that is no data has no value
+no_value : (w : WorldState) (e : Entity) (i : Id) → is_some (arity w i) ≡ false → None ≡ value_of w e i
+no_value w e i no_data = sym (ap (λ b. if b then find id_cmp i (held_by w e) else None) no_data)
+
+-- who lives stands where the store has it
+pub stands_in : {X : Type 0} (o : Option X) (P : Type 0) (A B C : X → Type 0) → ((x : X) → A x → B x → C x) → MatchOption o P A → IfSome o B → MatchOption o P C
+stands_in None P A B C each none some = none
+stands_in (Some x) P A B C each a b = each x a b
+
+-- what a search of the row's columns finds is the entity's value, unless it is zeros of an id that is no data
+pub value_read : (w : WorldState) → IsLawful w → (e : Entity) (i : Id) (t : TableState) (row : ℕ) (v : Option Value) → StandsIn w e t row
+    → MatchOption v (IsUnkept t row i) (λ x. (r : Row) → find id_cmp i (get_or t.rows row r).held ≡ Some x)
+    → MatchOption v (Unit {0}) (λ x. (not (is_zero_past 0 x) || is_some (arity w i)) ≡ true) → v ≡ value_of w e i
+value_read w lawful e i t row v at found other = by (is_some (arity w i)) refl
+  where
+    held : (o : Option Record) → Stands o t row → find id_cmp i (unwrap_or (option_map (λ (r : Record). r.held) o) []) ≡ find id_cmp i (get_or t.rows row no_row).held
+    held None there = absurd there
+    held (Some k) there = ap (find id_cmp i) (there.held no_row)
+
+    no_data : is_some (arity w i) ≡ false → (o : Option Value) → MatchOption o (IsUnkept t row i) (λ x. (r : Row) → find id_cmp i (get_or t.rows row r).held ≡ Some x)
+        → MatchOption o (Unit {0}) (λ x. (not (is_zero_past 0 x) || is_some (arity w i)) ≡ true) → o ≡ None
+    no_data none None unkept h = refl
+    no_data none (Some x) is h =
+        let zero = zeros_only w lawful e i x none (held (record_of w e) at.stands ∙ is no_row) in
+        absurd (true≢false (sym h ∙ ap (λ b. not b || is_some (arity w i)) zero ∙ none))
+
+    by : (b : Bool) → is_some (arity w i) ≡ b → v ≡ value_of w e i
+    by true some = value_kept w lawful e i t row v at.stands at.kept some found
+    by false none = no_data none v found other ∙ no_value w e i none
 
 -- who isn't living has none
 pub value_absent : (w : WorldState) (e : Entity) (i : Id) → record_of w e ≡ None → None ≡ value_of w e i

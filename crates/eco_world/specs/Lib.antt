@@ -4,5 +4,6 @@ pub mod Cached
 pub mod Layouts
 pub mod Merging
 pub mod Queries
+pub mod Refs
 pub mod Types
 pub mod Worlds

@@ -2,6 +2,7 @@
 #![tactic(auto)]
 
 mod builtins;
+mod entity_ref;
 mod kept_query;
 mod query_id;
 mod row;
@@ -12,6 +13,7 @@ pub use eco_answers::Results;
 pub use eco_query::{Access, Query, Slot, Term};
 pub use eco_stages::{Command, Report, Stage};
 pub use eco_tables::Values;
+pub use entity_ref::EntityRef;
 pub use query_id::QueryId;
 pub use row::Row;
 pub use table_rows::TableRows;

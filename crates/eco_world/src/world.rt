@@ -1,8 +1,9 @@
 //! The world and what it answers.
-ghost use Rattle.std.specs.Prelude.{◌≡◌, ◌≤◌, ◌<◌, false, IfErr, IfOk, is_some, IsTrue, length, map, OnErr, OnOk, option_map, true};
+ghost use Rattle.std.specs.Prelude.{◌≡◌, ◌≤◌, ◌<◌, false, ◌||◌, IfErr, IfOk, is_some, IsTrue, length, map, MatchOption, None, not, OnErr, OnOk, option_map};
 ghost use Rattle.std.specs.Option.{option_copied};
+ghost use Rattle.eco_ids.specs.declared.entity.Entity.{Entity as Entities};
 ghost use Rattle.eco_ids.specs.declared.refusal.Refusal.TheVariants.{OutOfMemory};
-ghost use Rattle.eco_ids.specs.Data.{arity, arity_of, value_of};
+ghost use Rattle.eco_ids.specs.Data.{arity, arity_of, is_zero_past, value_of};
 ghost use Rattle.eco_ids.specs.Lawful.{IsLawful};
 ghost use Rattle.eco_ids.specs.Names.{lookup};
 ghost use Rattle.eco_ids.specs.Order.{id_cmp, is_ascending};
@@ -11,13 +12,16 @@ ghost use Rattle.eco_ids.specs.World.{entities, first_world, has, held_by, is_al
 ghost use Rattle.eco_entities.specs.Registration.{entity_at};
 ghost use Rattle.eco_traits.specs.Target.{type_of_record};
 ghost use Rattle.eco_world.specs.Queries.{holders, is_matched};
+ghost use Rattle.eco_world.specs.Refs.{StandsIn};
 
 use crate::builtins::builtin_store;
+use crate::entity_ref::EntityRef;
 use crate::kept_query::KeptQuery;
+use crate::world::changes::is_zero_past;
 use eco_ids::entity::BUILTIN_COUNT;
 use eco_ids::{Edition, Entity, Id, Pattern, Refusal, TypeList, Value};
 use eco_query::{Names, exactly};
-use eco_store::Store;
+use eco_store::{Store, Table};
 use std::alloc::{AllocError, Global};
 use std::marker::Model;
 
@@ -174,11 +178,16 @@ impl World {
     pub fn get(&self, entity: Entity, id: Id) -> Option<Value>
         ensures { result ≡ value_of self.now entity id }
     {
-        if self.arity(id).is_some() {
-            self.data_value(entity, id)
-        } else {
-            None
-        }
+        let (table, row) = self.stand(entity)?;
+        self.value_in(table, row, id)
+    }
+
+    /// The entity, to read several of its values: it is looked for once.
+    #[inline]
+    pub fn entity_ref(&self, entity: Entity) -> EntityRef<'_>
+        ensures { result ≡ record { world = self.now; entity = entity } }
+    {
+        EntityRef::new(self, entity)
     }
 
     /// All living entities, ascending. An `Err` comes where a growth of the list was refused.
@@ -201,15 +210,37 @@ impl World {
         self.store.type_of(entity)
     }
 
-    // The value at an id that is data: one look at the entity, and one at the columns of its table.
+    // Where a living entity stands: its table, and its row there.
     #[inline(always)]
-    fn data_value(&self, entity: Entity, id: Id) -> Option<Value>
-        requires { is_some (arity self.now id) ≡ true }
-        ensures { result ≡ value_of self.now entity id }
+    pub(crate) fn stand(&self, entity: Entity) -> Option<(&Table, usize)>
+        ensures { MatchOption result (record_of self.now entity ≡ None)
+            (λ x. StandsIn self.now entity x.0.now x.1) }
+    {
+        self.store.stand(entity)
+    }
+
+    // The value at an id of whoever stands in the row.
+    #[inline(always)]
+    pub(crate) fn value_in(&self, table: &Table, row: usize, id: Id) -> Option<Value>
+        requires { row < length table.now.rows }
+        ensures { (e : Entities) → StandsIn self.now e table.now row → result ≡ value_of self.now e id }
     {
         self.is_lawful();
-        let (table, row) = self.store.stand(entity)?;
-        table.kept_value(row, id)
+        let value = table.kept_value(row, id)?;
+        if self.is_value(id, value) {
+            Some(value)
+        } else {
+            None
+        }
+    }
+
+    // Whether what a table keeps of an id is a value. What it keeps fields of is mostly data, and an id that is no data has
+    // zeros: so of these alone it is asked.
+    #[inline(always)]
+    fn is_value(&self, id: Id, kept: Value) -> bool
+        ensures { result ≡ (not (is_zero_past 0 kept) || is_some (arity self.now id)) }
+    {
+        !is_zero_past(kept, 0) || self.arity(id).is_some()
     }
 
     /// How many fields the values of the id have, where it is data: an entity's are its own; a pair has its

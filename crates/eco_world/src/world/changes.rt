@@ -32,7 +32,8 @@ fn are_zero(fields: &[i64]) -> bool
 }
 
 // Whether the fields past the first `arity` are 0.
-fn is_zero_past(value: Value, arity: u8) -> bool
+#[inline(always)]
+pub(crate) fn is_zero_past(value: Value, arity: u8) -> bool
     ensures { result ≡ is_zero_past arity value }
 {
     let past = arity as usize;

@@ -4,4 +4,4 @@ use Rattle.eco_rows.specs.declared.row.WorldRow.{WorldRow}
 
 -- the row that is lent: its entity and entries, with the values that the world has for them
 abbrev pub world_row : WorldRow → ValuedRow
-world_row r = valued r.world.now r.query.now (record { entity = r.entity; entries = r.entries.now })
+world_row r = valued r.entity.world r.query.now (record { entity = r.entity.entity; entries = r.entries.now })

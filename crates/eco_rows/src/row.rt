@@ -6,23 +6,22 @@ ghost use Rattle.eco_systems.specs.Rows.{entry_value, shows_values};
 use eco_bodies::BodyRow;
 use eco_ids::{Entity, Id, Value};
 use eco_query::{Access, Query, Slot};
-use eco_world::World;
+use eco_world::EntityRef;
 
 /// A row of a query's results, lent from the world that answered it (Flecs manual, Systems). It owns nothing: its entries
 /// stand once for all rows of a type, and a value is read from the world where it stands once somebody asks for it.
-#[derive(Clone, Copy)]
+#[derive(Drop)]
 pub struct WorldRow<'a> {
-    entity: Entity,
+    // The entity, with the world that has its values.
+    entity: EntityRef<'a>,
     // Its entry in each slot of the query.
     entries: &'a [Option<Id>],
     // Whose slots say which values are shown.
     query: &'a Query,
-    // Where the values stand.
-    world: &'a World,
 }
 
 /// Whether a slot of this access shows its values.
-fn shows_values(access: Access) -> bool
+pub(crate) fn shows_values(access: Access) -> bool
     ensures { result ≡ shows_values access }
 {
     match access {
@@ -32,18 +31,14 @@ fn shows_values(access: Access) -> bool
 }
 
 /// The value that an entity has at a slot's entry, where the slot shows it.
-fn entry_value(world: &World, entity: Entity, slot: &Slot, entry: Option<Id>) -> Option<Value>
-    ensures { result ≡ entry_value (value_of world.now entity) slot.now.access entry }
+#[inline(always)]
+fn entry_value(entity: &EntityRef<'_>, slot: &Slot, entry: &Option<Id>) -> Option<Value>
+    ensures { result
+        ≡ entry_value (value_of entity.now.world entity.now.entity) slot.now.access entry.now }
 {
     match entry {
-        Some(id) => {
-            if shows_values(slot.access) {
-                world.get(entity, id)
-            } else {
-                None
-            }
-        }
-        None => None,
+        Some(id) if shows_values(slot.access) => entity.value(*id),
+        _ => None,
     }
 }
 
@@ -53,19 +48,17 @@ impl<'a> WorldRow<'a> {
 
     // The entity with these entries, one or none for each slot of the query.
     pub(crate) fn of(
-        entity: Entity,
+        entity: EntityRef<'a>,
         entries: &'a [Option<Id>],
         query: &'a Query,
-        world: &'a World,
     ) -> WorldRow<'a>
-        ensures { world_row result
-            ≡ valued world.now query.now (record { entity = entity; entries = entries.now }) }
+        ensures { world_row result ≡ valued entity.entry.world query.now
+            (record { entity = entity.entry.entity; entries = entries.now }) }
     {
         WorldRow {
             entity,
             entries,
             query,
-            world,
         }
     }
 }
@@ -76,7 +69,7 @@ impl BodyRow for WorldRow<'_> {
     ghost row_of = { world_row };
 
     fn entity(&self) -> Entity {
-        self.entity
+        self.entity.entity()
     }
 
     fn entries(&self) -> &[Option<Id>] {
@@ -90,6 +83,6 @@ impl BodyRow for WorldRow<'_> {
         let Some(entry) = self.entries.get(slot) else {
             return None;
         };
-        entry_value(self.world, self.entity, asked, *entry)
+        entry_value(&self.entity, asked, entry)
     }
 }

@@ -1,15 +1,16 @@
 //! All rows of a query, lent from a world.
 ghost use Rattle.std.specs.Prelude.{◌≡◌, ◌==◌, ◌<◌, length, slice_get, IfErr, IfOk, IsTrue, OnErr, Some};
+ghost use Rattle.std.specs.List.{list_any};
 ghost use Rattle.eco_ids.specs.declared.refusal.Refusal.TheVariants.{OutOfMemory};
 ghost use Rattle.eco_answers.specs.Answers.{asked};
-ghost use Rattle.eco_systems.specs.Rows.{rows_of};
+ghost use Rattle.eco_systems.specs.Rows.{rows_of, shows_values};
 ghost use Rattle.eco_world.specs.Queries.{may_query};
 ghost use Rattle.eco_rows.specs.Rows.{world_row};
 
-use crate::row::WorldRow;
+use crate::row::{WorldRow, shows_values};
 use eco_ids::Refusal;
-use eco_query::Query;
-use eco_world::{Results, World};
+use eco_query::{Query, Slot};
+use eco_world::{EntityRef, Results, World};
 use std::marker::Model;
 
 /// A query's results on a world, which lend their rows (Flecs manual, Systems). A contract sees the list of the rows, each
@@ -18,6 +19,15 @@ pub struct SystemRows<'a> {
     world: &'a World,
     query: &'a Query,
     results: Results,
+    // Whether a slot of the query shows values, so that an entity is looked for.
+    shows: bool,
+}
+
+// Whether some of the slots show the values of their entries.
+fn some_show(slots: &[Slot]) -> bool
+    ensures { result ≡ list_any (λ s. shows_values s.access) slots.now }
+{
+    slots.iter().any(|slot| shows_values(slot.access))
 }
 
 // By hand, so that dropping it is one call: a derived drop is proved anew at each early return of whoever holds it.
@@ -27,6 +37,7 @@ impl Drop for SystemRows<'_> {
             world: _,
             query: _,
             results: _,
+            shows: _,
         } = self;
     }
 }
@@ -56,6 +67,7 @@ impl<'a> SystemRows<'a> {
             world,
             query,
             results,
+            shows: some_show(query.slots()),
         })
     }
 
@@ -79,6 +91,11 @@ impl<'a> SystemRows<'a> {
         ensures { slice_get self.now place ≡ Some (world_row result) }
     {
         let (entity, entries) = self.results.get(place);
-        WorldRow::of(entity, entries, self.query, self.world)
+        let found = if self.shows {
+            self.world.entity_ref(entity)
+        } else {
+            EntityRef::unsought(self.world, entity)
+        };
+        WorldRow::of(found, entries, self.query)
     }
 }

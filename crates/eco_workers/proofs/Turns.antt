@@ -77,7 +77,8 @@ module _ {S : Type 0} (commands : S → List Entity → List Command) (taken : S
   turn_none base n stage none empty = record { draws = []; stages = []; recorded = tt; in_turn = ap (range_with_len base) (sym none); whole = empty }
 
   -- one piece more
-  pub turn_more : (pieces : List S) (k : ℕ) (p : S) (c c' : Counter) (stage stage' : List Command) → k < length pieces → p ≡ get_or pieces k p → c'.base ≡ c.base
+  pub turn_more : (pieces : List S) (k : ℕ) (p : S) (c c' : Counter) (stage stage' : List Command) → k < length pieces
+      → p ≡ get_or pieces k p → c'.base ≡ c.base
       → InTurn (take k pieces) c.base (c.next - c.base) stage
       → Took (commands p) (taken p) (given c) (given c') stage stage'
       → InTurn (take (k + 1) pieces) c'.base (c'.next - c'.base) stage'

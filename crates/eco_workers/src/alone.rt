@@ -43,7 +43,8 @@ pub fn run_alone<P: Piece>(
     limit: u32,
 ) -> Result<(Stage, u32), Refusal>
     requires { base ≤ limit }
-    ensures batch { IfOk result (λ r. IsInTurn (by_index P.commands) (by_index P.taken) pieces.now base r.1 r.0) }
+    ensures batch { IfOk result (λ r. IsInTurn (by_index P.commands) (by_index P.taken) pieces.now
+        base r.1 r.0) }
     ensures most { IfOk result (λ r. base + r.1 ≤ limit) }
     ensures why { IfErr result (λ e. IsStopped e) }
     ensures out { IfErr result (λ e. e ≡ NoMoreIds

@@ -32,6 +32,6 @@ returns-in_err-record-clause-out g c =
     let rest = c.record.ensures.rest in
     let p = err_from_is_err_and c.from_residual.result c.from_residual.ensures.1 in
     rw p.1
-    (λ no_more. turn_out g.P.Piece.commands g.P.Piece.taken c.args.pieces.now c.loop-piece.piece-index c.piece-item.result c.loop-piece.counter c.record.new.draws
-    c.args.counter.now.base c.args.counter.now.limit c.loop-piece.stage _ c.loop-piece-test.true c.piece-item.is (ap (λ r. r.0) rest ∙ i.base) (ap (λ r. r.1) rest ∙ i.limit)
-    i.turn c.in_err-record.ensures.err c.in_err-record.ensures.why (sym p.2 ∙ no_more))
+    (λ no_more. turn_out g.P.Piece.commands g.P.Piece.taken c.args.pieces.now c.loop-piece.piece-index c.piece-item.result c.loop-piece.counter
+    c.record.new.draws c.args.counter.now.base c.args.counter.now.limit c.loop-piece.stage _ c.loop-piece-test.true c.piece-item.is
+    (ap (λ r. r.0) rest ∙ i.base) (ap (λ r. r.1) rest ∙ i.limit) i.turn c.in_err-record.ensures.err c.in_err-record.ensures.why (sym p.2 ∙ no_more))

@@ -1,11 +1,10 @@
 -- Systems of bodies, as definitions have them.
-use Rattle.std.specs.Prelude.{◌≡◌, ◌++◌, ℕ, Bool, List}
+use Rattle.std.specs.Prelude.{ℕ, Bool, List}
 use Rattle.eco_ids.specs.declared.entity.Entity.{Entity}
 use Rattle.eco_ids.specs.declared.pattern.Pattern.{Pattern}
 use Rattle.eco_ids.specs.Run.{Command}
 use Rattle.eco_query.specs.Queries.{QuerySlot}
 use Rattle.eco_systems.specs.declared.phase.Phase.{Phase}
-use Rattle.eco_systems.specs.Recording.{RowsRecord}
 use Rattle.eco_systems.specs.Rows.{ValuedRow}
 use Rattle.eco_systems.specs.Systems.{SystemModel}
 use Rattle.eco_bodies.specs.Taking.{takes}
@@ -22,9 +21,3 @@ system_with phase slots reads writes kills taken commands = record {
   takes = takes taken;
   records = commands;
 }
-
--- the rows drew some handles behind those drawn so far, and the system recorded for them, in order, the commands that now stand behind
--- those of the stage
-abbrev pub RowsAreRecorded : SystemModel → List ValuedRow → List Entity → List Entity → List Command → List Command → Type 0
-RowsAreRecorded s rows before after stage stage' =
-    (mine : List Entity) × (commands : List Command) × (after ≡ before ++ mine) × (stage' ≡ stage ++ commands) × RowsRecord s rows mine commands

@@ -5,8 +5,8 @@
 mod action;
 mod body;
 mod change;
+mod lawful;
 mod row;
-mod rows;
 mod script;
 mod sum;
 mod systems;
@@ -15,7 +15,7 @@ mod writes;
 pub use action::Action;
 pub use body::SystemBody;
 pub use eco_workers::Draws;
+pub use lawful::systems_are_lawful;
 pub use row::{BodyRow, LentRow};
-pub use rows::{record_rows, systems_are_lawful};
 pub use script::Script;
 pub use systems::{NotAdded, System, Systems};

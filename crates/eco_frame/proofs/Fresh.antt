@@ -5,7 +5,7 @@ use Rattle.std.specs.List.{All, AllByRecursion, concat, list_all, range_with_len
 use Rattle.std.specs.Ordering.{nat_cmp, ordering_then}
 use Rattle.std.proofs.lemmas.Bool.Decides.{nat_tests}
 use Rattle.std.proofs.lemmas.List.{length-map, map-append}
-use Rattle.std.proofs.lemmas.List.Elements.{All-head, All-tail}
+use Rattle.std.proofs.lemmas.List.Elements.{All-cons, All-head, All-nil, All-tail}
 use Rattle.eco_ids.specs.declared.entity.Entity.{Entity}
 use Rattle.eco_ids.specs.Layout.{is_distinct}
 use Rattle.eco_ids.specs.Order.{entity_cmp, has_item, is_ascending}
@@ -13,6 +13,9 @@ use Rattle.eco_ids.proofs.Ascending.{both}
 use Rattle.eco_ids.proofs.IdOrder.{entity_cmp_total, same_entity}
 use Rattle.eco_ids.proofs.Members.{same_members}
 use Rattle.eco_rounds.specs.Counting.{total, times, once, all_above, ascends}
+use Rattle.eco_ids.specs.Run.{Command}
+use Rattle.eco_workers.specs.Alone.{IsInTurn, IsOutInTurn}
+use Rattle.eco_workers.specs.Batches.{IsBatch, IsOut}
 use Rattle.eco_systems.specs.Batches.{joined}
 use Rattle.eco_systems.specs.Frames.{AreAscending, AreFresh, BatchDraws, drawn, fresh, fresh_from}
 
@@ -87,6 +90,44 @@ range_above c a (suc n) l = let h : all_above c (range_with_len (a + 1) n) ≡ t
 range_up : (a n : ℕ) → ascends (range_with_len a n) ≡ true
 range_up a zero = refl
 range_up a (suc n) = both _ _ (range_above a (a + 1) n (omega arith)) (range_up (a + 1) n)
+
+above_front : (x : ℕ) (xs ys : List ℕ) → all_above x (xs ++ ys) ≡ true → all_above x xs ≡ true
+above_front x [] ys h = refl
+above_front x (y ∷ xs) ys h = let r = above_front x xs ys in grind (arith, nat_tests)
+
+front_up : (xs ys : List ℕ) → ascends (xs ++ ys) ≡ true → ascends xs ≡ true
+front_up [] ys h = refl
+front_up (x ∷ xs) ys h = let r = front_up xs ys in let s = above_front x xs ys in grind (arith, nat_tests)
+
+back_up : (xs ys : List ℕ) → ascends (xs ++ ys) ≡ true → ascends ys ≡ true
+back_up [] ys h = h
+back_up (x ∷ xs) ys h = let r = back_up xs ys in grind (arith, nat_tests)
+
+-- lists of which the numbers ascend one behind the other
+parts_up : (own : List (List ℕ)) → ascends (concat own) ≡ true → All (λ (d : List ℕ). ascends d ≡ true) own
+parts_up [] h = All-nil (λ (d : List ℕ). ascends d ≡ true)
+parts_up (d ∷ own) h = All-cons (λ (d : List ℕ). ascends d ≡ true) d own (front_up d (concat own) h) (parts_up own (back_up d (concat own) h))
+
+each_once : (own : List (List ℕ)) (base n : ℕ) → concat own ≡ range_with_len base n → (x : ℕ) → total (times x) own ≡ once base (base + n) x
+each_once own base n is x = sym (times_concat x own) ∙ ap (times x) is ∙ times_range base n x
+
+-- what one worker records in turn is recorded as by workers
+module _ {S : Type 0} (commands : S → List ℕ → List Command) (taken : S → List ℕ → ℕ) where
+  pub as_batch : (workers base n : ℕ) (pieces : List S) (stage : List Command) (h : IsInTurn commands taken pieces base n stage)
+      → IsBatch commands taken workers pieces base n h.stages
+  as_batch workers base n pieces stage h =
+      let up = ap ascends h.in_turn ∙ range_up base n in
+      record { draws = h.draws; recorded = h.recorded; ascend = parts_up h.draws up; each = each_once h.draws base n h.in_turn; alone = λ one. up }
+
+  pub as_out : (base limit : ℕ) (pieces : List S) → base ≤ limit → IsOutInTurn commands taken pieces base limit → IsOut commands taken pieces base limit
+  as_out base limit pieces rises h =
+      let end : base + (limit - base) ≡ limit = omega (arith, rises) in
+      record {
+        draws = h.draws;
+        shares = h.shares;
+        each = λ x. each_once h.draws base (limit - base) h.in_turn x ∙ ap (λ n. once base n x) end;
+        short = h.short;
+      }
 
 -- numbers as fresh handles
 

@@ -9,8 +9,9 @@ use Rattle.eco_systems.specs.Rows.{ValuedRow, rows_of}
 use Rattle.eco_systems.specs.Systems.{SystemModel}
 use Rattle.eco_bodies.specs.Taking.{commands_of, taken_of}
 use Rattle.eco_bodies.specs.declared.systems.System.{System}
-use Rattle.eco_workers.specs.Batches.{IsOut}
+use Rattle.eco_workers.specs.Batches.{IsBatch, IsOut}
 use Rattle.eco_workers.specs.Taking.{by_index}
+use Rattle.eco_world.specs.Merging.{all_commands}
 use Rattle.eco_frame.specs.declared.part.Part.{Part}
 use Rattle.eco_frame.specs.declared.piece.RowsPiece.{RowsPiece}
 
@@ -57,6 +58,11 @@ module _ {B : Type 0} where
     abbrev pub IsRunOut : WorldState → List (System B) → List ℕ → Type 0
     IsRunOut w systems places =
         IsOut (by_index piece_commands) (by_index piece_taken) (pieces_at w systems places) (length w.indices) w.limit
+
+-- some pieces gave these commands: those of a stage of each, in the pieces' order
+abbrev pub AreGiven : {S : Type 0} → (S → List ℕ → List Command) → (S → List ℕ → ℕ) → ℕ → List S → ℕ → ℕ → List Command → Type 0
+AreGiven commands taken workers pieces base n given =
+    (stages : List (List Command)) × IsBatch commands taken workers pieces base n stages × (given ≡ all_commands stages)
 
 -- the law of bodies: what they look at of the handles that are there to draw is what they take
 abbrev pub Settled : {B : Type 0} → (B → ValuedRow → List Entity → ℕ) → (B → ValuedRow → List Entity → List Command) → Type 0

@@ -2,10 +2,12 @@
 ghost use Rattle.std.specs.Prelude.{◌≡◌, ◌+◌, ◌<◌, ◌≤◌, length, map, vec_capacity, vec_len, IfErr, IfOk, OnErr, OnOk};
 ghost use Rattle.std.specs.List.{All};
 ghost use Rattle.eco_ids.specs.declared.refusal.Refusal.TheVariants.{NoMoreIds};
-ghost use Rattle.eco_workers.specs.Taking.{IsStopped};
+ghost use Rattle.eco_workers.specs.Alone.{IsInTurn, IsOutInTurn};
+ghost use Rattle.eco_workers.specs.Batches.{IsOut};
+ghost use Rattle.eco_workers.specs.Taking.{by_index, IsStopped};
 ghost use Rattle.eco_world.specs.Merging.{all_commands};
 ghost use Rattle.eco_frame.specs.Models.{model_at, model_of};
-ghost use Rattle.eco_frame.specs.Pieces.{IsRecorded, IsRunOut, Settled};
+ghost use Rattle.eco_frame.specs.Pieces.{AreGiven, IsRecorded, IsRunOut, Settled};
 ghost use Rattle.eco_frame.specs.Progresses.{HasRun};
 
 use crate::part::{Part, parts, pieces};
@@ -13,7 +15,7 @@ use crate::progress::Progress;
 use eco_bodies::{System, SystemBody};
 use eco_ids::Refusal;
 use eco_stages::Stage;
-use eco_workers::run_batch;
+use eco_workers::{Piece, run_alone, run_batch};
 use eco_world::World;
 use std::alloc::Global;
 use std::thread::Threads;
@@ -53,8 +55,53 @@ fn workers_for<B: SystemBody>(parts: &[Part<'_, B>], workers: u32) -> u32
     most.min(workers as usize) as u32
 }
 
-// Records the systems at some positions of declaration on a world. Answers the stages of their pieces in order, and how many
-// handles were drawn.
+// Records the pieces on this thread alone, all into one stage.
+fn record_alone<P: Piece>(
+    alloc: Global,
+    pieces: &[P],
+    base: u32,
+    limit: u32,
+) -> Result<(Vec<Stage>, u32), Refusal>
+    requires { base ≤ limit }
+    ensures batch { IfOk result (λ r. IsInTurn (by_index P.commands) (by_index P.taken) pieces.now base r.1
+        (all_commands r.0.items)) }
+    ensures most { IfOk result (λ r. base + r.1 ≤ limit) }
+    ensures why { IfErr result (λ e. IsStopped e) }
+    ensures out { IfErr result (λ e. e ≡ NoMoreIds
+        → IsOutInTurn (by_index P.commands) (by_index P.taken) pieces.now base limit) }
+{
+    let mut stages = Vec::with_capacity(alloc, 1)?;
+    let (stage, drawn) = run_alone(alloc, pieces, base, limit)?;
+    stages.push_reserved(stage);
+    Ok((stages, drawn))
+}
+
+// Records the pieces by so many workers: by one into one stage, else each into a stage of its own.
+fn record_pieces<P: Piece + Sync, R: Threads + Sync>(
+    rt: &R,
+    alloc: Global,
+    pieces: &[P],
+    workers: u32,
+    base: u32,
+    limit: u32,
+) -> Result<(Vec<Stage>, u32), Refusal>
+    requires indices { (base ≤ limit) × (limit ≤ 1048576) }
+    requires workers { (1 ≤ workers) × (workers ≤ 64) }
+    ensures batch { IfOk result (λ r. AreGiven (by_index P.commands) (by_index P.taken) workers pieces.now
+        base r.1 (all_commands r.0.items)) }
+    ensures most { IfOk result (λ r. base + r.1 ≤ limit) }
+    ensures why { IfErr result (λ e. IsStopped e) }
+    ensures out { IfErr result (λ e. e ≡ NoMoreIds
+        → IsOut (by_index P.commands) (by_index P.taken) pieces.now base limit) }
+{
+    if workers == 1 {
+        return record_alone(alloc, pieces, base, limit);
+    }
+    run_batch(rt, alloc, pieces, workers, base, limit)
+}
+
+// Records the systems at some positions of declaration on a world. Answers stages, which in order hold what the pieces of the
+// systems record in order, and how many handles were drawn. By one worker it is one stage, else one for each piece.
 fn record<B: SystemBody + Sync, R: Threads + Sync>(
     rt: &R,
     alloc: Global,
@@ -78,7 +125,7 @@ fn record<B: SystemBody + Sync, R: Threads + Sync>(
     let parts = parts(alloc, world, systems, places)?;
     let pieces = pieces(alloc, &parts)?;
     let workers = workers_for(&parts, workers);
-    run_batch(rt, alloc, &pieces, workers, world.high(), world.limit())
+    record_pieces(rt, alloc, &pieces, workers, world.high(), world.limit())
 }
 
 // Runs one batch more: the systems at some positions of declaration are recorded on the world, and what they recorded is merged

@@ -84,7 +84,8 @@ fn run_all<B: SystemBody + Sync, R: Threads + Sync>(
 /// are; which row draws which handle may differ. With one worker handles are drawn in the order of the rows.
 ///
 /// It stops at a batch that is refused: with `NoMoreIds` where the rows of the batch draw more fresh handles than there are
-/// indices left, and with `OutOfMemory` where memory is refused, or where the batch has more than 16,777,216 pieces of 64 rows.
+/// indices left, and with `OutOfMemory` where memory is refused, or where more workers than one record a batch of more than
+/// 16,777,216 pieces of 64 rows.
 /// The batches before it are merged then, and nothing else is done. A command that finds no memory is no reason to stop: its
 /// outcome is `OutOfMemory`.
 pub fn run_frame<B: SystemBody + Sync + Drop, R: Threads + Sync>(

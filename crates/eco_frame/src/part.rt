@@ -86,7 +86,8 @@ pub(crate) fn pieces<'a, B: SystemBody>(
 ) -> Result<Vec<RowsPiece<'a, B>>, AllocError>
     ensures { IfOk result (λ ps. map seen_piece ps.items ≡ flat_map pieces_in (map seen_part parts.now)) }
 {
-    let mut pieces = Vec::new(alloc);
+    // Most parts have one piece.
+    let mut pieces = Vec::with_capacity(alloc, parts.len())?;
     for part in parts {
         add_pieces(part, &mut pieces)?;
     }

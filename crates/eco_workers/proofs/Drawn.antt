@@ -18,16 +18,23 @@ behind (x ∷ xs) (y ∷ ys) mine e =
     let rest = behind xs ys mine cc in
     (rest.0, ap (λ z. z ∷ ys) same ∙ ap (λ zs. x ∷ zs) rest.1, rest.2)
 
+pub took_behind : (old new : List ℕ) (commands : List Entity → List Command) (taken : List Entity → ℕ) (stage stage' : List Command)
+    → Took commands taken (map fresh old) (map fresh new) stage stage'
+    → (mine : List ℕ) × (new ≡ old ++ mine) × ((taken (map fresh mine) ≡ length mine) × (stage' ≡ stage ++ commands (map fresh mine)))
+took_behind old new commands taken stage stage' t =
+    let b = behind old new t.0 t.1 in
+    let all = t.2 [] in
+    let same : t.0 ++ [] ≡ map fresh b.0 = append-nil t.0 ∙ b.2 in
+    let count : length t.0 ≡ length b.0 = ap length b.2 ∙ length-map b.0 fresh in
+    (b.0, b.1, (sym (ap taken same) ∙ all.0 ∙ count, all.1 ∙ ap (λ l. stage ++ commands l) same))
+
 pub took_indices : (old new : List ℕ) (commands : List Entity → List Command) (taken : List Entity → ℕ) (empty stage : List Command)
     → empty ≡ []
     → Took commands taken (map fresh old) (map fresh new) empty stage
     → (mine : List ℕ) × (new ≡ old ++ mine) × ((taken (map fresh mine) ≡ length mine) × (stage ≡ commands (map fresh mine)))
 took_indices old new commands taken empty stage none t =
-    let b = behind old new t.0 t.1 in
-    let all = t.2 [] in
-    let same : t.0 ++ [] ≡ map fresh b.0 = append-nil t.0 ∙ b.2 in
-    let count : length t.0 ≡ length b.0 = ap length b.2 ∙ length-map b.0 fresh in
-    (b.0, b.1, (sym (ap taken same) ∙ all.0 ∙ count, all.1 ∙ ap (λ s. s ++ commands (t.0 ++ [])) none ∙ ap commands same))
+    let b = took_behind old new commands taken empty stage t in
+    (b.0, b.1, (b.2.0, b.2.1 ∙ ap (λ s. s ++ commands (map fresh b.0)) none))
 
 pub is_stopped : (dry : Bool) (refusal : Refusal) → refusal ≡ stopped_by dry → IsStopped refusal
 is_stopped true refusal is = inl is

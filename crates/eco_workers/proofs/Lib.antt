@@ -1,5 +1,6 @@
 pub mod Totals
 pub mod Turned
+pub mod Turns
 pub mod Drawn
 pub mod Logs
 pub mod Gathered

@@ -2,3 +2,4 @@ pub mod Taking
 pub mod Entries
 pub mod Workers
 pub mod Batches
+pub mod Alone

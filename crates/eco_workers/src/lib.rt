@@ -2,8 +2,10 @@
 //! multithreading).
 #![tactic(auto)]
 
+mod alone;
 mod batch;
 mod collected;
+mod counter;
 mod drawer;
 mod draws;
 mod end;
@@ -12,6 +14,7 @@ mod piece;
 mod worked;
 mod worker;
 
+pub use alone::run_alone;
 pub use batch::run_batch;
 pub use draws::Draws;
 pub use piece::Piece;

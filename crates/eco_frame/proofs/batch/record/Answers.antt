@@ -1,9 +1,10 @@
-use Rattle.std.proofs.Common.{◌≡◌, ◌<◌, flat_map, length, map, subst, ap, ◌∙◌, arith}
+use Rattle.std.proofs.Common.{◌≡◌, ◌<◌, flat_map, length, map, subst, sym, ap, ◌∙◌, arith}
 use Rattle.std.proofs.lemmas.List.Elements.{recursion_from_All}
 use Rattle.std.proofs.lemmas.Result.{IfErr-weaker, IfOk-weaker}
 use Rattle.eco_workers.specs.Batches.{IsBatch, IsOut}
 use Rattle.eco_workers.specs.Taking.{by_index}
-use Rattle.eco_frame.specs.Pieces.{pieces_at, pieces_in, piece_commands, piece_taken, seen_part, seen_piece}
+use Rattle.eco_frame.specs.Pieces.{IsRecorded, pieces_at, pieces_in, piece_commands, piece_taken, seen_part, seen_piece}
+use Rattle.eco_frame.specs.Models.{model_at, model_of}
 use Rattle.eco_frame.proofs.Batched.{out_seen, recorded}
 use Rattle.eco_frame.proofs.batch.record.Goals as goal
 
@@ -20,12 +21,14 @@ returns-clause-ok g c =
     let used = c.workers_for-workers.result in
     let few : c.args.workers ≡ 1 → used ≡ 1 = λ one. (let some = c.workers_for-workers.ensures in omega (arith, some, one)) in
     let within = recursion_from_All (λ k. k < length c.args.systems.now) places c.requires.places in
-    IfOk-weaker c.run_batch.result _ _
-    (λ r h. recorded b.reads_of b.writes_of b.kills_of b.taken b.commands c.are_settled.ensures w seen_piece c.args.workers used few c.args.systems.now places
-    pieces r.1 r.0.items within seen
-    (subst (λ base. IsBatch f t used pieces base r.1 r.0.items) c.high.ensures
-    (subst (λ ps. IsBatch f t used ps c.high.result r.1 r.0.items) c.deref-3.ensures.value h)))
-    c.run_batch.ensures.batch
+    let batch = map (model_at (map (model_of b.reads_of b.writes_of b.kills_of b.taken b.commands) c.args.systems.now)) places in
+    IfOk-weaker c.record_pieces.result _ _
+    (λ r h. subst (λ given. IsRecorded c.args.workers w batch given r.1) (sym h.2)
+    (recorded b.reads_of b.writes_of b.kills_of b.taken b.commands c.are_settled.ensures w seen_piece c.args.workers used few c.args.systems.now places
+    pieces r.1 h.0 within seen
+    (subst (λ base. IsBatch f t used pieces base r.1 h.0) c.high.ensures
+    (subst (λ ps. IsBatch f t used ps c.high.result r.1 h.0) c.deref-3.ensures.value h.1))))
+    c.record_pieces.ensures.batch
 
 pub returns-clause-out : goal.returns-clause-out
 returns-clause-out g c =
@@ -37,11 +40,11 @@ returns-clause-out g c =
     let pieces = c.in_ok-pieces.pieces.items in
     let seen : map seen_piece pieces ≡ pieces_at w c.args.systems.now places =
     c.in_ok-pieces.ensures ∙ ap (λ ps. flat_map pieces_in (map seen_part ps)) c.deref.ensures.value ∙ ap (flat_map pieces_in) c.in_ok-parts.ensures.ok in
-    IfErr-weaker c.run_batch.result _ _
+    IfErr-weaker c.record_pieces.result _ _
     (λ e h no. subst (λ ps. IsOut (by_index f) (by_index t) ps (length w.indices) w.limit) seen
     (subst (λ n. IsOut (by_index f) (by_index t) (map seen_piece pieces) (length w.indices) n) c.limit.ensures
     (subst (λ n. IsOut (by_index f) (by_index t) (map seen_piece pieces) n c.limit.result) c.high.ensures
     (out_seen seen_piece (by_index f) (by_index t) pieces c.high.result c.limit.result
     (subst (λ ps. IsOut (by_index (λ p. f (seen_piece p))) (by_index (λ p. t (seen_piece p))) ps c.high.result c.limit.result)
     c.deref-3.ensures.value (h no))))))
-    c.run_batch.ensures.out
+    c.record_pieces.ensures.out

@@ -1,0 +1,20 @@
+use Rattle.std.proofs.Common.{refl}
+use Rattle.std.proofs.lemmas.Result.{IfErr-weaker, IfOk-weaker}
+use Rattle.eco_workers.specs.Taking.{by_index}
+use Rattle.eco_frame.proofs.Fresh.{as_batch, as_out}
+use Rattle.eco_frame.proofs.batch.record_pieces.Goals as goal
+
+pub returns-then-workers-eq1-clause-batch : goal.returns-then-workers-eq1-clause-batch
+returns-then-workers-eq1-clause-batch g c =
+    IfOk-weaker c.record_alone.result _ _
+    (λ r h. (h.stages, as_batch (by_index g.P.Piece.commands) (by_index g.P.Piece.taken) c.args.workers c.args.base r.1 c.args.pieces.now _ h, h.whole))
+    c.record_alone.ensures.batch
+
+pub returns-then-workers-eq1-clause-out : goal.returns-then-workers-eq1-clause-out
+returns-then-workers-eq1-clause-out g c =
+    IfErr-weaker c.record_alone.result _ _
+    (λ e h no. as_out (by_index g.P.Piece.commands) (by_index g.P.Piece.taken) c.args.base c.args.limit c.args.pieces.now c.requires.indices.0 (h no))
+    c.record_alone.ensures.out
+
+pub returns-clause-batch : goal.returns-clause-batch
+returns-clause-batch g c = IfOk-weaker c.run_batch.result _ _ (λ r h. (r.0.items, h, refl)) c.run_batch.ensures.batch

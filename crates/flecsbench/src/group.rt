@@ -1,5 +1,5 @@
 //! Entities and ids that take turns.
-use eco_ids::{Entity, Id};
+use eco_ids::Entity;
 
 /// Entities that were made one after the other while no index was free, so that their indices follow each other. They take
 /// turns: after the last one comes the first.
@@ -53,6 +53,11 @@ impl Group {
         }
     }
 
+    /// Whether one entity has each turn.
+    pub fn is_alone(self) -> bool {
+        self.count <= 1
+    }
+
     /// Whose turn it is.
     pub fn at(self, turn: u32) -> Entity {
         let round = turn.wrapping_add(self.skipped) / self.turns.max(1);
@@ -71,14 +76,4 @@ pub enum Ids {
     Ones(Group),
     /// Pairs, of relationships and targets.
     Twos(Group, Group),
-}
-
-impl Ids {
-    /// The id whose turn it is.
-    pub fn at(self, turn: u32) -> Id {
-        match self {
-            Ids::Ones(entities) => Id::One(entities.at(turn)),
-            Ids::Twos(relationships, targets) => Id::Two(relationships.at(turn), targets.at(turn)),
-        }
-    }
 }

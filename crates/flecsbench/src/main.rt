@@ -10,6 +10,7 @@ mod heavy;
 mod scene;
 mod simulation;
 mod start;
+mod work;
 
 use arguments::{Asked, Choice, read_arguments};
 use case::{CASES, Case, tenths_for_one};

@@ -1,5 +1,6 @@
 //! The worlds that cases are about, and the calls that are measured.
 use crate::group::{Group, Ids};
+use crate::work::Work;
 use eco_ids::{Entity, Id, Refusal, Value};
 use eco_world::{Command, Query, QueryId, Results, Stage, Values, World};
 use std::alloc::Global;
@@ -11,7 +12,8 @@ const LIMIT: u32 = 1_048_576;
 /// A world, and the entities and ids that a case is about, in the order of its calls, or the query that it asks.
 pub struct Scene {
     world: World,
-    work: Vec<(Entity, Id)>,
+    alloc: Global,
+    work: Work,
     query: Option<Query>,
     // A query that was added to the world.
     kept: Option<QueryId>,
@@ -32,6 +34,7 @@ impl Drop for Scene {
     fn drop(self) {
         let Scene {
             world: _,
+            alloc: _,
             work: _,
             query: _,
             kept: _,
@@ -113,17 +116,17 @@ fn record(stage: &mut Stage, command: Command) -> Result<(), Refusal> {
 }
 
 // The stage adds each id to its entity.
-fn record_adds(stage: &mut Stage, work: &[(Entity, Id)]) -> Result<(), Refusal> {
-    for (entity, id) in work {
-        record(stage, Command::Add(*entity, *id))?;
+fn record_adds(stage: &mut Stage, work: &Work) -> Result<(), Refusal> {
+    for (turn, entity) in work.entities().iter().enumerate() {
+        record(stage, Command::Add(*entity, work.id(turn)))?;
     }
     Ok(())
 }
 
 // The stage sets each id of its entity to the value.
-fn record_sets(stage: &mut Stage, work: &[(Entity, Id)], value: Value) -> Result<(), Refusal> {
-    for (entity, id) in work {
-        record(stage, Command::Set(*entity, *id, value))?;
+fn record_sets(stage: &mut Stage, work: &Work, value: Value) -> Result<(), Refusal> {
+    for (turn, entity) in work.entities().iter().enumerate() {
+        record(stage, Command::Set(*entity, work.id(turn), value))?;
     }
     Ok(())
 }
@@ -134,7 +137,8 @@ impl Scene {
         let world = World::new(alloc, LIMIT)?;
         Ok(Scene {
             world,
-            work: Vec::new(alloc),
+            alloc,
+            work: Work::none(alloc),
             query: None,
             kept: None,
             results: None,
@@ -217,10 +221,7 @@ impl Scene {
 
     /// So many calls are to be about the entities and the ids, each at its turn.
     pub fn plan(&mut self, count: u32, entities: Group, ids: Ids) -> Result<(), Refusal> {
-        self.work.clear();
-        for turn in 0..count {
-            self.work.push((entities.at(turn), ids.at(turn)))?;
-        }
+        self.work = Work::of(self.alloc, count, entities, ids)?;
         Ok(())
     }
 
@@ -231,16 +232,16 @@ impl Scene {
 
     /// Adds each id to its entity.
     pub fn add(&mut self) -> Result<(), Refusal> {
-        for (entity, id) in &self.work {
-            self.world.add(*entity, *id)?;
+        for (turn, entity) in self.work.entities().iter().enumerate() {
+            self.world.add(*entity, self.work.id(turn))?;
         }
         Ok(())
     }
 
     /// Sets each id of its entity to the value.
     pub fn set(&mut self, value: Value) -> Result<(), Refusal> {
-        for (entity, id) in &self.work {
-            self.world.set(*entity, *id, value)?;
+        for (turn, entity) in self.work.entities().iter().enumerate() {
+            self.world.set(*entity, self.work.id(turn), value)?;
         }
         Ok(())
     }
@@ -301,7 +302,7 @@ impl Scene {
 
     /// Deletes each entity.
     pub fn delete(&mut self) -> Result<(), Refusal> {
-        for (entity, _) in &self.work {
+        for entity in self.work.entities() {
             self.world.delete(*entity)?;
         }
         Ok(())
@@ -317,26 +318,20 @@ impl Scene {
 
     // Removes each id from its entity.
     fn remove(&mut self) -> Result<(), Refusal> {
-        for (entity, id) in &self.work {
-            self.world.remove(*entity, *id)?;
+        for (turn, entity) in self.work.entities().iter().enumerate() {
+            self.world.remove(*entity, self.work.id(turn))?;
         }
         Ok(())
     }
 
     // Removes the first id from all entities by one call.
     fn remove_from_all(&mut self) -> Result<(), Refusal> {
-        match self.work.first() {
-            Some((_, id)) => self.world.remove_all(*id),
-            None => Ok(()),
-        }
+        self.world.remove_all(self.work.id(0))
     }
 
     // Deletes all entities that have the first id by one call.
     fn delete_with(&mut self) -> Result<(), Refusal> {
-        match self.work.first() {
-            Some((_, id)) => self.world.delete_with(*id),
-            None => Ok(()),
-        }
+        self.world.delete_with(self.work.id(0))
     }
 
     // Adds the ids to their entities and removes them, so many times.
@@ -351,8 +346,8 @@ impl Scene {
     // The sum of the first fields of all values.
     fn sum(&self) -> i64 {
         let mut sum: i64 = 0;
-        for (entity, id) in &self.work {
-            if let Some(value) = self.world.get(*entity, *id) {
+        for (turn, entity) in self.work.entities().iter().enumerate() {
+            if let Some(value) = self.world.get(*entity, self.work.id(turn)) {
                 sum = sum.wrapping_add(value.0[0]);
             }
         }
@@ -361,12 +356,13 @@ impl Scene {
 
     // The sum of the first fields of the first id's values, of all tables of the query.
     fn sum_columns(&self) -> Result<i64, Refusal> {
-        let (Some(query), Some((_, id))) = (&self.query, self.work.first()) else {
+        let Some(query) = &self.query else {
             return Ok(0);
         };
+        let id = self.work.id(0);
         let mut sum: i64 = 0;
         for table in &self.world.tables_of(query)? {
-            if let Some(Values::Two(rows)) = table.values(*id) {
+            if let Some(Values::Two(rows)) = table.values(id) {
                 sum = sum.wrapping_add(sum_first(rows));
             }
         }
@@ -414,7 +410,7 @@ impl Scene {
 
     // How many entities have the id, by a query that is read first.
     fn count(&self, id: Id) -> Result<usize, Refusal> {
-        let text = format!(in *self.work.allocator(); "{id}")?;
+        let text = format!(in self.alloc; "{id}")?;
         let query = self.world.read_query(text.as_str())?;
         Ok(self.world.results(&query)?.len())
     }
@@ -422,8 +418,8 @@ impl Scene {
     // How many results queries for each of the ids have together.
     fn count_by_texts(&self) -> Result<usize, Refusal> {
         let mut found = 0usize;
-        for (_, id) in &self.work {
-            found = found.saturating_add(self.count(*id)?);
+        for turn in 0..self.work.entities().len() {
+            found = found.saturating_add(self.count(self.work.id(turn))?);
         }
         Ok(found)
     }

@@ -3,13 +3,13 @@ ghost use Rattle.std.specs.Prelude.{◌≡◌, ◌==◌, ◌<◌, length, slice_
 ghost use Rattle.std.specs.List.{list_any};
 ghost use Rattle.eco_ids.specs.declared.refusal.Refusal.TheVariants.{OutOfMemory};
 ghost use Rattle.eco_answers.specs.Answers.{asked};
-ghost use Rattle.eco_systems.specs.Rows.{rows_of, shows_values};
+ghost use Rattle.eco_systems.specs.Rows.{rows_of};
 ghost use Rattle.eco_world.specs.Queries.{may_query};
-ghost use Rattle.eco_rows.specs.Rows.{world_row};
+ghost use Rattle.eco_rows.specs.Rows.{asks_no_data, may_show, world_row};
 
 use crate::row::{WorldRow, shows_values};
-use eco_ids::Refusal;
-use eco_query::{Query, Slot};
+use eco_ids::{Pattern, Refusal};
+use eco_query::{Query, Slot, Term};
 use eco_world::{EntityRef, Results, World};
 use std::marker::Model;
 
@@ -19,15 +19,26 @@ pub struct SystemRows<'a> {
     world: &'a World,
     query: &'a Query,
     results: Results,
-    // Whether a slot of the query shows values, so that an entity is looked for.
+    // Whether a slot of the query may show values, so that an entity is looked for.
     shows: bool,
 }
 
-// Whether some of the slots show the values of their entries.
-fn some_show(slots: &[Slot]) -> bool
-    ensures { result ≡ list_any (λ s. shows_values s.access) slots.now }
+// Whether some of the slots may show a value. Whatever it answers, the rows are the same: where none may, no entity is looked
+// for.
+fn some_show(world: &World, slots: &[Slot]) -> bool
+    ensures { result ≡ list_any (may_show world.now) slots.now }
 {
-    slots.iter().any(|slot| shows_values(slot.access))
+    slots.iter().any(|slot| shows_values(slot.access) && !asks_no_data(world, &slot.term))
+}
+
+// Whether a slot asks for a single id that is no data: no row has a value there.
+fn asks_no_data(world: &World, term: &Term) -> bool
+    ensures { result ≡ asks_no_data world.now term.now }
+{
+    match term {
+        Term::And(Pattern::One(entity)) => world.arity_of(*entity).is_none(),
+        _ => false,
+    }
 }
 
 // By hand, so that dropping it is one call: a derived drop is proved anew at each early return of whoever holds it.
@@ -67,7 +78,7 @@ impl<'a> SystemRows<'a> {
             world,
             query,
             results,
-            shows: some_show(query.slots()),
+            shows: some_show(world, query.slots()),
         })
     }
 

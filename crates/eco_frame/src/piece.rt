@@ -31,7 +31,8 @@ impl<B> Drop for RowsPiece<'_, B> {
 }
 
 // Records the rows from one place to below another, in their order, each lent as its turn comes. It stops at the first that is
-// refused.
+// refused. Not inlined, since the loop over rows keeps more in registers in a function of its own.
+#[inline(never)]
 fn record_between<B: SystemBody, D: Draws>(
     body: &B,
     rows: &SystemRows<'_>,

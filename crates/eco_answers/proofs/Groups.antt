@@ -13,11 +13,15 @@ use Rattle.eco_ids.specs.Order.{id_eq}
 use Rattle.eco_ids.proofs.Ascending.{first, second}
 use Rattle.eco_ids.proofs.Facts.{id_eq_is, or_left, or_right}
 use Rattle.eco_ids.proofs.Overlaps.{entity_eq_itself}
+use Rattle.std.specs.Cmp.{IsTotalOrder}
+use Rattle.eco_query.specs.declared.access.Access.{Access}
 use Rattle.eco_query.specs.declared.slot.Slot.{Slot}
 use Rattle.eco_query.specs.Queries.{QuerySlot, exactly, has_any, holds, is_positive, matches_type, patterns_of, slot_view, term_view}
 use Rattle.eco_archetypes.specs.IdIndex.{any_matches}
 use Rattle.eco_archetypes.specs.TypeTests.{AreNeeded, group_at, matches_one}
-use Rattle.eco_answers.specs.Groups.{groups_of}
+use Rattle.eco_query.proofs.Entries.{and_holds}
+use Rattle.eco_answers.specs.Answers.{asks}
+use Rattle.eco_answers.specs.Groups.{groups_of, is_one_plain, is_plain}
 
 -- what is among those that pass two tests passes the first
 any_filtered : {X Y : Type 0} (f : X → Y) (p q : X → Bool) (xs : List X) → has_any (map f (filter (λ x. p x && q x) xs)) ≡ true → list_any p xs ≡ true
@@ -125,3 +129,27 @@ group_is slots q same k o at there =
     go (t ∷ ss) zero None at there = absurd (none-some _ at)
     go (t ∷ ss) zero (Some s) at there = (s, refl, ap (λ (x : Slot). patterns_of (term_view x.term)) (sym (same_Some s.now t at)))
     go (t ∷ ss) (suc k) o at there = go ss k o at (omega (arith, there))
+
+-- a type with an id that the pattern of one plain term matches is asked for nothing more
+pub plain_passes : IsTotalOrder id_cmp → (slots : List Slot) (q : List QuerySlot) → map slot_view slots ≡ q → is_one_plain (asks slots) ≡ true
+    → (k : ℕ) (ids : List Id) → k < length (groups_of q) → matches_one (group_at (groups_of q) k) ids ≡ true → matches_type ids q ≡ true
+plain_passes order slots q same plain k ids =
+    subst (λ q. k < length (groups_of q) → matches_one (group_at (groups_of q) k) ids ≡ true → matches_type ids q ≡ true) same (go slots plain)
+  where
+    both : (b : Bool) → (b || false) ≡ true → (b && true) ≡ true
+    both true h = refl
+    both false h = h
+
+    one : (a : Access) (t : QueryTerm) (k : ℕ) → is_plain t ≡ true → k < length (groups_of (record { access = a; term = t } ∷ []))
+        → matches_one (group_at (groups_of (record { access = a; term = t } ∷ [])) k) ids ≡ true → (holds ids t && true) ≡ true
+    one a (And p) zero plain there found = rw (and_holds order p ids) (both (any_matches ids p) found)
+    one a (And p) (suc k) plain there found = absurd (omega (arith, there))
+    one a (Not p) k plain there found = absurd (true≢false (sym plain))
+    one a (Optional i) k plain there found = absurd (true≢false (sym plain))
+    one a (Or is) k plain there found = absurd (true≢false (sym plain))
+
+    go : (slots : List Slot) → is_one_plain (asks slots) ≡ true → k < length (groups_of (map slot_view slots))
+        → matches_one (group_at (groups_of (map slot_view slots)) k) ids ≡ true → matches_type ids (map slot_view slots) ≡ true
+    go [] plain there found = refl
+    go (s ∷ []) plain there found = one s.access (term_view s.term) k plain there found
+    go (s ∷ t ∷ slots) plain there found = absurd (true≢false (sym plain))

@@ -2,7 +2,8 @@
 ghost use Rattle.std.specs.Prelude.{◌≡◌, ◌<◌, filter, length, slice_get, Some};
 ghost use Rattle.std.specs.Option.{option_copied};
 ghost use Rattle.eco_archetypes.specs.TypeTests.{group_at};
-ghost use Rattle.eco_answers.specs.Groups.{groups_of};
+ghost use Rattle.eco_answers.specs.Answers.{asks};
+ghost use Rattle.eco_answers.specs.Groups.{groups_of, is_one_plain, is_plain};
 ghost use Rattle.eco_query.specs.Queries.{is_positive, patterns_of, term_view};
 
 use eco_archetypes::TypeTest;
@@ -65,6 +66,23 @@ fn pattern_at(slot: &Slot, place: usize) -> Pattern
     }
 }
 
+// Whether the slot is a plain term.
+fn is_plain(slot: &Slot) -> bool
+    ensures { result ≡ is_plain (term_view slot.now.term) }
+{
+    matches!(&slot.term, Term::And(_))
+}
+
+// Whether the slots are one plain term.
+fn is_one_plain(slots: &[Slot]) -> bool
+    ensures { result ≡ is_one_plain (asks slots.now) }
+{
+    match slots {
+        [slot] => is_plain(slot),
+        _ => false,
+    }
+}
+
 impl<'a> Asking<'a> {
     // The slot that makes a group.
     fn slot_of(&self, group: usize) -> &Slot
@@ -98,6 +116,12 @@ impl<'a> TypeTest for Asking<'a> {
 
     fn passes(&self, type_list: &TypeList) -> bool {
         self.query.matches_type(type_list)
+    }
+
+    fn passes_found(&self, _group: usize, type_list: &TypeList) -> bool {
+        // One plain term asks for nothing but an id that its pattern matches.
+        eco_ids::order::ids_are_ordered();
+        is_one_plain(self.query.slots()) || self.passes(type_list)
     }
 
     fn cached(&self) -> Option<(usize, &Query)> {

@@ -10,7 +10,7 @@ use crate::choices::Choices;
 use crate::product::{choices_of, find_only};
 use eco_ids::{Entity, Id};
 use eco_query::Slot;
-use eco_store::{Standing, Table, Tables};
+use eco_store::{Ranked, Standing, Table, Tables};
 use std::alloc::{AllocError, Global};
 
 /// The choices of one table: from the first on, up to the end.
@@ -101,13 +101,13 @@ pub fn only_of(
 /// A row for each choice of each who stands somewhere, where the place of each is that of its block.
 pub fn rows_of(
     alloc: Global,
-    standings: &[Standing],
+    standings: &Ranked,
     blocks: &[Block],
 ) -> Result<Vec<Standing>, AllocError>
     ensures { IfOk result (λ rows. rows.items ≡ rows_of blocks.now standings.now) }
 {
     let mut rows = Vec::with_capacity(alloc, standings.len())?;
-    for stands in standings {
+    for stands in standings.iter() {
         if let Some(block) = blocks.get(stands.place) {
             add_rows(&mut rows, stands.entity, *block)?;
         }

@@ -7,34 +7,32 @@ ghost use Rattle.eco_answers.specs.Blocks.{lent, shown};
 
 use crate::choices::Choices;
 use eco_ids::{Entity, Id};
-use eco_store::Standing;
+use eco_store::{Ranked, ranked};
 use std::marker::Model;
-use std::slice;
 
 /// The results that are left, each an entity and its entries. A contract sees the list of them.
 #[derive(Drop)]
 pub struct Iter<'a> {
-    rows: slice::Iter<'a, Standing>,
+    rows: ranked::Iter<'a>,
     choices: &'a Choices,
 }
 
 impl<'a> Model for Iter<'a> {
     ghost use Rattle.std.specs.Prelude.{◌<◌, List, length, map};
     ghost use Rattle.std.specs.List.{All};
-    ghost use Rattle.std.specs.Slice.Iter.{iter_rest};
     ghost use Rattle.eco_ids.specs.Answer as answers;
     ghost use Rattle.eco_answers.specs.Blocks.{shown};
 
     ghost Value = { List answers.Row };
 
-    ghost view = { λ i. map (shown i.choices.now.all) (iter_rest i.rows) };
+    ghost view = { λ i. map (shown i.choices.now.all) i.rows };
 
-    ghost invariant = { λ i. All (λ s. s.place < length i.choices.now.all) (iter_rest i.rows) };
+    ghost invariant = { λ i. All (λ s. s.place < length i.choices.now.all) i.rows };
 }
 
 impl<'a> Iter<'a> {
     /// Of these rows, each with the choice at its place.
-    pub(crate) fn of(rows: &'a [Standing], choices: &'a Choices) -> Iter<'a>
+    pub(crate) fn of(rows: &'a Ranked, choices: &'a Choices) -> Iter<'a>
         requires { All (λ s. s.place < length choices.now.all) rows.now }
         ensures { result ≡ map (shown choices.now.all) rows.now }
     {

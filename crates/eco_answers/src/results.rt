@@ -14,7 +14,7 @@ use crate::choices::Choices;
 use crate::iter::Iter;
 use eco_ids::{Entity, Id};
 use eco_query::{Query, Slot};
-use eco_store::{Standing, Standings, Store};
+use eco_store::{Ranked, Standings, Store};
 use std::alloc::{AllocError, Global};
 use std::marker::Model;
 
@@ -23,7 +23,7 @@ use std::marker::Model;
 #[derive(Debug)]
 pub struct Results {
     // Each with the place of its entries among the choices.
-    rows: Vec<Standing>,
+    rows: Ranked,
     choices: Choices,
 }
 
@@ -45,9 +45,9 @@ impl Model for Results {
 
     ghost Value = { List answers.Row };
 
-    ghost view = { λ r. map (shown r.choices.all) r.rows.items };
+    ghost view = { λ r. map (shown r.choices.all) r.rows };
 
-    ghost invariant = { λ r. All (λ s. s.place < length r.choices.all) r.rows.items };
+    ghost invariant = { λ r. All (λ s. s.place < length r.choices.all) r.rows };
 }
 
 impl Results {
@@ -56,7 +56,7 @@ impl Results {
         ensures { length result ≡ 0 }
     {
         Results {
-            rows: Vec::new(alloc),
+            rows: Ranked::none(alloc),
             choices: Choices::none(alloc, width),
         }
     }
@@ -87,7 +87,7 @@ impl Results {
         requires { place < length self.now }
         ensures { slice_get self.now place ≡ Some (record { entity = result.0; entries = result.1.now }) }
     {
-        let row = self.rows[place];
+        let row = self.rows.get(place);
         (row.entity, self.choices.get(row.place))
     }
 
@@ -100,9 +100,9 @@ impl Results {
 }
 
 // Rows, each with the choice at its place.
-fn with_rows(rows: Vec<Standing>, made: Blocks) -> Results
-    requires { All (λ s. s.place < length made.choices.all) rows.items }
-    ensures { result ≡ map (shown made.choices.all) rows.items }
+fn with_rows(rows: Ranked, made: Blocks) -> Results
+    requires { All (λ s. s.place < length made.choices.all) rows }
+    ensures { result ≡ map (shown made.choices.all) rows }
 {
     let Blocks { choices, list: _ } = made;
     Results { rows, choices }
@@ -112,9 +112,9 @@ fn with_rows(rows: Vec<Standing>, made: Blocks) -> Results
 fn results_in(alloc: Global, found: Standings<'_>, terms: &[Slot]) -> Result<Results, AllocError>
     requires some { 0 < length terms.now }
     requires there { All (λ n. IsSome (slot_of found.tables.now n)) found.slots.items }
-    requires places { All (λ s. s.place < length found.slots.items) found.list.items }
+    requires places { All (λ s. s.place < length found.slots.items) found.list }
     ensures { IfOk result (λ r. r
-        ≡ results_at found.entry.tables.now found.entry.slots.items (asks terms.now) found.entry.list.items) }
+        ≡ results_at found.entry.tables.now found.entry.slots.items (asks terms.now) found.entry.list) }
 {
     match only_of(alloc, found.tables, &found.slots, terms)? {
         // Each who stands somewhere is its own one row.
@@ -126,8 +126,8 @@ fn results_in(alloc: Global, found: Standings<'_>, terms: &[Slot]) -> Result<Res
 // The same, where each table has one choice.
 fn alone_in(found: Standings<'_>, choices: Choices) -> Results
     requires only { length choices.all ≡ length found.slots.items }
-    requires places { All (λ s. s.place < length found.slots.items) found.list.items }
-    ensures { result ≡ map (shown choices.all) found.entry.list.items }
+    requires places { All (λ s. s.place < length found.slots.items) found.list }
+    ensures { result ≡ map (shown choices.all) found.entry.list }
 {
     let Standings {
         tables: _,
@@ -144,9 +144,9 @@ fn alone_in(found: Standings<'_>, choices: Choices) -> Results
 fn expanded_in(alloc: Global, found: Standings<'_>, terms: &[Slot]) -> Result<Results, AllocError>
     requires some { 0 < length terms.now }
     requires there { All (λ n. IsSome (slot_of found.tables.now n)) found.slots.items }
-    requires places { All (λ s. s.place < length found.slots.items) found.list.items }
+    requires places { All (λ s. s.place < length found.slots.items) found.list }
     ensures { IfOk result (λ r. r
-        ≡ results_at found.entry.tables.now found.entry.slots.items (asks terms.now) found.entry.list.items) }
+        ≡ results_at found.entry.tables.now found.entry.slots.items (asks terms.now) found.entry.list) }
 {
     let made = blocks_of(alloc, found.tables, &found.slots, terms)?;
     let Standings {
@@ -155,7 +155,7 @@ fn expanded_in(alloc: Global, found: Standings<'_>, terms: &[Slot]) -> Result<Re
         list,
     } = found;
     let rows = rows_of(alloc, &list, &made.list)?;
-    Ok(with_rows(rows, made))
+    Ok(with_rows(Ranked::among(rows), made))
 }
 
 /// The results of the query on a store, by entity and then by entries: each living entity for which all slots hold, once

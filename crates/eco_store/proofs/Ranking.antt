@@ -20,7 +20,7 @@ use Rattle.eco_tables.specs.Table.{Row, TableState, entities_of}
 use Rattle.eco_tables.specs.Tables.{slot_of, table_in}
 use Rattle.eco_archetypes.specs.Archetypes.{is_found_by, standing_in}
 use Rattle.eco_store.specs.Holders.{entities_whose}
-use Rattle.eco_store.specs.Ranking.{standings, StandsIn}
+use Rattle.eco_store.specs.Ranking.{in_first, standings, StandsIn}
 use Rattle.eco_store.specs.Store.{IsShown, record_ids}
 use Rattle.eco_store.specs.declared.standing.Standing.{Standing}
 use Rattle.eco_store.proofs.Holders.{found_matches, row_kept, standing_apart, standing_whose, whose_ascend}
@@ -53,6 +53,15 @@ keys_sorted ss up = λ k d low within.
     ap (λ a. is_lt (entity_cmp a (get_or (map (λ (s : Standing). s.entity) ss) k d))) (get_or-map (λ (s : Standing). s.entity) ss (k + 1) s d inside)
     ∙ ap (λ b. is_lt (entity_cmp (get_or ss (k + 1) s).entity b)) (get_or-map (λ (s : Standing). s.entity) ss k s d (omega (arith, inside)))
     ∙ up k s low inside
+
+-- entities that ascend do so in the first table
+pub first_sorted : (es : List Entity) → IsSorted entity_cmp es → IsSortedByKey (λ (s : Standing). s.entity) entity_cmp (map in_first es)
+first_sorted es up = λ k s low within.
+    let e = s.entity in
+    let inside : k + 1 < length es = rw (length-map es in_first) at within in
+    ap (λ (a : Standing). is_lt (entity_cmp a.entity (get_or (map in_first es) k s).entity)) (get_or-map in_first es (k + 1) e s inside)
+    ∙ ap (λ (b : Standing). is_lt (entity_cmp (get_or es (k + 1) e) b.entity)) (get_or-map in_first es k e s (omega (arith, inside)))
+    ∙ up k e low inside
 
 -- one more slot is done
 pub standings_step : (i : ℕ) (tables : List (Option TableState)) (ns : List ℕ) (items more all : List Standing) (es : List Entity) → i < length ns

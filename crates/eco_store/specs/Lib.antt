@@ -2,6 +2,7 @@ pub mod Seats
 pub mod Placing
 pub mod Store
 pub mod Ranking
+pub mod Ranked
 pub mod Holders
 pub mod Deaths
 pub mod Retyping

@@ -10,6 +10,10 @@ use Rattle.eco_store.specs.Seats.{Seat, entity_of}
 use Rattle.eco_store.specs.Store.{seat_at, seat_in, type_of}
 use Rattle.eco_store.specs.declared.standing.Standing.{Standing}
 
+-- the entity in the first table
+abbrev pub in_first : Entity → Standing
+in_first e = record { entity = e; place = 0 }
+
 -- who stands in the tables of these slots, each with the place of its slot, counted from i
 abbrev pub standings : ℕ → List (Option TableState) → List ℕ → List Standing
 standings i tables [] = []

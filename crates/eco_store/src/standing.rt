@@ -1,12 +1,13 @@
 //! Who stands in the tables of some slots.
 ghost use Rattle.std.specs.Prelude.{◌≡◌, ◌<◌, ◌++◌, length, map, IfOk, IsTrue, OnOk, OnErr};
-ghost use Rattle.std.specs.List.Sorted.{IsPermutation, IsSortedByKey};
+ghost use Rattle.std.specs.List.Sorted.{IsPermutation, IsSorted, IsSortedByKey};
 ghost use Rattle.eco_ids.specs.Order.{entity_cmp};
 ghost use Rattle.eco_tables.specs.Table.{entities_of};
 ghost use Rattle.eco_tables.specs.Tables.{table_in};
-ghost use Rattle.eco_store.specs.Ranking.{standings};
+ghost use Rattle.eco_store.specs.Ranking.{in_first, standings};
 ghost use Rattle.eco_store.specs.declared.standing.Standing.{Standing as Stands};
 
+use crate::ranked::Ranked;
 use eco_ids::Entity;
 use eco_tables::Tables;
 use std::alloc::{AllocError, Global};
@@ -24,23 +25,56 @@ pub struct Standing {
 pub struct Standings<'a> {
     pub tables: &'a Tables,
     pub slots: Vec<usize>,
-    pub list: Vec<Standing>,
+    pub list: Ranked,
 }
 
 /// All who stand in the tables of these slots, ascending. An `Err` comes where memory is refused, and never where there are
 /// no slots.
-pub(crate) fn ranked(
-    alloc: Global,
-    tables: &Tables,
-    slots: &[usize],
-) -> Result<Vec<Standing>, AllocError>
-    ensures all { IfOk result (λ v. IsPermutation (standings 0 tables.now slots.now) v.items) }
-    ensures sorted { IfOk result (λ v. IsSortedByKey (λ (s : Stands). s.entity) entity_cmp v.items) }
+pub(crate) fn ranked(alloc: Global, tables: &Tables, slots: &[usize]) -> Result<Ranked, AllocError>
+    ensures all { IfOk result (λ v. IsPermutation (standings 0 tables.now slots.now) v) }
+    ensures sorted { IfOk result (λ v. IsSortedByKey (λ (s : Stands). s.entity) entity_cmp v) }
+    ensures some { OnErr result (0 < length slots.now) }
+{
+    match slots {
+        [slot] => alone(alloc, entities_at(tables, *slot)),
+        _ => among(alloc, tables, slots),
+    }
+}
+
+// All who stand in one table, ascending. Rows that were made one after another mostly ascend as they stand: they are copied
+// at once, and nothing is to do.
+fn alone(alloc: Global, entities: &[Entity]) -> Result<Ranked, AllocError>
+    ensures all { IfOk result (λ v. IsPermutation (map in_first entities.now) v) }
+    ensures sorted { IfOk result (λ v. IsSortedByKey (λ (s : Stands). s.entity) entity_cmp v) }
+{
+    let mut list = Vec::from_slice(alloc, entities)?;
+    if !ascend(entities) {
+        list.sort_unstable();
+    }
+    Ok(Ranked::alone(list))
+}
+
+// Whether the entities ascend as they stand.
+fn ascend(entities: &[Entity]) -> bool
+    ensures { IsTrue result → IsSorted entity_cmp entities.now }
+{
+    for place in 1..entities.len() {
+        if entities[place].index <= entities[place - 1].index {
+            return false;
+        }
+    }
+    true
+}
+
+// All who stand in the tables of several slots, ascending.
+fn among(alloc: Global, tables: &Tables, slots: &[usize]) -> Result<Ranked, AllocError>
+    ensures all { IfOk result (λ v. IsPermutation (standings 0 tables.now slots.now) v) }
+    ensures sorted { IfOk result (λ v. IsSortedByKey (λ (s : Stands). s.entity) entity_cmp v) }
     ensures some { OnErr result (0 < length slots.now) }
 {
     let mut list = gathered(alloc, tables, slots)?;
     sort(&mut list);
-    Ok(list)
+    Ok(Ranked::among(list))
 }
 
 // The same, ascending. Rows that were made one after another mostly ascend as they stand, and nothing is to do.

@@ -10,7 +10,8 @@ ghost use Rattle.eco_store.specs.Ranking.{StandsIn};
 ghost use Rattle.eco_store.specs.Store.{read, IsStore};
 ghost use Rattle.eco_store.specs.declared.standing.Standing.{Standing as Stands};
 
-use crate::standing::{Standing, Standings, ranked, row_count};
+use crate::ranked::Ranked;
+use crate::standing::{Standings, ranked, row_count};
 use crate::store::Store;
 use crate::walking::walked;
 use eco_archetypes::TypeTest;
@@ -28,13 +29,13 @@ fn standing_in(
     entities: &EntityIndex,
     tables: &Tables,
     slots: &[usize],
-) -> Result<Vec<Standing>, AllocError>
+) -> Result<Ranked, AllocError>
     requires store { IsStore entities.now tables.now }
     requires there { All (λ n. IsSome (slot_of tables.now n)) slots.now }
     ensures all { IfOk result (λ v. (test : List Ids → Bool) → IsAllFound test tables.now slots.now
-        → map (λ (x : Stands). x.entity) v.items ≡ entities_whose (read entities.now tables.now) test) }
+        → map (λ (x : Stands). x.entity) v ≡ entities_whose (read entities.now tables.now) test) }
     ensures placed { IfOk result (λ v. All
-        (StandsIn (read entities.now tables.now) tables.now slots.now) v.items) }
+        (StandsIn (read entities.now tables.now) tables.now slots.now) v) }
     ensures some { OnErr result (0 < length slots.now) }
 {
     eco_ids::order::handles_are_ordered();
@@ -44,7 +45,8 @@ fn standing_in(
     let indices = entities.high() as usize;
     // The rows of one table mostly ascend as they stand.
     if slots.len() > 1 && indices / INDICES_PER_ENTITY <= count {
-        walked(alloc, entities, tables.slot_count(), slots, count)
+        let list = walked(alloc, entities, tables.slot_count(), slots, count)?;
+        Ok(Ranked::among(list))
     } else {
         ranked(alloc, tables, slots)
     }
@@ -55,10 +57,10 @@ impl Store {
     /// finds. Its time grows with how many they are, and with the tables that the shortest group of the test's patterns finds.
     /// An `Err` comes where memory is refused, and never where nobody passes.
     pub fn standing_by<T: TypeTest>(&self, test: &T) -> Result<Standings<'_>, AllocError>
-        ensures all { IfOk result (λ s. map (λ (x : Stands). x.entity) s.list.items
+        ensures all { IfOk result (λ s. map (λ (x : Stands). x.entity) s.list
             ≡ entities_whose self.now.entities (T.test test.now)) }
         ensures placed { IfOk result (λ s. All
-            (StandsIn self.now.entities s.tables.now s.slots.items) s.list.items) }
+            (StandsIn self.now.entities s.tables.now s.slots.items) s.list) }
         ensures there { IfOk result (λ s. All (λ n. IsSome (slot_of s.tables.now n)) s.slots.items) }
         ensures some { OnErr result
             (IsTrue (list_any (λ p. passes (T.test test.now) p.1) (living self.now.entities))) }

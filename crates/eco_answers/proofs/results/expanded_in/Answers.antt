@@ -10,11 +10,10 @@ pub with_rows-requires : goal.with_rows-requires
 with_rows-requires c =
     let found = c.args.found in
     let made = c.in_ok-made.made in
-    let rows : c.in_ok-rows.rows.items ≡ rows_of made.list.items found.list.items =
-    c.in_ok-rows.ensures ∙ ap (λ bs. rows_of bs c.deref-2.result.now) c.deref-3.ensures.value
-    ∙ ap (rows_of made.list.items) c.deref-2.ensures.value in
+    let rows : c.among.result ≡ rows_of made.list.items found.list =
+    c.among.ensures ∙ c.in_ok-rows.ensures ∙ ap (λ bs. rows_of bs found.list) c.deref-2.ensures.value in
     subst (λ (ss : List Standing). All (λ (s : Standing). s.place < length made.choices.all) ss) (sym rows)
-    (rows_within found.tables.now found.slots.items (asks c.args.terms.now) made (rw c.deref.ensures.value at c.in_ok-made.ensures.blocks) found.list.items
+    (rows_within found.tables.now found.slots.items (asks c.args.terms.now) made (rw c.deref.ensures.value at c.in_ok-made.ensures.blocks) found.list
     c.requires.places)
 
 pub returns : goal.returns
@@ -22,7 +21,6 @@ returns c =
     let found = c.args.found in
     let made = c.in_ok-made.made in
     c.with_rows.ensures
-    ∙ ap (map (shown made.choices.all)) (c.in_ok-rows.ensures
-    ∙ ap (λ bs. rows_of bs c.deref-2.result.now) c.deref-3.ensures.value ∙ ap (rows_of made.list.items) c.deref-2.ensures.value)
-    ∙ all_shown found.tables.now found.slots.items (asks c.args.terms.now) made (rw c.deref.ensures.value at c.in_ok-made.ensures.blocks) found.list.items
+    ∙ ap (map (shown made.choices.all)) (c.among.ensures ∙ c.in_ok-rows.ensures ∙ ap (λ bs. rows_of bs found.list) c.deref-2.ensures.value)
+    ∙ all_shown found.tables.now found.slots.items (asks c.args.terms.now) made (rw c.deref.ensures.value at c.in_ok-made.ensures.blocks) found.list
     c.requires.places

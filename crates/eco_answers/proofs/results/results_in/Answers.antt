@@ -9,4 +9,4 @@ returns-in-Some c =
     let are = rw c.in-Some.is at c.in_ok-choices.ensures in
     let there = rw c.deref.ensures.value at are in
     c.alone_in.ensures
-    ∙ only_shown found.tables.now found.slots.items (asks c.args.terms.now) c.in-Some.choices.all there found.list.items c.requires.places
+    ∙ only_shown found.tables.now found.slots.items (asks c.args.terms.now) c.in-Some.choices.all there found.list c.requires.places

@@ -12,7 +12,7 @@ returns-in_err-found-clause-some c =
 pub returns-then-is_empty-clause-all : goal.returns-then-is_empty-clause-all
 returns-then-is_empty-clause-all c =
     let found = c.in_ok-found.found in
-    none_answers c.args.store.now.entities found.tables.now found.slots.items c.args.query.now found.list.items c.in_ok-found.ensures.all
+    none_answers c.args.store.now.entities found.tables.now found.slots.items c.args.query.now found.list c.in_ok-found.ensures.all
     c.in_ok-found.ensures.placed (search (rules, arith)) c.none.result c.none.ensures
 
 pub returns-clause-all : goal.returns-clause-all
@@ -20,13 +20,13 @@ returns-clause-all c =
     let found = c.in_ok-found.found in
     IfOk-weaker c.results_in.result _ _
     (λ r is. is
-    ∙ ap (λ ts. results_at found.tables.now found.slots.items ts found.list.items) (asks_asked c.slots-2.result.now c.args.query.now c.slots-2.ensures)
-    ∙ standings_answer c.args.store.now.entities found.tables.now found.slots.items c.args.query.now found.list.items c.in_ok-found.ensures.all
+    ∙ ap (λ ts. results_at found.tables.now found.slots.items ts found.list) (asks_asked c.slots-2.result.now c.args.query.now c.slots-2.ensures)
+    ∙ standings_answer c.args.store.now.entities found.tables.now found.slots.items c.args.query.now found.list c.in_ok-found.ensures.all
     c.in_ok-found.ensures.placed)
     c.results_in.ensures
 
 pub returns-clause-some : goal.returns-clause-some
 returns-clause-some c =
     let found = c.in_ok-found.found in
-    let some : 0 < length found.list.items = search (rules, arith) in
-    err_says c.results_in.result (some_answers c.args.store.now.entities c.args.query.now found.list.items c.in_ok-found.ensures.all some)
+    let some : 0 < length found.list = search (rules, arith) in
+    err_says c.results_in.result (some_answers c.args.store.now.entities c.args.query.now found.list c.in_ok-found.ensures.all some)

@@ -1,6 +1,5 @@
 use Rattle.std.proofs.Common.{◌∷◌, [], map, sym, ap, ◌∙◌}
 use Rattle.std.proofs.lemmas.Option.{get_or_from_slice_get}
-use Rattle.std.specs.Slice.Iter.{iter_rest}
 use Rattle.eco_ids.specs.Answer as answers
 use Rattle.eco_answers.specs.Blocks.{shown}
 use Rattle.eco_answers.proofs.Blocked.{rest_within}
@@ -8,14 +7,14 @@ use Rattle.eco_answers.proofs.iter.IterIterator.next.Goals as goal
 
 pub invariant_of-self-2 : goal.invariant_of-self-2
 invariant_of-self-2 c =
-    rest_within c.self.inside.choices.now.all (iter_rest c.self.inside.rows) c.in_ok-row.row.now (iter_rest c.next.new.self) c.in_ok-row.ensures.steps
+    rest_within c.self.inside.choices.now.all c.self.inside.rows c.in_ok-row.row c.next.new.self c.in_ok-row.ensures.steps
     c.self.invariant
 
 pub returns-clause-steps : goal.returns-clause-steps
 returns-clause-steps c =
     let all = c.self.inside.choices.now.all in
-    let row = c.in_ok-row.row.now in
+    let row = c.in_ok-row.row in
     sym c.self.view_is
     ∙ ap (map (shown all)) c.in_ok-row.ensures.steps
-    ∙ ap (λ es. (let r : answers.Row = record { entity = row.entity; entries = es } in r) ∷ map (shown all) (iter_rest c.next.new.self))
+    ∙ ap (λ es. (let r : answers.Row = record { entity = row.entity; entries = es } in r) ∷ map (shown all) c.next.new.self)
     (get_or_from_slice_get all row.place c.get.result.now [] c.get.ensures)

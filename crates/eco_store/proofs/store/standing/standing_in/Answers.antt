@@ -8,21 +8,19 @@ use Rattle.eco_store.proofs.Sorting.{both_ok}
 use Rattle.eco_store.proofs.Values.{shows}
 use Rattle.eco_store.proofs.store.standing.standing_in.Goals as goal
 
-pub returns-then-indices-count-clause-all : goal.returns-then-indices-count-clause-all
-returns-then-indices-count-clause-all c =
+pub returns-in_ok-list-clause-all : goal.returns-in_ok-list-clause-all
+returns-in_ok-list-clause-all c =
     let s = c.args.tables.now in
-    IfOk-weaker c.walked.result _ _
-    (λ v is test found.
-    ap (map (λ (x : Standing). x.entity)) is.2
-    ∙ walked_whose c.args.entities.now s c.requires.store c.rows_have_ids.ensures c.args.slots.now is.0 is.1 test found)
-    c.walked.ensures
+    let is = c.in_ok-list.ensures in
+    λ test found.
+    ap (map (λ (x : Standing). x.entity)) (c.among.ensures ∙ is.2)
+    ∙ walked_whose c.args.entities.now s c.requires.store c.rows_have_ids.ensures c.args.slots.now is.0 is.1 test found
 
-pub returns-then-indices-count-clause-placed : goal.returns-then-indices-count-clause-placed
-returns-then-indices-count-clause-placed c =
+pub returns-in_ok-list-clause-placed : goal.returns-in_ok-list-clause-placed
+returns-in_ok-list-clause-placed c =
     let s = c.args.tables.now in
-    IfOk-weaker c.walked.result _ _
-    (λ v is. rw is.2 (walked_placed c.args.entities.now s c.requires.store c.rows_have_ids.ensures c.args.slots.now is.0 is.1))
-    c.walked.ensures
+    let is = c.in_ok-list.ensures in
+    rw (c.among.ensures, is.2) (walked_placed c.args.entities.now s c.requires.store c.rows_have_ids.ensures c.args.slots.now is.0 is.1)
 
 pub returns-else-slots-gt1-clause-all : goal.returns-else-slots-gt1-clause-all
 returns-else-slots-gt1-clause-all c =
@@ -31,7 +29,7 @@ returns-else-slots-gt1-clause-all c =
     (λ v moved sorted test found.
     ranked_whose (read c.args.entities.now s) s (shows c.args.entities.now s c.requires.store c.rows_have_ids.ensures)
     c.handles_are_ordered.ensures.total c.handles_are_ordered.ensures.ties
-    c.ascending_lists_are_sets.ensures.handles test c.args.slots.now found.listed found.distinct v.items moved sorted)
+    c.ascending_lists_are_sets.ensures.handles test c.args.slots.now found.listed found.distinct v moved sorted)
     c.ranked.result c.ranked.ensures.all c.ranked.ensures.sorted
 
 pub returns-else-slots-gt1-clause-placed : goal.returns-else-slots-gt1-clause-placed
@@ -39,5 +37,5 @@ returns-else-slots-gt1-clause-placed c =
     let s = c.args.tables.now in
     IfOk-weaker c.ranked.result _ _
     (λ v moved.
-    ranked_placed (read c.args.entities.now s) s (shows c.args.entities.now s c.requires.store c.rows_have_ids.ensures) c.args.slots.now v.items moved)
+    ranked_placed (read c.args.entities.now s) s (shows c.args.entities.now s c.requires.store c.rows_have_ids.ensures) c.args.slots.now v moved)
     c.ranked.ensures.all

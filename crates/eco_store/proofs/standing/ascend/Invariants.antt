@@ -1,0 +1,8 @@
+use Rattle.std.specs.List.Sorted.{IsSortedWithin}
+use Rattle.std.specs.Ordering.{is_lt}
+use Rattle.eco_ids.specs.Order.{entity_cmp}
+use Rattle.eco_ids.specs.declared.entity.Entity.{Entity}
+use Rattle.eco_store.proofs.standing.ascend.Given as goal
+
+abbrev pub invariant-loop-place : goal.invariant-loop-place
+invariant-loop-place l = IsSortedWithin (λ (a b : Entity). is_lt (entity_cmp a b)) l.entities 0 l.place

@@ -14,7 +14,7 @@ use Rattle.eco_ids.specs.declared.id.Id.{Id}
 use Rattle.eco_tables.specs.Table.{TableState}
 use Rattle.eco_tables.specs.Tables.{table_in}
 use Rattle.eco_store.specs.declared.standing.Standing.{Standing}
-use Rattle.eco_answers.specs.Flat.{IsEven}
+use Rattle.eco_entries.specs.Flat.{IsEven}
 use Rattle.eco_answers.specs.declared.blocks.Block.{Block}
 use Rattle.eco_answers.specs.declared.blocks.Blocks.{Blocks}
 use Rattle.eco_answers.specs.Blocks.{AreBlocks, AreOnly, IsBlock, block_at, rows_in, rows_from, results, results_at, rows_of, shown}

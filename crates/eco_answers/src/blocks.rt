@@ -6,8 +6,7 @@ ghost use Rattle.eco_tables.specs.Tables.{slot_of};
 ghost use Rattle.eco_answers.specs.Answers.{asks};
 ghost use Rattle.eco_answers.specs.Blocks.{AreBlocks, AreOnly, rows_in, rows_of};
 
-use crate::choices::Choices;
-use crate::product::{choices_of, find_only};
+use eco_entries::{Choices, choices_of, find_only};
 use eco_ids::{Entity, Id};
 use eco_query::Slot;
 use eco_store::{Standing, Table, Tables};

@@ -10,8 +10,8 @@ ghost use Rattle.eco_store.specs.Worlds.{world_of};
 
 use crate::asking::Asking;
 use crate::blocks::{Blocks, blocks_of, only_of, rows_of};
-use crate::choices::Choices;
 use crate::iter::Iter;
+use eco_entries::Choices;
 use eco_ids::{Entity, Id};
 use eco_query::{Query, Slot};
 use eco_store::{Standing, Standings, Store};

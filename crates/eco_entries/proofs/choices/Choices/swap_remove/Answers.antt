@@ -1,4 +1,4 @@
-use Rattle.std.proofs.Common.{◌≡◌, ◌<◌, ◌*◌, ◌+◌, ◌-◌, [], ap, sym, ◌∙◌, arith}
+use Rattle.std.proofs.Common.{◌*◌, [], ap, sym, ◌∙◌}
 use Rattle.std.specs.List.{swap_remove}
 use Rattle.eco_entries.specs.Flat.{chunks, ChoicesState}
 use Rattle.eco_entries.proofs.Chunked.{count_before}

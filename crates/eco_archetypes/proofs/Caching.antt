@@ -1,5 +1,6 @@
 -- Caches that are told of the type of a slot, one after another.
-use Rattle.std.proofs.Common.{◌≡◌, ◌≢◌, ℕ, zero, suc, ◌+◌, ◌<◌, ◌≤◌, List, [], ◌∷◌, ◌++◌, length, slice_get, take, Option, Some, None, IfSome, Result, Ok, Err, IfOk, get_or, nat_eq}
+use Rattle.std.proofs.Common.{◌≡◌, ◌≢◌, ℕ, zero, suc, ◌+◌, ◌<◌, ◌≤◌, List, [], ◌∷◌, ◌++◌}
+use Rattle.std.proofs.Common.{length, slice_get, take, Option, Some, None, IfSome, Result, Ok, Err, IfOk, get_or, nat_eq}
 use Rattle.std.proofs.lemmas.List.{take_all}
 use Rattle.eco_query.specs.Queries.{QuerySlot}
 use Rattle.std.proofs.Common.{refl, sym, ap, ◌∙◌, subst, arith, inl, inr, ◌⊎◌}

@@ -1,23 +1,28 @@
 -- Rows for the choices of blocks.
 use Rattle.eco_ids.proofs.Common.{◌≡◌, ℕ, zero, suc, ◌+◌, ◌-◌, ◌<◌, ◌≤◌, Bool, true, false, nat_lt, List, [], ◌∷◌, ◌++◌, map, length, take, drop}
+use Rattle.std.proofs.Common.{None, Some, get_or, option_map, unwrap_or}
+use Rattle.eco_ids.specs.Answer.{choices}
 use Rattle.eco_ids.proofs.Common.{Option, refl, sym, ap, ◌∙◌, subst, arith, append_assoc, length-append, length-drop, map-append}
 use Rattle.eco_ids.proofs.Common.{nat_tests, take-length, AllByRecursion, All}
 use Rattle.std.proofs.Common.{drop-cons}
 use Rattle.std.specs.List.{slice_index_or}
 use Rattle.std.proofs.Math.Seq.{drop-append_seam}
-use Rattle.std.proofs.lemmas.List.{take-append-le, drop-append-le}
+use Rattle.std.proofs.lemmas.List.{take-append-le, drop-append-le, get_or_default, length-map}
+use Rattle.std.proofs.Math.ListN.{get_or-map}
 use Rattle.std.proofs.lemmas.List.Elements.{recursion_from_All, All-from_recursion}
 use Rattle.eco_ids.specs.Answer as answers
 use Rattle.eco_ids.specs.Terms.{QueryTerm}
 use Rattle.eco_ids.specs.declared.entity.Entity.{Entity}
 use Rattle.eco_ids.specs.declared.id.Id.{Id}
 use Rattle.eco_tables.specs.Table.{TableState}
-use Rattle.eco_tables.specs.Tables.{table_in}
+use Rattle.eco_tables.specs.Tables.{no_table, slot_of, table_in}
+use Rattle.eco_archetypes.specs.Archetypes.{type_at}
+use Rattle.eco_archetypes.specs.Caching.{AreOnly, choices_on}
 use Rattle.eco_store.specs.declared.standing.Standing.{Standing}
-use Rattle.eco_answers.specs.Flat.{IsEven}
+use Rattle.eco_entries.specs.Flat.{IsEven}
 use Rattle.eco_answers.specs.declared.blocks.Block.{Block}
 use Rattle.eco_answers.specs.declared.blocks.Blocks.{Blocks}
-use Rattle.eco_answers.specs.Blocks.{AreBlocks, AreOnly, IsBlock, block_at, rows_in, rows_from, results, results_at, rows_of, shown}
+use Rattle.eco_answers.specs.Blocks.{AreBlocks, IsBlock, block_at, rows_in, rows_from, results, results_at, rows_of, shown}
 
 rows_more : (e : Entity) (first n : ℕ) → rows_from e first (suc n) ≡ rows_from e first n ++ record { entity = e; place = first + n } ∷ []
 rows_more e first zero = let k : first ≡ first + 0 = omega arith in ap (λ j. record { entity = e; place = j } ∷ []) k
@@ -123,44 +128,30 @@ blocks_more cs all bs i b long each is k lt = by (nat_lt k i) refl
 
 -- ---- one choice for each table
 
-all_front : {X : Type 0} (all : List (List X)) (own : List X) (k : ℕ) → k < length all → slice_index_or (all ++ own ∷ []) k [] ≡ slice_index_or all k []
-all_front [] own k lt = absurd (omega (arith, lt))
-all_front (c ∷ all) own zero lt = refl
-all_front (c ∷ all) own (suc k) lt = all_front all own k (omega (arith, lt))
-
-all_end : {X : Type 0} (all : List (List X)) (own : List X) → slice_index_or (all ++ own ∷ []) (length all) [] ≡ own
-all_end [] own = refl
-all_end (c ∷ all) own = all_end all own
-
-one_list : {X : Type 0} (cs : List (List X)) → length cs ≡ 1 → cs ≡ slice_index_or cs 0 [] ∷ []
-one_list [] e = absurd (omega (arith, e))
-one_list (c ∷ []) e = refl
-one_list (c ∷ d ∷ cs) e = absurd (omega (arith, e))
-
--- one more table has one choice
-pub only_more : {X : Type 0} (cs : ℕ → List (List X)) (all : List (List X)) (i : ℕ) → length all ≡ i →
-    ((k : ℕ) → k < i → cs k ≡ slice_index_or all k [] ∷ []) → length (cs i) ≡ 1 →
-    (k : ℕ) → k < i + 1 → cs k ≡ slice_index_or (all ++ cs i) k [] ∷ []
-only_more {X = X} cs all i long each one k lt = by (nat_lt k i) refl
+-- the only choice on the type of a slot
+only_at : (tables : List (Option TableState)) (ns : List ℕ) (terms : List QueryTerm) (all : List (List (Option Id))) → AreOnly (type_at tables) terms ns all
+    → (k : ℕ) → k < length ns → choices (table_in tables (slice_index_or ns k 0)).ids terms ≡ slice_index_or all k [] ∷ []
+only_at tables ns terms all are k lt = there (slot_of tables (slice_index_or ns k 0)) (
+    sym (get_or-map on ns k 0) ∙ ap (λ xs. get_or xs k (on 0)) are
+    ∙ get_or_default (map (λ c. c ∷ []) all) k (on 0) ([] ∷ []) (let long = ap length are in let own = length-map ns on in omega (arith, lt, long, own))
+    ∙ get_or-map (λ c. c ∷ []) all k [])
   where
-    own : List X
-    own = slice_index_or (cs i) 0 []
+    on : ℕ → List (List (Option Id))
+    on n = choices_on terms (type_at tables n)
 
-    by : (c : Bool) → nat_lt k i ≡ c → cs k ≡ slice_index_or (all ++ cs i) k [] ∷ []
-    by true e =
-        let low : k < i = grind (arith, nat_tests) in
-        each k low ∙ ap (λ c. c ∷ []) (sym (all_front all own k (omega (arith, low, long))))
-        ∙ ap (λ ds. slice_index_or (all ++ ds) k [] ∷ []) (sym (one_list (cs i) one))
-    by false e =
-        let high : i ≤ k = grind (arith, nat_tests) in
-        let same : k ≡ i = omega (arith, high, lt) in
-        let there : k ≡ length all = omega (arith, same, long) in
-        ap cs same ∙ one_list (cs i) one ∙ ap (λ c. c ∷ []) (sym (all_end all own))
-        ∙ ap (λ j. slice_index_or (all ++ own ∷ []) j [] ∷ []) (sym there)
-        ∙ ap (λ ds. slice_index_or (all ++ ds) k [] ∷ []) (sym (one_list (cs i) one))
+    there : (o : Option TableState) {c : List (Option Id)} → choices_on terms (option_map (λ (t : TableState). t.ids) o) ≡ c ∷ []
+        → choices (unwrap_or o no_table).ids terms ≡ c ∷ []
+    there None {c} is = absurd (let bad : ◌≡◌ {A = List (List (Option Id))} [] (c ∷ []) = is in cc)
+    there (Some t) is = is
+
+-- there are as many choices as slots
+pub only_long : (tables : List (Option TableState)) (ns : List ℕ) (terms : List QueryTerm) (all : List (List (Option Id)))
+    → AreOnly (type_at tables) terms ns all → length all ≡ length ns
+only_long tables ns terms all are =
+    sym (length-map all (λ c. c ∷ [])) ∙ ap length (sym are) ∙ length-map ns (λ n. choices_on terms (type_at tables n))
 
 -- where each table has one choice, all who stand there are the rows
-pub only_shown : (tables : List (Option TableState)) (ns : List ℕ) (terms : List QueryTerm) (all : List (List (Option Id))) → AreOnly tables ns terms all →
+pub only_shown : (tables : List (Option TableState)) (ns : List ℕ) (terms : List QueryTerm) (all : List (List (Option Id))) → AreOnly (type_at tables) terms ns all →
     (ss : List Standing) → All (λ (s : Standing). s.place < length ns) ss → map (shown all) ss ≡ results_at tables ns terms ss
 only_shown tables ns terms all are ss within = go ss (recursion_from_All (λ (s : Standing). s.place < length ns) ss within)
   where
@@ -168,7 +159,7 @@ only_shown tables ns terms all are ss within = go ss (recursion_from_All (λ (s 
     go [] within = refl
     go (s ∷ ss) within =
         ap (λ zs. shown all s ∷ zs) (go ss within.1)
-        ∙ ap (λ cs. map (λ es. record { entity = s.entity; entries = es }) cs ++ results_at tables ns terms ss) (sym (are.each s.place within.0))
+        ∙ ap (λ cs. map (λ es. record { entity = s.entity; entries = es }) cs ++ results_at tables ns terms ss) (sym (only_at tables ns terms all are s.place within.0))
 
 -- ---- the results
 

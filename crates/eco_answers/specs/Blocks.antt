@@ -46,11 +46,6 @@ pub record AreBlocks (tables : List (Option TableState)) (slots : List ℕ) (ter
   pub each : (k : ℕ) → k < length slots
       → IsBlock b.choices.all (choices (table_in tables (slice_index_or slots k 0)).ids terms) (block_at b.list.items k)
 
--- there is one choice for each slot, the one of its table
-pub record AreOnly (tables : List (Option TableState)) (slots : List ℕ) (terms : List QueryTerm) (all : List (List (Option Id))) : Type 0 where
-  pub long : length all ≡ length slots
-  pub each : (k : ℕ) → k < length slots → choices (table_in tables (slice_index_or slots k 0)).ids terms ≡ slice_index_or all k [] ∷ []
-
 -- what a row shows
 abbrev pub shown : List (List (Option Id)) → Standing → answers.Row
 shown all r = record { entity = r.entity; entries = slice_index_or all r.place [] }

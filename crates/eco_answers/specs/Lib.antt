@@ -1,4 +1,3 @@
 pub mod Answers
 pub mod Blocks
-pub mod Flat
 pub mod Groups

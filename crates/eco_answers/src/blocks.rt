@@ -1,13 +1,12 @@
 //! The choices of several tables, one table's behind another's.
-ghost use Rattle.std.specs.Prelude.{◌≡◌, ◌<◌, ◌++◌, length, IfOk, IfSome, IsSome, OnOk, OnErr};
+ghost use Rattle.std.specs.Prelude.{◌≡◌, ◌<◌, ◌++◌, length, IfOk, IsSome, OnOk, OnErr};
 ghost use Rattle.std.specs.List.{All};
 ghost use Rattle.eco_ids.specs.Answer as answers;
 ghost use Rattle.eco_tables.specs.Tables.{slot_of};
 ghost use Rattle.eco_answers.specs.Answers.{asks};
-ghost use Rattle.eco_answers.specs.Blocks.{AreBlocks, AreOnly, rows_in, rows_of};
+ghost use Rattle.eco_answers.specs.Blocks.{AreBlocks, rows_in, rows_of};
 
-use crate::choices::Choices;
-use crate::product::{choices_of, find_only};
+use eco_entries::{Choices, choices_of, find_only};
 use eco_ids::{Entity, Id};
 use eco_query::Slot;
 use eco_store::{Ranked, Standing, Table, Tables};
@@ -75,27 +74,6 @@ pub fn blocks_of(
         list.push(add_block(alloc, table, terms, &mut choices, &mut buffer)?)?;
     }
     Ok(Blocks { choices, list })
-}
-
-/// The one choice that the slots of a query have on each of the tables, table by table; `None` where a table has not one.
-pub fn only_of(
-    alloc: Global,
-    tables: &Tables,
-    slots: &[usize],
-    terms: &[Slot],
-) -> Result<Option<Choices>, AllocError>
-    requires some { 0 < length terms.now }
-    requires there { All (λ n. IsSome (slot_of tables.now n)) slots.now }
-    ensures { IfOk result (λ found. IfSome found (λ c. AreOnly tables.now slots.now (asks terms.now) c.all)) }
-{
-    let mut choices = Choices::with_room(alloc, terms.len(), slots.len())?;
-    for slot in slots {
-        let table = tables.get(*slot).unwrap();
-        if !choices.push_only(terms, table.type_list())? {
-            return Ok(None);
-        }
-    }
-    Ok(Some(choices))
 }
 
 /// A row for each choice of each who stands somewhere, where the place of each is that of its block.

@@ -5,7 +5,7 @@ ghost use Rattle.std.specs.List.{All};
 ghost use Rattle.std.specs.Map.Iter.{TakesFirst};
 ghost use Rattle.eco_answers.specs.Blocks.{lent, shown};
 
-use crate::choices::Choices;
+use eco_entries::Choices;
 use eco_ids::{Entity, Id};
 use eco_store::{Ranked, ranked};
 use std::marker::Model;

@@ -3,12 +3,8 @@
 
 mod asking;
 mod blocks;
-mod choices;
-mod entries;
 mod iter;
-mod product;
 mod results;
-mod single;
 
 pub use asking::Asking;
 pub use iter::Iter;

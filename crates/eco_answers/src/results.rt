@@ -9,9 +9,9 @@ ghost use Rattle.eco_answers.specs.Blocks.{results_at, shown};
 ghost use Rattle.eco_store.specs.Worlds.{world_of};
 
 use crate::asking::Asking;
-use crate::blocks::{Blocks, blocks_of, only_of, rows_of};
-use crate::choices::Choices;
+use crate::blocks::{Blocks, blocks_of, rows_of};
 use crate::iter::Iter;
+use eco_entries::Choices;
 use eco_ids::{Entity, Id};
 use eco_query::{Query, Slot};
 use eco_store::{Ranked, Standings, Store};
@@ -109,17 +109,22 @@ fn with_rows(rows: Ranked, made: Blocks) -> Results
 }
 
 // The results of all who stand in the tables that were found.
-fn results_in(alloc: Global, found: Standings<'_>, terms: &[Slot]) -> Result<Results, AllocError>
-    requires some { 0 < length terms.now }
+fn results_in(
+    alloc: Global,
+    found: Standings<'_>,
+    query: &Query,
+    cache: Option<usize>,
+) -> Result<Results, AllocError>
     requires there { All (λ n. IsSome (slot_of found.tables.now n)) found.slots.items }
     requires places { All (λ s. s.place < length found.slots.items) found.list }
     ensures { IfOk result (λ r. r
-        ≡ results_at found.entry.tables.now found.entry.slots.items (asks terms.now) found.entry.list) }
+        ≡ results_at found.entry.tables.now found.entry.slots.items (asked query.now) found.entry.list) }
 {
-    match only_of(alloc, found.tables, &found.slots, terms)? {
+    query.is_positive();
+    match found.tables.only_of(query, cache, &found.slots)? {
         // Each who stands somewhere is its own one row.
         Some(choices) => Ok(alone_in(found, choices)),
-        None => expanded_in(alloc, found, terms),
+        None => expanded_in(alloc, found, query.slots()),
     }
 }
 
@@ -148,7 +153,7 @@ fn expanded_in(alloc: Global, found: Standings<'_>, terms: &[Slot]) -> Result<Re
     ensures { IfOk result (λ r. r
         ≡ results_at found.entry.tables.now found.entry.slots.items (asks terms.now) found.entry.list) }
 {
-    let made = blocks_of(alloc, found.tables, &found.slots, terms)?;
+    let made = blocks_of(alloc, found.tables.tables(), &found.slots, terms)?;
     let Standings {
         tables: _,
         slots: _,
@@ -180,5 +185,5 @@ pub fn results_of(
     if found.list.is_empty() {
         return Ok(Results::none(alloc, query.slots().len()));
     }
-    results_in(alloc, found, query.slots())
+    results_in(alloc, found, query, cache)
 }

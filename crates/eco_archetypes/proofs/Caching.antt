@@ -1,5 +1,8 @@
 -- Caches that are told of the type of a slot, one after another.
-use Rattle.std.proofs.Common.{◌≡◌, ◌≢◌, ℕ, zero, suc, ◌+◌, ◌<◌, ◌≤◌, List, [], ◌∷◌, ◌++◌, length, slice_get, take, Option, Some, None, get_or, nat_eq}
+use Rattle.std.proofs.Common.{◌≡◌, ◌≢◌, ℕ, zero, suc, ◌+◌, ◌<◌, ◌≤◌, List, [], ◌∷◌, ◌++◌}
+use Rattle.std.proofs.Common.{length, slice_get, take, Option, Some, None, IfSome, Result, Ok, Err, IfOk, get_or, nat_eq}
+use Rattle.std.proofs.lemmas.List.{take_all}
+use Rattle.eco_query.specs.Queries.{QuerySlot}
 use Rattle.std.proofs.Common.{refl, sym, ap, ◌∙◌, subst, arith, inl, inr, ◌⊎◌}
 use Rattle.std.specs.HashSet.{spare}
 use Rattle.std.specs.List.{list_any}
@@ -7,7 +10,10 @@ use Rattle.std.specs.Prelude.{slice_set}
 use Rattle.std.proofs.lemmas.Bool.{cases_lt}
 use Rattle.eco_ids.specs.declared.id.Id.{Id}
 use Rattle.eco_archetypes.specs.declared.cache.Cache.{Cache}
-use Rattle.eco_archetypes.specs.Caching.{AreExact, AreTold, ChangesType, IsExact, IsTold, StayExact, fulfils}
+use Rattle.eco_entries.specs.Answers.{asked}
+use Rattle.eco_entries.specs.Flat.{ChoicesState}
+use Rattle.eco_archetypes.specs.Caching.{AreExact, AreKept, AreThose, AreTold, ChangesType, HaveRoom, IsExact, IsTold, StayExact, choices_on, fulfils}
+use Rattle.eco_archetypes.proofs.Onlies.{map_alike}
 
 -- those before a place were told, and those from it on are as they were
 abbrev pub AreToldTo : List Cache → List Cache → ℕ → Option (List Id) → ℕ → Type 0
@@ -63,14 +69,27 @@ got_pushed {X = X} [] x (suc k) c at = absurd (let bad : ◌≡◌ {A = Option X
 got_pushed (y ∷ xs) x zero c at = inl at
 got_pushed (y ∷ xs) x (suc k) c at = got_pushed xs x k c at
 
--- the same query and slots
-pub exact_as : (types : ℕ → Option (List Id)) (x y : Cache) → y.query ≡ x.query → y.slots.keys ≡ x.slots.keys → IsExact types x → IsExact types y
-exact_as types x y query keys exact n =
-    ap (list_any (nat_eq n)) keys ∙ exact n ∙ ap (fulfils (types n)) (sym query)
+-- the same query, slots and choices
+pub exact_as : (types : ℕ → Option (List Id)) (x y : Cache) → y.query ≡ x.query → y.slots.keys ≡ x.slots.keys → y.only ≡ x.only → IsExact types x
+    → IsExact types y
+exact_as types x y query keys only exact = record {
+  those = λ n. ap (list_any (nat_eq n)) keys ∙ exact.those n ∙ ap (fulfils (types n)) (sym query);
+  kept = rw only (rw query (rw keys exact.kept));
+}
 
 -- the same types, and the same caches
 pub exact_types : (types types' : ℕ → Option (List Id)) (cs : List Cache) → ((n : ℕ) → types' n ≡ types n) → AreExact types cs → AreExact types' cs
-exact_types types types' cs same was k c at n = was k c at n ∙ ap (λ o. fulfils o c.query) (sym (same n))
+exact_types types types' cs same was k c at = record {
+  those = λ n. (was k c at).those n ∙ ap (λ o. fulfils o c.query) (sym (same n));
+  kept = by c.only (was k c at).kept;
+}
+  where
+    by : (o : Option ChoicesState) → IfSome o (AreKept types c.query c.slots.keys) → IfSome o (AreKept types' c.query c.slots.keys)
+    by None kept = kept
+    by (Some d) kept = record {
+      wide = kept.wide;
+      only = map_alike (λ n. ap (choices_on (asked c.query)) (same n)) c.slots.keys ∙ kept.only;
+    }
 
 -- made ready, and then told
 pub then_told : (old ready new : List Cache) (n : ℕ) (o : Option (List Id)) → StayExact old ready → AreTold ready new n o → AreTold old new n o
@@ -78,10 +97,10 @@ then_told old ready new n o stay told types types' change was = told types types
 
 -- one cache more is copied
 pub copied_more : (old items : List Cache) (i : ℕ) (x y : Cache) → slice_get old i ≡ Some x → y.query ≡ x.query → y.slots.keys ≡ x.slots.keys
-    → StayExact (take i old) items → StayExact (take (i + 1) old) (items ++ y ∷ [])
-copied_more old items i x y at query keys stay types was k c got = elim (got_pushed items y k c got) [
+    → y.only ≡ x.only → StayExact (take i old) items → StayExact (take (i + 1) old) (items ++ y ∷ [])
+copied_more old items i x y at query keys only stay types was k c got = elim (got_pushed items y k c got) [
   | inl before ↦ stay types (λ j d in_it. was j d (got_more old i (i + 1) j d (omega arith) in_it)) k c before
-  | inr here ↦ subst (IsExact types) here (exact_as types x y query keys (was i x (got_taken old i (i + 1) x (omega arith) at)))
+  | inr here ↦ subst (IsExact types) here (exact_as types x y query keys only (was i x (got_taken old i (i + 1) x (omega arith) at)))
 ]
 
 module _ (items : List Cache) (i : ℕ) (x y : Cache) where
@@ -131,3 +150,71 @@ pub got_default : {X : Type 0} (xs : List X) (i : ℕ) (d : X) → i < length xs
 got_default [] i d within = absurd (omega (arith, within))
 got_default (y ∷ xs) zero d within = refl
 got_default (y ∷ xs) (suc i) d within = got_default xs i d (omega (arith, within))
+
+-- the same caches
+pub still_exact : (old new : List Cache) → new ≡ old → StayExact old new
+still_exact old new is types was = subst (AreExact types) (sym is) was
+
+-- one cache more
+pub added : (types : ℕ → Option (List Id)) (old ready new : List Cache) (x : Cache) → ready ≡ old → new ≡ ready ++ x ∷ [] → AreExact types old
+    → IsExact types x → AreExact types new
+added types old ready new x same more was is k c at =
+    elim (got_pushed old x k c (ap (λ cs. slice_get cs k) (sym (more ∙ ap (λ cs. cs ++ x ∷ []) same)) ∙ at)) [
+      | inl before ↦ was k c before
+      | inr here ↦ subst (IsExact types) here is
+    ]
+
+-- none is told yet, and each has its room
+pub told_begun : (old items : List Cache) (n : ℕ) (o : Option (List Id)) → items ≡ old → AreToldTo old items n o 0
+told_begun old items n o is = subst (λ cs. AreToldTo old cs n o 0) (sym is) (told_first old n o)
+
+pub room_begun : (old items : List Cache) → items ≡ old → HaveRoom old → HaveRoomFrom items 0
+room_begun old items is room k c at past = room k c (ap (λ cs. slice_get cs k) (sym is) ∙ at)
+
+-- what a cache of this query has
+pub those_of : (types : ℕ → Option (List Id)) (cs : List Cache) (k : ℕ) (x : Cache) (q : List QuerySlot) (keys : List ℕ) → slice_get cs k ≡ Some x
+    → x.query ≡ q → keys ≡ x.slots.keys → AreExact types cs → AreThose types q keys
+those_of types cs k x q keys at query is was n =
+    ap (list_any (nat_eq n)) is ∙ (was k x at).those n ∙ ap (fulfils (types n)) query
+
+pub kept_of : {E : Type 0} (cs : List Cache) (k : ℕ) (x : Cache) (q : List QuerySlot) (slots : List ℕ) (r : Result (Option ChoicesState) E)
+    → slice_get cs k ≡ Some x → x.query ≡ q
+    → IfOk r (λ o. IfSome o (λ d. (types : ℕ → Option (List Id)) → IsExact types x → AreKept types x.query slots d))
+    → IfOk r (λ o. IfSome o (λ d. (types : ℕ → Option (List Id)) → AreExact types cs → AreKept types q slots d))
+kept_of cs k x q slots (Err e) at query kept = kept
+kept_of cs k x q slots (Ok None) at query kept = kept
+kept_of cs k x q slots (Ok (Some d)) at query kept = λ types was. subst (λ p. AreKept types p slots d) query (kept types (was k x at))
+
+module _ (old items : List Cache) (i : ℕ) where
+  -- one cache more has its room
+  pub stay_more : (x y : Cache) → slice_get items i ≡ Some x → y.query ≡ x.query → y.slots.keys ≡ x.slots.keys → y.only ≡ x.only → StayExact old items
+      → StayExact old (slice_set items i y)
+  stay_more x y at query keys only stay types was k c got = elim (got_set items i k y c got) [
+    | inl here ↦ subst (IsExact types) here.1 (exact_as types x y query keys only (stay types was i x at))
+    | inr other ↦ stay types was k c other.1
+  ]
+
+  pub room_more : (y : Cache) → 0 < spare y.slots → ((k : ℕ) (c : Cache) → slice_get items k ≡ Some c → k < i → 0 < spare c.slots) → (k : ℕ) (c : Cache)
+      → slice_get (slice_set items i y) k ≡ Some c → k < i + 1 → 0 < spare c.slots
+  room_more y room rooms k c got low = elim (got_set items i k y c got) [
+    | inl here ↦ subst (λ (d : Cache). 0 < spare d.slots) here.1 room
+    | inr other ↦ rooms k c other.1 (elim (cases_lt k i) [
+      | inl less ↦ less
+      | inr most ↦ absurd (other.0 (omega (arith, low, most)))
+    ])
+  ]
+
+-- what was written back
+pub stay_back : (old items zs : List Cache) (len : ℕ) → len ≡ length items → StayExact old items → StayExact old (take len (items ++ zs))
+stay_back old items zs len is stay types was = subst (AreExact types) (sym (written_back len items zs is)) (stay types was)
+
+pub room_back : (items zs : List Cache) (len i : ℕ) → len ≡ length items → length items ≤ i
+    → ((k : ℕ) (c : Cache) → slice_get items k ≡ Some c → k < i → 0 < spare c.slots) → HaveRoom (take len (items ++ zs))
+room_back items zs len i is most rooms k c got =
+    let there : slice_get items k ≡ Some c = ap (λ cs. slice_get cs k) (sym (written_back len items zs is)) ∙ got in
+    let low = got_within items k c there in
+    rooms k c there (omega (arith, low, most))
+
+-- all are copied
+pub copied_all : (old items : List Cache) (i : ℕ) → length old ≤ i → StayExact (take i old) items → StayExact old items
+copied_all old items i most stay types was = stay types (subst (AreExact types) (sym (take_all i old most)) was)

@@ -20,3 +20,4 @@ pub mod NewWidths
 pub mod Named
 mod Places
 pub mod Sweeping
+pub mod Onlies

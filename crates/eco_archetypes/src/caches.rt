@@ -2,9 +2,10 @@
 ghost use Rattle.std.specs.Prelude.{◌≡◌, ℕ, List, [], None, Some, IfOk, IfSome, OnOk, Option, nat_eq};
 ghost use Rattle.eco_ids.specs.declared.id.Id.{Id as Ids};
 ghost use Rattle.std.specs.List.{IsDistinct};
-ghost use Rattle.eco_archetypes.specs.Caching.{AreExact, AreThose, AreTold, HaveRoom, StayExact};
+ghost use Rattle.eco_archetypes.specs.Caching.{AreExact, AreKept, AreThose, AreTold, HaveRoom, StayExact};
 
 use crate::cache::Cache;
+use eco_entries::Choices;
 use eco_ids::TypeList;
 use eco_query::Query;
 use indexmap::IndexSet;
@@ -62,15 +63,21 @@ impl Caches {
         }
     }
 
-    /// Puts a query and its slots behind the other caches; the answer is its number. An `Err` comes where memory is refused.
-    pub fn add(&mut self, query: Query, slots: IndexSet<usize>) -> Result<usize, AllocError>
+    /// Puts a query, its slots and the only choice on the type of each, where each has just one, behind the other caches; the
+    /// answer is its number. An `Err` comes where memory is refused.
+    pub fn add(
+        &mut self,
+        query: Query,
+        slots: IndexSet<usize>,
+        only: Option<Choices>,
+    ) -> Result<usize, AllocError>
         ensures { (types : ℕ → Option (List Ids)) →
             AreExact types self.old.list.items → AreThose types query slots.keys
-            → AreExact types self.new.list.items }
+            → IfSome only (AreKept types query slots.keys) → AreExact types self.new.list.items }
     {
         let number = self.list.len();
         self.list.reserve(1)?;
-        self.list.push_reserved(Cache { query, slots });
+        self.list.push_reserved(Cache { query, slots, only });
         Ok(number)
     }
 
@@ -85,6 +92,24 @@ impl Caches {
             Some(cache.slots.as_slice())
         } else {
             None
+        }
+    }
+
+    /// The only choice that the query has on the type of each of these slots, slot by slot, where the cache of this number is
+    /// there, is of this query, has these slots and keeps choices. An `Err` comes where memory is refused.
+    pub fn only_of(
+        &self,
+        alloc: Global,
+        number: usize,
+        query: &Query,
+        slots: &[usize],
+    ) -> Result<Option<Choices>, AllocError>
+        ensures { IfOk result (λ o. IfSome o (λ c. (types : ℕ → Option (List Ids)) →
+            AreExact types self.now.list.items → AreKept types query.now slots.now c)) }
+    {
+        match self.list.get(number) {
+            Some(cache) if cache.query.is(query) => cache.only_of(alloc, slots),
+            _ => Ok(None),
         }
     }
 

@@ -8,6 +8,7 @@ ghost use Rattle.eco_store.specs.Ranking.{in_first, standings};
 ghost use Rattle.eco_store.specs.declared.standing.Standing.{Standing as Stands};
 
 use crate::ranked::Ranked;
+use eco_archetypes::Archetypes;
 use eco_ids::Entity;
 use eco_tables::Tables;
 use std::alloc::{AllocError, Global};
@@ -19,11 +20,11 @@ pub struct Standing {
     pub place: usize,
 }
 
-/// All tables of a store, the slots of those that a test finds, each once, and all who stand in these, ascending, each with
+/// All tables of a store, with what finds them, the slots of those that a test finds, each once, and all who stand in these, ascending, each with
 /// the place of its table among the slots.
 #[derive(Drop)]
 pub struct Standings<'a> {
-    pub tables: &'a Tables,
+    pub tables: &'a Archetypes,
     pub slots: Vec<usize>,
     pub list: Ranked,
 }

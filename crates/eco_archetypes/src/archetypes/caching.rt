@@ -2,10 +2,11 @@
 ghost use Rattle.std.specs.Prelude.{◌≡◌, ◌&&◌, ℕ, cond, true, filter, IfOk, IfSome, IsTrue, OnOk, OnErr, nat_eq};
 ghost use Rattle.std.specs.List.{list_any, IsDistinct};
 ghost use Rattle.eco_archetypes.specs.Archetypes.{type_at, has_rows, ArePassing};
-ghost use Rattle.eco_archetypes.specs.Caching.{fulfils, AreThose};
+ghost use Rattle.eco_archetypes.specs.Caching.{fulfils, AreKept, AreThose};
 
 use crate::archetypes::Archetypes;
 use crate::type_test::TypeTest;
+use eco_entries::Choices;
 use eco_query::Query;
 use eco_tables::Tables;
 use indexmap::IndexSet;
@@ -18,7 +19,40 @@ impl Archetypes {
         ensures same { self.new ≡ self.old }
     {
         let slots = fulfilling(self.alloc, &self.tables, &query)?;
-        self.caches.add(query, slots)
+        let only = only_on(self.alloc, &self.tables, &query, slots.as_slice())?;
+        self.caches.add(query, slots, only)
+    }
+
+    /// The only choice that the query has on the type of each of these slots, slot by slot: none, where on one it has not just
+    /// one. Where the store keeps the query at hand, `cache` is the number that it gave, and mostly no type is looked at. An
+    /// `Err` comes where memory is refused.
+    pub fn only_of(
+        &self,
+        query: &Query,
+        cache: Option<usize>,
+        slots: &[usize],
+    ) -> Result<Option<Choices>, AllocError>
+        ensures { IfOk result (λ o. IfSome o (AreKept (type_at self.now) query.now slots.now)) }
+    {
+        if let Some(only) = self.kept_of(query, cache, slots)? {
+            return Ok(Some(only));
+        }
+        only_on(self.alloc, &self.tables, query, slots)
+    }
+
+    // What `only_of` answers where a cache keeps it.
+    fn kept_of(
+        &self,
+        query: &Query,
+        cache: Option<usize>,
+        slots: &[usize],
+    ) -> Result<Option<Choices>, AllocError>
+        ensures { IfOk result (λ o. IfSome o (AreKept (type_at self.now) query.now slots.now)) }
+    {
+        match cache {
+            Some(number) => self.caches.only_of(self.alloc, number, query, slots),
+            None => Ok(None),
+        }
     }
 
     // The slots of the tables whose types pass, each once, where a cache has them.
@@ -75,4 +109,27 @@ fn note(slots: &mut IndexSet<usize>, slot: usize, stands: bool) -> Result<(), Al
         slots.insert(slot)?;
     }
     Ok(())
+}
+
+// The only choice that the query has on the type of each of these slots; none, where on one it has not just one.
+fn only_on(
+    alloc: Global,
+    tables: &Tables,
+    query: &Query,
+    slots: &[usize],
+) -> Result<Option<Choices>, AllocError>
+    ensures { IfOk result (λ o. IfSome o (AreKept (type_at tables.now) query.now slots.now)) }
+{
+    let terms = query.slots();
+    query.is_positive();
+    let mut only = Choices::with_room(alloc, terms.len(), slots.len())?;
+    for slot in slots {
+        let Some(table) = tables.get(*slot) else {
+            return Ok(None);
+        };
+        if !only.push_only(terms, table.type_list())? {
+            return Ok(None);
+        }
+    }
+    Ok(Some(only))
 }

@@ -70,7 +70,7 @@ impl Store {
         let slots = self.layout.archetypes().tables_by(test)?;
         let list = standing_in(self.alloc, &self.entities, tables, &slots)?;
         Ok(Standings {
-            tables,
+            tables: self.layout.archetypes(),
             slots,
             list,
         })

@@ -1,6 +1,9 @@
 use Rattle.std.proofs.Common.{None, arith}
-use Rattle.eco_archetypes.proofs.Caching.{got_default, told_all, told_more}
+use Rattle.eco_archetypes.proofs.Caching.{got_default, told_all, told_begun, told_more}
 use Rattle.eco_archetypes.proofs.caches.Caches.forget.Goals as goal
+
+pub loop-cache-init : goal.loop-cache-init
+loop-cache-init c = told_begun _ _ c.args.slot None c.deref_mut-cache-items.ensures.value
 
 pub loop-cache-preserved : goal.loop-cache-preserved
 loop-cache-preserved c =

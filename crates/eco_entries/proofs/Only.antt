@@ -1,0 +1,66 @@
+-- Where each slot may have just one entry, these are the one choice.
+use Rattle.std.proofs.Common.{◌≡◌, ℕ, suc, ◌+◌, ◌<◌, List, [], ◌∷◌, ◌++◌, length, drop, map, get_or, Option, refl, sym, ap, ◌∙◌}
+use Rattle.std.proofs.Common.{arith, add-one, append-nil, drop-cons, append_assoc, length-append}
+use Rattle.std.specs.Prelude.{flat_map}
+use Rattle.std.proofs.lemmas.List.{map-id}
+use Rattle.eco_ids.specs.Answer.{choices, entries_of}
+use Rattle.eco_ids.specs.declared.id.Id.{Id}
+use Rattle.eco_query.specs.Queries.{term_view}
+use Rattle.eco_query.specs.declared.slot.Slot.{Slot}
+use Rattle.eco_entries.specs.Answers.{asks}
+
+one_item : {X : Type 0} (xs : List X) → length xs ≡ 1 → (x : X) × (xs ≡ x ∷ [])
+one_item [] e = absurd (omega (arith, e))
+one_item (x ∷ []) e = (x, refl)
+one_item (x ∷ y ∷ xs) e = absurd (omega (arith, e))
+
+-- an entry in front of each goes behind those that are in front
+moved : {X : Type 0} (front : List X) (x : X) (lists : List (List X))
+    → map (λ rest. front ++ rest) (map (λ rest. x ∷ rest) lists ++ []) ≡ map (λ rest. (front ++ x ∷ []) ++ rest) lists
+moved front x [] = refl
+moved front x (l ∷ lists) =
+    ap (λ z. z ∷ map (λ rest. front ++ rest) (map (λ rest. x ∷ rest) lists ++ [])) (sym (append_assoc front (x ∷ []) l))
+    ∙ ap (λ zs. ((front ++ x ∷ []) ++ l) ∷ zs) (moved front x lists)
+
+-- no entry is in front yet
+pub only_start : {X : Type 0} (lists : List (List X)) (front : List X) → front ≡ [] → lists ≡ map (λ rest. front ++ rest) lists
+only_start lists front none = sym (map-id lists) ∙ ap (λ xs. map (λ rest. xs ++ rest) lists) (sym none)
+
+-- one more slot has just one entry
+pub only_step : (ids : List Id) (slots : List Slot) (place : ℕ) (s : Slot) (old new : List (Option Id)) (made : List (List (Option Id)))
+    → place < length slots → length new ≡ length old + 1
+    → get_or slots place s ≡ s → new ≡ old ++ entries_of ids (term_view s.term)
+    → made ≡ map (λ rest. old ++ rest) (choices ids (asks (drop place slots)))
+    → made ≡ map (λ rest. new ++ rest) (choices ids (asks (drop (place + 1) slots)))
+only_step ids slots place s old new made within is at added so_far =
+    let es : List (Option Id) = entries_of ids (term_view s.term) in
+    let long = ap length added in
+    let both = length-append old es in
+    let one = one_item es (omega (arith, is, long, both)) in
+    let rest : List (List (Option Id)) = choices ids (asks (drop (suc place) slots)) in
+    so_far
+    ∙ ap (λ zs. map (λ r. old ++ r) (choices ids (asks zs))) (drop-cons slots place s within)
+    ∙ ap (λ z. map (λ r. old ++ r) (choices ids (asks (z ∷ drop (suc place) slots)))) at
+    ∙ ap (λ (zs : List (Option Id)). map (λ r. old ++ r) (flat_map (λ e. map (λ r. e ∷ r) rest) zs)) one.1
+    ∙ moved old one.0 rest
+    ∙ ap (λ zs. map (λ r. zs ++ r) rest) (sym (added ∙ ap (λ zs. old ++ zs) one.1))
+    ∙ ap (λ k. map (λ r. new ++ r) (choices ids (asks (drop k slots)))) (sym (add-one place))
+
+-- no slot is left
+pub only_end : (ids : List Id) (slots : List Slot) (place : ℕ) (new : List (Option Id)) → place ≡ length slots
+    → map (λ rest. new ++ rest) (choices ids (asks (drop place slots))) ≡ new ∷ []
+only_end ids slots place new end =
+    ap (λ k. map (λ rest. new ++ rest) (choices ids (asks (drop k slots)))) end
+    ∙ ap (λ zs. map (λ rest. new ++ rest) (choices ids (asks zs))) (drop_all slots)
+    ∙ ap (λ zs. zs ∷ []) (append-nil new)
+  where
+    drop_all : (xs : List Slot) → drop (length xs) xs ≡ []
+    drop_all [] = refl
+    drop_all (x ∷ xs) = drop_all xs
+
+-- what came behind the others is the one list
+pub only_is : {X : Type 0} (old new : List X) (lists : List (List X)) → map (λ c. old ++ c) lists ≡ new ∷ []
+    → (own : List X) × ((lists ≡ own ∷ []) × (new ≡ old ++ own))
+only_is old new [] e = absurd (omega (arith, ap length e))
+only_is old new (c ∷ []) e = (c, (refl, sym (ap (λ xs. get_or xs 0 new) e)))
+only_is old new (c ∷ d ∷ lists) e = absurd (omega (arith, ap length e))

@@ -1,0 +1,6 @@
+use Rattle.std.proofs.Common.{◌≡◌, ◌∷◌, take}
+use Rattle.std.specs.Prelude.{flat_map}
+use Rattle.eco_entries.proofs.choices.Choices.led_by.Given as goal
+
+abbrev pub invariant-loop-entry : goal.invariant-loop-entry
+invariant-loop-entry l = l.led.items ≡ flat_map (λ e. flat_map (λ x. e ∷ x) l.self.all) (take l.entry-index l.entries)

@@ -1,0 +1,10 @@
+use Rattle.std.proofs.Common.{◌≡◌, ◌++◌, length, drop, map}
+use Rattle.eco_ids.specs.Answer.{choices}
+use Rattle.eco_entries.specs.Answers.{asks}
+use Rattle.eco_entries.proofs.product.find_only.Given as goal
+
+abbrev pub invariant-loop-place : goal.invariant-loop-place
+invariant-loop-place l = record {
+  long : length l.buffer.items ≡ l.place;
+  made : choices l.ids (asks l.slots) ≡ map (λ rest. l.buffer.items ++ rest) (choices l.ids (asks (drop l.place l.slots)));
+}

@@ -1,0 +1,11 @@
+use Rattle.std.proofs.Common.{◌≡◌, ◌+◌, ◌++◌, length, drop, map}
+use Rattle.eco_ids.specs.Answer.{choices}
+use Rattle.eco_entries.specs.Answers.{asks}
+use Rattle.eco_entries.proofs.single.add_only.Given as goal
+
+abbrev pub invariant-loop-place : goal.invariant-loop-place
+invariant-loop-place l = record {
+  long : length l.entries.items ≡ length l.fn.entries.items + l.place;
+  made : map (λ c. l.fn.entries.items ++ c) (choices l.ids (asks l.slots))
+      ≡ map (λ rest. l.entries.items ++ rest) (choices l.ids (asks (drop l.place l.slots)));
+}

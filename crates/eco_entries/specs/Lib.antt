@@ -1,0 +1,2 @@
+pub mod Answers
+pub mod Flat

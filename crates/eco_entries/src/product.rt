@@ -1,0 +1,48 @@
+//! All choices of entries that a query has on the entities of one type.
+ghost use Rattle.std.specs.Prelude.{◌≡◌, ◌∷◌, [], length, IfOk, IsTrue};
+ghost use Rattle.eco_ids.specs.Answer as definitions;
+ghost use Rattle.eco_entries.specs.Answers.{asks};
+
+use crate::choices::Choices;
+use crate::entries::add_entries;
+use eco_ids::{Id, TypeList};
+use eco_query::Slot;
+use std::alloc::{AllocError, Global};
+
+/// Each choice of one entry for each slot, in the order of the slots. They are made from the last slot to the first, so
+/// that none is made twice. Where all slots hold, no list on the way is longer than what is answered.
+pub fn choices_of(alloc: Global, slots: &[Slot], ids: &TypeList) -> Result<Choices, AllocError>
+    ensures { IfOk result (λ c.
+        c ≡ record { width = length slots.now; all = definitions.choices ids.now (asks slots.now) }) }
+{
+    let mut choices = Choices::one(alloc);
+    let mut left = slots.len();
+    while left > 0 {
+        left -= 1;
+        let mut own = Vec::new(alloc);
+        add_entries(&slots[left], ids, &mut own)?;
+        choices = choices.led_by(alloc, &own, slots.len() - left)?;
+    }
+    Ok(choices)
+}
+
+/// Whether each slot may have just one entry. Then these are the one choice, and the buffer has them from then on, whatever
+/// it had.
+pub fn find_only(
+    slots: &[Slot],
+    ids: &TypeList,
+    buffer: &mut Vec<Option<Id>>,
+) -> Result<bool, AllocError>
+    ensures only { IfOk result (λ is. IsTrue is →
+        definitions.choices ids.now (asks slots.now) ≡ buffer.new.items ∷ []) }
+    ensures long { IfOk result (λ is. IsTrue is → length buffer.new.items ≡ length slots.now) }
+{
+    buffer.clear();
+    for place in 0..slots.len() {
+        add_entries(&slots[place], ids, buffer)?;
+        if buffer.len() != place + 1 {
+            return Ok(false);
+        }
+    }
+    Ok(true)
+}

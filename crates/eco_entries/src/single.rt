@@ -1,0 +1,32 @@
+//! The one choice of a type, where each slot may have just one entry.
+ghost use Rattle.std.specs.Prelude.{◌≡◌, ◌∷◌, ◌++◌, ◌+◌, [], length, map, IfOk, IsTrue};
+ghost use Rattle.eco_ids.specs.Answer as definitions;
+ghost use Rattle.eco_entries.specs.Answers.{asks};
+
+use crate::entries::add_entries;
+use eco_ids::{Id, TypeList};
+use eco_query::Slot;
+use std::alloc::AllocError;
+
+/// Whether each slot may have just one entry. Then these are the one choice, and stand behind the entries that were there.
+#[inline(always)]
+pub fn add_only(
+    slots: &[Slot],
+    ids: &TypeList,
+    entries: &mut Vec<Option<Id>>,
+) -> Result<bool, AllocError>
+    ensures only { IfOk result (λ is. IsTrue is →
+        map (λ c. entries.old.items ++ c) (definitions.choices ids.now (asks slots.now))
+        ≡ entries.new.items ∷ []) }
+    ensures long { IfOk result (λ is. IsTrue is →
+        length entries.new.items ≡ length entries.old.items + length slots.now) }
+{
+    for place in 0..slots.len() {
+        let before = entries.len();
+        add_entries(&slots[place], ids, entries)?;
+        if entries.len() - before != 1 {
+            return Ok(false);
+        }
+    }
+    Ok(true)
+}

@@ -44,7 +44,7 @@ own_needed w s e = rw (slice_get-map (map_state (record_for (row_at s))) w.indic
         here true = omega arith
         here false = omega arith
 
-needed : (w : Indexed Registration) (s : List (Option TableState)) (i : Id) → fields_for (arity (read w s) i) ≤ need w i
+pub needed : (w : Indexed Registration) (s : List (Option TableState)) (i : Id) → fields_for (arity (read w s) i) ≤ need w i
 needed w s (One e) = own_needed w s e
 needed w s (Two r t) = by (own_arity (read w s) r) (own_needed w s r) (own_needed w s t)
   where

@@ -13,7 +13,7 @@ with_rows-requires c =
     let rows : c.among.result ≡ rows_of made.list.items found.list =
     c.among.ensures ∙ c.in_ok-rows.ensures ∙ ap (λ bs. rows_of bs found.list) c.deref-2.ensures.value in
     subst (λ (ss : List Standing). All (λ (s : Standing). s.place < length made.choices.all) ss) (sym rows)
-    (rows_within found.tables.now found.slots.items (asks c.args.terms.now) made (rw c.deref.ensures.value at c.in_ok-made.ensures.blocks) found.list
+    (rows_within found.tables.now found.slots.items (asks c.args.terms.now) made (rw (c.tables.ensures.same, c.deref.ensures.value) at c.in_ok-made.ensures.blocks) found.list
     c.requires.places)
 
 pub returns : goal.returns
@@ -22,5 +22,5 @@ returns c =
     let made = c.in_ok-made.made in
     c.with_rows.ensures
     ∙ ap (map (shown made.choices.all)) (c.among.ensures ∙ c.in_ok-rows.ensures ∙ ap (λ bs. rows_of bs found.list) c.deref-2.ensures.value)
-    ∙ all_shown found.tables.now found.slots.items (asks c.args.terms.now) made (rw c.deref.ensures.value at c.in_ok-made.ensures.blocks) found.list
+    ∙ all_shown found.tables.now found.slots.items (asks c.args.terms.now) made (rw (c.tables.ensures.same, c.deref.ensures.value) at c.in_ok-made.ensures.blocks) found.list
     c.requires.places

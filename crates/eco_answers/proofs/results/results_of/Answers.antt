@@ -1,8 +1,7 @@
-use Rattle.std.proofs.Common.{◌<◌, ap, ◌∙◌, length, arith, rules}
+use Rattle.std.proofs.Common.{◌<◌, ◌∙◌, length, arith, rules}
 use Rattle.std.proofs.lemmas.Result.{IfOk-weaker}
 use Rattle.eco_ids.proofs.Results.{err_says}
-use Rattle.eco_answers.specs.Blocks.{results_at}
-use Rattle.eco_answers.proofs.Answered.{asks_asked, held_answers, none_answers, some_answers, standings_answer}
+use Rattle.eco_answers.proofs.Answered.{held_answers, none_answers, some_answers, standings_answer}
 use Rattle.eco_answers.proofs.results.results_of.Goals as goal
 
 pub returns-in_err-found-clause-some : goal.returns-in_err-found-clause-some
@@ -20,7 +19,6 @@ returns-clause-all c =
     let found = c.in_ok-found.found in
     IfOk-weaker c.results_in.result _ _
     (λ r is. is
-    ∙ ap (λ ts. results_at found.tables.now found.slots.items ts found.list) (asks_asked c.slots-2.result.now c.args.query.now c.slots-2.ensures)
     ∙ standings_answer c.args.store.now.entities found.tables.now found.slots.items c.args.query.now found.list c.in_ok-found.ensures.all
     c.in_ok-found.ensures.placed)
     c.results_in.ensures

@@ -151,15 +151,16 @@ only_long tables ns terms all are =
     sym (length-map all (λ c. c ∷ [])) ∙ ap length (sym are) ∙ length-map ns (λ n. choices_on terms (type_at tables n))
 
 -- where each table has one choice, all who stand there are the rows
-pub only_shown : (tables : List (Option TableState)) (ns : List ℕ) (terms : List QueryTerm) (all : List (List (Option Id))) → AreOnly (type_at tables) terms ns all →
-    (ss : List Standing) → All (λ (s : Standing). s.place < length ns) ss → map (shown all) ss ≡ results_at tables ns terms ss
+pub only_shown : (tables : List (Option TableState)) (ns : List ℕ) (terms : List QueryTerm) (all : List (List (Option Id)))
+    → AreOnly (type_at tables) terms ns all → (ss : List Standing) → All (λ (s : Standing). s.place < length ns) ss → map (shown all) ss ≡ results_at tables ns terms ss
 only_shown tables ns terms all are ss within = go ss (recursion_from_All (λ (s : Standing). s.place < length ns) ss within)
   where
     go : (ss : List Standing) → AllByRecursion (λ (s : Standing). s.place < length ns) ss → map (shown all) ss ≡ results_at tables ns terms ss
     go [] within = refl
     go (s ∷ ss) within =
         ap (λ zs. shown all s ∷ zs) (go ss within.1)
-        ∙ ap (λ cs. map (λ es. record { entity = s.entity; entries = es }) cs ++ results_at tables ns terms ss) (sym (only_at tables ns terms all are s.place within.0))
+        ∙ ap (λ cs. map (λ es. record { entity = s.entity; entries = es }) cs ++ results_at tables ns terms ss)
+        (sym (only_at tables ns terms all are s.place within.0))
 
 -- ---- the results
 

@@ -143,3 +143,7 @@ cut_placed has makes w ds os (first ∷ rest) is all =
 pub cuts_are_placed : OrderHasSystems → JoiningMakesBatches → (w : WorldState) (ds : List Declared) (os : List OutlineModel) (order : List ℕ)
     → order ≡ order_of (systems_of ds) → AllZip (IsOutline w) ds os → (places : List (List ℕ)) → places ≡ cut_of os ds order → ArePlacedBatches w ds places
 cuts_are_placed has makes w ds os order is all places made = subst (ArePlacedBatches w ds) (sym made) (cut_placed has makes w ds os order is all)
+
+pub cut_some : (os : List OutlineModel) (ds : List Declared) (order : List ℕ) → (order ≡ [] → ⊥) → batched (clash_at os ds) [] [] order ≡ cut_of os ds order
+cut_some os ds [] some = absurd (some refl)
+cut_some os ds (k ∷ ks) some = refl

@@ -40,7 +40,7 @@ impl<'a> Plan<'a> {
         systems: Vec<Declared<'a>>,
     ) -> Result<Plan<'a>, AllocError>
         ensures plan { IfOk result IsPlan }
-        ensures systems { IfOk result (λ p. p.systems.items ≡ systems.items) }
+        ensures systems { IfOk result (λ p. p.systems.items ≡ systems.entry.items) }
     {
         let order = running_order(alloc, &systems)?;
         let outlines = work_out(alloc, holdings, &systems)?;

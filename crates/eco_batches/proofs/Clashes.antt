@@ -1,6 +1,6 @@
 -- Two outlines clash exactly where their systems conflict.
 use Rattle.std.proofs.Common.{◌≡◌, ℕ, zero, suc, ◌==◌, Bool, false, ◌||◌, ◌↔◌, List, [], ◌∷◌, ◌++◌, map, length, refl, sym, ap, ◌∙◌, subst}
-use Rattle.std.proofs.Common.{true≢false, IsTrue, Option, Some, None, IfOk, Result, Ok, Err, slice_get, arith, eqb-true}
+use Rattle.std.proofs.Common.{true≢false, IsTrue, Option, Some, None, slice_get, arith, eqb-true}
 use Rattle.std.specs.List.{AllZip, list_any}
 use Rattle.std.proofs.lemmas.Bool.Decides.{Decides-or}
 use Rattle.std.proofs.lemmas.List.{map-append}

@@ -1,6 +1,6 @@
 -- Two outlines clash exactly where their systems conflict.
 use Rattle.std.proofs.Common.{◌≡◌, ℕ, zero, suc, ◌==◌, Bool, false, ◌||◌, ◌↔◌, List, [], ◌∷◌, ◌++◌, map, length, refl, sym, ap, ◌∙◌, subst}
-use Rattle.std.proofs.Common.{true≢false, IsTrue, Option, Some, None, IfOk, Result, Ok, Err, slice_get, arith, eqb-true}
+use Rattle.std.proofs.Common.{true≢false, IsTrue, Option, Some, None, slice_get, arith, eqb-true}
 use Rattle.std.specs.List.{AllZip, list_any}
 use Rattle.std.proofs.lemmas.Bool.Decides.{Decides-or}
 use Rattle.std.proofs.lemmas.List.{map-append}
@@ -17,7 +17,7 @@ use Rattle.eco_systems.specs.Phases.{in_order, order_of}
 use Rattle.eco_systems.specs.Systems.{SystemModel, system_reads}
 use Rattle.eco_systems.specs.Writes.{SomeOf, InClosedPatterns, IsTraitWriter, writes_trait}
 use Rattle.eco_batches.specs.OutlineModels.{OutlineModel}
-use Rattle.eco_batches.specs.Outlines.{ArePlacedBatches, IsOutline, clash_of, clash_at, closed_in, disturbs, kills_in, kills_too, late_at}
+use Rattle.eco_batches.specs.Outlines.{ArePlacedBatches, IsOutline, clash_of, clash_at, closed_in, cut_of, disturbs, kills_in, kills_too, late_at}
 use Rattle.eco_batches.specs.Outlines.{no_system, reads_in, system_in, system_of, system_at, systems_of, traits_in}
 use Rattle.eco_batches.specs.declared.declaration.Declared.{Declared}
 
@@ -128,20 +128,22 @@ not_none (x ∷ xs) b is h e = let z : suc (length xs) ≡ 0 = ap length e in ab
 pub none_placed : OrderHasSystems → (w : WorldState) (ds : List Declared) → order_of (systems_of ds) ≡ [] → ArePlacedBatches w ds []
 none_placed has w ds none = (sym none, sym (at_order has ds) ∙ ap (map (system_at ds)) none)
 
-module _ (has : OrderHasSystems) (makes : JoiningMakesBatches) (w : WorldState) (ds : List Declared) (os : List OutlineModel) where
-  placed : (order : List ℕ) → (order ≡ [] → ⊥) → order ≡ order_of (systems_of ds) → AllZip (IsOutline w) ds os →
-      ArePlacedBatches w ds (batched (clash_at os ds) [] [] order)
-  placed [] some is all = absurd (some refl)
-  placed (first ∷ rest) some is all =
-      let joined = makes w (system_at ds) (clash_at os ds) (clash_exact w ds os all) first rest in (
-        joined.0 ∙ is,
-        subst (λ ss. AreBatches w ss (map (map (system_at ds)) (batched (clash_at os ds) [] [] (first ∷ rest))))
-            (ap (map (system_at ds)) is ∙ at_order has ds) joined.1,
-      )
+-- what is cut are the batches, where the outlines are those of the systems on the world
+pub cut_placed : OrderHasSystems → JoiningMakesBatches → (w : WorldState) (ds : List Declared) (os : List OutlineModel) (order : List ℕ)
+    → order ≡ order_of (systems_of ds) → AllZip (IsOutline w) ds os → ArePlacedBatches w ds (cut_of os ds order)
+cut_placed has makes w ds os [] is all = none_placed has w ds (sym is)
+cut_placed has makes w ds os (first ∷ rest) is all =
+    let joined = makes w (system_at ds) (clash_at os ds) (clash_exact w ds os all) first rest in (
+      joined.0 ∙ is,
+      subst (λ ss. AreBatches w ss (map (map (system_at ds)) (batched (clash_at os ds) [] [] (first ∷ rest))))
+          (ap (map (system_at ds)) is ∙ at_order has ds) joined.1,
+    )
 
-  -- the lists of positions are batches
-  pub joined_are_batches : {V W E : Type 0} (order : List ℕ) → (order ≡ [] → ⊥) → order ≡ order_of (systems_of ds) → AllZip (IsOutline w) ds os →
-      (content : W → List V) (items : V → List ℕ) (r : Result W E) → IfOk r (λ b. map items (content b) ≡ batched (clash_at os ds) [] [] order) →
-      IfOk r (λ b. ArePlacedBatches w ds (map items (content b)))
-  joined_are_batches order some is all content items (Err e) h = h
-  joined_are_batches order some is all content items (Ok b) h = subst (ArePlacedBatches w ds) (sym h) (placed order some is all)
+-- lists of positions that are cut are the batches
+pub cuts_are_placed : OrderHasSystems → JoiningMakesBatches → (w : WorldState) (ds : List Declared) (os : List OutlineModel) (order : List ℕ)
+    → order ≡ order_of (systems_of ds) → AllZip (IsOutline w) ds os → (places : List (List ℕ)) → places ≡ cut_of os ds order → ArePlacedBatches w ds places
+cuts_are_placed has makes w ds os order is all places made = subst (ArePlacedBatches w ds) (sym made) (cut_placed has makes w ds os order is all)
+
+pub cut_some : (os : List OutlineModel) (ds : List Declared) (order : List ℕ) → (order ≡ [] → ⊥) → batched (clash_at os ds) [] [] order ≡ cut_of os ds order
+cut_some os ds [] some = absurd (some refl)
+cut_some os ds (k ∷ ks) some = refl

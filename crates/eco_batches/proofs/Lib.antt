@@ -5,3 +5,4 @@ mod Keyed
 mod Orders
 mod Overlapped
 mod Parts
+mod Same

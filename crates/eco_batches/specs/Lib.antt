@@ -2,4 +2,5 @@ pub mod Keys
 pub mod Open
 pub mod OutlineModels
 pub mod Outlines
+pub mod Plans
 pub mod Written

@@ -6,6 +6,7 @@ use Rattle.eco_ids.specs.Matching.{pattern_overlaps}
 use Rattle.eco_ids.specs.World as world
 use Rattle.eco_systems.specs.Batches.{joined, AreBatches}
 use Rattle.eco_systems.specs.Closing.{ListsClosed}
+use Rattle.eco_systems.specs.Joining.{batched}
 use Rattle.eco_systems.specs.Phases.{in_order, order_of}
 use Rattle.eco_systems.specs.Systems.{SystemModel}
 use Rattle.eco_systems.specs.Writes.{writes_trait}
@@ -93,6 +94,11 @@ late_at os before t = list_any (λ k. traits_in (slice_get os k)) (before ++ t �
 -- the systems at s and t clash, where these come before t
 abbrev pub clash_at : List OutlineModel → List Declared → List ℕ → ℕ → ℕ → Bool
 clash_at os ds before s t = clash_of (slice_get os s) (slice_get ds t) (late_at os before t)
+
+-- the batches of systems of which so much is worked out, where they run in this order
+abbrev pub cut_of : List OutlineModel → List Declared → List ℕ → List (List ℕ)
+cut_of os ds [] = []
+cut_of os ds (k ∷ ks) = batched (clash_at os ds) [] [] (k ∷ ks)
 
 -- the lists hold all positions of declaration in the order in which the systems run, and the systems there are the batches
 abbrev pub ArePlacedBatches : WorldState → List Declared → List (List ℕ) → Type 0

@@ -6,8 +6,10 @@ mod closed;
 mod declaration;
 mod order;
 mod outline;
+mod plan;
 mod sync;
 mod written;
 
 pub use declaration::Declared;
+pub use plan::Plan;
 pub use sync::sync_points;

@@ -1,5 +1,5 @@
 //! What is worked out of each system once.
-ghost use Rattle.std.specs.Prelude.{◌≡◌, ◌∷◌, ◌++◌, [], IfOk, OnOk, slice_get};
+ghost use Rattle.std.specs.Prelude.{◌≡◌, ◌∷◌, ◌++◌, [], IfOk, IsTrue, OnOk, slice_get};
 ghost use Rattle.std.specs.List.{AllZip, list_any};
 ghost use Rattle.eco_ids.specs.declared.edition.Edition.TheVariants.{First};
 ghost use Rattle.eco_systems.specs.Writes as writes;
@@ -15,7 +15,7 @@ use std::alloc::{AllocError, Global};
 use std::marker::Model;
 
 // Where the closed writes of a system stand among those of all, whether one of them writes traits, and whether the system kills.
-#[derive(Clone, Copy)]
+#[derive(Clone, Copy, PartialEq, Eq)]
 struct Outline {
     start: usize,
     end: usize,
@@ -58,6 +58,13 @@ impl Outlines {
             closed: Vec::with_capacity(alloc, count)?,
             list: Vec::with_capacity(alloc, count)?,
         })
+    }
+
+    /// Whether they are those of as many systems that write and kill the same.
+    pub fn is(&self, other: &Outlines) -> bool
+        ensures { IsTrue result → self.now ≡ other.now }
+    {
+        self.closed == other.closed && self.list == other.list
     }
 
     // One more system.

@@ -3,8 +3,7 @@ ghost use Rattle.std.specs.Prelude.{◌≡◌, [], map, slice_get, IfOk, List, O
 ghost use Rattle.std.specs.List.{list_any};
 ghost use Rattle.eco_batches.specs.Open.{IsOpen, JoinsNext};
 ghost use Rattle.eco_batches.specs.Outlines as spec;
-ghost use Rattle.eco_batches.specs.Outlines.{ArePlacedBatches, clash_at, late_at, systems_of};
-ghost use Rattle.eco_systems.specs.Phases.{order_of};
+ghost use Rattle.eco_batches.specs.Outlines.{ArePlacedBatches, clash_at, cut_of, late_at};
 ghost use Rattle.eco_systems.specs.Joining.{batched};
 
 use crate::batch::Batch;
@@ -73,23 +72,19 @@ fn join(
 }
 
 // The batches of all systems, whose positions are listed as they run.
-fn cut<H: Holdings>(
+pub(crate) fn cut(
     alloc: Global,
-    holdings: &H,
+    outlines: &Outlines,
     systems: &[Declared],
     order: &[usize],
 ) -> Result<Vec<Vec<usize>>, AllocError>
-    requires { order.now ≡ order_of (systems_of systems.now) }
-    ensures { IfOk result (λ batches. ArePlacedBatches (H.world holdings.now) systems.now
-        (map (λ b. b.items) batches.items)) }
+    ensures { IfOk result (λ batches. map (λ b. b.items) batches.items
+        ≡ cut_of outlines.now systems.now order.now) }
 {
-    eco_systems::laws::systems_are_ordered();
-    eco_systems::laws::batches_are_unique();
     if order.is_empty() {
         return Ok(Vec::new(alloc));
     }
-    let outlines = work_out(alloc, holdings, systems)?;
-    join(alloc, &outlines, systems, order)
+    join(alloc, outlines, systems, order)
 }
 
 /// The batches between sync points (Flecs manual, Systems, "Sync points"), as lists of positions of declaration in the order
@@ -107,6 +102,9 @@ pub fn sync_points<H: Holdings>(
     ensures { IfOk result (λ batches. ArePlacedBatches (H.world holdings.now) systems.now
         (map (λ b. b.items) batches.items)) }
 {
+    eco_systems::laws::systems_are_ordered();
+    eco_systems::laws::batches_are_unique();
     let order = running_order(alloc, systems)?;
-    cut(alloc, holdings, systems, &order)
+    let outlines = work_out(alloc, holdings, systems)?;
+    cut(alloc, &outlines, systems, &order)
 }

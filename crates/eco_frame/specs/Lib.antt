@@ -1,5 +1,6 @@
 pub mod Models
 pub mod Pieces
+pub mod Pipelines
 pub mod Progresses
 pub mod Reports
 pub mod Stops

@@ -1,7 +1,7 @@
 //! Frames: all batches of a list of systems, one after another.
-ghost use Rattle.std.specs.Prelude.{◌≡◌, ◌<◌, ◌≤◌, [], length, map, take, vec_capacity, vec_len, IfErr, IfOk, OnOk};
+ghost use Rattle.std.specs.Prelude.{◌≡◌, ◌<◌, ◌≤◌, [], length, map, take, vec_capacity, vec_len, Err, IfErr, OnOk};
 ghost use Rattle.std.specs.List.{All, AllByRecursion};
-ghost use Rattle.eco_ids.specs.declared.refusal.Refusal.TheVariants.{NoMoreIds};
+ghost use Rattle.eco_ids.specs.declared.refusal.Refusal.TheVariants.{NoMoreIds, OutOfMemory};
 ghost use Rattle.eco_systems.specs.Frames.{BatchRuns, BatchRunsSolo};
 ghost use Rattle.eco_systems.specs.Systems.{IsLawfulSystem};
 ghost use Rattle.eco_workers.specs.Taking.{IsStopped};
@@ -18,7 +18,7 @@ use crate::stop::FrameStop;
 use eco_bodies::{System, SystemBody, Systems, systems_are_lawful};
 use eco_ids::Refusal;
 use eco_world::World;
-use std::alloc::{AllocError, Global};
+use std::alloc::Global;
 use std::thread::Threads;
 
 // Does nothing, and its contract says that the systems keep the law of systems.
@@ -31,23 +31,22 @@ fn are_lawful<B: SystemBody>(systems: &[System<B>])
     }
 }
 
-// The batches of a frame, and room for what they will have done.
-fn begin<B: SystemBody + Drop>(
-    alloc: Global,
-    world: &World,
-    systems: &Systems<B>,
-) -> Result<(Vec<Vec<usize>>, Progress), AllocError>
-    ensures placed { IfOk result (λ r. ArePlaced world.now
-        (map (model_of B.reads_of B.writes_of B.kills_of B.taken B.commands) systems.now)
-        (map (λ b. b.items) r.0.items)) }
-    ensures within { IfOk result (λ r. All (λ b. All (λ k. k < length systems.now) b.items) r.0.items) }
-    ensures none { IfOk result (λ r. (r.1.reports.items ≡ []) × (r.1.commands ≡ 0) × (r.1.drawn ≡ 0)
-        × (vec_len r.0 ≤ vec_capacity r.1.reports)) }
+// Nothing was done of a frame: memory was wanting before its first batch.
+pub(crate) fn stop_at_once<B: SystemBody>(world: &World, systems: &Systems<B>) -> FrameStop
+    ensures frame { Frames BatchRuns world.now
+        (map (model_of B.reads_of B.writes_of B.kills_of B.taken B.commands) systems.now) (Err result) world.now }
+    ensures alone { Frames AscendingRuns world.now
+        (map (model_of B.reads_of B.writes_of B.kills_of B.taken B.commands) systems.now) (Err result) world.now }
+    ensures solo { Frames BatchRunsSolo world.now
+        (map (model_of B.reads_of B.writes_of B.kills_of B.taken B.commands) systems.now) (Err result) world.now }
+    ensures why { result.refusal ≡ OutOfMemory }
 {
-    eco_systems::laws::systems_are_ordered();
-    let batches = sync_points(alloc, world, systems)?;
-    let done = Progress::with_room(alloc, batches.len())?;
-    Ok((batches, done))
+    world.is_lawful();
+    eco_systems::laws::batches_are_unique();
+    FrameStop {
+        batches: 0,
+        refusal: Refusal::OutOfMemory,
+    }
 }
 
 // Runs batches, one after another, until one is refused.
@@ -78,6 +77,52 @@ fn run_all<B: SystemBody + Sync, R: Threads + Sync>(
     Ok(())
 }
 
+// Runs the batches of some systems on a world, with which a frame begins.
+pub(crate) fn run_batches<B: SystemBody + Sync + Drop, R: Threads + Sync>(
+    rt: &R,
+    alloc: Global,
+    world: &mut World,
+    systems: &Systems<B>,
+    batches: &[Vec<usize>],
+    workers: u32,
+) -> Result<FrameReport, FrameStop>
+    requires workers { (1 ≤ workers) × (workers ≤ 64) }
+    requires placed { ArePlaced world.old
+        (map (model_of B.reads_of B.writes_of B.kills_of B.taken B.commands) systems.now)
+        (map (λ b. b.items) batches.now) }
+    ensures frame { Frames BatchRuns world.old
+        (map (model_of B.reads_of B.writes_of B.kills_of B.taken B.commands) systems.now) result world.new }
+    ensures alone { workers ≡ 1 → Frames AscendingRuns world.old
+        (map (model_of B.reads_of B.writes_of B.kills_of B.taken B.commands) systems.now) result world.new }
+    ensures solo { Frames BatchRunsSolo world.old
+        (map (model_of B.reads_of B.writes_of B.kills_of B.taken B.commands) systems.now) result world.new }
+    ensures why { IfErr result (λ stop. IsWhy B.taken B.commands
+        (model_of B.reads_of B.writes_of B.kills_of B.taken B.commands) world.old systems.now stop world.new) }
+{
+    world.is_lawful();
+    eco_systems::laws::systems_are_ordered();
+    eco_systems::laws::frames_are_one_by_one();
+    are_lawful(systems.as_slice());
+    let Ok(mut done) = Progress::with_room(alloc, batches.len()) else {
+        return Err(stop_at_once(world, systems));
+    };
+    match run_all(
+        rt,
+        alloc,
+        world,
+        systems.as_slice(),
+        batches,
+        workers,
+        &mut done,
+    ) {
+        Ok(()) => Ok(done.into_report()),
+        Err(refusal) => Err(FrameStop {
+            batches: done.reports.len(),
+            refusal,
+        }),
+    }
+}
+
 /// Runs a frame of systems on a world (Flecs manual, Systems): for each batch between sync points, what its systems record on
 /// the world as it is then, by at most so many threads, 1 to 64, the caller's among them, is merged into it. So a frame leaves
 /// the world as the run of its systems one by one does, with the same fresh handles and outcomes, however many workers there
@@ -105,29 +150,8 @@ pub fn run_frame<B: SystemBody + Sync + Drop, R: Threads + Sync>(
     ensures why { IfErr result (λ stop. IsWhy B.taken B.commands
         (model_of B.reads_of B.writes_of B.kills_of B.taken B.commands) world.old systems.now stop world.new) }
 {
-    world.is_lawful();
-    eco_systems::laws::frames_are_one_by_one();
-    eco_systems::laws::batches_are_unique();
-    are_lawful(systems.as_slice());
-    let Ok((batches, mut done)) = begin(alloc, world, systems) else {
-        return Err(FrameStop {
-            batches: 0,
-            refusal: Refusal::OutOfMemory,
-        });
+    let Ok(batches) = sync_points(alloc, world, systems) else {
+        return Err(stop_at_once(world, systems));
     };
-    match run_all(
-        rt,
-        alloc,
-        world,
-        systems.as_slice(),
-        &batches,
-        workers,
-        &mut done,
-    ) {
-        Ok(()) => Ok(done.into_report()),
-        Err(refusal) => Err(FrameStop {
-            batches: done.reports.len(),
-            refusal,
-        }),
-    }
+    run_batches(rt, alloc, world, systems, &batches, workers)
 }

@@ -5,12 +5,14 @@ mod batch;
 mod frame;
 mod part;
 mod piece;
+mod pipeline;
 mod points;
 mod progress;
 mod report;
 mod stop;
 
 pub use frame::run_frame;
+pub use pipeline::Pipeline;
 pub use points::sync_points;
 pub use report::FrameReport;
 pub use stop::FrameStop;

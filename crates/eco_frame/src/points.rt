@@ -23,7 +23,7 @@ fn declaration<B: SystemBody>(system: &System<B>) -> Declared<'_>
 }
 
 // What each of some systems declares.
-fn declarations<B: SystemBody>(
+pub(crate) fn declarations<B: SystemBody>(
     alloc: Global,
     systems: &[System<B>],
 ) -> Result<Vec<Declared<'_>>, AllocError>

@@ -1,0 +1,119 @@
+use Rattle.std.proofs.Common.{Ok, Err, ap, inl, inr, length, map, refl, subst, sym, vec_len, ◌∙◌}
+use Rattle.std.proofs.lemmas.List.{length-map}
+use Rattle.std.specs.List.{AllByRecursion}
+use Rattle.eco_bodies.specs.declared.systems.System.{System}
+use Rattle.eco_systems.specs.Phases.{in_order, order_of}
+use Rattle.eco_systems.specs.Systems.{IsLawfulSystem, SystemModel}
+use Rattle.eco_frame.specs.Models.{model_of}
+use Rattle.eco_frame.specs.Stops.{IsNextOut, IsWhy}
+use Rattle.eco_frame.specs.declared.stop.FrameStop.{FrameStop}
+use Rattle.eco_frame.proofs.Ran.{alone_of, frame_of, solo_of, stopped_frame, whole_frame}
+use Rattle.eco_frame.proofs.Within.{batches_within}
+use Rattle.eco_frame.proofs.frame.run_batches.Goals as goal
+
+pub run_all-requires-clause-places : goal.run_all-requires-clause-places
+run_all-requires-clause-places g c κs within =
+    let b = g.B.SystemBody in
+    let f : System g.row.B.Denot → SystemModel = model_of b.reads_of b.writes_of b.kills_of b.taken b.commands in
+    let systems = map f c.args.systems.now in
+    batches_within (λ v. v.items) systems (in_order systems) (order_of systems) c.args.batches.now c.requires.placed.0
+    (c.systems_are_ordered.ensures.order systems) (length c.as_slice-2.result.now) (length-map c.args.systems.now f ∙ ap length (sym c.as_slice-2.ensures))
+
+pub returns-in-Ok-run_all-clause-frame : goal.returns-in-Ok-run_all-clause-frame
+returns-in-Ok-run_all-clause-frame g c =
+    let b = g.B.SystemBody in
+    let f : System g.row.B.Denot → SystemModel = model_of b.reads_of b.writes_of b.kills_of b.taken b.commands in
+    let w = c.args.world.now in
+    let new = c.run_all.new.world in
+    let systems = c.args.systems.now in
+    let p = c.run_all.new.done in
+    let ran = whole_frame c.args.workers w new f (λ v. v.items) c.as_slice-2.result.now systems c.args.batches.now c.args.batches.now p
+    c.as_slice-2.ensures refl c.requires.placed (vec_len p.reports) c.in-Ok-run_all.ensures.so_far c.in-Ok-run_all.ensures.all c.into_report.result c.into_report.ensures in
+    frame_of c.args.workers w (map f systems) (Ok c.into_report.result) new ran
+
+pub returns-in-Ok-run_all-clause-alone : goal.returns-in-Ok-run_all-clause-alone
+returns-in-Ok-run_all-clause-alone g c one =
+    let b = g.B.SystemBody in
+    let f : System g.row.B.Denot → SystemModel = model_of b.reads_of b.writes_of b.kills_of b.taken b.commands in
+    let w = c.args.world.now in
+    let new = c.run_all.new.world in
+    let systems = c.args.systems.now in
+    let p = c.run_all.new.done in
+    let ran = whole_frame c.args.workers w new f (λ v. v.items) c.as_slice-2.result.now systems c.args.batches.now c.args.batches.now p
+    c.as_slice-2.ensures refl c.requires.placed (vec_len p.reports) c.in-Ok-run_all.ensures.so_far c.in-Ok-run_all.ensures.all c.into_report.result c.into_report.ensures in
+    alone_of c.args.workers w (map f systems) (Ok c.into_report.result) new ran one
+
+pub returns-in-Ok-run_all-clause-solo : goal.returns-in-Ok-run_all-clause-solo
+returns-in-Ok-run_all-clause-solo g c =
+    let b = g.B.SystemBody in
+    let f : System g.row.B.Denot → SystemModel = model_of b.reads_of b.writes_of b.kills_of b.taken b.commands in
+    let w = c.args.world.now in
+    let new = c.run_all.new.world in
+    let systems = c.args.systems.now in
+    let p = c.run_all.new.done in
+    let ran = whole_frame c.args.workers w new f (λ v. v.items) c.as_slice-2.result.now systems c.args.batches.now c.args.batches.now p
+    c.as_slice-2.ensures refl c.requires.placed (vec_len p.reports) c.in-Ok-run_all.ensures.so_far c.in-Ok-run_all.ensures.all c.into_report.result c.into_report.ensures in
+    let lawful = subst (λ ss. AllByRecursion IsLawfulSystem (map f ss)) c.as_slice.ensures c.are_lawful.ensures in
+    let laws = c.frames_are_one_by_one.ensures in
+    solo_of laws.whole laws.stopped w (map f systems) (Ok c.into_report.result) new c.is_lawful.ensures lawful
+    (frame_of c.args.workers w (map f systems) (Ok c.into_report.result) new ran)
+
+pub returns-in-Err-clause-frame : goal.returns-in-Err-clause-frame
+returns-in-Err-clause-frame g c =
+    let b = g.B.SystemBody in
+    let f : System g.row.B.Denot → SystemModel = model_of b.reads_of b.writes_of b.kills_of b.taken b.commands in
+    let w = c.args.world.now in
+    let new = c.run_all.new.world in
+    let systems = c.args.systems.now in
+    let p = c.run_all.new.done in
+    let stop : FrameStop = record { batches = c.len.result; refusal = c.in-Err.refusal } in
+    let ran = stopped_frame c.args.workers w new f (λ v. v.items) c.as_slice-2.result.now systems c.args.batches.now c.args.batches.now p
+    c.as_slice-2.ensures refl c.requires.placed (vec_len p.reports) c.in-Err.ensures.so_far stop (c.len.ensures ∙ p.reports.ok.0) in
+    frame_of c.args.workers w (map f systems) (Err stop) new ran
+
+pub returns-in-Err-clause-alone : goal.returns-in-Err-clause-alone
+returns-in-Err-clause-alone g c one =
+    let b = g.B.SystemBody in
+    let f : System g.row.B.Denot → SystemModel = model_of b.reads_of b.writes_of b.kills_of b.taken b.commands in
+    let w = c.args.world.now in
+    let new = c.run_all.new.world in
+    let systems = c.args.systems.now in
+    let p = c.run_all.new.done in
+    let stop : FrameStop = record { batches = c.len.result; refusal = c.in-Err.refusal } in
+    let ran = stopped_frame c.args.workers w new f (λ v. v.items) c.as_slice-2.result.now systems c.args.batches.now c.args.batches.now p
+    c.as_slice-2.ensures refl c.requires.placed (vec_len p.reports) c.in-Err.ensures.so_far stop (c.len.ensures ∙ p.reports.ok.0) in
+    alone_of c.args.workers w (map f systems) (Err stop) new ran one
+
+pub returns-in-Err-clause-solo : goal.returns-in-Err-clause-solo
+returns-in-Err-clause-solo g c =
+    let b = g.B.SystemBody in
+    let f : System g.row.B.Denot → SystemModel = model_of b.reads_of b.writes_of b.kills_of b.taken b.commands in
+    let w = c.args.world.now in
+    let new = c.run_all.new.world in
+    let systems = c.args.systems.now in
+    let p = c.run_all.new.done in
+    let stop : FrameStop = record { batches = c.len.result; refusal = c.in-Err.refusal } in
+    let ran = stopped_frame c.args.workers w new f (λ v. v.items) c.as_slice-2.result.now systems c.args.batches.now c.args.batches.now p
+    c.as_slice-2.ensures refl c.requires.placed (vec_len p.reports) c.in-Err.ensures.so_far stop (c.len.ensures ∙ p.reports.ok.0) in
+    let lawful = subst (λ ss. AllByRecursion IsLawfulSystem (map f ss)) c.as_slice.ensures c.are_lawful.ensures in
+    let laws = c.frames_are_one_by_one.ensures in
+    solo_of laws.whole laws.stopped w (map f systems) (Err stop) new c.is_lawful.ensures lawful
+    (frame_of c.args.workers w (map f systems) (Err stop) new ran)
+
+pub returns-in-Err-clause-why : goal.returns-in-Err-clause-why
+returns-in-Err-clause-why g c =
+    let b = g.B.SystemBody in
+    let f : System g.row.B.Denot → SystemModel = model_of b.reads_of b.writes_of b.kills_of b.taken b.commands in
+    let w = c.args.world.now in
+    let new = c.run_all.new.world in
+    let systems = c.args.systems.now in
+    let places = map (λ v. v.items) c.args.batches.now in
+    let stop : FrameStop = record { batches = c.len.result; refusal = c.in-Err.refusal } in
+    let n = vec_len c.run_all.new.done.reports in
+    elim c.in-Err.ensures.why as (λ _. IsWhy b.taken b.commands f w systems stop new) [
+      | inl gone ↦
+          let own = c.in-Err.ensures.out gone in
+          let same = subst (λ ss. IsNextOut b.taken b.commands new ss (map (λ v. v.items) c.args.batches.now) n) c.as_slice-2.ensures own in
+          inr (gone, (places, c.requires.placed, subst (λ k. IsNextOut b.taken b.commands new systems places k) (sym c.len.ensures) same))
+      | inr want ↦ inl want
+    ]

@@ -1,13 +1,19 @@
 -- One id in the place of another.
-use Rattle.std.proofs.Common.{◌≡◌, ◌≢◌, ℕ, true≢false, ◌&&◌, ◌||◌, not, Bool, true, false, cond, List, Option, Some, refl, sym, ap, ◌∙◌}
+use Rattle.std.proofs.Common.{◌≡◌, ◌≢◌, ℕ, ◌+◌, ◌++◌, true≢false, ◌&&◌, ◌||◌, not, Bool, true, false, cond, List, Option, Some, take, drop, remove}
+use Rattle.std.proofs.Common.{IsTrue, slice_get, get_or, suc, Ordering, Less, Equal, Greater, refl, sym, ap, ◌∙◌, arith}
+use Rattle.std.proofs.lemmas.Option.{slice_get_within, slice_get-get_or}
+use Rattle.std.specs.Prelude.{HoldsAt}
+use Rattle.std.specs.Ordering.{is_eq}
 use Rattle.eco_ids.specs.declared.id.Id.{Id}
-use Rattle.eco_ids.specs.Order.{id_cmp, id_eq, has_item, with_item, without_item}
+use Rattle.eco_ids.specs.Order.{id_cmp, id_eq, has_item, with_item, without_item, is_ascending}
+use Rattle.eco_ids.proofs.Ascending.{has_at, remove_is_without}
 use Rattle.eco_ids.proofs.Facts.{id_eq_itself}
 use Rattle.eco_ids.proofs.IdOrder.{id_cmp_total}
 use Rattle.eco_ids.proofs.SetLaws.{joins_with, leaves_without}
 use Rattle.eco_tables.specs.Table.{TableState}
 use Rattle.eco_archetypes.specs.Archetypes.{type_at}
 use Rattle.eco_archetypes.specs.Edges.{exchanged, toggled}
+use Rattle.eco_archetypes.proofs.Toggles.{twice}
 
 -- the second id is there then
 comes : (ids : List Id) (i j : Id) → has_item id_cmp (exchanged ids i j) j ≡ true
@@ -36,3 +42,40 @@ in_two_steps ids i j there lacks =
     and_false : (b : Bool) → (b && false) ≡ false
     and_false true = refl
     and_false false = refl
+
+is_equal : (r : Ordering) → is_eq r ≡ true → r ≡ Equal
+is_equal Less h = absurd (true≢false (sym h))
+is_equal Equal h = refl
+is_equal Greater h = absurd (true≢false (sym h))
+
+stands : (ids : List Id) (x : Id) (k : ℕ) → slice_get ids k ≡ Some x → HoldsAt (λ y. id_cmp y x ≡ Equal) ids k
+stands ids x k at = λ d.
+    let is : get_or ids k d ≡ x = one _ _ (sym (slice_get-get_or ids k d (slice_get_within ids k x at)) ∙ at) in
+    ap (λ y. id_cmp y x) is ∙ is_equal (id_cmp x x) (id_eq_itself x)
+  where
+    one : (y z : Id) → Some y ≡ Some z → y ≡ z
+    one y z e = cc
+
+-- two types that differ at one place alone: there one has the first id, and the other the second
+module _ (own other : List Id) (i j : Id) (k : ℕ) (up : IsTrue (is_ascending id_cmp own)) (up' : IsTrue (is_ascending id_cmp other))
+    (here : slice_get own k ≡ Some i) (there : slice_get other k ≡ Some j)
+    (before : take k own ≡ take k other) (behind : drop (k + 1) own ≡ drop (k + 1) other) where
+  gone : (ids : List Id) (x : Id) → IsTrue (is_ascending id_cmp ids) → slice_get ids k ≡ Some x → remove ids k ≡ without_item id_cmp ids x
+  gone ids x asc at = remove_is_without id_cmp_total ids x k asc (slice_get_within ids k x at) (stands ids x k at)
+
+  same_rest : without_item id_cmp own i ≡ without_item id_cmp other j
+  same_rest =
+      let e : k + 1 ≡ suc k = omega arith in
+      let rest : drop (suc k) own ≡ drop (suc k) other = ap (λ n. drop n own) (sym e) ∙ behind ∙ ap (λ n. drop n other) e in
+      let alike : remove own k ≡ remove other k = ap (λ xs. xs ++ drop (suc k) own) before ∙ ap (λ xs. take k other ++ xs) rest in
+      sym (gone own i up here) ∙ alike ∙ gone other j up' there
+
+  pub exchanged_is : exchanged own i j ≡ other
+  exchanged_is =
+      let less = without_item id_cmp other j in
+      let has = has_at id_cmp_total other j k (slice_get_within other k j there) (stands other j k there) in
+      let one : toggled other j ≡ less = ap (λ b. cond b less (with_item id_cmp other j)) has in
+      let lost : has_item id_cmp less j ≡ false =
+      leaves_without id_cmp_total other j j ∙ ap (λ b. not b && has_item id_cmp other j) (id_eq_itself j) in
+      let two : toggled less j ≡ with_item id_cmp less j = ap (λ b. cond b (without_item id_cmp less j) (with_item id_cmp less j)) lost in
+      ap (λ xs. with_item id_cmp xs j) same_rest ∙ sym two ∙ ap (λ xs. toggled xs j) (sym one) ∙ twice other j up'

@@ -1,7 +1,7 @@
 -- The only choices that a cache keeps, slot by slot.
-use Rattle.std.proofs.Common.{◌≡◌, ◌≢◌, ℕ, zero, suc, ◌+◌, ◌-◌, ◌<◌, ◌≤◌, Bool, true}
+use Rattle.std.proofs.Common.{◌≡◌, ◌≢◌, ℕ, suc, ◌+◌, ◌-◌, ◌<◌, ◌≤◌, Bool, true}
 use Rattle.std.proofs.Common.{false, true≢false, cond, not, ◌||◌, nat_eq, List, [], ◌∷◌, ◌++◌, length, map}
-use Rattle.std.proofs.Common.{take, get_or, slice_get, position, Option, Some, None, IfSome, refl, sym, ap, ◌∙◌, arith, subst, if◌then◌else◌, option_map}
+use Rattle.std.proofs.Common.{take, get_or, position, Option, Some, None, IfSome, refl, sym, ap, ◌∙◌, arith, subst, if◌then◌else◌, option_map}
 use Rattle.std.specs.Option.{option_map_or}
 use Rattle.std.specs.Prelude.{MatchBool}
 use Rattle.indexmap.specs.IndexMap.{swap_remove_by}

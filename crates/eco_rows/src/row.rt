@@ -76,6 +76,7 @@ impl BodyRow for WorldRow<'_> {
         self.entries
     }
 
+    #[inline(always)]
     fn value(&self, slot: usize) -> Option<Value> {
         let Some(asked) = self.query.slots().get(slot) else {
             return None;

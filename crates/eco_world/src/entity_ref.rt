@@ -63,7 +63,7 @@ impl<'a> EntityRef<'a> {
     }
 
     /// The value of the id, where the entity lives, has the id, and the id is data, as [`World::get`] has it.
-    #[inline]
+    #[inline(always)]
     pub fn value(&self, id: Id) -> Option<Value>
         ensures { result ≡ value_of self.now.world self.now.entity id }
     {

@@ -174,7 +174,7 @@ impl World {
 
     /// The value of the id, where the entity lives, has the id, and the id is data (Flecs manual, Entities and
     /// Components). It takes no memory.
-    #[inline]
+    #[inline(always)]
     pub fn get(&self, entity: Entity, id: Id) -> Option<Value>
         ensures { result ≡ value_of self.now entity id }
     {

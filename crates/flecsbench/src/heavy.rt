@@ -9,8 +9,8 @@ use eco_bodies::{BodyRow, Draws, SystemBody};
 use eco_ids::{Entity, Id, Pattern, Refusal, Value};
 use eco_world::{Command, Stage};
 
-// How often a number is multiplied by itself: one waits for the other, so it takes some 200 ns.
-const ROUNDS: u32 = 128;
+// How often a number is multiplied by itself: one waits for the other, so it takes some 200 ns and more.
+const ROUNDS: u32 = 192;
 
 // Something odd.
 const STEP: u64 = 1_442_695_040_888_963_407;

@@ -118,7 +118,9 @@ fn record(stage: &mut Stage, command: Command) -> Result<(), Refusal> {
 // The stage adds each id to its entity.
 fn record_adds(stage: &mut Stage, work: &Work) -> Result<(), Refusal> {
     for (turn, entity) in work.entities().iter().enumerate() {
-        record(stage, Command::Add(*entity, work.id(turn)))?;
+        if let Some(id) = work.id(turn) {
+            record(stage, Command::Add(*entity, id))?;
+        }
     }
     Ok(())
 }
@@ -126,7 +128,9 @@ fn record_adds(stage: &mut Stage, work: &Work) -> Result<(), Refusal> {
 // The stage sets each id of its entity to the value.
 fn record_sets(stage: &mut Stage, work: &Work, value: Value) -> Result<(), Refusal> {
     for (turn, entity) in work.entities().iter().enumerate() {
-        record(stage, Command::Set(*entity, work.id(turn), value))?;
+        if let Some(id) = work.id(turn) {
+            record(stage, Command::Set(*entity, id, value))?;
+        }
     }
     Ok(())
 }
@@ -233,7 +237,9 @@ impl Scene {
     /// Adds each id to its entity.
     pub fn add(&mut self) -> Result<(), Refusal> {
         for (turn, entity) in self.work.entities().iter().enumerate() {
-            self.world.add(*entity, self.work.id(turn))?;
+            if let Some(id) = self.work.id(turn) {
+                self.world.add(*entity, id)?;
+            }
         }
         Ok(())
     }
@@ -241,7 +247,9 @@ impl Scene {
     /// Sets each id of its entity to the value.
     pub fn set(&mut self, value: Value) -> Result<(), Refusal> {
         for (turn, entity) in self.work.entities().iter().enumerate() {
-            self.world.set(*entity, self.work.id(turn), value)?;
+            if let Some(id) = self.work.id(turn) {
+                self.world.set(*entity, id, value)?;
+            }
         }
         Ok(())
     }
@@ -319,19 +327,27 @@ impl Scene {
     // Removes each id from its entity.
     fn remove(&mut self) -> Result<(), Refusal> {
         for (turn, entity) in self.work.entities().iter().enumerate() {
-            self.world.remove(*entity, self.work.id(turn))?;
+            if let Some(id) = self.work.id(turn) {
+                self.world.remove(*entity, id)?;
+            }
         }
         Ok(())
     }
 
     // Removes the first id from all entities by one call.
     fn remove_from_all(&mut self) -> Result<(), Refusal> {
-        self.world.remove_all(self.work.id(0))
+        match self.work.id(0) {
+            Some(id) => self.world.remove_all(id),
+            None => Ok(()),
+        }
     }
 
     // Deletes all entities that have the first id by one call.
     fn delete_with(&mut self) -> Result<(), Refusal> {
-        self.world.delete_with(self.work.id(0))
+        match self.work.id(0) {
+            Some(id) => self.world.delete_with(id),
+            None => Ok(()),
+        }
     }
 
     // Adds the ids to their entities and removes them, so many times.
@@ -347,7 +363,9 @@ impl Scene {
     fn sum(&self) -> i64 {
         let mut sum: i64 = 0;
         for (turn, entity) in self.work.entities().iter().enumerate() {
-            if let Some(value) = self.world.get(*entity, self.work.id(turn)) {
+            if let Some(id) = self.work.id(turn)
+                && let Some(value) = self.world.get(*entity, id)
+            {
                 sum = sum.wrapping_add(value.0[0]);
             }
         }
@@ -359,7 +377,9 @@ impl Scene {
         let Some(query) = &self.query else {
             return Ok(0);
         };
-        let id = self.work.id(0);
+        let Some(id) = self.work.id(0) else {
+            return Ok(0);
+        };
         let mut sum: i64 = 0;
         for table in &self.world.tables_of(query)? {
             if let Some(Values::Two(rows)) = table.values(id) {
@@ -419,7 +439,9 @@ impl Scene {
     fn count_by_texts(&self) -> Result<usize, Refusal> {
         let mut found = 0usize;
         for turn in 0..self.work.entities().len() {
-            found = found.saturating_add(self.count(self.work.id(turn))?);
+            if let Some(id) = self.work.id(turn) {
+                found = found.saturating_add(self.count(id)?);
+            }
         }
         Ok(found)
     }

@@ -2,7 +2,7 @@
 use crate::group::Group;
 use crate::heavy::Heavy;
 use eco_bodies::{Action, Script, SystemBody, Systems};
-use eco_frame::{run_frame, sync_points};
+use eco_frame::{Pipeline, sync_points};
 use eco_ids::{Entity, Id, Refusal, Value};
 use eco_systems::Phase;
 use eco_world::World;
@@ -51,7 +51,8 @@ impl<B: SystemBody + Sync + Drop> Simulation<B> {
         Ok(())
     }
 
-    /// Runs so many frames, and answers how many commands ran.
+    /// Runs so many frames of a pipeline, which keeps the batches of the systems from one to the next, and answers how many
+    /// commands ran.
     pub fn run<R: Threads + Sync>(
         &mut self,
         rt: &R,
@@ -60,9 +61,10 @@ impl<B: SystemBody + Sync + Drop> Simulation<B> {
         workers: u32,
     ) -> Result<usize, Refusal> {
         let workers = workers.clamp(1, 64);
+        let mut pipeline = Pipeline::new(alloc, &self.world, &self.systems)?;
         let mut commands = 0usize;
         for _ in 0..frames {
-            match run_frame(rt, alloc, &mut self.world, &self.systems, workers) {
+            match pipeline.run(rt, alloc, &mut self.world, workers) {
                 Ok(report) => commands = commands.saturating_add(report.commands()),
                 Err(stop) => return Err(stop.refusal),
             }

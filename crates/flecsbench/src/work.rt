@@ -3,49 +3,54 @@ use crate::group::{Group, Ids};
 use eco_ids::{Entity, Id};
 use std::alloc::{AllocError, Global};
 
-/// Entities in the order of their turns. One that has each turn stands once, so that it costs no memory for each.
-struct Turns {
-    alone: Entity,
-    list: Vec<Entity>,
+/// The ids of calls. One that all calls have stands once, so that it costs no memory for each.
+enum WorkIds {
+    Same(Id),
+    Ones(Vec<Entity>),
+    Twos(Vec<Entity>, Vec<Entity>),
+    // Pairs of one relationship.
+    Targets(Entity, Vec<Entity>),
 }
 
 // By hand, so that dropping it is one call: a derived drop is proved anew at each early return of whoever holds it.
-impl Drop for Turns {
+impl Drop for WorkIds {
     fn drop(self) {
-        let Turns { alone: _, list: _ } = self;
+        match self {
+            WorkIds::Same(_) => (),
+            WorkIds::Ones(_) => (),
+            WorkIds::Twos(_, _) => (),
+            WorkIds::Targets(_, _) => (),
+        }
     }
 }
 
-impl Turns {
-    // So many turns of a group.
-    fn of(alloc: Global, group: Group, count: u32) -> Result<Turns, AllocError> {
-        let mut list = Vec::new(alloc);
-        if !group.is_alone() {
-            for turn in 0..count {
-                list.push(group.at(turn))?;
+// The entities of a group in the order of so many turns.
+fn turns(alloc: Global, group: Group, count: u32) -> Result<Vec<Entity>, AllocError> {
+    let mut list = Vec::with_capacity(alloc, count as usize)?;
+    for turn in 0..count {
+        list.push(group.at(turn))?;
+    }
+    Ok(list)
+}
+
+impl WorkIds {
+    // The ids of so many turns.
+    fn of(alloc: Global, ids: Ids, count: u32) -> Result<WorkIds, AllocError> {
+        match ids {
+            Ids::Ones(ones) if ones.is_alone() => Ok(WorkIds::Same(Id::One(ones.at(0)))),
+            Ids::Ones(ones) => Ok(WorkIds::Ones(turns(alloc, ones, count)?)),
+            Ids::Twos(first, second) if first.is_alone() && second.is_alone() => {
+                Ok(WorkIds::Same(Id::Two(first.at(0), second.at(0))))
             }
-        }
-        Ok(Turns {
-            alone: group.at(0),
-            list,
-        })
-    }
-
-    // Whose turn it is.
-    #[inline]
-    fn at(&self, turn: usize) -> Entity {
-        match self.list.get(turn) {
-            Some(entity) => *entity,
-            None => self.alone,
+            Ids::Twos(first, second) if first.is_alone() => {
+                Ok(WorkIds::Targets(first.at(0), turns(alloc, second, count)?))
+            }
+            Ids::Twos(first, second) => Ok(WorkIds::Twos(
+                turns(alloc, first, count)?,
+                turns(alloc, second, count)?,
+            )),
         }
     }
-}
-
-/// The ids of calls.
-#[derive(Drop)]
-enum WorkIds {
-    Ones(Turns),
-    Twos(Turns, Turns),
 }
 
 /// Entities and an id for each, in the order of the calls. As in a program that works on lists of handles, a call has a handle of eight
@@ -68,39 +73,31 @@ impl Drop for Work {
 impl Work {
     /// No call.
     pub fn none(alloc: Global) -> Work {
-        let alone = Group::new(0, 1).at(0);
-        let list = Vec::new(alloc);
         Work {
             entities: Vec::new(alloc),
-            ids: WorkIds::Ones(Turns { alone, list }),
+            ids: WorkIds::Ones(Vec::new(alloc)),
         }
     }
 
     /// So many calls about the entities and the ids, each at its turn.
     pub fn of(alloc: Global, count: u32, group: Group, ids: Ids) -> Result<Work, AllocError> {
-        let mut entities = Vec::new(alloc);
-        for turn in 0..count {
-            entities.push(group.at(turn))?;
-        }
-        let ids = match ids {
-            Ids::Ones(ones) => WorkIds::Ones(Turns::of(alloc, ones, count)?),
-            Ids::Twos(relationships, targets) => WorkIds::Twos(
-                Turns::of(alloc, relationships, count)?,
-                Turns::of(alloc, targets, count)?,
-            ),
-        };
-        Ok(Work { entities, ids })
+        Ok(Work {
+            entities: turns(alloc, group, count)?,
+            ids: WorkIds::of(alloc, ids, count)?,
+        })
     }
 
     /// The calls in the opposite order.
     pub fn reverse(&mut self) {
         self.entities.reverse();
         match &mut self.ids {
-            WorkIds::Ones(ones) => ones.list.reverse(),
+            WorkIds::Same(_) => (),
+            WorkIds::Ones(ones) => ones.reverse(),
             WorkIds::Twos(relationships, targets) => {
-                relationships.list.reverse();
-                targets.list.reverse();
+                relationships.reverse();
+                targets.reverse();
             }
+            WorkIds::Targets(_, targets) => targets.reverse(),
         }
     }
 
@@ -109,13 +106,17 @@ impl Work {
         &self.entities
     }
 
-    /// The id of the call at a turn.
-    #[inline]
-    pub fn id(&self, turn: usize) -> Id {
+    /// The id of the call at a turn, if there is one.
+    #[inline(always)]
+    pub fn id(&self, turn: usize) -> Option<Id> {
         match &self.ids {
-            WorkIds::Ones(ones) => Id::One(ones.at(turn)),
+            WorkIds::Same(id) => Some(*id),
+            WorkIds::Ones(ones) => Some(Id::One(*ones.get(turn)?)),
             WorkIds::Twos(relationships, targets) => {
-                Id::Two(relationships.at(turn), targets.at(turn))
+                Some(Id::Two(*relationships.get(turn)?, *targets.get(turn)?))
+            }
+            WorkIds::Targets(relationship, targets) => {
+                Some(Id::Two(*relationship, *targets.get(turn)?))
             }
         }
     }

@@ -1,12 +1,12 @@
 //! The table whose type has one id in the place of another.
-ghost use Rattle.std.specs.Prelude.{◌≡◌, ◌≢◌, ◌<◌, Some, IsSome, true, false, IfOk, IfSome};
+ghost use Rattle.std.specs.Prelude.{◌≡◌, ◌≢◌, ◌<◌, ◌+◌, drop, length, slice_get, take, Some, IsSome, IsTrue, true, false, IfOk, IfSome};
 ghost use Rattle.eco_ids.specs.Order.{id_cmp, has_item};
 ghost use Rattle.eco_tables.specs.Tables.{slot_of, table_in};
 ghost use Rattle.eco_archetypes.specs.Archetypes.{type_at, RowlessBut, SameRows};
 ghost use Rattle.eco_archetypes.specs.Edges.{exchanged};
 ghost use Rattle.eco_archetypes.specs.Widths.{StillCover};
 
-use crate::archetypes::Archetypes;
+use crate::archetypes::{Archetypes, are_same};
 use eco_entities::EntityIndex;
 use eco_ids::{Id, TypeList};
 use std::alloc::AllocError;
@@ -19,6 +19,38 @@ fn exchanged(type_list: &TypeList, leaving: Id, coming: Id) -> Result<TypeList, 
     ids.remove(leaving);
     ids.insert(coming)?;
     Ok(ids)
+}
+
+// Whether two lists are the same before a place that both have.
+#[inline(always)]
+fn are_same_before(own: &[Id], other: &[Id], place: usize) -> bool
+    requires places { (place < length own.now) × (place < length other.now) }
+    ensures { IsTrue result → take place own.now ≡ take place other.now }
+{
+    are_same(&own[..place], &other[..place])
+}
+
+// Whether two lists are the same behind a place that both have.
+#[inline(always)]
+fn are_same_behind(own: &[Id], other: &[Id], place: usize) -> bool
+    requires places { (place < length own.now) × (place < length other.now) }
+    ensures { IsTrue result → drop (place + 1) own.now ≡ drop (place + 1) other.now }
+{
+    are_same(&own[place + 1..], &other[place + 1..])
+}
+
+// Whether the other list has an id at the place, and is the same as the own one before and behind it.
+#[inline(always)]
+fn differs_there(own: &[Id], other: &[Id], place: usize, id: Id) -> bool
+    requires { place < length own.now }
+    ensures there { IsTrue result → slice_get other.now place ≡ Some id }
+    ensures before { IsTrue result → take place own.now ≡ take place other.now }
+    ensures behind { IsTrue result → drop (place + 1) own.now ≡ drop (place + 1) other.now }
+{
+    place < other.len()
+        && other[place].is(id)
+        && are_same_before(own, other, place)
+        && are_same_behind(own, other, place)
 }
 
 impl Archetypes {
@@ -43,12 +75,51 @@ impl Archetypes {
         ensures rows { SameRows self.old self.new }
         ensures widths { StillCover entities.now self.old self.new }
     {
-        match self.lead_on(slot, leaving, coming) {
+        match self.known_exchange(slot, leaving, coming) {
             Some(to) => {
                 self.reserve_rows(to, 1)?;
                 Ok(to)
             }
             None => self.exchange_by_type(entities, slot, leaving, coming),
+        }
+    }
+
+    // The slot of the table with the exchanged type, where it is found without that type.
+    #[inline(always)]
+    fn known_exchange(&self, slot: usize, leaving: Id, coming: Id) -> Option<usize>
+        requires slot { IsSome (slot_of self.now slot) }
+        requires there { has_item id_cmp (table_in self.now slot).ids leaving ≡ true }
+        requires absent { has_item id_cmp (table_in self.now slot).ids coming ≡ false }
+        ensures there { IfSome result (λ n. IsSome (slot_of self.now n)) }
+        ensures apart { IfSome result (λ n. slot ≢ n) }
+        ensures typed { IfSome result
+            (λ n. type_at self.now n ≡ Some (exchanged (table_in self.now slot).ids leaving coming)) }
+    {
+        match self.lead_on(slot, leaving, coming) {
+            Some(to) => Some(to),
+            None => self.first_exchanged(slot, leaving, coming),
+        }
+    }
+
+    // The slot of the first table that has the coming id, if its type is the exchanged one and the two ids stand at one place.
+    // Who gets another target mostly joins those who have all else alike, so no type has to be made and hashed to find them.
+    #[inline(never)]
+    fn first_exchanged(&self, slot: usize, leaving: Id, coming: Id) -> Option<usize>
+        requires slot { IsSome (slot_of self.now slot) }
+        requires absent { has_item id_cmp (table_in self.now slot).ids coming ≡ false }
+        ensures there { IfSome result (λ n. IsSome (slot_of self.now n)) }
+        ensures apart { IfSome result (λ n. slot ≢ n) }
+        ensures typed { IfSome result
+            (λ n. type_at self.now n ≡ Some (exchanged (table_in self.now slot).ids leaving coming)) }
+    {
+        let to = self.by_id.any(coming)?;
+        let own = self.tables.get(slot).unwrap().type_list();
+        let other = self.tables.get(to)?.type_list();
+        let place = own.find(leaving)?;
+        if differs_there(own.as_slice(), other.as_slice(), place, coming) {
+            Some(to)
+        } else {
+            None
         }
     }
 

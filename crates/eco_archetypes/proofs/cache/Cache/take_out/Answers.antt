@@ -1,7 +1,4 @@
-use Rattle.std.proofs.Common.{◌≡◌, ℕ, Some, None, Option, IfSome, List, option_map, false, subst, sym, ap, ◌∙◌}
-use Rattle.eco_ids.specs.declared.id.Id.{Id}
-use Rattle.eco_entries.specs.Flat.{ChoicesState}
-use Rattle.eco_archetypes.specs.Caching.{AreKept}
+use Rattle.std.proofs.Common.{false, sym}
 use Rattle.eco_archetypes.proofs.Onlies.{kept_still, kept_taken, those_told}
 use Rattle.eco_archetypes.proofs.cache.Cache.take_out.Goals as goal
 

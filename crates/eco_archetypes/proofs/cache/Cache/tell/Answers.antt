@@ -1,4 +1,4 @@
-use Rattle.std.proofs.Common.{◌≡◌, Some, true, sym, ap, ◌∙◌, rules}
+use Rattle.std.proofs.Common.{Some, true, sym, rules}
 use Rattle.eco_archetypes.proofs.Onlies.{kept_in, those_told}
 use Rattle.eco_archetypes.proofs.cache.Cache.tell.Goals as goal
 

@@ -96,7 +96,7 @@ impl Layout {
     }
 
     /// No move is to come from then on. It takes no memory.
-    #[inline]
+    #[inline(always)]
     pub fn forget(&mut self)
         ensures unprepared { self.new.moves ≡ [] }
         ensures rows { SameRows self.old.tables self.new.tables }

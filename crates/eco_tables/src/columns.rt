@@ -26,7 +26,9 @@ pub fn find_column(columns: &[Column], id: Id) -> Option<usize>
     if columns.len() <= FEW {
         return find_among(columns, id);
     }
-    find_by_halves(columns, id)
+    // A copy of its own, since what is handed over stands in memory: so an id that is looked for among a few need not.
+    let wanted = id;
+    find_by_halves(columns, wanted)
 }
 
 // Where the column of an id is among a few.
@@ -38,6 +40,7 @@ fn find_among(columns: &[Column], id: Id) -> Option<usize>
 }
 
 // Where the column of an id is among many: by halves. Apart, so that a few columns cost no more than a look at each.
+#[cold]
 #[inline(never)]
 fn find_by_halves(columns: &[Column], id: Id) -> Option<usize>
     requires { IsTrue (is_ascending id_cmp (map (λ c. c.id) columns.now)) }
@@ -82,6 +85,7 @@ pub fn find_value(columns: &[Column], row: usize, id: Id) -> Option<Value>
 
 /// Writes the value of an id in a row. The answer is whether one of the columns has the id; where none has it nothing is
 /// written.
+#[inline(always)]
 pub fn write_value(columns: &mut [Column], row: usize, id: Id, value: Value) -> bool
     requires ascending { IsTrue (is_ascending id_cmp (map (λ c. c.id) columns.old)) }
     requires row { All (λ c. row < length c.values) columns.old }

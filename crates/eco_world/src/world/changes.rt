@@ -114,6 +114,7 @@ impl World {
     ///
     /// Refused as an add is, but after `DeadId` with `NotData` where the id has no fields, and with `TooWide` where a field
     /// past those of the id isn't 0.
+    #[inline(always)]
     pub fn set(&mut self, entity: Entity, id: Id, value: Value) -> Result<(), Refusal>
         ensures { Meets (Sets self.old entity id value) (may_set self.old entity id value)
             self.old result self.new }
@@ -125,9 +126,9 @@ impl World {
         if self.write(entity, id, value) {
             return Ok(());
         }
-        self.gain(entity, id)?;
-        self.write(entity, id, value);
-        Ok(())
+        // Copies, since what is handed over stands in memory: so what is written where the id is there need not.
+        let (absent, first) = (id, value);
+        self.set_absent(entity, absent, first)
     }
 
     /// The entity doesn't have the id any more (Flecs manual, Entities and Components). An absent id, a dead one
@@ -162,7 +163,24 @@ impl World {
         Ok(())
     }
 
+    // What `set` does where the entity lacks the id, apart, so that a write of what is there needs no room for what this one keeps.
+    #[inline(never)]
+    fn set_absent(&mut self, entity: Entity, id: Id, value: Value) -> Result<(), Refusal>
+        requires may { MaySet self.old entity id value }
+        requires absent { has self.old entity id ≡ false }
+        ensures { Meets (Sets self.old entity id value) (may_set self.old entity id value)
+            self.old result self.new }
+    {
+        eco_ids::laws::steps_keep_lawful();
+        eco_ids::laws::add_adds_once();
+        self.is_lawful();
+        self.gain(entity, id)?;
+        self.write(entity, id, value);
+        Ok(())
+    }
+
     // Whether each entity in the id lives.
+    #[inline(always)]
     fn names_living(&self, id: Id) -> bool
         ensures { result ≡ names_living self.now id }
     {
@@ -173,6 +191,7 @@ impl World {
     }
 
     // Whether the entity may be changed: it lives, and it is no built-in.
+    #[inline(always)]
     pub(crate) fn check_actor(&self, entity: Entity) -> Result<(), Refusal>
         ensures ok { OnOk result ((is_alive self.now entity ≡ true) × (is_builtin self.now entity ≡ false)) }
         ensures err { IfErr result (IsUnfit self.now entity) }
@@ -187,6 +206,7 @@ impl World {
     }
 
     // Whether the entity may have this value at the id.
+    #[inline(always)]
     fn check_set(&self, entity: Entity, id: Id, value: Value) -> Result<(), Refusal>
         ensures ok { OnOk result (MaySet self.now entity id value) }
         ensures err { IfErr result (MayNotSet self.now entity id value) }
@@ -291,6 +311,7 @@ impl World {
 
     // Where the entity has the id it has this value there from now on, else nothing changes. The answer is whether it has
     // the id, so that a set looks for it once.
+    #[inline(always)]
     fn write(&mut self, entity: Entity, id: Id, value: Value) -> bool
         requires alive { is_alive self.old entity ≡ true }
         requires fits { IsTrue (fits self.old id value) }

@@ -18,6 +18,7 @@ use eco_stages::Stage;
 use eco_workers::{Piece, run_alone, run_batch};
 use eco_world::World;
 use std::alloc::Global;
+use std::mem::replace;
 use std::thread::Threads;
 
 // Does nothing, and its contract is the law of bodies that they look at no more of the handles than they take.
@@ -55,9 +56,10 @@ fn workers_for<B: SystemBody>(parts: &[Part<'_, B>], workers: u32) -> u32
     most.min(workers as usize) as u32
 }
 
-// Records the pieces on this thread alone, all into one stage.
+// Records the pieces on this thread alone, all into one stage, which takes the memory of the spare one.
 fn record_alone<P: Piece>(
     alloc: Global,
+    spare: &mut Stage,
     pieces: &[P],
     base: u32,
     limit: u32,
@@ -71,7 +73,8 @@ fn record_alone<P: Piece>(
         → IsOutInTurn (by_index P.commands) (by_index P.taken) pieces.now base limit) }
 {
     let mut stages = Vec::with_capacity(alloc, 1)?;
-    let (stage, drawn) = run_alone(alloc, pieces, base, limit)?;
+    let stage = replace(spare, Stage::new(alloc));
+    let (stage, drawn) = run_alone(stage, pieces, base, limit)?;
     stages.push_reserved(stage);
     Ok((stages, drawn))
 }
@@ -80,6 +83,7 @@ fn record_alone<P: Piece>(
 fn record_pieces<P: Piece + Sync, R: Threads + Sync>(
     rt: &R,
     alloc: Global,
+    spare: &mut Stage,
     pieces: &[P],
     workers: u32,
     base: u32,
@@ -95,7 +99,7 @@ fn record_pieces<P: Piece + Sync, R: Threads + Sync>(
         → IsOut (by_index P.commands) (by_index P.taken) pieces.now base limit) }
 {
     if workers == 1 {
-        return record_alone(alloc, pieces, base, limit);
+        return record_alone(alloc, spare, pieces, base, limit);
     }
     run_batch(rt, alloc, pieces, workers, base, limit)
 }
@@ -105,6 +109,7 @@ fn record_pieces<P: Piece + Sync, R: Threads + Sync>(
 fn record<B: SystemBody + Sync, R: Threads + Sync>(
     rt: &R,
     alloc: Global,
+    spare: &mut Stage,
     world: &World,
     systems: &[System<B>],
     places: &[usize],
@@ -125,7 +130,22 @@ fn record<B: SystemBody + Sync, R: Threads + Sync>(
     let parts = parts(alloc, world, systems, places)?;
     let pieces = pieces(alloc, &parts)?;
     let workers = workers_for(&parts, workers);
-    record_pieces(rt, alloc, &pieces, workers, world.high(), world.limit())
+    record_pieces(
+        rt,
+        alloc,
+        spare,
+        &pieces,
+        workers,
+        world.high(),
+        world.limit(),
+    )
+}
+
+// Keeps the memory of the last of these stages for the batch to come.
+fn keep_one(mut stages: Vec<Stage>, spare: &mut Stage) {
+    if let Some(stage) = stages.pop() {
+        *spare = stage;
+    }
 }
 
 // Runs one batch more: the systems at some positions of declaration are recorded on the world, and what they recorded is merged
@@ -138,6 +158,7 @@ pub(crate) fn run_next<B: SystemBody + Sync, R: Threads + Sync>(
     places: &[usize],
     workers: u32,
     done: &mut Progress,
+    spare: &mut Stage,
 ) -> Result<(), Refusal>
     requires workers { (1 ≤ workers) × (workers ≤ 64) }
     requires places { All (λ k. k < length systems.now) places.now }
@@ -150,12 +171,13 @@ pub(crate) fn run_next<B: SystemBody + Sync, R: Threads + Sync>(
     ensures out { IfErr result (λ e. e ≡ NoMoreIds
         → IsRunOut B.taken B.commands world.new systems.now places.now) }
 {
-    let (stages, drawn) = record(rt, alloc, world, systems, places, workers)?;
+    let (stages, drawn) = record(rt, alloc, spare, world, systems, places, workers)?;
     // So many commands that they can't be counted have no room either.
     let Some((commands, in_all)) = done.with_batch(&stages, drawn) else {
         return Err(Refusal::OutOfMemory);
     };
     let report = world.merge(drawn, &stages)?;
     done.push(report, commands, in_all);
+    keep_one(stages, spare);
     Ok(())
 }

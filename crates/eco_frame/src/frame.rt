@@ -17,6 +17,7 @@ use crate::report::FrameReport;
 use crate::stop::FrameStop;
 use eco_bodies::{System, SystemBody, Systems, systems_are_lawful};
 use eco_ids::Refusal;
+use eco_stages::Stage;
 use eco_world::World;
 use std::alloc::Global;
 use std::thread::Threads;
@@ -58,6 +59,7 @@ fn run_all<B: SystemBody + Sync, R: Threads + Sync>(
     batches: &[Vec<usize>],
     workers: u32,
     done: &mut Progress,
+    spare: &mut Stage,
 ) -> Result<(), Refusal>
     requires workers { (1 ≤ workers) × (workers ≤ 64) }
     requires places { All (λ b. All (λ k. k < length systems.now) b.items) batches.now }
@@ -72,7 +74,7 @@ fn run_all<B: SystemBody + Sync, R: Threads + Sync>(
         (map (λ b. b.items) batches.now) (vec_len done.new.reports)) }
 {
     for places in batches {
-        run_next(rt, alloc, world, systems, places, workers, done)?;
+        run_next(rt, alloc, world, systems, places, workers, done, spare)?;
     }
     Ok(())
 }
@@ -85,6 +87,7 @@ pub(crate) fn run_batches<B: SystemBody + Sync + Drop, R: Threads + Sync>(
     systems: &Systems<B>,
     batches: &[Vec<usize>],
     workers: u32,
+    spare: &mut Stage,
 ) -> Result<FrameReport, FrameStop>
     requires workers { (1 ≤ workers) × (workers ≤ 64) }
     requires placed { ArePlaced world.old
@@ -114,6 +117,7 @@ pub(crate) fn run_batches<B: SystemBody + Sync + Drop, R: Threads + Sync>(
         batches,
         workers,
         &mut done,
+        spare,
     ) {
         Ok(()) => Ok(done.into_report()),
         Err(refusal) => Err(FrameStop {
@@ -153,5 +157,6 @@ pub fn run_frame<B: SystemBody + Sync + Drop, R: Threads + Sync>(
     let Ok(batches) = sync_points(alloc, world, systems) else {
         return Err(stop_at_once(world, systems));
     };
-    run_batches(rt, alloc, world, systems, &batches, workers)
+    let mut spare = Stage::new(alloc);
+    run_batches(rt, alloc, world, systems, &batches, workers, &mut spare)
 }

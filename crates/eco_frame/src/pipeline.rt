@@ -13,16 +13,20 @@ use crate::report::FrameReport;
 use crate::stop::FrameStop;
 use eco_batches::Plan;
 use eco_bodies::{SystemBody, Systems};
+use eco_stages::Stage;
 use eco_world::World;
 use std::alloc::{AllocError, Global};
 use std::marker::Model;
 use std::thread::Threads;
 
 /// A list of systems that is run frame by frame (Flecs manual, Systems, "Pipeline"), with its batches. These are made again
-/// only where what the systems write with all that comes along has changed since the frame before.
+/// only where what the systems write with all that comes along has changed since the frame before. The memory of the commands
+/// that one thread records stays for those of the next batch.
 pub struct Pipeline<'a, B: SystemBody> {
     systems: &'a Systems<B>,
     plan: Plan<'a>,
+    // Whose memory the commands of the next batch take that one thread records.
+    spare: Stage,
 }
 
 // By hand, so that dropping it is one call: a derived drop is proved anew at each early return of whoever holds it.
@@ -31,6 +35,7 @@ impl<B: SystemBody> Drop for Pipeline<'_, B> {
         let Pipeline {
             systems: _,
             plan: _,
+            spare: _,
         } = self;
     }
 }
@@ -77,7 +82,11 @@ impl<'a, B: SystemBody + Sync + Drop> Pipeline<'a, B> {
     {
         let declared = declarations(alloc, systems.as_slice())?;
         let plan = Plan::new(alloc, world, declared)?;
-        Ok(Pipeline { systems, plan })
+        Ok(Pipeline {
+            systems,
+            plan,
+            spare: Stage::new(alloc),
+        })
     }
 
     /// Runs a frame of the systems, as [`crate::run_frame`] does. Where memory for the batches is refused it stops before the
@@ -103,6 +112,15 @@ impl<'a, B: SystemBody + Sync + Drop> Pipeline<'a, B> {
         let Ok(()) = renew(&mut self.plan, alloc, world, self.systems) else {
             return Err(stop_at_once(world, self.systems));
         };
-        run_batches(rt, alloc, world, self.systems, self.plan.batches(), workers)
+        let spare = &mut self.spare;
+        run_batches(
+            rt,
+            alloc,
+            world,
+            self.systems,
+            self.plan.batches(),
+            workers,
+            spare,
+        )
     }
 }

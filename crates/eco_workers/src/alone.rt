@@ -8,7 +8,6 @@ use crate::counter::Counter;
 use crate::piece::Piece;
 use eco_ids::Refusal;
 use eco_stages::Stage;
-use std::alloc::Global;
 
 // Records the pieces, one after another, until one is refused.
 fn record_all<P: Piece>(
@@ -31,13 +30,14 @@ fn record_all<P: Piece>(
     Ok(())
 }
 
-/// Records the pieces of a batch on the calling thread alone, one after another, all into one stage. Fresh handles are drawn in
-/// turn from `base` on, to below `limit`. Answers the stage, and how many handles were drawn.
+/// Records the pieces of a batch on the calling thread alone, one after another, all into one stage, whose memory serves again:
+/// what it held before goes. Fresh handles are drawn in turn from `base` on, to below `limit`. Answers the stage, and how many
+/// handles were drawn.
 ///
 /// Refused with `NoMoreIds` where pieces take more handles than there are, and with `OutOfMemory` where memory is refused: with
 /// the refusal of the first piece that was refused.
 pub fn run_alone<P: Piece>(
-    alloc: Global,
+    mut stage: Stage,
     pieces: &[P],
     base: u32,
     limit: u32,
@@ -56,7 +56,7 @@ pub fn run_alone<P: Piece>(
         limit,
         dry: false,
     };
-    let mut stage = Stage::new(alloc);
+    stage.clear();
     record_all(pieces, &mut counter, &mut stage)?;
     Ok((stage, counter.next - base))
 }

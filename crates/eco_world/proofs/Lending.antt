@@ -10,7 +10,6 @@ use Rattle.eco_ids.specs.Lawful.{IsLawful}
 use Rattle.eco_ids.specs.Layout.{ListedTable}
 use Rattle.eco_ids.specs.Order.{has_item, id_cmp}
 use Rattle.eco_ids.specs.World.{WorldState, Record, entities, held_by, record_of}
-use Rattle.eco_ids.specs.declared.entity.Entity.{Entity}
 use Rattle.eco_ids.specs.declared.id.Id.{Id}
 use Rattle.eco_tables.specs.Column.{value_in}
 use Rattle.eco_tables.specs.Table.{TableState, Row, entities_of, width_in}

@@ -15,5 +15,6 @@ pub mod Removals
 pub mod Starting
 pub mod Steps
 pub mod Tabled
+pub mod TypeOrder
 pub mod Unheld
 pub mod Walk

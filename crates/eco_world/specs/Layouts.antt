@@ -1,8 +1,9 @@
 -- The tables that a world lists.
-use Rattle.std.specs.Prelude.{◌≡◌, ℕ, Bool, true, ◌&&◌, List, Option, IsSome, filter, is_some, map, nat_lt, unwrap_or}
+use Rattle.std.specs.Prelude.{◌≡◌, ℕ, Bool, true, false, ◌&&◌, List, Option, Some, None, IsSome, filter, is_some, map, nat_lt, unwrap_or}
 use Rattle.std.specs.List.Sorted.{IsSortedByKey}
 use Rattle.std.specs.Cmp.Lexicographic.{slice_cmp}
-use Rattle.eco_ids.specs.declared.entity.Entity.{Entity}
+use Rattle.std.specs.declared.cmp.Ordering.{Ordering}
+use Rattle.std.specs.declared.cmp.Ordering.TheVariants.{Less, Equal, Greater}
 use Rattle.eco_ids.specs.declared.id.Id.{Id}
 use Rattle.eco_ids.specs.declared.pattern.Pattern.{Pattern}
 use Rattle.eco_ids.specs.declared.value.Value.{Value}
@@ -86,3 +87,9 @@ ListsWith w p tables = (layout : List ListedTable) × IsLayout w layout × (tabl
 -- these are the tables of a layout of the world whose type the query matches
 abbrev pub ListsOf : WorldState → List QuerySlot → List ListedTable → Type 0
 ListsOf w query = ListsBy w (λ ids. matches_type ids query)
+
+-- whether the first of two comes before the second; nothing where they tie
+abbrev pub decided : Ordering → Option Bool
+decided Less = Some true
+decided Equal = None
+decided Greater = Some false

@@ -7,6 +7,7 @@ mod kept_query;
 mod query_id;
 mod row;
 mod table_rows;
+mod type_order;
 mod world;
 
 pub use eco_answers::Results;

@@ -6,9 +6,10 @@ ghost use Rattle.eco_world.specs.Queries.{is_answered, is_matched, is_passed};
 ghost use Rattle.eco_world.specs.Layouts.{HasTable, IsByType, IsWhole, lent, lent_at, LendsValues, listed, ListsBy, ListsOf, ListsWith, shown_at};
 
 use crate::table_rows::TableRows;
+use crate::type_order::is_below;
 use crate::world::World;
 use eco_answers::Asking;
-use eco_ids::Pattern;
+use eco_ids::{Id, Pattern};
 use eco_query::Query;
 use eco_store::{Tables, TypeTest};
 use std::alloc::AllocError;
@@ -87,15 +88,31 @@ fn tables_in<'a>(
     let mut found = Vec::with_capacity(world.alloc, slots.len())?;
     for slot in slots {
         let table = tables.get(*slot).unwrap();
-        found.push(TableRows::of(world, table))?;
+        found.push_reserved(TableRows::of(world, table));
     }
     Ok(found)
 }
 
-// The same tables, by type.
+// Whether no table's type comes before that of the table before it.
+fn is_by_type(tables: &[TableRows<'_>]) -> bool
+    ensures { IsTrue result → IsByType tables.now }
+{
+    let mut last: &[Id] = &[];
+    for table in tables {
+        if is_below(table.ids, last) {
+            return false;
+        }
+        last = table.ids;
+    }
+    true
+}
+
+// The same tables, by type. Mostly they were found in this order, and to see so costs less than a sort.
 fn sort_by_type(tables: &mut Vec<TableRows<'_>>)
     ensures same { IsPermutation tables.old.items tables.new.items }
     ensures ordered { IsByType tables.new.items }
 {
-    tables.sort_unstable_by_key(|table| table.ids);
+    if !is_by_type(tables) {
+        tables.sort_unstable_by_key(|table| table.ids);
+    }
 }

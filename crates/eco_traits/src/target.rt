@@ -190,10 +190,18 @@ fn may_close<H: Holdings>(
     ensures { IsFalse result → IsTrue (has_item id_cmp traits.now (One ACYCLIC))
         → Reaches (H.world holdings.now) relationship target entity → ⊥ }
 {
-    if traits.has(Id::One(ACYCLIC)) {
+    if has_single(traits, ACYCLIC) {
         return may_reach(holdings, relationship, target, entity);
     }
     false
+}
+
+// Whether the single is among the ids of a relationship. They are mostly few: to look at each costs less than a search.
+#[inline]
+fn has_single(ids: &TypeList, single: Entity) -> bool
+    ensures { result ≡ has_item id_cmp ids.now (One single) }
+{
+    is_among(ids.as_slice(), Id::One(single))
 }
 
 // The pair among the ids that one more pair of the relationship replaces, or none; no answer where there are several.
@@ -205,7 +213,7 @@ fn replaced_by(own: &TypeList, relationship: Entity, traits: &TypeList) -> Optio
     ensures ascending { IsTrue (is_ascending id_cmp own.now) }
 {
     let ids = own.as_slice();
-    if !traits.has(Id::One(EXCLUSIVE)) {
+    if !has_single(traits, EXCLUSIVE) {
         return Some(None);
     }
     let Some(first) = first_pair_of(ids, relationship) else {

@@ -42,7 +42,12 @@ impl Numbers {
         ensures ok { OnOk result (number_at self.new index ≡ number) }
     {
         let place = index as usize;
-        if place >= self.numbers.len() {
+        // Entities are mostly used in the order in which they were made, so the next number mostly comes last.
+        if place == self.numbers.len() {
+            self.numbers.push(number)?;
+            return Ok(());
+        }
+        if place > self.numbers.len() {
             self.numbers.resize(place + 1, 0)?;
         }
         self.numbers[place] = number;

@@ -63,7 +63,7 @@ pub enum Calls {
     Toggle,
     /// Each id of its entity is set to a value, of which the second field isn't 0.
     Set,
-    /// The value of each id of its entity is read, of which the first field is 1.
+    /// The first id's value is read of each entity, of which the first field is 1.
     Get,
     /// The first fields of a plain slice of rows are added up, each of which is 1: the yardstick for columns.
     SumSlice,
@@ -359,13 +359,14 @@ impl Scene {
         Ok(())
     }
 
-    // The sum of the first fields of all values.
+    // The sum of the first fields of the first id's values, entity by entity.
     fn sum(&self) -> i64 {
+        let Some(id) = self.work.id(0) else {
+            return 0;
+        };
         let mut sum: i64 = 0;
-        for (turn, entity) in self.work.entities().iter().enumerate() {
-            if let Some(id) = self.work.id(turn)
-                && let Some(value) = self.world.get(*entity, id)
-            {
+        for entity in self.work.entities() {
+            if let Some(value) = self.world.get(*entity, id) {
                 sum = sum.wrapping_add(value.0[0]);
             }
         }

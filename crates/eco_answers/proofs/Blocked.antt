@@ -152,7 +152,8 @@ only_long tables ns terms all are =
 
 -- where each table has one choice, all who stand there are the rows
 pub only_shown : (tables : List (Option TableState)) (ns : List ℕ) (terms : List QueryTerm) (all : List (List (Option Id)))
-    → AreOnly (type_at tables) terms ns all → (ss : List Standing) → All (λ (s : Standing). s.place < length ns) ss → map (shown all) ss ≡ results_at tables ns terms ss
+    → AreOnly (type_at tables) terms ns all → (ss : List Standing) → All (λ (s : Standing). s.place < length ns) ss
+    → map (shown all) ss ≡ results_at tables ns terms ss
 only_shown tables ns terms all are ss within = go ss (recursion_from_All (λ (s : Standing). s.place < length ns) ss within)
   where
     go : (ss : List Standing) → AllByRecursion (λ (s : Standing). s.place < length ns) ss → map (shown all) ss ≡ results_at tables ns terms ss

@@ -3,50 +3,53 @@ use Rattle.eco_ids.proofs.Common.{◌≡◌, ℕ, zero, suc, ◌<◌, Bool, true
 use Rattle.eco_ids.proofs.Common.{slice_get, length-map, none-some, same_Some, option_copied}
 use Rattle.std.proofs.Common.{Bor}
 use Rattle.eco_ids.proofs.Common.{Option, Some, None, refl, sym, ap, ◌∙◌, subst, arith, list_any, option_to_list}
-use Rattle.eco_ids.proofs.Common.{AllByRecursion, has_item, id_cmp, pattern_matches}
+use Rattle.eco_ids.proofs.Common.{AllByRecursion, has_item, id_cmp, pattern_matches, is_least_match, same_filling, is_le, is_lt, ordering_reverse, not, ◌⊎◌}
+use Rattle.eco_ids.proofs.Common.{inl, inr}
 use Rattle.std.specs.Prelude.{find}
 use Rattle.std.proofs.lemmas.List.Elements.{All-from_recursion}
 use Rattle.eco_ids.specs.Terms.{QueryTerm, And, Not, Optional, Or}
 use Rattle.eco_ids.specs.declared.id.Id.{Id}
 use Rattle.eco_ids.specs.declared.id.Id.TheVariants as id
 use Rattle.eco_ids.specs.Order.{id_eq}
-use Rattle.eco_ids.proofs.Ascending.{first, second}
-use Rattle.eco_ids.proofs.Facts.{id_eq_is, or_left, or_right}
+use Rattle.eco_ids.specs.declared.pattern.Pattern.{Pattern}
+use Rattle.eco_ids.proofs.Ascending.{both, first, less, second}
+use Rattle.eco_ids.proofs.Facts.{any_is, id_eq_is, id_eq_itself, or_left, or_right}
+use Rattle.eco_ids.proofs.IdOrder.{id_cmp_total, same_id}
+use Rattle.eco_ids.proofs.Listable.{IsLeastOf, decide_bool, item_in, least_of}
 use Rattle.eco_ids.proofs.Overlaps.{entity_eq_itself}
-use Rattle.std.specs.Cmp.{IsTotalOrder}
 use Rattle.eco_query.specs.declared.access.Access.{Access}
 use Rattle.eco_query.specs.declared.slot.Slot.{Slot}
 use Rattle.eco_query.specs.Queries.{QuerySlot, exactly, has_any, holds, is_positive, matches_type, patterns_of, slot_view, term_view}
 use Rattle.eco_archetypes.specs.IdIndex.{any_matches}
 use Rattle.eco_archetypes.specs.TypeTests.{AreNeeded, group_at, matches_one}
-use Rattle.eco_query.proofs.Entries.{and_holds}
 use Rattle.eco_answers.specs.Answers.{asks}
 use Rattle.eco_answers.specs.Groups.{groups_of, is_one_plain, is_plain}
 
+-- there is one of those that pass where some item passes
+any-filter : {X Y : Type 0} (f : X → Y) (p : X → Bool) (xs : List X) → has_any (map f (filter p xs)) ≡ list_any p xs
+any-filter f p [] = refl
+any-filter f p (x ∷ xs) = by (any-filter f p xs) (p x)
+  where
+    by : has_any (map f (filter p xs)) ≡ list_any p xs → (b : Bool) → has_any (map f (cond b (x ∷ filter p xs) (filter p xs))) ≡ (b || list_any p xs)
+    by rest true = refl
+    by rest false = rest
+
 -- what is among those that pass two tests passes the first
 any_filtered : {X Y : Type 0} (f : X → Y) (p q : X → Bool) (xs : List X) → has_any (map f (filter (λ x. p x && q x) xs)) ≡ true → list_any p xs ≡ true
-any_filtered f p q [] h = h
-any_filtered {X} {Y} f p q (x ∷ xs) h = by (any_filtered f p q xs) (p x) refl h
-  where
-    by : (has_any (map f (filter (λ x. p x && q x) xs)) ≡ true → list_any p xs ≡ true) → (b : Bool) → p x ≡ b
-        → has_any (map f (cond (p x && q x) (x ∷ filter (λ x. p x && q x) xs) (filter (λ x. p x && q x) xs))) ≡ true → (p x || list_any p xs) ≡ true
-    by rest true e h = ap (λ c. c || list_any p xs) e
-    by rest false e h = or_right (p x) (list_any p xs)
-        (rest (ap (λ c. has_any (map f (cond (c && q x) (x ∷ filter (λ x. p x && q x) xs) (filter (λ x. p x && q x) xs)))) (sym e) ∙ h))
+any_filtered f p q xs h =
+    let some = any_is (λ x. p x && q x) xs (sym (any-filter f (λ x. p x && q x) xs) ∙ h) in some.2 p (first (p some.0) (q some.0) some.1)
 
 exactly_itself : (i : Id) → pattern_matches (exactly i) i ≡ true
 exactly_itself (id.One e) = entity_eq_itself e
 exactly_itself (id.Two r t) = rw (entity_eq_itself r, entity_eq_itself t) refl
 
--- an id that a list has is matched by its own pattern there
+-- a list that has an id has an item that passes whatever the id passes
+item_passes : (ids : List Id) (i : Id) (t : Id → Bool) → has_item id_cmp ids i ≡ true → t i ≡ true → list_any t ids ≡ true
+item_passes ids i t there passes = let own = any_is (λ j. id_eq j i) ids there in own.2 t (ap t (id_eq_is own.0 i own.1) ∙ passes)
+
+-- so the pattern that the id alone matches
 has_exactly : (ids : List Id) (i : Id) → has_item id_cmp ids i ≡ true → any_matches ids (exactly i) ≡ true
-has_exactly [] i h = h
-has_exactly (j ∷ ids) i h = by (has_exactly ids i) (id_eq j i) refl h
-  where
-    by : (has_item id_cmp ids i ≡ true → any_matches ids (exactly i) ≡ true) → (b : Bool) → id_eq j i ≡ b → (id_eq j i || has_item id_cmp ids i) ≡ true
-        → (pattern_matches (exactly i) j || any_matches ids (exactly i)) ≡ true
-    by rest true e h = or_left (pattern_matches (exactly i) j) _ (ap (pattern_matches (exactly i)) (id_eq_is j i e) ∙ exactly_itself i)
-    by rest false e h = or_right (pattern_matches (exactly i) j) _ (rest (ap (λ c. c || has_item id_cmp ids i) (sym e) ∙ h))
+has_exactly ids i there = item_passes ids i (pattern_matches (exactly i)) there (exactly_itself i)
 
 found_matches : (ids is : List Id) → has_any (map (λ (i : Id). Some i) (option_to_list (find (has_item id_cmp ids) is))) ≡ true
     → list_any (any_matches ids) (map exactly is) ≡ true
@@ -130,19 +133,50 @@ group_is slots q same k o at there =
     go (t ∷ ss) zero (Some s) at there = (s, refl, ap (λ (x : Slot). patterns_of (term_view x.term)) (sym (same_Some s.now t at)))
     go (t ∷ ss) (suc k) o at there = go ss k o at (omega (arith, there))
 
+-- a plain term has an entry where its pattern matches some id: the least of those
+plain_holds : (ids : List Id) (p : Pattern) → any_matches ids p ≡ true → holds ids (And p) ≡ true
+plain_holds ids p found =
+    any-filter (λ i. Some i) (is_least_match p ids) ids
+    ∙ by (least_of id_cmp_total (λ i. IsTrue (is_match i)) (λ i. decide_bool (is_match i)) ids (λ i m. item_in same_id ids i (first _ _ m)))
+  where
+    is_match : Id → Bool
+    is_match i = has_item id_cmp ids i && pattern_matches p i
+
+    -- where one item passes, it is one of the ids
+    among : (t : Id → Bool) → list_any t ids ≡ true → (i : Id) × (t i ≡ true) × (has_item id_cmp ids i ≡ true)
+    among t h = let own = any_is t ids h in (own.0, own.1, own.2 (λ j. id_eq j own.0) (id_eq_itself own.0))
+
+    not_less : (i j : Id) → is_le (id_cmp i j) ≡ true → is_lt (id_cmp j i) ≡ true → ⊥
+    not_less i j le lt = true≢false (sym le ∙ ap is_le (id_cmp_total.antisymm i j ∙ ap ordering_reverse (less _ lt)))
+
+    -- none of the others with its filling is less
+    none_less : (i : Id) → ((j : Id) → is_match j ≡ true → is_le (id_cmp i j) ≡ true) → (b : Bool)
+        → list_any (λ j. is_lt (id_cmp j i) && (pattern_matches p j && same_filling p j i)) ids ≡ b → not b ≡ true
+    none_less i least false none = refl
+    none_less i least true some =
+        let one = among _ some in
+        let lt = first (is_lt (id_cmp one.0 i)) _ one.1 in
+        let matches = first (pattern_matches p one.0) _ (second (is_lt (id_cmp one.0 i)) _ one.1) in
+        absurd (not_less i one.0 (least one.0 (both _ _ one.2 matches)) lt)
+
+    by : ((i : Id) × IsLeastOf id_cmp (λ i. IsTrue (is_match i)) i) ⊎ ((i : Id) → IsTrue (is_match i) → ⊥) → list_any (is_least_match p ids) ids ≡ true
+    by (inl l) = item_passes ids l.0 (is_least_match p ids) (first _ _ l.1.passes)
+        (both _ _ (second (has_item id_cmp ids l.0) _ l.1.passes) (none_less l.0 l.1.least _ refl))
+    by (inr none) = let one = among (pattern_matches p) found in absurd (none one.0 (both _ _ one.2 one.1))
+
 -- a type with an id that the pattern of one plain term matches is asked for nothing more
-pub plain_passes : IsTotalOrder id_cmp → (slots : List Slot) (q : List QuerySlot) → map slot_view slots ≡ q → is_one_plain (asks slots) ≡ true
+pub plain_passes : (slots : List Slot) (q : List QuerySlot) → map slot_view slots ≡ q → is_one_plain (asks slots) ≡ true
     → (k : ℕ) (ids : List Id) → k < length (groups_of q) → matches_one (group_at (groups_of q) k) ids ≡ true → matches_type ids q ≡ true
-plain_passes order slots q same plain k ids =
+plain_passes slots q same plain k ids =
     subst (λ q. k < length (groups_of q) → matches_one (group_at (groups_of q) k) ids ≡ true → matches_type ids q ≡ true) same (go slots plain)
   where
-    both : (b : Bool) → (b || false) ≡ true → (b && true) ≡ true
-    both true h = refl
-    both false h = h
+    alone : (b : Bool) → (b || false) ≡ true → b ≡ true
+    alone true h = refl
+    alone false h = h
 
     one : (a : Access) (t : QueryTerm) (k : ℕ) → is_plain t ≡ true → k < length (groups_of (record { access = a; term = t } ∷ []))
         → matches_one (group_at (groups_of (record { access = a; term = t } ∷ [])) k) ids ≡ true → (holds ids t && true) ≡ true
-    one a (And p) zero plain there found = rw (and_holds order p ids) (both (any_matches ids p) found)
+    one a (And p) zero plain there found = both _ _ (plain_holds ids p (alone (any_matches ids p) found)) refl
     one a (And p) (suc k) plain there found = absurd (omega (arith, there))
     one a (Not p) k plain there found = absurd (true≢false (sym plain))
     one a (Optional i) k plain there found = absurd (true≢false (sym plain))

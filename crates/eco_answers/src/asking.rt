@@ -120,7 +120,6 @@ impl<'a> TypeTest for Asking<'a> {
 
     fn passes_found(&self, _group: usize, type_list: &TypeList) -> bool {
         // One plain term asks for nothing but an id that its pattern matches.
-        eco_ids::order::ids_are_ordered();
         is_one_plain(self.query.slots()) || self.passes(type_list)
     }
 

@@ -1,7 +1,9 @@
 -- Commands recorded with handles that are drawn.
-use Rattle.std.specs.Prelude.{◌≡◌, ◌==◌, ℕ, ◌+◌, Bool, List, [], ◌∷◌, ◌++◌, length, drop}
+use Rattle.std.specs.Prelude.{◌≡◌, ◌==◌, ℕ, ◌+◌, Bool, List, [], ◌∷◌, ◌++◌, Some, length, drop, slice_get, take}
 use Rattle.eco_ids.specs.declared.entity.Entity.{Entity}
 use Rattle.eco_ids.specs.Run.{Command}
+use Rattle.eco_workers.specs.Taking as recording
+use Rattle.eco_workers.specs.Taking.{Broke}
 
 -- some things that record, each with the handles that are there to draw: how many it takes from the front
 module _ {X : Type 0} (taken : X → List Entity → ℕ) where
@@ -19,11 +21,26 @@ module _ {X : Type 0} (commands : X → List Entity → List Command) (taken : X
   -- one of them took some handles behind those drawn so far, whatever there is to draw behind them, and its commands stand behind
   -- those of the stage
   abbrev pub Took : X → List Entity → List Entity → List Command → List Command → Type 0
-  Took x before after stage stage' =
-      (mine : List Entity) × (after ≡ before ++ mine)
-      × ((later : List Entity) → (taken x (mine ++ later) ≡ length mine) × (stage' ≡ stage ++ commands x (mine ++ later)))
+  Took x = recording.Took (commands x) (taken x)
 
   -- the commands of all of them, in order
   abbrev pub commands_of : List X → List Entity → List Command
   commands_of [] draws = []
   commands_of (x ∷ xs) draws = commands x draws ++ commands_of xs (drop (taken x draws) draws)
+
+  -- all of them took some handles in order, likewise
+  abbrev pub AllTook : List X → List Entity → List Entity → List Command → List Command → Type 0
+  AllTook xs = recording.Took (commands_of xs) (taken_of taken xs)
+
+  -- where those before one of them took handles, and then that one, those up to it did
+  abbrev pub TakesNext : List X → Type 0
+  TakesNext xs =
+      (i : ℕ) (x : X) (before between after : List Entity) (stage stage' stage'' : List Command) → slice_get xs i ≡ Some x
+      → AllTook (take i xs) before between stage stage' → Took x between after stage' stage''
+      → AllTook (take (i + 1) xs) before after stage stage''
+
+  -- and where that one stopped, all of them did
+  abbrev pub BreaksAll : List X → Type 0
+  BreaksAll xs =
+      (i : ℕ) (x : X) (before between after : List Entity) (stage stage' : List Command) (dry : Bool) → slice_get xs i ≡ Some x
+      → AllTook (take i xs) before between stage stage' → Broke (taken x) between after dry → Broke (taken_of taken xs) before after dry

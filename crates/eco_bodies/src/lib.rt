@@ -15,7 +15,7 @@ mod writes;
 pub use action::Action;
 pub use body::SystemBody;
 pub use eco_workers::Draws;
-pub use lawful::systems_are_lawful;
+pub use lawful::{rows_are_recorded_one_by_one, systems_are_lawful};
 pub use row::{BodyRow, LentRow};
 pub use script::Script;
 pub use systems::{NotAdded, System, Systems};

@@ -114,7 +114,8 @@ module _ {B : Type 0} (reads writes : B → List Pattern) (kills : B → Bool) (
 
   -- what the workers answer for the pieces of a batch is recorded by its systems
   pub recorded : {P : Type 0} (see : P → B × List ValuedRow) (workers used : ℕ) (few : workers ≡ 1 → used ≡ 1) (systems : List (System B))
-      (places : List ℕ) (pieces : List P) (n : ℕ) (stages : List (List Command)) → AllByRecursion (λ k. k < length systems) places → map see pieces ≡ pieces_at w systems places
+      (places : List ℕ) (pieces : List P) (n : ℕ) (stages : List (List Command)) → AllByRecursion (λ k. k < length systems) places
+      → map see pieces ≡ pieces_at w systems places
       → IsBatch (by_index (λ p. piece_commands taken commands (see p))) (by_index (λ p. piece_taken taken commands (see p))) used pieces
       (length w.indices) n stages
       → IsRecorded workers w (map (model_at (map model systems)) places) (all_commands stages) n

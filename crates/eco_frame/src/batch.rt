@@ -118,8 +118,8 @@ fn record<B: SystemBody + Sync, R: Threads + Sync>(
     requires workers { (1 ≤ workers) × (workers ≤ 64) }
     requires places { All (λ k. k < length systems.now) places.now }
     ensures ok { IfOk result (λ r. IsRecorded workers world.now
-        (map (model_at (map (model_of B.reads_of B.writes_of B.kills_of B.taken B.commands) systems.now)) places.now)
-        (all_commands r.0.items) r.1) }
+        (map (model_at (map (model_of B.reads_of B.writes_of B.kills_of B.taken B.commands) systems.now))
+        places.now) (all_commands r.0.items) r.1) }
     ensures most { IfOk result (λ r. length world.now.indices + r.1 ≤ world.now.limit) }
     ensures why { IfErr result (λ e. IsStopped e) }
     ensures out { IfErr result (λ e. e ≡ NoMoreIds
@@ -164,8 +164,8 @@ pub(crate) fn run_next<B: SystemBody + Sync, R: Threads + Sync>(
     requires places { All (λ k. k < length systems.now) places.now }
     requires room { vec_len done.old.reports < vec_capacity done.old.reports }
     ensures ok { OnOk result (HasRun workers world.old
-        (map (model_at (map (model_of B.reads_of B.writes_of B.kills_of B.taken B.commands) systems.now)) places.now)
-        done.old done.new world.new) }
+        (map (model_at (map (model_of B.reads_of B.writes_of B.kills_of B.taken B.commands) systems.now))
+        places.now) done.old done.new world.new) }
     ensures err { OnErr result ((world.new ≡ world.old) × (done.new ≡ done.old)) }
     ensures why { IfErr result (λ e. IsStopped e) }
     ensures out { IfErr result (λ e. e ≡ NoMoreIds

@@ -35,11 +35,14 @@ fn are_lawful<B: SystemBody>(systems: &[System<B>])
 // Nothing was done of a frame: memory was wanting before its first batch.
 pub(crate) fn stop_at_once<B: SystemBody>(world: &World, systems: &Systems<B>) -> FrameStop
     ensures frame { Frames BatchRuns world.now
-        (map (model_of B.reads_of B.writes_of B.kills_of B.taken B.commands) systems.now) (Err result) world.now }
+        (map (model_of B.reads_of B.writes_of B.kills_of B.taken B.commands) systems.now)
+        (Err result) world.now }
     ensures alone { Frames AscendingRuns world.now
-        (map (model_of B.reads_of B.writes_of B.kills_of B.taken B.commands) systems.now) (Err result) world.now }
+        (map (model_of B.reads_of B.writes_of B.kills_of B.taken B.commands) systems.now)
+        (Err result) world.now }
     ensures solo { Frames BatchRunsSolo world.now
-        (map (model_of B.reads_of B.writes_of B.kills_of B.taken B.commands) systems.now) (Err result) world.now }
+        (map (model_of B.reads_of B.writes_of B.kills_of B.taken B.commands) systems.now)
+        (Err result) world.now }
     ensures why { result.refusal ≡ OutOfMemory }
 {
     world.is_lawful();
@@ -66,8 +69,9 @@ fn run_all<B: SystemBody + Sync, R: Threads + Sync>(
     requires none { (done.old.reports.items ≡ []) × (done.old.commands ≡ 0) × (done.old.drawn ≡ 0) }
     requires room { length batches.now ≤ vec_capacity done.old.reports }
     ensures so_far { HaveRun workers world.old
-        (map (λ b. map (model_at (map (model_of B.reads_of B.writes_of B.kills_of B.taken B.commands) systems.now))
-        b.items) (take (vec_len done.new.reports) batches.now)) done.new world.new }
+        (map (λ b. map
+        (model_at (map (model_of B.reads_of B.writes_of B.kills_of B.taken B.commands) systems.now)) b.items)
+        (take (vec_len done.new.reports) batches.now)) done.new world.new }
     ensures all { OnOk result (vec_len done.new.reports ≡ length batches.now) }
     ensures why { IfErr result (λ e. IsStopped e) }
     ensures out { IfErr result (λ e. e ≡ NoMoreIds → IsNextOut B.taken B.commands world.new systems.now
@@ -100,7 +104,8 @@ pub(crate) fn run_batches<B: SystemBody + Sync + Drop, R: Threads + Sync>(
     ensures solo { Frames BatchRunsSolo world.old
         (map (model_of B.reads_of B.writes_of B.kills_of B.taken B.commands) systems.now) result world.new }
     ensures why { IfErr result (λ stop. IsWhy B.taken B.commands
-        (model_of B.reads_of B.writes_of B.kills_of B.taken B.commands) world.old systems.now stop world.new) }
+        (model_of B.reads_of B.writes_of B.kills_of B.taken B.commands)
+        world.old systems.now stop world.new) }
 {
     world.is_lawful();
     eco_systems::laws::systems_are_ordered();
@@ -152,7 +157,8 @@ pub fn run_frame<B: SystemBody + Sync + Drop, R: Threads + Sync>(
     ensures solo { Frames BatchRunsSolo world.old
         (map (model_of B.reads_of B.writes_of B.kills_of B.taken B.commands) systems.now) result world.new }
     ensures why { IfErr result (λ stop. IsWhy B.taken B.commands
-        (model_of B.reads_of B.writes_of B.kills_of B.taken B.commands) world.old systems.now stop world.new) }
+        (model_of B.reads_of B.writes_of B.kills_of B.taken B.commands)
+        world.old systems.now stop world.new) }
 {
     let Ok(batches) = sync_points(alloc, world, systems) else {
         return Err(stop_at_once(world, systems));

@@ -3,7 +3,7 @@ ghost use Rattle.std.specs.Prelude.{◌≡◌, ◌-◌, ◌≤◌, drop, false, 
 ghost use Rattle.eco_bodies.specs.Taking.{commands_of, taken_of};
 ghost use Rattle.eco_workers.specs.Taking.{Broke, Took, stopped_by};
 
-use eco_bodies::{Draws, SystemBody};
+use eco_bodies::{Draws, SystemBody, rows_are_recorded_one_by_one};
 use eco_ids::Refusal;
 use eco_rows::SystemRows;
 use eco_stages::Stage;
@@ -54,6 +54,7 @@ fn record_between<B: SystemBody, D: Draws>(
         (taken_of (B.taken body.now) (take (end - first) (drop first rows.now)))
         (D.so_far draws.old) (D.so_far draws.new) (D.is_dry draws.new)) }
 {
+    rows_are_recorded_one_by_one();
     for place in first..end {
         body.record(&rows.get(place), draws, stage)?;
     }

@@ -62,9 +62,11 @@ fn renew<B: SystemBody>(
     systems: &Systems<B>,
 ) -> Result<(), AllocError>
     requires { IsPlanOf (model_of B.reads_of B.writes_of B.kills_of B.taken B.commands) systems.now plan.old }
-    ensures plan { IsPlanOf (model_of B.reads_of B.writes_of B.kills_of B.taken B.commands) systems.now plan.new }
+    ensures plan { IsPlanOf (model_of B.reads_of B.writes_of B.kills_of B.taken B.commands)
+        systems.now plan.new }
     ensures placed { OnOk result (ArePlaced world.now
-        (map (model_of B.reads_of B.writes_of B.kills_of B.taken B.commands) systems.now) (batches_in plan.new)) }
+        (map (model_of B.reads_of B.writes_of B.kills_of B.taken B.commands) systems.now)
+        (batches_in plan.new)) }
 {
     eco_systems::laws::systems_are_ordered();
     plan.renew(alloc, world)
@@ -107,7 +109,8 @@ impl<'a, B: SystemBody + Sync + Drop> Pipeline<'a, B> {
         ensures solo { Frames BatchRunsSolo world.old
             (map (model_of B.reads_of B.writes_of B.kills_of B.taken B.commands) self.old) result world.new }
         ensures why { IfErr result (λ stop. IsWhy B.taken B.commands
-            (model_of B.reads_of B.writes_of B.kills_of B.taken B.commands) world.old self.old stop world.new) }
+            (model_of B.reads_of B.writes_of B.kills_of B.taken B.commands)
+            world.old self.old stop world.new) }
     {
         let Ok(()) = renew(&mut self.plan, alloc, world, self.systems) else {
             return Err(stop_at_once(world, self.systems));

@@ -1,6 +1,7 @@
 -- What is data has fields in the tables, and so its values are found there.
-use Rattle.std.proofs.Common.{◌≡◌, ◌≤◌, ◌<◌, ℕ, zero, suc, Bool, true, false, not, ◌&&◌, ◌||◌, ◌==◌, nat_lt, List, [], ◌∷◌, get_or, length, Option, None, Some, is_some, option_and_then}
-use Rattle.std.proofs.Common.{option_map, unwrap_or, if◌then◌else◌, IfSome, IsSome, IsTrue, MatchOption, arith, refl, sym, ap, subst, ◌∙◌, true≢false}
+use Rattle.std.proofs.Common.{◌≡◌, ◌≤◌, ◌<◌, ℕ, zero, suc, Bool, true, false, not, ◌&&◌, ◌||◌, ◌==◌, nat_lt, List, [], ◌∷◌, get_or, length, Option}
+use Rattle.std.proofs.Common.{None, Some, is_some, option_and_then, option_map, unwrap_or, if◌then◌else◌, IfSome, IsSome, IsTrue, MatchOption}
+use Rattle.std.proofs.Common.{arith, refl, sym, ap, subst, ◌∙◌, true≢false}
 use Rattle.std.specs.Option.{option_or}
 use Rattle.std.specs.FinMap.Entries.{find}
 use Rattle.std.proofs.lemmas.Bool.Decides.{nat_tests}
@@ -117,11 +118,13 @@ pub value_read : (w : WorldState) → IsLawful w → (e : Entity) (i : Id) (t : 
     → MatchOption v (Unit {0}) (λ x. (not (is_zero_past 0 x) || is_some (arity w i)) ≡ true) → v ≡ value_of w e i
 value_read w lawful e i t row v at found other = by (is_some (arity w i)) refl
   where
-    held : (o : Option Record) → Stands o t row → find id_cmp i (unwrap_or (option_map (λ (r : Record). r.held) o) []) ≡ find id_cmp i (get_or t.rows row no_row).held
+    held : (o : Option Record) → Stands o t row
+        → find id_cmp i (unwrap_or (option_map (λ (r : Record). r.held) o) []) ≡ find id_cmp i (get_or t.rows row no_row).held
     held None there = absurd there
     held (Some k) there = ap (find id_cmp i) (there.held no_row)
 
-    no_data : is_some (arity w i) ≡ false → (o : Option Value) → MatchOption o (IsUnkept t row i) (λ x. (r : Row) → find id_cmp i (get_or t.rows row r).held ≡ Some x)
+    no_data : is_some (arity w i) ≡ false → (o : Option Value)
+        → MatchOption o (IsUnkept t row i) (λ x. (r : Row) → find id_cmp i (get_or t.rows row r).held ≡ Some x)
         → MatchOption o (Unit {0}) (λ x. (not (is_zero_past 0 x) || is_some (arity w i)) ≡ true) → o ≡ None
     no_data none None unkept h = refl
     no_data none (Some x) is h =

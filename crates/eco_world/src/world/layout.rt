@@ -81,7 +81,8 @@ fn tables_in<'a>(
 ) -> Result<Vec<TableRows<'a>>, AllocError>
     requires { All (HasTable tables.now) slots.now }
     ensures all { IfOk result (λ found. listed found.items ≡ map (shown_at tables.now) slots.now) }
-    ensures lent { IfOk result (λ found. map lent found.items ≡ map (lent_at world.now tables.now) slots.now) }
+    ensures lent { IfOk result (λ found. map lent found.items
+        ≡ map (lent_at world.now tables.now) slots.now) }
     ensures whole { IfOk result (λ found. All IsWhole found.items) }
     ensures some { OnErr result (0 < length slots.now) }
 {

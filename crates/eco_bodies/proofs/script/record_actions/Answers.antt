@@ -1,4 +1,5 @@
-use Rattle.std.proofs.Common.{◌++◌, ap, ◌∙◌, append_assoc}
+use Rattle.std.proofs.Common.{◌∙◌}
+use Rattle.std.proofs.lemmas.Option.{slice_get-get_or}
 use Rattle.std.proofs.lemmas.Result.{err_from_is_err_and}
 use Rattle.eco_bodies.specs.Scripts.{action_commands, takes_draws}
 use Rattle.eco_bodies.proofs.Taken.{broke_more, took_more}
@@ -6,27 +7,22 @@ use Rattle.eco_bodies.proofs.script.record_actions.Goals as goal
 
 pub loop-action-preserved : goal.loop-action-preserved
 loop-action-preserved g c =
-    let i = c.loop-action.invariant.took in
-    let t = c.in_ok-record_action.ensures.ok in
+    let actions = c.args.actions.now in
     record {
       rest = c.record_action.ensures.rest ∙ c.loop-action.invariant.rest;
       wet = c.in_ok-record_action.ensures.wet;
-      took = (
-        i.0 ++ t.0,
-        t.1 ∙ ap (λ l. l ++ t.0) i.1 ∙ append_assoc (g.D.Draws.so_far c.args.draws.now) i.0 t.0,
-        took_more (action_commands c.args.writes.now (g.R.BodyRow.row_of c.args.row.now)) takes_draws c.args.actions.now c.loop-action.action-index _
-            i.0 t.0 c.args.stage.now
-            c.loop-action.stage c.record_action.new.stage c.loop-action-test.true i.2 t.2,
-      );
+      took = took_more (action_commands c.args.writes.now (g.R.BodyRow.row_of c.args.row.now)) takes_draws actions c.loop-action.action-index _
+          (g.D.Draws.so_far c.args.draws.now) (g.D.Draws.so_far c.loop-action.draws) (g.D.Draws.so_far c.record_action.new.draws)
+          c.args.stage.now c.loop-action.stage c.record_action.new.stage (slice_get-get_or actions c.loop-action.action-index _ c.loop-action-test.true)
+          c.loop-action.invariant.took c.in_ok-record_action.ensures.ok;
     }
 
 pub returns-in_err-record_action-clause-err : goal.returns-in_err-record_action-clause-err
 returns-in_err-record_action-clause-err g c =
-    let i = c.loop-action.invariant.took in
+    let actions = c.args.actions.now in
     let p = err_from_is_err_and c.from_residual.result c.from_residual.ensures.1 in
     rw p.1
-    (broke_more (action_commands c.args.writes.now (g.R.BodyRow.row_of c.args.row.now)) takes_draws c.args.actions.now c.loop-action.action-index _
-    (g.D.Draws.so_far c.args.draws.now)
-    (g.D.Draws.so_far c.loop-action.draws) (g.D.Draws.so_far c.record_action.new.draws) i.0 c.args.stage.now c.loop-action.stage
-    (g.D.Draws.is_dry c.record_action.new.draws)
-    c.loop-action-test.true i.1 i.2 c.in_err-record_action.ensures.err)
+    (broke_more (action_commands c.args.writes.now (g.R.BodyRow.row_of c.args.row.now)) takes_draws actions c.loop-action.action-index _
+    (g.D.Draws.so_far c.args.draws.now) (g.D.Draws.so_far c.loop-action.draws) (g.D.Draws.so_far c.record_action.new.draws)
+    c.args.stage.now c.loop-action.stage (g.D.Draws.is_dry c.record_action.new.draws)
+    (slice_get-get_or actions c.loop-action.action-index _ c.loop-action-test.true) c.loop-action.invariant.took c.in_err-record_action.ensures.err)

@@ -28,7 +28,8 @@ returns-in-Ok-run_all-clause-frame g c =
     let systems = c.args.systems.now in
     let p = c.run_all.new.done in
     let ran = whole_frame c.args.workers w new f (λ v. v.items) c.as_slice-2.result.now systems c.args.batches.now c.args.batches.now p
-    c.as_slice-2.ensures refl c.requires.placed (vec_len p.reports) c.in-Ok-run_all.ensures.so_far c.in-Ok-run_all.ensures.all c.into_report.result c.into_report.ensures in
+    c.as_slice-2.ensures refl c.requires.placed (vec_len p.reports) c.in-Ok-run_all.ensures.so_far c.in-Ok-run_all.ensures.all
+    c.into_report.result c.into_report.ensures in
     frame_of c.args.workers w (map f systems) (Ok c.into_report.result) new ran
 
 pub returns-in-Ok-run_all-clause-alone : goal.returns-in-Ok-run_all-clause-alone
@@ -40,7 +41,8 @@ returns-in-Ok-run_all-clause-alone g c one =
     let systems = c.args.systems.now in
     let p = c.run_all.new.done in
     let ran = whole_frame c.args.workers w new f (λ v. v.items) c.as_slice-2.result.now systems c.args.batches.now c.args.batches.now p
-    c.as_slice-2.ensures refl c.requires.placed (vec_len p.reports) c.in-Ok-run_all.ensures.so_far c.in-Ok-run_all.ensures.all c.into_report.result c.into_report.ensures in
+    c.as_slice-2.ensures refl c.requires.placed (vec_len p.reports) c.in-Ok-run_all.ensures.so_far c.in-Ok-run_all.ensures.all
+    c.into_report.result c.into_report.ensures in
     alone_of c.args.workers w (map f systems) (Ok c.into_report.result) new ran one
 
 pub returns-in-Ok-run_all-clause-solo : goal.returns-in-Ok-run_all-clause-solo
@@ -52,7 +54,8 @@ returns-in-Ok-run_all-clause-solo g c =
     let systems = c.args.systems.now in
     let p = c.run_all.new.done in
     let ran = whole_frame c.args.workers w new f (λ v. v.items) c.as_slice-2.result.now systems c.args.batches.now c.args.batches.now p
-    c.as_slice-2.ensures refl c.requires.placed (vec_len p.reports) c.in-Ok-run_all.ensures.so_far c.in-Ok-run_all.ensures.all c.into_report.result c.into_report.ensures in
+    c.as_slice-2.ensures refl c.requires.placed (vec_len p.reports) c.in-Ok-run_all.ensures.so_far c.in-Ok-run_all.ensures.all
+    c.into_report.result c.into_report.ensures in
     let lawful = subst (λ ss. AllByRecursion IsLawfulSystem (map f ss)) c.as_slice.ensures c.are_lawful.ensures in
     let laws = c.frames_are_one_by_one.ensures in
     solo_of laws.whole laws.stopped w (map f systems) (Ok c.into_report.result) new c.is_lawful.ensures lawful

@@ -8,5 +8,5 @@ pub returns-then-is_one_plain : goal.returns-then-is_one_plain
 returns-then-is_one_plain c =
     let plain : is_one_plain (asks c.slots.result.now) ≡ true = search rules in
     c.is_one_plain.ensures ∙ plain
-    ∙ sym (plain_passes c.ids_are_ordered.ensures.total c.slots.result.now c.args.self.now.query.now c.slots.ensures plain c.args._group
+    ∙ sym (plain_passes c.slots.result.now c.args.self.now.query.now c.slots.ensures plain c.args._group
     c.args.type_list.now c.requires.group c.requires.found)

@@ -1,4 +1,4 @@
-use Rattle.std.proofs.Common.{◌≡◌, Err, IfErr, List, map, subst}
+use Rattle.std.proofs.Common.{Err, IfErr, map, subst}
 use Rattle.eco_bodies.specs.declared.systems.System.{System}
 use Rattle.eco_systems.specs.Frames.{BatchRunsSolo}
 use Rattle.eco_systems.specs.Systems.{SystemModel}

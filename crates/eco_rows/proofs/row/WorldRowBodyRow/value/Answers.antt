@@ -6,7 +6,8 @@ use Rattle.eco_rows.proofs.row.WorldRowBodyRow.value.Goals as goal
 pub returns-in_default : goal.returns-in_default
 returns-in_default c =
     let row = c.args.self.now in
-    none_is (value_of row.entity.world row.entity.entity) c.slots.result.now row.query.now row.entries.now c.args.slot c.slots.ensures c.in_default.ensures.lookup
+    none_is (value_of row.entity.world row.entity.entity) c.slots.result.now row.query.now row.entries.now c.args.slot
+    c.slots.ensures c.in_default.ensures.lookup
 
 pub returns-in_default-get : goal.returns-in_default-get
 returns-in_default-get c =

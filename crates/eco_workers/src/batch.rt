@@ -39,8 +39,8 @@ fn count_pieces<P>(pieces: &[P]) -> Result<u32, Refusal>
     Ok(pieces.len() as u32)
 }
 
-// A worker for each seat, of which one runs on the calling thread. Halves of the seats are handed to threads, which halve them again.
-fn work_by_halves<P: Piece + Sync, R: Threads + Sync>(
+// A worker for each seat, of which one runs on the calling thread.
+fn work_all<P: Piece + Sync, R: Threads + Sync>(
     rt: &R,
     alloc: Global,
     round: &Round,
@@ -61,44 +61,6 @@ fn work_by_halves<P: Piece + Sync, R: Threads + Sync>(
                 round.entry.now result }
         { work(alloc, round, pieces, seat) },
     )
-}
-
-// A worker for each seat, of which one runs on the calling thread. That starts the thread of the last seat before those of the
-// others, so of up to four it starts each itself: threads that start others at one moment may share a processor for so long as
-// a batch takes.
-fn work_all<P: Piece + Sync, R: Threads + Sync>(
-    rt: &R,
-    alloc: Global,
-    round: &Round,
-    pieces: &[P],
-    mut seats: Vec<Seat>,
-) -> Result<Vec<Worked>, AllocError>
-    requires seats { All (IsNewSeatOf round.now) seats.items }
-    requires count { pieces_of round.now ≡ length pieces.now }
-    ensures { IfOk result (λ v. (vec_len v ≡ vec_len seats)
-        × All (IsWorked (by_index P.commands) (by_index P.taken) pieces.now round.now) v.items) }
-{
-    let last = if seats.len() > 1 { seats.pop() } else { None };
-    let Some(last) = last else {
-        return work_by_halves(rt, alloc, round, pieces, seats);
-    };
-    let (own, others) = thread::join(
-        rt,
-        move || -> Worked
-            requires { IsNewSeatOf round.now last × (pieces_of round.now ≡ length pieces.now) }
-            ensures { IsWorked (by_index P.commands) (by_index P.taken) pieces.entry.now
-                round.entry.now result }
-        { work(alloc, round, pieces, last) },
-        move || -> Result<Vec<Worked>, AllocError>
-            requires { All (IsNewSeatOf round.now) seats.items × (pieces_of round.now ≡ length pieces.now) }
-            ensures { IfOk result (λ v. (vec_len v ≡ vec_len seats)
-                × All (IsWorked (by_index P.commands) (by_index P.taken) pieces.entry.now round.entry.now)
-                v.items) }
-        { work_by_halves(rt, alloc, round, pieces, seats) },
-    );
-    let mut worked = others?;
-    worked.push(own)?;
-    Ok(worked)
 }
 
 // What was found of the ends, after one more: the least refused piece with its refusal, and whether a worker had no memory.

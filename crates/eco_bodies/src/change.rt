@@ -99,7 +99,8 @@ fn add_up<R: BodyRow>(
     stage: &mut Stage,
 ) -> Result<(), AllocError>
     ensures { OnOk result (stage.new ≡ stage.old ++ option_to_list (set_of writes.now
-        (R.row_of row.now).entity (item_at (R.row_of row.now).entries into) (sum_at (R.row_of row.now) into from))) }
+        (R.row_of row.now).entity (item_at (R.row_of row.now).entries into)
+        (sum_at (R.row_of row.now) into from))) }
 {
     match sum_at(row, into, from) {
         Some(value) => set_entry(writes, row.entity(), entry_at(row, into), value, stage),

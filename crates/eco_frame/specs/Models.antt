@@ -3,8 +3,10 @@ use Rattle.std.specs.Prelude.{◌≡◌, ℕ, Bool, List, map, slice_get, unwrap
 use Rattle.eco_ids.specs.declared.entity.Entity.{Entity}
 use Rattle.eco_ids.specs.declared.pattern.Pattern.{Pattern}
 use Rattle.eco_ids.specs.Run.{Command}
+use Rattle.eco_ids.specs.Lawful.{IsLawful}
 use Rattle.eco_ids.specs.World.{WorldState}
 use Rattle.eco_systems.specs.Batches.{joined, AreBatches}
+use Rattle.eco_systems.specs.Frames.{BatchDraws, IsFrame, IsSolo, Outcomes}
 use Rattle.eco_systems.specs.Phases.{in_order, order_of}
 use Rattle.eco_systems.specs.Rows.{ValuedRow}
 use Rattle.eco_systems.specs.Systems.{SystemModel, system_reads}
@@ -33,3 +35,9 @@ model_at systems k = unwrap_or (slice_get systems k) no_system
 -- the lists hold all positions of declaration in the order in which the systems run, and the systems there are the batches
 abbrev pub ArePlaced : WorldState → List SystemModel → List (List ℕ) → Type 0
 ArePlaced w systems places = (joined places ≡ order_of systems) × AreBatches w (in_order systems) (map (map (model_at systems)) places)
+
+-- every frame of the systems on the world is the run of these one by one
+abbrev pub AreOneByOne : WorldState → List SystemModel → Type 0
+AreOneByOne w systems =
+    (draws : List BatchDraws) (outcomes : Outcomes) (new : WorldState)
+    → IsLawful w → IsFrame w systems draws outcomes new → IsSolo w systems draws outcomes new

@@ -56,10 +56,10 @@ fn workers_for<B: SystemBody>(parts: &[Part<'_, B>], workers: u32) -> u32
     most.min(workers as usize) as u32
 }
 
-// Records the pieces on this thread alone, all into one stage, which takes the memory of the spare one.
+// Records the pieces on this thread alone, all into one stage, which takes the memory of a spare one.
 fn record_alone<P: Piece>(
     alloc: Global,
-    spare: &mut Stage,
+    spare: &mut Vec<Stage>,
     pieces: &[P],
     base: u32,
     limit: u32,
@@ -73,8 +73,8 @@ fn record_alone<P: Piece>(
         → IsOutInTurn (by_index P.commands) (by_index P.taken) pieces.now base limit) }
 {
     let mut stages = Vec::with_capacity(alloc, 1)?;
-    let stage = replace(spare, Stage::new(alloc));
-    let (stage, drawn) = run_alone(stage, pieces, base, limit)?;
+    let own = spare.pop().unwrap_or(Stage::new(alloc));
+    let (stage, drawn) = run_alone(own, pieces, base, limit)?;
     stages.push_reserved(stage);
     Ok((stages, drawn))
 }
@@ -83,7 +83,7 @@ fn record_alone<P: Piece>(
 fn record_pieces<P: Piece + Sync, R: Threads + Sync>(
     rt: &R,
     alloc: Global,
-    spare: &mut Stage,
+    spare: &mut Vec<Stage>,
     pieces: &[P],
     workers: u32,
     base: u32,
@@ -101,7 +101,8 @@ fn record_pieces<P: Piece + Sync, R: Threads + Sync>(
     if workers == 1 {
         return record_alone(alloc, spare, pieces, base, limit);
     }
-    run_batch(rt, alloc, pieces, workers, base, limit)
+    let spare = replace(spare, Vec::new(alloc));
+    run_batch(rt, alloc, spare, pieces, workers, base, limit)
 }
 
 // Records the systems at some positions of declaration on a world. Answers stages, which in order hold what the pieces of the
@@ -109,7 +110,7 @@ fn record_pieces<P: Piece + Sync, R: Threads + Sync>(
 fn record<B: SystemBody + Sync, R: Threads + Sync>(
     rt: &R,
     alloc: Global,
-    spare: &mut Stage,
+    spare: &mut Vec<Stage>,
     world: &World,
     systems: &[System<B>],
     places: &[usize],
@@ -141,11 +142,9 @@ fn record<B: SystemBody + Sync, R: Threads + Sync>(
     )
 }
 
-// Keeps the memory of the last of these stages for the batch to come.
-fn keep_one(mut stages: Vec<Stage>, spare: &mut Stage) {
-    if let Some(stage) = stages.pop() {
-        *spare = stage;
-    }
+// Keeps the memory of these stages for the batch to come, where there is room to list them.
+fn keep(mut stages: Vec<Stage>, spare: &mut Vec<Stage>) {
+    let _kept = spare.append(&mut stages);
 }
 
 // Runs one batch more: the systems at some positions of declaration are recorded on the world, and what they recorded is merged
@@ -158,7 +157,7 @@ pub(crate) fn run_next<B: SystemBody + Sync, R: Threads + Sync>(
     places: &[usize],
     workers: u32,
     done: &mut Progress,
-    spare: &mut Stage,
+    spare: &mut Vec<Stage>,
 ) -> Result<(), Refusal>
     requires workers { (1 ≤ workers) × (workers ≤ 64) }
     requires places { All (λ k. k < length systems.now) places.now }
@@ -178,6 +177,6 @@ pub(crate) fn run_next<B: SystemBody + Sync, R: Threads + Sync>(
     };
     let report = world.merge(drawn, &stages)?;
     done.push(report, commands, in_all);
-    keep_one(stages, spare);
+    keep(stages, spare);
     Ok(())
 }

@@ -23,7 +23,7 @@ use std::alloc::Global;
 use std::thread::Threads;
 
 // Does nothing, and its contract says that the systems keep the law of systems.
-fn are_lawful<B: SystemBody>(systems: &[System<B>])
+pub(crate) fn are_lawful<B: SystemBody>(systems: &[System<B>])
     ensures { AllByRecursion IsLawfulSystem
         (map (model_of B.reads_of B.writes_of B.kills_of B.taken B.commands) systems.now) }
 {
@@ -62,7 +62,7 @@ fn run_all<B: SystemBody + Sync, R: Threads + Sync>(
     batches: &[Vec<usize>],
     workers: u32,
     done: &mut Progress,
-    spare: &mut Stage,
+    spare: &mut Vec<Stage>,
 ) -> Result<(), Refusal>
     requires workers { (1 ≤ workers) × (workers ≤ 64) }
     requires places { All (λ b. All (λ k. k < length systems.now) b.items) batches.now }
@@ -91,7 +91,7 @@ pub(crate) fn run_batches<B: SystemBody + Sync + Drop, R: Threads + Sync>(
     systems: &Systems<B>,
     batches: &[Vec<usize>],
     workers: u32,
-    spare: &mut Stage,
+    spare: &mut Vec<Stage>,
 ) -> Result<FrameReport, FrameStop>
     requires workers { (1 ≤ workers) × (workers ≤ 64) }
     requires placed { ArePlaced world.old
@@ -163,6 +163,6 @@ pub fn run_frame<B: SystemBody + Sync + Drop, R: Threads + Sync>(
     let Ok(batches) = sync_points(alloc, world, systems) else {
         return Err(stop_at_once(world, systems));
     };
-    let mut spare = Stage::new(alloc);
+    let mut spare = Vec::new(alloc);
     run_batches(rt, alloc, world, systems, &batches, workers, &mut spare)
 }

@@ -21,12 +21,12 @@ use std::thread::Threads;
 
 /// A list of systems that is run frame by frame (Flecs manual, Systems, "Pipeline"), with its batches. These are made again
 /// only where what the systems write with all that comes along has changed since the frame before. The memory of the commands
-/// that one thread records stays for those of the next batch.
+/// stays for those of the next batch.
 pub struct Pipeline<'a, B: SystemBody> {
     systems: &'a Systems<B>,
     plan: Plan<'a>,
-    // Whose memory the commands of the next batch take that one thread records.
-    spare: Stage,
+    // Whose memory the commands of the next batch take.
+    spare: Vec<Stage>,
 }
 
 // By hand, so that dropping it is one call: a derived drop is proved anew at each early return of whoever holds it.
@@ -87,7 +87,7 @@ impl<'a, B: SystemBody + Sync + Drop> Pipeline<'a, B> {
         Ok(Pipeline {
             systems,
             plan,
-            spare: Stage::new(alloc),
+            spare: Vec::new(alloc),
         })
     }
 

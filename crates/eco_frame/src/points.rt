@@ -1,8 +1,9 @@
 //! The batches of listed systems.
 ghost use Rattle.std.specs.Prelude.{◌≡◌, IfOk, map};
 ghost use Rattle.std.specs.List.{AllZip};
-ghost use Rattle.eco_frame.specs.Models.{ArePlaced, Declares, model_of};
+ghost use Rattle.eco_frame.specs.Models.{AreOneByOne, ArePlaced, Declares, model_of};
 
+use crate::frame::are_lawful;
 use eco_batches::Declared;
 use eco_bodies::{System, SystemBody, Systems};
 use eco_traits::Holdings;
@@ -45,11 +46,15 @@ pub fn sync_points<H: Holdings, B: SystemBody + Drop>(
     holdings: &H,
     systems: &Systems<B>,
 ) -> Result<Vec<Vec<usize>>, AllocError>
-    ensures { IfOk result (λ batches. ArePlaced (H.world holdings.now)
+    ensures batches { IfOk result (λ batches. ArePlaced (H.world holdings.now)
         (map (model_of B.reads_of B.writes_of B.kills_of B.taken B.commands) systems.now)
         (map (λ b. b.items) batches.items)) }
+    ensures one_by_one { AreOneByOne (H.world holdings.now)
+        (map (model_of B.reads_of B.writes_of B.kills_of B.taken B.commands) systems.now) }
 {
     eco_systems::laws::systems_are_ordered();
+    eco_systems::laws::frames_are_one_by_one();
+    are_lawful(systems.as_slice());
     let declared = declarations(alloc, systems.as_slice())?;
     eco_batches::sync_points(alloc, holdings, &declared)
 }

@@ -3,16 +3,21 @@ use Rattle.std.specs.Prelude.{◌≡◌, ◌⊎◌, ℕ, ◌≤◌, Bool, true, 
 use Rattle.std.specs.List.{All, Contains, flat_map}
 use Rattle.eco_rounds.specs.declared.round.Round.{Round}
 use Rattle.eco_rounds.specs.declared.seat.Seat.{Seat}
-use Rattle.eco_rounds.specs.Rounds.{claimed, drawn, is_done, is_dry, IsSeatOf}
+use Rattle.eco_rounds.specs.Rounds.{claimed, drawn, is_done, is_dry, IsSeatOf, IsNewSeatOf}
 use Rattle.eco_ids.specs.Run.{Command}
 use Rattle.eco_ids.specs.declared.refusal.Refusal.{Refusal}
 use Rattle.eco_ids.specs.declared.refusal.Refusal.TheVariants.{NoMoreIds, OutOfMemory}
 use Rattle.eco_workers.specs.declared.collected.Collected.{Collected}
+use Rattle.eco_workers.specs.declared.job.Job.{Job}
 use Rattle.eco_workers.specs.declared.worked.Worked.{Worked}
 use Rattle.eco_workers.specs.declared.end.End.{End}
 use Rattle.eco_workers.specs.declared.end.End.TheVariants.{Done, NoMemory, Refused}
 use Rattle.eco_workers.specs.Taking.{IsStopped}
 use Rattle.eco_workers.specs.Entries.{Entry, IsLog, IsShare, IsShort}
+
+-- the job's seat is a new one of the round
+pub record IsNewJobOf (round : Round) (job : Job) : Type 0 where
+  pub new : IsNewSeatOf round job.seat
 
 module _ {S : Type 0} (commands : S → List ℕ → List Command) (taken : S → List ℕ → ℕ) (pieces : List S) where
   -- what the worker collected is what its seat has claimed and drawn, and it may go on

@@ -3,16 +3,17 @@ ghost use Rattle.std.specs.Prelude.{◌≡◌, ℕ, ◌+◌, ◌<◌, ◌≤◌,
 ghost use Rattle.std.specs.Prelude.{length};
 ghost use Rattle.std.specs.List.{All, Contains};
 ghost use Rattle.eco_ids.specs.declared.refusal.Refusal.TheVariants.{NoMoreIds, OutOfMemory};
-ghost use Rattle.eco_rounds.specs.Rounds.{is_done, pieces_of, IsSeatOf, IsNewSeatOf};
+ghost use Rattle.eco_rounds.specs.Rounds.{is_done, pieces_of, IsSeatOf};
 ghost use Rattle.eco_workers.specs.declared.end.End.{End};
 ghost use Rattle.eco_workers.specs.declared.end.End.TheVariants.{Done, Refused};
 ghost use Rattle.eco_workers.specs.Taking.{by_index, IsStopped};
 ghost use Rattle.eco_workers.specs.Entries.{Entry, IsGathered, IsShared, IsFoundShort};
-ghost use Rattle.eco_workers.specs.Workers.{IsWorked, IsStop, IsFound, ends_of};
+ghost use Rattle.eco_workers.specs.Workers.{IsNewJobOf, IsWorked, IsStop, IsFound, ends_of};
 ghost use Rattle.eco_workers.specs.Batches.{IsBatch, IsOut};
 
 use crate::collected::Collected;
 use crate::end::End;
+use crate::job::{Job, share_out};
 use crate::order::place;
 use crate::piece::Piece;
 use crate::worked::Worked;
@@ -39,28 +40,86 @@ fn count_pieces<P>(pieces: &[P]) -> Result<u32, Refusal>
     Ok(pieces.len() as u32)
 }
 
-// A worker for each seat, of which one runs on the calling thread.
+// A worker for each job, of which one runs on the calling thread. Halves of the jobs are handed to threads, which halve them
+// again.
+fn work_by_halves<P: Piece + Sync, R: Threads + Sync>(
+    rt: &R,
+    alloc: Global,
+    round: &Round,
+    pieces: &[P],
+    jobs: Vec<Job>,
+) -> Result<Vec<Worked>, AllocError>
+    requires jobs { All (IsNewJobOf round.now) jobs.items }
+    requires count { pieces_of round.now ≡ length pieces.now }
+    ensures { IfOk result (λ v. (vec_len v ≡ vec_len jobs)
+        × All (IsWorked (by_index P.commands) (by_index P.taken) pieces.now round.now) v.items) }
+{
+    thread::map_vec(
+        rt,
+        jobs,
+        &|job: Job| -> Worked
+            requires { IsNewJobOf round.now job × (pieces_of round.now ≡ length pieces.now) }
+            ensures { IsWorked (by_index P.commands) (by_index P.taken) pieces.entry.now
+                round.entry.now result }
+        { work(alloc, round, pieces, job) },
+    )
+}
+
+// A worker for the last job in a thread of its own, and one for each other job, of which one runs on the calling thread.
+fn work_last_and_others<P: Piece + Sync, R: Threads + Sync>(
+    rt: &R,
+    alloc: Global,
+    round: &Round,
+    pieces: &[P],
+    last: Job,
+    others: Vec<Job>,
+) -> (Worked, Result<Vec<Worked>, AllocError>)
+    requires last { IsNewJobOf round.now last }
+    requires others { All (IsNewJobOf round.now) others.items }
+    requires count { pieces_of round.now ≡ length pieces.now }
+    ensures last { IsWorked (by_index P.commands) (by_index P.taken) pieces.now round.now result.0 }
+    ensures others { IfOk result.1 (λ v. (vec_len v ≡ vec_len others)
+        × All (IsWorked (by_index P.commands) (by_index P.taken) pieces.now round.now) v.items) }
+{
+    thread::join(
+        rt,
+        move || -> Worked
+            requires { IsNewJobOf round.now last × (pieces_of round.now ≡ length pieces.now) }
+            ensures { IsWorked (by_index P.commands) (by_index P.taken) pieces.entry.now
+                round.entry.now result }
+        { work(alloc, round, pieces, last) },
+        move || -> Result<Vec<Worked>, AllocError>
+            requires { All (IsNewJobOf round.now) others.items × (pieces_of round.now ≡ length pieces.now) }
+            ensures { IfOk result (λ v. (vec_len v ≡ vec_len others)
+                × All (IsWorked (by_index P.commands) (by_index P.taken) pieces.entry.now round.entry.now)
+                v.items) }
+        { work_by_halves(rt, alloc, round, pieces, others) },
+    )
+}
+
+// A worker for each job, of which one runs on the calling thread. That starts the thread of the last job before those of the
+// others, so of up to four it starts each itself: threads that start others at one moment may share a processor for so long as
+// a batch takes.
 fn work_all<P: Piece + Sync, R: Threads + Sync>(
     rt: &R,
     alloc: Global,
     round: &Round,
     pieces: &[P],
-    seats: Vec<Seat>,
+    mut jobs: Vec<Job>,
 ) -> Result<Vec<Worked>, AllocError>
-    requires seats { All (IsNewSeatOf round.now) seats.items }
+    requires jobs { All (IsNewJobOf round.now) jobs.items }
     requires count { pieces_of round.now ≡ length pieces.now }
-    ensures { IfOk result (λ v. (vec_len v ≡ vec_len seats)
+    ensures { IfOk result (λ v. (vec_len v ≡ vec_len jobs)
         × All (IsWorked (by_index P.commands) (by_index P.taken) pieces.now round.now) v.items) }
 {
-    thread::map_vec(
-        rt,
-        seats,
-        &|seat: Seat| -> Worked
-            requires { IsNewSeatOf round.now seat × (pieces_of round.now ≡ length pieces.now) }
-            ensures { IsWorked (by_index P.commands) (by_index P.taken) pieces.entry.now
-                round.entry.now result }
-        { work(alloc, round, pieces, seat) },
-    )
+    if jobs.len() < 2 {
+        return work_by_halves(rt, alloc, round, pieces, jobs);
+    }
+    let last = jobs.pop().unwrap();
+    let (own, others) = work_last_and_others(rt, alloc, round, pieces, last, jobs);
+    let mut worked = others?;
+    worked.push(own)?;
+    Ok(worked)
 }
 
 // What was found of the ends, after one more: the least refused piece with its refusal, and whether a worker had no memory.
@@ -161,13 +220,15 @@ fn gather<P: Piece>(
 
 /// Records the pieces of a batch, by at most so many threads, 1 to 64, the caller's among them; a thread that can't be started is
 /// done without, and a batch of few pieces starts few: none for one piece. Fresh handles are drawn from `base` on, to below
-/// `limit`, which is at most 1,048,576. Answers the stages in the order of the pieces, and how many handles were drawn.
+/// `limit`, which is at most 1,048,576. Answers the stages in the order of the pieces, and how many handles were drawn. The memory
+/// of the spare stages serves again: what they hold goes.
 ///
 /// Refused with `NoMoreIds` where pieces take more handles than there are, and with `OutOfMemory` where memory is refused or
 /// there are more than 16,777,216 pieces: with the refusal of the least piece that was refused, where one was.
 pub fn run_batch<P: Piece + Sync, R: Threads + Sync>(
     rt: &R,
     alloc: Global,
+    spare: Vec<Stage>,
     pieces: &[P],
     workers: u32,
     base: u32,
@@ -185,7 +246,8 @@ pub fn run_batch<P: Piece + Sync, R: Threads + Sync>(
     let count = count_pieces(pieces)?;
     let (round, seats) = Round::open(alloc, base, limit, count, workers.min(count).max(1))?;
     let room = Vec::with_capacity(alloc, seats.len())?;
-    let worked = work_all(rt, alloc, &round, pieces, seats)?;
+    let jobs = share_out(alloc, &round, spare, seats)?;
+    let worked = work_all(rt, alloc, &round, pieces, jobs)?;
     if let Some(refusal) = first_refusal(worked.as_slice()) {
         let seats = all_seats(&round, pieces, worked, room);
         round.close(seats);

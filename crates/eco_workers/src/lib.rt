@@ -9,6 +9,7 @@ mod counter;
 mod drawer;
 mod draws;
 mod end;
+mod job;
 mod order;
 mod piece;
 mod worked;

@@ -2,24 +2,33 @@
 ghost use Rattle.std.specs.Prelude.{◌≡◌, ℕ, ◌+◌, ◌<◌, ◌≤◌, List, true, false, [], ◌∷◌, ◌++◌, IfOk, IfErr, IfNone};
 ghost use Rattle.std.specs.Prelude.{MatchOption, length};
 ghost use Rattle.eco_ids.specs.declared.refusal.Refusal.TheVariants.{NoMoreIds};
-ghost use Rattle.eco_rounds.specs.Rounds.{claimed, drawn, is_dry, pieces_of, IsNewSeatOf};
+ghost use Rattle.eco_rounds.specs.Rounds.{claimed, drawn, is_dry, pieces_of};
 ghost use Rattle.eco_workers.specs.Taking.{by_index, IsStopped};
 ghost use Rattle.eco_workers.specs.Entries.{entry_of, share_of, IsEntry, IsShare, IsShort, IsStage};
-ghost use Rattle.eco_workers.specs.Workers.{IsGoing, HasEnded, IsWorked};
+ghost use Rattle.eco_workers.specs.Workers.{IsGoing, HasEnded, IsNewJobOf, IsWorked};
 
 use crate::collected::Collected;
 use crate::drawer::Drawer;
 use crate::end::End;
+use crate::job::Job;
 use crate::piece::Piece;
 use crate::worked::Worked;
 use eco_ids::Refusal;
-use eco_rounds::{Round, Seat};
+use eco_rounds::Round;
 use eco_stages::Stage;
 use std::alloc::Global;
 
-// Records a piece, with what the seat draws.
+// A stage whose memory serves again, or else a new one.
+fn next_stage(alloc: Global, spare: &mut Vec<Stage>) -> Stage {
+    match spare.pop() {
+        Some(stage) => stage,
+        None => Stage::new(alloc),
+    }
+}
+
+// Records a piece, with what the seat draws, into a stage whose memory serves again: what it held before goes.
 #[tactic(auto, using(crate::proofs::Drawn::broke_indices, crate::proofs::Drawn::is_stopped))]
-fn record<P: Piece>(alloc: Global, piece: &P, drawer: &mut Drawer<'_>) -> Result<Stage, Refusal>
+fn record<P: Piece>(mut stage: Stage, piece: &P, drawer: &mut Drawer<'_>) -> Result<Stage, Refusal>
     requires wet { is_dry drawer.old.seat ≡ false }
     ensures claim { drawer.new.seat.claim ≡ drawer.old.seat.claim }
     ensures round { drawer.new.round.now ≡ drawer.old.round.now }
@@ -33,14 +42,14 @@ fn record<P: Piece>(alloc: Global, piece: &P, drawer: &mut Drawer<'_>) -> Result
         × (e ≡ NoMoreIds → (is_dry drawer.new.seat ≡ true)
         × (length mine < by_index P.taken piece.now mine))) }
 {
-    let mut stage = Stage::new(alloc);
+    stage.clear();
     piece.record(drawer, &mut stage)?;
     Ok(stage)
 }
 
 // Records the piece of this number.
 fn one_piece<P: Piece>(
-    alloc: Global,
+    stage: Stage,
     pieces: &[P],
     number: u32,
     drawer: &mut Drawer<'_>,
@@ -58,13 +67,14 @@ fn one_piece<P: Piece>(
         × (e ≡ NoMoreIds → (is_dry drawer.new.seat ≡ true)
         × IsShort (by_index P.commands) (by_index P.taken) pieces.now (share_of number mine))) }
 {
-    let stage = record(alloc, &pieces[number as usize], drawer)?;
+    let stage = record(stage, &pieces[number as usize], drawer)?;
     Ok(Collected { number, stage })
 }
 
 // Claims a piece, and records it. Answers how the worker ended, unless it goes on.
 fn take_turn<P: Piece>(
     alloc: Global,
+    spare: &mut Vec<Stage>,
     pieces: &[P],
     drawer: &mut Drawer<'_>,
     collected: &mut Vec<Collected>,
@@ -86,7 +96,7 @@ fn take_turn<P: Piece>(
     let Some(number) = drawer.round.claim(&mut drawer.seat) else {
         return Some(End::Done);
     };
-    match one_piece(alloc, pieces, number, drawer) {
+    match one_piece(next_stage(alloc, spare), pieces, number, drawer) {
         Ok(piece) => {
             collected.push_reserved(piece);
             None
@@ -98,6 +108,7 @@ fn take_turn<P: Piece>(
 // Turns until the worker ends.
 fn turns<P: Piece>(
     alloc: Global,
+    spare: &mut Vec<Stage>,
     pieces: &[P],
     drawer: &mut Drawer<'_>,
     collected: &mut Vec<Collected>,
@@ -112,7 +123,7 @@ fn turns<P: Piece>(
 {
     let most = u64::from(drawer.round.pieces()) + 1;
     for _ in 0..most {
-        if let Some(end) = take_turn(alloc, pieces, drawer, collected) {
+        if let Some(end) = take_turn(alloc, spare, pieces, drawer, collected) {
             return end;
         }
     }
@@ -120,14 +131,15 @@ fn turns<P: Piece>(
 }
 
 // Claims pieces and records each, until there is none.
-pub(crate) fn work<P: Piece>(alloc: Global, round: &Round, pieces: &[P], seat: Seat) -> Worked
-    requires seat { IsNewSeatOf round.now seat }
+pub(crate) fn work<P: Piece>(alloc: Global, round: &Round, pieces: &[P], job: Job) -> Worked
+    requires seat { IsNewJobOf round.now job }
     requires count { pieces_of round.now ≡ length pieces.now }
     ensures { IsWorked (by_index P.commands) (by_index P.taken) pieces.now round.now result }
 {
+    let Job { seat, mut spare } = job;
     let mut collected = Vec::new(alloc);
     let mut drawer = Drawer { round, seat };
-    let end = turns(alloc, pieces, &mut drawer, &mut collected);
+    let end = turns(alloc, &mut spare, pieces, &mut drawer, &mut collected);
     let Drawer { round: _, seat } = drawer;
     Worked {
         seat,

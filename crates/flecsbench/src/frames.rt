@@ -2,7 +2,7 @@
 use crate::fault::Fault;
 use crate::heavy::Heavy;
 use crate::simulation::Simulation;
-use eco_bodies::{Script, SystemBody};
+use eco_bodies::Script;
 use eco_ids::Refusal;
 use std::alloc::Global;
 use std::rt::Clock;
@@ -84,7 +84,7 @@ impl FrameCase {
         Ok(best)
     }
 
-    // How long one run took. Neither what comes before nor giving up the world is timed.
+    // How long one run took. Neither what comes before nor giving up the world and the pipeline is timed.
     fn time<R: Clock + Threads + Sync>(&self, rt: &R, alloc: Global) -> Result<Duration, Fault> {
         if matches!(self.2, FrameStart::Heavy) {
             return self.time_heavy(rt, alloc);
@@ -93,8 +93,8 @@ impl FrameCase {
         make(&mut simulation, alloc, self.2, self.1)?;
         match self.2 {
             FrameStart::Points => time_points(rt, alloc, &simulation),
-            FrameStart::Spawn => self.time_frames(rt, alloc, &mut simulation),
-            _ => self.time_later_frames(rt, alloc, &mut simulation),
+            FrameStart::Spawn => { simulation.time(rt, alloc, 0, self.3, self.4, self.1 as usize) }
+            _ => simulation.time(rt, alloc, 1, self.3, self.4, self.1 as usize),
         }
     }
 
@@ -106,35 +106,7 @@ impl FrameCase {
     ) -> Result<Duration, Fault> {
         let mut simulation: Simulation<Heavy> = Simulation::new(alloc)?;
         simulation.make_heavy(self.1)?;
-        self.time_later_frames(rt, alloc, &mut simulation)
-    }
-
-    // How long the frames take after a first one.
-    fn time_later_frames<B: SystemBody + Sync + Drop, R: Clock + Threads + Sync>(
-        &self,
-        rt: &R,
-        alloc: Global,
-        simulation: &mut Simulation<B>,
-    ) -> Result<Duration, Fault> {
-        simulation.run(rt, alloc, 1, self.4)?;
-        self.time_frames(rt, alloc, simulation)
-    }
-
-    // How long the frames take.
-    fn time_frames<B: SystemBody + Sync + Drop, R: Clock + Threads + Sync>(
-        &self,
-        rt: &R,
-        alloc: Global,
-        simulation: &mut Simulation<B>,
-    ) -> Result<Duration, Fault> {
-        let start = Instant::now(rt)?;
-        let commands = simulation.run(rt, alloc, self.3, self.4)?;
-        let time = start.elapsed(rt)?;
-        if commands >= self.1 as usize {
-            Ok(time)
-        } else {
-            Err(Fault::WrongAnswer)
-        }
+        simulation.time(rt, alloc, 1, self.3, self.4, self.1 as usize)
     }
 }
 

@@ -1,4 +1,7 @@
 //! A world and its systems.
+ghost use Rattle.std.specs.Prelude.{◌≤◌};
+
+use crate::fault::Fault;
 use crate::group::Group;
 use crate::heavy::Heavy;
 use eco_bodies::{Action, Script, SystemBody, Systems};
@@ -7,7 +10,9 @@ use eco_ids::{Entity, Id, Refusal, Value};
 use eco_systems::Phase;
 use eco_world::World;
 use std::alloc::{AllocError, Global};
+use std::rt::Clock;
 use std::thread::Threads;
+use std::time::{Duration, Instant};
 
 // All indices of a world lie below it.
 const LIMIT: u32 = 1_048_576;
@@ -51,31 +56,56 @@ impl<B: SystemBody + Sync + Drop> Simulation<B> {
         Ok(())
     }
 
-    /// Runs so many frames of a pipeline, which keeps the batches of the systems from one to the next, and answers how many
-    /// commands ran.
-    pub fn run<R: Threads + Sync>(
+    /// Runs frames of a pipeline by at most so many workers, of 1 to 64 the nearest: first some before the time is taken, and then
+    /// those that are measured. The pipeline keeps batches and memory from one to the next. Answers how long the measured ones
+    /// took; that they ran fewer commands than so many is a wrong answer.
+    pub fn time<R: Clock + Threads + Sync>(
         &mut self,
         rt: &R,
         alloc: Global,
+        before: u32,
         frames: u32,
         workers: u32,
-    ) -> Result<usize, Refusal> {
+        least: usize,
+    ) -> Result<Duration, Fault> {
         let workers = workers.clamp(1, 64);
         let mut pipeline = Pipeline::new(alloc, &self.world, &self.systems)?;
-        let mut commands = 0usize;
-        for _ in 0..frames {
-            match pipeline.run(rt, alloc, &mut self.world, workers) {
-                Ok(report) => commands = commands.saturating_add(report.commands()),
-                Err(stop) => return Err(stop.refusal),
-            }
+        run(&mut pipeline, rt, alloc, &mut self.world, before, workers)?;
+        let start = Instant::now(rt)?;
+        let commands = run(&mut pipeline, rt, alloc, &mut self.world, frames, workers)?;
+        let time = start.elapsed(rt)?;
+        if commands >= least {
+            Ok(time)
+        } else {
+            Err(Fault::WrongAnswer)
         }
-        Ok(commands)
     }
 
     /// Makes the batches of the systems, and answers how many they are.
     pub fn cut(&self, alloc: Global) -> Result<usize, AllocError> {
         Ok(sync_points(alloc, &self.world, &self.systems)?.len())
     }
+}
+
+// Runs so many frames, and answers how many commands these ran.
+fn run<B: SystemBody + Sync + Drop, R: Threads + Sync>(
+    pipeline: &mut Pipeline<'_, B>,
+    rt: &R,
+    alloc: Global,
+    world: &mut World,
+    frames: u32,
+    workers: u32,
+) -> Result<usize, Refusal>
+    requires { (1 ≤ workers) × (workers ≤ 64) }
+{
+    let mut commands = 0usize;
+    for _ in 0..frames {
+        match pipeline.run(rt, alloc, world, workers) {
+            Ok(report) => commands = commands.saturating_add(report.commands()),
+            Err(stop) => return Err(stop.refusal),
+        }
+    }
+    Ok(commands)
 }
 
 // The query of a system that asks for ten components, from one on each hundredth, and writes the first.

@@ -75,7 +75,15 @@ fn make_hundred<R: Threads + Sync>(
     requires { (1 ≤ workers) × (workers ≤ 64) × (5 ≤ limit) × (limit ≤ 1000) }
 {
     let pieces = vec![in alloc; Made; 100]?;
-    let (stages, drawn) = run_batch(rt, alloc, pieces.as_slice(), workers, 5, limit)?;
+    let (stages, drawn) = run_batch(
+        rt,
+        alloc,
+        Vec::new(alloc),
+        pieces.as_slice(),
+        workers,
+        5,
+        limit,
+    )?;
     Ok((stages.len(), drawn))
 }
 
@@ -103,7 +111,7 @@ fn overlap<R: Threads + Sync>(rt: &R, alloc: Global) -> Result<bool, Refusal> {
             missed: &missed,
         })?;
     }
-    run_batch(rt, alloc, gates.as_slice(), 8, 0, 0)?;
+    run_batch(rt, alloc, Vec::new(alloc), gates.as_slice(), 8, 0, 0)?;
     Ok(missed.load(Ordering::SeqCst) == 0)
 }
 

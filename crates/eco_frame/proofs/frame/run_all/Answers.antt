@@ -1,5 +1,7 @@
-use Rattle.std.proofs.Common.{◌≡◌, ◌+◌, ◌∷◌, ◌++◌, [], length, length-append, map, take, sym, ap, ◌∙◌, subst, arith}
+use Rattle.std.proofs.Common.{◌≡◌, ◌+◌, ◌∷◌, ◌++◌, [], ℕ, Err, Global, List, Some, Vec, length, length-append, map, option_map, slice_get, take, vec_len, sym, ap, ◌∙◌, subst, arith, rules}
 use Rattle.std.proofs.lemmas.List.{map_push, take_more}
+use Rattle.std.proofs.lemmas.Option.{slice_get-get_or, slice_get-map}
+use Rattle.eco_frame.specs.declared.progress.Progress.{Progress}
 use Rattle.eco_frame.specs.Models.{model_at, model_of}
 use Rattle.eco_frame.specs.Progresses.{HasRun, HaveRun}
 use Rattle.eco_frame.proofs.Turns.{run_more}
@@ -30,3 +32,18 @@ loop-places-preserved g c =
           (run_more c.args.workers c.args.world.now c.loop-places.world c.run_next.new.world (map (λ p. map at p.items) (take k batches)) (map at own.items)
           before after inv.run ran);
     }
+
+pub returns-in_err-run_next-clause-out : goal.returns-in_err-run_next-clause-out
+returns-in_err-run_next-clause-out g c =
+    let k = c.loop-places.places-index in
+    let batches = c.args.batches.now in
+    let own = c.places-item.result in
+    let items : Vec ℕ Global → List ℕ = λ v. v.items in
+    let at : slice_get batches k ≡ Some own = slice_get-get_or batches k own c.loop-places-test.true ∙ ap Some (sym c.places-item.is) in
+    let here = slice_get-map items batches k ∙ ap (option_map items) at ∙ ap Some (sym c.deref.ensures.value) in
+    let count = c.loop-places.invariant.count in
+    let same : vec_len c.loop-places.done.reports ≡ k = omega (arith, count, c.loop-places.done.reports.ok) in
+    let there = subst (λ (d : Progress). slice_get (map items batches) (vec_len d.reports) ≡ Some c.deref.result.now) (sym c.in_err-run_next.ensures.err.1)
+    (ap (slice_get (map items batches)) same ∙ here) in
+    let is : c.from_residual.result ≡ Err c.in_err-run_next.field-0.0 = search rules in
+    rw is (λ no. (c.deref.result.now, there, c.in_err-run_next.ensures.out no))

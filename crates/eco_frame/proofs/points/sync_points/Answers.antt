@@ -1,24 +1,31 @@
 use Rattle.std.proofs.Common.{map, subst}
-use Rattle.std.specs.List.{AllZip}
+use Rattle.std.specs.List.{AllByRecursion, AllZip}
 use Rattle.std.proofs.lemmas.Result.{IfOk-weaker}
 use Rattle.eco_batches.specs.Outlines.{ArePlacedBatches}
 use Rattle.eco_batches.specs.declared.declaration.Declared.{Declared}
 use Rattle.eco_bodies.specs.declared.systems.System.{System}
 use Rattle.eco_frame.specs.Models.{ArePlaced, Declares, model_of}
 use Rattle.eco_frame.proofs.Placed.{placed_of}
-use Rattle.eco_systems.specs.Systems.{SystemModel}
+use Rattle.eco_systems.specs.Systems.{IsLawfulSystem, SystemModel}
 use Rattle.eco_frame.proofs.points.sync_points.Goals as goal
 
-pub returns : goal.returns
-returns g c =
+pub returns-clause-batches : goal.returns-clause-batches
+returns-clause-batches g c =
     let b = g.B.SystemBody in
     let f : System g.row.B.Denot → SystemModel = model_of b.reads_of b.writes_of b.kills_of b.taken b.commands in
     let w = g.H.Holdings.world c.args.holdings.now in
     let R : System g.row.B.Denot → Declared → Type 0 = λ s d. Declares (f s) d in
-    let declared = subst (λ ss. AllZip R ss c.in_ok-declared.declared.items) c.as_slice.ensures c.in_ok-declared.ensures in
+    let declared = subst (λ ss. AllZip R ss c.in_ok-declared.declared.items) c.as_slice-2.ensures c.in_ok-declared.ensures in
     IfOk-weaker c.sync_points.result
     (λ batches. ArePlacedBatches w c.deref.result.now (map (λ v. v.items) batches.items))
     (λ batches. ArePlaced w (map f c.args.systems.now) (map (λ v. v.items) batches.items))
     (λ batches h. placed_of c.systems_are_ordered.ensures.order f w c.args.systems.now c.in_ok-declared.declared.items (map (λ v. v.items) batches.items)
     declared (subst (λ ds. ArePlacedBatches w ds (map (λ v. v.items) batches.items)) c.deref.ensures.value h))
     c.sync_points.ensures
+
+pub returns-clause-one_by_one : goal.returns-clause-one_by_one
+returns-clause-one_by_one g c draws outcomes new lawful =
+    let b = g.B.SystemBody in
+    let f : System g.row.B.Denot → SystemModel = model_of b.reads_of b.writes_of b.kills_of b.taken b.commands in
+    let systems = subst (λ ss. AllByRecursion IsLawfulSystem (map f ss)) c.as_slice.ensures c.are_lawful.ensures in
+    c.frames_are_one_by_one.ensures.whole (g.H.Holdings.world c.args.holdings.now) (map f c.args.systems.now) draws outcomes new lawful systems

@@ -20,8 +20,8 @@ use Rattle.eco_ids.proofs.Overlaps.{entity_eq_itself}
 use Rattle.eco_query.specs.declared.access.Access.{Access}
 use Rattle.eco_query.specs.declared.slot.Slot.{Slot}
 use Rattle.eco_query.specs.Queries.{QuerySlot, exactly, has_any, holds, is_positive, matches_type, patterns_of, slot_view, term_view}
-use Rattle.eco_archetypes.specs.IdIndex.{any_matches}
-use Rattle.eco_archetypes.specs.TypeTests.{AreNeeded, group_at, matches_one}
+use Rattle.eco_index.specs.IdIndex.{any_matches}
+use Rattle.eco_index.specs.TypeTests.{AreNeeded, group_at, matches_one}
 use Rattle.eco_answers.specs.Answers.{asks}
 use Rattle.eco_answers.specs.Groups.{groups_of, is_one_plain, is_plain}
 

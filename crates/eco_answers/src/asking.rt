@@ -1,7 +1,7 @@
 //! A query is a test of types.
 ghost use Rattle.std.specs.Prelude.{◌≡◌, ◌<◌, filter, length, slice_get, Some};
 ghost use Rattle.std.specs.Option.{option_copied};
-ghost use Rattle.eco_archetypes.specs.TypeTests.{group_at};
+ghost use Rattle.eco_index.specs.TypeTests.{group_at};
 ghost use Rattle.eco_answers.specs.Answers.{asks};
 ghost use Rattle.eco_answers.specs.Groups.{groups_of, is_one_plain, is_plain};
 ghost use Rattle.eco_query.specs.Queries.{is_positive, patterns_of, term_view};

@@ -9,16 +9,16 @@ use Rattle.eco_ids.specs.declared.pattern.Pattern.{Pattern}
 use Rattle.eco_ids.specs.declared.id.Id.{Id}
 use Rattle.eco_tables.specs.Table.{TableState, Row}
 use Rattle.eco_tables.specs.Tables.{slot_of, table_in, no_table, Sets, Moves, MovesAll, rowless, rowless_type}
-use Rattle.eco_archetypes.specs.TypeMap.{IsTypeMap, same_ids}
-use Rattle.eco_archetypes.specs.IdIndex.{Lists, any_matches, Turns}
+use Rattle.eco_index.specs.TypeMap.{IsTypeMap, same_ids}
+use Rattle.eco_index.specs.IdIndex.{Lists, any_matches, Turns}
+use Rattle.eco_index.specs.Edges.{toggled, Cuts, Links, SameEdges}
+use Rattle.eco_index.specs.Caching.{AreExact, AreTold, ChangesType}
+use Rattle.eco_index.specs.declared.cache.Cache.{Cache}
+use Rattle.eco_index.proofs.Caching.{exact_types}
+use Rattle.eco_index.proofs.Graphs.{graph_made, graph_cut, graph_linked}
+use Rattle.eco_index.proofs.TypeMaps.{type_map-insert, type_map-remove}
 use Rattle.eco_archetypes.specs.Archetypes.{type_at, type_matches, IsIdIndex, IsArchetypes, SameSlots, SameRows}
 use Rattle.eco_archetypes.specs.Widths.{AreAgreed}
-use Rattle.eco_archetypes.specs.Edges.{toggled, Cuts, Links, SameEdges}
-use Rattle.eco_archetypes.specs.Caching.{AreExact, AreTold, ChangesType}
-use Rattle.eco_archetypes.specs.declared.cache.Cache.{Cache}
-use Rattle.eco_archetypes.proofs.Caching.{exact_types}
-use Rattle.eco_archetypes.proofs.Graphs.{graph_made, graph_cut, graph_linked}
-use Rattle.eco_archetypes.proofs.TypeMaps.{type_map-insert, type_map-remove}
 use Rattle.eco_archetypes.proofs.Widths.{kept_agreed, sets_kept}
 
 -- a slot whose table has a row, or room, has a table

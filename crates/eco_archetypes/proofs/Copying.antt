@@ -6,10 +6,10 @@ use Rattle.std.proofs.lemmas.Bool.{cases_eq, cases_lt}
 use Rattle.eco_ids.specs.declared.id.Id.{Id}
 use Rattle.eco_tables.specs.Table.{TableState, Row}
 use Rattle.eco_tables.specs.Tables.{slot_of, no_table, with_room, without_room, rowless, rowless_type, Sets, AreCopies}
+use Rattle.eco_index.specs.IdIndex.{Lists, ListsSame}
+use Rattle.eco_index.specs.TypeMap.{same_ids, IsTypeMap}
+use Rattle.eco_index.proofs.TypeMaps.{type_map-insert}
 use Rattle.eco_archetypes.specs.Archetypes.{type_at, type_matches, IsIdIndex, RowlessIn, SameRows}
-use Rattle.eco_archetypes.specs.IdIndex.{Lists, ListsSame}
-use Rattle.eco_archetypes.specs.TypeMap.{same_ids, IsTypeMap}
-use Rattle.eco_archetypes.proofs.TypeMaps.{type_map-insert}
 use Rattle.eco_archetypes.proofs.Widths.{AreKept, kinds}
 
 abbrev Slots : Type 0

@@ -11,9 +11,9 @@ use Rattle.eco_ids.proofs.Facts.{id_eq_itself}
 use Rattle.eco_ids.proofs.IdOrder.{id_cmp_total}
 use Rattle.eco_ids.proofs.SetLaws.{joins_with, leaves_without}
 use Rattle.eco_tables.specs.Table.{TableState}
+use Rattle.eco_index.specs.Edges.{exchanged, toggled}
+use Rattle.eco_index.proofs.Toggles.{twice}
 use Rattle.eco_archetypes.specs.Archetypes.{type_at}
-use Rattle.eco_archetypes.specs.Edges.{exchanged, toggled}
-use Rattle.eco_archetypes.proofs.Toggles.{twice}
 
 -- the second id is there then
 comes : (ids : List Id) (i j : Id) → has_item id_cmp (exchanged ids i j) j ≡ true

@@ -6,12 +6,12 @@ use Rattle.eco_ids.specs.declared.id.Id.{Id}
 use Rattle.eco_ids.specs.Order.{id_cmp, is_ascending}
 use Rattle.eco_tables.specs.Table.{TableState}
 use Rattle.eco_tables.specs.Tables.{slot_of, table_in}
-use Rattle.eco_archetypes.specs.IdIndex.{Lists}
-use Rattle.eco_archetypes.specs.declared.cache.Cache.{Cache}
+use Rattle.eco_index.specs.IdIndex.{Lists}
+use Rattle.eco_index.specs.declared.cache.Cache.{Cache}
+use Rattle.eco_index.specs.Edges.{edge, toggled, IsGraph, IsTwofold, Links, SameEdges}
+use Rattle.eco_index.proofs.Toggles.{toggled_other, twice}
 use Rattle.eco_archetypes.specs.Archetypes.{type_at, IsArchetypes, KeepsTypes}
-use Rattle.eco_archetypes.specs.Edges.{edge, toggled, IsGraph, IsTwofold, Links, SameEdges}
 use Rattle.eco_archetypes.proofs.ArchetypeLemmas.{found_linked, found_unlinked, one_slot, type_there, there_as_typed, typed_table}
-use Rattle.eco_archetypes.proofs.Toggles.{toggled_other, twice}
 
 some_is : {X : Type 0} (x y : X) → Some x ≡ Some y → x ≡ y
 some_is x y e = cc

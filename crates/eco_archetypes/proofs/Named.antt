@@ -1,67 +1,20 @@
--- Whom the types of tables name is whom a key is kept of.
-use Rattle.std.proofs.Common.{◌≡◌, ℕ, zero, suc, Bool, true, false, ◌||◌, ◌↔◌, inl, inr, List, [], ◌∷◌, nat_eq, nat_lt, length, Option, Some, None}
-use Rattle.std.proofs.Common.{option_map, is_some, refl, sym, ap, ◌∙◌, true≢false, IsTrue}
+-- Whom the types of tables name.
+use Rattle.std.proofs.Common.{◌≡◌, ℕ, zero, suc, Bool, true, false, ◌↔◌, inl, inr, List, [], ◌∷◌, nat_lt, length, Option, Some, None}
+use Rattle.std.proofs.Common.{option_map, refl, sym, ap, ◌∙◌, true≢false, IsTrue}
 use Rattle.std.specs.List.{list_any}
-use Rattle.std.specs.HashMap.{HashMap, get}
 use Rattle.std.proofs.lemmas.Bool.{or_left}
-use Rattle.std.proofs.lemmas.Bool.Decides.{Decides-eqb}
 use Rattle.eco_ids.specs.declared.entity.Entity.{Entity}
 use Rattle.eco_ids.specs.declared.id.Id.{Id}
-use Rattle.eco_ids.specs.declared.pattern.Part.TheVariants.{Is, Any}
-use Rattle.eco_ids.specs.declared.pattern.Pattern.{Pattern}
-use Rattle.eco_ids.specs.declared.pattern.Pattern.TheVariants.{One, Two}
 use Rattle.eco_ids.proofs.Ascending.{second}
 use Rattle.eco_ids.proofs.Facts.{or_parts, or_right}
 use Rattle.eco_tables.specs.Table.{TableState}
 use Rattle.eco_tables.specs.Tables.{slot_of}
-use Rattle.eco_archetypes.specs.declared.id_index.key.Key.{Key}
-use Rattle.eco_archetypes.specs.declared.id_index.slots.Slots.{Slots}
-use Rattle.eco_archetypes.specs.IdIndex.{Lists, is_empty, has_slot, key_of, lists_of, same_key, slots_of, KeepsNoEmpty}
+use Rattle.eco_index.specs.IdIndex.{Lists}
+use Rattle.eco_index.specs.Naming.{ListsSome}
+use Rattle.eco_index.specs.TypeTests.{names_any, naming}
+use Rattle.eco_index.proofs.TypeTests.{names_match, same_truth}
 use Rattle.eco_archetypes.specs.Archetypes.{IsIdIndex, has_one_of, is_found_by, type_at}
-use Rattle.eco_archetypes.specs.Naming.{ListsSome, keeps_name, is_named_by_some, names_in}
-use Rattle.eco_archetypes.specs.TypeTests.{names_any, naming}
-use Rattle.eco_archetypes.proofs.Keys.{or_false}
-use Rattle.eco_archetypes.proofs.Searching.{names_match, same_truth}
-
--- ---- keys that are kept
-
-some_slot : (o : Option Slots) → is_empty o ≡ false → is_some o ≡ true → (n : ℕ) × (has_slot o n ≡ true)
-some_slot None full there = absurd (true≢false (sym there))
-some_slot (Some s) full there = by (slots_of s) refl
-  where
-    by : (ns : List ℕ) → slots_of s ≡ ns → (n : ℕ) × (has_slot (Some s) n ≡ true)
-    by [] is = absurd (true≢false (sym (ap (λ ns. nat_eq (length ns) 0) is) ∙ full))
-    by (n ∷ ns) is = (n, ap (list_any (nat_eq n)) is ∙ or_left (nat_eq n n) (list_any (nat_eq n) ns) ((Decides-eqb n n).1 refl))
-
-slot_some : (o : Option Slots) (n : ℕ) → has_slot o n ≡ true → is_some o ≡ true
-slot_some None n h = absurd (true≢false (sym h))
-slot_some (Some s) n h = refl
-
-module _ {S : Type 0} (m : HashMap Key Slots S) (full : KeepsNoEmpty m) where
-  abbrev keeps : Pattern → Bool
-  keeps p = is_some (get same_key m (key_of p))
-
-  to_listed : (ps : List Pattern) → list_any keeps ps ≡ true → ListsSome (lists_of m) ps
-  to_listed [] h = absurd (true≢false (sym h))
-  to_listed (p ∷ ps) h =
-      elim (or_parts (keeps p) (list_any keeps ps) h) as (λ _. ListsSome (lists_of m) (p ∷ ps)) [
-        | inl here ↦ let at = some_slot (get same_key m (key_of p)) (full (key_of p)) here in (at.0, or_left _ _ at.1)
-        | inr later ↦ let rest = to_listed ps later in (rest.0, or_right (lists_of m p rest.0) _ rest.1)
-      ]
-
-  to_kept : (ps : List Pattern) (n : ℕ) → list_any (λ p. lists_of m p n) ps ≡ true → list_any keeps ps ≡ true
-  to_kept [] n h = h
-  to_kept (p ∷ ps) n h =
-      elim (or_parts (lists_of m p n) (list_any (λ q. lists_of m q n) ps) h) as (λ _. list_any keeps (p ∷ ps) ≡ true) [
-        | inl here ↦ or_left _ _ (slot_some _ n here)
-        | inr later ↦ or_right (keeps p) _ (to_kept ps n later)
-      ]
-
-  pub kept_listed : (e : Entity) (r : Bool) → r ≡ keeps_name m e → IsTrue r ↔ ListsSome (lists_of m) (naming e)
-  kept_listed e r is = (λ h. to_listed (naming e) (sym same ∙ h), λ some. same ∙ to_kept (naming e) some.0 some.1)
-    where
-      same : r ≡ list_any keeps (naming e)
-      same = is ∙ ap (λ b. keeps (One e) || (keeps (Two (Is e) Any) || b)) (sym (or_false (keeps (Two Any (Is e)))))
+use Rattle.eco_archetypes.specs.Naming.{is_named_by_some, names_in}
 
 -- ---- types that name
 

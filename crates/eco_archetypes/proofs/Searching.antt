@@ -7,83 +7,18 @@ use Rattle.std.proofs.lemmas.Bool.Decides.{Decides-eqb}
 use Rattle.std.proofs.lemmas.Map.Views.{any-filter_same}
 use Rattle.std.proofs.lemmas.List.Folds.{list_any-append}
 use Rattle.std.proofs.lemmas.Option.{get_or_from_slice_get, same_Some}
-use Rattle.eco_ids.specs.declared.entity.Entity.{Entity}
 use Rattle.eco_ids.specs.declared.id.Id.{Id}
-use Rattle.eco_ids.specs.declared.id.Id.TheVariants as id
-use Rattle.eco_ids.specs.declared.pattern.Part.TheVariants.{Is, Any}
 use Rattle.eco_ids.specs.declared.pattern.Pattern.{Pattern}
-use Rattle.eco_ids.specs.declared.pattern.Pattern.TheVariants.{One, Two}
-use Rattle.eco_ids.specs.Matching.{pattern_matches}
-use Rattle.eco_ids.specs.Order.{entity_eq, names_entity}
 use Rattle.eco_ids.proofs.Ascending.{both, first, second}
 use Rattle.eco_ids.proofs.Facts.{any_is, or_right}
-use Rattle.eco_ids.proofs.Overlaps.{entity_eq_itself, entity_eq_is}
 use Rattle.eco_tables.specs.Table.{TableState}
 use Rattle.eco_tables.specs.Tables.{slot_of}
+use Rattle.eco_index.specs.TypeTests.{AreNeeded, group_at, matches_one, passes_with, passes_without}
+use Rattle.eco_index.specs.IdIndex.{any_matches}
+use Rattle.eco_index.proofs.Keys.{and_true, or_false}
+use Rattle.eco_index.proofs.TypeTests.{same_truth}
+use Rattle.eco_index.proofs.Listings.{any_weaker, distinct_filtered, distinct_joined, distinct_none, listed_at}
 use Rattle.eco_archetypes.specs.Archetypes.{type_at, type_matches, has_one_of, is_found_by, is_found_in, FindsSome, IsAllFound}
-use Rattle.eco_archetypes.specs.TypeTests.{names_any, AreNeeded, each_alone, group_at, matches_each, matches_one, naming, passes_with, passes_without}
-use Rattle.eco_archetypes.specs.IdIndex.{any_matches}
-use Rattle.eco_archetypes.proofs.Keys.{and_true, or_false}
-use Rattle.eco_archetypes.proofs.Listings.{any_weaker, distinct_filtered, distinct_joined, distinct_none, listed_at}
-
-pub same_truth : (a b : Bool) → (a ≡ true → b ≡ true) → (b ≡ true → a ≡ true) → a ≡ b
-same_truth true b f g = sym (f refl)
-same_truth false true f g = g refl
-same_truth false false f g = refl
-
--- ---- the forms of a test
-
-one_pattern : (p : Pattern) (ids : List Id) → matches_one (p ∷ []) ids ≡ list_any (pattern_matches p) ids
-one_pattern p ids = or_false (any_matches ids p)
-
--- of a test with one group
-pub one_group : (test : List Id → Bool) (ps : List Pattern) → ((ids : List Id) → matches_one ps ids ≡ test ids) → AreNeeded test (ps ∷ [])
-one_group test ps is ids passes zero d within = is ids ∙ passes
-one_group test ps is ids passes (suc k) d within = absurd (omega (arith, within))
-
--- what its patterns find passes
-pub only_group : (test : List Id → Bool) (ps : List Pattern) (k : ℕ) (ids : List Id) → ((ids : List Id) → matches_one ps ids ≡ test ids)
-    → k < length (ps ∷ []) → matches_one (group_at (ps ∷ []) k) ids ≡ true → true ≡ test ids
-only_group test ps zero ids is within found = sym (sym (is ids) ∙ found)
-only_group test ps (suc k) ids is within found = absurd (omega (arith, within))
-
-swapped : (a b : Entity) → entity_eq a b ≡ entity_eq b a
-swapped a b = same_truth (entity_eq a b) (entity_eq b a) (turned a b) (turned b a)
-  where
-    turned : (a b : Entity) → entity_eq a b ≡ true → entity_eq b a ≡ true
-    turned a b h = ap (entity_eq b) (entity_eq_is a b h) ∙ entity_eq_itself b
-
-name_matches : (e : Entity) (i : Id)
-    → names_entity i e ≡ (pattern_matches (One e) i || (pattern_matches (Two (Is e) Any) i || pattern_matches (Two Any (Is e)) i))
-name_matches e (id.One x) = swapped x e ∙ sym (or_false (entity_eq e x))
-name_matches e (id.Two r t) = (λ k. swapped r e k || swapped t e k) ∙ sym (ap (λ b. b || entity_eq e t) (and_true (entity_eq e r)))
-
-shuffled : (a b c x y z : Bool) → ((a || x) || ((b || y) || ((c || z) || false))) ≡ ((a || (b || c)) || (x || (y || (z || false))))
-shuffled true b c x y z = refl
-shuffled false true c true y z = refl
-shuffled false true c false y z = refl
-shuffled false false true true y z = refl
-shuffled false false true false true z = refl
-shuffled false false true false false z = refl
-shuffled false false false x y z = refl
-
-pub names_match : (e : Entity) (ids : List Id) → matches_one (naming e) ids ≡ names_any ids e
-names_match e [] = refl
-names_match e (i ∷ ids) =
-    shuffled (pattern_matches (One e) i) (pattern_matches (Two (Is e) Any) i) (pattern_matches (Two Any (Is e)) i)
-    (any_matches ids (One e)) (any_matches ids (Two (Is e) Any)) (any_matches ids (Two Any (Is e)))
-    ∙ (λ k. sym (name_matches e i) k || names_match e ids k)
-
--- each pattern of a test of them all is needed
-pub each_needed : (ps : List Pattern) → AreNeeded (matches_each ps) (each_alone ps)
-each_needed [] ids passes k d within = absurd (omega (arith, within))
-each_needed (p ∷ ps) ids passes zero d within = one_pattern p ids ∙ first (any_matches ids p) (matches_each ps ids) passes
-each_needed (p ∷ ps) ids passes (suc k) d within = each_needed ps ids (second (any_matches ids p) (matches_each ps ids) passes) k d (omega (arith, within))
-
-pub alone_at : (ps : List Pattern) (k : ℕ) (d : Pattern) → k < length (each_alone ps) → group_at (each_alone ps) k ≡ get_or ps k d ∷ []
-alone_at [] k d within = absurd (omega (arith, within))
-alone_at (p ∷ ps) zero d within = refl
-alone_at (p ∷ ps) (suc k) d within = alone_at ps k d (omega (arith, within))
 
 -- ---- one table
 

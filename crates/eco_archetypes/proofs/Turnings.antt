@@ -18,14 +18,14 @@ use Rattle.eco_ids.proofs.SameIds.{id_eq-Decides, same_ids-Decides}
 use Rattle.eco_ids.proofs.SetLaws.{joins_with, leaves_without}
 use Rattle.eco_tables.specs.Table.{TableState, paired, width_in}
 use Rattle.eco_tables.specs.Tables.{slot_of, table_in, no_table, turned, Sets}
+use Rattle.eco_index.specs.Edges.{toggled, Cuts}
+use Rattle.eco_index.specs.IdIndex.{Lists, any_matches, matches_id, is_own, Turns, ListsSame}
+use Rattle.eco_index.specs.Caching.{AreTold}
+use Rattle.eco_index.specs.declared.cache.Cache.{Cache}
+use Rattle.eco_index.specs.TypeMap.{same_ids, IsTypeMap}
+use Rattle.eco_index.proofs.Graphs.{graph_cut}
 use Rattle.eco_archetypes.specs.Archetypes.{type_at, type_matches, IsArchetypes, IsIdIndex, TakesType, SameSlots}
 use Rattle.eco_archetypes.specs.Widths.{AreAgreed, Covers, KeepsWidths}
-use Rattle.eco_archetypes.specs.Edges.{toggled, Cuts}
-use Rattle.eco_archetypes.specs.IdIndex.{Lists, any_matches, matches_id, is_own, Turns, ListsSame}
-use Rattle.eco_archetypes.specs.Caching.{AreTold}
-use Rattle.eco_archetypes.specs.declared.cache.Cache.{Cache}
-use Rattle.eco_archetypes.specs.TypeMap.{same_ids, IsTypeMap}
-use Rattle.eco_archetypes.proofs.Graphs.{graph_cut}
 use Rattle.eco_archetypes.proofs.Widths.{kept_agreed, kept_widths, same_kept}
 
 way : (b : Bool) (P : Type 0) → (b ≡ true → P) → (b ≡ false → P) → P

@@ -9,12 +9,12 @@ use Rattle.eco_ids.specs.Matching.{pattern_matches}
 use Rattle.eco_ids.specs.declared.entity.Entity.{Entity}
 use Rattle.eco_tables.specs.Table.{TableState, retyped_row, Row, entities_of}
 use Rattle.eco_tables.specs.Tables.{slot_of, table_in, rowless_type}
-use Rattle.eco_archetypes.specs.Edges.{IsGraph}
-use Rattle.eco_archetypes.specs.TypeMap.{IsTypeMap}
-use Rattle.eco_archetypes.specs.IdIndex.{Lists, any_matches}
+use Rattle.eco_index.specs.Edges.{IsGraph}
+use Rattle.eco_index.specs.TypeMap.{IsTypeMap}
+use Rattle.eco_index.specs.IdIndex.{Lists, any_matches}
+use Rattle.eco_index.specs.Caching.{AreExact}
+use Rattle.eco_index.specs.declared.cache.Cache.{Cache}
 use Rattle.eco_archetypes.specs.Widths.{AreAgreed}
-use Rattle.eco_archetypes.specs.Caching.{AreExact}
-use Rattle.eco_archetypes.specs.declared.cache.Cache.{Cache}
 
 -- the type of the table in a slot, if there is one
 abbrev pub type_at : List (Option TableState) → ℕ → Option (List Id)

@@ -1,9 +1,3 @@
-pub mod IdIndex
-pub mod Marks
-pub mod TypeTests
-pub mod TypeMap
-pub mod Caching
-pub mod Edges
 pub mod Widths
 pub mod Archetypes
 pub mod Naming

@@ -1,31 +1,8 @@
--- What is left where tables went and what led to them goes.
-use Rattle.std.specs.Prelude.{◌≡◌, ◌⊎◌, ℕ, Bool, cond, ◌&&◌, List, Option, None, Some, is_some}
-use Rattle.std.specs.HashMap.{HashMap}
-use Rattle.eco_ids.specs.declared.id.Id.{Id}
-use Rattle.eco_ids.specs.declared.pattern.Pattern.{Pattern}
+-- What is left where tables went.
+use Rattle.std.specs.Prelude.{◌≡◌, ◌⊎◌, ℕ, List, Option, None}
 use Rattle.eco_tables.specs.Table.{TableState}
 use Rattle.eco_tables.specs.Tables.{slot_of}
-use Rattle.eco_archetypes.specs.Edges.{edge}
-use Rattle.eco_archetypes.specs.IdIndex.{Lists}
-
--- there is a table in the slot
-abbrev pub has_table : List (Option TableState) → ℕ → Bool
-has_table slots n = is_some (slot_of slots n)
 
 -- each slot has what it had, or nothing
 abbrev pub IsLess : List (Option TableState) → List (Option TableState) → Type 0
 IsLess old new = (n : ℕ) → (slot_of new n ≡ slot_of old n) ⊎ (slot_of new n ≡ None)
-
--- the slot, if there is one and it passes the test
-abbrev pub kept_if : (ℕ → Bool) → Option ℕ → Option ℕ
-kept_if stays None = None
-kept_if stays (Some n) = cond (stays n) (Some n) None
-
--- under each pattern those of the slots stay that pass the test
-abbrev pub KeepsListed : (ℕ → Bool) → Lists → Lists → Type 0
-KeepsListed stays old new = (p : Pattern) (n : ℕ) → new p n ≡ (old p n && stays n)
-
-module _ {S : Type 0} where
-  -- the edges between slots that pass the test stay, and no other
-  abbrev pub KeepsEdges : (ℕ → Bool) → List (HashMap Id ℕ S) → List (HashMap Id ℕ S) → Type 0
-  KeepsEdges stays old new = (n : ℕ) (i : Id) → edge new n i ≡ cond (stays n) (kept_if stays (edge old n i)) None

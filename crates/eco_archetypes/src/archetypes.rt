@@ -9,17 +9,15 @@ ghost use Rattle.eco_ids.specs.Order.{id_cmp};
 ghost use Rattle.eco_tables.specs.Table.{TableState, entities_of, empty_table};
 ghost use Rattle.eco_tables.specs.Tables.{slot_of, table_in, row_in, Sets, SetsRoom, Moves, MovesAll};
 ghost use Rattle.eco_tables.specs.Tables.{cleared, new_row, with_row, with_written, without_row, rowless_type};
+ghost use Rattle.eco_index.specs.Caching.{HaveRoom, StayExact};
+ghost use Rattle.eco_index.specs.Contents.{cache_list, slots_by_type};
+ghost use Rattle.eco_index.specs.TypeMap.{same_ids};
 ghost use Rattle.eco_archetypes.specs.Archetypes.{type_at, SameSlots, KeepsTypes, KeepsRoom, RowlessIn, RowlessBut, SameRows};
-ghost use Rattle.eco_archetypes.specs.Caching.{HaveRoom, StayExact};
-ghost use Rattle.eco_archetypes.specs.TypeMap.{same_ids};
 ghost use Rattle.eco_archetypes.specs.Widths.{FitsIn, KeepsWidths, StillCover};
 
-use crate::caches::Caches;
-use crate::edges::Edges;
-use crate::id_index::IdIndex;
-use crate::type_map::TypeMap;
 use eco_entities::EntityIndex;
 use eco_ids::{Entity, Id, TypeList, Value};
+use eco_index::{Caches, Edges, IdIndex, TypeMap};
 use eco_tables::Tables;
 use std::alloc::{AllocError, Global};
 use std::marker::Model;
@@ -64,15 +62,15 @@ impl Drop for Archetypes {
 impl Model for Archetypes {
     ghost use Rattle.std.specs.Prelude.{List, Option};
     ghost use Rattle.eco_tables.specs.Table.{TableState};
+    ghost use Rattle.eco_index.specs.Contents.{cache_list, edge_lists, lists_in, slots_by_type};
     ghost use Rattle.eco_archetypes.specs.Archetypes.{IsArchetypes};
-    ghost use Rattle.eco_archetypes.specs.IdIndex.{lists_of};
 
     ghost Value = { List (Option TableState) };
 
     ghost view = { λ a. a.tables };
 
-    ghost invariant = { λ a. IsArchetypes a.tables a.by_type.slots (lists_of a.by_id.slots)
-        a.edges.lists.items a.caches.list.items };
+    ghost invariant = { λ a. IsArchetypes a.tables (slots_by_type a.by_type) (lists_in a.by_id)
+        (edge_lists a.edges) (cache_list a.caches) };
 }
 
 impl Archetypes {
@@ -360,10 +358,10 @@ fn are_same(own: &[Id], other: &[Id]) -> bool
 // Room for one type more, and for one slot more in each cache, so that both are told of a type without memory. No type's slot
 // changes, nor what the caches have, whether it succeeds or not.
 fn reserve_one(by_type: &mut TypeMap, caches: &mut Caches) -> Result<(), AllocError>
-    ensures same { IsUnchanged by_type.old.slots by_type.new.slots }
-    ensures exact { StayExact caches.old.list.items caches.new.list.items }
-    ensures room { OnOk result (0 < spare by_type.new.slots) }
-    ensures rooms { OnOk result (HaveRoom caches.new.list.items) }
+    ensures same { IsUnchanged (slots_by_type by_type.old) (slots_by_type by_type.new) }
+    ensures exact { StayExact (cache_list caches.old) (cache_list caches.new) }
+    ensures room { OnOk result (0 < spare (slots_by_type by_type.new)) }
+    ensures rooms { OnOk result (HaveRoom (cache_list caches.new)) }
 {
     by_type.reserve_one()?;
     caches.reserve_one()

@@ -1,21 +1,16 @@
 //! The tables of a store, one for each type, with all that finds them (Flecs manual, Quickstart: entities with the same
 //! components stand together in an archetype table).
 //!
-//! [`Archetypes`] has the tables in their slots. A type finds its table through a map, an id that comes or goes leads over an edge
-//! from a table to the next, and a pattern finds the tables whose types have an id that it matches through an index. Who asks for more
-//! than a pattern asks by a [`TypeTest`]. A query that is asked again and again may be kept with the tables that it finds
-//! ([`Archetypes::keep`]): each table that comes, turns or goes is told to all that are kept.
+//! [`Archetypes`] has the tables in their slots, and the indices of `eco_index` over these. A type finds its table through a map,
+//! an id that comes or goes leads over an edge from a table to the next, and a pattern finds the tables whose types have an id
+//! that it matches through an index. Who asks for more than a pattern asks by a [`TypeTest`]. A query that is asked again and
+//! again may be kept with the tables that it finds ([`Archetypes::keep`]): each table that comes, turns or goes is told to all
+//! that are kept.
 #![tactic(auto)]
 
 mod archetypes;
-mod cache;
-mod caches;
-mod edges;
 mod found;
-mod id_index;
-mod type_map;
-mod type_test;
 
 pub use archetypes::Archetypes;
+pub use eco_index::{AllOf, Naming, TypeTest};
 pub use found::{Found, entities_in};
-pub use type_test::{AllOf, Naming, TypeTest};

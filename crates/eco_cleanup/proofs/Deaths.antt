@@ -16,8 +16,8 @@ use Rattle.eco_ids.proofs.Facts.{any_is, or_left, or_parts, or_right}
 use Rattle.eco_ids.proofs.Overlaps.{entity_eq_is, entity_eq_itself}
 use Rattle.eco_tables.specs.Table.{Row, TableState, entities_of}
 use Rattle.eco_tables.specs.Tables.{slot_of, table_in}
+use Rattle.eco_index.specs.TypeTests.{names_any}
 use Rattle.eco_archetypes.specs.Archetypes.{row_at}
-use Rattle.eco_archetypes.specs.TypeTests.{names_any}
 use Rattle.eco_store.specs.Store.{IsShown}
 use Rattle.eco_cleanup.specs.Nodes.{AreStarts, IsSearch, falls, is_falling, is_named, is_one_of, is_root, leads, node_same, taken_among}
 use Rattle.eco_cleanup.specs.Nodes.{taken_by, touches}

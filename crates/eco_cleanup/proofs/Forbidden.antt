@@ -16,7 +16,7 @@ use Rattle.eco_ids.proofs.IdOrder.{entity_cmp_total}
 use Rattle.eco_ids.proofs.LivingLists.{has_alive}
 use Rattle.eco_tables.specs.Table.{TableState, entities_of}
 use Rattle.eco_tables.specs.Tables.{slot_of, table_in}
-use Rattle.eco_archetypes.specs.TypeTests.{names_any}
+use Rattle.eco_index.specs.TypeTests.{names_any}
 use Rattle.eco_store.specs.Store.{IsShown}
 use Rattle.eco_cleanup.specs.Nodes.{AreStarts, IsSearch, falls, is_falling, is_named, is_one_of, node_same, taken_among}
 use Rattle.eco_cleanup.specs.Objections.{Judges, first_objection}

@@ -23,8 +23,8 @@ use Rattle.eco_ids.proofs.Facts.{any_is, or_parts, or_right}
 use Rattle.eco_ids.proofs.Overlaps.{entity_eq_is, entity_eq_itself}
 use Rattle.eco_tables.specs.Table.{TableState, entities_of}
 use Rattle.eco_tables.specs.Tables.{no_table, slot_of, table_in}
+use Rattle.eco_index.specs.TypeTests.{names_any}
 use Rattle.eco_archetypes.specs.Archetypes.{is_found, is_found_by, type_at, type_matches}
-use Rattle.eco_archetypes.specs.TypeTests.{names_any}
 use Rattle.eco_cleanup.specs.Nodes.{Appends, AreStarts, all_nodes, falls, has_rows, is_named, is_one_of, leads, named_node, nodes_at, nodes_from, touches}
 use Rattle.eco_cleanup.specs.Nodes.{touches_by}
 use Rattle.eco_cleanup.specs.declared.node.Node.{Node}

@@ -19,8 +19,8 @@ use Rattle.eco_ids.proofs.Facts.{or_left, or_parts, or_right}
 use Rattle.eco_ids.proofs.Overlaps.{entity_eq_is, entity_eq_itself}
 use Rattle.eco_tables.specs.Table.{RowsHaveIds, TableState, entities_of, Row}
 use Rattle.eco_tables.specs.Tables.{no_row, no_table, slot_of, table_in}
+use Rattle.eco_index.specs.TypeTests.{names_any as any_names}
 use Rattle.eco_archetypes.specs.Archetypes.{is_found_by}
-use Rattle.eco_archetypes.specs.TypeTests.{names_any as any_names}
 use Rattle.eco_store.specs.Store.{IsShown, Stands, record_ids}
 use Rattle.eco_store.specs.declared.type_change.TypeChange.{TypeChange}
 use Rattle.eco_cleanup.specs.Nodes.{AreStarts, IsSearch, falls, is_falling, is_named, is_one_of, leads, node_same, taken_among, touches}

@@ -13,8 +13,8 @@ use Rattle.eco_ids.specs.World.{WorldState}
 use Rattle.eco_ids.proofs.Overlaps.{entity_eq_is}
 use Rattle.eco_tables.specs.Table.{TableState, entities_of}
 use Rattle.eco_tables.specs.Tables.{slot_of, table_in}
+use Rattle.eco_index.specs.TypeTests.{names_any}
 use Rattle.eco_archetypes.specs.Archetypes.{is_found, is_found_by}
-use Rattle.eco_archetypes.specs.TypeTests.{names_any}
 use Rattle.eco_cleanup.specs.Policies.{names_on}
 use Rattle.eco_cleanup.specs.declared.node.Node.{Node}
 use Rattle.eco_cleanup.specs.declared.node.Node.TheVariants.{Root, Falling, Named}

@@ -10,8 +10,8 @@ use Rattle.eco_entities.specs.declared.place.Place.{Place}
 use Rattle.eco_entities.specs.Registration.{Registration, own_place}
 use Rattle.eco_tables.specs.Table.{TableState, Row}
 use Rattle.eco_tables.specs.Tables.{no_row}
+use Rattle.eco_index.specs.Edges.{exchanged}
 use Rattle.eco_store.specs.declared.layout.moves.Moved.{Moved}
-use Rattle.eco_archetypes.specs.Edges.{exchanged}
 use Rattle.eco_store.specs.Layout.{rows_in, ExchangesRow, MovesRow, ids_at}
 use Rattle.eco_store.specs.Seats.{seat_of, held_of}
 use Rattle.eco_archetypes.specs.Archetypes.{row_at}

@@ -12,11 +12,11 @@ use Rattle.eco_ids.specs.declared.id.Id.{Id}
 use Rattle.eco_ids.specs.Indices.{Indexed, record_of}
 use Rattle.eco_tables.specs.Table.{TableState}
 use Rattle.eco_tables.specs.Tables.{slot_of, table_in}
+use Rattle.eco_index.proofs.Listings.{listed_at}
 use Rattle.eco_archetypes.specs.Archetypes.{is_found_by, type_at}
 use Rattle.eco_store.specs.Retyping.{IsTypeBy}
 use Rattle.eco_store.specs.Store.{IsShown}
 use Rattle.eco_archetypes.proofs.ArchetypeLemmas.{type_there}
-use Rattle.eco_archetypes.proofs.Listings.{listed_at}
 use Rattle.eco_store.proofs.Holders.{found_matches, found_rows, has_found, row_kept, some_kept, first_row}
 
 found_there : (test : List Id → Bool) (o : Option TableState) → is_found_by test o ≡ true → IsSome o

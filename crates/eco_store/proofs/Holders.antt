@@ -13,6 +13,7 @@ use Rattle.eco_ids.specs.Indices.{Indexed, living, record_of}
 use Rattle.eco_ids.specs.Order.{entity_cmp, has_item, is_ascending}
 use Rattle.eco_tables.specs.Table.{Row, TableState, entities_of}
 use Rattle.eco_tables.specs.Tables.{no_table, slot_of, table_in}
+use Rattle.eco_index.proofs.TypeTests.{same_truth}
 use Rattle.eco_archetypes.specs.Archetypes.{is_found_by, FindsSome, standing_in, row_at}
 use Rattle.eco_store.specs.Holders.{passes, entities_whose}
 use Rattle.eco_store.specs.Store.{IsShown}
@@ -21,7 +22,6 @@ use Rattle.eco_ids.proofs.Ascending.{first, second}
 use Rattle.eco_ids.proofs.Facts.{or_right}
 use Rattle.eco_store.proofs.Sorting.{Apart, apart_append}
 use Rattle.eco_store.proofs.Values.{stands_type}
-use Rattle.eco_archetypes.proofs.Searching.{same_truth}
 
 pub first_row : (rows : List Row) → 0 < length rows → (r : Row) × (slice_get rows 0 ≡ Some r)
 first_row [] none = absurd (omega arith)

@@ -10,9 +10,9 @@ use Rattle.eco_ids.specs.declared.id.Id.{Id}
 use Rattle.eco_ids.specs.Order.{entity_eq}
 use Rattle.eco_tables.specs.Table.{TableState}
 use Rattle.eco_tables.specs.Tables.{slot_of, table_in, no_table, Moves}
+use Rattle.eco_index.specs.TypeMap.{same_ids}
 use Rattle.eco_archetypes.specs.Archetypes.{type_at}
 use Rattle.eco_store.specs.Preparing.{PreparedState, move_to, moves_of, is_next, moves_left, arriving, IsReady}
-use Rattle.eco_archetypes.specs.TypeMap.{same_ids}
 use Rattle.eco_archetypes.proofs.ArchetypeLemmas.{moves_types}
 use Rattle.eco_ids.proofs.SameIds.{same_ids-Decides}
 use Rattle.eco_store.proofs.Pouring.{still_there}

@@ -5,10 +5,10 @@ use Rattle.std.specs.List.{list_all}
 use Rattle.eco_ids.specs.World.{Record}
 use Rattle.eco_ids.proofs.Ascending.{first, second}
 use Rattle.eco_tables.specs.Column.{retyped}
+use Rattle.eco_index.specs.TypeMap.{same_ids}
 use Rattle.eco_store.specs.declared.type_change.TypeChange.{TypeChange}
 use Rattle.eco_store.specs.Retyping.{changed_record, IsOneWay}
 use Rattle.eco_store.specs.Store.{record_ids}
-use Rattle.eco_archetypes.specs.TypeMap.{same_ids}
 use Rattle.eco_ids.proofs.SameIds.{same_ids-Decides}
 
 -- who has another type than the one that goes

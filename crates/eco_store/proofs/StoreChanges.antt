@@ -22,8 +22,8 @@ use Rattle.eco_ids.proofs.Ascending.{first, second, less}
 use Rattle.eco_ids.proofs.IdOrder.{id_cmp_total}
 use Rattle.eco_tables.specs.Column.{value_in}
 use Rattle.eco_tables.specs.Table.{HasIds}
+use Rattle.eco_index.specs.TypeMap.{same_ids}
 use Rattle.eco_archetypes.specs.Archetypes.{type_at, KeepsTypes, row_at, SameRows}
-use Rattle.eco_archetypes.specs.TypeMap.{same_ids}
 use Rattle.eco_ids.proofs.SameIds.{same_ids-Decides}
 use Rattle.eco_entities.specs.declared.place.Place.{Place}
 use Rattle.eco_entities.specs.Registration.{Registration, placed, own_place}

@@ -7,10 +7,10 @@ use Rattle.eco_tables.specs.Table.{Row, TableState, retyped_row}
 use Rattle.eco_tables.specs.Tables.{no_table, no_row, slot_of, table_in, rowless, rowless_type}
 use Rattle.eco_ids.specs.declared.id.Id.{Id}
 use Rattle.eco_entities.specs.declared.place.Place.{Place}
+use Rattle.eco_index.specs.Edges.{toggled}
 use Rattle.eco_store.specs.Layout.{rows_in, RetypesRow, MovesRow, SetsRows, StepsRow}
 use Rattle.eco_archetypes.specs.Archetypes.{TakesType, RowlessIn, is_rowless, SameSlots}
 use Rattle.eco_store.specs.declared.layout.moves.Moved.{Moved}
-use Rattle.eco_archetypes.specs.Edges.{toggled}
 
 pub retypes_one : (xs : List Row) (row : ℕ) (f : Row → Row) (d : Row) → length xs ≡ 1 → row < length xs → map f xs ≡ set xs row (f (get_or xs row d))
 retypes_one [] row f d alone within = absurd (omega (arith, within))

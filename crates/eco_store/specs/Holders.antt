@@ -7,8 +7,8 @@ use Rattle.eco_ids.specs.declared.pattern.Pattern.{Pattern}
 use Rattle.eco_ids.specs.Indices.{Indexed, living}
 use Rattle.eco_ids.specs.Matching.{pattern_matches}
 use Rattle.eco_ids.specs.World.{Record}
+use Rattle.eco_index.specs.TypeTests.{names_any}
 use Rattle.eco_store.specs.Store.{record_ids}
-use Rattle.eco_archetypes.specs.TypeTests.{names_any}
 
 -- the ids of the record pass the test
 abbrev pub passes : (List Id → Bool) → Record → Bool

@@ -8,10 +8,10 @@ use Rattle.eco_ids.specs.declared.value.Value.{Value}
 use Rattle.eco_tables.specs.Table.{TableState, Row, HasIds, retyped_row, entities_of}
 use Rattle.eco_tables.specs.Tables.{table_in, row_in, no_row, new_row, row_with}
 use Rattle.eco_entities.specs.declared.place.Place.{Place}
+use Rattle.eco_index.specs.Edges.{exchanged, toggled}
 use Rattle.eco_store.specs.declared.moving.Move.{Move}
 use Rattle.eco_store.specs.declared.layout.moves.Moved.{Moved}
 use Rattle.eco_archetypes.specs.Archetypes.{RowlessIn}
-use Rattle.eco_archetypes.specs.Edges.{exchanged, toggled}
 use Rattle.eco_store.specs.Preparing.{PreparedState, staying, IsReady, HasNoIdleTarget}
 
 -- the tables in their slots, and the moves to come, the next one first

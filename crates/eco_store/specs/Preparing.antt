@@ -7,8 +7,8 @@ use Rattle.eco_ids.specs.declared.id.Id.{Id}
 use Rattle.eco_ids.specs.Order.{entity_eq}
 use Rattle.eco_tables.specs.Table.{TableState}
 use Rattle.eco_tables.specs.Tables.{slot_of, table_in}
+use Rattle.eco_index.specs.TypeMap.{same_ids}
 use Rattle.eco_store.specs.declared.moving.Move.{Move}
-use Rattle.eco_archetypes.specs.TypeMap.{same_ids}
 
 -- ---- as the store shows them
 

@@ -7,9 +7,9 @@ use Rattle.eco_ids.specs.declared.id.Id.{Id}
 use Rattle.eco_ids.specs.declared.pattern.Pattern.{Pattern}
 use Rattle.eco_ids.specs.Indices.{Indexed, map_state}
 use Rattle.eco_ids.specs.Matching.{pattern_matches}
+use Rattle.eco_index.specs.TypeMap.{same_ids}
 use Rattle.eco_store.specs.declared.type_change.TypeChange.{TypeChange}
 use Rattle.eco_store.specs.Store.{record_ids, type_of, with_type}
-use Rattle.eco_archetypes.specs.TypeMap.{same_ids}
 
 -- an entity of the type that goes has the type that comes: values of ids that both have stay, and new ids hold zeros
 abbrev pub changed_record : TypeChange → Record → Record

@@ -23,8 +23,8 @@ use Rattle.eco_entities.specs.declared.place.Place.{Place}
 use Rattle.eco_entities.specs.Needs.{need}
 use Rattle.eco_entities.specs.Registration.{Registration}
 use Rattle.eco_tables.specs.Tables.{table_in}
+use Rattle.eco_index.specs.Edges.{exchanged, toggled}
 use Rattle.eco_store.specs.declared.moving.Move.{Move}
-use Rattle.eco_archetypes.specs.Edges.{exchanged, toggled}
 use Rattle.eco_store.specs.Seats.{Seat, IsSeated, held_of}
 use Rattle.eco_archetypes.specs.Archetypes.{row_at}
 use Rattle.eco_archetypes.specs.Widths.{Covers}

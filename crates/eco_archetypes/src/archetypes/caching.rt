@@ -1,12 +1,12 @@
 //! Queries that are asked again and again keep the slots of the tables whose types fulfil them.
 ghost use Rattle.std.specs.Prelude.{◌≡◌, ◌&&◌, ℕ, cond, true, filter, IfOk, IfSome, IsTrue, OnOk, OnErr, nat_eq};
 ghost use Rattle.std.specs.List.{list_any, IsDistinct};
+ghost use Rattle.eco_index.specs.Caching.{fulfils, AreKept, AreThose};
 ghost use Rattle.eco_archetypes.specs.Archetypes.{type_at, has_rows, ArePassing};
-ghost use Rattle.eco_archetypes.specs.Caching.{fulfils, AreKept, AreThose};
 
 use crate::archetypes::Archetypes;
-use crate::type_test::TypeTest;
 use eco_entries::Choices;
+use eco_index::TypeTest;
 use eco_query::Query;
 use eco_tables::Tables;
 use indexmap::IndexSet;

@@ -3,13 +3,13 @@ ghost use Rattle.std.specs.Prelude.{◌≡◌, ℕ, List, Some, cond, IfOk, OnOk
 ghost use Rattle.std.specs.HashMap.{IsEmpty, get};
 ghost use Rattle.eco_ids.specs.declared.id.Id.{Id as Ids};
 ghost use Rattle.eco_tables.specs.Tables.{AreCopies};
+ghost use Rattle.eco_index.specs.Contents.{slots_by_type};
+ghost use Rattle.eco_index.specs.TypeMap.{same_ids, IsTypeMap};
 ghost use Rattle.eco_archetypes.specs.Archetypes.{type_at};
-ghost use Rattle.eco_archetypes.specs.TypeMap.{same_ids, IsTypeMap};
 
 use crate::archetypes::Archetypes;
-use crate::edges::Edges;
-use crate::type_map::TypeMap;
 use eco_ids::TypeList;
+use eco_index::{Edges, TypeMap};
 use eco_tables::Tables;
 use std::alloc::AllocError;
 
@@ -41,8 +41,8 @@ impl Archetypes {
 fn list_all(tables: &Tables, by_type: &mut TypeMap) -> Result<(), AllocError>
     requires kinds { (n m : ℕ) (ids : List Ids) →
         type_at tables.now n ≡ Some ids → type_at tables.now m ≡ Some ids → n ≡ m }
-    requires no_type { IsEmpty by_type.old.slots }
-    ensures { OnOk result (IsTypeMap (type_at tables.now) by_type.new.slots) }
+    requires no_type { IsEmpty (slots_by_type by_type.old) }
+    ensures { OnOk result (IsTypeMap (type_at tables.now) (slots_by_type by_type.new)) }
 {
     for slot in 0..tables.slot_count() {
         if let Some(table) = tables.get(slot) {
@@ -55,8 +55,8 @@ fn list_all(tables: &Tables, by_type: &mut TypeMap) -> Result<(), AllocError>
 // Lists a table under its type.
 fn list(type_list: &TypeList, slot: usize, by_type: &mut TypeMap) -> Result<(), AllocError>
     ensures { OnOk result ((q : List Ids) →
-        get same_ids by_type.new.slots q
-        ≡ cond (same_ids type_list.now q) (Some slot) (get same_ids by_type.old.slots q)) }
+        get same_ids (slots_by_type by_type.new) q
+        ≡ cond (same_ids type_list.now q) (Some slot) (get same_ids (slots_by_type by_type.old) q)) }
 {
     let key = type_list.try_copy()?;
     by_type.reserve_one()?;

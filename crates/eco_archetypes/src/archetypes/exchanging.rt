@@ -2,8 +2,8 @@
 ghost use Rattle.std.specs.Prelude.{◌≡◌, ◌≢◌, ◌<◌, ◌+◌, drop, length, slice_get, take, Some, IsSome, IsTrue, true, false, IfOk, IfSome};
 ghost use Rattle.eco_ids.specs.Order.{id_cmp, has_item};
 ghost use Rattle.eco_tables.specs.Tables.{slot_of, table_in};
+ghost use Rattle.eco_index.specs.Edges.{exchanged};
 ghost use Rattle.eco_archetypes.specs.Archetypes.{type_at, RowlessBut, SameRows};
-ghost use Rattle.eco_archetypes.specs.Edges.{exchanged};
 ghost use Rattle.eco_archetypes.specs.Widths.{StillCover};
 
 use crate::archetypes::{Archetypes, are_same};

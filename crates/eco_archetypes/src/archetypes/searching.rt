@@ -1,13 +1,13 @@
 //! Tables are found by tests of their types.
 ghost use Rattle.std.specs.Prelude.{◌≡◌, ℕ, nat_eq, ◌+◌, ◌<◌, ◌↔◌, ◌++◌, filter, length, IsTrue, IfOk, OnOk, OnErr};
 ghost use Rattle.std.specs.List.{All, list_any, IsDistinct};
+ghost use Rattle.eco_index.specs.TypeTests.{IsPlace, earlier_in, group_at, passes_with, passes_without};
 ghost use Rattle.eco_archetypes.specs.Archetypes.{is_found_in, FindsSome, IsAllFound, has_one_of, type_at, type_matches};
 ghost use Rattle.eco_archetypes.specs.Naming.{is_named_by_some};
-ghost use Rattle.eco_archetypes.specs.TypeTests.{IsPlace, earlier_in, group_at, passes_with, passes_without};
 
 use crate::archetypes::Archetypes;
-use crate::type_test::TypeTest;
 use eco_ids::{Entity, Pattern};
+use eco_index::TypeTest;
 use std::alloc::AllocError;
 
 impl Archetypes {

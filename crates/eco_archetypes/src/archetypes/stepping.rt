@@ -2,8 +2,8 @@
 ghost use Rattle.std.specs.Prelude.{◌≡◌, ◌≢◌, ◌<◌, Some, IsSome, IsTrue, IfOk, IfSome};
 ghost use Rattle.eco_ids.specs.Order.{id_cmp, is_ascending};
 ghost use Rattle.eco_tables.specs.Tables.{slot_of, table_in};
+ghost use Rattle.eco_index.specs.Edges.{toggled};
 ghost use Rattle.eco_archetypes.specs.Archetypes.{type_at, RowlessBut, SameRows};
-ghost use Rattle.eco_archetypes.specs.Edges.{toggled};
 ghost use Rattle.eco_archetypes.specs.Widths.{StillCover};
 
 use crate::archetypes::Archetypes;

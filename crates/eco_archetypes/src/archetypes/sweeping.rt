@@ -1,12 +1,13 @@
 //! Tables without rows go: one by one, or where they are many all at once.
 ghost use Rattle.std.specs.Prelude.{◌≡◌, ◌++◌, ◌∷◌, List, ℕ};
+ghost use Rattle.eco_index.specs.Caching.{AreExact};
+ghost use Rattle.eco_index.specs.Contents.{cache_list};
 ghost use Rattle.eco_archetypes.specs.Archetypes.{type_at, RowlessIn, SameRows};
-ghost use Rattle.eco_archetypes.specs.Caching.{AreExact};
 ghost use Rattle.eco_archetypes.specs.Sweeping.{IsLess};
 ghost use Rattle.eco_archetypes.specs.Widths.{KeepsWidths};
 
 use crate::archetypes::Archetypes;
-use crate::caches::Caches;
+use eco_index::Caches;
 use eco_tables::Tables;
 
 // Fewer tables than these go one by one.
@@ -63,8 +64,8 @@ fn drop_tables(tables: &mut Tables, caches: &mut Caches, slots: &[usize])
     ensures rowless { (others : List ℕ) →
         RowlessIn tables.old (slots.now ++ others) → RowlessIn tables.new others }
     ensures rows { SameRows tables.old tables.new }
-    ensures exact { AreExact (type_at tables.old) caches.old.list.items
-        → AreExact (type_at tables.new) caches.new.list.items }
+    ensures exact { AreExact (type_at tables.old) (cache_list caches.old)
+        → AreExact (type_at tables.new) (cache_list caches.new) }
 {
     for slot in slots {
         drop_table(tables, caches, *slot);
@@ -77,8 +78,8 @@ fn drop_table(tables: &mut Tables, caches: &mut Caches, slot: usize)
     ensures rowless { (others : List ℕ) →
         RowlessIn tables.old (slot ∷ others) → RowlessIn tables.new others }
     ensures rows { SameRows tables.old tables.new }
-    ensures exact { AreExact (type_at tables.old) caches.old.list.items
-        → AreExact (type_at tables.new) caches.new.list.items }
+    ensures exact { AreExact (type_at tables.old) (cache_list caches.old)
+        → AreExact (type_at tables.new) (cache_list caches.new) }
 {
     if tables.drop_empty(slot).is_some() {
         caches.forget(slot);

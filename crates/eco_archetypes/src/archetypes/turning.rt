@@ -3,16 +3,16 @@
 ghost use Rattle.std.specs.Prelude.{◌≡◌, ◌≢◌, ◌≤◌, ℕ, length, Some, IsSome, true, false, IfOk, OnOk, OnErr};
 ghost use Rattle.eco_ids.specs.Order.{id_cmp, has_item};
 ghost use Rattle.eco_tables.specs.Tables.{slot_of, table_in};
+ghost use Rattle.eco_index.specs.Edges.{toggled};
+ghost use Rattle.eco_index.specs.Contents.{lists_in};
 ghost use Rattle.eco_archetypes.specs.Archetypes.{type_at, IsIdIndex, TakesType, MayTakeType, SameSlots};
-ghost use Rattle.eco_archetypes.specs.Edges.{toggled};
-ghost use Rattle.eco_archetypes.specs.IdIndex.{lists_of};
 ghost use Rattle.eco_archetypes.specs.Widths.{AreAgreed, KeepsWidths, LetsGrow, StillCover, FitsAll};
 
 use crate::archetypes::stepping::toggled;
 use crate::archetypes::{Archetypes, reserve_one};
-use crate::id_index::IdIndex;
 use eco_entities::EntityIndex;
 use eco_ids::{Id, TypeList};
+use eco_index::IdIndex;
 use eco_tables::Tables;
 use std::alloc::{AllocError, Global};
 
@@ -102,14 +102,14 @@ fn toggle(
     width: u8,
 ) -> Result<(), AllocError>
     requires there { IsSome (slot_of tables.old slot) }
-    requires index { IsIdIndex (type_at tables.old) (lists_of by_id.old.slots) }
+    requires index { IsIdIndex (type_at tables.old) (lists_in by_id.old) }
     requires agreed { AreAgreed tables.old }
     requires few { width ≤ 4 }
     requires width { FitsAll tables.old id width }
     ensures ok { OnOk result
         (TakesType tables.old tables.new slot (toggled (table_in tables.old slot).ids id)) }
     ensures err { OnErr result (SameSlots tables.old tables.new) }
-    ensures index { IsIdIndex (type_at tables.new) (lists_of by_id.new.slots) }
+    ensures index { IsIdIndex (type_at tables.new) (lists_in by_id.new) }
     ensures agreed { AreAgreed tables.new }
     ensures widths { LetsGrow tables.old tables.new id width }
 {
@@ -131,14 +131,14 @@ fn gain(
 ) -> Result<(), AllocError>
     requires there { IsSome (slot_of tables.old slot) }
     requires lacks { has_item id_cmp (table_in tables.old slot).ids id ≡ false }
-    requires index { IsIdIndex (type_at tables.old) (lists_of by_id.old.slots) }
+    requires index { IsIdIndex (type_at tables.old) (lists_in by_id.old) }
     requires agreed { AreAgreed tables.old }
     requires few { width ≤ 4 }
     requires width { FitsAll tables.old id width }
     ensures ok { OnOk result
         (TakesType tables.old tables.new slot (toggled (table_in tables.old slot).ids id)) }
     ensures err { OnErr result (SameSlots tables.old tables.new) }
-    ensures index { IsIdIndex (type_at tables.new) (lists_of by_id.new.slots) }
+    ensures index { IsIdIndex (type_at tables.new) (lists_in by_id.new) }
     ensures agreed { AreAgreed tables.new }
     ensures widths { LetsGrow tables.old tables.new id width }
 {
@@ -154,10 +154,10 @@ fn gain(
 fn lose(tables: &mut Tables, by_id: &mut IdIndex, slot: usize, id: Id)
     requires there { IsSome (slot_of tables.old slot) }
     requires has { has_item id_cmp (table_in tables.old slot).ids id ≡ true }
-    requires index { IsIdIndex (type_at tables.old) (lists_of by_id.old.slots) }
+    requires index { IsIdIndex (type_at tables.old) (lists_in by_id.old) }
     requires agreed { AreAgreed tables.old }
     ensures turned { TakesType tables.old tables.new slot (toggled (table_in tables.old slot).ids id) }
-    ensures index { IsIdIndex (type_at tables.new) (lists_of by_id.new.slots) }
+    ensures index { IsIdIndex (type_at tables.new) (lists_in by_id.new) }
     ensures agreed { AreAgreed tables.new }
     ensures widths { KeepsWidths tables.old tables.new }
 {

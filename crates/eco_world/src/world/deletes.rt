@@ -4,7 +4,7 @@ ghost use Rattle.std.specs.List.{list_any};
 ghost use Rattle.eco_ids.specs.Delete.{DeletesOne, may_delete, DeletesWith, may_delete_with};
 ghost use Rattle.eco_ids.specs.Outcome.{Meets};
 ghost use Rattle.eco_ids.specs.World.{living};
-ghost use Rattle.eco_archetypes.specs.TypeTests.{names_any};
+ghost use Rattle.eco_index.specs.TypeTests.{names_any};
 ghost use Rattle.eco_store.specs.Store.{record_ids};
 
 use crate::world::World;

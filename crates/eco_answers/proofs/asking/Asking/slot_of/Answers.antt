@@ -2,7 +2,7 @@ use Rattle.std.proofs.Common.{◌≡◌, Option, Bor, sym, ◌∙◌, subst}
 use Rattle.std.specs.Prelude.{IsSome}
 use Rattle.eco_query.specs.declared.slot.Slot.{Slot}
 use Rattle.eco_query.specs.Queries.{patterns_of, term_view}
-use Rattle.eco_archetypes.specs.TypeTests.{group_at}
+use Rattle.eco_index.specs.TypeTests.{group_at}
 use Rattle.eco_answers.specs.Groups.{groups_of}
 use Rattle.eco_answers.proofs.Groups.{group_is}
 use Rattle.std.proofs.lemmas.Option.{same_Some}

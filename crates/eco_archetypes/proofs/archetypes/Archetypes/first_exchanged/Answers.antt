@@ -1,8 +1,8 @@
 use Rattle.std.proofs.Common.{◌≡◌, ◌+◌, Some, take, drop, slice_get, sym, ap, ◌∙◌}
 use Rattle.std.specs.Option.{option_copied}
 use Rattle.eco_ids.specs.Order.{id_cmp, has_item}
+use Rattle.eco_index.specs.Edges.{exchanged}
 use Rattle.eco_archetypes.specs.Archetypes.{type_at}
-use Rattle.eco_archetypes.specs.Edges.{exchanged}
 use Rattle.eco_archetypes.proofs.Exchanges.{exchanged_apart, exchanged_is}
 use Rattle.eco_archetypes.proofs.Leads.{stays_typed}
 use Rattle.eco_archetypes.proofs.ArchetypeLemmas.{typed_table}

@@ -1,4 +1,4 @@
-use Rattle.eco_archetypes.specs.IdIndex.{lists_of}
+use Rattle.eco_index.specs.IdIndex.{lists_of}
 use Rattle.eco_archetypes.proofs.ArchetypeLemmas.{found_dropped, rowless-type_at}
 use Rattle.eco_archetypes.proofs.archetypes.Archetypes.forget.Goals as goal
 

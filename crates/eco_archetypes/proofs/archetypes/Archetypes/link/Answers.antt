@@ -1,5 +1,5 @@
 use Rattle.std.proofs.Common.{sym, ◌∙◌}
-use Rattle.eco_archetypes.specs.IdIndex.{lists_of}
+use Rattle.eco_index.specs.IdIndex.{lists_of}
 use Rattle.eco_archetypes.proofs.Leads.{link_apart, back_free, found_joined, none_is}
 use Rattle.eco_archetypes.proofs.archetypes.Archetypes.link.Goals as goal
 

@@ -3,12 +3,12 @@ use Rattle.std.specs.Map.{lookup}
 use Rattle.eco_entities.specs.Needs.{need}
 use Rattle.eco_tables.specs.Table.{TableState, empty_table}
 use Rattle.eco_tables.specs.Tables.{Sets, no_table}
+use Rattle.eco_index.specs.TypeMap.{same_ids}
+use Rattle.eco_index.specs.IdIndex.{lists_of}
+use Rattle.eco_index.proofs.Caching.{exact_types, then_told}
 use Rattle.eco_archetypes.specs.Archetypes.{type_at}
-use Rattle.eco_archetypes.specs.TypeMap.{same_ids}
-use Rattle.eco_archetypes.specs.IdIndex.{lists_of}
 use Rattle.eco_archetypes.specs.Widths.{AreWidths}
 use Rattle.eco_archetypes.proofs.ArchetypeLemmas.{found_kept, found_made}
-use Rattle.eco_archetypes.proofs.Caching.{exact_types, then_told}
 use Rattle.eco_archetypes.proofs.Makings.{unmade}
 use Rattle.eco_archetypes.proofs.Turnings.{agreed_slots, index_slots}
 use Rattle.eco_archetypes.proofs.Widths.{made_agreed, made_covers, widths_few, widths_lengths}

@@ -1,4 +1,4 @@
-use Rattle.eco_archetypes.specs.IdIndex.{lists_of}
+use Rattle.eco_index.specs.IdIndex.{lists_of}
 use Rattle.eco_archetypes.proofs.ArchetypeLemmas.{found_same, moves_types, there_by_row, there_by_room}
 use Rattle.eco_archetypes.proofs.Widths.{kept_agreed, kept_widths, moves_kept}
 use Rattle.eco_archetypes.proofs.archetypes.Archetypes.move_row.Goals as goal

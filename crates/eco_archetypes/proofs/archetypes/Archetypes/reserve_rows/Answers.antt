@@ -1,5 +1,5 @@
 use Rattle.std.proofs.Common.{inl, refl}
-use Rattle.eco_archetypes.specs.IdIndex.{lists_of}
+use Rattle.eco_index.specs.IdIndex.{lists_of}
 use Rattle.eco_archetypes.proofs.ArchetypeLemmas.{found_same, sets_types}
 use Rattle.eco_archetypes.proofs.Widths.{kept_agreed, kept_widths, sets_kept}
 use Rattle.eco_archetypes.proofs.archetypes.Archetypes.reserve_rows.Goals as goal

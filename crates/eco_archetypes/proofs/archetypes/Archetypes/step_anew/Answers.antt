@@ -3,9 +3,9 @@ use Rattle.std.specs.Option.{option_copied}
 use Rattle.std.proofs.lemmas.Result.{err_from_is_err_and}
 use Rattle.eco_ids.specs.Order.{id_cmp, is_ascending}
 use Rattle.eco_tables.specs.Tables.{slot_of, table_in}
+use Rattle.eco_index.specs.Edges.{toggled}
 use Rattle.eco_archetypes.specs.Archetypes.{type_at, KeepsTypes, RowlessIn, SameRows}
 use Rattle.eco_archetypes.specs.Widths.{StillCover}
-use Rattle.eco_archetypes.specs.Edges.{toggled}
 use Rattle.eco_archetypes.proofs.Leads.{apart_by_type, stays_typed}
 use Rattle.eco_archetypes.proofs.ArchetypeLemmas.{typed_table}
 use Rattle.eco_archetypes.proofs.archetypes.Archetypes.step_anew.Goals as goal

@@ -4,12 +4,12 @@ use Rattle.std.specs.Option.{option_copied}
 use Rattle.eco_tables.specs.Table.{TableState}
 use Rattle.eco_tables.specs.Tables.{slot_of}
 use Rattle.eco_entities.specs.Needs.{need}
+use Rattle.eco_index.specs.IdIndex.{lists_of}
+use Rattle.eco_index.specs.TypeMap.{same_ids}
+use Rattle.eco_index.proofs.Caching.{exact_types, then_told}
 use Rattle.eco_archetypes.specs.Archetypes.{TakesType, type_at}
-use Rattle.eco_archetypes.specs.IdIndex.{lists_of}
-use Rattle.eco_archetypes.specs.TypeMap.{same_ids}
 use Rattle.eco_archetypes.proofs.ArchetypeLemmas.{found_kept}
 use Rattle.eco_archetypes.proofs.Turnings.{found_turned}
-use Rattle.eco_archetypes.proofs.Caching.{exact_types, then_told}
 use Rattle.eco_archetypes.proofs.archetypes.Archetypes.turn.Goals as goal
 
 pub invariant_of-self-2 : goal.invariant_of-self-2

@@ -1,6 +1,6 @@
 use Rattle.std.proofs.Common.{take}
+use Rattle.eco_index.specs.Caching.{AreThose}
 use Rattle.eco_archetypes.specs.Archetypes.{type_at}
-use Rattle.eco_archetypes.specs.Caching.{AreThose}
 use Rattle.eco_archetypes.proofs.archetypes.caching.fulfilling.Given as goal
 
 abbrev pub invariant-loop-slot : goal.invariant-loop-slot

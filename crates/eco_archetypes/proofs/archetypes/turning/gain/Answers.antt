@@ -2,8 +2,8 @@ use Rattle.std.proofs.Common.{◌≡◌, Some, false, option_map, unwrap_or, ap,
 use Rattle.std.specs.Option.{option_copied}
 use Rattle.eco_tables.specs.Table.{TableState}
 use Rattle.eco_tables.specs.Tables.{slot_of, table_in, no_table}
+use Rattle.eco_index.specs.IdIndex.{Turns, is_own, lists_of}
 use Rattle.eco_archetypes.specs.Archetypes.{SameSlots}
-use Rattle.eco_archetypes.specs.IdIndex.{Turns, is_own, lists_of}
 use Rattle.eco_archetypes.proofs.ArchetypeLemmas.{type_there}
 use Rattle.eco_archetypes.proofs.Turnings.{agreed_slots, covers_slots, gained_agreed, gained_covers, index_back, index_gained, kept_slots, one, wide_gained}
 use Rattle.eco_archetypes.proofs.archetypes.turning.gain.Goals as goal

@@ -3,8 +3,8 @@ use Rattle.std.specs.Option.{option_copied}
 use Rattle.eco_ids.specs.Order.{id_cmp, without_item}
 use Rattle.eco_tables.specs.Table.{TableState}
 use Rattle.eco_tables.specs.Tables.{slot_of, table_in, no_table}
+use Rattle.eco_index.specs.IdIndex.{Turns, is_own, lists_of}
 use Rattle.eco_archetypes.specs.Archetypes.{type_at}
-use Rattle.eco_archetypes.specs.IdIndex.{Turns, is_own, lists_of}
 use Rattle.eco_archetypes.proofs.ArchetypeLemmas.{type_there}
 use Rattle.eco_archetypes.proofs.Turnings.{gone_lost, index_lost, lost_agreed, lost_widths, one, wide_lost}
 use Rattle.eco_archetypes.proofs.archetypes.turning.lose.Goals as goal

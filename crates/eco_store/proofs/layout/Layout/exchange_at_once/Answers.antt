@@ -3,7 +3,7 @@ use Rattle.std.proofs.lemmas.Result.{err_from_is_err_and}
 use Rattle.eco_ids.specs.Order.{id_cmp, has_item}
 use Rattle.eco_ids.proofs.Results.{err_says}
 use Rattle.eco_tables.specs.Tables.{no_row, AllHaveIds}
-use Rattle.eco_archetypes.specs.Edges.{exchanged}
+use Rattle.eco_index.specs.Edges.{exchanged}
 use Rattle.eco_store.specs.Layout.{LayoutState, rows_in, ids_at, MovesRow}
 use Rattle.eco_store.specs.Preparing.{staying}
 use Rattle.eco_store.proofs.LaidRows.{rows_alike, idle_laid, idle_leaves, idle_moves, still_laid}

@@ -1,8 +1,8 @@
 use Rattle.std.proofs.Common.{◌<◌, ◌≡◌, IsSome, length, unwrap_or, sym, ap, subst, ◌∙◌}
 use Rattle.std.proofs.lemmas.Result.{err_from_is_err_and}
 use Rattle.eco_tables.specs.Tables.{no_row, no_table, table_in, AllHaveIds}
+use Rattle.eco_index.specs.Edges.{toggled}
 use Rattle.eco_archetypes.specs.Archetypes.{MayTakeType, SameSlots, SameRows}
-use Rattle.eco_archetypes.specs.Edges.{toggled}
 use Rattle.eco_store.specs.Layout.{LayoutState, rows_in, ids_at, MovesRow, RetypesRow}
 use Rattle.eco_store.specs.Preparing.{staying}
 use Rattle.eco_archetypes.proofs.ArchetypeLemmas.{rows_from_slots, then_rows, there_by_row, typed_table}

@@ -1,5 +1,5 @@
 use Rattle.std.proofs.Common.{false, sym, ◌∙◌, true≢false}
-use Rattle.eco_archetypes.specs.TypeTests.{names_any}
+use Rattle.eco_index.specs.TypeTests.{names_any}
 use Rattle.eco_archetypes.proofs.Named.{none_names}
 use Rattle.eco_store.proofs.Holders.{held_is}
 use Rattle.eco_store.proofs.Values.{shows}

@@ -1,6 +1,6 @@
 use Rattle.std.proofs.Common.{sym, subst, ◌∙◌}
 use Rattle.eco_tables.specs.Column.{retyped}
-use Rattle.eco_archetypes.specs.Edges.{toggled}
+use Rattle.eco_index.specs.Edges.{toggled}
 use Rattle.eco_store.specs.Layout.{StepsRow, ids_at}
 use Rattle.eco_store.proofs.RowCounts.{own_fits, end_fits}
 use Rattle.eco_store.proofs.StoreChanges as changes

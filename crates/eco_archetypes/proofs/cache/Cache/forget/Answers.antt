@@ -1,5 +1,0 @@
-use Rattle.std.proofs.Common.{None, refl}
-use Rattle.eco_archetypes.proofs.cache.Cache.forget.Goals as goal
-
-pub returns : goal.returns
-returns c = c.take_out.ensures None refl

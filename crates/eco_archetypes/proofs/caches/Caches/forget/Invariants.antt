@@ -1,6 +1,0 @@
-use Rattle.std.proofs.Common.{None}
-use Rattle.eco_archetypes.proofs.Caching.{AreToldTo}
-use Rattle.eco_archetypes.proofs.caches.Caches.forget.Given as goal
-
-abbrev pub invariant-loop-cache : goal.invariant-loop-cache
-invariant-loop-cache l = AreToldTo l.fn.self.list.items l.cache-items l.slot None l.cache-index

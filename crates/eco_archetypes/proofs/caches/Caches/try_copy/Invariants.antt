@@ -1,6 +1,0 @@
-use Rattle.std.proofs.Common.{take}
-use Rattle.eco_archetypes.specs.Caching.{StayExact}
-use Rattle.eco_archetypes.proofs.caches.Caches.try_copy.Given as goal
-
-abbrev pub invariant-loop-cache : goal.invariant-loop-cache
-invariant-loop-cache l = StayExact (take l.cache-index l.fn.self.list.items) l.list.items

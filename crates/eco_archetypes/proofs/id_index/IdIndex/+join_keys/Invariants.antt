@@ -1,5 +1,0 @@
-use Rattle.std.proofs.Common.{length}
-use Rattle.eco_archetypes.proofs.id_index.IdIndex.+join_keys.Given as goal
-
-abbrev pub decreases-join_keys : goal.decreases-join_keys
-decreases-join_keys l = length l.keys.now

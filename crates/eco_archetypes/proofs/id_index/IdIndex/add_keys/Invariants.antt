@@ -1,6 +1,0 @@
-use Rattle.std.proofs.Common.{true, take}
-use Rattle.eco_archetypes.specs.IdIndex.{Turns, has_one, lists_of}
-use Rattle.eco_archetypes.proofs.id_index.IdIndex.add_keys.Given as goal
-
-abbrev pub invariant-loop-key : goal.invariant-loop-key
-invariant-loop-key l = Turns true (has_one (take l.key-index l.keys)) (lists_of l.initial.self.slots) (lists_of l.self.slots) l.slot

@@ -1,5 +1,0 @@
-use Rattle.std.proofs.Common.{◌<◌, length}
-use Rattle.eco_archetypes.proofs.id_index.IdIndex.shortest_group.Given as goal
-
-abbrev pub invariant-loop-group : goal.invariant-loop-group
-invariant-loop-group g l = l.shortest < length (g.T.TypeTest.groups l.test)

@@ -1,8 +1,0 @@
-use Rattle.eco_archetypes.specs.TypeTests.{names_any, naming}
-use Rattle.eco_archetypes.proofs.Searching.{names_match, only_group}
-use Rattle.eco_archetypes.proofs.type_test.NamingTypeTest.passes_found.Goals as goal
-
-pub returns : goal.returns
-returns c =
-    let e = c.args.self.now.entity in
-    only_group (λ ids. names_any ids e) (naming e) c.args._group c.args._type_list.now (names_match e) c.requires.group c.requires.found

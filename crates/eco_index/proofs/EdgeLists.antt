@@ -1,0 +1,212 @@
+-- What a change of one list of edges leaves.
+use Rattle.std.proofs.Common.{◌≡◌, ◌≢◌, ℕ, zero, suc, get_or, ◌<◌, ◌≤◌, ◌&&◌, ◌||◌, Bool, true, false, cond, List, take, [], ◌∷◌, ◌++◌, length, set, Option}
+use Rattle.std.proofs.Common.{Some, None, nat_eq, refl, sym, ap, ◌∙◌, arith}
+use Rattle.std.specs.List.{slice_get}
+use Rattle.std.specs.Map.{lookup}
+use Rattle.std.specs.HashMap.{HashMap, get}
+use Rattle.std.proofs.lemmas.Option.{slice_get_past}
+use Rattle.std.proofs.lemmas.Bool.Decides.{Decides-eqb}
+use Rattle.eco_ids.proofs.Lists.{slice_get-set_same, slice_get-set_other}
+use Rattle.eco_ids.specs.declared.id.Id.{Id}
+use Rattle.eco_index.specs.Edges.{same_id, edge, edge_of, leads_to, IsTwofold, SameEdges, Puts, Cuts}
+use Rattle.eco_ids.proofs.SameIds.{id_eq-Decides}
+
+-- the two ways of a test
+pub way : (b : Bool) (P : Type 0) → (b ≡ true → P) → (b ≡ false → P) → P
+way true P f g = f refl
+way false P f g = g refl
+
+abbrev pub same_slot : (a b : ℕ) → nat_eq a b ≡ true → a ≡ b
+same_slot a b e = (Decides-eqb a b).0 e
+
+-- the last entry, where none before it has its key
+pub popped : (es : List (Id × ℕ)) (i : Id) (to : ℕ) → lookup (same_id i) es ≡ None → lookup (same_id i) (es ++ (i, to) ∷ []) ≡ Some to
+popped [] i to none = let same = (id_eq-Decides i i).1 refl in rw same refl
+popped (e ∷ es) i to none = by (same_id i e.0) refl (λ rest. popped es i to rest)
+  where
+    by : (b : Bool) → same_id i e.0 ≡ b → (lookup (same_id i) es ≡ None → lookup (same_id i) (es ++ (i, to) ∷ []) ≡ Some to)
+        → lookup (same_id i) ((e ∷ es) ++ (i, to) ∷ []) ≡ Some to
+    by true e' rest = let bad = rw e' at none in cc
+    by false e' rest = let later = rw e' at none in rw e' (rest later)
+
+pub some_at : {X : Type 0} (xs : List X) (i : ℕ) (d : X) → i < length xs → slice_get xs i ≡ Some (get_or xs i d)
+some_at [] i d within = absurd (omega arith)
+some_at (x ∷ xs) zero d within = refl
+some_at (x ∷ xs) (suc i) d within = some_at xs i d (omega arith)
+
+-- an entry that is looked for, and none before it
+pub lookup_here : (t : Id → Bool) (es : List (Id × ℕ)) (k : ℕ) (e : Id × ℕ) → lookup t (take k es) ≡ None → slice_get es k ≡ Some e → t e.0 ≡ true →
+    lookup t es ≡ Some e.1
+lookup_here t [] k e none at is = absurd (cc)
+lookup_here t (x ∷ es) zero e none at is =
+    let same : x ≡ e = cc in
+    ap (λ (y : Id × ℕ). cond (t y.0) (Some y.1) (lookup t es)) same ∙ ap (λ b. cond b (Some e.1) (lookup t es)) is
+lookup_here t (x ∷ es) (suc k) e none at is = by (t x.0) none (λ h. lookup_here t es k e h at is)
+  where
+    by : (b : Bool) → cond b (Some x.1) (lookup t (take k es)) ≡ None → (lookup t (take k es) ≡ None → lookup t es ≡ Some e.1)
+        → cond b (Some x.1) (lookup t es) ≡ Some e.1
+    by true h rest = absurd (cc)
+    by false h rest = rest h
+
+-- one that is not, and none before it
+pub lookup_past : {K X : Type 0} (t : K → Bool) (es : List (K × X)) (k : ℕ) (e : K × X) → lookup t (take k es) ≡ None → slice_get es k ≡ Some e
+    → t e.0 ≡ false → lookup t (take (suc k) es) ≡ None
+lookup_past t [] k e none at other = absurd (cc)
+lookup_past {K = K} {X = X} t (x ∷ es) zero e none at other =
+    let same : x ≡ e = cc in
+    ap (λ (y : K × X). cond (t y.0) (Some y.1) None) same ∙ ap (λ b. cond b (Some e.1) None) other
+lookup_past t (x ∷ es) (suc k) e none at other = by (t x.0) none (λ h. lookup_past t es k e h at other)
+  where
+    by : (b : Bool) → cond b (Some x.1) (lookup t (take k es)) ≡ None → (lookup t (take k es) ≡ None → lookup t (take (suc k) es) ≡ None)
+        → cond b (Some x.1) (lookup t (take (suc k) es)) ≡ None
+    by true h rest = absurd (cc)
+    by false h rest = rest h
+
+-- where an edge that is there leads
+pub leads_is : (n : ℕ) (o : Option ℕ) → leads_to n o ≡ true → o ≡ Some n
+leads_is n None e = let bad : ◌≡◌ {A = Bool} false true = e in cc
+leads_is n (Some m) e = ap Some (sym (same_slot n m e))
+
+pub leads_there : (n : ℕ) (o : Option ℕ) → o ≡ Some n → leads_to n o ≡ true
+leads_there n o e = ap (leads_to n) e ∙ (Decides-eqb n n).1 refl
+
+module _ {S : Type 0} where
+  -- one list is another now, which differs at one id
+  pub put_edges : (lists : List (HashMap Id ℕ S)) (slot : ℕ) (m' : HashMap Id ℕ S) (i : Id) (to : Option ℕ) → slot < length lists
+      → ((q : Id) → get same_id m' q ≡ cond (same_id i q) to (edge lists slot q))
+      → Puts lists (set lists slot m') slot i to
+  put_edges lists slot m' i to within gets n j = way (nat_eq n slot) (edge (set lists slot m') n j ≡ cond (nat_eq n slot && same_id i j) to (edge lists n j))
+      (λ same.
+      let is = same_slot n slot same in
+      ap (λ k. edge (set lists slot m') k j) is
+      ∙ ap (λ o. edge_of o j) (slice_get-set_same lists slot m' within)
+      ∙ gets j
+      ∙ ap (λ k. cond (same_id i j) to (edge lists k j)) (sym is)
+      ∙ ap (λ b. cond (b && same_id i j) to (edge lists n j)) (sym same))
+      (λ other.
+      let apart : n ≢ slot = λ is. let bad = (Decides-eqb n slot).1 is in cc in
+      ap (λ o. edge_of o j) (slice_get-set_other lists slot n m' apart)
+      ∙ ap (λ b. cond (b && same_id i j) to (edge lists n j)) (sym other))
+
+  -- past the end there is no edge, so none goes
+  pub take_past : (lists : List (HashMap Id ℕ S)) (slot : ℕ) (i : Id) → length lists ≤ slot → Puts lists lists slot i None
+  take_past lists slot i past n j = way (nat_eq n slot) (edge lists n j ≡ cond (nat_eq n slot && same_id i j) None (edge lists n j))
+      (λ same.
+      let none : edge lists n j ≡ None = ap (λ k. edge lists k j) (same_slot n slot same) ∙ ap (λ o. edge_of o j) (slice_get_past lists slot past) in
+      none ∙ by (nat_eq n slot && same_id i j) (edge lists n j) none)
+      (λ other. ap (λ b. cond (b && same_id i j) None (edge lists n j)) (sym other))
+    where
+      by : (b : Bool) (o : Option ℕ) → o ≡ None → None ≡ cond b None o
+      by true o e = refl
+      by false o e = sym e
+
+  -- a list without edges more
+  pub cover_edges : (lists : List (HashMap Id ℕ S)) (m : HashMap Id ℕ S) → m.entries ≡ [] → SameEdges lists (lists ++ m ∷ [])
+  cover_edges [] m none zero j = ap (λ es. lookup (same_id j) es) none
+  cover_edges [] m none (suc n) j = refl
+  cover_edges (x ∷ xs) m none zero j = refl
+  cover_edges (x ∷ xs) m none (suc n) j = cover_edges xs m none n j
+
+  -- one edge back is taken, and its own with it: what is left to take comes to the same
+  pub back_more : (own own' : HashMap Id ℕ S) (now now' : List (HashMap Id ℕ S)) (i : Id) (to : ℕ)
+      → get same_id own i ≡ Some to
+      → ((q : Id) → get same_id own' q ≡ cond (same_id i q) None (get same_id own q))
+      → Puts now now' to i None
+      → (n : ℕ) (j : Id) → cond (leads_to n (get same_id own' j)) None (edge now' n j) ≡ cond (leads_to n (get same_id own j)) None (edge now n j)
+  back_more own own' now now' i to had gets puts n j =
+      ap (λ o. cond (leads_to n o) None (edge now' n j)) (gets j) ∙ ap (λ o. cond (leads_to n (cond (same_id i j) None (get same_id own j))) None o) (puts n j)
+      ∙ way (same_id i j) (cond (leads_to n (cond (same_id i j) None (get same_id own j))) None (cond (nat_eq n to && same_id i j) None (edge now n j))
+      ≡ cond (leads_to n (get same_id own j)) None (edge now n j))
+      (λ same.
+      let is = (id_eq-Decides i j).0 same in
+      let here : get same_id own j ≡ Some to = ap (get same_id own) (sym is) ∙ had in
+      rw (same, here) (by (nat_eq n to) (edge now n j)))
+      (λ other. rw other (none_of (nat_eq n to) (get same_id own j) (edge now n j)))
+    where
+      by : (b : Bool) (o : Option ℕ) → cond (b && true) None o ≡ cond b None o
+      by true o = refl
+      by false o = refl
+
+      none_of : (b : Bool) (g o : Option ℕ) → cond (leads_to n g) None (cond (b && false) None o) ≡ cond (leads_to n g) None o
+      none_of true g o = refl
+      none_of false g o = refl
+
+  -- nothing is left to take
+  pub back_done : (own : HashMap Id ℕ S) (now : List (HashMap Id ℕ S)) (n : ℕ) (j : Id) → own.entries ≡ []
+      → cond (leads_to n (get same_id own j)) None (edge now n j) ≡ edge now n j
+  back_done own now n j none = ap (λ es. cond (leads_to n (lookup (same_id j) es)) None (edge now n j)) none
+
+  -- what stands at a slot has the slot's edges
+  pub at_slot : (lists : List (HashMap Id ℕ S)) (slot : ℕ) (m : HashMap Id ℕ S) → slot < length lists → m ≡ get_or lists slot m →
+      (q : Id) → get same_id m q ≡ edge lists slot q
+  at_slot lists slot m within is q = ap (λ x. get same_id x q) is ∙ sym (ap (λ o. edge_of o q) (some_at lists slot m within))
+
+  -- from either side
+  both_ways : (lists : List (HashMap Id ℕ S)) → IsTwofold lists → (n m : ℕ) (j : Id) → leads_to n (edge lists m j) ≡ leads_to m (edge lists n j)
+  both_ways lists twofold n m j = by (leads_to n (edge lists m j)) (leads_to m (edge lists n j)) refl refl
+    where
+      by : (a b : Bool) → leads_to n (edge lists m j) ≡ a → leads_to m (edge lists n j) ≡ b → a ≡ b
+      by true true p q = refl
+      by false false p q = refl
+      by true false p q = let r = leads_there m (edge lists n j) (twofold m n j (leads_is n (edge lists m j) p)) in cc
+      by false true p q = let r = leads_there n (edge lists m j) (twofold n m j (leads_is m (edge lists n j) q)) in cc
+
+  pub cut_past : (lists : List (HashMap Id ℕ S)) (slot : ℕ) → IsTwofold lists → length lists ≤ slot → Cuts lists lists slot
+  cut_past lists slot twofold past n j =
+      let none : edge lists slot j ≡ None = ap (λ o. edge_of o j) (slice_get_past lists slot past) in
+      let back : leads_to slot (edge lists n j) ≡ false = sym (both_ways lists twofold n slot j) ∙ ap (leads_to n) none in
+      way (nat_eq n slot) (edge lists n j ≡ cond (nat_eq n slot || leads_to slot (edge lists n j)) None (edge lists n j))
+      (λ same. ap (λ k. edge lists k j) (same_slot n slot same) ∙ none ∙ ap (λ b. cond (b || leads_to slot (edge lists n j)) None (edge lists n j)) (sym same))
+      (λ other. ap (λ b. cond b None (edge lists n j)) (sym (ap (λ b. b || leads_to slot (edge lists n j)) other ∙ back)))
+
+  pub cut_edges : (old new : List (HashMap Id ℕ S)) (slot : ℕ) (own m' : HashMap Id ℕ S) → IsTwofold old → slot < length old
+      → own ≡ get_or old slot own → m'.entries ≡ []
+      → ((n : ℕ) (j : Id) → edge new n j ≡ cond (leads_to n (get same_id own j)) None (edge (set old slot m') n j))
+      → Cuts old new slot
+  cut_edges old new slot own m' twofold within is none takes n j = takes n j ∙ way (nat_eq n slot)
+      (cond (leads_to n (get same_id own j)) None (edge (set old slot m') n j) ≡ cond (nat_eq n slot || leads_to slot (edge old n j)) None (edge old n j))
+      (λ same.
+      ap (λ k. cond (leads_to n (get same_id own j)) None (edge (set old slot m') k j)) (same_slot n slot same)
+      ∙ ap (λ o. cond (leads_to n (get same_id own j)) None (edge_of o j)) (slice_get-set_same old slot m' within)
+      ∙ ap (λ es. cond (leads_to n (get same_id own j)) None (lookup (same_id j) es)) none
+      ∙ nothing (leads_to n (get same_id own j))
+      ∙ ap (λ b. cond (b || leads_to slot (edge old n j)) None (edge old n j)) (sym same))
+      (λ other.
+      let apart : n ≢ slot = λ is. let bad = (Decides-eqb n slot).1 is in cc in
+      ap (λ o. cond (leads_to n (get same_id own j)) None (edge_of o j)) (slice_get-set_other old slot n m' apart)
+      ∙ ap (λ o. cond (leads_to n o) None (edge old n j)) (at_slot old slot own within is j)
+      ∙ ap (λ b. cond b None (edge old n j)) (both_ways old twofold n slot j)
+      ∙ ap (λ b. cond (b || leads_to slot (edge old n j)) None (edge old n j)) (sym other))
+    where
+      nothing : (b : Bool) → cond {A = Option ℕ} b None None ≡ None
+      nothing true = refl
+      nothing false = refl
+
+  -- a slot without edges gets another list without any
+  pub emptied_edges : (lists : List (HashMap Id ℕ S)) (slot : ℕ) (m' : HashMap Id ℕ S) → slot < length lists → ((j : Id) → edge lists slot j ≡ None)
+      → m'.entries ≡ [] → SameEdges lists (set lists slot m')
+  emptied_edges lists slot m' within bare none n j = way (nat_eq n slot) (edge (set lists slot m') n j ≡ edge lists n j)
+      (λ same.
+      ap (λ k. edge (set lists slot m') k j) (same_slot n slot same)
+      ∙ ap (λ o. edge_of o j) (slice_get-set_same lists slot m' within)
+      ∙ ap (λ es. lookup (same_id j) es) none
+      ∙ sym (ap (λ k. edge lists k j) (same_slot n slot same) ∙ bare j))
+      (λ other. ap (λ o. edge_of o j) (slice_get-set_other lists slot n m' (λ is. let bad = (Decides-eqb n slot).1 is in cc)))
+
+  -- a slot that was cut has no edge
+  pub cut_bare : (old new : List (HashMap Id ℕ S)) (slot : ℕ) → Cuts old new slot → (j : Id) → edge new slot j ≡ None
+  cut_bare old new slot cuts j =
+      cuts slot j ∙ ap (λ b. cond (b || leads_to slot (edge old slot j)) None (edge old slot j)) ((Decides-eqb slot slot).1 refl)
+
+-- an edge that was put where none was, and taken again
+pub put_taken : {S : Type 0} (g g1 g2 g3 g4 : List (HashMap Id ℕ S)) (n : ℕ) (i : Id) (to : ℕ) → edge g n i ≡ None → SameEdges g g1
+    → Puts g1 g2 n i (Some to) → SameEdges g2 g3 → Puts g3 g4 n i None → SameEdges g g4
+put_taken g g1 g2 g3 g4 n i to none covered put stayed taken k j =
+    taken k j ∙ by (nat_eq k n) (same_id i j) refl refl
+  where
+    by : (a b : Bool) → nat_eq k n ≡ a → same_id i j ≡ b → cond (a && b) None (edge g3 k j) ≡ edge g k j
+    by true true e f =
+        sym (ap (λ m. edge g m j) (same_slot k n e) ∙ sym (ap (edge g n) ((id_eq-Decides i j).0 f)) ∙ none)
+    by true false e f = stayed k j ∙ put k j ∙ ap (λ c. cond (c && same_id i j) (Some to) (edge g1 k j)) e
+        ∙ ap (λ c. cond c (Some to) (edge g1 k j)) f ∙ covered k j
+    by false b e f = stayed k j ∙ put k j ∙ ap (λ c. cond (c && same_id i j) (Some to) (edge g1 k j)) e ∙ covered k j

@@ -1,0 +1,273 @@
+-- What is left of what leads to slots where many of these lost their tables.
+use Rattle.std.proofs.Common.{◌≡◌, ◌≢◌, ℕ, ◌<◌, ◌≤◌, ◌+◌, ◌&&◌, ◌||◌, Bool, true, false, not, cond, List, [], ◌∷◌, length, set, nat_eq, true≢false}
+use Rattle.std.proofs.Common.{rules, Option, Some, None, refl, sym, ap, subst, ◌∙◌, arith, inl, inr}
+use Rattle.std.specs.Prelude.{nat_lt, filter}
+use Rattle.std.specs.Bool.{Decides}
+use Rattle.std.specs.Cmp.{IsEquivalence}
+use Rattle.std.specs.HashMap.{HashMap, get}
+use Rattle.std.specs.List.{IsDistinct, list_any}
+use Rattle.std.specs.Map.{lookup, keys_of}
+use Rattle.std.specs.Map.Calls.{RetainsPairs}
+use Rattle.std.proofs.lemmas.Map.{NonePasses}
+use Rattle.std.proofs.lemmas.Map.Entries.{lookup-filter-values, option_filter, none_past_head}
+use Rattle.std.proofs.lemmas.Map.Keys.{IsDistinct-tail}
+use Rattle.std.proofs.lemmas.Map.Views.{any-filter_same}
+use Rattle.std.proofs.lemmas.Bool.{cases_eq, cases_lt}
+use Rattle.std.proofs.lemmas.Bool.Decides.{Decides-eqb}
+use Rattle.std.proofs.lemmas.Option.{slice_get_past}
+use Rattle.eco_ids.proofs.SameIds.{entity_eq-Decides}
+use Rattle.eco_ids.proofs.Lists.{slice_get-set_same, slice_get-set_other}
+use Rattle.eco_ids.specs.contracts.entity.EntityPartialEq.TheImpl as entity_impl
+use Rattle.eco_ids.specs.declared.entity.Entity.{Entity}
+use Rattle.eco_ids.specs.declared.id.Id.{Id}
+use Rattle.eco_index.specs.declared.id_index.key.Key.{Key}
+use Rattle.eco_index.specs.declared.id_index.key.Key.TheVariants.{Single, Pair, Relationship, Target, AnyPair}
+use Rattle.eco_index.specs.declared.id_index.slots.Slots.{Slots}
+use Rattle.eco_index.specs.Edges.{edge, edge_of, same_id, IsTwofold}
+use Rattle.eco_index.specs.IdIndex.{same_key, slots_of, has_slot, is_empty}
+use Rattle.eco_index.specs.Sweeping.{kept_if, KeepsEdges}
+use Rattle.eco_index.proofs.Keys.{keys_same, or_false}
+
+-- ---- maps whose values are slots
+
+-- a test that decides whether two are the same
+pub equivalence : {K : Type 0} (eq : K → K → Bool) → ((a b : K) → Decides (eq a b) (a ≡ b)) → IsEquivalence eq
+equivalence {K} eq dec = record {
+  refl = λ x. (dec x x).1 refl;
+  symm = λ x y. by x y (eq x y) (eq y x) refl refl;
+  congr = λ x y z same. ap (λ w. eq w z) ((dec x y).0 same);
+}
+  where
+    by : (x y : K) (a b : Bool) → eq x y ≡ a → eq y x ≡ b → a ≡ b
+    by x y true true p q = refl
+    by x y false false p q = refl
+    by x y true false p q = sym ((dec y x).1 (sym ((dec x y).0 p))) ∙ q
+    by x y false true p q = sym p ∙ (dec x y).1 (sym ((dec y x).0 q))
+
+filter_is : (stays : ℕ → Bool) (o : Option ℕ) → option_filter stays o ≡ kept_if stays o
+filter_is stays None = refl
+filter_is stays (Some n) = refl
+
+-- of the entries those stay whose slots pass the test
+pub kept_values : {K : Type 0} (eq : K → K → Bool) → ((a b : K) → Decides (eq a b) (a ≡ b)) → (stays : ℕ → Bool) (es kept : List (K × ℕ))
+    → IsDistinct eq (keys_of es) → kept ≡ filter (λ e. stays e.1) es → (q : K) → lookup (eq q) kept ≡ kept_if stays (lookup (eq q) es)
+kept_values eq dec stays es kept distinct are q =
+    ap (lookup (eq q)) are ∙ lookup-filter-values (equivalence eq dec) stays q es distinct ∙ filter_is stays (lookup (eq q) es)
+
+-- a slot that passes the test
+pub kept_some : (stays : ℕ → Bool) (o : Option ℕ) (n : ℕ) → kept_if stays o ≡ Some n → (o ≡ Some n) × (stays n ≡ true)
+kept_some stays None n e = cc
+kept_some stays (Some m) n e = by (stays m) refl e
+  where
+    by : (b : Bool) → stays m ≡ b → cond b (Some m) None ≡ Some n → (◌≡◌ {A = Option ℕ} (Some m) (Some n)) × (stays n ≡ true)
+    by true is e = (e, ap stays (sym (let same : m ≡ n = cc in same)) ∙ is)
+    by false is e = cc
+
+pub kept_stays : (stays : ℕ → Bool) (o : Option ℕ) (n : ℕ) → o ≡ Some n → stays n ≡ true → kept_if stays o ≡ Some n
+kept_stays stays o n is there = ap (kept_if stays) is ∙ ap (λ b. cond b (Some n) None) there
+
+-- ---- the index of keys
+
+and_turned : (a b : Bool) → (a && b) ≡ (b && a)
+and_turned true true = refl
+and_turned true false = refl
+and_turned false true = refl
+and_turned false false = refl
+
+-- of some slots those are left that pass the test; where none is left, none is found
+pub left_any : (stays : ℕ → Bool) (ns left : List ℕ) (none : Bool) → (none ≡ true → length left ≡ 0) → left ≡ filter stays ns → (n : ℕ)
+    → (not none && list_any (nat_eq n) left) ≡ (list_any (nat_eq n) ns && stays n)
+left_any stays ns left none empty are n =
+    some none refl ∙ ap (list_any (nat_eq n)) are
+    ∙ any-filter_same (nat_eq n) stays (stays n) (λ k same. ap stays (sym ((Decides-eqb n k).0 same))) ns
+    ∙ and_turned (stays n) (list_any (nat_eq n) ns)
+  where
+    none_in : (ms : List ℕ) → length ms ≡ 0 → list_any (nat_eq n) ms ≡ false
+    none_in [] h = refl
+    none_in (m ∷ ms) h = absurd (omega (arith, h))
+
+    some : (b : Bool) → none ≡ b → (not b && list_any (nat_eq n) left) ≡ list_any (nat_eq n) left
+    some true is = sym (none_in left (empty is))
+    some false is = refl
+
+-- an entry of the key that has the slot
+abbrev any_slot : Key → ℕ → Key × Slots → Bool
+any_slot k n e = same_key k e.0 && list_any (nat_eq n) (slots_of e.1)
+
+none_any : (k : Key) (n : ℕ) (es : List (Key × Slots)) → NonePasses (same_key k) es → list_any (any_slot k n) es ≡ false
+none_any k n [] none = refl
+none_any k n (e ∷ es) none = λ t. (none.0 t && list_any (nat_eq n) (slots_of e.1)) || none_any k n es none.1 t
+
+key-Decides : (a b : Key) → Decides (same_key a b) (a ≡ b)
+key-Decides a b = (keys_same a b, λ is. subst (λ c. same_key a c ≡ true) is (key_itself a))
+  where
+    itself : (e : Entity) → (entity_impl.eq-value).it e e ≡ true
+    itself e = (entity_eq-Decides e e).1 refl
+
+    key_itself : (a : Key) → same_key a a ≡ true
+    key_itself (Single e) = itself e
+    key_itself (Pair r u) = λ t. itself r t && itself u t
+    key_itself (Relationship e) = itself e
+    key_itself (Target e) = itself e
+    key_itself AnyPair = refl
+
+listed_any : (k : Key) (n : ℕ) (es : List (Key × Slots)) → IsDistinct same_key (keys_of es)
+    → has_slot (lookup (same_key k) es) n ≡ list_any (any_slot k n) es
+listed_any k n [] distinct = refl
+listed_any k n (e ∷ es) distinct =
+    by (same_key k e.0) refl (listed_any k n es (IsDistinct-tail same_key e.0 (keys_of es) distinct))
+  where
+    by : (b : Bool) → same_key k e.0 ≡ b → has_slot (lookup (same_key k) es) n ≡ list_any (any_slot k n) es
+        → has_slot (cond b (Some e.1) (lookup (same_key k) es)) n ≡ ((b && list_any (nat_eq n) (slots_of e.1)) || list_any (any_slot k n) es)
+    by true is rest =
+        sym (ap (λ b. list_any (nat_eq n) (slots_of e.1) || b) (none_any k n es (none_past_head (equivalence same_key key-Decides) k e es distinct is))
+        ∙ or_false (list_any (nat_eq n) (slots_of e.1)))
+    by false is rest = rest
+
+distribute : (c v a s : Bool) → ((c && (v && s)) || (a && s)) ≡ (((c && v) || a) && s)
+distribute false v a s = refl
+distribute true false a s = refl
+distribute true true a true = refl
+distribute true true true false = refl
+distribute true true false false = refl
+
+none_stays : (c v a s : Bool) → false ≡ (v && s) → (a && s) ≡ (((c && v) || a) && s)
+none_stays false v a s h = refl
+none_stays true false a s h = refl
+none_stays true true true false h = refl
+none_stays true true false false h = refl
+none_stays true true a true h = absurd (true≢false (sym h))
+
+-- a closure keeps of the slots of each key those that pass the test, and the key where one is left
+module _ {F : Type 0} (T : F → Key → Slots → Bool → Slots → F → Type 0) (stays : ℕ → Bool) (f : F)
+    (each : (k : Key) (v : Slots) (b : Bool) (w : Slots) (f' : F) → T f k v b w f'
+    → ((n : ℕ) → (b && list_any (nat_eq n) (slots_of w)) ≡ (list_any (nat_eq n) (slots_of v) && stays n))
+    × (b ≡ true → is_empty (Some w) ≡ false) × (f' ≡ f)) where
+  swept_any : (es kept : List (Key × Slots)) → RetainsPairs T f es kept → (k : Key) (n : ℕ)
+      → list_any (any_slot k n) kept ≡ (list_any (any_slot k n) es && stays n)
+  swept_any [] kept is k n = ap (list_any (any_slot k n)) is
+  swept_any (e ∷ es) kept (b, w, f', rest, call, after, is) k n =
+      let own = each e.0 e.1 b w f' call in
+      ap (list_any (any_slot k n)) is
+      ∙ by b (own.0 n) (swept_any es rest (subst (λ g. RetainsPairs T g es rest) own.2 after) k n)
+    where
+      by : (b : Bool) → (b && list_any (nat_eq n) (slots_of w)) ≡ (list_any (nat_eq n) (slots_of e.1) && stays n)
+          → list_any (any_slot k n) rest ≡ (list_any (any_slot k n) es && stays n)
+          → list_any (any_slot k n) (cond b ((e.0, w) ∷ rest) rest) ≡ (list_any (any_slot k n) (e ∷ es) && stays n)
+      by true own later =
+          (λ t. (same_key k e.0 && own t) || later t)
+          ∙ distribute (same_key k e.0) (list_any (nat_eq n) (slots_of e.1)) (list_any (any_slot k n) es) (stays n)
+      by false own later =
+          later ∙ none_stays (same_key k e.0) (list_any (nat_eq n) (slots_of e.1)) (list_any (any_slot k n) es) (stays n) own
+
+  -- a key that was not kept is not kept
+  swept_none : (es kept : List (Key × Slots)) → RetainsPairs T f es kept → (k : Key) → lookup (same_key k) es ≡ None → lookup (same_key k) kept ≡ None
+  swept_none [] kept is k none = ap (lookup (same_key k)) is
+  swept_none (e ∷ es) kept (b, w, f', rest, call, after, is) k none =
+      ap (lookup (same_key k)) is
+      ∙ by (same_key k e.0) b none refl (swept_none es rest (subst (λ g. RetainsPairs T g es rest) (each e.0 e.1 b w f' call).2 after) k)
+    where
+      by : (c b : Bool) → cond c (Some e.1) (lookup (same_key k) es) ≡ None → same_key k e.0 ≡ c
+          → (lookup (same_key k) es ≡ None → lookup (same_key k) rest ≡ None)
+          → lookup (same_key k) (cond b ((e.0, w) ∷ rest) rest) ≡ None
+      by true b none is later = cc
+      by false true none is later = ap (λ c. cond c (Some w) (lookup (same_key k) rest)) is ∙ later none
+      by false false none is later = later none
+
+  -- each key that is kept has a slot
+  swept_full : (es kept : List (Key × Slots)) → RetainsPairs T f es kept → (k : Key) → is_empty (lookup (same_key k) kept) ≡ false
+  swept_full [] kept is k = ap (λ xs. is_empty (lookup (same_key k) xs)) is
+  swept_full (e ∷ es) kept (b, w, f', rest, call, after, is) k =
+      let own = each e.0 e.1 b w f' call in
+      ap (λ xs. is_empty (lookup (same_key k) xs)) is
+      ∙ by b (same_key k e.0) own.1 refl (swept_full es rest (subst (λ g. RetainsPairs T g es rest) own.2 after) k)
+    where
+      by : (b c : Bool) → (b ≡ true → is_empty (Some w) ≡ false) → same_key k e.0 ≡ c → is_empty (lookup (same_key k) rest) ≡ false
+          → is_empty (lookup (same_key k) (cond b ((e.0, w) ∷ rest) rest)) ≡ false
+      by true true full is later = ap (λ c. is_empty (cond c (Some w) (lookup (same_key k) rest))) is ∙ full refl
+      by true false full is later = ap (λ c. is_empty (cond c (Some w) (lookup (same_key k) rest))) is ∙ later
+      by false c full is later = later
+
+  pub swept_listed : (es kept : List (Key × Slots)) → IsDistinct same_key (keys_of es) → IsDistinct same_key (keys_of kept) → RetainsPairs T f es kept
+      → (k : Key) (n : ℕ) → has_slot (lookup (same_key k) kept) n ≡ (has_slot (lookup (same_key k) es) n && stays n)
+  swept_listed es kept before after retains k n =
+      listed_any k n kept after ∙ swept_any es kept retains k n ∙ ap (λ b. b && stays n) (sym (listed_any k n es before))
+
+  pub swept_absent : (es kept : List (Key × Slots)) → RetainsPairs T f es kept → (k : Key) → lookup (same_key k) es ≡ None
+      → lookup (same_key k) kept ≡ None
+  swept_absent = swept_none
+
+  pub swept_filled : (es kept : List (Key × Slots)) → RetainsPairs T f es kept → (k : Key) → is_empty (lookup (same_key k) kept) ≡ false
+  swept_filled = swept_full
+
+-- ---- edges
+
+less : (a b : ℕ) → a < b → nat_lt a b ≡ true
+less a b h = search rules
+
+not_less : (a b : ℕ) → b ≤ a → nat_lt a b ≡ false
+not_less a b h = search rules
+
+same_less : (a b : ℕ) → a ≢ b → nat_lt a b ≡ nat_lt a (b + 1)
+same_less a b apart = elim (cases_lt a b) [
+  | inl lt ↦ less a b lt ∙ sym (less a (b + 1) (omega (arith, lt)))
+  | inr ge ↦ not_less a b ge ∙ sym (not_less a (b + 1) (beyond ge))
+]
+  where
+    beyond : b ≤ a → b + 1 ≤ a
+    beyond ge = elim (cases_lt b a) [
+      | inl lt ↦ omega (arith, lt)
+      | inr le ↦ absurd (apart (omega (arith, ge, le)))
+    ]
+
+past_all : (n slot len : ℕ) → nat_lt n slot ≡ false → len ≤ slot → len ≤ n
+past_all n slot len is past = elim (cases_lt n slot) [
+  | inl lt ↦ absurd (true≢false (sym (less n slot lt) ∙ is))
+  | inr ge ↦ omega (arith, ge, past)
+]
+
+abbrev pub swept_edge : {S : Type 0} → (ℕ → Bool) → List (HashMap Id ℕ S) → ℕ → Id → Option ℕ
+swept_edge stays g n i = cond (stays n) (kept_if stays (edge g n i)) None
+
+-- one list more is gone through
+pub swept_more : {S : Type 0} (stays : ℕ → Bool) (g now : List (HashMap Id ℕ S)) (slot : ℕ) (own : HashMap Id ℕ S) → slot < length now
+    → ((i : Id) → get same_id own i ≡ cond (stays slot) (kept_if stays (edge now slot i)) None)
+    → ((n : ℕ) (i : Id) → edge now n i ≡ cond (nat_lt n slot) (swept_edge stays g n i) (edge g n i))
+    → (n : ℕ) (i : Id) → edge (set now slot own) n i ≡ cond (nat_lt n (slot + 1)) (swept_edge stays g n i) (edge g n i)
+swept_more stays g now slot own within gets swept n i =
+    elim (cases_eq n slot) [
+      | inl here ↦
+          let before : nat_lt slot slot ≡ false = not_less slot slot (omega arith) in
+          let after : nat_lt n (slot + 1) ≡ true = less n (slot + 1) (omega (arith, here)) in
+          ap (λ k. edge (set now slot own) k i) here ∙ ap (λ o. edge_of o i) (slice_get-set_same now slot own within) ∙ gets i
+          ∙ ap (λ o. cond (stays slot) (kept_if stays o) None)
+          (swept slot i ∙ ap (λ b. cond b (swept_edge stays g slot i) (edge g slot i)) before)
+          ∙ ap (λ k. swept_edge stays g k i) (sym here) ∙ ap (λ b. cond b (swept_edge stays g n i) (edge g n i)) (sym after)
+      | inr other ↦
+          ap (λ o. edge_of o i) (slice_get-set_other now slot n own other) ∙ swept n i
+          ∙ ap (λ b. cond b (swept_edge stays g n i) (edge g n i)) (same_less n slot other)
+    ]
+
+-- all lists are gone through
+pub swept_all : {S : Type 0} (stays : ℕ → Bool) (g now : List (HashMap Id ℕ S)) (slot : ℕ) → length g ≤ slot
+    → ((n : ℕ) (i : Id) → edge now n i ≡ cond (nat_lt n slot) (swept_edge stays g n i) (edge g n i)) → KeepsEdges stays g now
+swept_all stays g now slot past swept n i = swept n i ∙ by (nat_lt n slot) refl
+  where
+    nothing : (b : Bool) (o : Option ℕ) → o ≡ None → o ≡ cond b (kept_if stays o) None
+    nothing true o none = none ∙ sym (ap (kept_if stays) none)
+    nothing false o none = none
+
+    by : (b : Bool) → nat_lt n slot ≡ b → cond b (swept_edge stays g n i) (edge g n i) ≡ swept_edge stays g n i
+    by true is = refl
+    by false is = nothing (stays n) (edge g n i) (ap (λ o. edge_of o i) (slice_get_past g n (past_all n slot (length g) is past)))
+
+-- where edges between slots that pass the test stay, those that stay lead back
+pub twofold_swept : {S : Type 0} (stays : ℕ → Bool) (g g' : List (HashMap Id ℕ S)) → KeepsEdges stays g g' → IsTwofold g → IsTwofold g'
+twofold_swept stays g g' keeps twofold n m i e = back (stays n) refl (sym (keeps n i) ∙ e)
+  where
+    back : (b : Bool) → stays n ≡ b → cond b (kept_if stays (edge g n i)) None ≡ Some m → edge g' m i ≡ Some n
+    back true here e =
+        let was = kept_some stays (edge g n i) m e in
+        keeps m i ∙ ap (λ b. cond b (kept_if stays (edge g m i)) None) was.1
+        ∙ kept_stays stays (edge g m i) n (twofold n m i was.0) here
+    back false here e = cc

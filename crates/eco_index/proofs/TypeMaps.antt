@@ -1,0 +1,91 @@
+-- The map from types to slots after a table was put in or taken out.
+use Rattle.std.proofs.Common.{◌≡◌, ◌≢◌, ℕ, ◌==◌, Bool, true, false, cond, List, Option, Some, None, IsTrue, refl, ap, ◌∙◌, sym}
+use Rattle.std.specs.HashMap.{HashMap, get}
+use Rattle.std.proofs.lemmas.Bool.Decides.{Decides-eqb}
+use Rattle.eco_ids.specs.declared.id.Id.{Id}
+use Rattle.eco_index.specs.TypeMap.{same_ids, IsTypeMap}
+use Rattle.eco_ids.proofs.SameIds.{same_ids-Decides}
+
+-- the two ways of a test
+way : (b : Bool) (P : Type 0) → (b ≡ true → P) → (b ≡ false → P) → P
+way true P f g = f refl
+way false P f g = g refl
+
+not_same : (t q : List Id) → same_ids t q ≡ false → t ≢ q
+not_same t q e h = let same : same_ids t q ≡ true = (same_ids-Decides t q).1 h in cc
+
+-- whether a slot has a type is whether its own ids are the same
+pub type_decided : (o : Option (List Id)) (own asked a b : List Id) (r : Bool) → o ≡ Some own → a ≡ own → b ≡ asked → r ≡ same_ids a b
+    → (IsTrue r → o ≡ Some asked) × (o ≡ Some asked → IsTrue r)
+type_decided o own asked a b r at is_a is_b is = (
+  λ h. at ∙ ap Some (sym is_a ∙ (same_ids-Decides a b).0 (sym is ∙ h) ∙ is_b),
+  λ e. let same : own ≡ asked = one (sym at ∙ e) in is ∙ (same_ids-Decides a b).1 (is_a ∙ same ∙ sym is_b),
+)
+  where
+    one : Some own ≡ Some asked → own ≡ asked
+    one e = cc
+
+module _ {S : Type 0} (types types' : ℕ → Option (List Id)) (m m' : HashMap (List Id) ℕ S) (t : List Id) (n : ℕ)
+    (others : (k : ℕ) → k ≢ n → types' k ≡ types k) where
+  pub type_map-insert : IsTypeMap types m → types' n ≡ Some t → types n ≡ None
+      → ((k : ℕ) → types k ≢ Some t)
+      → ((q : List Id) → get same_ids m' q ≡ cond (same_ids t q) (Some n) (get same_ids m q))
+      → IsTypeMap types' m'
+  type_map-insert indexed changed vacant absent gets = record {
+    found = λ q k e. way (same_ids t q) (types' k ≡ Some q)
+        (λ same.
+        let p : t ≡ q = (same_ids-Decides t q).0 same in
+        let at : get same_ids m' q ≡ Some n = gets q ∙ ap (λ b. cond b (Some n) (get same_ids m q)) same in
+        let r : k ≡ n = cc in
+        ap types' r ∙ changed ∙ ap Some p)
+        (λ other.
+        let at : get same_ids m' q ≡ get same_ids m q = gets q ∙ ap (λ b. cond b (Some n) (get same_ids m q)) other in
+        let was : types k ≡ Some q = indexed.found q k (sym at ∙ e) in
+        let apart : k ≢ n = λ r. let here : types n ≡ Some q = ap types (sym r) ∙ was in cc in
+        others k apart ∙ was);
+    there = λ q k e. way (k == n) (get same_ids m' q ≡ Some k)
+        (λ same.
+        let r : k ≡ n = (Decides-eqb k n).0 same in
+        let here : types' k ≡ Some t = ap types' r ∙ changed in
+        let p : t ≡ q = cc in
+        gets q ∙ ap (λ b. cond b (Some n) (get same_ids m q)) ((same_ids-Decides t q).1 p) ∙ ap Some (sym r))
+        (λ other.
+        let apart : k ≢ n = λ r. let same : (k == n) ≡ true = (Decides-eqb k n).1 r in cc in
+        let was : types k ≡ Some q = sym (others k apart) ∙ e in
+        way (same_ids t q) (get same_ids m' q ≡ Some k)
+        (λ same. absurd (absent k (was ∙ ap Some (sym ((same_ids-Decides t q).0 same)))))
+        (λ differ. gets q ∙ ap (λ b. cond b (Some n) (get same_ids m q)) differ ∙ indexed.there q k was));
+  }
+
+  pub type_map-remove : IsTypeMap types m → types' n ≡ None → types n ≡ Some t
+      → ((q : List Id) → get same_ids m' q ≡ cond (same_ids t q) None (get same_ids m q))
+      → IsTypeMap types' m'
+  type_map-remove indexed changed had gets = record {
+    found = λ q k e. way (same_ids t q) (types' k ≡ Some q)
+        (λ same.
+        let at : get same_ids m' q ≡ None = gets q ∙ ap (λ b. cond b None (get same_ids m q)) same in
+        absurd (let bad : ◌≡◌ {A = Option ℕ} None (Some k) = sym at ∙ e in cc))
+        (λ other.
+        let at : get same_ids m' q ≡ get same_ids m q = gets q ∙ ap (λ b. cond b None (get same_ids m q)) other in
+        let was : types k ≡ Some q = indexed.found q k (sym at ∙ e) in
+        let apart : k ≢ n = λ r.
+        let here : Some t ≡ Some q = sym had ∙ ap types (sym r) ∙ was in
+        not_same t q other (let p : t ≡ q = cc in p) in
+        others k apart ∙ was);
+    there = λ q k e. way (k == n) (get same_ids m' q ≡ Some k)
+        (λ same.
+        let r : k ≡ n = (Decides-eqb k n).0 same in
+        let here : types' k ≡ None = ap types' r ∙ changed in
+        absurd (let bad : ◌≡◌ {A = Option (List Id)} None (Some q) = sym here ∙ e in cc))
+        (λ other.
+        let apart : k ≢ n = λ r. let same : (k == n) ≡ true = (Decides-eqb k n).1 r in cc in
+        let was : types k ≡ Some q = sym (others k apart) ∙ e in
+        way (same_ids t q) (get same_ids m' q ≡ Some k)
+        (λ same.
+        let p : t ≡ q = (same_ids-Decides t q).0 same in
+        let one : get same_ids m q ≡ Some k = indexed.there q k was in
+        let two : get same_ids m q ≡ Some n = ap (λ s. get same_ids m s) (sym p) ∙ indexed.there t n had in
+        let both : ◌≡◌ {A = Option ℕ} (Some k) (Some n) = sym one ∙ two in
+        absurd (apart (let r : k ≡ n = cc in r)))
+        (λ differ. gets q ∙ ap (λ b. cond b None (get same_ids m q)) differ ∙ indexed.there q k was));
+  }

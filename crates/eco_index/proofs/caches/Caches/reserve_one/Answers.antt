@@ -1,0 +1,34 @@
+use Rattle.std.proofs.Common.{arith}
+use Rattle.std.proofs.lemmas.List.{length-set}
+use Rattle.eco_index.proofs.Caching.{got_default, room_back, room_more, stay_back, stay_more, still_exact}
+use Rattle.eco_index.proofs.caches.Caches.reserve_one.Goals as goal
+
+pub loop-cache-init : goal.loop-cache-init
+loop-cache-init c = (still_exact _ _ c.deref_mut-cache-items.ensures.value, λ k x at low. absurd (omega (arith, low)))
+
+pub returns-in_err-reserve_one-clause-same : goal.returns-in_err-reserve_one-clause-same
+returns-in_err-reserve_one-clause-same c =
+    let e = c.in_err-reserve_one.ensures in
+    let items = c.loop-cache.cache-items in
+    let i = c.loop-cache.cache-index in
+    let long = length-set items i c.reserve_one.new.self in
+    stay_back _ _ _ c.args.self.now.list.len (omega (arith, long))
+    (stay_more c.args.self.now.list.items items i _ _ (got_default items i c.cache-item.result (omega arith)) e.query e.slots e.only c.loop-cache.invariant.0)
+
+pub loop-cache-preserved : goal.loop-cache-preserved
+loop-cache-preserved c =
+    let e = c.in_ok-reserve_one.ensures in
+    let items = c.loop-cache.cache-items in
+    let i = c.loop-cache.cache-index in (
+      stay_more c.args.self.now.list.items items i _ _ (got_default items i c.cache-item.result (omega arith)) e.query e.slots e.only
+          c.loop-cache.invariant.0,
+      room_more c.args.self.now.list.items items i _ e.room c.loop-cache.invariant.1,
+    )
+
+pub returns-clause-same : goal.returns-clause-same
+returns-clause-same c = stay_back _ _ _ c.args.self.now.list.len (omega arith) c.loop-cache.invariant.0
+
+pub returns-clause-room : goal.returns-clause-room
+returns-clause-room c =
+    room_back c.loop-cache.cache-items _ c.args.self.now.list.len c.loop-cache.cache-index (omega arith) (omega (arith, c.loop-cache-test.false))
+    c.loop-cache.invariant.1

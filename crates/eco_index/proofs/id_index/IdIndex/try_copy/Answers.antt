@@ -1,0 +1,14 @@
+use Rattle.std.proofs.Common.{ap, ◌∙◌, length, nat_eq}
+use Rattle.std.specs.List.{list_any}
+use Rattle.eco_index.specs.IdIndex.{has_slot, is_empty, key_of}
+use Rattle.eco_index.proofs.IndexCopies.{cloned}
+use Rattle.eco_index.proofs.id_index.IdIndex.try_copy.Goals as goal
+
+pub invariant_of-result : goal.invariant_of-result
+invariant_of-result c = record {
+  full = λ k. cloned is_empty (λ s t e. ap (λ ns. nat_eq (length ns) 0) e) k _ _ c.in_ok-slots.ensures.cases ∙ c.args.self.now.full k;
+  marked = c.in_ok-marks.ensures;
+}
+
+pub returns : goal.returns
+returns c p n = cloned (λ o. has_slot o n) (λ s t e. ap (list_any (nat_eq n)) e) (key_of p) _ _ c.in_ok-slots.ensures.cases

@@ -1,0 +1,9 @@
+pub mod IdIndex
+pub mod Marks
+pub mod TypeTests
+pub mod TypeMap
+pub mod Caching
+pub mod Edges
+pub mod Naming
+pub mod Sweeping
+pub mod Contents

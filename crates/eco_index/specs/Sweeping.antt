@@ -1,0 +1,27 @@
+-- What is left of what leads to slots where many of these lost their tables.
+use Rattle.std.specs.Prelude.{◌≡◌, ℕ, Bool, cond, ◌&&◌, List, Option, None, Some, is_some}
+use Rattle.std.specs.HashMap.{HashMap}
+use Rattle.eco_ids.specs.declared.id.Id.{Id}
+use Rattle.eco_ids.specs.declared.pattern.Pattern.{Pattern}
+use Rattle.eco_tables.specs.Table.{TableState}
+use Rattle.eco_tables.specs.Tables.{slot_of}
+use Rattle.eco_index.specs.Edges.{edge}
+use Rattle.eco_index.specs.IdIndex.{Lists}
+
+-- there is a table in the slot
+abbrev pub has_table : List (Option TableState) → ℕ → Bool
+has_table slots n = is_some (slot_of slots n)
+
+-- the slot, if there is one and it passes the test
+abbrev pub kept_if : (ℕ → Bool) → Option ℕ → Option ℕ
+kept_if stays None = None
+kept_if stays (Some n) = cond (stays n) (Some n) None
+
+-- under each pattern those of the slots stay that pass the test
+abbrev pub KeepsListed : (ℕ → Bool) → Lists → Lists → Type 0
+KeepsListed stays old new = (p : Pattern) (n : ℕ) → new p n ≡ (old p n && stays n)
+
+module _ {S : Type 0} where
+  -- the edges between slots that pass the test stay, and no other
+  abbrev pub KeepsEdges : (ℕ → Bool) → List (HashMap Id ℕ S) → List (HashMap Id ℕ S) → Type 0
+  KeepsEdges stays old new = (n : ℕ) (i : Id) → edge new n i ≡ cond (stays n) (kept_if stays (edge old n i)) None

@@ -1,0 +1,203 @@
+//! Edges between the slots of tables: which table an id more or less leads to.
+ghost use Rattle.std.specs.Prelude.{◌≡◌, cond, ◌≢◌, ◌≤◌, ◌<◌, [], ℕ, length, List, Option, IsTrue, None, Some, OnOk, OnErr};
+ghost use Rattle.std.specs.HashMap.{get};
+ghost use Rattle.std.specs.Map.{lookup};
+ghost use Rattle.eco_ids.specs.declared.id.Id.{Id as Ids};
+ghost use Rattle.eco_index.specs.Sweeping.{has_table, kept_if, KeepsEdges};
+ghost use Rattle.eco_index.specs.Edges.{edge, same_id, IsTwofold, SameEdges, Puts, Links, TakesBack, Cuts};
+
+use eco_ids::Id;
+use eco_tables::Tables;
+use indexmap::IndexMap;
+use indexmap::map::Slice;
+use std::alloc::{AllocError, Global};
+use std::mem;
+
+// So many edges of a slot cost less to compare one by one than to hash an id.
+const FEW_EDGES: usize = 4;
+
+/// For each slot of a table, and for an id, the slot of the table whose type has the id too, or lacks it alone. No model:
+/// contracts see the lists, as `edge_lists`.
+#[derive(Drop)]
+pub struct Edges {
+    alloc: Global,
+    lists: Vec<IndexMap<Id, usize>>,
+    ghost twofold: { IsTwofold lists.items },
+}
+
+impl Edges {
+    ghost use Rattle.eco_index.specs.Contents.{edge_lists};
+
+    /// No edge.
+    pub fn new(alloc: Global) -> Edges
+        ensures { (n : ℕ) (j : Ids) → edge (edge_lists result) n j ≡ None }
+    {
+        Edges {
+            alloc,
+            lists: Vec::new(alloc),
+        }
+    }
+
+    /// The slot to which the id leads.
+    #[inline]
+    pub fn get(&self, slot: usize, id: Id) -> Option<usize>
+        ensures { result ≡ edge (edge_lists self.now) slot id }
+    {
+        let own = self.lists.get(slot)?;
+        if own.len() <= FEW_EDGES {
+            lead_among(own.as_slice(), id)
+        } else {
+            own.get(&id).copied()
+        }
+    }
+
+    /// The id leads from either slot to the other from now on. An `Err` comes where memory is refused, and then no edge has
+    /// changed.
+    pub fn link(&mut self, from: usize, id: Id, to: usize) -> Result<(), AllocError>
+        requires apart { from ≢ to }
+        requires from { edge (edge_lists self.old) from id ≡ None }
+        requires to { edge (edge_lists self.old) to id ≡ None }
+        ensures ok { OnOk result (Links (edge_lists self.old) (edge_lists self.new) from id to) }
+        ensures err { OnErr result (SameEdges (edge_lists self.old) (edge_lists self.new)) }
+    {
+        link_both(self.alloc, &mut self.lists, from, id, to)
+    }
+
+    /// The edges from slots without a table, and to such slots, go. It takes no memory.
+    pub fn keep_there(&mut self, tables: &Tables)
+        ensures { KeepsEdges (has_table tables.now) (edge_lists self.old) (edge_lists self.new) }
+    {
+        keep_in_each(&mut self.lists, tables);
+    }
+
+    /// No edge leads from the slot or to it from now on. It takes no memory.
+    pub fn cut(&mut self, slot: usize)
+        ensures { Cuts (edge_lists self.old) (edge_lists self.new) slot }
+    {
+        cut_all(self.alloc, &mut self.lists, slot);
+    }
+}
+
+// Where the id leads, of these edges.
+fn lead_among(edges: Slice<'_, Id, usize>, id: Id) -> Option<usize>
+    ensures { result ≡ lookup (same_id id) edges.entry }
+{
+    for place in 0..edges.len() {
+        let (own, to) = edges.get_index(place).unwrap();
+        if id.is(*own) {
+            return Some(*to);
+        }
+    }
+    None
+}
+
+// A list of edges for each slot below. An `Err` may leave some of them.
+fn cover(alloc: Global, lists: &mut Vec<IndexMap<Id, usize>>, len: usize) -> Result<(), AllocError>
+    ensures same { SameEdges lists.old.items lists.new.items }
+    ensures enough { OnOk result (len ≤ length lists.new.items) }
+    ensures kept { length lists.old.items ≤ length lists.new.items }
+{
+    while lists.len() < len {
+        lists.push(IndexMap::new(alloc))?;
+    }
+    Ok(())
+}
+
+// The id leads from the slot to another from now on.
+fn put(
+    lists: &mut Vec<IndexMap<Id, usize>>,
+    slot: usize,
+    id: Id,
+    to: usize,
+) -> Result<(), AllocError>
+    requires { slot < length lists.old.items }
+    ensures ok { OnOk result (Puts lists.old.items lists.new.items slot id (Some to)) }
+    ensures err { OnErr result (SameEdges lists.old.items lists.new.items) }
+    ensures len { length lists.new.items ≡ length lists.old.items }
+{
+    lists[slot].insert(id, to)?;
+    Ok(())
+}
+
+// The id leads nowhere from the slot. It takes no memory.
+fn take(lists: &mut Vec<IndexMap<Id, usize>>, slot: usize, id: Id)
+    ensures taken { Puts lists.old.items lists.new.items slot id None }
+    ensures len { length lists.new.items ≡ length lists.old.items }
+{
+    if slot < lists.len() {
+        lists[slot].swap_remove(&id);
+    }
+}
+
+// The id leads from either slot to the other. An `Err` changes no edge.
+fn link_both(
+    alloc: Global,
+    lists: &mut Vec<IndexMap<Id, usize>>,
+    from: usize,
+    id: Id,
+    to: usize,
+) -> Result<(), AllocError>
+    requires { edge lists.old.items from id ≡ None }
+    ensures ok { OnOk result (Links lists.old.items lists.new.items from id to) }
+    ensures err { OnErr result (SameEdges lists.old.items lists.new.items) }
+{
+    let Some(len) = from.max(to).checked_add(1) else {
+        return Err(AllocError);
+    };
+    cover(alloc, lists, len)?;
+    put(lists, from, id, to)?;
+    match put(lists, to, id, from) {
+        Ok(()) => Ok(()),
+        Err(refused) => {
+            take(lists, from, id);
+            Err(refused)
+        }
+    }
+}
+
+// Each of these edges of a slot has no edge back any more. It takes no memory.
+fn take_back(lists: &mut Vec<IndexMap<Id, usize>>, own: &mut IndexMap<Id, usize>)
+    ensures taken { TakesBack own.old lists.old.items lists.new.items }
+    ensures len { length lists.new.items ≡ length lists.old.items }
+    ensures none { own.new.entries ≡ [] }
+{
+    while let Some((id, to)) = own.pop() {
+        take(lists, to, id);
+    }
+}
+
+// No edge leads from the slot or to it. It takes no memory.
+fn cut_all(alloc: Global, lists: &mut Vec<IndexMap<Id, usize>>, slot: usize)
+    requires { IsTwofold lists.old.items }
+    ensures { Cuts lists.old.items lists.new.items slot }
+{
+    if slot < lists.len() {
+        let mut own = mem::replace(&mut lists[slot], IndexMap::new(alloc));
+        take_back(lists, &mut own);
+        // Its room serves the edges of the next table in the slot.
+        lists[slot] = own;
+    }
+}
+
+// Of each list the edges between slots that have tables stay.
+fn keep_in_each(lists: &mut Vec<IndexMap<Id, usize>>, tables: &Tables)
+    ensures { KeepsEdges (has_table tables.now) lists.old.items lists.new.items }
+{
+    for slot in 0..lists.len() {
+        keep_own(&mut lists[slot], slot, tables);
+    }
+}
+
+// Of the edges of a slot those stay that lead to a table, where the slot has one.
+fn keep_own(own: &mut IndexMap<Id, usize>, slot: usize, tables: &Tables)
+    ensures { (i : Ids) → get same_id own.new i
+        ≡ cond (has_table tables.now slot) (kept_if (has_table tables.now) (get same_id own.old i)) None }
+{
+    if tables.contains(slot) {
+        // No two ids are equal, as the length says.
+        let _count = own.len();
+        own.retain(|_, to| tables.contains(*to));
+    } else {
+        own.clear();
+    }
+}

@@ -1,0 +1,105 @@
+//! The slots of the tables that one key finds.
+ghost use Rattle.std.specs.Prelude.{◌≡◌, ◌≢◌, ◌∷◌, ◌&&◌, ℕ, [], nat_eq, true, false, Some, IfOk, OnOk, OnErr};
+ghost use Rattle.std.specs.List.{list_any, IsDistinct};
+ghost use Rattle.eco_index.specs.Sweeping.{has_table};
+ghost use Rattle.eco_index.specs.IdIndex.{slots_of, is_empty, is_only, SameSlotsOf, TurnsSlot};
+
+use eco_tables::Tables;
+use indexmap::IndexSet;
+use std::alloc::{AllocError, Global};
+use std::slice;
+
+/// At least one slot, each once. Most keys find one table, which takes no memory of its own.
+#[derive(Drop)]
+pub enum Slots {
+    /// This slot.
+    One(usize),
+    /// These slots. The last of them may be alone again. The set is boxed, so that what the map moves about stays small.
+    Many(Box<IndexSet<usize>>),
+}
+
+impl Slots {
+    /// The slots, each once.
+    pub fn as_slice(&self) -> &[usize]
+        ensures slots { result.now ≡ slots_of self.now }
+        ensures distinct { IsDistinct nat_eq (slots_of self.now) }
+    {
+        match self {
+            Slots::One(own) => slice::from_ref(own),
+            Slots::Many(slots) => slots.as_slice(),
+        }
+    }
+
+    /// Whether the slot is one of them.
+    pub fn has(&self, slot: usize) -> bool
+        ensures { result ≡ list_any (nat_eq slot) (slots_of self.now) }
+    {
+        match self {
+            Slots::One(own) => slot == *own,
+            Slots::Many(slots) => slots.contains(&slot),
+        }
+    }
+
+    /// Puts the slot to the others. An `Err` changes nothing.
+    pub fn add(&mut self, alloc: Global, slot: usize) -> Result<(), AllocError>
+        ensures ok { OnOk result (TurnsSlot true (slots_of self.old) (slots_of self.new) slot) }
+        ensures err { OnErr result (SameSlotsOf (slots_of self.old) (slots_of self.new)) }
+        ensures full { is_empty (Some self.old) ≡ false → is_empty (Some self.new) ≡ false }
+    {
+        match self {
+            Slots::One(own) => {
+                if *own != slot {
+                    *self = Slots::Many(Box::new(alloc, set_of_two(alloc, *own, slot)?)?);
+                }
+            }
+            Slots::Many(slots) => {
+                slots.insert(slot)?;
+            }
+        }
+        Ok(())
+    }
+
+    /// Whether the slot is there, and alone.
+    pub fn is_only(&self, slot: usize) -> bool
+        ensures { result ≡ is_only (slots_of self.now) slot }
+    {
+        let slots = self.as_slice();
+        slots.len() == 1 && slots[0] == slot
+    }
+
+    /// The slots without a table go. The answer is whether one is left; if not, a slot may still stand here.
+    pub fn keep_there(&mut self, tables: &Tables) -> bool
+        ensures left { (n : ℕ) → (result && list_any (nat_eq n) (slots_of self.new))
+            ≡ (list_any (nat_eq n) (slots_of self.old) && has_table tables.now n) }
+        ensures full { result ≡ true → is_empty (Some self.new) ≡ false }
+    {
+        match self {
+            Slots::One(own) => tables.contains(*own),
+            Slots::Many(slots) => {
+                slots.retain(|slot| tables.contains(*slot));
+                !slots.is_empty()
+            }
+        }
+    }
+
+    /// Takes the slot from the others, if it is one of them.
+    pub fn take(&mut self, slot: usize)
+        requires { is_only (slots_of self.old) slot ≡ false }
+        ensures taken { TurnsSlot false (slots_of self.old) (slots_of self.new) slot }
+        ensures full { is_empty (Some self.old) ≡ false → is_empty (Some self.new) ≡ false }
+    {
+        if let Slots::Many(slots) = self {
+            slots.swap_remove(&slot);
+        }
+    }
+}
+
+fn set_of_two(alloc: Global, one: usize, other: usize) -> Result<IndexSet<usize>, AllocError>
+    requires { one ≢ other }
+    ensures { IfOk result (λ slots. slots.keys ≡ one ∷ other ∷ []) }
+{
+    let mut slots = IndexSet::with_capacity(alloc, 2)?;
+    slots.insert(one)?;
+    slots.insert(other)?;
+    Ok(slots)
+}

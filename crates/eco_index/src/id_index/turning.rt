@@ -1,0 +1,88 @@
+//! A table's slot comes to the lists of an id that its type gains, or goes from those of one that it loses.
+ghost use Rattle.std.specs.Prelude.{◌≡◌, true, false, OnOk, OnErr};
+ghost use Rattle.eco_index.specs.IdIndex.{is_listed, ListsSame, Turns, has_one, matches_id, any_matches, is_own, has_own};
+
+use crate::id_index::key::Key;
+use crate::id_index::{IdIndex, keys_of_pair};
+use eco_ids::{Id, Pattern};
+use std::alloc::{AllocError, Global};
+
+impl IdIndex {
+    ghost use Rattle.eco_index.specs.Contents.{lists_in};
+
+    /// Lists a table's slot under all patterns that match the id. An `Err` changes nothing that is listed.
+    pub fn join(&mut self, alloc: Global, id: Id, slot: usize) -> Result<(), AllocError>
+        ensures ok { OnOk result
+            (Turns true (matches_id id) (lists_in self.old) (lists_in self.new) slot) }
+        ensures err { OnErr result (ListsSame (lists_in self.old) (lists_in self.new)) }
+    {
+        match id {
+            Id::One(entity) => self.join_keys(alloc, &[Key::Single(entity)], slot),
+            Id::Two(relationship, target) => {
+                self.join_keys(alloc, &keys_of_pair(relationship, target), slot)
+            }
+        }
+    }
+
+    // Lists the slot under these keys. What was listed before stays so where memory is refused for one of the others.
+    fn join_keys(&mut self, alloc: Global, keys: &[Key], slot: usize) -> Result<(), AllocError>
+        ensures ok { OnOk result
+            (Turns true (has_one keys.now) (lists_in self.old) (lists_in self.new) slot) }
+        ensures err { OnErr result (ListsSame (lists_in self.old) (lists_in self.new)) }
+    {
+        let Some((key, others)) = keys.split_first() else {
+            return Ok(());
+        };
+        if self.has(*key, slot) {
+            return self.join_keys(alloc, others, slot);
+        }
+        self.add(alloc, *key, slot)?;
+        if let Err(refused) = self.join_keys(alloc, others, slot) {
+            self.take(*key, slot);
+            return Err(refused);
+        }
+        Ok(())
+    }
+
+    // Whether the slot is listed under the key.
+    fn has(&self, key: Key, slot: usize) -> bool
+        ensures { result ≡ is_listed self.now.slots key slot }
+    {
+        match self.kept(key) {
+            Some(slots) => slots.has(slot),
+            None => false,
+        }
+    }
+
+    /// Takes a table's slot off the lists of all patterns that match the id and none of these others, which its type keeps.
+    /// It takes no memory.
+    pub fn leave(&mut self, id: Id, others: &[Id], slot: usize)
+        ensures { Turns false (is_own id others.now)
+            (lists_in self.old) (lists_in self.new) slot }
+    {
+        match id {
+            Id::One(entity) => self.leave_keys(&[Key::Single(entity)], others, slot),
+            Id::Two(relationship, target) => {
+                self.leave_keys(&keys_of_pair(relationship, target), others, slot);
+            }
+        }
+    }
+
+    fn leave_keys(&mut self, keys: &[Key], others: &[Id], slot: usize)
+        ensures { Turns false (has_own keys.now others.now)
+            (lists_in self.old) (lists_in self.new) slot }
+    {
+        for key in keys {
+            if !is_matched(others, key.pattern()) {
+                self.take(*key, slot);
+            }
+        }
+    }
+}
+
+// Whether the pattern matches one of the ids.
+fn is_matched(ids: &[Id], pattern: Pattern) -> bool
+    ensures { result ≡ any_matches ids.now pattern }
+{
+    ids.iter().any(|id| pattern.matches(*id))
+}

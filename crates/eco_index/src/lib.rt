@@ -1,0 +1,21 @@
+//! What finds the tables of a store by keys: indices over the slots in which tables stand, none of which owns a table (Flecs
+//! manual, Quickstart: entities with the same components stand together in an archetype table).
+//!
+//! A type leads to its slot ([`TypeMap`]), an id that comes or goes leads from a slot to the next ([`Edges`]), and a pattern to
+//! the slots of the types that have an id which it matches ([`IdIndex`]). Who asks for more than a pattern asks by a
+//! [`TypeTest`]. A query that is asked again and again has the slots of the types that fulfil it in a cache ([`Caches`]), which is
+//! told of each table that comes, turns or goes.
+#![tactic(auto)]
+
+mod cache;
+mod caches;
+mod edges;
+mod id_index;
+mod type_map;
+mod type_test;
+
+pub use caches::Caches;
+pub use edges::Edges;
+pub use id_index::IdIndex;
+pub use type_map::TypeMap;
+pub use type_test::{AllOf, Naming, TypeTest};

@@ -92,11 +92,11 @@ turns_listed k ks l l' slot was turns p n = turns p n ∙ by (has_key k p) refl 
     by true e false true h = ap (l p) (sym ((Decides-eqb slot n).0 h)) ∙ was p e
 
 -- one key more, and then the others
-pub turns_both : (k : Key) (ks : List Key) (l l1 l2 : Lists) (slot : ℕ) → Turns true (has_key k) l l1 slot → Turns true (has_one ks) l1 l2 slot
-    → Turns true (has_one (k ∷ ks)) l l2 slot
-turns_both k ks l l1 l2 slot one rest p n =
-    rest p n ∙ ap (cond (has_one ks p && nat_eq slot n) true) (one p n)
-    ∙ turned_twice (has_key k p) (has_one ks p) (nat_eq slot n) true (l p n)
+pub turns_both : (v : Bool) (k : Key) (ks : List Key) (l l1 l2 : Lists) (slot : ℕ) → Turns v (has_key k) l l1 slot → Turns v (has_one ks) l1 l2 slot
+    → Turns v (has_one (k ∷ ks)) l l2 slot
+turns_both v k ks l l1 l2 slot one rest p n =
+    rest p n ∙ ap (cond (has_one ks p && nat_eq slot n) v) (one p n)
+    ∙ turned_twice (has_key k p) (has_one ks p) (nat_eq slot n) v (l p n)
 
 -- one more turn of a loop that takes off what no other id needs
 pub own_more : (keys : List Key) (others : List Id) (i : ℕ) (d : Key) (slot : ℕ) (l0 l l' : Lists) → i < length keys

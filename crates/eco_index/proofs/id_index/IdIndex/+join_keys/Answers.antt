@@ -27,5 +27,5 @@ returns-clause-ok t c =
     let l2 = lists_of c.join_keys-2.new.self.slots in
     let keys : c.args.keys.now ≡ c.in-Some.key.now ∷ c.in-Some.others.now = c.in-Some.ensures.cases.0 in
     subst (λ ks. Turns true (has_one ks) l l2 c.args.slot) (sym keys)
-    (turns_both c.in-Some.key.now c.in-Some.others.now l (lists_of c.add.new.self.slots) l2 c.args.slot
+    (turns_both true c.in-Some.key.now c.in-Some.others.now l (lists_of c.add.new.self.slots) l2 c.args.slot
     c.in_ok-add.ensures.ok c.in_default-join_keys.ensures.ok)

@@ -4,6 +4,7 @@ use Rattle.std.proofs.Common.{length, slice_get, take, Option, Some, None, IfSom
 use Rattle.std.proofs.lemmas.List.{take_all}
 use Rattle.eco_query.specs.Queries.{QuerySlot}
 use Rattle.std.proofs.Common.{refl, sym, ap, ◌∙◌, subst, arith, inl, inr, ◌⊎◌}
+use Rattle.std.proofs.Math.Seq.{map-set_same}
 use Rattle.std.specs.HashSet.{spare}
 use Rattle.std.specs.List.{list_any}
 use Rattle.std.specs.Prelude.{slice_set}
@@ -12,7 +13,7 @@ use Rattle.eco_ids.specs.declared.id.Id.{Id}
 use Rattle.eco_index.specs.declared.cache.Cache.{Cache}
 use Rattle.eco_entries.specs.Answers.{asked}
 use Rattle.eco_entries.specs.Flat.{ChoicesState}
-use Rattle.eco_index.specs.Caching.{AreExact, AreKept, AreThose, AreTold, ChangesType, HaveRoom, IsExact, IsTold, StayExact, choices_on, fulfils}
+use Rattle.eco_index.specs.Caching.{AreExact, AreKept, AreThose, AreTold, ChangesType, HaveRoom, IsExact, IsTold, StayExact, choices_on, fulfils, kept_queries}
 use Rattle.eco_index.proofs.Onlies.{map_alike}
 
 -- those before a place were told, and those from it on are as they were
@@ -218,3 +219,12 @@ room_back items zs len i is most rooms k c got =
 -- all are copied
 pub copied_all : (old items : List Cache) (i : ℕ) → length old ≤ i → StayExact (take i old) items → StayExact old items
 copied_all old items i most stay types was = stay types (subst (AreExact types) (sym (take_all i old most)) was)
+
+-- one of the caches changed, and not its query
+pub queries_kept : (items : List Cache) (i : ℕ) (y d : Cache) → y.query ≡ (get_or items i d).query → kept_queries (slice_set items i y) ≡ kept_queries items
+queries_kept items i y d same = map-set_same (λ (c : Cache). c.query) items i y d same
+
+-- what was written back
+pub queries_back : (old items zs : List Cache) (len : ℕ) → len ≡ length items → kept_queries items ≡ kept_queries old
+    → kept_queries (take len (items ++ zs)) ≡ kept_queries old
+queries_back old items zs len is same = ap kept_queries (written_back len items zs is) ∙ same

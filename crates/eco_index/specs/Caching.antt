@@ -42,6 +42,10 @@ pub record IsExact (types : ℕ → Option (List Id)) (c : Cache) : Type 0 where
 abbrev pub AreExact : (ℕ → Option (List Id)) → List Cache → Type 0
 AreExact types cs = (k : ℕ) (c : Cache) → slice_get cs k ≡ Some c → IsExact types c
 
+-- the queries that caches keep, in their order
+abbrev pub kept_queries : List Cache → List (List QuerySlot)
+kept_queries cs = map (λ (c : Cache). c.query) cs
+
 -- each of the caches takes one slot more without memory
 abbrev pub HaveRoom : List Cache → Type 0
 HaveRoom cs = (k : ℕ) (c : Cache) → slice_get cs k ≡ Some c → 0 < spare c.slots

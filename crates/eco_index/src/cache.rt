@@ -49,7 +49,8 @@ impl Cache {
     /// out. Choices are kept no more where the type has several. It takes no memory but for these.
     pub fn tell(&mut self, slot: usize, type_list: &TypeList)
         requires { 0 < spare self.old.slots }
-        ensures { IsTold self.old self.new slot (Some type_list.now) }
+        ensures query { self.new.query ≡ self.old.query }
+        ensures told { IsTold self.old self.new slot (Some type_list.now) }
     {
         if !self.query.matches_type(type_list) {
             self.take_out(slot);
@@ -63,14 +64,16 @@ impl Cache {
 
     /// The slot has no table from now on. It takes no memory.
     pub fn forget(&mut self, slot: usize)
-        ensures { IsTold self.old self.new slot None }
+        ensures query { self.new.query ≡ self.old.query }
+        ensures told { IsTold self.old self.new slot None }
     {
         self.take_out(slot);
     }
 
     // The slot has no table from now on, or one whose type does not fulfil the query.
     fn take_out(&mut self, slot: usize)
-        ensures { (o : Option (List Ids)) → fulfils o self.old.query ≡ false
+        ensures query { self.new.query ≡ self.old.query }
+        ensures told { (o : Option (List Ids)) → fulfils o self.old.query ≡ false
             → IsTold self.old self.new slot o }
     {
         let Some((place, _)) = self.slots.swap_remove_full(&slot) else {

@@ -2,7 +2,7 @@
 ghost use Rattle.std.specs.Prelude.{◌≡◌, ℕ, List, [], None, Some, IfOk, IfSome, OnOk, Option, nat_eq};
 ghost use Rattle.eco_ids.specs.declared.id.Id.{Id as Ids};
 ghost use Rattle.std.specs.List.{IsDistinct};
-ghost use Rattle.eco_index.specs.Caching.{AreExact, AreKept, AreThose, AreTold, HaveRoom, StayExact};
+ghost use Rattle.eco_index.specs.Caching.{AreExact, AreKept, AreThose, AreTold, HaveRoom, StayExact, kept_queries};
 
 use crate::cache::Cache;
 use eco_entries::Choices;
@@ -37,6 +37,7 @@ impl Caches {
 
     /// Room for one slot more in each cache. No slot comes or goes, whether it succeeds or not.
     pub fn reserve_one(&mut self) -> Result<(), AllocError>
+        ensures queries { kept_queries (cache_list self.new) ≡ kept_queries (cache_list self.old) }
         ensures same { StayExact (cache_list self.old) (cache_list self.new) }
         ensures room { OnOk result (HaveRoom (cache_list self.new)) }
     {
@@ -49,7 +50,8 @@ impl Caches {
     /// The table in the slot has this type from now on. It takes no memory.
     pub fn tell(&mut self, slot: usize, type_list: &TypeList)
         requires { HaveRoom (cache_list self.old) }
-        ensures { AreTold (cache_list self.old) (cache_list self.new) slot (Some type_list.now) }
+        ensures queries { kept_queries (cache_list self.new) ≡ kept_queries (cache_list self.old) }
+        ensures told { AreTold (cache_list self.old) (cache_list self.new) slot (Some type_list.now) }
     {
         for cache in self.list.iter_mut() {
             cache.tell(slot, type_list);
@@ -58,7 +60,8 @@ impl Caches {
 
     /// The slot has no table from now on. It takes no memory.
     pub fn forget(&mut self, slot: usize)
-        ensures { AreTold (cache_list self.old) (cache_list self.new) slot None }
+        ensures queries { kept_queries (cache_list self.new) ≡ kept_queries (cache_list self.old) }
+        ensures told { AreTold (cache_list self.old) (cache_list self.new) slot None }
     {
         for cache in self.list.iter_mut() {
             cache.forget(slot);

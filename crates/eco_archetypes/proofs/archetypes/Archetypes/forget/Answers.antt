@@ -9,7 +9,7 @@ invariant_of-self c =
     c.self.inside.edges.lists.items c.cut.new.self.lists.items
     c.args.slot c.in-Some.type_list c.self.invariant c.in-Some.ensures.dropped
     (rowless-type_at c.self.inside.tables c.args.slot c.in-Some.type_list c.in-Some.ensures.answer)
-    c.remove.ensures.0 (rw c.as_slice.ensures.ids at c.take_all.ensures) c.cut.ensures c.forget.ensures
+    c.remove.ensures.0 (rw c.as_slice.ensures.ids at c.take_all.ensures) c.cut.ensures c.forget.ensures.told
 
 pub invariant_of-self-in-Some-2 : goal.invariant_of-self-in-Some-2
 invariant_of-self-in-Some-2 c =
@@ -18,4 +18,4 @@ invariant_of-self-in-Some-2 c =
     c.self.inside.edges.lists.items c.cut.new.self.lists.items
     c.args.slot c.in-Some.type_list c.self.invariant c.in-Some.ensures.dropped
     (rowless-type_at c.self.inside.tables c.args.slot c.in-Some.type_list c.in-Some.ensures.answer)
-    c.remove.ensures.0 (rw c.as_slice.ensures.ids at c.take_all.ensures) c.cut.ensures c.forget.ensures
+    c.remove.ensures.0 (rw c.as_slice.ensures.ids at c.take_all.ensures) c.cut.ensures c.forget.ensures.told

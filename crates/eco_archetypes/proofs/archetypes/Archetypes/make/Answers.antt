@@ -41,7 +41,7 @@ invariant_of-self-in-Ok c =
     ∙ ap (λ es. cond (same_ids c.in_ok-key.key q) (Some c.in_ok-slot.slot) (lookup (same_ids q) es)) c.reserve_one.ensures.same
     ∙ ap (λ t. cond (same_ids t q) (Some c.in_ok-slot.slot) (lookup (same_ids q) c.self.inside.by_type.slots.entries)) c.in_ok-key.ensures.is)
     (rw (c.as_slice-3.ensures.ids, c.in_ok-key.ensures.is) at c.in-Ok.ensures.ok)
-    (then_told _ _ _ _ _ c.reserve_one.ensures.exact (rw c.in_ok-key.ensures.is at c.tell.ensures))
+    (then_told _ _ _ _ _ c.reserve_one.ensures.exact (rw c.in_ok-key.ensures.is at c.tell.ensures.told))
 
 pub returns-in-Ok-clause-makes : goal.returns-in-Ok-clause-makes
 returns-in-Ok-clause-makes c =

@@ -27,7 +27,7 @@ invariant_of-self-2 c =
     (rw (← c.self.view_is) at c.requires.absent)
     (λ q. c.rename.ensures q
     ∙ ap (λ es. cond (same_ids c.args.type_list q) (Some c.args.slot) (cond (same_ids old q) None (lookup (same_ids q) es))) c.reserve_one.ensures.same)
-    c.toggle.ensures.index c.cut.ensures c.toggle.ensures.agreed (then_told _ _ _ _ _ c.reserve_one.ensures.exact c.tell.ensures)
+    c.toggle.ensures.index c.cut.ensures c.toggle.ensures.agreed (then_told _ _ _ _ _ c.reserve_one.ensures.exact c.tell.ensures.told)
 
 pub returns-clause-widths : goal.returns-clause-widths
 returns-clause-widths c =

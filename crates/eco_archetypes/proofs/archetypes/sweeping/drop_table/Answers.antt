@@ -16,6 +16,6 @@ returns-else-is_some-clause-exact c =
 
 pub returns-then-is_some-clause-exact : goal.returns-then-is_some-clause-exact
 returns-then-is_some-clause-exact c =
-    c.forget.ensures (type_at c.args.tables.now) (type_at c.drop_empty.new.self)
+    c.forget.ensures.told (type_at c.args.tables.now) (type_at c.drop_empty.new.self)
     (dropped_type c.args.tables.now c.drop_empty.new.self c.args.slot c.drop_empty.result (sym c.is_some.ensures ∙ c.if-is_some.true)
     c.drop_empty.ensures.dropped)

@@ -2,8 +2,8 @@ use Rattle.std.proofs.Common.{false, sym}
 use Rattle.eco_index.proofs.Onlies.{kept_still, kept_taken, those_told}
 use Rattle.eco_index.proofs.cache.Cache.take_out.Goals as goal
 
-pub returns-in_default : goal.returns-in_default
-returns-in_default c o none types types' change exact = record {
+pub returns-in_default-clause-told : goal.returns-in_default-clause-told
+returns-in_default-clause-told c o none types types' change exact = record {
   those =
       those_told types types' c.args.slot o c.args.self.now.query false c.args.self.now.slots.keys c.swap_remove_full.new.self.keys change (sym none)
       c.in_default.ensures.updates.0 exact.those;
@@ -13,8 +13,8 @@ returns-in_default c o none types types' change exact = record {
       exact.kept;
 }
 
-pub returns-in-Some-take : goal.returns-in-Some-take
-returns-in-Some-take c o none types types' change exact =
+pub returns-in-Some-take-clause-told : goal.returns-in-Some-take-clause-told
+returns-in-Some-take-clause-told c o none types types' change exact =
     let here = c.in-Some.ensures in
     record {
       those =

@@ -2,11 +2,11 @@ use Rattle.std.proofs.Common.{Some, true, sym, rules}
 use Rattle.eco_index.proofs.Onlies.{kept_in, those_told}
 use Rattle.eco_index.proofs.cache.Cache.tell.Goals as goal
 
-pub returns-then-not-matches_type : goal.returns-then-not-matches_type
-returns-then-not-matches_type c = c.take_out.ensures (Some c.args.type_list.now) (search rules)
+pub returns-then-not-matches_type-clause-told : goal.returns-then-not-matches_type-clause-told
+returns-then-not-matches_type-clause-told c = c.take_out.ensures.told (Some c.args.type_list.now) (search rules)
 
-pub returns-in-Some : goal.returns-in-Some
-returns-in-Some c types types' change exact =
+pub returns-in-Some-clause-told : goal.returns-in-Some-clause-told
+returns-in-Some-clause-told c types types' change exact =
     let keys = c.args.self.now.slots.keys in
     let told = rw c.unwrap-place.ensures at c.insert_full.ensures.updates in
     record {

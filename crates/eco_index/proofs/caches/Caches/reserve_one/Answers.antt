@@ -1,10 +1,15 @@
-use Rattle.std.proofs.Common.{arith}
+use Rattle.std.proofs.Common.{ap, arith, ◌∙◌}
 use Rattle.std.proofs.lemmas.List.{length-set}
-use Rattle.eco_index.proofs.Caching.{got_default, room_back, room_more, stay_back, stay_more, still_exact}
+use Rattle.eco_index.specs.Caching.{kept_queries}
+use Rattle.eco_index.proofs.Caching.{got_default, queries_back, queries_kept, room_back, room_more, stay_back, stay_more, still_exact}
 use Rattle.eco_index.proofs.caches.Caches.reserve_one.Goals as goal
 
 pub loop-cache-init : goal.loop-cache-init
-loop-cache-init c = (still_exact _ _ c.deref_mut-cache-items.ensures.value, λ k x at low. absurd (omega (arith, low)))
+loop-cache-init c = (
+  still_exact _ _ c.deref_mut-cache-items.ensures.value,
+  λ k x at low. absurd (omega (arith, low)),
+  ap kept_queries c.deref_mut-cache-items.ensures.value,
+)
 
 pub returns-in_err-reserve_one-clause-same : goal.returns-in_err-reserve_one-clause-same
 returns-in_err-reserve_one-clause-same c =
@@ -15,6 +20,12 @@ returns-in_err-reserve_one-clause-same c =
     stay_back _ _ _ c.args.self.now.list.len (omega (arith, long))
     (stay_more c.args.self.now.list.items items i _ _ (got_default items i c.cache-item.result (omega arith)) e.query e.slots e.only c.loop-cache.invariant.0)
 
+pub returns-in_err-reserve_one-clause-queries : goal.returns-in_err-reserve_one-clause-queries
+returns-in_err-reserve_one-clause-queries c =
+    let long = length-set c.loop-cache.cache-items c.loop-cache.cache-index c.reserve_one.new.self in
+    queries_back _ _ _ c.args.self.now.list.len (omega (arith, long))
+    (queries_kept c.loop-cache.cache-items c.loop-cache.cache-index _ c.cache-item.result c.in_err-reserve_one.ensures.query ∙ c.loop-cache.invariant.2)
+
 pub loop-cache-preserved : goal.loop-cache-preserved
 loop-cache-preserved c =
     let e = c.in_ok-reserve_one.ensures in
@@ -23,7 +34,11 @@ loop-cache-preserved c =
       stay_more c.args.self.now.list.items items i _ _ (got_default items i c.cache-item.result (omega arith)) e.query e.slots e.only
           c.loop-cache.invariant.0,
       room_more c.args.self.now.list.items items i _ e.room c.loop-cache.invariant.1,
+      queries_kept c.loop-cache.cache-items c.loop-cache.cache-index _ c.cache-item.result e.query ∙ c.loop-cache.invariant.2,
     )
+
+pub returns-clause-queries : goal.returns-clause-queries
+returns-clause-queries c = queries_back _ _ _ c.args.self.now.list.len (omega arith) c.loop-cache.invariant.2
 
 pub returns-clause-same : goal.returns-clause-same
 returns-clause-same c = stay_back _ _ _ c.args.self.now.list.len (omega arith) c.loop-cache.invariant.0

@@ -1,7 +1,7 @@
 -- Caches that are told of the type of a slot, one after another.
 use Rattle.std.proofs.Common.{◌≡◌, ◌≢◌, ℕ, zero, suc, ◌+◌, ◌<◌, ◌≤◌, List, [], ◌∷◌, ◌++◌}
 use Rattle.std.proofs.Common.{length, slice_get, take, Option, Some, None, IfSome, Result, Ok, Err, IfOk, get_or, nat_eq}
-use Rattle.std.proofs.lemmas.List.{take_all}
+use Rattle.std.proofs.lemmas.List.{map-append, take_all, take_more}
 use Rattle.eco_query.specs.Queries.{QuerySlot}
 use Rattle.std.proofs.Common.{refl, sym, ap, ◌∙◌, subst, arith, inl, inr, ◌⊎◌}
 use Rattle.std.proofs.Math.Seq.{map-set_same}
@@ -13,7 +13,8 @@ use Rattle.eco_ids.specs.declared.id.Id.{Id}
 use Rattle.eco_index.specs.declared.cache.Cache.{Cache}
 use Rattle.eco_entries.specs.Answers.{asked}
 use Rattle.eco_entries.specs.Flat.{ChoicesState}
-use Rattle.eco_index.specs.Caching.{AreExact, AreKept, AreThose, AreTold, ChangesType, HaveRoom, IsExact, IsTold, StayExact, choices_on, fulfils, kept_queries}
+use Rattle.eco_index.specs.Caching.{AreExact, AreKept, AreThose, AreTold, ChangesType, HaveRoom, IsExact, IsTold, StayExact}
+use Rattle.eco_index.specs.Caching.{cache_state, cache_states, choices_on, fulfils, kept_queries}
 use Rattle.eco_index.proofs.Onlies.{map_alike}
 
 -- those before a place were told, and those from it on are as they were
@@ -219,6 +220,24 @@ room_back items zs len i is most rooms k c got =
 -- all are copied
 pub copied_all : (old items : List Cache) (i : ℕ) → length old ≤ i → StayExact (take i old) items → StayExact old items
 copied_all old items i most stay types was = stay types (subst (AreExact types) (sym (take_all i old most)) was)
+
+same_state : (x y : Cache) → y.query ≡ x.query → y.slots.keys ≡ x.slots.keys → y.only ≡ x.only → cache_state y ≡ cache_state x
+same_state x y query keys only = rw query (rw keys (rw only refl))
+
+-- what one cache more keeps is copied
+pub states_more : (old items : List Cache) (i : ℕ) (x y : Cache) → i < length old → x ≡ get_or old i x → y.query ≡ x.query
+    → y.slots.keys ≡ x.slots.keys → y.only ≡ x.only → cache_states items ≡ cache_states (take i old)
+    → cache_states (items ++ y ∷ []) ≡ cache_states (take (i + 1) old)
+states_more old items i x y within is query keys only same =
+    map-append cache_state items (y ∷ [])
+    ∙ ap (λ s. cache_states items ++ s ∷ []) (same_state x y query keys only)
+    ∙ ap (λ ss. ss ++ cache_state x ∷ []) same
+    ∙ sym (map-append cache_state (take i old) (x ∷ []))
+    ∙ ap cache_states (ap (λ c. take i old ++ c ∷ []) is ∙ sym (take_more old i x within))
+
+-- what all of them keep is copied
+pub states_all : (old items : List Cache) (i : ℕ) → length old ≤ i → cache_states items ≡ cache_states (take i old) → cache_states items ≡ cache_states old
+states_all old items i most same = same ∙ ap cache_states (take_all i old most)
 
 -- one of the caches changed, and not its query
 pub queries_kept : (items : List Cache) (i : ℕ) (y d : Cache) → y.query ≡ (get_or items i d).query → kept_queries (slice_set items i y) ≡ kept_queries items

@@ -46,6 +46,46 @@ AreExact types cs = (k : ℕ) (c : Cache) → slice_get cs k ≡ Some c → IsEx
 abbrev pub kept_queries : List Cache → List (List QuerySlot)
 kept_queries cs = map (λ (c : Cache). c.query) cs
 
+-- one cache comes behind the others: of this query, with these slots and choices
+pub record AddsCache (old new : List Cache) (q : List QuerySlot) (ns : List ℕ) (o : Option ChoicesState) : Type 0 where
+  pub cache : Cache
+  pub query : cache.query ≡ q
+  pub slots : cache.slots.keys ≡ ns
+  pub only : cache.only ≡ o
+  pub behind : new ≡ old ++ cache ∷ []
+
+-- the cache of this number is there and of this query, and has these slots
+pub record HasSlots (cs : List Cache) (number : ℕ) (q : List QuerySlot) (ns : List ℕ) : Type 0 where
+  pub cache : Cache
+  pub there : slice_get cs number ≡ Some cache
+  pub query : cache.query ≡ q
+  pub slots : cache.slots.keys ≡ ns
+
+-- the cache keeps choices, and these, for just these slots
+pub record HasChoices (c : Cache) (ns : List ℕ) (d : ChoicesState) : Type 0 where
+  pub slots : c.slots.keys ≡ ns
+  pub only : c.only ≡ Some d
+
+-- the cache of this number is there and of this query, and keeps these choices for just these slots
+pub record FindsChoices (cs : List Cache) (number : ℕ) (q : List QuerySlot) (ns : List ℕ) (d : ChoicesState) : Type 0 where
+  pub cache : Cache
+  pub there : slice_get cs number ≡ Some cache
+  pub query : cache.query ≡ q
+  pub kept : HasChoices cache ns d
+
+-- what a cache keeps: a query, its slots, and choices, if it has these
+pub record CacheState : Type 0 where
+  pub query : List QuerySlot
+  pub slots : List ℕ
+  pub only : Option ChoicesState
+
+abbrev pub cache_state : Cache → CacheState
+cache_state c = record { query = c.query; slots = c.slots.keys; only = c.only }
+
+-- what each of the caches keeps, in their order
+abbrev pub cache_states : List Cache → List CacheState
+cache_states cs = map cache_state cs
+
 -- each of the caches takes one slot more without memory
 abbrev pub HaveRoom : List Cache → Type 0
 HaveRoom cs = (k : ℕ) (c : Cache) → slice_get cs k ≡ Some c → 0 < spare c.slots

@@ -1,10 +1,11 @@
 //! A query with the slots of the tables whose types fulfil it.
-ghost use Rattle.std.specs.Prelude.{◌≡◌, ◌<◌, ℕ, List, false, None, Some, Option, IfOk, IfSome, OnOk, OnErr};
+ghost use Rattle.std.specs.Prelude.{◌≡◌, ◌<◌, ℕ, List, false, None, Some, Option, IfOk, IfSome, MatchOption, OnOk, OnErr};
 ghost use Rattle.std.specs.HashSet.{IsUnchanged, spare};
 ghost use Rattle.eco_ids.specs.Answer.{choices};
 ghost use Rattle.eco_ids.specs.declared.id.Id.{Id as Ids};
 ghost use Rattle.eco_entries.specs.Answers.{asked};
-ghost use Rattle.eco_index.specs.Caching.{AreKept, IsExact, IsTold, KeepsNew, KeepsOnly, LosesOnly, fulfils};
+ghost use Rattle.eco_entries.specs.Flat.{ChoicesState};
+ghost use Rattle.eco_index.specs.Caching.{AreKept, HasChoices, IsExact, IsTold, KeepsNew, KeepsOnly, LosesOnly, fulfils};
 
 use eco_entries::Choices;
 use eco_ids::TypeList;
@@ -87,7 +88,9 @@ impl Cache {
     /// The only choice that the query has on the type of each of these slots, slot by slot, where these are the slots that
     /// the cache has, and it keeps choices. An `Err` comes where memory is refused.
     pub fn only_of(&self, alloc: Global, slots: &[usize]) -> Result<Option<Choices>, AllocError>
-        ensures { IfOk result (λ o. IfSome o (λ c. (types : ℕ → Option (List Ids)) →
+        ensures found { IfOk result (λ o. MatchOption o
+            ((c : ChoicesState) → HasChoices self.now slots.now c → ⊥) (HasChoices self.now slots.now)) }
+        ensures kept { IfOk result (λ o. IfSome o (λ c. (types : ℕ → Option (List Ids)) →
             IsExact types self.now → AreKept types self.now.query slots.now c)) }
     {
         match &self.only {

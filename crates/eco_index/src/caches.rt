@@ -1,8 +1,10 @@
 //! The caches of a store's queries, told of each table that is made, takes another type or is dropped.
-ghost use Rattle.std.specs.Prelude.{◌≡◌, ℕ, List, [], None, Some, IfOk, IfSome, OnOk, Option, nat_eq};
+ghost use Rattle.std.specs.Prelude.{◌≡◌, ℕ, List, [], None, Some, IfOk, IfSome, MatchOption, OnErr, OnOk, Option, length, nat_eq};
 ghost use Rattle.eco_ids.specs.declared.id.Id.{Id as Ids};
 ghost use Rattle.std.specs.List.{IsDistinct};
-ghost use Rattle.eco_index.specs.Caching.{AreExact, AreKept, AreThose, AreTold, HaveRoom, StayExact, kept_queries};
+ghost use Rattle.eco_entries.specs.Flat.{ChoicesState};
+ghost use Rattle.eco_index.specs.Caching.{AddsCache, AreExact, AreKept, AreThose, AreTold, FindsChoices, HasSlots, HaveRoom};
+ghost use Rattle.eco_index.specs.Caching.{StayExact, cache_states, kept_queries};
 
 use crate::cache::Cache;
 use eco_entries::Choices;
@@ -76,7 +78,11 @@ impl Caches {
         slots: IndexSet<usize>,
         only: Option<Choices>,
     ) -> Result<usize, AllocError>
-        ensures { (types : ℕ → Option (List Ids)) →
+        ensures number { IfOk result (λ n. n ≡ length (cache_list self.old)) }
+        ensures added { OnOk result
+            (AddsCache (cache_list self.old) (cache_list self.new) query slots.keys only) }
+        ensures refused { OnErr result (cache_list self.new ≡ cache_list self.old) }
+        ensures exact { (types : ℕ → Option (List Ids)) →
             AreExact types (cache_list self.old) → AreThose types query slots.keys
             → IfSome only (AreKept types query slots.keys) → AreExact types (cache_list self.new) }
     {
@@ -88,6 +94,9 @@ impl Caches {
 
     /// The slots of the cache of this number, if it is there and of this query.
     pub fn of_query(&self, number: usize, query: &Query) -> Option<&[usize]>
+        ensures found { MatchOption result
+            ((ns : List ℕ) → HasSlots (cache_list self.now) number query.now ns → ⊥)
+            (λ s. HasSlots (cache_list self.now) number query.now s.now) }
         ensures those { IfSome result (λ s. (types : ℕ → Option (List Ids)) →
             AreExact types (cache_list self.now) → AreThose types query.now s.now) }
         ensures distinct { IfSome result (λ s. IsDistinct nat_eq s.now) }
@@ -109,7 +118,10 @@ impl Caches {
         query: &Query,
         slots: &[usize],
     ) -> Result<Option<Choices>, AllocError>
-        ensures { IfOk result (λ o. IfSome o (λ c. (types : ℕ → Option (List Ids)) →
+        ensures found { IfOk result (λ o. MatchOption o
+            ((c : ChoicesState) → FindsChoices (cache_list self.now) number query.now slots.now c → ⊥)
+            (FindsChoices (cache_list self.now) number query.now slots.now)) }
+        ensures kept { IfOk result (λ o. IfSome o (λ c. (types : ℕ → Option (List Ids)) →
             AreExact types (cache_list self.now) → AreKept types query.now slots.now c)) }
     {
         match self.list.get(number) {
@@ -120,7 +132,8 @@ impl Caches {
 
     /// The same caches once more. An `Err` comes where memory is refused.
     pub fn try_copy(&self, alloc: Global) -> Result<Caches, AllocError>
-        ensures { IfOk result (λ c. StayExact (cache_list self.now) (cache_list c)) }
+        ensures same { IfOk result (λ c. cache_states (cache_list c) ≡ cache_states (cache_list self.now)) }
+        ensures exact { IfOk result (λ c. StayExact (cache_list self.now) (cache_list c)) }
     {
         let mut list = Vec::with_capacity(alloc, self.list.len())?;
         for cache in &self.list {

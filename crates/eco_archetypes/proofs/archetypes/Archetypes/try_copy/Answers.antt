@@ -25,7 +25,7 @@ invariant_of-result c = record {
       c.self.invariant.agreed;
   cached =
       exact_types _ _ _ (copied_types c.self.inside.tables c.in_ok-tables.tables c.in_ok-tables.ensures)
-      (c.in_ok-caches.ensures (type_at c.self.inside.tables) c.self.invariant.cached);
+      (c.in_ok-caches.ensures.exact (type_at c.self.inside.tables) c.self.invariant.cached);
 }
 
 pub returns : goal.returns

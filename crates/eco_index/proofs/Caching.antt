@@ -1,6 +1,6 @@
 -- Caches that are told of the type of a slot, one after another.
 use Rattle.std.proofs.Common.{◌≡◌, ◌≢◌, ℕ, zero, suc, ◌+◌, ◌<◌, ◌≤◌, List, [], ◌∷◌, ◌++◌}
-use Rattle.std.proofs.Common.{length, slice_get, take, Option, Some, None, IfSome, Result, Ok, Err, IfOk, get_or, nat_eq}
+use Rattle.std.proofs.Common.{length, map, slice_get, take, Option, Some, None, IfSome, Result, Ok, Err, IfOk, get_or, nat_eq}
 use Rattle.std.proofs.lemmas.List.{map-append, take_all, take_more}
 use Rattle.eco_query.specs.Queries.{QuerySlot}
 use Rattle.std.proofs.Common.{refl, sym, ap, ◌∙◌, subst, arith, inl, inr, ◌⊎◌}
@@ -14,7 +14,7 @@ use Rattle.eco_index.specs.declared.cache.Cache.{Cache}
 use Rattle.eco_entries.specs.Answers.{asked}
 use Rattle.eco_entries.specs.Flat.{ChoicesState}
 use Rattle.eco_index.specs.Caching.{AreExact, AreKept, AreThose, AreTold, ChangesType, HaveRoom, IsExact, IsTold, StayExact}
-use Rattle.eco_index.specs.Caching.{cache_state, cache_states, choices_on, fulfils, kept_queries}
+use Rattle.eco_index.specs.Caching.{CacheState, cache_state, cache_states, choices_on, fulfils, kept_queries}
 use Rattle.eco_index.proofs.Onlies.{map_alike}
 
 -- those before a place were told, and those from it on are as they were
@@ -247,3 +247,16 @@ queries_kept items i y d same = map-set_same (λ (c : Cache). c.query) items i y
 pub queries_back : (old items zs : List Cache) (len : ℕ) → len ≡ length items → kept_queries items ≡ kept_queries old
     → kept_queries (take len (items ++ zs)) ≡ kept_queries old
 queries_back old items zs len is same = ap kept_queries (written_back len items zs is) ∙ same
+
+-- one of the caches changed, and not what it keeps
+pub states_kept : (items : List Cache) (i : ℕ) (y d : Cache) → y.query ≡ (get_or items i d).query → y.slots.keys ≡ (get_or items i d).slots.keys
+    → y.only ≡ (get_or items i d).only → cache_states (slice_set items i y) ≡ cache_states items
+states_kept items i y d query keys only = map-set_same cache_state items i y d (same_state (get_or items i d) y query keys only)
+
+-- the same states, and so the same queries
+pub queries_of : (old new : List Cache) → cache_states new ≡ cache_states old → kept_queries new ≡ kept_queries old
+queries_of old new same = by new ∙ ap (map (λ (s : CacheState). s.query)) same ∙ sym (by old)
+  where
+    by : (cs : List Cache) → kept_queries cs ≡ map (λ (s : CacheState). s.query) (cache_states cs)
+    by [] = refl
+    by (c ∷ cs) = ap (λ qs. c.query ∷ qs) (by cs)

@@ -40,6 +40,7 @@ impl Caches {
     /// Room for one slot more in each cache. No slot comes or goes, whether it succeeds or not.
     pub fn reserve_one(&mut self) -> Result<(), AllocError>
         ensures queries { kept_queries (cache_list self.new) ≡ kept_queries (cache_list self.old) }
+        ensures states { cache_states (cache_list self.new) ≡ cache_states (cache_list self.old) }
         ensures same { StayExact (cache_list self.old) (cache_list self.new) }
         ensures room { OnOk result (HaveRoom (cache_list self.new)) }
     {

@@ -1,11 +1,11 @@
 use Rattle.std.proofs.Common.{◌≡◌, ℕ, ◌<◌, Some, slice_get}
 use Rattle.std.specs.HashSet.{spare}
 use Rattle.eco_index.specs.declared.cache.Cache.{Cache}
-use Rattle.eco_index.specs.Caching.{StayExact, kept_queries}
+use Rattle.eco_index.specs.Caching.{StayExact, cache_states}
 use Rattle.eco_index.proofs.caches.Caches.reserve_one.Given as goal
 
 abbrev pub invariant-loop-cache : goal.invariant-loop-cache
 invariant-loop-cache l =
     StayExact l.fn.self.list.items l.cache-items
     × ((k : ℕ) (c : Cache) → slice_get l.cache-items k ≡ Some c → k < l.cache-index → 0 < spare c.slots)
-    × (kept_queries l.cache-items ≡ kept_queries l.fn.self.list.items)
+    × (cache_states l.cache-items ≡ cache_states l.fn.self.list.items)

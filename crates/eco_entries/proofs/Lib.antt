@@ -1,3 +1,4 @@
 pub mod Chunked
+pub mod Filtered
 pub mod Least
 pub mod Only

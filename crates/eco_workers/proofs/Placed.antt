@@ -8,6 +8,7 @@ use Rattle.std.proofs.lemmas.Option.{same_Some, slice_get_within}
 use Rattle.std.specs.List.{All, AllZip, Contains, slice_get, flat_map, concat, range_with_len}
 use Rattle.std.proofs.lemmas.List.FromFn.{length-range_with_len, get_or-range_with_len}
 use Rattle.std.proofs.lemmas.List.{length-set, get_or-set_same, get_or-set_other, get_or-replicate, length-replicate, length-map, map-set, get_or-map}
+use Rattle.std.proofs.lemmas.List.{replicate_more}
 use Rattle.std.proofs.lemmas.List.{ext_get_or, get_or_default, get_or_past}
 use Rattle.std.proofs.lemmas.List.Elements.{All-head, All-tail, All-from_get_or, All-map}
 use Rattle.eco_rounds.specs.Counting.{total, times, once, ascends}
@@ -27,6 +28,24 @@ placed_push (q ∷ ps) p stages = placed_push ps p (set stages q.number q.stage)
 pub length-placed : (ps : List Collected) (stages : List (List Command)) → length (placed ps stages) ≡ length stages
 length-placed [] stages = refl
 length-placed (p ∷ ps) stages = length-placed ps (set stages p.number p.stage) ∙ length-set stages p.number p.stage
+
+-- one more place is empty
+pub empty_more : (n : ℕ) (stage : List Command) (stages stages' : List (List Command)) → stages ≡ replicate n [] → stage ≡ []
+    → stages' ≡ stages ++ stage ∷ [] → stages' ≡ replicate (n + 1) []
+empty_more n stage stages stages' empty none more = more ∙ (λ k. empty k ++ none k ∷ []) ∙ replicate_more n []
+
+at_seam : {X : Type 0} (P : X → Type 0) (seen rest : List X) (x : X) → All P (seen ++ x ∷ rest) → P x
+at_seam P [] rest x h = All-head P x rest h
+at_seam P (y ∷ seen) rest x h = at_seam P seen rest x (All-tail P y (seen ++ x ∷ rest) h)
+
+-- there is a place for the next piece
+pub number_within : (count : ℕ) (all seen rest : List Collected) (p : Collected) (stages : List (List Command)) → seen ++ p ∷ rest ≡ all
+    → All (λ (q : Collected). q.number < count) all → stages ≡ placed seen (replicate count []) → p.number < length stages
+number_within count all seen rest p stages is within placed_so =
+    let P : Collected → Type 0 = λ q. q.number < count in
+    let long = ap length placed_so ∙ length-placed seen (replicate count []) ∙ length-replicate count [] in
+    let here = at_seam P seen rest p (subst (All P) (sym is) within) in
+    omega (arith, long, here)
 
 abbrev number_of : Entry → ℕ
 number_of e = e.number

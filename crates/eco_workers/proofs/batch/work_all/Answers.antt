@@ -1,9 +1,11 @@
-use Rattle.std.proofs.Common.{◌≡◌, ◌+◌, ◌∷◌, [], length, length-append, ap, ◌∙◌, sym, subst, arith, vec_len, IfOk}
+use Rattle.std.proofs.Common.{◌≡◌, ◌+◌, ◌∷◌, ◌++◌, [], length, length-append, ap, ◌∙◌, sym, subst, arith, vec_len, IfOk}
 use Rattle.std.specs.List.{All}
+use Rattle.std.specs.Option.{option_to_list}
 use Rattle.std.proofs.lemmas.List.Elements.{All-push}
 use Rattle.eco_workers.specs.declared.worked.Worked.{Worked}
 use Rattle.eco_workers.specs.Taking.{by_index}
-use Rattle.eco_workers.specs.Workers.{IsWorked}
+use Rattle.eco_workers.specs.Workers.{IsNewJobOf, IsWorked}
+use Rattle.eco_workers.proofs.Totals.{popped_all}
 use Rattle.eco_workers.proofs.batch.work_all.Goals as goal
 
 pub returns : goal.returns
@@ -17,3 +19,10 @@ returns g c =
     let long : vec_len c.push.new.self ≡ vec_len c.args.jobs =
     omega (arith, fewer, m, others.0, c.in_ok-worked.worked.ok, c.push.new.self.ok) in
     (long, subst (All W) (sym pushed) (All-push W c.in_ok-worked.worked.items c.work_last_and_others-own.result.0 others.1 own))
+
+pub work_last_and_others-own-requires : goal.work_last_and_others-own-requires
+work_last_and_others-own-requires g c =
+    let rest = c.pop.new.self.items in
+    let is = c.pop.ensures.items ∙ ap (λ last. rest ++ option_to_list last) c.unwrap-last.ensures in
+    let p = popped_all (IsNewJobOf c.args.round.now) c.args.jobs.items rest c.unwrap-last.result is c.requires.jobs in
+    (c.type_bounds.sync-P, (c.type_bounds.sync-R, (p.1, (p.0, c.requires.count))))

@@ -1,8 +1,27 @@
-use Rattle.std.proofs.Common.{◌≡◌, ◌∷◌, [], List, sym, ap, ◌∙◌, append_assoc, replicate, set}
+use Rattle.std.proofs.Common.{◌≡◌, ◌∷◌, [], ◌++◌, List, sym, ap, ◌∙◌, append_assoc, arith, replicate, set}
+use Rattle.std.proofs.lemmas.List.{append-nil, nil_from_length}
 use Rattle.std.specs.Vec.Iter.{into_iter_items}
 use Rattle.eco_ids.specs.Run.{Command}
-use Rattle.eco_workers.proofs.Placed.{placed_push}
+use Rattle.eco_workers.specs.Batches.{placed}
+use Rattle.eco_workers.proofs.Placed.{empty_more, number_within, placed_push}
 use Rattle.eco_workers.proofs.order.place.Goals as goal
+
+pub loop-preserved : goal.loop-preserved
+loop-preserved c =
+    let i = c.loop.invariant in
+    record {
+      room = omega (arith, i.room, c.push_reserved.ensures.capacity);
+      empty = empty_more c.loop.counter c.new.result c.loop.stages.items c.push_reserved.new.self.items i.empty c.new.ensures c.push_reserved.ensures.items;
+    }
+
+pub index_mut-requires : goal.index_mut-requires
+index_mut-requires c =
+    let at = c.loop-piece in
+    let p = c.in-Some.piece in
+    let steps : into_iter_items at.piece-iterator ≡ p ∷ into_iter_items c.next.new.self = c.in-Some.ensures.steps.0 in
+    let within = number_within c.args.count c.args.pieces.items at.yielded (into_iter_items c.next.new.self) p at.stages.items
+    (sym (ap (λ ps. at.yielded ++ ps) steps) ∙ at.invariant.left) c.requires at.invariant.placed in
+    omega (arith, within, at.stages.ok)
 
 pub loop-piece-preserved : goal.loop-piece-preserved
 loop-piece-preserved c =
@@ -15,3 +34,11 @@ loop-piece-preserved c =
       left = append_assoc at.yielded (p ∷ []) _ ∙ rw (← steps) at.invariant.left;
       placed = ap (λ (l : List (List Command)). set l p.number p.stage) at.invariant.placed ∙ sym (placed_push at.yielded p (replicate c.args.count []));
     }
+
+pub returns : goal.returns
+returns c =
+    let at = c.loop-piece in
+    let none : into_iter_items at.piece-iterator ≡ [] =
+    nil_from_length (into_iter_items at.piece-iterator) (omega (arith, at.piece-iterator.rest.ok, c.in-None.ensures.steps.0)) in
+    at.invariant.placed
+    ∙ ap (λ ps. placed ps (replicate c.args.count [])) (sym (append-nil at.yielded) ∙ ap (λ ps. at.yielded ++ ps) (sym none) ∙ at.invariant.left)

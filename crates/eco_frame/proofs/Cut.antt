@@ -1,6 +1,8 @@
 -- Rows are cut into pieces one after another, from the first row on.
-use Rattle.std.proofs.Common.{◌≡◌, ℕ, zero, suc, ◌+◌, ◌-◌, ◌<◌, ◌≤◌, min, List, [], ◌∷◌, ◌++◌, map, take, drop, length, refl, sym, ap, ◌∙◌, append_assoc, arith}
-use Rattle.std.proofs.lemmas.List.{append-nil, drop-drop, drop_all, length-drop, take_min}
+use Rattle.std.proofs.Common.{◌≡◌, ℕ, zero, suc, ◌+◌, ◌-◌, ◌<◌, ◌≤◌, min, List, [], ◌∷◌, ◌++◌, flat_map, get_or, map, take, drop, length}
+use Rattle.std.proofs.Common.{refl, sym, ap, ◌∙◌, append_assoc, arith}
+use Rattle.std.proofs.lemmas.Grind.{flat_map-append}
+use Rattle.std.proofs.lemmas.List.{append-nil, drop-drop, drop_all, length-drop, map_push, take_min, take_more}
 use Rattle.std.proofs.Math.Seq.{drop-nil}
 use Rattle.eco_systems.specs.Recording.{cut, pieces_of}
 use Rattle.eco_systems.specs.Rows.{ValuedRow}
@@ -59,3 +61,13 @@ pub no_piece : {B : Type 0} (body : B) (rows : List ValuedRow) (first : ℕ) (ol
     → length rows ≤ first → pieces ++ pieces_in (body, drop first rows) ≡ old ++ pieces_in (body, rows) → pieces ≡ old ++ pieces_in (body, rows)
 no_piece body rows first old pieces h inv =
     sym (append-nil pieces) ∙ ap (λ l. pieces ++ pieces_in (body, l)) (sym (drop_all first rows h)) ∙ inv
+
+-- what one more part gives is behind
+pub flat_more : {A Y X : Type 0} (f : Y → List X) (g : A → Y) (xs : List A) (k : ℕ) (x : A) (seen seen' : List X) → k < length xs → x ≡ get_or xs k x
+    → seen ≡ flat_map f (map g (take k xs)) → seen' ≡ seen ++ f (g x) → seen' ≡ flat_map f (map g (take (k + 1) xs))
+flat_more f g xs k x seen seen' here is so_far more =
+    more
+    ∙ ap (λ l. l ++ f (g x)) so_far
+    ∙ ap (λ l. flat_map f (map g (take k xs)) ++ l) (sym (append-nil (f (g x))))
+    ∙ sym (flat_map-append f (map g (take k xs)) (g x ∷ []))
+    ∙ ap (flat_map f) (sym (map_push g (take k xs) x) ∙ ap (map g) (ap (λ y. take k xs ++ y ∷ []) is ∙ sym (take_more xs k x here)))

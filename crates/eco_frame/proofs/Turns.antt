@@ -1,5 +1,6 @@
 -- Batches that ran one after another, and one more.
-use Rattle.std.proofs.Common.{◌≡◌, ℕ, ◌+◌, List, [], ◌∷◌, ◌++◌, length, refl, sym, ap, ◌∙◌, subst, append_assoc, arith, length-append}
+use Rattle.std.proofs.Common.{◌≡◌, ℕ, ◌+◌, List, [], ◌∷◌, ◌++◌, length, map, take, vec_len, refl, sym, ap, ◌∙◌, subst, append_assoc, arith}
+use Rattle.std.proofs.Common.{length-append}
 use Rattle.std.proofs.lemmas.List.{append-nil}
 use Rattle.eco_ids.specs.World.{WorldState}
 use Rattle.eco_systems.specs.Batches.{joined}
@@ -71,3 +72,13 @@ run_more workers w mid new bs b before after h g =
       drawn = omega (arith, more, drawn_before, drawn_now);
       counted = omega (arith, counted, commands, len);
     }
+
+-- a batch that is refused changes nothing of what ran
+pub run_stays : {X : Type 0} (workers : ℕ) (w mid new : WorldState) (f : X → List SystemModel) (bs : List X) (k : ℕ) (before after : Progress)
+    → after ≡ before → new ≡ mid → length before.reports.items ≡ k → HaveRun workers w (map f (take k bs)) before mid
+    → HaveRun workers w (map f (take (vec_len after.reports) bs)) after new
+run_stays workers w mid new f bs k before after same still count run =
+    let long : vec_len after.reports ≡ k = ap (λ (p : Progress). vec_len p.reports) same ∙ before.reports.ok.0 ∙ count in
+    subst (λ v. HaveRun workers w (map f (take (vec_len after.reports) bs)) after v) (sym still)
+    (subst (λ p. HaveRun workers w (map f (take (vec_len after.reports) bs)) p mid) (sym same)
+    (subst (λ n. HaveRun workers w (map f (take n bs)) before mid) (sym long) run))

@@ -1,7 +1,9 @@
-use Rattle.std.proofs.Common.{◌+◌, Ok, length, map, ap, ◌∙◌, subst}
+use Rattle.std.proofs.Common.{◌≡◌, ◌+◌, Ok, inr, length, map, refl, sym, ap, ◌∙◌, subst}
+use Rattle.std.proofs.lemmas.Result.{err_from_is_err_and}
+use Rattle.eco_ids.specs.declared.refusal.Refusal.TheVariants.{NoMoreIds, OutOfMemory}
 use Rattle.eco_world.specs.Merging.{Merges, all_commands}
 use Rattle.eco_frame.specs.Models.{model_at, model_of}
-use Rattle.eco_frame.proofs.Merged.{has_run}
+use Rattle.eco_frame.proofs.Merged.{has_run, merge_wanted}
 use Rattle.eco_frame.proofs.batch.run_next.Goals as goal
 
 pub returns-clause-ok : goal.returns-clause-ok
@@ -17,3 +19,39 @@ returns-clause-ok g c =
     has_run c.args.workers w new batch (all_commands stages) n before c.push.new.self c.in_ok-report.report c.in_ok-stages.ensures.ok
     c.in_ok-stages.ensures.most merged c.in-Some.commands c.in-Some.in_all
     (c.in-Some.ensures.0 ∙ ap (λ ss. before.commands + length (all_commands ss)) c.deref.ensures.value) c.in-Some.ensures.1 c.push.ensures
+
+pub returns-in_err-stages-clause-err : goal.returns-in_err-stages-clause-err
+returns-in_err-stages-clause-err g c =
+    let p = err_from_is_err_and c.from_residual.result c.from_residual.ensures.1 in
+    rw p.1 (refl, refl)
+
+pub returns-in_err-stages-clause-why : goal.returns-in_err-stages-clause-why
+returns-in_err-stages-clause-why g c =
+    let p = err_from_is_err_and c.from_residual.result c.from_residual.ensures.1 in
+    rw (p.1, p.2) c.in_err-stages.ensures.why
+
+pub returns-in_err-stages-clause-out : goal.returns-in_err-stages-clause-out
+returns-in_err-stages-clause-out g c =
+    let p = err_from_is_err_and c.from_residual.result c.from_residual.ensures.1 in
+    rw (p.1, p.2) c.in_err-stages.ensures.out
+
+pub returns-in_err-report-clause-err : goal.returns-in_err-report-clause-err
+returns-in_err-report-clause-err g c =
+    let commands = all_commands c.deref-2.result.now in
+    let want = merge_wanted c.args.world.now c.in_ok-stages.drawn commands c.in_ok-stages.ensures.most _ _ _ c.in_err-report.ensures in
+    let p = err_from_is_err_and c.from_residual-in_err-report.result c.from_residual-in_err-report.ensures.1 in
+    rw p.1 (want.1, refl)
+
+pub returns-in_err-report-clause-why : goal.returns-in_err-report-clause-why
+returns-in_err-report-clause-why g c =
+    let commands = all_commands c.deref-2.result.now in
+    let want = merge_wanted c.args.world.now c.in_ok-stages.drawn commands c.in_ok-stages.ensures.most _ _ _ c.in_err-report.ensures in
+    let p = err_from_is_err_and c.from_residual-in_err-report.result c.from_residual-in_err-report.ensures.1 in
+    rw (p.1, p.2) (inr want.0)
+
+pub returns-in_err-report-clause-out : goal.returns-in_err-report-clause-out
+returns-in_err-report-clause-out g c =
+    let commands = all_commands c.deref-2.result.now in
+    let want = merge_wanted c.args.world.now c.in_ok-stages.drawn commands c.in_ok-stages.ensures.most _ _ _ c.in_err-report.ensures in
+    let p = err_from_is_err_and c.from_residual-in_err-report.result c.from_residual-in_err-report.ensures.1 in
+    rw (p.1, p.2) (λ gone. let both : NoMoreIds ≡ OutOfMemory = sym gone ∙ want.0 in absurd cc)

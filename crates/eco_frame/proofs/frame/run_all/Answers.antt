@@ -1,11 +1,30 @@
-use Rattle.std.proofs.Common.{◌≡◌, ◌+◌, ◌∷◌, ◌++◌, [], ℕ, Err, Global, List, Some, Vec, length, length-append, map, option_map, slice_get, take, vec_len, sym, ap, ◌∙◌, subst, arith, rules}
+use Rattle.std.proofs.Common.{◌≡◌, ◌+◌, ◌<◌, ◌∷◌, ◌++◌, [], ℕ, Global, List, Some, Vec, length, length-append, map, option_map, slice_get}
+use Rattle.std.proofs.Common.{take, vec_capacity, vec_len, refl, sym}
+use Rattle.std.proofs.Common.{ap, ◌∙◌, subst, arith}
+use Rattle.std.specs.List.{All}
 use Rattle.std.proofs.lemmas.List.{map_push, take_more}
+use Rattle.std.proofs.lemmas.Result.{err_from_is_err_and}
 use Rattle.std.proofs.lemmas.Option.{slice_get-get_or, slice_get-map}
 use Rattle.eco_frame.specs.declared.progress.Progress.{Progress}
 use Rattle.eco_frame.specs.Models.{model_at, model_of}
 use Rattle.eco_frame.specs.Progresses.{HasRun, HaveRun}
-use Rattle.eco_frame.proofs.Turns.{run_more}
+use Rattle.eco_frame.proofs.Turns.{none_run, run_more, run_stays}
 use Rattle.eco_frame.proofs.frame.run_all.Goals as goal
+
+pub loop-places-init : goal.loop-places-init
+loop-places-init g c =
+    let none = c.requires.none in
+    record { count = ap length none.0; room = refl; run = none_run c.args.workers c.args.world.now c.args.done.now none.0 none.1 none.2 }
+
+pub run_next-requires : goal.run_next-requires
+run_next-requires g c =
+    let inv = c.loop-places.invariant in
+    let before = c.loop-places.done in
+    let less = c.loop-places-test.true in
+    let Within : List ℕ → Type 0 = λ ps. All (λ k. k < length c.args.systems.now) ps in
+    let own = subst (λ (v : Vec ℕ Global). Within v.items) (sym c.places-item.is) (c.requires.places c.loop-places.places-index _ less) in
+    let room : vec_len before.reports < vec_capacity before.reports = omega (arith, inv.count, inv.room, c.requires.room, less, before.reports.ok) in
+    (c.type_bounds.sync-B, (c.type_bounds.sync-R, (c.requires.workers, (subst Within (sym c.deref.ensures.value) own, room))))
 
 pub loop-places-preserved : goal.loop-places-preserved
 loop-places-preserved g c =
@@ -45,5 +64,22 @@ returns-in_err-run_next-clause-out g c =
     let same : vec_len c.loop-places.done.reports ≡ k = omega (arith, count, c.loop-places.done.reports.ok) in
     let there = subst (λ (d : Progress). slice_get (map items batches) (vec_len d.reports) ≡ Some c.deref.result.now) (sym c.in_err-run_next.ensures.err.1)
     (ap (slice_get (map items batches)) same ∙ here) in
-    let is : c.from_residual.result ≡ Err c.in_err-run_next.field-0.0 = search rules in
-    rw is (λ no. (c.deref.result.now, there, c.in_err-run_next.ensures.out no))
+    let p = err_from_is_err_and c.from_residual.result c.from_residual.ensures.1 in
+    rw (p.1, p.2) (λ no. (c.deref.result.now, there, c.in_err-run_next.ensures.out no))
+
+pub returns-in_err-run_next-clause-so_far : goal.returns-in_err-run_next-clause-so_far
+returns-in_err-run_next-clause-so_far g c =
+    let b = g.B.SystemBody in
+    let at = model_at (map (model_of b.reads_of b.writes_of b.kills_of b.taken b.commands) c.args.systems.now) in
+    let inv = c.loop-places.invariant in
+    let err = c.in_err-run_next.ensures.err in
+    run_stays c.args.workers c.args.world.now c.loop-places.world c.run_next.new.world (λ p. map at p.items) c.args.batches.now c.loop-places.places-index
+    c.loop-places.done c.run_next.new.done err.1 err.0 inv.count inv.run
+
+pub returns-clause-so_far : goal.returns-clause-so_far
+returns-clause-so_far g c =
+    let b = g.B.SystemBody in
+    let at = model_at (map (model_of b.reads_of b.writes_of b.kills_of b.taken b.commands) c.args.systems.now) in
+    let inv = c.loop-places.invariant in
+    run_stays c.args.workers c.args.world.now c.loop-places.world c.loop-places.world (λ p. map at p.items) c.args.batches.now c.loop-places.places-index
+    c.loop-places.done c.loop-places.done refl refl inv.count inv.run

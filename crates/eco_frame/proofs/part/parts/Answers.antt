@@ -1,6 +1,6 @@
 use Rattle.std.proofs.Common.{rules, ◌≡◌, ◌++◌, ◌∷◌, [], flat_map, length, map, option_map, option_to_list, refl, sym, take, ap, ◌∙◌, get_or}
 use Rattle.std.proofs.lemmas.Grind.{flat_map-append}
-use Rattle.std.proofs.lemmas.List.{append-nil, map_push, take_more}
+use Rattle.std.proofs.lemmas.List.{append-nil, map_push, take_all, take_more}
 use Rattle.std.proofs.lemmas.Option.{slice_get_read}
 use Rattle.eco_frame.specs.Pieces.{part_at, part_of, seen_part}
 use Rattle.eco_frame.proofs.part.parts.Goals as goal
@@ -23,3 +23,8 @@ loop-place-preserved g c =
     ∙ ap (λ ps. flat_map f (take k places) ++ ps) (sym one ∙ sym (append-nil (f place)))
     ∙ sym (flat_map-append f (take k places) (place ∷ []))
     ∙ ap (flat_map f) (sym (take_more places k 0 less))
+
+pub returns-clause-ok : goal.returns-clause-ok
+returns-clause-ok g c =
+    let f = part_at c.args.world.now c.args.systems.now in
+    c.loop-place.invariant ∙ ap (flat_map f) (take_all c.loop-place.place-index c.args.places.now c.loop-place-test.false)

@@ -1,6 +1,6 @@
 use Rattle.std.proofs.Common.{◌++◌, ◌∷◌, [], sym, subst, take, ◌+◌}
 use Rattle.std.specs.List.{AllZip}
-use Rattle.std.proofs.lemmas.List.{take_more}
+use Rattle.std.proofs.lemmas.List.{take_all, take_more}
 use Rattle.eco_ids.proofs.Further.{zip_push}
 use Rattle.eco_batches.specs.declared.declaration.Declared.{Declared}
 use Rattle.eco_bodies.specs.declared.systems.System.{System}
@@ -16,3 +16,10 @@ loop-system-preserved g c =
     (sym (take_more c.args.systems.now c.loop-system.system-index c.system-item.result c.loop-system-test.true))
     (zip_push R (take c.loop-system.system-index c.args.systems.now) c.loop-system.declarations.items _ c.declaration.result c.loop-system.invariant
     (subst (λ s. R s c.declaration.result) c.system-item.is c.declaration.ensures)))
+
+pub returns : goal.returns
+returns g c =
+    let b = g.B.SystemBody in
+    let R : System g.row.B.Denot → Declared → Type 0 = λ s d. Declares (model_of b.reads_of b.writes_of b.kills_of b.taken b.commands s) d in
+    subst (λ ss. AllZip R ss c.loop-system.declarations.items)
+    (take_all c.loop-system.system-index c.args.systems.now c.loop-system-test.false) c.loop-system.invariant

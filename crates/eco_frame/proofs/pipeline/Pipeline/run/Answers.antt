@@ -1,6 +1,6 @@
 use Rattle.std.proofs.Common.{Err, IfErr, map, subst}
 use Rattle.eco_bodies.specs.declared.systems.System.{System}
-use Rattle.eco_systems.specs.Frames.{BatchRunsSolo}
+use Rattle.eco_systems.specs.Frames.{BatchRuns, BatchRunsSolo}
 use Rattle.eco_systems.specs.Systems.{SystemModel}
 use Rattle.eco_frame.specs.Models.{model_of}
 use Rattle.eco_frame.specs.Reports.{AscendingRuns, Frames}
@@ -27,3 +27,31 @@ returns-clause-why g c =
     let f : System g.row.B.Denot → SystemModel = model_of b.reads_of b.writes_of b.kills_of b.taken b.commands in
     let w = c.args.world.now in
     subst (λ ss. IfErr c.run_batches.result (λ stop. IsWhy b.taken b.commands f w ss stop c.run_batches.new.world)) c.self.view_is c.run_batches.ensures.why
+
+pub returns-in_default-clause-frame : goal.returns-in_default-clause-frame
+returns-in_default-clause-frame g c =
+    let b = g.B.SystemBody in
+    let f : System g.row.B.Denot → SystemModel = model_of b.reads_of b.writes_of b.kills_of b.taken b.commands in
+    let w = c.args.world.now in
+    subst (λ ss. Frames BatchRuns w (map f ss) (Err c.stop_at_once.result) w) c.self.view_is c.stop_at_once.ensures.frame
+
+pub returns-clause-frame : goal.returns-clause-frame
+returns-clause-frame g c =
+    let b = g.B.SystemBody in
+    let f : System g.row.B.Denot → SystemModel = model_of b.reads_of b.writes_of b.kills_of b.taken b.commands in
+    let w = c.args.world.now in
+    subst (λ ss. Frames BatchRuns w (map f ss) c.run_batches.result c.run_batches.new.world) c.self.view_is c.run_batches.ensures.frame
+
+pub returns-clause-alone : goal.returns-clause-alone
+returns-clause-alone g c one =
+    let b = g.B.SystemBody in
+    let f : System g.row.B.Denot → SystemModel = model_of b.reads_of b.writes_of b.kills_of b.taken b.commands in
+    let w = c.args.world.now in
+    subst (λ ss. Frames AscendingRuns w (map f ss) c.run_batches.result c.run_batches.new.world) c.self.view_is (c.run_batches.ensures.alone one)
+
+pub returns-clause-solo : goal.returns-clause-solo
+returns-clause-solo g c =
+    let b = g.B.SystemBody in
+    let f : System g.row.B.Denot → SystemModel = model_of b.reads_of b.writes_of b.kills_of b.taken b.commands in
+    let w = c.args.world.now in
+    subst (λ ss. Frames BatchRunsSolo w (map f ss) c.run_batches.result c.run_batches.new.world) c.self.view_is c.run_batches.ensures.solo

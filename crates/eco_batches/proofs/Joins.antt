@@ -1,8 +1,8 @@
 -- The loop that joins systems one by one.
 use Rattle.std.proofs.Common.{◌≡◌, ℕ, ◌+◌, ◌<◌, Bool, true, false, cond, ◌&&◌, ◌||◌, List, [], ◌∷◌, ◌++◌, map, length, get_or, take, drop, Option}
-use Rattle.std.proofs.Common.{slice_get, refl, sym, ap, ◌∙◌, subst, true≢false, append_assoc}
+use Rattle.std.proofs.Common.{◌≤◌, slice_get, refl, sym, ap, ◌∙◌, subst, true≢false, append_assoc}
 use Rattle.std.specs.List.{AllZip, list_any}
-use Rattle.std.proofs.lemmas.List.{drop_more, map-append, take_more}
+use Rattle.std.proofs.lemmas.List.{drop_all, drop_more, map-append, map_push, take_more}
 use Rattle.std.proofs.lemmas.List.Folds.{list_any-append}
 use Rattle.eco_ids.specs.declared.edition.Edition.{Edition}
 use Rattle.eco_ids.specs.declared.edition.Edition.TheVariants.{First}
@@ -156,6 +156,18 @@ join_more os ds items order k d done done' batch batch' below total joins =
     ap (λ before. map items done' ++ batched (clash_at os ds) before batch'.places.items (drop (k + 1) order)) (take_more order k d below)
     ∙ joins.total
     ∙ ap (λ rest. map items done ++ batched (clash_at os ds) (take k order) batch.places.items rest) (sym (drop_more order k d below))
+    ∙ total
+
+-- no system is left
+pub join_end : (os : List OutlineModel) (ds : List Declared) {V : Type 0} (items : V → List ℕ) (order : List ℕ) (k : ℕ) (done done' : List V)
+    (batch : Batch) (last : V) → length order ≤ k
+    → map items done ++ batched (clash_at os ds) (take k order) batch.places.items (drop k order) ≡ batched (clash_at os ds) [] [] order
+    → done' ≡ done ++ last ∷ [] → items last ≡ batch.places.items → map items done' ≡ batched (clash_at os ds) [] [] order
+join_end os ds items order k done done' batch last end total more is =
+    ap (map items) more
+    ∙ map_push items done last
+    ∙ ap (λ l. map items done ++ l ∷ []) is
+    ∙ ap (λ rest. map items done ++ batched (clash_at os ds) (take k order) batch.places.items rest) (sym (drop_all k order end))
     ∙ total
 
 -- there is one edition

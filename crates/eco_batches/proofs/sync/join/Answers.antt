@@ -3,7 +3,7 @@ use Rattle.std.specs.List.{list_any}
 use Rattle.std.proofs.lemmas.List.{take_more}
 use Rattle.eco_systems.specs.Joining.{batched}
 use Rattle.eco_batches.specs.Outlines.{clash_at, traits_in}
-use Rattle.eco_batches.proofs.Joins.{join_more}
+use Rattle.eco_batches.proofs.Joins.{join_end, join_more}
 use Rattle.eco_batches.proofs.sync.join.Goals as goal
 
 pub loop-at-init : goal.loop-at-init
@@ -26,3 +26,8 @@ loop-at-preserved c =
       total = join_more c.args.outlines.now c.args.systems.now (λ b. b.items) order k 0 c.loop-at.done.items c.join_next.new.done.items c.loop-at.batch
           c.join_next.new.batch c.loop-at-test.true c.loop-at.invariant.total joins;
     }
+
+pub returns : goal.returns
+returns c =
+    join_end c.args.outlines.now c.args.systems.now (λ b. b.items) c.args.order.now c.loop-at.at-index c.loop-at.done.items c.push.new.self.items
+    c.loop-at.batch c.in_ok-take.field-0 c.loop-at-test.false c.loop-at.invariant.total c.in_ok-push.ensures.items c.in_ok-take.ensures.taken

@@ -1,7 +1,6 @@
 pub mod Commands
 pub mod Declared
 pub mod Determined
-pub mod Devices
 pub mod Ends
 pub mod Joined
 pub mod Recorded

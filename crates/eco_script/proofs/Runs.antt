@@ -1,16 +1,16 @@
 -- One step after another, and steps that nothing keeps from running.
 use Rattle.std.proofs.Common.{subst, ◌≤◌, ◌≡◌, ℕ, ◌+◌, ◌<◌, List, [], ◌∷◌, ◌++◌, length, map, take, drop, get_or, Option, Some, None, refl, ap, ◌∙◌, sym}
 use Rattle.std.proofs.Common.{append_assoc, inr}
+use Rattle.std.proofs.KnownBytes.{Appends-trans}
 use Rattle.std.proofs.lemmas.List.{append-nil, take_all, take_more, map-append, take-append-drop}
 use Rattle.std.specs.Io.KnownBytes.{Appends, Consumes, IsAtEnd, Keeps}
 use Rattle.eco_script.specs.Run.{IsTextOf, WasNotRead}
-use Rattle.eco_script.proofs.Devices.{Appends-more}
 use Rattle.std.specs.Prelude.{◌⊎◌}
 use Rattle.serde_json.specs.Data.{Data}
 use Rattle.serde_json.specs.Read.{read}
 use Rattle.eco_steps.specs.Script.{Script, IsScript, IsScriptData}
 use Rattle.eco_script.specs.States.{ScriptState, first_state}
-use Rattle.eco_script.specs.Beginning.{IsBeginning}
+use Rattle.eco_devices.specs.Beginning.{IsBeginning}
 use Rattle.eco_steps.specs.Steps.{Step}
 use Rattle.eco_script.specs.Text.{Does, Text}
 use Rattle.eco_script.proofs.Ends.{TextsRead, some_step}
@@ -74,13 +74,13 @@ module _ {X : Type 0} (f : X → Step) (xs : List X) where
       → Gathered i w m a b rest → Appends b c part → Gathered i w m a c left
   gathered_less i w m a b c rest part left is (done, p, h) k =
       let whole : done ++ rest ≡ (done ++ part) ++ left = ap (λ t. done ++ t) is ∙ sym (append_assoc done part left) in
-      (done ++ part, rw (← whole) p, Appends-more a b c done part h k)
+      (done ++ part, rw (← whole) p, Appends-trans a b c done part h k)
 
   -- all steps were run, and the rest was written
   pub gathered_all : (i : ℕ) (w e : ScriptState) (a b c : Option (List ℕ)) (rest : List ℕ) → length xs ≤ i → Gathered i w e a b rest → Appends b c rest
       → (text : List ℕ) × (last : ScriptState) × Text w (map f xs) text last × Appends a c text
   gathered_all i w e a b c rest end (done, p, h) k =
-      (done ++ rest, e, subst (λ ys. Text w (map f ys) (done ++ rest) e) (take_all i xs end) p, Appends-more a b c done rest h k)
+      (done ++ rest, e, subst (λ ys. Text w (map f ys) (done ++ rest) e) (take_all i xs end) p, Appends-trans a b c done rest h k)
 
   -- the run stops between two steps
   pub stopped_between : TextsRead → (i : ℕ) (w m : ScriptState) (a b : Option (List ℕ)) (rest : List ℕ) → Gathered i w m a b rest → Stopped w a b
@@ -93,7 +93,7 @@ module _ {X : Type 0} (f : X → Step) (xs : List X) where
       → ((q : List ℕ) × IsBeginning q rest × Appends b c q) → Stopped w a c
   stopped_within texts i w m a b c rest (done, p, h) (q, (r, er), hq) =
       let on = text_goes_on texts i w m (done ++ rest) p in
-      (done ++ q, (done ++ rest) ++ on.0, on.1, on.2, (r ++ on.0, begins done q r rest on.0 er), Appends-more a b c done q h hq)
+      (done ++ q, (done ++ rest) ++ on.0, on.1, on.2, (r ++ on.0, begins done q r rest on.0 er), Appends-trans a b c done q h hq)
 
 Text-at : (w v e : ScriptState) (ss rs : List Step) (t : List ℕ) → w ≡ v → ss ≡ rs → Text w ss t e → Text v rs t e
 Text-at w v e ss rs t p q h = rw (← p, ← q) h

@@ -1,5 +1,4 @@
 pub mod Answers
-pub mod Beginning
 pub mod Laws
 pub mod Lines
 pub mod Recording

@@ -1,7 +1,7 @@
 -- What a run of the program writes.
 use Rattle.std.specs.Prelude.{◌⊎◌, ℕ, List, Option, Some, None, ⊤}
 use Rattle.std.specs.Io.KnownBytes.{Appends, Keeps}
-use Rattle.eco_script.specs.Beginning.{IsBeginning}
+use Rattle.eco_devices.specs.Beginning.{IsBeginning}
 use Rattle.eco_steps.specs.Script.{Script, IsScript}
 use Rattle.eco_script.specs.States.{ScriptState, first_state}
 use Rattle.eco_script.specs.Text.{Text}

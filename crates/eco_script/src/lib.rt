@@ -1,8 +1,6 @@
 //! Scripts: read whole, run step by step on a world of their own, with the lines of each step written before the next.
 #![tactic(auto)]
 
-pub mod counted;
-pub mod device;
 mod fault;
 pub mod laws;
 mod lines;
@@ -13,10 +11,7 @@ mod reply;
 pub mod run;
 mod shown_value;
 pub mod status;
-mod transfer;
 
-pub use counted::Counted;
-pub use device::{DeviceFailed, ScriptReader, ScriptWriter};
+pub use eco_devices::{Counted, DeviceFailed, MOST_READS, ScriptReader, ScriptWriter};
 pub use run::run_script;
 pub use status::Status;
-pub use transfer::MOST_READS;

@@ -2,18 +2,18 @@
 
 ghost use Rattle.std.specs.Prelude.{◌≡◌, ◌≢◌, ℕ, ◌+◌, ◌^◌, ◌<◌, ◌≤◌, List, [], ◌++◌, Some, OnOk, OnErr, IsErrOf, map, string_bytes};
 ghost use Rattle.std.specs.Io.KnownBytes.{Appends};
-ghost use Rattle.eco_script.specs.Beginning.{IsBeginning};
+ghost use Rattle.eco_devices.specs.Beginning.{IsBeginning};
 ghost use Rattle.eco_script.specs.Run.{Ran, WasNotRead, WasStopped};
 ghost use Rattle.eco_script.specs.States.{ScriptState};
 ghost use Rattle.eco_script.specs.Systems.{reached};
 ghost use Rattle.eco_script.specs.Text.{Does, Text};
 ghost use Rattle.eco_steps.specs.Views.{step_view};
 
-use crate::device::{DeviceFailed, ScriptReader, ScriptWriter};
 use crate::fault::Fault;
 use crate::status::Status;
-use crate::{perform, reply, transfer};
+use crate::{perform, reply};
 use eco_bodies::Systems;
+use eco_devices::{DeviceFailed, ScriptReader, ScriptWriter};
 use eco_steps::{ReadError, Script, Step};
 use eco_world::World;
 use serde_json::Value;
@@ -53,7 +53,7 @@ fn write_many<W: ScriptWriter>(writer: &mut W, text: &mut String) -> Result<(), 
     ensures counts_one { OnErr result (W.failures writer.new ≡ W.failures writer.old + 1) }
 {
     if text.len() >= GATHERED {
-        transfer::write_all(writer, text.as_str().as_bytes())?;
+        eco_devices::write_all(writer, text.as_str().as_bytes())?;
         text.clear();
     }
     Ok(())
@@ -90,7 +90,7 @@ fn run_steps<R: Threads + Sync, W: ScriptWriter>(
             return Err(Fault::Device);
         };
     }
-    match transfer::write_all(writer, text.as_str().as_bytes()) {
+    match eco_devices::write_all(writer, text.as_str().as_bytes()) {
         Ok(()) => Ok(()),
         Err(_) => Err(Fault::Device),
     }
@@ -162,7 +162,7 @@ pub fn run_script<T: Threads + Sync, R: ScriptReader, W: ScriptWriter>(
     ensures no_other { result ≢ Status.BadArguments }
     ensures reads { R.calls reader.new ≤ R.calls reader.old + 16777216 }
 {
-    let bytes = match transfer::read_all(alloc, reader) {
+    let bytes = match eco_devices::read_all(alloc, reader) {
         Ok(bytes) => bytes,
         Err(_) => return Status::Stopped,
     };

@@ -1,9 +1,9 @@
 use Rattle.std.proofs.Common.{Err, [], ap, map}
+use Rattle.std.proofs.KnownBytes.{Keeps-refl}
 use Rattle.std.proofs.lemmas.Result.{on_ok_weaker, on_err_weaker}
 use Rattle.serde_json.specs.View.{view}
 use Rattle.eco_steps.specs.Views.{step_view, script_view}
 use Rattle.eco_script.specs.Systems.{reached}
-use Rattle.eco_script.proofs.Devices.{Keeps-same}
 use Rattle.eco_script.proofs.Runs.{no_script_bytes, ran_bytes, stopped_bytes}
 use Rattle.eco_script.proofs.run.run_bytes.Goals as goal
 
@@ -14,7 +14,7 @@ new-requires g c =
 
 pub returns-in-Err-NotAScript-clause-not_read : goal.returns-in-Err-NotAScript-clause-not_read
 returns-in-Err-NotAScript-clause-not_read g c = λ _. (
-  Keeps-same _,
+  Keeps-refl _,
   no_script_bytes c.args.bytes.now (view c.in-Ok.value) c.in-Ok.ensures.ok.1
       (c.in-Err-NotAScript.ensures.not_a_script (ap Err c.in-Err-NotAScript.field-0-is)),
 )

@@ -1,13 +1,13 @@
 use Rattle.std.proofs.Common.{[], refl, ap, ◌+◌, ◌∙◌}
+use Rattle.std.proofs.KnownBytes.{Appends-nil}
 use Rattle.eco_steps.specs.Views.{step_view}
 use Rattle.eco_script.specs.Systems.{reached}
-use Rattle.eco_script.proofs.Devices.{Appends-none}
 use Rattle.eco_script.proofs.Runs.{stopped_between, stopped_within, gathered_all, gathered_more, gathered_less}
 use Rattle.eco_script.proofs.run.run_steps.Goals as goal
 
 pub loop-step-init : goal.loop-step-init
 loop-step-init g c = record {
-  ran = ([], (c.new-text.ensures.bytes, ap (reached c.args.world.now) c.new-systems.ensures), Appends-none _);
+  ran = ([], (c.new-text.ensures.bytes, ap (reached c.args.world.now) c.new-systems.ensures), Appends-nil _);
   counted = refl;
 }
 

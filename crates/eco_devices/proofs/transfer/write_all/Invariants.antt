@@ -1,6 +1,6 @@
 use Rattle.std.proofs.Common.{◌≡◌, ◌≤◌, ◌-◌, length, take}
 use Rattle.std.specs.Io.KnownBytes.{Appends}
-use Rattle.eco_script.proofs.transfer.write_all.Given as goal
+use Rattle.eco_devices.proofs.transfer.write_all.Given as goal
 
 -- the first bytes were written, and no call has failed
 abbrev pub invariant-loop-done : goal.invariant-loop-done

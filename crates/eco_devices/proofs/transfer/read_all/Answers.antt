@@ -1,9 +1,10 @@
 use Rattle.std.proofs.Common.{arith, refl, inl, inr, ◌+◌, ◌∙◌, ap}
-use Rattle.eco_script.proofs.Devices.{Consumes-end, Consumes-more, Consumes-none}
-use Rattle.eco_script.proofs.transfer.read_all.Goals as goal
+use Rattle.std.proofs.KnownBytes.{Consumes-nil}
+use Rattle.eco_devices.proofs.Devices.{Consumes-end, Consumes-more}
+use Rattle.eco_devices.proofs.transfer.read_all.Goals as goal
 
 pub loop-made-init : goal.loop-made-init
-loop-made-init g c = record { came = rw c.new-bytes.ensures.items (Consumes-none _); called = omega arith; counted = refl }
+loop-made-init g c = record { came = rw c.new-bytes.ensures.items (Consumes-nil _); called = omega arith; counted = refl }
 
 pub loop-made-preserved : goal.loop-made-preserved
 loop-made-preserved g c = record {

@@ -1,5 +1,5 @@
 use Rattle.std.specs.Io.KnownBytes.{Keeps}
-use Rattle.eco_script.proofs.counted.write_again.Given as goal
+use Rattle.eco_devices.proofs.counted.write_again.Given as goal
 
 -- nothing was written
 abbrev pub invariant-loop : goal.invariant-loop

@@ -1,8 +1,8 @@
 use Rattle.std.proofs.Common.{rules}
 use Rattle.std.proofs.lemmas.Result.{err_from_is_err_and}
 use Rattle.std.proofs.lemmas.List.{take_rest}
-use Rattle.eco_script.proofs.Devices.{Appends-beginning, Appends-take_more}
-use Rattle.eco_script.proofs.transfer.write_all.Goals as goal
+use Rattle.eco_devices.proofs.Devices.{Appends-beginning, Appends-take_more}
+use Rattle.eco_devices.proofs.transfer.write_all.Goals as goal
 
 pub returns-in_err-n-clause-err : goal.returns-in_err-n-clause-err
 returns-in_err-n-clause-err g c =

@@ -2,26 +2,25 @@
 
 ghost use Rattle.std.specs.Prelude.{◌≡◌, ◌⊎◌, ℕ, ◌+◌, ◌^◌, ◌<◌, ◌≤◌, List, IfOk, OnOk, OnErr, IsErrOf};
 ghost use Rattle.std.specs.Io.KnownBytes.{Appends, Consumes, IsAtEnd};
-ghost use Rattle.eco_script.specs.Beginning.{IsBeginning};
+ghost use Rattle.eco_devices.specs.Beginning.{IsBeginning};
 
 use crate::device::{DeviceFailed, ScriptReader, ScriptWriter};
-use crate::fault::Fault;
+use crate::read_fault::ReadFault;
 use std::alloc::Global;
 
-/// How many calls of a reader are made for one script at most.
+/// How many calls of a reader are made for one input at most.
 pub const MOST_READS: u32 = 16_777_216;
 
 /// The bytes that a reader has, all of them.
 ///
 /// The error is `Device` where a call failed, or where 16,777,216 calls met no end; and `Memory` where the bytes found none.
-pub fn read_all<R: ScriptReader>(alloc: Global, reader: &mut R) -> Result<Vec<u8>, Fault>
+pub fn read_all<R: ScriptReader>(alloc: Global, reader: &mut R) -> Result<Vec<u8>, ReadFault>
     requires callable { R.calls reader.old + 16777216 < 2 ^ 64 }
     requires countable { R.failures reader.old + 1 < 2 ^ 64 }
     ensures whole { IfOk result (λ v. Consumes (R.remaining reader.old) (R.remaining reader.new) v.items) }
     ensures ended { OnOk result (IsAtEnd (R.remaining reader.new)) }
-    ensures device { IsErrOf result Fault.Device → (R.failures reader.new ≡ R.failures reader.old + 1)
+    ensures device { IsErrOf result ReadFault.Device → (R.failures reader.new ≡ R.failures reader.old + 1)
         ⊎ (R.calls reader.new ≡ R.calls reader.old + 16777216) }
-    ensures no_not_read { IsErrOf result Fault.NotRead → ⊥ }
     ensures bounded { R.calls reader.new ≤ R.calls reader.old + 16777216 }
 {
     let mut bytes = Vec::new(alloc);
@@ -31,13 +30,13 @@ pub fn read_all<R: ScriptReader>(alloc: Global, reader: &mut R) -> Result<Vec<u8
             Ok(0) => return Ok(bytes),
             Ok(n) => {
                 let Ok(()) = bytes.extend_from_slice(&chunk[..n]) else {
-                    return Err(Fault::Memory);
+                    return Err(ReadFault::Memory);
                 };
             }
-            Err(_) => return Err(Fault::Device),
+            Err(_) => return Err(ReadFault::Device),
         }
     }
-    Err(Fault::Device)
+    Err(ReadFault::Device)
 }
 
 /// Writes all of the bytes. The error is a call that failed, and then a beginning of them was written.

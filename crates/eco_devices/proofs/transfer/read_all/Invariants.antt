@@ -1,6 +1,6 @@
 use Rattle.std.proofs.Common.{◌≡◌, ◌+◌}
 use Rattle.std.specs.Io.KnownBytes.{Consumes}
-use Rattle.eco_script.proofs.transfer.read_all.Given as goal
+use Rattle.eco_devices.proofs.transfer.read_all.Given as goal
 
 -- the bytes so far came from the reader, and no call has failed
 abbrev pub invariant-loop-made : goal.invariant-loop-made

@@ -17,6 +17,13 @@ pub struct Choice<'a> {
     pub repeat: u32,
 }
 
+impl Choice<'_> {
+    /// Whether a case of this name is meant at this size.
+    pub fn takes(&self, name: &str, size: u32) -> bool {
+        name.starts_with(self.prefix) && size <= self.largest
+    }
+}
+
 /// What the command line asks for.
 #[derive(Drop)]
 pub enum Asked<'a> {

@@ -31,28 +31,41 @@ fn words(rt: &HostRuntime) -> io::Result<Vec<String>> {
     Ok(words)
 }
 
-// The line of a case at one size: what one call took.
-fn print_time<R: Print>(rt: &R, name: &str, size: u32, time: Duration) -> Result<(), Fault> {
+// The line of a case at one size: what one call took, or where nothing is measured the size alone.
+fn print_line<R: Print>(rt: &R, name: &str, size: u32, time: Option<Duration>) -> io::Result<()> {
+    let Some(time) = time else {
+        return println!(rt; "{name} {size}");
+    };
     let tenths = tenths_for_one(time, size);
-    let whole = tenths / 10;
-    let rest = tenths % 10;
-    println!(rt; "{name} {size} {whole}.{rest}")?;
-    Ok(())
+    let (whole, rest) = (tenths / 10, tenths % 10);
+    println!(rt; "{name} {size} {whole}.{rest}")
 }
 
-// The same, or where nothing is to be measured the size alone.
-fn print_line<R: Print + Clock + AllocGlobal>(
+// The line of a case at one size.
+fn print_size<R: Print + Clock + AllocGlobal>(
     rt: &R,
     choice: &Choice,
     case: &Case,
     size: u32,
 ) -> Result<(), Fault> {
-    let name = case.name();
-    if choice.is_run {
-        let time = case.best_time(rt, rt.alloc(), size, choice.repeat)?;
-        print_time(rt, name, size, time)?;
+    let time = if choice.is_run {
+        Some(case.best_time(rt, rt.alloc(), size, choice.repeat)?)
     } else {
-        println!(rt; "{name} {size}")?;
+        None
+    };
+    Ok(print_line(rt, case.name(), size, time)?)
+}
+
+// The lines of a case at each of its sizes that is chosen.
+fn print_case<R: Print + Clock + AllocGlobal>(
+    rt: &R,
+    choice: &Choice,
+    case: &Case,
+) -> Result<(), Fault> {
+    for size in case.sizes() {
+        if choice.takes(case.name(), *size) {
+            print_size(rt, choice, case, *size)?;
+        }
     }
     Ok(())
 }
@@ -63,34 +76,15 @@ fn print_frames<R: Print + Clock + Threads + Sync + AllocGlobal>(
     choice: &Choice,
     case: &FrameCase,
 ) -> Result<(), Fault> {
-    let name = case.name();
-    if !name.starts_with(choice.prefix) || case.size() > choice.largest {
+    if !choice.takes(case.name(), case.size()) {
         return Ok(());
     }
-    if choice.is_run {
-        let time = case.best_time(rt, rt.alloc(), choice.repeat)?;
-        print_time(rt, name, case.size(), time)?;
+    let time = if choice.is_run {
+        Some(case.best_time(rt, rt.alloc(), choice.repeat)?)
     } else {
-        let size = case.size();
-        println!(rt; "{name} {size}")?;
-    }
-    Ok(())
-}
-
-// The lines of a case at each of its sizes that is chosen.
-fn print_case<R: Print + Clock + AllocGlobal>(
-    rt: &R,
-    choice: &Choice,
-    case: &Case,
-) -> Result<(), Fault> {
-    if case.name().starts_with(choice.prefix) {
-        for size in case.sizes() {
-            if *size <= choice.largest {
-                print_line(rt, choice, case, *size)?;
-            }
-        }
-    }
-    Ok(())
+        None
+    };
+    Ok(print_line(rt, case.name(), case.size(), time)?)
 }
 
 // The lines of all cases that are chosen.

@@ -1,5 +1,6 @@
 //! The worlds that cases are about, and the calls that are measured.
 use crate::group::{Group, Ids};
+use crate::start::Pick;
 use crate::work::Work;
 use eco_ids::{Entity, Id, Refusal, Value};
 use eco_world::{Command, Query, QueryId, Results, Stage, Values, World};
@@ -13,6 +14,8 @@ const LIMIT: u32 = 1_048_576;
 pub struct Scene {
     world: World,
     alloc: Global,
+    // The entities that were made before the calls, in the order of their making.
+    groups: Vec<Group>,
     work: Work,
     query: Option<Query>,
     // A query that was added to the world.
@@ -35,6 +38,7 @@ impl Drop for Scene {
         let Scene {
             world: _,
             alloc: _,
+            groups: _,
             work: _,
             query: _,
             kept: _,
@@ -115,21 +119,28 @@ fn record(stage: &mut Stage, command: Command) -> Result<(), Refusal> {
     }
 }
 
-// The stage adds each id to its entity.
-fn record_adds(stage: &mut Stage, work: &Work) -> Result<(), Refusal> {
-    for (turn, entity) in work.entities().iter().enumerate() {
-        if let Some(id) = work.id(turn) {
-            record(stage, Command::Add(*entity, id))?;
-        }
-    }
-    Ok(())
+// A fresh entity lives, gets the tag and a value of the component, and dies.
+fn record_life(stage: &mut Stage, entity: Entity, tag: Id, component: Id) -> Result<(), Refusal> {
+    let value = Value([1, 2, 0, 0]);
+    record(stage, Command::Create(entity))?;
+    record(stage, Command::Add(entity, tag))?;
+    record(stage, Command::Set(entity, component, value))?;
+    record(stage, Command::Delete(entity))
 }
 
-// The stage sets each id of its entity to the value.
-fn record_sets(stage: &mut Stage, work: &Work, value: Value) -> Result<(), Refusal> {
+// What is recorded of an entity and an id: an add where there is no value.
+fn command_of(entity: Entity, id: Id, value: Option<Value>) -> Command {
+    match value {
+        Some(value) => Command::Set(entity, id, value),
+        None => Command::Add(entity, id),
+    }
+}
+
+// The stage adds each id to its entity, or sets it to the value.
+fn record_all(stage: &mut Stage, work: &Work, value: Option<Value>) -> Result<(), Refusal> {
     for (turn, entity) in work.entities().iter().enumerate() {
         if let Some(id) = work.id(turn) {
-            record(stage, Command::Set(*entity, id, value))?;
+            record(stage, command_of(*entity, id, value))?;
         }
     }
     Ok(())
@@ -142,6 +153,7 @@ impl Scene {
         Ok(Scene {
             world,
             alloc,
+            groups: Vec::new(alloc),
             work: Work::none(alloc),
             query: None,
             kept: None,
@@ -185,16 +197,33 @@ impl Scene {
         self.results = None;
     }
 
-    /// Makes so many entities.
-    pub fn make(&mut self, count: u32) -> Result<Group, Refusal> {
+    /// The group of this number. A number that no group has is that of the first entity of all.
+    pub fn group(&self, number: usize) -> Group {
+        match self.groups.get(number) {
+            Some(group) => *group,
+            None => Group::new(0, 1),
+        }
+    }
+
+    /// Makes so many entities, which are a group.
+    pub fn make(&mut self, count: u32) -> Result<(), Refusal> {
         let first = self.world.high();
         self.create(count)?;
-        Ok(Group::new(first, count))
+        self.groups.push(Group::new(first, count))?;
+        Ok(())
+    }
+
+    /// Makes a component of two fields, which is a group.
+    pub fn make_component(&mut self) -> Result<(), Refusal> {
+        let component = self.world.component(None, 2)?;
+        self.groups.push(Group::alone(component))?;
+        Ok(())
     }
 
     /// Gives the group's first entity a name.
-    pub fn name(&mut self, group: Group, name: &str) -> Result<(), Refusal> {
-        self.world.rename(group.at(0), Some(name))
+    pub fn name(&mut self, group: &Pick, name: &str) -> Result<(), Refusal> {
+        let entity = group.of(self).at(0);
+        self.world.rename(entity, Some(name))
     }
 
     /// Makes so many plain rows.
@@ -218,20 +247,34 @@ impl Scene {
         Ok(())
     }
 
-    /// Makes a component of two fields.
-    pub fn make_component(&mut self) -> Result<Group, Refusal> {
-        Ok(Group::alone(self.world.component(None, 2)?))
-    }
-
-    /// So many calls are to be about the entities and the ids, each at its turn.
-    pub fn plan(&mut self, count: u32, entities: Group, ids: Ids) -> Result<(), Refusal> {
+    // So many calls are to be about the entities and the ids, each at its turn.
+    fn plan(&mut self, count: u32, entities: Group, ids: Ids) -> Result<(), Refusal> {
         self.work = Work::of(self.alloc, count, entities, ids)?;
         Ok(())
     }
 
+    /// So many calls are to be about the entities and the tags or components, each at its turn.
+    pub fn plan_ones(&mut self, count: u32, entities: &Pick, ones: &Pick) -> Result<(), Refusal> {
+        let (entities, ones) = (entities.of(self), ones.of(self));
+        self.plan(count, entities, Ids::Ones(ones))
+    }
+
+    /// So many calls are to be about the entities and the pairs, each at its turn.
+    pub fn plan_twos(
+        &mut self,
+        count: u32,
+        entities: &Pick,
+        first: &Pick,
+        second: &Pick,
+    ) -> Result<(), Refusal> {
+        let (entities, first, second) = (entities.of(self), first.of(self), second.of(self));
+        self.plan(count, entities, Ids::Twos(first, second))
+    }
+
     /// The calls are to come in the opposite order.
-    pub fn reverse(&mut self) {
+    pub fn reverse(&mut self) -> Result<(), Refusal> {
         self.work.reverse();
+        Ok(())
     }
 
     /// Adds each id to its entity.
@@ -254,51 +297,24 @@ impl Scene {
         Ok(())
     }
 
-    /// Plans the adds of these ids to these entities, and makes them.
-    pub fn add_each(&mut self, count: u32, entities: Group, ids: Ids) -> Result<(), Refusal> {
-        self.plan(count, entities, ids)?;
-        self.add()
-    }
-
-    /// Sets the component of so many entities to the value.
-    pub fn set_each(
-        &mut self,
-        count: u32,
-        entities: Group,
-        component: Group,
-        value: Value,
-    ) -> Result<(), Refusal> {
-        self.plan(count, entities, Ids::Ones(component))?;
-        self.set(value)
-    }
-
-    /// Records that each id is added to its entity.
-    pub fn record_adds(&mut self) -> Result<(), Refusal> {
-        record_adds(&mut self.stages[0], &self.work)
-    }
-
-    /// Records that each id of its entity is set to the value.
-    pub fn record_sets(&mut self, value: Value) -> Result<(), Refusal> {
-        record_sets(&mut self.stages[0], &self.work, value)
+    /// Records that each id is added to its entity, or set to the value.
+    pub fn record(&mut self, value: Option<Value>) -> Result<(), Refusal> {
+        record_all(&mut self.stages[0], &self.work, value)
     }
 
     /// Records that so many fresh entities live, get the tag and the value, and die.
     pub fn record_spawns(
         &mut self,
         count: u32,
-        tag: Group,
-        component: Group,
-        value: Value,
+        tag: &Pick,
+        component: &Pick,
     ) -> Result<(), Refusal> {
+        let tag = Id::One(tag.of(self).at(0));
+        let component = Id::One(component.of(self).at(0));
         let fresh = Group::new(self.world.high(), count);
         self.admitted = count;
         for turn in 0..count {
-            let entity = fresh.at(turn);
-            let stage = &mut self.stages[0];
-            record(stage, Command::Create(entity))?;
-            record(stage, Command::Add(entity, Id::One(tag.at(0))))?;
-            record(stage, Command::Set(entity, Id::One(component.at(0)), value))?;
-            record(stage, Command::Delete(entity))?;
+            record_life(&mut self.stages[0], fresh.at(turn), tag, component)?;
         }
         Ok(())
     }
@@ -388,6 +404,12 @@ impl Scene {
             }
         }
         Ok(sum)
+    }
+
+    /// Reads all values of the query's tables once.
+    pub fn read_columns(&self) -> Result<(), Refusal> {
+        let _sum = self.sum_columns()?;
+        Ok(())
     }
 
     // How many results the query has, which are all made.

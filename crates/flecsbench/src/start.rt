@@ -1,12 +1,128 @@
-//! What the measured part of a case begins with.
-use crate::group::{Group, Ids};
-use crate::scene::{Calls, Scene};
+//! What the measured part of a case begins with: steps that make it in a new world.
+use crate::group::Group;
+use crate::scene::Scene;
 use eco_ids::entity::{CHILD_OF, EXCLUSIVE};
-use eco_ids::{Refusal, Value};
+use eco_ids::{Entity, Refusal, Value};
 
-/// What is there before the time is taken, where the size of a case is N. The calls are about what is lacking, or else about what
+/// How many there are, where the size of the case is N.
+pub enum Count {
+    One,
+    /// So many as the case says besides its size.
+    Parts,
+    Each,
+    EachButOne,
+    EachFourth,
+}
+
+impl Count {
+    fn of(&self, size: u32, parts: u32) -> u32 {
+        match self {
+            Count::One => 1,
+            Count::Parts => parts,
+            Count::Each => size,
+            Count::EachButOne => size.saturating_sub(1),
+            Count::EachFourth => size / 4,
+        }
+    }
+}
+
+/// A group of entities. Those that steps have made are numbered from 0 on.
+pub enum Pick {
+    BuiltIn(Entity),
+    Made(usize),
+    /// The last entity of the group alone.
+    Last(usize),
+    /// The group without its first turn.
+    FromSecond(usize),
+    /// The same, where each entity has eight turns.
+    EighthsFromSecond(usize),
+}
+
+impl Pick {
+    /// The group in a scene.
+    pub fn of(&self, scene: &Scene) -> Group {
+        match self {
+            Pick::BuiltIn(entity) => Group::alone(*entity),
+            Pick::Made(number) => scene.group(*number),
+            Pick::Last(number) => scene.group(*number).last(),
+            Pick::FromSecond(number) => scene.group(*number).from_second(),
+            Pick::EighthsFromSecond(number) => scene.group(*number).with_turns(8).from_second(),
+        }
+    }
+}
+
+/// What a scene begins with is made by steps, one after the other.
+pub enum Step {
+    /// So many entities are made, which are a group.
+    Make(Count),
+    /// A component of two fields is made, which is a group.
+    MakeComponent,
+    /// The group's first entity gets a name.
+    Name(Pick, &'static str),
+    /// So many calls are to be about the entities of the first group, and the tags or components of the second.
+    PlanOnes(Count, Pick, Pick),
+    /// So many calls are to be about the entities of the first group, and pairs of the others.
+    PlanTwos(Count, Pick, Pick, Pick),
+    /// The calls are to come in the opposite order.
+    Reverse,
+    /// Each planned id is added to its entity.
+    Add,
+    /// Each planned id of its entity is set.
+    Set(Value),
+    /// Each planned entity is deleted.
+    Delete,
+    /// The stage adds each planned id to its entity.
+    RecordAdds,
+    /// The stage sets each planned id of its entity.
+    RecordSets(Value),
+    /// The stage makes so many entities, and gives each the tag and a value of the component before it deletes it.
+    RecordSpawns(Count, Pick, Pick),
+    /// The calls are to be about this query.
+    Ask(&'static str),
+    /// The calls are to be about this query once it is added to the world.
+    Keep(&'static str),
+    /// All values of the query's tables are read once, so that they are at hand like plain rows that were just written.
+    ReadColumns,
+    /// So many plain rows are made.
+    MakeRows(Count),
+}
+
+impl Step {
+    fn make(&self, scene: &mut Scene, size: u32, parts: u32) -> Result<(), Refusal> {
+        match self {
+            Step::Make(count) => scene.make(count.of(size, parts)),
+            Step::MakeComponent => scene.make_component(),
+            Step::Name(group, name) => scene.name(group, name),
+            Step::PlanOnes(count, group, ids) => scene.plan_ones(count.of(size, parts), group, ids),
+            Step::PlanTwos(count, group, first, second) => {
+                scene.plan_twos(count.of(size, parts), group, first, second)
+            }
+            Step::Reverse => scene.reverse(),
+            Step::Add => scene.add(),
+            Step::Set(value) => scene.set(*value),
+            Step::Delete => scene.delete(),
+            Step::RecordAdds => scene.record(None),
+            Step::RecordSets(value) => scene.record(Some(*value)),
+            Step::RecordSpawns(count, tag, component) => {
+                scene.record_spawns(count.of(size, parts), tag, component)
+            }
+            Step::Ask(text) => scene.ask(text),
+            Step::Keep(text) => scene.keep(text),
+            Step::ReadColumns => scene.read_columns(),
+            Step::MakeRows(count) => scene.make_rows(count.of(size, parts)),
+        }
+    }
+}
+
+fn make_part(scene: &mut Scene, part: &[Step], size: u32, parts: u32) -> Result<(), Refusal> {
+    for step in part {
+        step.make(scene, size, parts)?;
+    }
+    Ok(())
+}
+
+/// What is there before the time is taken, and which calls are planned. The calls are about what is lacking, or else about what
 /// is there.
-#[derive(Clone, Copy)]
 pub enum Start {
     /// What lives in each new world.
     Nothing,
@@ -16,26 +132,39 @@ pub enum Start {
     LackTag,
     /// N entities have a tag.
     HaveTag,
+    /// N indices are free, each of an entity that was deleted.
+    Freed,
+    /// A stage adds a tag to each of N entities.
+    RecordedAdds,
     /// N entities lack a component of two fields.
     LackValue,
     /// N entities have a value of a component of two fields, and the first field is 1.
     HaveValue,
+    /// A stage sets the value of each of N entities that have one.
+    RecordedSets,
+    /// A stage makes N/4 entities, and gives each a tag and a value before it deletes it.
+    RecordedSpawns,
     /// N entities have values of two components, and lack a tag.
     HaveValues,
-    /// N entities have the component P and the tag Q, and stand in so many tables, by their pairs of the relationship Group;
-    /// this is asked.
-    Tables(u32, &'static str),
-    /// The same, and the query is added to the world.
-    Kept(u32, &'static str),
+    /// N entities have the component P and the tag Q, and stand in so many tables as the case has parts; P is asked.
+    AskOne,
+    /// The same, and P and Q are asked.
+    AskTwo,
+    /// The same, and the pairs by which they stand in tables are asked.
+    AskWild,
+    /// The same, and P is asked without a pair that nobody has.
+    AskNot,
+    /// The same, and a query of P and the pairs is added to the world.
+    Kept,
     /// The entities stand so, and the first field of each value of P is 1; P is asked. All values were read once.
-    Columns(u32),
+    Columns,
     /// A plain list has N rows of two numbers, and the first one of each is 1.
     Rows,
-    /// So many entities each have a pair of one plain relationship with a target of its own; who has a parent and a certain tag
-    /// is asked, and nobody has that tag.
-    NobodyHas(u32),
-    /// N entities each lack a pair of one plain relationship; so many targets take turns.
-    LackPair(u32),
+    /// So many entities as the case has parts each have a pair of one plain relationship with a target of its own; who has a parent
+    /// and a certain tag is asked, and nobody has that tag.
+    NobodyHas,
+    /// N entities each lack a pair of one plain relationship; so many targets as the case has parts take turns.
+    LackPair,
     /// N entities each lack a pair of one plain relationship with a target of its own.
     LackOwnPair,
     /// N entities each have a pair of one plain relationship with a target of its own.
@@ -46,16 +175,14 @@ pub enum Start {
     OneLacksPairs,
     /// One entity lacks N tags.
     OneLacksTags,
-    /// One entity lacks a trait of relationships, and is the target of N pairs of a relationship each.
+    /// One entity lacks a trait of relationships, and is the target of N pairs of a relationship each. It is no relationship itself.
     LackTrait,
-    /// N children of so many parents, who take turns; each child lacks the next parent.
-    NextParent(u32),
+    /// N children of so many parents as the case has parts, who take turns; each child lacks the next parent.
+    NextParent,
     /// N entities, each but the last of which lacks the one after it as parent, from the first on.
     LackChain,
     /// The same, from the last on.
     LackChainFromRoot,
-    /// N indices are free, each of an entity that was deleted.
-    Freed,
     /// The root of such a chain, where each has its parent.
     ChainRoot,
     /// The parent of N entities.
@@ -64,245 +191,244 @@ pub enum Start {
     TreeRoot,
     /// A target, of which N entities have the pair of a plain relationship.
     Target,
-    /// A stage adds a tag to each of N entities.
-    RecordedAdds,
-    /// A stage sets the value of each of N entities that have one.
-    RecordedSets,
-    /// A stage makes N/4 entities, and gives each a tag and a value before it deletes it.
-    RecordedSpawns,
 }
+
+const TAG: &[Step] = &[
+    Step::Make(Count::One),
+    Step::Make(Count::Each),
+    Step::PlanOnes(Count::Each, Pick::Made(1), Pick::Made(0)),
+];
+
+const COMPONENT: &[Step] = &[
+    Step::MakeComponent,
+    Step::Make(Count::Each),
+    Step::PlanOnes(Count::Each, Pick::Made(1), Pick::Made(0)),
+];
+
+// N entities have the component P and the tag Q, and stand in so many tables as the case has parts, by their pairs of the
+// relationship Group, whose targets take turns on them.
+const TABLES: &[Step] = &[
+    Step::MakeComponent,
+    Step::Make(Count::One),
+    Step::Make(Count::One),
+    Step::Name(Pick::Made(0), "P"),
+    Step::Name(Pick::Made(1), "Q"),
+    Step::Name(Pick::Made(2), "Group"),
+    Step::Make(Count::Parts),
+    Step::Make(Count::Each),
+    Step::PlanTwos(Count::Each, Pick::Made(4), Pick::Made(2), Pick::Made(3)),
+    Step::Add,
+    Step::PlanOnes(Count::Each, Pick::Made(4), Pick::Made(1)),
+    Step::Add,
+    Step::PlanOnes(Count::Each, Pick::Made(4), Pick::Made(0)),
+    Step::Add,
+];
+
+const OWN_PAIR: &[Step] = &[
+    Step::Make(Count::One),
+    Step::Make(Count::Each),
+    Step::Make(Count::Each),
+    Step::PlanTwos(Count::Each, Pick::Made(2), Pick::Made(0), Pick::Made(1)),
+];
+
+const CHAIN: &[Step] = &[
+    Step::Make(Count::Each),
+    Step::PlanTwos(
+        Count::EachButOne,
+        Pick::Made(0),
+        Pick::BuiltIn(CHILD_OF),
+        Pick::FromSecond(0),
+    ),
+];
+
+const ONE_LACKS_TAG: &[Step] = &[
+    Step::Make(Count::One),
+    Step::Make(Count::One),
+    Step::PlanOnes(Count::One, Pick::Made(1), Pick::Made(0)),
+];
+
+const RECORDED_SPAWNS: &[Step] = &[
+    Step::Make(Count::One),
+    Step::MakeComponent,
+    Step::RecordSpawns(Count::EachFourth, Pick::Made(0), Pick::Made(1)),
+];
+
+const HAVE_VALUES: &[Step] = &[
+    Step::MakeComponent,
+    Step::MakeComponent,
+    Step::Make(Count::One),
+    Step::Make(Count::Each),
+    Step::PlanOnes(Count::Each, Pick::Made(3), Pick::Made(0)),
+    Step::Set(Value([1, 2, 0, 0])),
+    Step::PlanOnes(Count::Each, Pick::Made(3), Pick::Made(1)),
+    Step::Set(Value([3, 4, 0, 0])),
+    Step::PlanOnes(Count::Each, Pick::Made(3), Pick::Made(2)),
+];
+
+const ROWS: &[Step] = &[Step::MakeRows(Count::Each)];
+
+const NOBODY_HAS: &[Step] = &[
+    Step::Make(Count::One),
+    Step::Make(Count::Parts),
+    Step::Make(Count::Parts),
+    Step::PlanTwos(Count::Parts, Pick::Made(2), Pick::Made(0), Pick::Made(1)),
+    Step::Add,
+    Step::Make(Count::One),
+    Step::Name(Pick::Made(3), "Z"),
+    Step::Ask("Z, (ChildOf, *)"),
+];
+
+const LACK_PAIR: &[Step] = &[
+    Step::Make(Count::One),
+    Step::Make(Count::Parts),
+    Step::Make(Count::Each),
+    Step::PlanTwos(Count::Each, Pick::Made(2), Pick::Made(0), Pick::Made(1)),
+];
+
+const ONE_LACKS_PAIRS: &[Step] = &[
+    Step::Make(Count::One),
+    Step::Make(Count::Each),
+    Step::Make(Count::One),
+    Step::PlanTwos(Count::Each, Pick::Made(2), Pick::Made(0), Pick::Made(1)),
+];
+
+const ONE_LACKS_TAGS: &[Step] = &[
+    Step::Make(Count::One),
+    Step::Make(Count::Each),
+    Step::PlanOnes(Count::Each, Pick::Made(0), Pick::Made(1)),
+];
+
+const LACK_TRAIT: &[Step] = &[
+    Step::Make(Count::One),
+    Step::Make(Count::Each),
+    Step::Make(Count::Each),
+    Step::PlanTwos(Count::Each, Pick::Made(2), Pick::Made(1), Pick::Made(0)),
+    Step::Add,
+    Step::PlanOnes(Count::One, Pick::Made(0), Pick::BuiltIn(EXCLUSIVE)),
+];
+
+const NEXT_PARENT: &[Step] = &[
+    Step::Make(Count::Parts),
+    Step::Make(Count::Each),
+    Step::PlanTwos(
+        Count::Each,
+        Pick::Made(1),
+        Pick::BuiltIn(CHILD_OF),
+        Pick::Made(0),
+    ),
+    Step::Add,
+    Step::PlanTwos(
+        Count::Each,
+        Pick::Made(1),
+        Pick::BuiltIn(CHILD_OF),
+        Pick::FromSecond(0),
+    ),
+];
+
+const PARENT: &[Step] = &[
+    Step::Make(Count::One),
+    Step::Make(Count::Each),
+    Step::PlanTwos(
+        Count::Each,
+        Pick::Made(1),
+        Pick::BuiltIn(CHILD_OF),
+        Pick::Made(0),
+    ),
+    Step::Add,
+    Step::PlanOnes(Count::One, Pick::Made(0), Pick::Made(0)),
+];
+
+const TREE_ROOT: &[Step] = &[
+    Step::Make(Count::Each),
+    Step::PlanTwos(
+        Count::EachButOne,
+        Pick::FromSecond(0),
+        Pick::BuiltIn(CHILD_OF),
+        Pick::EighthsFromSecond(0),
+    ),
+    Step::Add,
+    Step::PlanOnes(Count::One, Pick::Made(0), Pick::Made(0)),
+];
+
+const TARGET: &[Step] = &[
+    Step::Make(Count::One),
+    Step::Make(Count::One),
+    Step::Make(Count::Each),
+    Step::PlanTwos(Count::Each, Pick::Made(2), Pick::Made(0), Pick::Made(1)),
+    Step::Add,
+    Step::PlanOnes(Count::One, Pick::Made(1), Pick::Made(1)),
+];
 
 impl Start {
-    /// Makes it in a new world, and plans the calls.
-    pub fn make(self, scene: &mut Scene, size: u32) -> Result<(), Refusal> {
+    // What is made first, which some of them have in common.
+    fn first(&self) -> &'static [Step] {
         match self {
-            Start::Nothing => Ok(()),
-            Start::OneLacksTag => lack_tag(scene, 1),
-            Start::LackTag => lack_tag(scene, size),
-            Start::HaveTag => have_tag(scene, size),
-            Start::LackValue => lack_value(scene, size),
-            Start::HaveValue => have_value(scene, size),
-            Start::HaveValues => have_values(scene, size),
-            Start::Tables(tables, text) => stand_in_tables(scene, size, tables, text),
-            Start::Kept(tables, text) => keep_query(scene, size, tables, text),
-            Start::Columns(tables) => have_columns(scene, size, tables),
-            Start::Rows => scene.make_rows(size),
-            Start::NobodyHas(entities) => ask_in_vain(scene, entities),
-            Start::LackPair(targets) => lack_pair(scene, size, targets),
-            Start::LackOwnPair => lack_pair(scene, size, size),
-            Start::HaveOwnPair => have_own_pair(scene, size),
-            Start::LackCommonPair => lack_common_pair(scene, size),
-            Start::OneLacksPairs => lack_pairs(scene, size),
-            Start::OneLacksTags => lack_tags(scene, size),
-            Start::LackTrait => lack_trait(scene, size),
-            Start::NextParent(parents) => lack_next_parent(scene, size, parents),
-            Start::LackChain => lack_chain(scene, size),
-            Start::LackChainFromRoot => lack_chain_from_root(scene, size),
-            Start::Freed => be_freed(scene, size),
-            Start::ChainRoot => be_chain_root(scene, size),
-            Start::Parent => be_parent(scene, size),
-            Start::TreeRoot => be_tree_root(scene, size),
-            Start::Target => be_target(scene, size),
-            Start::RecordedAdds => record_adds(scene, size),
-            Start::RecordedSets => record_sets(scene, size),
-            Start::RecordedSpawns => record_spawns(scene, size / 4),
+            Start::Nothing => &[],
+            Start::LackTag | Start::HaveTag | Start::Freed | Start::RecordedAdds => TAG,
+            Start::LackValue | Start::HaveValue | Start::RecordedSets => COMPONENT,
+            Start::AskOne
+            | Start::AskTwo
+            | Start::AskWild
+            | Start::AskNot
+            | Start::Kept
+            | Start::Columns => TABLES,
+            Start::LackOwnPair | Start::HaveOwnPair | Start::LackCommonPair => OWN_PAIR,
+            Start::LackChain | Start::LackChainFromRoot | Start::ChainRoot => CHAIN,
+            Start::OneLacksTag => ONE_LACKS_TAG,
+            Start::RecordedSpawns => RECORDED_SPAWNS,
+            Start::HaveValues => HAVE_VALUES,
+            Start::Rows => ROWS,
+            Start::NobodyHas => NOBODY_HAS,
+            Start::LackPair => LACK_PAIR,
+            Start::OneLacksPairs => ONE_LACKS_PAIRS,
+            Start::OneLacksTags => ONE_LACKS_TAGS,
+            Start::LackTrait => LACK_TRAIT,
+            Start::NextParent => NEXT_PARENT,
+            Start::Parent => PARENT,
+            Start::TreeRoot => TREE_ROOT,
+            Start::Target => TARGET,
         }
     }
-}
 
-fn lack_tag(scene: &mut Scene, count: u32) -> Result<(), Refusal> {
-    let tag = scene.make(1)?;
-    let entities = scene.make(count)?;
-    scene.plan(count, entities, Ids::Ones(tag))
-}
+    // What is made behind it.
+    fn behind(&self) -> &'static [Step] {
+        match self {
+            Start::HaveTag => &[Step::Add],
+            Start::Freed => &[Step::Delete],
+            Start::RecordedAdds => &[Step::RecordAdds],
+            Start::HaveValue => &[Step::Set(Value([1, 2, 0, 0]))],
+            Start::RecordedSets => &[
+                Step::Set(Value([1, 2, 0, 0])),
+                Step::RecordSets(Value([1, 2, 0, 0])),
+            ],
+            Start::AskOne => &[Step::Ask("P")],
+            Start::AskTwo => &[Step::Ask("P, Q")],
+            Start::AskWild => &[Step::Ask("(Group, *)")],
+            Start::AskNot => &[Step::Ask("P, !(Group, ChildOf)")],
+            Start::Kept => &[Step::Ask("P, (Group, *)"), Step::Keep("P, (Group, *)")],
+            Start::Columns => &[
+                Step::Ask("P"),
+                Step::Set(Value([1, 2, 0, 0])),
+                Step::ReadColumns,
+            ],
+            Start::HaveOwnPair => &[Step::Add],
+            Start::LackCommonPair => &[
+                Step::Add,
+                Step::Make(Count::One),
+                Step::PlanTwos(Count::Each, Pick::Made(2), Pick::Made(0), Pick::Made(3)),
+            ],
+            Start::LackChainFromRoot => &[Step::Reverse],
+            Start::ChainRoot => &[
+                Step::Add,
+                Step::PlanOnes(Count::One, Pick::Last(0), Pick::Last(0)),
+            ],
+            _ => &[],
+        }
+    }
 
-fn have_tag(scene: &mut Scene, count: u32) -> Result<(), Refusal> {
-    lack_tag(scene, count)?;
-    scene.add()
-}
-
-fn lack_value(scene: &mut Scene, count: u32) -> Result<(), Refusal> {
-    let component = scene.make_component()?;
-    let entities = scene.make(count)?;
-    scene.plan(count, entities, Ids::Ones(component))
-}
-
-fn have_value(scene: &mut Scene, count: u32) -> Result<(), Refusal> {
-    lack_value(scene, count)?;
-    scene.set(Value([1, 2, 0, 0]))
-}
-
-fn record_adds(scene: &mut Scene, count: u32) -> Result<(), Refusal> {
-    lack_tag(scene, count)?;
-    scene.record_adds()
-}
-
-fn record_sets(scene: &mut Scene, count: u32) -> Result<(), Refusal> {
-    have_value(scene, count)?;
-    scene.record_sets(Value([1, 2, 0, 0]))
-}
-
-fn record_spawns(scene: &mut Scene, count: u32) -> Result<(), Refusal> {
-    let tag = scene.make(1)?;
-    let component = scene.make_component()?;
-    scene.record_spawns(count, tag, component, Value([1, 2, 0, 0]))
-}
-
-fn have_values(scene: &mut Scene, count: u32) -> Result<(), Refusal> {
-    let position = scene.make_component()?;
-    let velocity = scene.make_component()?;
-    let tag = scene.make(1)?;
-    let entities = scene.make(count)?;
-    scene.set_each(count, entities, position, Value([1, 2, 0, 0]))?;
-    scene.set_each(count, entities, velocity, Value([3, 4, 0, 0]))?;
-    scene.plan(count, entities, Ids::Ones(tag))
-}
-
-// The relationship has so many targets, which take turns on the entities, so that these stand in as many tables.
-fn stand_in_tables(
-    scene: &mut Scene,
-    count: u32,
-    table_count: u32,
-    text: &str,
-) -> Result<(), Refusal> {
-    let component = scene.make_component()?;
-    let tag = scene.make(1)?;
-    let group = scene.make(1)?;
-    name_terms(scene, component, tag, group)?;
-    let targets = scene.make(table_count)?;
-    let entities = scene.make(count)?;
-    scene.add_each(count, entities, Ids::Twos(group, targets))?;
-    scene.add_each(count, entities, Ids::Ones(tag))?;
-    scene.add_each(count, entities, Ids::Ones(component))?;
-    scene.ask(text)
-}
-
-fn keep_query(scene: &mut Scene, count: u32, table_count: u32, text: &str) -> Result<(), Refusal> {
-    stand_in_tables(scene, count, table_count, text)?;
-    scene.keep(text)
-}
-
-fn have_columns(scene: &mut Scene, count: u32, table_count: u32) -> Result<(), Refusal> {
-    stand_in_tables(scene, count, table_count, "P")?;
-    scene.set(Value([1, 2, 0, 0]))?;
-    // Like plain rows, which were just written, they are at hand.
-    let _is_right = scene.call(Calls::SumColumns, count)?;
-    Ok(())
-}
-
-fn name_terms(
-    scene: &mut Scene,
-    component: Group,
-    tag: Group,
-    group: Group,
-) -> Result<(), Refusal> {
-    scene.name(component, "P")?;
-    scene.name(tag, "Q")?;
-    scene.name(group, "Group")
-}
-
-fn ask_in_vain(scene: &mut Scene, count: u32) -> Result<(), Refusal> {
-    have_own_pair(scene, count)?;
-    let tag = scene.make(1)?;
-    scene.name(tag, "Z")?;
-    scene.ask("Z, (ChildOf, *)")
-}
-
-fn lack_pair(scene: &mut Scene, count: u32, target_count: u32) -> Result<(), Refusal> {
-    let likes = scene.make(1)?;
-    let targets = scene.make(target_count)?;
-    let entities = scene.make(count)?;
-    scene.plan(count, entities, Ids::Twos(likes, targets))
-}
-
-fn have_own_pair(scene: &mut Scene, count: u32) -> Result<(), Refusal> {
-    lack_pair(scene, count, count)?;
-    scene.add()
-}
-
-fn lack_common_pair(scene: &mut Scene, count: u32) -> Result<(), Refusal> {
-    let likes = scene.make(1)?;
-    let targets = scene.make(count)?;
-    let entities = scene.make(count)?;
-    scene.add_each(count, entities, Ids::Twos(likes, targets))?;
-    let target = scene.make(1)?;
-    scene.plan(count, entities, Ids::Twos(likes, target))
-}
-
-fn lack_pairs(scene: &mut Scene, target_count: u32) -> Result<(), Refusal> {
-    let likes = scene.make(1)?;
-    let targets = scene.make(target_count)?;
-    let entity = scene.make(1)?;
-    scene.plan(target_count, entity, Ids::Twos(likes, targets))
-}
-
-fn lack_tags(scene: &mut Scene, tag_count: u32) -> Result<(), Refusal> {
-    let entity = scene.make(1)?;
-    let tags = scene.make(tag_count)?;
-    scene.plan(tag_count, entity, Ids::Ones(tags))
-}
-
-// The target is no relationship itself.
-fn lack_trait(scene: &mut Scene, count: u32) -> Result<(), Refusal> {
-    let target = scene.make(1)?;
-    let relationships = scene.make(count)?;
-    let entities = scene.make(count)?;
-    scene.add_each(count, entities, Ids::Twos(relationships, target))?;
-    scene.plan(1, target, Ids::Ones(Group::alone(EXCLUSIVE)))
-}
-
-fn lack_next_parent(scene: &mut Scene, count: u32, parent_count: u32) -> Result<(), Refusal> {
-    let child_of = Group::alone(CHILD_OF);
-    let parents = scene.make(parent_count)?;
-    let children = scene.make(count)?;
-    scene.add_each(count, children, Ids::Twos(child_of, parents))?;
-    scene.plan(count, children, Ids::Twos(child_of, parents.from_second()))
-}
-
-fn lack_chain(scene: &mut Scene, count: u32) -> Result<(), Refusal> {
-    let chain = scene.make(count)?;
-    let ids = Ids::Twos(Group::alone(CHILD_OF), chain.from_second());
-    scene.plan(count.saturating_sub(1), chain, ids)
-}
-
-fn lack_chain_from_root(scene: &mut Scene, count: u32) -> Result<(), Refusal> {
-    lack_chain(scene, count)?;
-    scene.reverse();
-    Ok(())
-}
-
-fn be_freed(scene: &mut Scene, count: u32) -> Result<(), Refusal> {
-    lack_tag(scene, count)?;
-    scene.delete()
-}
-
-fn be_chain_root(scene: &mut Scene, count: u32) -> Result<(), Refusal> {
-    let chain = scene.make(count)?;
-    let parents = Ids::Twos(Group::alone(CHILD_OF), chain.from_second());
-    scene.add_each(count.saturating_sub(1), chain, parents)?;
-    scene.plan(1, chain.last(), Ids::Ones(chain.last()))
-}
-
-fn be_parent(scene: &mut Scene, count: u32) -> Result<(), Refusal> {
-    let parent = scene.make(1)?;
-    let children = scene.make(count)?;
-    let parents = Ids::Twos(Group::alone(CHILD_OF), parent);
-    scene.add_each(count, children, parents)?;
-    scene.plan(1, parent, Ids::Ones(parent))
-}
-
-fn be_tree_root(scene: &mut Scene, count: u32) -> Result<(), Refusal> {
-    let tree = scene.make(count)?;
-    let inner = tree.with_turns(8).from_second();
-    let parents = Ids::Twos(Group::alone(CHILD_OF), inner);
-    scene.add_each(count.saturating_sub(1), tree.from_second(), parents)?;
-    scene.plan(1, tree, Ids::Ones(tree))
-}
-
-fn be_target(scene: &mut Scene, count: u32) -> Result<(), Refusal> {
-    let likes = scene.make(1)?;
-    let target = scene.make(1)?;
-    let entities = scene.make(count)?;
-    scene.add_each(count, entities, Ids::Twos(likes, target))?;
-    scene.plan(1, target, Ids::Ones(target))
+    /// Makes it in a new world, where the size of a case is N, and the case has so many parts.
+    pub fn make(&self, scene: &mut Scene, size: u32, parts: u32) -> Result<(), Refusal> {
+        make_part(scene, self.first(), size, parts)?;
+        make_part(scene, self.behind(), size, parts)
+    }
 }

@@ -1,4 +1,5 @@
 //! Systems by example: ships sail, and each of them lowers a boat; then a body in Rust notes where they are.
+use crate::find;
 use crate::wake::Wake;
 use anyhow::Result;
 use eco_bodies::{Action, Script, SystemBody, Systems};
@@ -7,6 +8,7 @@ use eco_ids::{Entity, Id, Refusal};
 use eco_systems::Phase;
 use eco_world::World;
 use std::alloc::Global;
+use std::io;
 use std::thread::Threads;
 
 // A system is a name, a phase, a query, and a body, here a script of one action.
@@ -51,38 +53,43 @@ fn run<R: Print + Threads + Sync + AllocGlobal, B: SystemBody + Sync + Drop>(
     rt: &R,
     world: &mut World,
     systems: &Systems<B>,
-) -> Result<()> {
+) -> io::Result<()> {
     match run_frame(rt, rt.alloc(), world, systems, 2) {
         Ok(report) => {
             let (batches, commands) = (report.batches(), report.commands());
-            println!(rt; "a frame: {batches} batch, {commands} commands")?;
+            println!(rt; "a frame: {batches} batch, {commands} commands")
         }
         Err(stop) => {
             let (batches, refusal) = (stop.batches, stop.refusal);
-            println!(rt; "stopped behind {batches} batches: {refusal}")?;
+            println!(rt; "stopped behind {batches} batches: {refusal}")
         }
     }
-    Ok(())
 }
 
 // What the first ship has of a component, and who is a boat.
-fn print_all<R: Print + AllocGlobal>(
-    rt: &R,
-    world: &World,
-    heron: Entity,
-    component: Entity,
-) -> Result<()> {
+fn print_all<R: Print>(rt: &R, world: &World, heron: Entity, component: Entity) -> Result<()> {
     if let Some(value) = world.get(heron, Id::One(component)) {
         let name = world.name_of(component).unwrap_or("-");
         let fields = value.fields(2);
         println!(rt; "Heron's {name}: {fields}")?;
     }
-    let query = world.read_query("Boat")?;
-    let results = world.results(&query)?;
+    let results = find(world, "Boat")?;
     for (entity, _) in results.iter() {
         println!(rt; "{entity} is a boat")?;
     }
     Ok(())
+}
+
+// A frame, and what it leaves.
+fn run_and_print<R: Print + Threads + Sync + AllocGlobal, B: SystemBody + Sync + Drop>(
+    rt: &R,
+    world: &mut World,
+    systems: &Systems<B>,
+    heron: Entity,
+    component: Entity,
+) -> Result<()> {
+    run(rt, world, systems)?;
+    print_all(rt, world, heron, component)
 }
 
 // A frame of scripts. A ship sails by its velocity, and lowers a boat: a fresh entity.
@@ -95,8 +102,7 @@ fn sail<R: Print + Threads + Sync + AllocGlobal>(
     let boat = world.create(Some("Boat"))?;
     let mut systems = Systems::new(rt.alloc());
     declare(rt.alloc(), world, boat, &mut systems)?;
-    run(rt, world, &systems)?;
-    print_all(rt, world, heron, position)
+    run_and_print(rt, world, &systems, heron, position)
 }
 
 // Adds the system of a body in Rust.
@@ -116,8 +122,7 @@ fn note<R: Print + Threads + Sync + AllocGlobal>(
     let wake = world.component(Some("Wake"), 2)?;
     let mut systems = Systems::new(rt.alloc());
     add_wake(world, wake, &mut systems)?;
-    run(rt, world, &systems)?;
-    print_all(rt, world, heron, wake)
+    run_and_print(rt, world, &systems, heron, wake)
 }
 
 /// Runs the frames.

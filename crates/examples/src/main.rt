@@ -8,7 +8,8 @@ mod wake;
 use anyhow::Result;
 use eco_ids::entity::WITH;
 use eco_ids::{Entity, Id, Refusal, Value};
-use eco_world::{TableRows, Values, World};
+use eco_world::{Results, TableRows, Values, World};
+use std::io;
 use std::thread::Threads;
 
 // What ships can be and have.
@@ -60,10 +61,15 @@ fn launch(world: &mut World, terms: Terms) -> Result<Fleet, Refusal> {
     Ok(Fleet { heron, teal })
 }
 
+// A query is read from a text, with the names of the world, and asked of it.
+fn find(world: &World, text: &str) -> Result<Results, Refusal> {
+    let query = world.read_query(text)?;
+    world.results(&query)
+}
+
 // A query finds who has an id; its results ascend by entity.
-fn print_afloat<R: Print + AllocGlobal>(rt: &R, world: &World) -> Result<()> {
-    let query = world.read_query("Afloat")?;
-    let results = world.results(&query)?;
+fn print_afloat<R: Print>(rt: &R, world: &World) -> Result<()> {
+    let results = find(world, "Afloat")?;
     for (entity, _) in results.iter() {
         let name = world.name_of(entity).unwrap_or("-");
         println!(rt; "{name} {entity} is afloat")?;
@@ -72,9 +78,8 @@ fn print_afloat<R: Print + AllocGlobal>(rt: &R, world: &World) -> Result<()> {
 }
 
 // Of several terms each has an entry in each result, in their order. `*` has a result for each target.
-fn print_moorings<R: Print + AllocGlobal>(rt: &R, world: &World) -> Result<()> {
-    let query = world.read_query("Ship, (MooredAt, *)")?;
-    let results = world.results(&query)?;
+fn print_moorings<R: Print>(rt: &R, world: &World) -> Result<()> {
+    let results = find(world, "Ship, (MooredAt, *)")?;
     for (entity, entries) in results.iter() {
         if let [_, Some(Id::Two(_, place))] = entries {
             let name = world.name_of(entity).unwrap_or("-");
@@ -86,12 +91,12 @@ fn print_moorings<R: Print + AllocGlobal>(rt: &R, world: &World) -> Result<()> {
 }
 
 // Where the ships of one table are an hour later: columns are slices, with the same place for an entity in each of them.
-fn print_courses<R: Print + AllocGlobal>(
+fn print_courses<R: Print>(
     rt: &R,
     world: &World,
     terms: Terms,
     table: &TableRows<'_>,
-) -> Result<()> {
+) -> io::Result<()> {
     let (Some(Values::Two(positions)), Some(Values::Two(velocities))) = (
         table.values(Id::One(terms.position)),
         table.values(Id::One(terms.velocity)),
@@ -107,7 +112,7 @@ fn print_courses<R: Print + AllocGlobal>(
 }
 
 // A query finds tables too: those of all entities that have the same ids, with their values in columns.
-fn print_all_courses<R: Print + AllocGlobal>(rt: &R, world: &World, terms: Terms) -> Result<()> {
+fn print_all_courses<R: Print>(rt: &R, world: &World, terms: Terms) -> Result<()> {
     let query = world.read_query("Position, Velocity")?;
     for table in &world.tables_of(&query)? {
         print_courses(rt, world, terms, table)?;
@@ -116,23 +121,17 @@ fn print_all_courses<R: Print + AllocGlobal>(rt: &R, world: &World, terms: Terms
 }
 
 // What single entities have.
-fn print_ships<R: Print + AllocGlobal>(
-    rt: &R,
-    world: &World,
-    terms: Terms,
-    fleet: Fleet,
-) -> Result<()> {
+fn print_ships<R: Print>(rt: &R, world: &World, terms: Terms, fleet: Fleet) -> io::Result<()> {
     if let Some(value) = world.get(fleet.heron, Id::One(terms.position)) {
         let fields = value.fields(2);
         println!(rt; "Heron is at {fields}")?;
     }
     let moored = world.has(fleet.teal, Id::Two(terms.moored_at, terms.quay));
-    println!(rt; "Teal is moored at the quay: {moored}")?;
-    Ok(())
+    println!(rt; "Teal is moored at the quay: {moored}")
 }
 
 // A refusal says why, and changes nothing.
-fn print_refusal<R: Print + AllocGlobal>(rt: &R, world: &mut World) -> Result<()> {
+fn print_refusal<R: Print>(rt: &R, world: &mut World) -> io::Result<()> {
     if let Err(refusal) = world.create(Some("Teal")) {
         println!(rt; "a second Teal is refused: {refusal}")?;
     }
@@ -140,12 +139,7 @@ fn print_refusal<R: Print + AllocGlobal>(rt: &R, world: &mut World) -> Result<()
 }
 
 // A delete takes what the policies say (here nothing else), and no id names the dead: whoever had one loses it.
-fn close_quay<R: Print + AllocGlobal>(
-    rt: &R,
-    world: &mut World,
-    terms: Terms,
-    fleet: Fleet,
-) -> Result<()> {
+fn close_quay<R: Print>(rt: &R, world: &mut World, terms: Terms, fleet: Fleet) -> Result<()> {
     world.delete(terms.quay)?;
     let moored = world.has(fleet.teal, Id::Two(terms.moored_at, terms.quay));
     println!(rt; "the quay is gone, and Teal moored there: {moored}")?;

@@ -1,35 +1,22 @@
-//! In a long run of all steps, deletes among them, each query answers what a plain filter finds.
-use crate::draws::Draws;
+//! What queries answer, held against what a plain filter finds.
 use crate::filter::{count_choices, is_choice};
-use crate::questions::{Question, draw_entity, draw_id, draw_question};
-use eco_ids::{Entity, Id, Refusal, Value};
 use eco_query::Term;
-use eco_world::{Query, Results, Row, TableRows, World};
-use std::alloc::Global;
+use eco_world::{Query, QueryId, Results, Row, TableRows, World};
 
-/// One step about the living. It may be refused.
-pub fn take_step(world: &mut World, draws: &mut Draws, living: &[Entity]) -> Result<(), Refusal> {
-    let entity = draw_entity(draws, living);
-    let id = draw_id(draws, living);
-    match draws.below(24) {
-        0..=3 => world.create(None)?,
-        4 => world.component(None, 2)?,
-        5..=13 => return world.add(entity, id),
-        14..=15 => return world.set(entity, id, Value([7, 0, 0, 0])),
-        16..=18 => return world.remove(entity, id),
-        19 => return world.clear(entity),
-        20 => return world.remove_all(id),
-        21 => return world.delete_with(id),
-        _ => return world.delete(entity),
-    };
-    Ok(())
+// How many choices all who live have.
+fn count_all(world: &World, terms: &[Term]) -> Option<usize> {
+    let living = world.living().ok()?;
+    Some(
+        living.iter().fold(0usize, |count, entity| {
+            count.saturating_add(count_choices(world, *entity, terms))
+        }),
+    )
 }
 
 // Whether the results are choices, each of a living entity, and ascend.
 fn are_choices(world: &World, terms: &[Term], results: &Results) -> bool {
     let mut last = None;
-    for place in 0..results.len() {
-        let (entity, entries) = results.get(place);
+    for (entity, entries) in results.iter() {
         let is_next = last.is_none_or(|last| last < (entity, entries));
         if !is_next || !world.is_alive(entity) || !is_choice(world, entity, terms, entries) {
             return false;
@@ -39,110 +26,81 @@ fn are_choices(world: &World, terms: &[Term], results: &Results) -> bool {
     true
 }
 
-// Whether the row is the result at the place.
-fn is_row(results: &Results, place: usize, row: &Row) -> bool {
-    place < results.len() && results.get(place) == (row.entity, row.entries.as_slice())
-}
-
-/// Whether the rows are the results, one after the other.
-pub fn are_rows(results: &Results, rows: &[Row]) -> bool {
+// Whether the rows are the results, one after the other.
+fn are_rows(results: &Results, rows: &[Row]) -> bool {
     rows.len() == results.len()
-        && rows
-            .iter()
-            .enumerate()
-            .all(|(place, row)| is_row(results, place, row))
+        && results.iter().zip(rows).all(|((entity, entries), row)| entity.is(row.entity)
+            && entries == row.entries.as_slice())
 }
 
-// Whether each entity of the table has choices.
-fn has_choices(world: &World, terms: &[Term], table: &TableRows<'_>) -> bool {
-    table
-        .entities
-        .iter()
-        .all(|entity| count_choices(world, *entity, terms) > 0)
-}
-
-// How many results there are to be, and of how many entities.
-fn counts(world: &World, terms: &[Term], living: &[Entity]) -> (usize, usize) {
-    living.iter().fold((0, 0), |(results, entities), entity| {
-        let count = count_choices(world, *entity, terms);
-        (
-            results.saturating_add(count),
-            entities.saturating_add(usize::from(count > 0)),
-        )
-    })
-}
-
-// How many entities the tables have, each of which has choices.
-fn count_in_tables(world: &World, terms: &[Term], tables: &[TableRows<'_>]) -> Option<usize> {
-    tables.iter().try_fold(0usize, |count, table| {
-        has_choices(world, terms, table).then_some(count.saturating_add(table.entities.len()))
-    })
-}
-
-// Whether the results are so many choices, and the rows are the results.
-fn has_results(
+// How many results there are, if they are all choices, each once, and the rows are the results.
+fn count_right(
     world: &World,
     terms: &[Term],
-    query: &Query,
-    count: usize,
-) -> Result<bool, Refusal> {
-    let results = world.results(query)?;
-    let is_right = results.len() == count && are_choices(world, terms, &results);
-    Ok(is_right && are_rows(&results, &world.query(query)?))
+    results: Option<Results>,
+    rows: Option<Vec<Row>>,
+) -> Option<usize> {
+    let (Some(results), Some(rows)) = (results, rows) else {
+        return None;
+    };
+    let is_right = count_all(world, terms) == Some(results.len())
+        && are_choices(world, terms, &results)
+        && are_rows(&results, &rows);
+    is_right.then_some(results.len())
 }
 
-// Whether the tables have so many entities, each of which has choices.
-fn has_tables(
+// Whether there is a choice for each term on those who stand in the table.
+fn is_chosen(world: &World, terms: &[Term], table: &TableRows<'_>) -> bool {
+    match table.entities {
+        [entity, ..] => count_choices(world, *entity, terms) > 0,
+        [] => false,
+    }
+}
+
+// Whether both are the same table.
+fn is_same(table: &TableRows<'_>, other: &TableRows<'_>) -> bool {
+    table.ids == other.ids && table.entities == other.entities
+}
+
+// Whether the tables are those of the whole listing that have choices.
+fn are_chosen(
     world: &World,
     terms: &[Term],
-    query: &Query,
-    entities: usize,
-) -> Result<bool, Refusal> {
-    let tables = world.tables_of(query)?;
-    Ok(count_in_tables(world, terms, &tables) == Some(entities))
-}
-
-// How many results the question has, if they are what the filter finds, as the rows are and the tables.
-fn answered(world: &World, question: &Question) -> Result<Option<usize>, Refusal> {
-    let query = world.read_query(question.text.as_str())?;
-    let terms = question.terms.as_slice();
-    let (count, entities) = counts(world, terms, &world.living()?);
-    let is_right = has_results(world, terms, &query, count)?
-        && has_tables(world, terms, &query, entities)?;
-    Ok(is_right.then_some(count))
-}
-
-// How many results the questions have that are asked after so many steps, one after each, if all are right.
-fn all_answered(
-    alloc: Global,
-    world: &mut World,
-    draws: &mut Draws,
-    steps: u32,
-) -> Result<Option<usize>, Refusal> {
-    let mut found = 0usize;
-    for _ in 0..steps {
-        let living = world.living()?;
-        let _refused_or_done = take_step(world, draws, &living);
-        let question = draw_question(alloc, draws, &living)?;
-        match answered(world, &question)? {
-            Some(count) => found = found.saturating_add(count),
-            None => return Ok(None),
+    listed: &[TableRows<'_>],
+    tables: &[TableRows<'_>],
+) -> bool {
+    let mut rest = tables;
+    for table in listed.iter().filter(|table| is_chosen(world, terms, table)) {
+        match rest {
+            [first, others @ ..] if is_same(first, table) => rest = others,
+            _ => return false,
         }
     }
-    Ok(Some(found))
+    rest.is_empty()
 }
 
-// Whether they are right in a new world, and have more than 500 results.
-fn are_right(alloc: Global, seed: u64) -> bool {
-    let Ok(mut world) = World::new(alloc, 48) else {
-        return false;
-    };
-    let found = all_answered(alloc, &mut world, &mut Draws::new(seed), 1_000);
-    found.is_ok_and(|found| found.is_some_and(|found| found > 500))
+// Whether they are.
+fn are_tables(world: &World, terms: &[Term], tables: Option<Vec<TableRows<'_>>>) -> bool {
+    match (world.tables(), tables) {
+        (Ok(listed), Some(tables)) => are_chosen(world, terms, &listed, &tables),
+        _ => false,
+    }
 }
 
-#[test]
-fn queries_answer_what_a_filter_finds(rt: HostRuntime) {
-    assert!(rt; are_right(rt.alloc(), 2026));
-    assert!(rt; are_right(rt.alloc(), 7));
+/// How many results the query of the terms has, if they, the rows and the tables are what the filter finds.
+pub fn count_asked(world: &World, terms: &[Term], query: &Query) -> Option<usize> {
+    let count = count_right(
+        world,
+        terms,
+        world.results(query).ok(),
+        world.query(query).ok(),
+    );
+    count.filter(|_| are_tables(world, terms, world.tables_of(query).ok()))
+}
+
+/// The same of a query that the world keeps.
+pub fn count_kept(world: &World, terms: &[Term], number: QueryId) -> Option<usize> {
+    let results = world.answer_results(number).ok();
+    let count = count_right(world, terms, results, world.answer(number).ok());
+    count.filter(|_| are_tables(world, terms, world.tables_of_query(number).ok()))
 }

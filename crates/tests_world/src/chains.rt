@@ -1,16 +1,9 @@
 //! A chain of parents is walked to its end, whether a cycle closes there or none does, and dies with its root.
+use crate::handles::at;
 use eco_ids::entity::CHILD_OF;
 use eco_ids::{Entity, Id, Refusal};
 use eco_world::World;
 use std::alloc::Global;
-
-// The entity of generation 0 at the index.
-fn at(index: u32) -> Entity {
-    Entity {
-        index,
-        generation: 0,
-    }
-}
 
 // Makes so many entities without ids.
 fn create(world: &mut World, count: u32) -> Result<(), Refusal> {
@@ -42,40 +35,29 @@ fn closed(world: &mut World) -> Result<Option<Refusal>, Refusal> {
     Ok(give_parent(world, 20_009, 20_011).err())
 }
 
-// Whether a cycle of 20,003 is refused as one.
-fn is_cycle_refused(alloc: Global) -> bool {
-    let Ok(mut world) = World::new(alloc, 65_536) else {
-        return false;
-    };
-    matches!(closed(&mut world), Ok(Some(Refusal::Cycle { .. })))
-}
-
-#[test]
-fn a_long_chain_is_walked(rt: HostRuntime) {
-    assert!(rt; is_cycle_refused(rt.alloc()));
-}
-
 // How many live once the last parent of the chain was deleted, and who lives next.
 fn fallen(world: &mut World) -> Result<(usize, Entity), Refusal> {
-    create(world, 20_001)?;
-    link(world)?;
     world.delete(at(20_009))?;
     Ok((world.living()?.len(), world.create(None)?))
 }
 
-// Whether nobody but the built-ins is left, and the first index is free at its next generation.
-fn is_fallen(alloc: Global) -> bool {
+// Whether a cycle of 20,003 is refused as one, and all of the chain die with its root: nobody but the built-ins is left, and the
+// first index is free at its next generation.
+fn is_walked(alloc: Global) -> bool {
     let Ok(mut world) = World::new(alloc, 65_536) else {
         return false;
+    };
+    let cycle = Refusal::Cycle {
+        relationship: CHILD_OF,
     };
     let next = Entity {
         index: 9,
         generation: 1,
     };
-    fallen(&mut world) == Ok((9, next))
+    closed(&mut world) == Ok(Some(cycle)) && fallen(&mut world) == Ok((9, next))
 }
 
 #[test]
-fn a_long_chain_dies_at_once(rt: HostRuntime) {
-    assert!(rt; is_fallen(rt.alloc()));
+fn a_long_chain_is_walked_and_dies_at_once(rt: HostRuntime) {
+    assert!(rt; is_walked(rt.alloc()));
 }

@@ -6,7 +6,7 @@ use eco_world::World;
 // Whether the part may stand for the entity.
 fn stands_for(part: Part, entity: Entity) -> bool {
     match part {
-        Part::Is(own) => own == entity,
+        Part::Is(own) => own.is(entity),
         Part::Each | Part::Any => true,
     }
 }
@@ -14,7 +14,7 @@ fn stands_for(part: Part, entity: Entity) -> bool {
 // Whether the pattern matches the id.
 fn is_match(pattern: Pattern, id: Id) -> bool {
     match (pattern, id) {
-        (Pattern::One(own), Id::One(entity)) => own == entity,
+        (Pattern::One(own), Id::One(entity)) => own.is(entity),
         (Pattern::Two(first, second), Id::Two(relationship, target)) => {
             stands_for(first, relationship) && stands_for(second, target)
         }
@@ -22,27 +22,33 @@ fn is_match(pattern: Pattern, id: Id) -> bool {
     }
 }
 
-// Whether both fill the part alike, which they have to at a `*` alone.
-fn fills_alike(part: Part, one: Entity, other: Entity) -> bool {
-    part != Part::Each || one == other
+// The pattern with its `*` parts filled as the id fills them.
+fn filled(pattern: Pattern, id: Id) -> Pattern {
+    match (pattern, id) {
+        (Pattern::Two(first, second), Id::Two(relationship, target)) => {
+            Pattern::Two(
+                filled_part(first, relationship),
+                filled_part(second, target),
+            )
+        }
+        _ => pattern,
+    }
 }
 
-// Whether two ids that match fill the `*` parts alike.
-fn are_alike(pattern: Pattern, one: Id, other: Id) -> bool {
-    match (pattern, one, other) {
-        (Pattern::Two(first, second), Id::Two(one, its), Id::Two(other, others)) => {
-            fills_alike(first, one, other) && fills_alike(second, its, others)
-        }
-        _ => true,
+fn filled_part(part: Part, entity: Entity) -> Part {
+    match part {
+        Part::Each => Part::Is(entity),
+        Part::Is(_) | Part::Any => part,
     }
 }
 
 // Whether the id is the least of those that match with its filling.
 fn is_least(pattern: Pattern, ids: &[Id], id: Id) -> bool {
+    let alike = filled(pattern, id);
     is_match(pattern, id)
-        && !ids.iter().any(|other| *other < id
-            && is_match(pattern, *other)
-            && are_alike(pattern, *other, id))
+        && !ids
+            .iter()
+            .any(|other| *other < id && is_match(alike, *other))
 }
 
 // The first of the ids that the entity has.
@@ -50,32 +56,45 @@ fn first_had(world: &World, entity: Entity, ids: &[Id]) -> Option<Id> {
     ids.iter().copied().find(|id| world.has(entity, *id))
 }
 
+// Whether the id, which the entity has, is an entry of the term.
+fn is_found(world: &World, entity: Entity, term: &Term, id: Id) -> bool {
+    match term {
+        Term::And(pattern) => is_least(*pattern, world.ids_of(entity), id),
+        Term::Not(_) => false,
+        Term::Optional(own) => own.is(id),
+        Term::Or(alternatives) => {
+            first_had(world, entity, alternatives).is_some_and(|own| own.is(id))
+        }
+    }
+}
+
+// Whether the term has the entry of no id.
+fn is_without(world: &World, entity: Entity, term: &Term) -> bool {
+    match term {
+        Term::And(_) | Term::Or(_) => false,
+        Term::Not(pattern) => !world
+            .ids_of(entity)
+            .iter()
+            .any(|id| is_match(*pattern, *id)),
+        Term::Optional(id) => !world.has(entity, *id),
+    }
+}
+
 // How many entries the term has on the entity.
 fn count_entries(world: &World, entity: Entity, term: &Term) -> usize {
     let ids = world.ids_of(entity);
-    match term {
-        Term::And(pattern) => ids
-            .iter()
-            .filter(|id| is_least(*pattern, ids, **id))
-            .count(),
-        Term::Not(pattern) => usize::from(!ids.iter().any(|id| is_match(*pattern, *id))),
-        Term::Optional(_) => 1,
-        Term::Or(alternatives) => usize::from(first_had(world, entity, alternatives).is_some()),
-    }
+    let found = ids
+        .iter()
+        .filter(|id| is_found(world, entity, term, **id))
+        .count();
+    found.saturating_add(usize::from(is_without(world, entity, term)))
 }
 
 // Whether the entry is one of those.
 fn fits(world: &World, entity: Entity, term: &Term, entry: Option<Id>) -> bool {
-    let ids = world.ids_of(entity);
-    match term {
-        Term::And(pattern) => {
-            entry.is_some_and(|id| world.has(entity, id) && is_least(*pattern, ids, id))
-        }
-        Term::Not(pattern) => entry.is_none() && !ids.iter().any(|id| is_match(*pattern, *id)),
-        Term::Optional(id) => entry == Some(*id).filter(|id| world.has(entity, *id)),
-        Term::Or(alternatives) => {
-            entry.is_some() && entry == first_had(world, entity, alternatives)
-        }
+    match entry {
+        Some(id) => world.has(entity, id) && is_found(world, entity, term, id),
+        None => is_without(world, entity, term),
     }
 }
 

@@ -6,7 +6,7 @@ use eco_frame::run_frame;
 use eco_ids::{Entity, Id, Pattern, Refusal};
 use eco_stages::Stage;
 use eco_systems::Phase;
-use eco_world::World;
+use eco_world::{Query, World};
 use std::alloc::Global;
 use std::sync::atomic::{AtomicU64, Ordering};
 use std::thread::Threads;
@@ -77,16 +77,30 @@ impl SystemBody for Gate<'_> {
     ghost settled = { λ s row mine later h. (h, refl) };
 }
 
-// So many entities, each with this id: the first and the last of them.
-fn make_rows(world: &mut World, count: u32, id: Id) -> Result<(Entity, Entity), Refusal> {
+// The tag `T`, and 65 entities that have it: the first and the last of them.
+fn prepare(world: &mut World) -> Result<(Entity, Entity), Refusal> {
+    let tag = Id::One(world.create(Some("T"))?);
     let first = world.create(None)?;
-    world.add(first, id)?;
+    world.add(first, tag)?;
     let mut last = first;
-    for _ in 1..count {
+    for _ in 1..65 {
         last = world.create(None)?;
-        world.add(last, id)?;
+        world.add(last, tag)?;
     }
     Ok((first, last))
+}
+
+// Whether a frame of one system has one batch.
+fn has_one_batch<R: Threads + Sync>(
+    rt: &R,
+    alloc: Global,
+    world: &mut World,
+    query: Query,
+    gate: Gate<'_>,
+) -> bool {
+    let mut systems = Systems::new(alloc);
+    systems.add("gate", Phase::OnUpdate, query, gate).is_ok()
+        && run_frame(rt, alloc, world, &systems, 2).is_ok_and(|report| report.batches() == 1)
 }
 
 // Whether two workers overlap: the record of the first of 65 rows waits for that of the last, which stands in another piece.
@@ -94,8 +108,7 @@ fn overlap<R: Threads + Sync>(rt: &R, alloc: Global) -> Result<bool, Refusal> {
     let opened = AtomicU64::new(0);
     let missed = AtomicU64::new(0);
     let mut world = World::new(alloc, 256)?;
-    let tag = world.create(Some("T"))?;
-    let (first, last) = make_rows(&mut world, 65, Id::One(tag))?;
+    let (first, last) = prepare(&mut world)?;
     let query = world.read_query("T")?;
     let gate = Gate {
         first,
@@ -104,17 +117,11 @@ fn overlap<R: Threads + Sync>(rt: &R, alloc: Global) -> Result<bool, Refusal> {
         opened: &opened,
         missed: &missed,
     };
-    let mut systems = Systems::new(alloc);
-    if let Err(refused) = systems.add("gate", Phase::OnUpdate, query, gate) {
-        return Err(refused.refusal);
-    }
-    match run_frame(rt, alloc, &mut world, &systems, 2) {
-        Ok(report) => Ok(report.batches() == 1 && missed.load(Ordering::SeqCst) == 0),
-        Err(stop) => Err(stop.refusal),
-    }
+    let is_one = has_one_batch(rt, alloc, &mut world, query, gate);
+    Ok(is_one && missed.load(Ordering::SeqCst) == 0)
 }
 
 #[test]
 fn workers_of_a_frame_overlap(rt: HostRuntime) {
-    assert_eq!(rt; overlap(&rt, rt.alloc()), Ok(true));
+    assert!(rt; overlap(&rt, rt.alloc()) == Ok(true));
 }

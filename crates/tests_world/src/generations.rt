@@ -1,5 +1,5 @@
 //! An index through all its generations: the last one retires it, and the next create takes another index.
-use crate::layout::at;
+use crate::handles::at;
 use eco_ids::{Entity, Refusal};
 use eco_world::World;
 use std::alloc::Global;

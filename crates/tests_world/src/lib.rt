@@ -4,8 +4,6 @@
 #[cfg(test)]
 mod answers;
 #[cfg(test)]
-mod cached;
-#[cfg(test)]
 mod chains;
 #[cfg(test)]
 mod copying;
@@ -14,34 +12,34 @@ mod draws;
 #[cfg(test)]
 mod filter;
 #[cfg(test)]
+mod frame_runs;
+#[cfg(test)]
 mod frames;
 #[cfg(test)]
 mod generations;
+#[cfg(test)]
+mod handles;
 #[cfg(test)]
 mod hostile;
 #[cfg(test)]
 mod layout;
 #[cfg(test)]
+mod listings;
+#[cfg(test)]
 mod long_frames;
 #[cfg(test)]
-mod merging;
+mod long_run;
 #[cfg(test)]
 mod one_by_one;
 #[cfg(test)]
 mod plans;
 #[cfg(test)]
-mod queries;
-#[cfg(test)]
 mod questions;
 #[cfg(test)]
 mod rounds;
 #[cfg(test)]
-mod scripts;
-#[cfg(test)]
-mod searching;
+mod steps;
 #[cfg(test)]
 mod store;
 #[cfg(test)]
 mod sweeps;
-#[cfg(test)]
-mod systems;

@@ -1,27 +1,36 @@
 //! Systems that look random: when each runs, what it asks for, and what it does.
 use crate::draws::Draws;
-use crate::layout::at;
+use crate::handles::at;
 use eco_bodies::{Action, Script, Systems};
 use eco_ids::entity::{CHILD_OF, EXCLUSIVE, WITH};
 use eco_ids::{Id, Refusal, Value};
 use eco_systems::{PHASES, Phase};
-use eco_world::World;
-use std::alloc::{AllocError, Global};
+use eco_world::{Query, World};
+use std::alloc::Global;
 
-/// A system, with a script of two actions.
+/// What a system does with each row.
+#[derive(Clone, Copy)]
+pub enum Deeds {
+    /// The actions of a script.
+    Script([Action; 2]),
+    /// It clears the row's entity, and then deletes all who have an id.
+    Sweep(Id),
+}
+
+/// A system.
 #[derive(Clone, Copy)]
 pub struct Plan {
     pub phase: Phase,
     pub text: &'static str,
-    pub actions: [Action; 2],
+    pub deeds: Deeds,
 }
 
 /// The components `P` and `V` of two fields at 9 and 10 and `M` of one at 11, the tags `T`, `U` and `Z` from 12 on, the
 /// relationships `Likes` and `In` at 15 and 16, which have the tag `Rel` at 17, and their targets `a`, `b` and `c` from 18 on.
 pub fn prepare(world: &mut World) -> Result<(), Refusal> {
-    world.component(Some("P"), 2)?;
-    world.component(Some("V"), 2)?;
-    world.component(Some("M"), 1)?;
+    for (name, arity) in [("P", 2), ("V", 2), ("M", 1)] {
+        world.component(Some(name), arity)?;
+    }
     for name in ["T", "U", "Z", "Likes", "In", "Rel", "a", "b", "c"] {
         world.create(Some(name))?;
     }
@@ -29,141 +38,125 @@ pub fn prepare(world: &mut World) -> Result<(), Refusal> {
     world.add(at(16), Id::One(at(17)))
 }
 
-fn one(index: u32) -> Id {
-    Id::One(at(index))
-}
+/// What most systems ask for.
+const TEXTS: [&str; 20] = [
+    "[inout] P, [in] V",
+    "[in] P, [out] M",
+    "[in] M, [inout] V, !U",
+    "[inout] ?P, [inout] ?V, T",
+    "[inout] (Likes, *), [inout] P",
+    "[inout] P || V, [in] M",
+    "T, !U",
+    "U, !T",
+    "T, U",
+    "(Likes, *)",
+    "T || M",
+    "(In, _), P",
+    "V, !P",
+    "[none] P, !V",
+    "(In, a), !Z",
+    "(ChildOf, *), M",
+    "(Likes, a), (In, *)",
+    "?T, P, V",
+    "U, P",
+    "T, (Likes, _)",
+];
 
-fn pair(relationship: u32, target: u32) -> Id {
-    Id::Two(at(relationship), at(target))
-}
-
-fn add(id: Id) -> Action {
-    Action::AddId(id)
-}
-
-fn remove(id: Id) -> Action {
-    Action::RemoveId(id)
-}
-
-fn spawn(id: Id) -> Action {
-    Action::Spawn(Some(id))
-}
-
-fn put(slot: usize, field: i64) -> Action {
-    Action::Put {
-        slot,
-        value: Value([field, 0, 0, 0]),
+/// A component, a tag or a pair.
+pub fn draw_id(draws: &mut Draws) -> Id {
+    match draws.below(8) {
+        0..=3 => Id::One(at(9 + draws.below(6))),
+        4..=6 => Id::Two(at(15 + draws.below(2)), at(18 + draws.below(3))),
+        _ => Id::Two(CHILD_OF, at(18)),
     }
 }
 
-fn sum(into: usize, from: usize) -> Action {
-    Action::Sum { into, from }
-}
-
-// One that changes values alone.
-fn values_of(kind: u32) -> (&'static str, [Action; 2]) {
-    match kind {
-        0 => ("[inout] P, [in] V", [sum(0, 1), sum(0, 0)]),
-        1 => ("[in] P, [out] M", [put(1, 5), put(1, 6)]),
-        2 => ("[in] M, [inout] V, !U", [put(1, -7), sum(1, 1)]),
-        3 => ("[inout] ?P, [inout] ?V, T", [sum(0, 1), put(1, 3)]),
-        4 => ("[inout] (Likes, *), [inout] P", [put(1, 1), put(0, 0)]),
-        _ => ("[inout] P || V, [in] M", [sum(0, 1), put(0, 2)]),
+// What a system may do with most entities, if its query allows it.
+fn draw_action(draws: &mut Draws) -> Action {
+    let slot = draws.below(2) as usize;
+    match draws.below(12) {
+        0..=3 => Action::AddId(draw_id(draws)),
+        4..=5 => Action::RemoveId(draw_id(draws)),
+        6..=7 => Action::Put {
+            slot,
+            value: Value([i64::from(draws.below(9)), 0, 0, 0]),
+        },
+        8..=10 => Action::Sum {
+            into: slot,
+            from: draws.below(2) as usize,
+        },
+        _ => Action::Spawn(Some(draw_id(draws))),
     }
 }
 
-// One that changes ids.
-fn ids_of(kind: u32) -> (&'static str, [Action; 2]) {
-    match kind {
-        0 => ("T, !U", [add(one(13)), remove(one(12))]),
-        1 => ("U, !T", [add(one(12)), remove(one(13))]),
-        2 => ("T, U", [add(one(9)), add(pair(15, 18))]),
-        3 => ("(Likes, *)", [add(pair(15, 19)), remove(pair(15, 18))]),
-        4 => ("T || M", [add(pair(16, 18)), add(pair(16, 19))]),
-        5 => ("(In, _), P", [remove(pair(16, 19)), add(pair(15, 20))]),
-        6 => ("V, !P", [add(one(9)), remove(one(10))]),
-        7 => ("[none] P, !V", [add(one(10)), remove(one(11))]),
-        8 => (
-            "(In, a), !Z",
-            [add(Id::Two(CHILD_OF, at(18))), add(one(14))],
-        ),
-        9 => ("(ChildOf, *), M", [remove(pair(15, 19)), add(one(14))]),
-        10 => ("(Likes, a), (In, *)", [add(pair(9, 18)), add(one(13))]),
-        _ => ("?T, P, V", [remove(one(10)), add(one(13))]),
+// What it may do with relationships: it gives them traits or takes them.
+fn draw_trait(draws: &mut Draws) -> Action {
+    match draws.below(5) {
+        0 => Action::AddId(Id::One(EXCLUSIVE)),
+        1 => Action::RemoveId(Id::One(EXCLUSIVE)),
+        2 => Action::AddId(Id::Two(WITH, at(17))),
+        3 => Action::AddId(Id::Two(WITH, at(16))),
+        _ => Action::RemoveId(Id::Two(WITH, at(16))),
     }
 }
 
-// One that makes or deletes entities, or gives traits to relationships or takes them.
-fn others_of(kind: u32) -> (&'static str, [Action; 2]) {
-    match kind {
-        0 => ("U, P", [spawn(one(12)), add(one(14))]),
-        1 => ("T, (Likes, _)", [Action::Spawn(None), spawn(pair(16, 20))]),
-        2 => ("P, !T", [spawn(one(11)), sum(0, 0)]),
-        3 => ("Z", [Action::Kill, spawn(one(13))]),
-        4 => ("Z, (Likes, *)", [Action::Kill, Action::Kill]),
-        5 => ("Rel", [add(Id::One(EXCLUSIVE)), add(Id::Two(WITH, at(17)))]),
-        6 => (
-            "Rel",
-            [remove(Id::One(EXCLUSIVE)), add(Id::Two(WITH, at(16)))],
-        ),
-        _ => (
-            "Rel, !Exclusive",
-            [remove(Id::Two(WITH, at(16))), remove(Id::Two(WITH, at(17)))],
-        ),
-    }
-}
-
-// One that looks random.
+// A system whose actions its query may not allow.
 fn draw_plan(draws: &mut Draws) -> Plan {
     let phase = PHASES[draws.below(8) as usize];
-    let (text, actions) = match draws.below(8) {
-        0..=2 => values_of(draws.below(6)),
-        3..=5 => ids_of(draws.below(12)),
-        _ => others_of(draws.below(8)),
+    let (text, actions) = match draws.below(12) {
+        0 => ("Z", [Action::Kill, draw_action(draws)]),
+        1 => ("Z, (Likes, *)", [Action::Spawn(None), Action::Kill]),
+        2 => ("Rel", [draw_trait(draws), draw_trait(draws)]),
+        _ => (
+            TEXTS[draws.below(20) as usize],
+            [draw_action(draws), draw_action(draws)],
+        ),
     };
     Plan {
         phase,
         text,
-        actions,
+        deeds: Deeds::Script(actions),
     }
 }
 
-/// Three to eight of them, as they are declared.
-pub fn draw_plans(alloc: Global, draws: &mut Draws) -> Result<Vec<Plan>, AllocError> {
-    let mut plans = Vec::new(alloc);
-    for _ in 0..3 + draws.below(6) {
-        plans.push(draw_plan(draws))?;
+// The script of a plan, if its query allows its actions.
+fn script_of(alloc: Global, query: &Query, deeds: Deeds) -> Result<Script, Refusal> {
+    match deeds {
+        Deeds::Script(actions) => Script::new(alloc, query, Vec::from_slice(alloc, &actions)?),
+        Deeds::Sweep(_) => Err(Refusal::Undeclared),
     }
-    Ok(plans)
 }
 
-// Declares a system of the plan, which is named by a number.
+const NAMES: [&str; 8] = ["a", "b", "c", "d", "e", "f", "g", "h"];
+
+// Declares a system of the plan, and tells whether that was done.
 fn declare(
     alloc: Global,
     world: &World,
     systems: &mut Systems<Script>,
-    number: usize,
+    name: &str,
     plan: &Plan,
-) -> Result<(), Refusal> {
+) -> Result<bool, Refusal> {
     let query = world.read_query(plan.text)?;
-    let actions = Vec::from_slice(alloc, &plan.actions)?;
-    let body = Script::new(alloc, &query, actions)?;
-    let name = format!(in alloc; "s{number}")?;
-    match systems.add(name.as_str(), plan.phase, query, body) {
-        Ok(()) => Ok(()),
-        Err(refused) => Err(refused.refusal),
+    match script_of(alloc, &query, plan.deeds) {
+        Ok(script) => Ok(systems.add(name, plan.phase, query, script).is_ok()),
+        Err(_) => Ok(false),
     }
 }
 
-/// Declares the systems of the plans.
-pub fn declare_all(
+/// Draws up to eight plans, and declares the systems of those that are allowed.
+pub fn draw_systems(
     alloc: Global,
     world: &World,
-    plans: &[Plan],
+    draws: &mut Draws,
     systems: &mut Systems<Script>,
-) -> Result<(), Refusal> {
-    for (number, plan) in plans.iter().enumerate() {
-        declare(alloc, world, systems, number, plan)?;
+) -> Result<Vec<Plan>, Refusal> {
+    let mut plans = Vec::new(alloc);
+    for name in NAMES {
+        let plan = draw_plan(draws);
+        if declare(alloc, world, systems, name, &plan)? {
+            plans.push(plan)?;
+        }
     }
-    Ok(())
+    Ok(plans)
 }

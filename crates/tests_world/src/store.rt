@@ -1,6 +1,6 @@
 //! Each call of a store that may want memory and that a world does not make.
 use eco_ids::{Entity, Id, Pattern, Refusal, TypeList};
-use eco_store::{Move, Store};
+use eco_store::{AllOf, Move, Store};
 use std::alloc::{AllocError, Global};
 
 const TAG: Entity = Entity {
@@ -13,9 +13,11 @@ const HOLDER: Entity = Entity {
     generation: 0,
 };
 
-// The type of who has the tag.
+// The type of who has the tag, and the holder as an id.
 fn tagged(alloc: Global) -> Result<TypeList, AllocError> {
-    TypeList::empty(alloc).with(Id::One(TAG))
+    TypeList::empty(alloc)
+        .with(Id::One(TAG))?
+        .with(Id::One(HOLDER))
 }
 
 // Makes two entities without ids, admits an index, and makes the entity living that is there.
@@ -44,15 +46,23 @@ fn moved(store: &mut Store, tagged: TypeList) -> Result<[usize; 2], AllocError> 
     Ok([prepared, store.tables().len()])
 }
 
-// How many tables, entities and types have the tag.
-fn found(store: &Store) -> Result<[usize; 3], AllocError> {
-    let tables = store.tables_with(Pattern::One(TAG))?.slots.len();
-    let holders = store.entities_with(Pattern::One(TAG))?.len();
-    Ok([tables, holders, store.types_with(Pattern::One(TAG))?.len()])
+// How many tables, entities and types have the tag, and how many entities have both ids.
+fn found(store: &Store) -> Result<[usize; 4], AllocError> {
+    let pattern = Pattern::One(TAG);
+    let both = AllOf {
+        first: pattern,
+        others: &[Pattern::One(HOLDER)],
+    };
+    Ok([
+        store.tables_with(pattern)?.slots.len(),
+        store.entities_with(pattern)?.len(),
+        store.types_with(pattern)?.len(),
+        store.entities_by(&both)?.len(),
+    ])
 }
 
 // What is made of a new store, and what is found in it.
-fn used(alloc: Global, store: &mut Store) -> Result<([usize; 2], [usize; 3]), Refusal> {
+fn used(alloc: Global, store: &mut Store) -> Result<([usize; 2], [usize; 4]), Refusal> {
     fill(store, &TypeList::empty(alloc))?;
     let tables = moved(store, tagged(alloc)?)?;
     Ok((tables, found(store)?))
@@ -60,7 +70,7 @@ fn used(alloc: Global, store: &mut Store) -> Result<([usize; 2], [usize; 3]), Re
 
 // Whether all is made and found in a new store.
 fn is_used(alloc: Global) -> bool {
-    used(alloc, &mut Store::new(alloc, 16)) == Ok(([2, 2], [1, 1, 1]))
+    used(alloc, &mut Store::new(alloc, 16)) == Ok(([2, 2], [1, 1, 1, 1]))
 }
 
 #[test]

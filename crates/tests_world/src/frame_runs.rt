@@ -1,0 +1,96 @@
+//! A frame, held against the same systems run one by one.
+ghost use Rattle.std.specs.Prelude.{◌≤◌};
+
+use crate::listings::are_same;
+use crate::one_by_one::{number_of, run_one_by_one};
+use crate::plans::Plan;
+use eco_bodies::{SystemBody, Systems};
+use eco_frame::{FrameReport, run_frame, sync_points};
+use eco_ids::Refusal;
+use eco_world::World;
+use std::alloc::Global;
+use std::thread::Threads;
+
+/// What the frames of a run did.
+#[derive(Clone, Copy)]
+pub struct Totals {
+    pub systems: usize,
+    pub batches: usize,
+    pub commands: usize,
+    pub refused: usize,
+    pub drawn: u32,
+}
+
+impl Totals {
+    /// No frame.
+    pub fn new() -> Totals {
+        Totals {
+            systems: 0,
+            batches: 0,
+            commands: 0,
+            refused: 0,
+            drawn: 0,
+        }
+    }
+
+    // One frame more.
+    fn count(&mut self, systems: usize, report: &FrameReport, outcomes: &[u8]) {
+        let refused = outcomes.iter().filter(|number| **number != 0).count();
+        self.systems = self.systems.saturating_add(systems);
+        self.batches = self.batches.saturating_add(report.batches());
+        self.commands = self.commands.saturating_add(report.commands());
+        self.refused = self.refused.saturating_add(refused);
+        self.drawn = self.drawn.saturating_add(report.drawn());
+    }
+}
+
+// Whether a frame's commands have these outcomes.
+fn has_outcomes(report: &FrameReport, outcomes: &[u8]) -> bool {
+    let mut rest = outcomes;
+    for part in report.reports() {
+        for outcome in part.iter() {
+            match rest {
+                [first, others @ ..] if *first == number_of(outcome) => rest = others,
+                _ => return false,
+            }
+        }
+    }
+    rest.is_empty()
+}
+
+// A copy of the world after the systems of the plans one by one, and the outcomes of their commands.
+fn expect(alloc: Global, world: &World, plans: &[Plan]) -> Result<(World, Vec<u8>), Refusal> {
+    let mut copy = world.try_copy()?;
+    let mut outcomes = Vec::new(alloc);
+    run_one_by_one(alloc, &mut copy, plans, &mut outcomes)?;
+    Ok((copy, outcomes))
+}
+
+/// Runs a frame of the systems, and tells whether it is the run of their plans one by one on a copy of the world, but for which
+/// fresh index is whose. One worker draws as they do.
+pub fn frame_agrees<R: Threads + Sync, B: SystemBody + Sync + Drop>(
+    rt: &R,
+    alloc: Global,
+    world: &mut World,
+    systems: &Systems<B>,
+    plans: &[Plan],
+    workers: u32,
+    totals: &mut Totals,
+) -> Result<bool, Refusal>
+    requires { (1 ≤ workers) × (workers ≤ 64) }
+{
+    let known = if workers == 1 { u32::MAX } else { world.high() };
+    let batches = sync_points(alloc, world, systems)?.len();
+    let (copy, outcomes) = expect(alloc, world, plans)?;
+    match run_frame(rt, alloc, world, systems, workers) {
+        Ok(report) => {
+            totals.count(plans.len(), &report, &outcomes);
+            Ok(
+                report.batches() == batches
+                    && has_outcomes(&report, &outcomes)
+                    && are_same(alloc, world, &copy, known),
+            )
+        }
+        Err(stop) => Err(stop.refusal),
+    }
+}

@@ -86,14 +86,10 @@ fn are_right<R: Threads + Sync>(
 
 #[test]
 fn frames_are_their_systems_one_by_one(rt: HostRuntime) {
-    for workers in [1, 2, 8] {
-        assert!(rt;
-            are_right(&rt, rt.alloc(), 2026, workers) == Ok(true),
-            "by {workers} workers"
-        );
-        assert!(rt;
-            are_right(&rt, rt.alloc(), 7, workers) == Ok(true),
-            "by {workers} workers"
-        );
-    }
+    assert!(rt; are_right(&rt, rt.alloc(), 2026, 1) == Ok(true));
+    assert!(rt; are_right(&rt, rt.alloc(), 7, 1) == Ok(true));
+    assert!(rt; are_right(&rt, rt.alloc(), 2026, 2) == Ok(true));
+    assert!(rt; are_right(&rt, rt.alloc(), 7, 2) == Ok(true));
+    assert!(rt; are_right(&rt, rt.alloc(), 2026, 8) == Ok(true));
+    assert!(rt; are_right(&rt, rt.alloc(), 7, 8) == Ok(true));
 }

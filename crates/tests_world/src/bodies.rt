@@ -1,0 +1,67 @@
+//! A body records a row that stands in slices, and stops at a draw that is refused.
+ghost use Rattle.std.specs.Prelude.{[]};
+
+use crate::handles::at;
+use eco_bodies::{Action, Draws, LentRow, Script, SystemBody};
+use eco_ids::{Entity, Id, Refusal, Value};
+use eco_world::{Command, Stage, World};
+use std::alloc::Global;
+
+// Has no handle to draw, and notes that one was asked for.
+#[derive(Drop)]
+struct Dry(bool);
+
+impl Draws for Dry {
+    type Rest = ();
+
+    ghost so_far = { λ d. [] };
+
+    ghost is_dry = { λ d. d.0 };
+
+    ghost rest = { λ d. tt };
+
+    fn draw(&mut self) -> Result<Entity, Refusal> {
+        self.0 = true;
+        Err(Refusal::NoMoreIds)
+    }
+}
+
+// A script that adds one value to another, and then makes an entity.
+fn script(alloc: Global) -> Result<Script, Refusal> {
+    let world = World::new(alloc, 9)?;
+    let query = world.read_query("[inout] #9.0, [in] #10.0")?;
+    let actions = [Action::Sum { into: 0, from: 1 }, Action::Spawn(None)];
+    Script::new(alloc, &query, Vec::from_slice(alloc, &actions)?)
+}
+
+// Records it for a row of `#13.0`.
+fn record(script: &Script, stage: &mut Stage) -> Result<(), Refusal> {
+    let row = LentRow {
+        entity: at(13),
+        entries: &[Some(Id::One(at(9))), Some(Id::One(at(10)))],
+        values: &[Some(Value([3, -4, 0, 0])), Some(Value([4, 4, 0, 0]))],
+    };
+    script.record(&row, &mut Dry(false), stage)
+}
+
+// Whether the stage has the set of that row alone.
+fn has_set(stage: &Stage) -> bool {
+    match stage.commands() {
+        [Command::Set(entity, _, value)] => { entity.is(at(13)) && *value == Value([7, 0, 0, 0]) }
+        _ => false,
+    }
+}
+
+// Whether the set is recorded before the draw is refused.
+fn stops(alloc: Global) -> bool {
+    let mut stage = Stage::new(alloc);
+    match script(alloc) {
+        Ok(script) => record(&script, &mut stage) == Err(Refusal::NoMoreIds) && has_set(&stage),
+        Err(_) => false,
+    }
+}
+
+#[test]
+fn a_refused_draw_stops_a_body(rt: HostRuntime) {
+    assert!(rt; stops(rt.alloc()));
+}

@@ -1,4 +1,5 @@
 pub mod Allowed
+pub mod Entries
 pub mod Fields
 pub mod Refused
 pub mod Taken

@@ -2,8 +2,10 @@ pub mod Actions
 pub mod Added
 pub mod Allowing
 pub mod Bodies
+pub mod Laws
 pub mod Lent
 pub mod LentRows
+pub mod Own
 pub mod Scripts
 pub mod Settling
 pub mod Sums

@@ -8,7 +8,7 @@ use Rattle.eco_bodies.specs.declared.action.Action.{Action}
 use Rattle.eco_bodies.specs.declared.action.Action.TheVariants.{AddId, RemoveId, Put, Sum, Kill, Spawn}
 
 -- it takes as many, whichever they are
-same_count : (actions : List Action) (row : ValuedRow) (xs ys : List Entity) → script_taken actions row xs ≡ script_taken actions row ys
+pub same_count : (actions : List Action) (row : ValuedRow) (xs ys : List Entity) → script_taken actions row xs ≡ script_taken actions row ys
 same_count [] row xs ys = refl
 same_count (a ∷ actions) row xs ys = ap (λ n. draws_of a + n) (same_count actions row (drop (draws_of a) xs) (drop (draws_of a) ys))
 

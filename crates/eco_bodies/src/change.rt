@@ -1,7 +1,7 @@
 //! An action recorded for a row.
 ghost use Rattle.std.specs.Prelude.{◌≡◌, ◌++◌, ◌∷◌, [], false, option_to_list, IfErr, IfOk, List, OnOk, Some};
 ghost use Rattle.eco_ids.specs.declared.entity.Entity.{Entity as EntityData};
-ghost use Rattle.eco_stages.specs.Commands.{command_of};
+ghost use Rattle.eco_ids.specs.declared.refusal.Refusal.TheVariants.{OutOfMemory};
 ghost use Rattle.eco_systems.specs.Systems.{matches_one};
 ghost use Rattle.eco_bodies.specs.Lent.{item_at};
 ghost use Rattle.eco_bodies.specs.Scripts.{action_commands, change_of, set_of, spawned, sum_at, takes_draws, value_at};
@@ -9,12 +9,12 @@ ghost use Rattle.eco_bodies.specs.Taking.{Took};
 ghost use Rattle.eco_workers.specs.Taking.{Broke, stopped_by};
 
 use crate::action::Action;
+use crate::recording::record_command;
 use crate::row::BodyRow;
 use crate::sum::sum_of;
 use eco_ids::{Entity, Id, Pattern, Refusal, Value};
 use eco_stages::{Command, Stage};
 use eco_workers::Draws;
-use std::alloc::AllocError;
 
 // Whether one of some patterns matches.
 #[inline(always)]
@@ -57,17 +57,6 @@ fn sum_at<R: BodyRow>(row: &R, into: usize, from: usize) -> Option<Value>
     Some(sum_of(value, other))
 }
 
-// Records a command.
-#[inline(always)]
-fn push(stage: &mut Stage, command: Command) -> Result<(), AllocError>
-    ensures { OnOk result (stage.new ≡ stage.old ++ command_of command ∷ []) }
-{
-    match stage.record(command) {
-        Ok(()) => Ok(()),
-        Err(_) => Err(AllocError),
-    }
-}
-
 // Records that an entry is set to a value, where it is there and matches one of the patterns.
 #[inline(always)]
 fn set_entry(
@@ -76,9 +65,10 @@ fn set_entry(
     entry: Option<Id>,
     value: Value,
     stage: &mut Stage,
-) -> Result<(), AllocError>
-    ensures { OnOk result (stage.new
+) -> Result<(), Refusal>
+    ensures ok { OnOk result (stage.new
         ≡ stage.old ++ option_to_list (set_of writes.now entity entry (Some value))) }
+    ensures why { IfErr result (λ why. why ≡ OutOfMemory) }
 {
     let Some(id) = entry else {
         return Ok(());
@@ -86,7 +76,7 @@ fn set_entry(
     if !matches_one(writes, id) {
         return Ok(());
     }
-    push(stage, Command::Set(entity, id, value))
+    record_command(stage, Command::Set(entity, id, value))
 }
 
 // Records that the entry of a slot is set to the sum of its value and another's, where there are both.
@@ -97,10 +87,11 @@ fn add_up<R: BodyRow>(
     into: usize,
     from: usize,
     stage: &mut Stage,
-) -> Result<(), AllocError>
-    ensures { OnOk result (stage.new ≡ stage.old ++ option_to_list (set_of writes.now
+) -> Result<(), Refusal>
+    ensures ok { OnOk result (stage.new ≡ stage.old ++ option_to_list (set_of writes.now
         (R.row_of row.now).entity (item_at (R.row_of row.now).entries into)
         (sum_at (R.row_of row.now) into from))) }
+    ensures why { IfErr result (λ why. why ≡ OutOfMemory) }
 {
     match sum_at(row, into, from) {
         Some(value) => set_entry(writes, row.entity(), entry_at(row, into), value, stage),
@@ -115,18 +106,19 @@ fn record_change<R: BodyRow>(
     action: &Action,
     row: &R,
     stage: &mut Stage,
-) -> Result<(), AllocError>
-    ensures { OnOk result (stage.new
+) -> Result<(), Refusal>
+    ensures ok { OnOk result (stage.new
         ≡ stage.old ++ option_to_list (change_of writes.now (R.row_of row.now) action.now)) }
+    ensures why { IfErr result (λ why. why ≡ OutOfMemory) }
 {
     match *action {
-        Action::AddId(id) => push(stage, Command::Add(row.entity(), id)),
-        Action::RemoveId(id) => push(stage, Command::Remove(row.entity(), id)),
+        Action::AddId(id) => record_command(stage, Command::Add(row.entity(), id)),
+        Action::RemoveId(id) => record_command(stage, Command::Remove(row.entity(), id)),
         Action::Put { slot, value } => {
             set_entry(writes, row.entity(), entry_at(row, slot), value, stage)
         }
         Action::Sum { into, from } => add_up(writes, row, into, from, stage),
-        Action::Kill => push(stage, Command::Delete(row.entity())),
+        Action::Kill => record_command(stage, Command::Delete(row.entity())),
         Action::Spawn(_) => Ok(()),
     }
 }
@@ -144,9 +136,9 @@ fn spawn<D: Draws>(id: Option<Id>, draws: &mut D, stage: &mut Stage) -> Result<(
         (D.is_dry draws.new)) }
 {
     let entity = draws.draw()?;
-    push(stage, Command::Create(entity))?;
+    record_command(stage, Command::Create(entity))?;
     if let Some(id) = id {
-        push(stage, Command::Add(entity, id))?;
+        record_command(stage, Command::Add(entity, id))?;
     }
     Ok(())
 }
@@ -171,9 +163,6 @@ pub(crate) fn record_action<R: BodyRow, D: Draws>(
 {
     match *action {
         Action::Spawn(id) => spawn(id, draws, stage),
-        _ => {
-            record_change(writes, action, row, stage)?;
-            Ok(())
-        }
+        _ => record_change(writes, action, row, stage),
     }
 }

@@ -5,6 +5,7 @@ ghost use Rattle.eco_ids.specs.Run.{Command};
 ghost use Rattle.eco_systems.specs.Rows.{ValuedRow};
 ghost use Rattle.eco_systems.specs.Systems.{IsLawfulSystem};
 ghost use Rattle.eco_bodies.specs.Bodies.{system_with};
+ghost use Rattle.eco_bodies.specs.Laws.{OwnEntriesAreSet, ScriptsTakeOne};
 ghost use Rattle.eco_bodies.specs.Taking.{BreaksAll, TakesNext};
 
 use crate::body::SystemBody;
@@ -29,4 +30,15 @@ pub fn rows_are_recorded_one_by_one()
         (taken : ValuedRow → List EntityData → ℕ) (rows : List ValuedRow) → TakesNext commands taken rows }
     ensures breaks { (commands : ValuedRow → List EntityData → List Command)
         (taken : ValuedRow → List EntityData → ℕ) (rows : List ValuedRow) → BreaksAll commands taken rows }
+{}
+
+/// In the rows of its own query a script passes over no entry that it sets.
+pub fn scripts_set_their_own_entries()
+    ensures { OwnEntriesAreSet }
+{}
+
+/// How many handles a script takes is settled by its actions alone, so that draws decide what a frame of scripts leads to
+/// (`eco_systems::laws::draws_decide_frames`).
+pub fn scripts_take_one_beginning()
+    ensures { ScriptsTakeOne }
 {}

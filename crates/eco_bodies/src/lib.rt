@@ -6,6 +6,7 @@ mod action;
 mod body;
 mod change;
 mod lawful;
+mod recording;
 mod row;
 mod script;
 mod sum;
@@ -15,7 +16,11 @@ mod writes;
 pub use action::Action;
 pub use body::SystemBody;
 pub use eco_workers::Draws;
-pub use lawful::{rows_are_recorded_one_by_one, systems_are_lawful};
+pub use lawful::{
+    rows_are_recorded_one_by_one, scripts_set_their_own_entries, scripts_take_one_beginning,
+    systems_are_lawful,
+};
+pub use recording::record_command;
 pub use row::{BodyRow, LentRow};
 pub use script::Script;
 pub use systems::{NotAdded, System, Systems};

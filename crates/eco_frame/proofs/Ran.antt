@@ -1,17 +1,18 @@
 -- Frames that ran, and their reports.
-use Rattle.std.proofs.Common.{◌≡◌, ℕ, ◌≤◌, List, [], ◌∷◌, ◌++◌, length, map, take, drop, Result, Ok, Err, refl, sym, ap, ◌∙◌, subst, arith}
+use Rattle.std.proofs.Common.{◌≡◌, ℕ, zero, suc, ◌<◌, ◌≤◌, List, [], ◌∷◌, ◌++◌, length, map, take, drop, Result, Ok, Err, refl, sym, ap, ◌∙◌, subst, arith}
+use Rattle.std.proofs.Common.{le_of_suc-le-suc}
 use Rattle.std.proofs.lemmas.List.{map-append, take-append-drop, take_all}
 use Rattle.std.specs.List.{AllByRecursion}
 use Rattle.eco_ids.specs.Lawful.{IsLawful}
 use Rattle.eco_ids.specs.World.{WorldState}
 use Rattle.eco_systems.specs.Batches.{AreBatches, joined}
-use Rattle.eco_systems.specs.Frames.{BatchDraws, BatchRuns, BatchRunsSolo, Outcomes}
+use Rattle.eco_systems.specs.Frames.{AscendingRuns, BatchDraws, BatchRuns, BatchRunsSolo, Outcomes}
 use Rattle.eco_systems.specs.Laws.{FramesAreSolo, StoppedAreSolo}
 use Rattle.eco_systems.specs.Phases.{in_order}
 use Rattle.eco_systems.specs.Systems.{IsLawfulSystem, SystemModel}
 use Rattle.eco_frame.specs.Models.{ArePlaced, model_at}
 use Rattle.eco_frame.specs.Progresses.{HaveRun, RunsBy, done_of}
-use Rattle.eco_frame.specs.Reports.{AscendingRuns, FrameDone, Frames}
+use Rattle.eco_frame.specs.Reports.{FrameDone, Frames}
 use Rattle.eco_frame.specs.declared.progress.Progress.{Progress}
 use Rattle.eco_frame.specs.declared.stop.FrameStop.{FrameStop}
 use Rattle.eco_frame.proofs.Turns.{turns_weaker}
@@ -23,7 +24,13 @@ map_twice f items (v ∷ vs) = ap (λ l. map f (items v) ∷ l) (map_twice f ite
 -- it stopped before its first batch
 pub stopped_at_once : (Way : WorldState → List SystemModel → BatchDraws → Outcomes → WorldState → Type 0) (w : WorldState) (systems : List SystemModel)
     (batches : List (List SystemModel)) → AreBatches w (in_order systems) batches → (stop : FrameStop) → stop.batches ≡ 0 → Frames Way w systems (Err stop) w
-stopped_at_once Way w systems batches h stop none = ([], [], ([], batches, h, (refl, refl)), none)
+stopped_at_once Way w systems batches h stop none = ([], [], ([], batches, h, (refl, refl), λ all. refl), none)
+
+-- behind the first ones some are left
+some_left : {A B : Type 0} (f : A → B) (xs : List A) (k : ℕ) → k < length xs → map f (drop k xs) ≡ [] → ⊥
+some_left f [] k less none = omega (arith, less)
+some_left f (x ∷ xs) zero less none = let long = ap length none in omega (arith, long)
+some_left f (x ∷ xs) (suc k) less none = some_left f xs k (le_of_suc-le-suc less) none
 
 module _ (workers : ℕ) (w new : WorldState) (systems : List SystemModel) {V : Type 0} (items : V → List ℕ) (batches : List V) (p : Progress) where
   -- all batches ran
@@ -34,15 +41,21 @@ module _ (workers : ℕ) (w new : WorldState) (systems : List SystemModel) {V : 
       (h.draws, (map (λ b. map (model_at systems) (items b)) batches, subst (AreBatches w (in_order systems)) (sym shape) placed.1, h.run), h.count, h.drawn)
 
   -- the first ones ran
-  pub some_ran : (k : ℕ) (stop : FrameStop) → stop.batches ≡ length p.reports.items → ArePlaced w systems (map items batches)
+  pub some_ran : (k : ℕ) (stop : FrameStop) → stop.batches ≡ length p.reports.items → k < length batches → ArePlaced w systems (map items batches)
       → HaveRun workers w (map (λ b. map (model_at systems) (items b)) (take k batches)) p new → Frames (RunsBy workers) w systems (Err stop) new
-  some_ran k stop count placed h =
+  some_ran k stop count less placed h =
       let f : V → List SystemModel = λ b. map (model_at systems) (items b) in
       let whole : map f (take k batches) ++ map f (drop k batches) ≡ map (map (model_at systems)) (map items batches) =
       sym (map-append f (take k batches) (drop k batches)) ∙ ap (map f) (take-append-drop k batches) ∙ map_twice (model_at systems) items batches in (
         h.draws,
         joined p.reports.items,
-        (map f (take k batches), map f (drop k batches), subst (AreBatches w (in_order systems)) (sym whole) placed.1, h.run),
+        (
+          map f (take k batches),
+          map f (drop k batches),
+          subst (AreBatches w (in_order systems)) (sym whole) placed.1,
+          h.run,
+          λ none. absurd (some_left f batches k less none),
+        ),
         count ∙ h.count,
       )
 
@@ -62,8 +75,11 @@ module _ (workers : ℕ) (w new : WorldState) {S V : Type 0} (f : S → SystemMo
       (all_ran workers w new (map f systems) items batches p placed
       (subst (λ bs. HaveRun workers w (map (λ b. map (model_at (map f systems)) (items b)) bs) p new) (take_all n batches enough) found))
 
-  pub stopped_frame : (stop : FrameStop) → stop.batches ≡ length p.reports.items → Frames (RunsBy workers) w (map f systems) (Err stop) new
-  stopped_frame stop count = some_ran workers w new (map f systems) items batches p n stop count placed found
+  pub stopped_frame : (stop : FrameStop) → stop.batches ≡ length p.reports.items → n < length those
+      → Frames (RunsBy workers) w (map f systems) (Err stop) new
+  stopped_frame stop count less =
+      let within : n < length batches = let long = ap length alike in omega (arith, less, long) in
+      some_ran workers w new (map f systems) items batches p n stop count within placed found
 
 -- a frame whose batches go in one way is one whose batches go in the other
 frames_weaker : (One Other : WorldState → List SystemModel → BatchDraws → Outcomes → WorldState → Type 0)
@@ -73,7 +89,7 @@ frames_weaker : (One Other : WorldState → List SystemModel → BatchDraws → 
 frames_weaker One Other weaker w systems (Ok r) new h =
     (h.0, (h.1.0, h.1.1, turns_weaker One Other weaker w h.1.0 h.0 r.outcomes new h.1.2), h.2, h.3)
 frames_weaker One Other weaker w systems (Err s) new h =
-    (h.0, h.1, (h.2.0, h.2.1, h.2.2, turns_weaker One Other weaker w h.2.0 h.0 h.1 new h.2.3), h.3)
+    (h.0, h.1, (h.2.0, h.2.1, h.2.2, turns_weaker One Other weaker w h.2.0 h.0 h.1 new h.2.3, h.2.4), h.3)
 
 module _ (workers : ℕ) (w : WorldState) (systems : List SystemModel) (r : Result FrameDone FrameStop) (new : WorldState) where
   pub frame_of : Frames (RunsBy workers) w systems r new → Frames BatchRuns w systems r new

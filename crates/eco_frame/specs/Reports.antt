@@ -1,7 +1,7 @@
 -- What a frame reports.
 use Rattle.std.specs.Prelude.{◌≡◌, ℕ, ◌+◌, List, [], ◌∷◌, length, Result, Ok, Err}
 use Rattle.eco_ids.specs.World.{WorldState}
-use Rattle.eco_systems.specs.Frames.{AreAscending, BatchDraws, BatchRuns, Goes, GoesSoFar, Outcomes, drawn}
+use Rattle.eco_systems.specs.Frames.{BatchDraws, Goes, GoesSoFar, Outcomes, drawn}
 use Rattle.eco_systems.specs.Systems.{SystemModel}
 use Rattle.eco_frame.specs.declared.stop.FrameStop.{FrameStop}
 
@@ -15,10 +15,6 @@ pub record FrameDone : Type 0 where
 abbrev pub drawn_in : List BatchDraws → ℕ
 drawn_in [] = 0
 drawn_in (d ∷ ds) = length (drawn d) + drawn_in ds
-
--- a batch runs, and its draws ascend over all its pieces in order
-abbrev pub AscendingRuns : WorldState → List SystemModel → BatchDraws → Outcomes → WorldState → Type 0
-AscendingRuns w batch draws outcomes new = BatchRuns w batch draws outcomes new × AreAscending (length w.indices) draws
 
 module _ (Way : WorldState → List SystemModel → BatchDraws → Outcomes → WorldState → Type 0) where
   -- a frame of systems whose batches go in this way, and its report; or how many of its batches had gone when it stopped

@@ -15,7 +15,7 @@ use crate::progress::Progress;
 use eco_bodies::{System, SystemBody};
 use eco_ids::Refusal;
 use eco_stages::Stage;
-use eco_workers::{Piece, run_alone, run_batch};
+use eco_workers::{Piece, count_pieces, run_alone, run_batch};
 use eco_world::World;
 use std::alloc::Global;
 use std::mem::replace;
@@ -97,7 +97,10 @@ fn record_pieces<P: Piece + Sync, R: Threads + Sync>(
     ensures why { IfErr result (λ e. IsStopped e) }
     ensures out { IfErr result (λ e. e ≡ NoMoreIds
         → IsOut (by_index P.commands) (by_index P.taken) pieces.now base limit) }
+    ensures few { OnOk result (length pieces.now ≤ 16777216) }
 {
+    // However many workers there are, it stops at the same number of pieces.
+    count_pieces(pieces)?;
     if workers == 1 {
         return record_alone(alloc, spare, pieces, base, limit);
     }

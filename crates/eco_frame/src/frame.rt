@@ -1,13 +1,13 @@
 //! Frames: all batches of a list of systems, one after another.
-ghost use Rattle.std.specs.Prelude.{◌≡◌, ◌<◌, ◌≤◌, [], length, map, take, vec_capacity, vec_len, Err, IfErr, OnOk};
+ghost use Rattle.std.specs.Prelude.{◌≡◌, ◌<◌, ◌≤◌, [], length, map, take, vec_capacity, vec_len, Err, IfErr, OnErr, OnOk};
 ghost use Rattle.std.specs.List.{All, AllByRecursion};
 ghost use Rattle.eco_ids.specs.declared.refusal.Refusal.TheVariants.{NoMoreIds, OutOfMemory};
-ghost use Rattle.eco_systems.specs.Frames.{BatchRuns, BatchRunsSolo};
+ghost use Rattle.eco_systems.specs.Frames.{AscendingRuns, BatchRuns, BatchRunsSolo};
 ghost use Rattle.eco_systems.specs.Systems.{IsLawfulSystem};
 ghost use Rattle.eco_workers.specs.Taking.{IsStopped};
 ghost use Rattle.eco_frame.specs.Models.{ArePlaced, model_at, model_of};
 ghost use Rattle.eco_frame.specs.Progresses.{HaveRun};
-ghost use Rattle.eco_frame.specs.Reports.{AscendingRuns, Frames};
+ghost use Rattle.eco_frame.specs.Reports.{Frames};
 ghost use Rattle.eco_frame.specs.Stops.{IsNextOut, IsWhy};
 
 use crate::batch::run_next;
@@ -73,6 +73,7 @@ fn run_all<B: SystemBody + Sync, R: Threads + Sync>(
         (model_at (map (model_of B.reads_of B.writes_of B.kills_of B.taken B.commands) systems.now)) b.items)
         (take (vec_len done.new.reports) batches.now)) done.new world.new }
     ensures all { OnOk result (vec_len done.new.reports ≡ length batches.now) }
+    ensures left { OnErr result (vec_len done.new.reports < length batches.now) }
     ensures why { IfErr result (λ e. IsStopped e) }
     ensures out { IfErr result (λ e. e ≡ NoMoreIds → IsNextOut B.taken B.commands world.new systems.now
         (map (λ b. b.items) batches.now) (vec_len done.new.reports)) }
@@ -138,8 +139,7 @@ pub(crate) fn run_batches<B: SystemBody + Sync + Drop, R: Threads + Sync>(
 /// are; which row draws which handle may differ. With one worker handles are drawn in the order of the rows.
 ///
 /// It stops at a batch that is refused: with `NoMoreIds` where the rows of the batch draw more fresh handles than there are
-/// indices left, and with `OutOfMemory` where memory is refused, or where more workers than one record a batch of more than
-/// 16,777,216 pieces of 64 rows.
+/// indices left, and with `OutOfMemory` where memory is refused, or where the batch has more than 16,777,216 pieces of 64 rows.
 /// The batches before it are merged then, and nothing else is done. A command that finds no memory is no reason to stop: its
 /// outcome is `OutOfMemory`.
 pub fn run_frame<B: SystemBody + Sync + Drop, R: Threads + Sync>(

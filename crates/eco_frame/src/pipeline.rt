@@ -1,10 +1,10 @@
 //! Listed systems with their batches, which are kept from frame to frame.
 ghost use Rattle.std.specs.Prelude.{◌≡◌, ◌≤◌, map, IfErr, IfOk, OnOk};
 ghost use Rattle.eco_batches.specs.Plans.{batches_in};
-ghost use Rattle.eco_systems.specs.Frames.{BatchRuns, BatchRunsSolo};
+ghost use Rattle.eco_systems.specs.Frames.{AscendingRuns, BatchRuns, BatchRunsSolo};
 ghost use Rattle.eco_frame.specs.Models.{ArePlaced, model_of};
 ghost use Rattle.eco_frame.specs.Pipelines.{IsPlanOf};
-ghost use Rattle.eco_frame.specs.Reports.{AscendingRuns, Frames};
+ghost use Rattle.eco_frame.specs.Reports.{Frames};
 ghost use Rattle.eco_frame.specs.Stops.{IsWhy};
 
 use crate::frame::{run_batches, stop_at_once};

@@ -1,10 +1,11 @@
 -- One step after another, and steps that nothing keeps from running.
-use Rattle.std.proofs.Common.{subst, ◌≤◌, ◌≡◌, ℕ, ◌+◌, ◌<◌, List, [], ◌∷◌, ◌++◌, length, map, take, drop, get_or, Option, Some, None, refl, ap, ◌∙◌, sym}
+use Rattle.std.proofs.Common.{subst, ◌≤◌, ◌≡◌, ℕ, ◌+◌, ◌<◌, List, [], ◌∷◌, ◌++◌, length, map, take, drop, get_or, Option, Some, None, IsSomeAnd, refl, ap, ◌∙◌, sym}
 use Rattle.std.proofs.Common.{append_assoc, inr}
 use Rattle.std.proofs.KnownBytes.{Appends-trans}
 use Rattle.std.proofs.lemmas.List.{append-nil, take_all, take_more, map-append, take-append-drop}
 use Rattle.std.specs.Io.KnownBytes.{Appends, Consumes, IsAtEnd, Keeps}
-use Rattle.eco_script.specs.Run.{IsTextOf, WasNotRead}
+use Rattle.eco_ids.specs.World.{WorldState}
+use Rattle.eco_script.specs.Run.{IsTextOf, Ran, RanTo, WasNotRead}
 use Rattle.std.specs.Prelude.{◌⊎◌}
 use Rattle.serde_json.specs.Data.{Data}
 use Rattle.serde_json.specs.Read.{read}
@@ -78,9 +79,9 @@ module _ {X : Type 0} (f : X → Step) (xs : List X) where
 
   -- all steps were run, and the rest was written
   pub gathered_all : (i : ℕ) (w e : ScriptState) (a b c : Option (List ℕ)) (rest : List ℕ) → length xs ≤ i → Gathered i w e a b rest → Appends b c rest
-      → (text : List ℕ) × (last : ScriptState) × Text w (map f xs) text last × Appends a c text
+      → (text : List ℕ) × (last : ScriptState) × Text w (map f xs) text last × (last.world ≡ e.world) × Appends a c text
   gathered_all i w e a b c rest end (done, p, h) k =
-      (done ++ rest, e, subst (λ ys. Text w (map f ys) (done ++ rest) e) (take_all i xs end) p, Appends-trans a b c done rest h k)
+      (done ++ rest, e, subst (λ ys. Text w (map f ys) (done ++ rest) e) (take_all i xs end) p, refl, Appends-trans a b c done rest h k)
 
   -- the run stops between two steps
   pub stopped_between : TextsRead → (i : ℕ) (w m : ScriptState) (a b : Option (List ℕ)) (rest : List ℕ) → Gathered i w m a b rest → Stopped w a b
@@ -104,11 +105,18 @@ text_of : (bytes : List ℕ) (script : Script) (w e : ScriptState) (ss : List St
     → Text w ss t e → IsTextOf bytes t
 text_of bytes script w e ss t is at_start are h = (script, e, is, Text-at w (first_state script.limit) e ss script.steps t at_start are h)
 
-pub ran_bytes : (bytes : List ℕ) (script : Script) (w : ScriptState) (ss : List Step) (a b : Option (List ℕ))
+pub ran_bytes : (bytes : List ℕ) (script : Script) (w : ScriptState) (ss : List Step) (world : WorldState) (a b : Option (List ℕ))
     → IsScript bytes script → w ≡ first_state script.limit → ss ≡ script.steps
-    → ((t : List ℕ) × (e : ScriptState) × Text w ss t e × Appends a b t)
-    → (t : List ℕ) × IsTextOf bytes t × Appends a b t
-ran_bytes bytes script w ss a b is at_start are (t, e, h, k) = (t, text_of bytes script w e ss t is at_start are h, k)
+    → ((t : List ℕ) × (e : ScriptState) × Text w ss t e × (e.world ≡ world) × Appends a b t)
+    → RanTo (Some bytes) a b world
+ran_bytes bytes script w ss world a b is at_start are (t, e, h, ends, k) =
+    (t, (script, e, is, Text-at w (first_state script.limit) e ss script.steps t at_start are h, ends), k)
+
+-- a run to a world is a run
+pub ran_some : (left : Option (List ℕ)) (a b : Option (List ℕ)) (end : Option WorldState) → IsSomeAnd end (RanTo left a b) → Ran left a b
+ran_some None a b end h = tt
+ran_some (Some bytes) a b None h = absurd h
+ran_some (Some bytes) a b (Some world) (t, (script, e, is, text, ends), k) = (t, (script, e, is, text), k)
 
 pub stopped_bytes : (bytes : List ℕ) (script : Script) (w : ScriptState) (ss : List Step) (a b : Option (List ℕ))
     → IsScript bytes script → w ≡ first_state script.limit → ss ≡ script.steps
@@ -127,5 +135,13 @@ pub not_read_to_end : (left after : Option (List ℕ)) (bytes : List ℕ) (a b :
 not_read_to_end None after bytes a b p q h = h.0
 not_read_to_end (Some xs) None bytes a b p q h = absurd p
 not_read_to_end (Some xs) (Some ys) bytes a b p q h =
+    let whole : xs ≡ bytes = p ∙ ap (λ t. bytes ++ t) q ∙ append-nil bytes in
+    rw whole h
+
+pub ran_to_end : (left after : Option (List ℕ)) (bytes : List ℕ) (a b : Option (List ℕ)) (world : WorldState) → Consumes left after bytes
+    → IsAtEnd after → RanTo (Some bytes) a b world → RanTo left a b world
+ran_to_end None after bytes a b world p q h = tt
+ran_to_end (Some xs) None bytes a b world p q h = absurd p
+ran_to_end (Some xs) (Some ys) bytes a b world p q h =
     let whole : xs ≡ bytes = p ∙ ap (λ t. bytes ++ t) q ∙ append-nil bytes in
     rw whole h

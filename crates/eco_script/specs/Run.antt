@@ -1,7 +1,8 @@
 -- What a run of the program writes.
-use Rattle.std.specs.Prelude.{◌⊎◌, ℕ, List, Option, Some, None, ⊤}
+use Rattle.std.specs.Prelude.{◌≡◌, ◌⊎◌, ℕ, List, Option, Some, None, ⊤}
 use Rattle.std.specs.Io.KnownBytes.{Appends, Keeps}
 use Rattle.eco_devices.specs.Beginning.{IsBeginning}
+use Rattle.eco_ids.specs.World.{WorldState}
 use Rattle.eco_steps.specs.Script.{Script, IsScript}
 use Rattle.eco_script.specs.States.{ScriptState, first_state}
 use Rattle.eco_script.specs.Text.{Text}
@@ -10,6 +11,11 @@ use Rattle.eco_script.specs.Text.{Text}
 abbrev pub IsTextOf : List ℕ → List ℕ → Type 0
 IsTextOf bytes text = (script : Script) × (end : ScriptState) × IsScript bytes script × Text (first_state script.limit) script.steps text end
 
+-- likewise, and the run ends with this world
+abbrev pub IsRunOf : List ℕ → List ℕ → WorldState → Type 0
+IsRunOf bytes text world =
+    (script : Script) × (end : ScriptState) × IsScript bytes script × Text (first_state script.limit) script.steps text end × (end.world ≡ world)
+
 -- Each of these is said of the bytes that the reader had, and of those that the writer held before and after. Of a device
 -- that tells no bytes nothing is said.
 
@@ -17,6 +23,11 @@ IsTextOf bytes text = (script : Script) × (end : ScriptState) × IsScript bytes
 abbrev pub Ran : Option (List ℕ) → Option (List ℕ) → Option (List ℕ) → Type 0
 Ran None old new = ⊤
 Ran (Some bytes) old new = (text : List ℕ) × IsTextOf bytes text × Appends old new text
+
+-- likewise, and the run that has this text ends with this world
+abbrev pub RanTo : Option (List ℕ) → Option (List ℕ) → Option (List ℕ) → WorldState → Type 0
+RanTo None old new world = ⊤
+RanTo (Some bytes) old new world = (text : List ℕ) × IsRunOf bytes text world × Appends old new text
 
 -- the bytes are no script, and nothing was written
 abbrev pub WasNotRead : Option (List ℕ) → Option (List ℕ) → Option (List ℕ) → Type 0

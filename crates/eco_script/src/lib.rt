@@ -13,5 +13,5 @@ mod shown_value;
 pub mod status;
 
 pub use eco_devices::{Counted, DeviceFailed, MOST_READS, ScriptReader, ScriptWriter};
-pub use run::run_script;
+pub use run::{run_script, run_world};
 pub use status::Status;

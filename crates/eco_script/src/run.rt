@@ -1,9 +1,9 @@
 //! Runs of scripts.
 
-ghost use Rattle.std.specs.Prelude.{◌≡◌, ◌≢◌, ℕ, ◌+◌, ◌^◌, ◌<◌, ◌≤◌, List, [], ◌++◌, Some, OnOk, OnErr, IsErrOf, map, string_bytes};
+ghost use Rattle.std.specs.Prelude.{◌≡◌, ◌≢◌, ℕ, ◌+◌, ◌^◌, ◌<◌, ◌≤◌, List, [], ◌++◌, Some, IfOk, OnOk, OnErr, IsErrOf, IsNone, IsSomeAnd, map, string_bytes};
 ghost use Rattle.std.specs.Io.KnownBytes.{Appends};
 ghost use Rattle.eco_devices.specs.Beginning.{IsBeginning};
-ghost use Rattle.eco_script.specs.Run.{Ran, WasNotRead, WasStopped};
+ghost use Rattle.eco_script.specs.Run.{Ran, RanTo, WasNotRead, WasStopped};
 ghost use Rattle.eco_script.specs.States.{ScriptState};
 ghost use Rattle.eco_script.specs.Systems.{reached};
 ghost use Rattle.eco_script.specs.Text.{Does, Text};
@@ -59,7 +59,7 @@ fn write_many<W: ScriptWriter>(writer: &mut W, text: &mut String) -> Result<(), 
     Ok(())
 }
 
-// Runs the steps on a world, and writes their lines.
+// Runs the steps on a world, and writes their lines. The world is then the one that they lead to.
 fn run_steps<R: Threads + Sync, W: ScriptWriter>(
     rt: &R,
     alloc: Global,
@@ -71,7 +71,7 @@ fn run_steps<R: Threads + Sync, W: ScriptWriter>(
     requires workers { (1 ≤ workers) × (workers ≤ 64) }
     requires countable { W.failures writer.old + 1 < 2 ^ 64 }
     ensures ok { OnOk result ((text : List ℕ) × (end : ScriptState)
-        × Text (reached world.old []) (map step_view steps.now) text end
+        × Text (reached world.old []) (map step_view steps.now) text end × (end.world ≡ world.new)
         × Appends (W.held writer.old) (W.held writer.new) text) }
     ensures err { OnErr result ((part : List ℕ) × (text : List ℕ) × (end : ScriptState)
         × Text (reached world.old []) (map step_view steps.now) text end
@@ -96,17 +96,17 @@ fn run_steps<R: Threads + Sync, W: ScriptWriter>(
     }
 }
 
-// Runs the script that some bytes are, and says why it gave up.
+// Runs the script that some bytes are, to the world that it leads to, or says why it gave up.
 fn run_bytes<R: Threads + Sync, W: ScriptWriter>(
     rt: &R,
     alloc: Global,
     bytes: &[u8],
     writer: &mut W,
     workers: u32,
-) -> Result<(), Fault>
+) -> Result<World, Fault>
     requires workers { (1 ≤ workers) × (workers ≤ 64) }
     requires countable { W.failures writer.old + 1 < 2 ^ 64 }
-    ensures ok { OnOk result (Ran (Some bytes.now) (W.held writer.old) (W.held writer.new)) }
+    ensures ok { IfOk result (RanTo (Some bytes.now) (W.held writer.old) (W.held writer.new)) }
     ensures not_read { IsErrOf result Fault.NotRead
         → WasNotRead (Some bytes.now) (W.held writer.old) (W.held writer.new) }
     ensures err { OnErr result (WasStopped (Some bytes.now) (W.held writer.old) (W.held writer.new)) }
@@ -132,7 +132,49 @@ fn run_bytes<R: Threads + Sync, W: ScriptWriter>(
         workers,
         script.steps.as_slice(),
         writer,
-    )
+    )?;
+    Ok(world)
+}
+
+/// Reads a script to the end of the input, and runs it on a world of its own. Its lines go to the writer in the
+/// order of the steps, many at a time. The world that the run ended with comes back where all of its lines were written,
+/// and only there.
+///
+/// Frames of the script's systems have so many workers, 1 to 64, of which the calling thread is one. How many there are changes
+/// nothing but which row of a frame draws which fresh handle.
+pub fn run_world<T: Threads + Sync, R: ScriptReader, W: ScriptWriter>(
+    rt: &T,
+    alloc: Global,
+    reader: &mut R,
+    writer: &mut W,
+    workers: u32,
+) -> (Status, Option<World>)
+    requires workers { (1 ≤ workers) × (workers ≤ 64) }
+    requires reads { R.calls reader.old + 16777216 < 2 ^ 64 }
+    requires failed_reads { R.failures reader.old + 1 < 2 ^ 64 }
+    requires failed_writes { W.failures writer.old + 1 < 2 ^ 64 }
+    // The bytes are a script, the text of a run of it was written, and the world is the end of that run.
+    ensures ran { result.0 ≡ Status.Ran → IsSomeAnd result.1
+        (RanTo (R.remaining reader.old) (W.held writer.old) (W.held writer.new)) }
+    // The bytes are no script, and nothing was written.
+    ensures not_read { result.0 ≡ Status.NotRead
+        → WasNotRead (R.remaining reader.old) (W.held writer.old) (W.held writer.new) }
+    // Nothing was written, or a beginning of such a text.
+    ensures stopped { result.0 ≡ Status.Stopped
+        → WasStopped (R.remaining reader.old) (W.held writer.old) (W.held writer.new) }
+    ensures no_other { result.0 ≢ Status.BadArguments }
+    ensures no_world { result.0 ≢ Status.Ran → IsNone result.1 }
+    ensures reads { R.calls reader.new ≤ R.calls reader.old + 16777216 }
+{
+    let bytes = match eco_devices::read_all(alloc, reader) {
+        Ok(bytes) => bytes,
+        Err(_) => return (Status::Stopped, None),
+    };
+    match run_bytes(rt, alloc, bytes.as_slice(), writer, workers) {
+        Ok(world) => (Status::Ran, Some(world)),
+        Err(Fault::NotRead) => (Status::NotRead, None),
+        Err(_) => (Status::Stopped, None),
+    }
 }
 
 /// Reads a script to the end of the input, and runs it on a world of its own. Its lines go to the writer in the
@@ -162,13 +204,5 @@ pub fn run_script<T: Threads + Sync, R: ScriptReader, W: ScriptWriter>(
     ensures no_other { result ≢ Status.BadArguments }
     ensures reads { R.calls reader.new ≤ R.calls reader.old + 16777216 }
 {
-    let bytes = match eco_devices::read_all(alloc, reader) {
-        Ok(bytes) => bytes,
-        Err(_) => return Status::Stopped,
-    };
-    match run_bytes(rt, alloc, bytes.as_slice(), writer, workers) {
-        Ok(()) => Status::Ran,
-        Err(Fault::NotRead) => Status::NotRead,
-        Err(_) => Status::Stopped,
-    }
+    run_world(rt, alloc, reader, writer, workers).0
 }

@@ -1,5 +1,7 @@
 -- What commands answered.
-use Rattle.std.specs.Prelude.{ℕ, List, [], ◌∷◌, ◌++◌, flat_map, replicate, Option, Some, None, Result, Ok, Err}
+use Rattle.std.specs.Prelude.{ℕ, Bool, true, false, ◌&&◌, List, [], ◌∷◌, ◌++◌, flat_map, replicate, Option, Some, None, Result, Ok, Err}
+use Rattle.std.specs.Bool.{beq}
+use Rattle.eco_ids.specs.Outcome.{is_out_of_memory}
 use Rattle.eco_ids.specs.declared.refusal.Refusal.{Refusal}
 use Rattle.eco_stages.specs.declared.outcomes.Refused.{Refused}
 
@@ -23,6 +25,13 @@ outcomes_of refused done = flat_map until_refused refused ++ all_done done
 abbrev pub left : ℕ → Option Refusal → List Refused → ℕ → Outcomes
 left done None rest last = all_done done
 left done (Some refusal) rest last = all_done done ++ Err refusal ∷ outcomes_of rest last
+
+-- both are of the same number of commands, and memory was wanting for the same of them
+abbrev pub alike : Outcomes → Outcomes → Bool
+alike [] [] = true
+alike [] (q ∷ qs) = false
+alike (r ∷ rs) [] = false
+alike (r ∷ rs) (q ∷ qs) = beq (is_out_of_memory q) (is_out_of_memory r) && alike rs qs
 
 -- what is written, in order, and for how many outcomes there is room in all
 pub record Written : Type 0 where

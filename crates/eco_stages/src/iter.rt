@@ -3,7 +3,8 @@ ghost use Rattle.std.specs.Prelude.{◌≡◌, length};
 ghost use Rattle.std.specs.Iterator.{at_most};
 ghost use Rattle.std.specs.Map.Iter.{TakesFirst};
 ghost use Rattle.std.specs.Slice.Iter.{iter_rest};
-ghost use Rattle.eco_stages.specs.Outcomes.{left, outcomes_of};
+ghost use Rattle.eco_ids.specs.Outcome.{is_out_of_memory};
+ghost use Rattle.eco_stages.specs.Outcomes.{alike, left, outcomes_of};
 
 use crate::outcomes::Refused;
 use eco_ids::Refusal;
@@ -54,6 +55,33 @@ fn take_next(rest: &mut slice::Iter<'_, Refused>, last: usize) -> (usize, Option
     match rest.next() {
         Some(next) => (next.done, Some(next.refusal)),
         None => (last, None),
+    }
+}
+
+// Whether memory was wanting.
+fn wants_memory(outcome: &Result<(), Refusal>) -> bool
+    ensures { result ≡ is_out_of_memory outcome.now }
+{
+    match outcome {
+        Ok(()) => false,
+        Err(Refusal::OutOfMemory) => true,
+        Err(_) => false,
+    }
+}
+
+impl Iter<'_> {
+    /// Whether both have the same number of outcomes left, and memory was wanting for the same commands.
+    pub(crate) fn is_alike(self, other: Iter<'_>) -> bool
+        ensures { result ≡ alike self.entry other.entry }
+    {
+        let (mut own, mut others) = (self, other);
+        while let Some(outcome) = own.next() {
+            match others.next() {
+                Some(other) if wants_memory(&other) == wants_memory(&outcome) => {}
+                _ => return false,
+            }
+        }
+        others.next().is_none()
     }
 }
 

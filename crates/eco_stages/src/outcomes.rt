@@ -92,4 +92,16 @@ impl Outcomes {
     {
         self.count
     }
+
+    /// The same outcomes once more. An `Err` comes where memory is refused.
+    pub fn try_copy(&self) -> Result<Outcomes, AllocError>
+        ensures { IfOk result (λ copy. copy.outcomes ≡ self.now.outcomes) }
+    {
+        let refused = Vec::from_slice(*self.refused.allocator(), self.refused.as_slice())?;
+        Ok(Outcomes {
+            refused,
+            done: self.done,
+            count: self.count,
+        })
+    }
 }

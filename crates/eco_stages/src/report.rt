@@ -1,8 +1,10 @@
 //! What the commands of a merge answered.
-ghost use Rattle.std.specs.Prelude.{◌≡◌, ◌==◌, length};
+ghost use Rattle.std.specs.Prelude.{◌≡◌, ◌==◌, IfOk, length};
+ghost use Rattle.eco_stages.specs.Outcomes.{alike};
 
 use crate::iter::Iter;
 use crate::outcomes::Outcomes;
+use std::alloc::AllocError;
 use std::marker::Model;
 
 /// The outcome of each command of a merge, in the order in which they ran: done, or why it was refused.
@@ -53,5 +55,21 @@ impl Report {
         ensures { result ≡ (length self.now == 0) }
     {
         self.outcomes.len() == 0
+    }
+
+    /// The same report once more. An `Err` comes where memory is refused.
+    pub fn try_copy(&self) -> Result<Report, AllocError>
+        ensures { IfOk result (λ copy. copy ≡ self.now) }
+    {
+        let outcomes = self.outcomes.try_copy()?;
+        Ok(Report { outcomes })
+    }
+
+    /// Whether both tell of the same number of commands, and memory was wanting for the same of them. Of two merges of the same
+    /// commands into the same world this is all that can differ.
+    pub fn is_alike(&self, other: &Report) -> bool
+        ensures { result ≡ alike self.now other.now }
+    {
+        self.iter().is_alike(other.iter())
     }
 }

@@ -1,9 +1,9 @@
 //! A list of commands.
-ghost use Rattle.std.specs.Prelude.{◌≡◌, ◌==◌, ◌++◌, ◌∷◌, [], length, IfErr, OnErr, OnOk};
+ghost use Rattle.std.specs.Prelude.{◌≡◌, ◌==◌, ◌+◌, ◌≤◌, ◌++◌, ◌∷◌, [], length, take, vec_capacity, vec_len, IfErr, OnErr, OnOk};
 ghost use Rattle.eco_stages.specs.Commands.{command_of, commands_of};
 
 use crate::command::Command;
-use std::alloc::Global;
+use std::alloc::{AllocError, Global};
 use std::marker::Model;
 
 /// Commands in the order in which they were recorded. Whoever records needs the stage alone, no world: so threads record side
@@ -80,4 +80,35 @@ impl Stage {
     {
         self.commands.clear();
     }
+
+    /// The other stage's commands come last, in their order, each copied. An `Err` comes where memory is refused, and leaves the
+    /// stage as it was.
+    pub fn record_copies(&mut self, other: &Stage) -> Result<(), AllocError>
+        ensures ok { OnOk result (self.new ≡ self.old ++ other.now) }
+        ensures err { OnErr result (self.new ≡ self.old) }
+    {
+        let count = self.commands.len();
+        self.commands.reserve(other.len())?;
+        match push_copies(&mut self.commands, other.commands()) {
+            Ok(()) => Ok(()),
+            Err(refused) => {
+                self.commands.truncate(count);
+                Err(refused)
+            }
+        }
+    }
+}
+
+// Copies of the commands come last, in room that is there. An `Err` leaves those that were copied until then.
+fn push_copies(list: &mut Vec<Command>, commands: &[Command]) -> Result<(), AllocError>
+    requires { vec_len list.old + length commands.now ≤ vec_capacity list.old }
+    ensures ok { OnOk result (commands_of list.new.items ≡ commands_of list.old.items ++ commands_of commands.now) }
+    ensures err { OnErr result (take (vec_len list.old) list.new.items ≡ list.old.items) }
+{
+    let alloc = *list.allocator();
+    for command in commands {
+        let copy = command.try_copy(alloc)?;
+        list.push_reserved(copy);
+    }
+    Ok(())
 }

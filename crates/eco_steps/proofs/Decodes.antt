@@ -43,7 +43,7 @@ stage_found d cs (items, is, are) = rw (is, items_list-items_of items) (each_fou
 stages_found : (d : Data) (stages : List (List Command)) → IsStagesData d stages → stages_in d ≡ Some stages
 stages_found d stages (items, is, are) = rw (is, items_list-items_of items) (each_found stage_in IsStageData stage_found items stages are)
 
-step_found : (d : Data) (s : Step) → IsStepData d s → step_in d ≡ Some s
+pub step_found : (d : Data) (s : Step) → IsStepData d s → step_in d ≡ Some s
 step_found d (create None) is = rw is refl
 step_found d (create (Some name)) is = rw is refl
 step_found d (component name n) (is, low, high) = rw (is, number_in_range 1 LARGEST_ARITY n low high) refl
@@ -243,7 +243,7 @@ step_with_is w ds s e =
     chosen _ (bytes_eq w (codes "merge")) _ _ s e (merge_is w ds s)
     (λ f. chosen _ (bytes_eq w (codes "system")) _ _ s f (system_is w ds s) (step_of_is w ds s))
 
-step_is : (d : Data) (s : Step) → step_in d ≡ Some s → IsStepData d s
+pub step_is : (d : Data) (s : Step) → step_in d ≡ Some s → IsStepData d s
 step_is d s e =
     option_and_then_some (λ p. step_with p.0 p.1) (words_in d) s e
     (λ p is h. rw (words_is d p.0 p.1 is) (step_with_is p.0 p.1 s h))

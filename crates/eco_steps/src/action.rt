@@ -81,7 +81,7 @@ impl<'a> Action<'a> {
     }
 
     /// The action that a value is, if it is one.
-    pub(crate) fn read(value: &'a Value) -> Option<Action<'a>>
+    pub fn read(value: &'a Value) -> Option<Action<'a>>
         ensures { option_map action_view result ≡ action_in (view value.now) }
     {
         let (word, arguments) = read_words(value)?;

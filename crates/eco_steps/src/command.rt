@@ -66,7 +66,7 @@ impl<'a> Command<'a> {
     }
 
     /// The command that a value is, if it is one.
-    pub(crate) fn read(value: &'a Value) -> Option<Command<'a>>
+    pub fn read(value: &'a Value) -> Option<Command<'a>>
         ensures { option_map command_view result ≡ command_in (view value.now) }
     {
         Command::of_step(Step::read_alone(value)?)

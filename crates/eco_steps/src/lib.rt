@@ -16,9 +16,11 @@ mod step;
 
 pub use action::Action;
 pub use actions::Actions;
+pub use arguments::{read_list, read_name, read_number, read_value, read_words};
 pub use arity::Arity;
 pub use command::Command;
 pub use commands::Commands;
+pub use phase::read_phase;
 pub use read_error::ReadError;
 pub use script::Script;
 pub use stages::Stages;

@@ -244,7 +244,7 @@ impl<'a> Step<'a> {
     }
 
     /// The step that a value is, if it is one.
-    pub(crate) fn read(value: &'a Value) -> Option<Step<'a>>
+    pub fn read(value: &'a Value) -> Option<Step<'a>>
         ensures { option_map step_view result ≡ step_in (view value.now) }
     {
         let (word, arguments) = read_words(value)?;

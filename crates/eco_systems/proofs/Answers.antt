@@ -41,7 +41,7 @@ pub record Alike (seen : Id → Bool) (xs ys : List Id) : Type 0 where
   pub vp : IsTrue (is_ascending id_cmp ys)
   pub same : (i : Id) → IsTrue (seen i) → has_item id_cmp xs i ≡ has_item id_cmp ys i
 
-exact_match : (i : Id) → IsTrue (pattern_matches (exactly i) i)
+pub exact_match : (i : Id) → IsTrue (pattern_matches (exactly i) i)
 exact_match (id.One e) = entity_eq_itself e
 exact_match (id.Two r t) = both _ _ (entity_eq_itself r) (entity_eq_itself t)
 
@@ -104,7 +104,7 @@ abbrev pub IsRead : (Id → Bool) → Option Id → Type 0
 IsRead seen None = Unit {0}
 IsRead seen (Some i) = IsTrue (seen i)
 
-found_item : (t : Id → Bool) (is : List Id) → AllByRecursion (λ i. IsTrue (matches_one (map exactly is) i)) (option_to_list (find t is))
+pub found_item : (t : Id → Bool) (is : List Id) → AllByRecursion (λ i. IsTrue (matches_one (map exactly is) i)) (option_to_list (find t is))
 found_item t [] = tt
 found_item t (i ∷ is) =
     elim (t i) as (λ b. AllByRecursion (λ j. IsTrue (pattern_matches (exactly i) j || matches_one (map exactly is) j))

@@ -300,7 +300,7 @@ frame_is_solo w systems draws outcomes new l laws h = (
 -- and so is what was done of one that stopped
 pub part_is_solo : StoppedAreSolo
 part_is_solo w systems draws outcomes new l laws h =
-    (h.0, h.1, h.2, all_in_turn w h.0 h.1 (in_order systems) draws outcomes new l (all_in_order IsLawfulSystem systems laws) h.2 h.3)
+    (h.0, h.1, h.2, all_in_turn w h.0 h.1 (in_order systems) draws outcomes new l (all_in_order IsLawfulSystem systems laws) h.2 h.3, h.4)
 
 -- a frame, also one that stopped, leaves a lawful world lawful
 lawful_in_turn : (batches : List (List SystemModel)) (w : WorldState) (draws : List BatchDraws) (outcomes : Outcomes) (new : WorldState) → IsLawful w →

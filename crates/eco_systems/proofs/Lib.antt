@@ -1,13 +1,14 @@
-mod Answers
+pub mod Answers
 mod BatchesExist
 mod ClosedLists
 mod Covered
+mod Decided
 mod FrameRows
 mod Frames
 mod FramesExist
 mod FreshDraws
 mod JoinedOneByOne
-mod Lists
+pub mod Lists
 mod OneCut
 mod Orders
 mod Rows

@@ -58,6 +58,10 @@ abbrev pub BatchRuns : WorldState → List SystemModel → BatchDraws → Outcom
 BatchRuns w batch draws outcomes new =
     MayAdmit w draws × (commands : List Command) × BatchRecords w batch draws commands × Runs (with_admitted (length (drawn draws)) w) commands outcomes new
 
+-- the same, where the draws ascend over all pieces in order
+abbrev pub AscendingRuns : WorldState → List SystemModel → BatchDraws → Outcomes → WorldState → Type 0
+AscendingRuns w batch draws outcomes new = BatchRuns w batch draws outcomes new × AreAscending (length w.indices) draws
+
 -- each system is recorded on the world that was reached, and run, before the next
 abbrev pub OneByOne : WorldState → List SystemModel → BatchDraws → Outcomes → WorldState → Type 0
 OneByOne w [] [] outcomes new = (outcomes ≡ []) × (new ≡ w)
@@ -85,10 +89,11 @@ module _ (Way : WorldState → List SystemModel → BatchDraws → Outcomes → 
   abbrev pub Goes : WorldState → List SystemModel → List BatchDraws → Outcomes → WorldState → Type 0
   Goes w systems draws outcomes new = (batches : List (List SystemModel)) × AreBatches w (in_order systems) batches × InTurn w batches draws outcomes new
 
-  -- the same of the first of them, up to a stop
+  -- the same of the first of them, up to a stop: some are left, unless there are none at all
   abbrev pub GoesSoFar : WorldState → List SystemModel → List BatchDraws → Outcomes → WorldState → Type 0
   GoesSoFar w systems draws outcomes new =
-      (done : List (List SystemModel)) × (rest : List (List SystemModel)) × AreBatches w (in_order systems) (done ++ rest) × InTurn w done draws outcomes new
+      (done : List (List SystemModel)) × (rest : List (List SystemModel)) × AreBatches w (in_order systems) (done ++ rest)
+      × InTurn w done draws outcomes new × (rest ≡ [] → done ≡ [])
 
 -- a frame of systems, given in the order of declaration
 abbrev pub IsFrame : WorldState → List SystemModel → List BatchDraws → Outcomes → WorldState → Type 0
@@ -97,6 +102,10 @@ IsFrame = Goes BatchRuns
 -- the run of its systems one by one
 abbrev pub IsSolo : WorldState → List SystemModel → List BatchDraws → Outcomes → WorldState → Type 0
 IsSolo = Goes BatchRunsSolo
+
+-- a frame of one worker
+abbrev pub IsFrameAlone : WorldState → List SystemModel → List BatchDraws → Outcomes → WorldState → Type 0
+IsFrameAlone = Goes AscendingRuns
 
 -- a frame that stopped: some of its batches, from the first on, and nothing else
 abbrev pub IsFrameSoFar : WorldState → List SystemModel → List BatchDraws → Outcomes → WorldState → Type 0

@@ -1,18 +1,19 @@
 -- The laws above the definitions, as the contracts of `src/laws.rt` cite them.
-use Rattle.std.specs.Prelude.{◌≡◌, ◌↔◌, ℕ, Bool, IsTrue, List, [], ◌∷◌, ◌++◌, length, map, slice_get, Some, None, Err, ◌⊎◌}
-use Rattle.std.specs.List.{AllByRecursion}
+use Rattle.std.specs.Prelude.{◌≡◌, ◌↔◌, ℕ, Bool, not, IsTrue, List, [], ◌∷◌, ◌++◌, length, map, slice_get, Some, None, Err, ◌⊎◌}
+use Rattle.std.specs.List.{AllByRecursion, list_all}
 use Rattle.eco_ids.specs.declared.entity.Entity.{Entity}
 use Rattle.eco_ids.specs.declared.entity.TheConstants.{WITH}
 use Rattle.eco_ids.specs.declared.pattern.Pattern.{Pattern}
 use Rattle.eco_ids.specs.declared.refusal.Refusal.{Refusal}
 use Rattle.eco_ids.specs.Lawful.{IsLawful}
 use Rattle.eco_ids.specs.Order.{entity_cmp, has_item}
+use Rattle.eco_ids.specs.Outcome.{is_out_of_memory}
 use Rattle.eco_ids.specs.Run.{Command, Runs}
 use Rattle.eco_ids.specs.Traits.{Reaches}
 use Rattle.eco_ids.specs.World.{WorldState}
 use Rattle.eco_systems.specs.Batches.{AreBatches, Conflict, joined}
 use Rattle.eco_systems.specs.Closing.{Among, ListsClosed, head_of, with_head}
-use Rattle.eco_systems.specs.Frames.{BatchDraws, Outcomes, IsFrame, IsSolo, IsFrameSoFar, IsSoloSoFar, IsStopped, AreAscending, AreFresh}
+use Rattle.eco_systems.specs.Frames.{BatchDraws, Outcomes, IsFrame, IsFrameAlone, IsSolo, IsFrameSoFar, IsSoloSoFar, IsStopped, AreAscending, AreFresh}
 use Rattle.eco_systems.specs.Joining.{batched}
 use Rattle.eco_systems.specs.Phases.{in_order, order_of}
 use Rattle.eco_systems.specs.Rows.{ValuedRow}
@@ -34,6 +35,31 @@ StoppedAreSolo =
 -- each row takes some number of draws, whichever they are
 abbrev pub TakesSome : SystemModel → Type 0
 TakesSome s = (row : ValuedRow) → (count : ℕ) × ((draws : List Entity) → length draws ≡ count → IsTrue (s.takes row draws))
+
+-- of one list of draws each row takes one beginning at most
+abbrev pub TakesOne : SystemModel → Type 0
+TakesOne s =
+    (row : ValuedRow) (mine others rest later : List Entity)
+    → IsTrue (s.takes row mine) → IsTrue (s.takes row others) → mine ++ rest ≡ others ++ later → mine ≡ others
+
+-- no command found memory wanting
+abbrev pub was_ample : Outcomes → Bool
+was_ample outcomes = list_all (λ r. not (is_out_of_memory r)) outcomes
+
+-- the draws decide what a frame of such systems leads to: where memory was ample it has one list of outcomes and one last world
+abbrev pub DrawsDecide : Type 0
+DrawsDecide =
+    (w : WorldState) (systems : List SystemModel) (draws : List BatchDraws) (outcomes others : Outcomes) (new other : WorldState)
+    → AllByRecursion TakesOne systems → IsTrue (was_ample outcomes) → IsTrue (was_ample others)
+    → IsFrame w systems draws outcomes new → IsFrame w systems draws others other → (outcomes ≡ others) × (new ≡ other)
+
+-- of one worker the draws are decided too
+abbrev pub OneWorkerDecides : Type 0
+OneWorkerDecides =
+    (w : WorldState) (systems : List SystemModel) (draws other_draws : List BatchDraws) (outcomes others : Outcomes) (new other : WorldState)
+    → AllByRecursion TakesOne systems → IsTrue (was_ample outcomes) → IsTrue (was_ample others)
+    → IsFrameAlone w systems draws outcomes new → IsFrameAlone w systems other_draws others other
+    → (draws ≡ other_draws) × (outcomes ≡ others) × (new ≡ other)
 
 -- a lawful world has a frame of such systems, or one that stops at a batch whose draws would pass the limit
 abbrev pub FramesExist : Type 0

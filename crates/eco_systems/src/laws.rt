@@ -1,8 +1,8 @@
 //! Laws of frames: each function does nothing, and its contract is the law.
 ghost use Rattle.std.specs.Prelude.{◌≡◌};
-ghost use Rattle.eco_systems.specs.Laws.{AscendingAreFresh, BatchesAreUnique, BatchesExist, FramesAreSolo, FramesExist};
+ghost use Rattle.eco_systems.specs.Laws.{AscendingAreFresh, BatchesAreUnique, BatchesExist, DrawsDecide, FramesAreSolo, FramesExist};
 ghost use Rattle.eco_systems.specs.Laws.{FramesKeepLawful, HeadlessAreAmong, HeadsAreAmong, JoiningMakesBatches};
-ghost use Rattle.eco_systems.specs.Laws.{NoneAreListed, OneMoreIsListed, OrderHasSystems};
+ghost use Rattle.eco_systems.specs.Laws.{NoneAreListed, OneMoreIsListed, OneWorkerDecides, OrderHasSystems};
 ghost use Rattle.eco_systems.specs.Laws.{RefusedCommandsChangeNothing, StoppedAreSolo, StoppedAtOnceChangesNothing};
 ghost use Rattle.eco_systems.specs.Phases.{phases};
 ghost use Rattle.eco_systems.specs.declared.phase.TheConstants.{PHASES};
@@ -17,6 +17,12 @@ pub fn frames_are_one_by_one()
 pub fn frames_exist()
     ensures exist { FramesExist }
     ensures lawful { FramesKeepLawful }
+{}
+
+/// The draws of a frame decide its outcomes and its last world, where memory was ample, and one worker's draws are decided too.
+pub fn draws_decide_frames()
+    ensures given { DrawsDecide }
+    ensures alone { OneWorkerDecides }
 {}
 
 /// What is refused changes nothing: a command, and the first batch of a frame.

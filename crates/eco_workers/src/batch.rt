@@ -28,8 +28,8 @@ use std::thread::Threads;
 // How many pieces a batch may have.
 const MOST: usize = 16_777_216;
 
-// How many they are, unless they are too many, which is answered as want of memory.
-fn count_pieces<P>(pieces: &[P]) -> Result<u32, Refusal>
+/// How many pieces a batch has. More than 16,777,216 are refused, with `OutOfMemory`.
+pub fn count_pieces<P>(pieces: &[P]) -> Result<u32, Refusal>
     ensures count { IfOk result (λ n. (n ≡ length pieces.now) × (n ≤ 16777216)) }
     ensures many { IfErr result (λ _. 16777216 < length pieces.now) }
     ensures why { IfErr result (λ e. e ≡ OutOfMemory) }

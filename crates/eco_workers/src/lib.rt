@@ -16,6 +16,6 @@ mod worked;
 mod worker;
 
 pub use alone::run_alone;
-pub use batch::run_batch;
+pub use batch::{count_pieces, run_batch};
 pub use draws::Draws;
 pub use piece::Piece;

@@ -3,6 +3,7 @@ pub mod Cached
 pub mod Changes
 pub mod Data
 pub mod Deleting
+pub mod Exact
 pub mod Extending
 pub mod Fitting
 pub mod Held

@@ -1,27 +1,21 @@
 -- What the body of wakes records, and that this is what it declares.
-use Rattle.std.proofs.Common.{◌≡◌, List, [], ◌∷◌, Option, Some, None, false, IsTrue, subst, sym}
+use Rattle.std.specs.Prelude.{◌≡◌, List, [], ◌∷◌, Option, Some, None, false}
 use Rattle.std.specs.List.{AllByRecursion}
 use Rattle.eco_ids.specs.declared.entity.Entity.{Entity}
 use Rattle.eco_ids.specs.declared.id.Id.TheVariants as id
 use Rattle.eco_ids.specs.declared.pattern.Pattern.{Pattern}
 use Rattle.eco_ids.specs.declared.pattern.Pattern.TheVariants.{One}
 use Rattle.eco_ids.specs.declared.value.Value.{Value}
-use Rattle.eco_ids.specs.Matching.{pattern_matches}
 use Rattle.eco_ids.specs.Run.{Command, Set}
-use Rattle.eco_ids.proofs.Facts.{or_left}
-use Rattle.eco_ids.proofs.Overlaps.{entity_eq_itself}
-use Rattle.eco_systems.specs.Systems.{IsDeclared, matches_one}
+use Rattle.eco_systems.specs.Systems.{IsDeclared}
+use Rattle.eco_bodies.specs.Own.{is_own}
 
 -- the component of the entity is set to the value, if there is one
 abbrev pub noted : Entity → Entity → Option Value → List Command
 noted wake e None = []
 noted wake e (Some v) = Set e (id.One wake) v ∷ []
 
-is_own : (c : Entity) (writes : List Pattern) → writes ≡ One c ∷ [] → IsTrue (matches_one writes (id.One c))
-is_own c writes h =
-    subst (λ ps. IsTrue (matches_one ps (id.One c))) (sym h) (or_left (pattern_matches (One c) (id.One c)) _ (entity_eq_itself c))
-
 pub noted_is_declared : (wake : Entity) (writes : List Pattern) → writes ≡ One wake ∷ [] → (e : Entity) (v : Option Value)
     → AllByRecursion (IsDeclared writes false) (noted wake e v)
 noted_is_declared wake writes h e None = tt
-noted_is_declared wake writes h e (Some v) = (is_own wake writes h, tt)
+noted_is_declared wake writes h e (Some v) = (is_own (id.One wake) writes h, tt)

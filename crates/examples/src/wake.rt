@@ -4,7 +4,7 @@ ghost use Rattle.eco_ids.specs.declared.pattern.Pattern.TheVariants as pattern;
 ghost use Rattle.eco_bodies.specs.Lent.{item_at};
 ghost use Rattle.examples.specs.Wakes.{noted, noted_is_declared};
 
-use eco_bodies::{BodyRow, Draws, SystemBody};
+use eco_bodies::{BodyRow, Draws, SystemBody, record_command};
 use eco_ids::{Entity, Id, Pattern, Refusal};
 use eco_world::{Command, Stage};
 
@@ -60,10 +60,7 @@ impl SystemBody for Wake {
         let Some(place) = row.value(0) else {
             return Ok(());
         };
-        match stage.record(Command::Set(row.entity(), Id::One(self.wake), place)) {
-            Ok(()) => Ok(()),
-            Err(_) => Err(Refusal::OutOfMemory),
-        }
+        record_command(stage, Command::Set(row.entity(), Id::One(self.wake), place))
     }
 
     // All that it records matches what it writes.

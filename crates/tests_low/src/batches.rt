@@ -1,11 +1,13 @@
 //! Batches: workers record pieces side by side, and the stages come in order.
-ghost use Rattle.std.specs.Prelude.{◌≡◌, ◌≤◌, ℕ, [], ◌∷◌, get_or};
+ghost use Rattle.std.specs.Prelude.{◌≡◌, ◌≤◌, ℕ, [], ◌∷◌, ◌++◌, get_or, IfErr, OnOk};
+ghost use Rattle.eco_ids.specs.Run.{Create};
+ghost use Rattle.eco_ids.specs.declared.refusal.Refusal.TheVariants.{OutOfMemory};
 ghost use Rattle.eco_ids.specs.declared.entity.TheConstants.{CHILD_OF};
 
 use eco_ids::{Entity, Id, Refusal};
 use eco_stages::{Command, Stage};
 use eco_workers::{Draws, Piece, run_batch};
-use std::alloc::Global;
+use std::alloc::{AllocError, Global};
 use std::sync::atomic::{AtomicU64, Ordering};
 use std::thread::Threads;
 
@@ -14,8 +16,6 @@ use std::thread::Threads;
 struct Made;
 
 impl Piece for Made {
-    ghost use Rattle.eco_ids.specs.Run.{Create};
-
     ghost commands = { λ s draws. Create (get_or draws 0 CHILD_OF) ∷ [] };
 
     ghost taken = { λ s draws. 1 };
@@ -113,6 +113,101 @@ fn overlap<R: Threads + Sync>(rt: &R, alloc: Global) -> Result<bool, Refusal> {
     }
     run_batch(rt, alloc, Vec::new(alloc), gates.as_slice(), 8, 0, 0)?;
     Ok(missed.load(Ordering::SeqCst) == 0)
+}
+
+// Draws a handle, waits until so many pieces have drawn one, for so many turns, and draws another; notes where it waited in vain.
+#[derive(Drop)]
+struct Twice<'a> {
+    pieces: u64,
+    turns: u64,
+    drew: &'a AtomicU64,
+    missed: &'a AtomicU64,
+}
+
+impl Twice<'_> {
+    // Tells that one more piece has drawn, and waits for the others.
+    fn meet(&self) {
+        self.drew.fetch_add(1, Ordering::SeqCst);
+        for _ in 0..self.turns {
+            if self.drew.load(Ordering::SeqCst) >= self.pieces {
+                return;
+            }
+        }
+        self.missed.store(1, Ordering::SeqCst);
+    }
+}
+
+// Makes an entity of a fresh handle.
+fn make(made: Entity, stage: &mut Stage) -> Result<(), Refusal>
+    ensures ok { OnOk result (stage.new ≡ stage.old ++ Create made ∷ []) }
+    ensures err { IfErr result (λ why. why ≡ OutOfMemory) }
+{
+    match stage.record(Command::Create(made)) {
+        Ok(()) => Ok(()),
+        Err(_) => Err(Refusal::OutOfMemory),
+    }
+}
+
+impl Piece for Twice<'_> {
+    ghost commands = { λ s draws. Create (get_or draws 0 CHILD_OF) ∷ Create (get_or draws 1 CHILD_OF) ∷ [] };
+
+    ghost taken = { λ s draws. 2 };
+
+    fn record<D: Draws>(&self, draws: &mut D, stage: &mut Stage) -> Result<(), Refusal> {
+        let first = draws.draw()?;
+        make(first, stage)?;
+        self.meet();
+        let second = draws.draw()?;
+        make(second, stage)
+    }
+}
+
+// The indices that the stages of eight pieces make first, in ascending order, and behind them those that they make second.
+fn made_by_eight(alloc: Global, stages: &[Stage]) -> Result<Vec<u32>, AllocError> {
+    let mut firsts = Vec::new(alloc);
+    let mut seconds = Vec::new(alloc);
+    for stage in stages {
+        if let [Command::Create(first), Command::Create(second)] = stage.commands() {
+            firsts.push(first.index)?;
+            seconds.push(second.index)?;
+        }
+    }
+    firsts.sort()?;
+    seconds.sort()?;
+    firsts.append(&mut seconds)?;
+    Ok(firsts)
+}
+
+// What eight pieces make from 5 on, none of which draws its second handle before all have drawn their first; nothing, where a piece waited
+// in vain.
+fn draw_in_turn<R: Threads + Sync>(rt: &R, alloc: Global) -> Result<Vec<u32>, Refusal> {
+    let drew = AtomicU64::new(0);
+    let missed = AtomicU64::new(0);
+    let mut pieces = Vec::new(alloc);
+    for _ in 0..8 {
+        pieces.push(Twice {
+            pieces: 8,
+            turns: 2_000_000_000,
+            drew: &drew,
+            missed: &missed,
+        })?;
+    }
+    let (stages, _) = run_batch(rt, alloc, Vec::new(alloc), pieces.as_slice(), 8, 5, 1_000)?;
+    if missed.load(Ordering::SeqCst) == 1 {
+        return Ok(Vec::new(alloc));
+    }
+    Ok(made_by_eight(alloc, stages.as_slice())?)
+}
+
+#[test]
+fn eight_workers_draw_in_turn(rt: HostRuntime) {
+    let Ok(made) = draw_in_turn(&rt, rt.alloc()) else {
+        panic!(rt; "no memory")
+    };
+    assert_eq!(rt; made.len(), 16);
+    for (k, index) in made.iter().enumerate() {
+        assert_eq!(rt; *index as usize, k.saturating_add(5));
+    }
 }
 
 #[test]

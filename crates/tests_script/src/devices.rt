@@ -1,4 +1,4 @@
-//! Devices that give or take little at a time, fail at some call, or are full.
+//! Devices that give or take little at a time, fail at some call, are full, or never end.
 use eco_script::{Counted, DeviceFailed, ScriptReader, ScriptWriter, Status, run_script};
 use std::alloc::Global;
 use std::io;
@@ -190,4 +190,37 @@ fn run<R: Threads + Sync>(rt: &R, alloc: Global, bytes: &[u8]) -> (Status, bool)
 fn other_bytes_than_a_text_are_not_read(rt: HostRuntime) {
     let run = run(&rt, rt.alloc(), b"[1, 64, [[\"create\", \"\xff\"]]]");
     assert_eq!(rt; run, (Status::NotRead, true));
+}
+
+// A reader that gives one space at every call, without end.
+#[derive(Drop)]
+struct Spaces(u64);
+
+impl ScriptReader for Spaces {
+    ghost use Rattle.std.specs.Prelude.{None};
+
+    ghost remaining = { λ s. None };
+
+    ghost calls = { λ s. s.0 };
+
+    ghost failures = { λ s. 0 };
+
+    fn read(&mut self, buffer: &mut [u8]) -> Result<usize, DeviceFailed> {
+        self.0 += 1;
+        let Some(first) = buffer.first_mut() else {
+            return Ok(0);
+        };
+        *first = b' ';
+        Ok(1)
+    }
+}
+
+#[test]
+fn an_endless_input_stops_a_run(rt: HostRuntime) {
+    let mut reader = Spaces(0);
+    let mut writer = Counted::new(Vec::new(rt.alloc()));
+    let status = run_script(&rt, rt.alloc(), &mut reader, &mut writer, 1);
+    assert_eq!(rt; status, Status::Stopped);
+    assert_eq!(rt; reader.0, 16_777_216);
+    assert!(rt; writer.inner().as_slice().is_empty());
 }

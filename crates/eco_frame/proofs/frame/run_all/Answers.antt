@@ -67,6 +67,14 @@ returns-in_err-run_next-clause-out g c =
     let p = err_from_is_err_and c.from_residual.result c.from_residual.ensures.1 in
     rw (p.1, p.2) (λ no. (c.deref.result.now, there, c.in_err-run_next.ensures.out no))
 
+pub returns-in_err-run_next-clause-left : goal.returns-in_err-run_next-clause-left
+returns-in_err-run_next-clause-left g c =
+    let count = c.loop-places.invariant.count in
+    let before : vec_len c.loop-places.done.reports < length c.args.batches.now =
+    omega (arith, count, c.loop-places.done.reports.ok, c.loop-places-test.true) in
+    let p = err_from_is_err_and c.from_residual.result c.from_residual.ensures.1 in
+    rw p.1 (subst (λ (d : Progress). vec_len d.reports < length c.args.batches.now) (sym c.in_err-run_next.ensures.err.1) before)
+
 pub returns-in_err-run_next-clause-so_far : goal.returns-in_err-run_next-clause-so_far
 returns-in_err-run_next-clause-so_far g c =
     let b = g.B.SystemBody in

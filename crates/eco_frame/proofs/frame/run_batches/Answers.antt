@@ -71,7 +71,7 @@ returns-in-Err-clause-frame g c =
     let p = c.run_all.new.done in
     let stop : FrameStop = record { batches = c.len.result; refusal = c.in-Err.refusal } in
     let ran = stopped_frame c.args.workers w new f (λ v. v.items) c.as_slice-2.result.now systems c.args.batches.now c.args.batches.now p
-    c.as_slice-2.ensures refl c.requires.placed (vec_len p.reports) c.in-Err.ensures.so_far stop (c.len.ensures ∙ p.reports.ok.0) in
+    c.as_slice-2.ensures refl c.requires.placed (vec_len p.reports) c.in-Err.ensures.so_far stop (c.len.ensures ∙ p.reports.ok.0) c.in-Err.ensures.left in
     frame_of c.args.workers w (map f systems) (Err stop) new ran
 
 pub returns-in-Err-clause-alone : goal.returns-in-Err-clause-alone
@@ -84,7 +84,7 @@ returns-in-Err-clause-alone g c one =
     let p = c.run_all.new.done in
     let stop : FrameStop = record { batches = c.len.result; refusal = c.in-Err.refusal } in
     let ran = stopped_frame c.args.workers w new f (λ v. v.items) c.as_slice-2.result.now systems c.args.batches.now c.args.batches.now p
-    c.as_slice-2.ensures refl c.requires.placed (vec_len p.reports) c.in-Err.ensures.so_far stop (c.len.ensures ∙ p.reports.ok.0) in
+    c.as_slice-2.ensures refl c.requires.placed (vec_len p.reports) c.in-Err.ensures.so_far stop (c.len.ensures ∙ p.reports.ok.0) c.in-Err.ensures.left in
     alone_of c.args.workers w (map f systems) (Err stop) new ran one
 
 pub returns-in-Err-clause-solo : goal.returns-in-Err-clause-solo
@@ -97,7 +97,7 @@ returns-in-Err-clause-solo g c =
     let p = c.run_all.new.done in
     let stop : FrameStop = record { batches = c.len.result; refusal = c.in-Err.refusal } in
     let ran = stopped_frame c.args.workers w new f (λ v. v.items) c.as_slice-2.result.now systems c.args.batches.now c.args.batches.now p
-    c.as_slice-2.ensures refl c.requires.placed (vec_len p.reports) c.in-Err.ensures.so_far stop (c.len.ensures ∙ p.reports.ok.0) in
+    c.as_slice-2.ensures refl c.requires.placed (vec_len p.reports) c.in-Err.ensures.so_far stop (c.len.ensures ∙ p.reports.ok.0) c.in-Err.ensures.left in
     let lawful = subst (λ ss. AllByRecursion IsLawfulSystem (map f ss)) c.as_slice.ensures c.are_lawful.ensures in
     let laws = c.frames_are_one_by_one.ensures in
     solo_of laws.whole laws.stopped w (map f systems) (Err stop) new c.is_lawful.ensures lawful

@@ -1,6 +1,6 @@
 use Rattle.std.proofs.Common.{Err, [], ap, map}
 use Rattle.std.proofs.KnownBytes.{Keeps-refl}
-use Rattle.std.proofs.lemmas.Result.{on_ok_weaker, on_err_weaker}
+use Rattle.std.proofs.lemmas.Result.{err_from_is_err_and}
 use Rattle.serde_json.specs.View.{view}
 use Rattle.eco_steps.specs.Views.{step_view, script_view}
 use Rattle.eco_script.specs.Systems.{reached}
@@ -21,24 +21,23 @@ returns-in-Err-NotAScript-clause-not_read g c = λ _. (
 
 pub returns-clause-ok : goal.returns-clause-ok
 returns-clause-ok g c =
-    on_ok_weaker _
-    (ran_bytes c.args.bytes.now (script_view c.in-Ok-read.script) _ _ _ _ (
+    ran_bytes c.args.bytes.now (script_view c.in-Ok-read.script) _ _ _ _ _ (
       c.in-Ok.ensures.ok.0,
       view c.in-Ok.value,
       c.in-Ok.ensures.ok.1,
       c.in-Ok-read.ensures.ok,
     )
-    (ap (λ w. reached w []) c.in-Ok-new.ensures.ok) (ap (λ ss. map step_view ss) c.as_slice.ensures.value))
-    c.run_steps.ensures.ok
+    (ap (λ w. reached w []) c.in-Ok-new.ensures.ok) (ap (λ ss. map step_view ss) c.as_slice.ensures.value)
+    c.in_ok-run_steps.ensures.ok
 
-pub returns-clause-err : goal.returns-clause-err
-returns-clause-err g c =
-    on_err_weaker _
-    (stopped_bytes c.args.bytes.now (script_view c.in-Ok-read.script) _ _ _ _ (
+pub returns-in_err-run_steps-clause-err : goal.returns-in_err-run_steps-clause-err
+returns-in_err-run_steps-clause-err g c =
+    let p = err_from_is_err_and c.from_residual.result c.from_residual.ensures.1 in
+    rw p.1 (stopped_bytes c.args.bytes.now (script_view c.in-Ok-read.script) _ _ _ _ (
       c.in-Ok.ensures.ok.0,
       view c.in-Ok.value,
       c.in-Ok.ensures.ok.1,
       c.in-Ok-read.ensures.ok,
     )
-    (ap (λ w. reached w []) c.in-Ok-new.ensures.ok) (ap (λ ss. map step_view ss) c.as_slice.ensures.value))
-    c.run_steps.ensures.err
+    (ap (λ w. reached w []) c.in-Ok-new.ensures.ok) (ap (λ ss. map step_view ss) c.as_slice.ensures.value)
+    c.in_err-run_steps.ensures.err)

@@ -1,8 +1,5 @@
-use Rattle.std.proofs.Common.{Err, ap}
-use Rattle.eco_script.proofs.Runs.{not_read_to_end}
+use Rattle.eco_script.proofs.Runs.{ran_some}
 use Rattle.eco_script.proofs.run.run_script.Goals as goal
 
-pub returns-in-Err-NotRead-clause-not_read : goal.returns-in-Err-NotRead-clause-not_read
-returns-in-Err-NotRead-clause-not_read g c = λ _.
-    not_read_to_end _ _ c.in-Ok.bytes.items _ _ c.in-Ok.ensures.whole c.in-Ok.ensures.ended
-    (rw c.as_slice.ensures.value at (c.in-Err-NotRead.ensures.not_read (ap Err c.in-Err-NotRead.field-0-is)))
+pub returns-clause-ran : goal.returns-clause-ran
+returns-clause-ran g c = λ is. ran_some _ _ _ _ (c.run_world.ensures.ran is)

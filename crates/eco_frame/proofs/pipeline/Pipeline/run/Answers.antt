@@ -1,9 +1,9 @@
 use Rattle.std.proofs.Common.{Err, IfErr, map, subst}
 use Rattle.eco_bodies.specs.declared.systems.System.{System}
-use Rattle.eco_systems.specs.Frames.{BatchRuns, BatchRunsSolo}
+use Rattle.eco_systems.specs.Frames.{AscendingRuns, BatchRuns, BatchRunsSolo}
 use Rattle.eco_systems.specs.Systems.{SystemModel}
 use Rattle.eco_frame.specs.Models.{model_of}
-use Rattle.eco_frame.specs.Reports.{AscendingRuns, Frames}
+use Rattle.eco_frame.specs.Reports.{Frames}
 use Rattle.eco_frame.specs.Stops.{IsWhy}
 use Rattle.eco_frame.proofs.pipeline.Pipeline.run.Goals as goal
 

@@ -1,0 +1,5 @@
+use Rattle.eco_bodies.proofs.Entries.{own_entries}
+use Rattle.eco_bodies.proofs.lawful.scripts_set_their_own_entries.Goals as goal
+
+pub returns : goal.returns
+returns c = own_entries

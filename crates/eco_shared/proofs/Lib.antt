@@ -1,0 +1,3 @@
+pub mod Keeps
+pub mod OneEnd
+pub mod Repeats

@@ -1,0 +1,4 @@
+pub mod Histories
+pub mod Repeating
+pub mod Sharing
+pub mod Views

@@ -1,0 +1,54 @@
+-- The rule of the shared world. What is shown has one opening world and one history, which each view knows.
+use Rattle.std.specs.Prelude.{◌≡◌, ℕ, true, false, List, [], ◌∷◌, ◌++◌, ◌⊎◌}
+use mathlib.Core.Option.{some}
+use lib.ListN.{get_elem?}
+use Rattle.std.specs.Arc.{arc_value}
+use Rattle.eco_ids.specs.World.{WorldState, first_world}
+use Rattle.eco_histories.specs.declared.front.Front.{Front}
+use Rattle.eco_shared.specs.declared.merge.Merge.{Merge}
+use Rattle.eco_shared.specs.declared.merge.Mark.{Mark}
+use Rattle.eco_shared.specs.declared.merge.Knows.{Knows}
+use Rattle.eco_shared.specs.declared.shown.Shown.{Shown}
+use Rattle.eco_shared.specs.Histories.{IsAfter, IsMerged, mark_of}
+
+-- the world that is shown
+abbrev pub world_of : Shown → WorldState
+world_of s = arc_value s.world
+
+-- the history that is shown
+abbrev pub history : Shown → List Merge
+history s = s.front.seen.log
+
+abbrev pub state_of : Shown → WorldState × Front Merge
+state_of s = (arc_value s.world, s.front)
+
+abbrev pub knows : WorldState → Mark → Knows
+knows start mark = record { known = true; start = start; mark = mark }
+
+-- the world is nobody's: where nothing is known, none is
+abbrev pub nothing : Knows
+nothing = record { known = false; start = first_world 9; mark = record { number = 0; log_name = 0; cells_name = 0 } }
+
+-- the second is of the same history, one merge longer, whose world that merge makes
+abbrev pub Follows : Shown → Shown → Type 0
+Follows s t = (t.front.seen.book ≡ s.front.seen.book) × (m : Merge) × (history t ≡ history s ++ m ∷ []) × IsMerged (world_of s) m (world_of t)
+
+-- one merge more, or the same once more
+abbrev pub Goes : Shown → Shown → Type 0
+Goes s t = Follows s t ⊎ (state_of t ≡ state_of s)
+
+-- what a view knows of what is shown
+abbrev pub Names : Knows → Shown → Type 0
+Names v s = IsAfter v.start (history s) (world_of s) × (v.mark ≡ mark_of s.front.seen.book)
+
+abbrev pub Kept : Shown → List Knows → Type 0
+Kept s views = (by : ℕ) (v : Knows) → get_elem? views by ≡ some v → v.known ≡ true → Names v s
+
+abbrev pub Sees : Knows → Shown → Shown → Knows → Type 0
+Sees v s t w = (w ≡ v) × Names v t
+
+abbrev pub Opens : Knows → Shown → Shown → Knows → Type 0
+Opens v s t w = w ≡ knows (world_of s) (mark_of s.front.seen.book)
+
+abbrev pub Stays : Knows → Shown → Shown → Knows → Type 0
+Stays v s t w = w ≡ v

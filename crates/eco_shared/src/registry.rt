@@ -1,0 +1,123 @@
+//! Which shared worlds there are. Each has a number of its own.
+ghost use Rattle.std.specs.Prelude.{◌≡◌, ◌++◌, ◌∷◌, [], length, Some, slice_get, IfSome, IfNone, MatchBool};
+ghost use mathlib.Core.List.{IsPrefix};
+ghost use Rattle.eco_histories.specs.Rules.{head_of};
+ghost use Rattle.eco_shared.specs.Histories.{mark_of};
+
+use crate::merge::{Mark, Merge};
+use eco_histories::front::{Front, Head, begin};
+use logbook::Plain;
+use std::marker::{Brand, PhantomData};
+
+/// Which registry it is. Each call of a program picks it.
+pub trait Naming {
+    ghost use Rattle.logbook.specs.Pages.{Book};
+
+    ghost book: { Book };
+}
+
+impl Naming for Brand {
+    ghost book = { record { number = 0; log_name = 0; cells_name = 0 } };
+}
+
+/// An empty registry, which has no name yet.
+#[derive(Drop)]
+pub struct Blank {
+    head: Head<Mark>,
+    front: Front<Mark>,
+    pub ghost empty: { front.seen.log ≡ [] },
+    pub ghost head_is: { head ≡ head_of front.seen.book },
+}
+
+impl Blank {
+    pub fn new() -> Blank {
+        let (head, front) = begin::<Mark>();
+        Blank { head, front }
+    }
+
+    /// The registry under a name.
+    pub fn named<J: Naming>(self) -> Registry<J>
+        requires { self.front.seen.book ≡ J.book }
+        ensures { result.front.seen.log ≡ [] }
+    {
+        let Blank { head, front } = self;
+        Registry {
+            head,
+            front,
+            of: PhantomData,
+        }
+    }
+}
+
+/// The shared worlds that were opened.
+pub struct Registry<J: Naming> {
+    head: Head<Mark>,
+    pub front: Front<Mark>,
+    of: PhantomData<J>,
+    ghost head_is: { head ≡ head_of J.book },
+    ghost book_is: { front.seen.book ≡ J.book },
+}
+
+// By hand, so that dropping it is one call: a derived drop is proved anew at each early return of whoever holds it.
+impl<J: Naming> Drop for Registry<J> {
+    fn drop(self) {
+        let Self {
+            head: _head,
+            front: _front,
+            of: _of,
+        } = self;
+    }
+}
+
+pub struct Enrols;
+
+impl Plain<Front<Merge>, Mark, u64> for Enrols {
+    ghost use Rattle.std.specs.Prelude.{None};
+    ghost use Rattle.eco_shared.specs.Histories.{mark_of};
+
+    ghost ask = { λ front. mark_of front.seen.book };
+
+    ghost state = { λ front. None };
+}
+
+/// The number of one shared world. It is this history's alone.
+#[derive(Drop)]
+pub struct Title<J: Naming> {
+    pub number: u64,
+    pub marks: Front<Mark>,
+    of: PhantomData<J>,
+    pub ghost book_is: { marks.seen.book ≡ J.book },
+}
+
+impl<J: Naming> Registry<J> {
+    /// A number that no shared world had before.
+    pub fn enrol(&mut self, front: &Front<Merge>) -> Option<Title<J>>
+        ensures some { IfSome result (λ t. (t.number ≡ length self.old.front.seen.log) × (slice_get t.marks.seen.log t.number ≡ Some (mark_of front.now.seen.book)) × (self.new.front.seen.log ≡ self.old.front.seen.log ++ mark_of front.now.seen.book ∷ [])) }
+        ensures none { IfNone result (self.new.front ≡ self.old.front) }
+        ensures grown { IsPrefix self.old.front.seen.log self.new.front.seen.log }
+    {
+        let number = self.front.count;
+        let longer = self
+            .front
+            .extended::<Front<Merge>, Enrols>(&self.head, front)?;
+        self.front = longer.again();
+        Some(Title {
+            number,
+            marks: longer,
+            of: PhantomData,
+        })
+    }
+}
+
+impl<J: Naming> Title<J> {
+    /// A copy.
+    pub fn again(&self) -> Title<J>
+        ensures { (result.number ≡ self.now.number) × (result.marks ≡ self.now.marks) }
+    {
+        Title {
+            number: self.number,
+            marks: self.marks.again(),
+            of: PhantomData,
+        }
+    }
+}

@@ -1,0 +1,113 @@
+//! Who reads the shared world. An entry owns its version, so that no merge waits for it.
+ghost use Rattle.std.specs.Prelude.{◌≡◌, ◌≢◌, true, IfSome, MatchBool};
+ghost use mathlib.Core.List.{IsPrefix};
+ghost use Rattle.left_right.specs.Sides.{view};
+ghost use Rattle.eco_shared.specs.Histories.{IsAfter, mark_of};
+ghost use Rattle.eco_shared.specs.Sharing.{history, world_of, Names};
+
+use crate::keeper::Keeper;
+use crate::news::News;
+use crate::registry::Naming;
+use crate::rule::{Entering, TheReader};
+use crate::shown::Shown;
+use core::mem::replace_with;
+use eco_world::World;
+use std::sync::Wait;
+
+/// A reader of the shared world.
+pub struct Viewer<J: Naming, R: Wait + Drop> {
+    pub(crate) reader: TheReader,
+    /// The longest history that it has seen or was told of.
+    pub(crate) news: News<J>,
+    // Behind the reader, which is given up before the writer.
+    pub(crate) keeper: Keeper<R>,
+    ghost known: { (view reader.place).known ≡ true },
+    ghost mark: { (view reader.place).mark ≡ mark_of news.front.seen.book },
+}
+
+// By hand, so that dropping it is one call: a derived drop is proved anew at each early return of whoever holds it.
+impl<J: Naming, R: Wait + Drop> Drop for Viewer<J, R> {
+    fn drop(self) {
+        let Self {
+            reader: _reader,
+            news: _news,
+            keeper: _keeper,
+        } = self;
+    }
+}
+
+/// An entry: one version.
+pub struct View {
+    shown: Shown,
+}
+
+// By hand, as above.
+impl Drop for View {
+    fn drop(self) {
+        let View { shown: _ } = self;
+    }
+}
+
+// One entry. There is none where the merger is gone, or the version has too many owners.
+fn look_once(reader: TheReader) -> (TheReader, Option<Shown>)
+    requires { (view reader.place).known ≡ true }
+    ensures same { view result.0.place ≡ view reader.place }
+    ensures shown { IfSome result.1 (Names (view reader.place)) }
+{
+    match reader.enter_as::<Entering>() {
+        Ok(reading) => {
+            let taken = reading.get().another();
+            (reading.leave(), taken.ok())
+        }
+        Err(reader) => (reader, None),
+    }
+}
+
+impl<J: Naming, R: Wait + Drop> Viewer<J, R> {
+    /// Enters the version that was published last. Its history begins with all that this viewer has seen or was told of.
+    pub fn enter(&mut self, rt: &impl Wait) -> View
+        ensures history { IsPrefix self.old.news.front.seen.log (history result.shown) }
+        ensures seen { self.new.news.front.seen.log ≡ history result.shown }
+        ensures world { IsAfter (view self.old.reader.place).start (history result.shown) (world_of result.shown) }
+        ensures same { (view self.new.reader.place ≡ view self.old.reader.place) × (self.new.news.title.number ≡ self.old.news.title.number) }
+    {
+        for _ in rt.forever() {
+            if let Some(shown) = self.look() {
+                if self.news.front.is_begun_by(&shown.front) {
+                    self.news = self.news.with(&shown.front);
+                    return View { shown };
+                }
+            }
+        }
+        unreachable!()
+    }
+
+    /// Takes in the news, and says whether they are of this shared world.
+    pub fn learn(&mut self, news: &News<J>) -> bool
+        ensures learned { MatchBool result ((news.now.title.number ≡ self.old.news.title.number) × IsPrefix self.old.news.front.seen.log self.new.news.front.seen.log × IsPrefix news.now.front.seen.log self.new.news.front.seen.log) ((news.now.title.number ≢ self.old.news.title.number) × (self.new.news ≡ self.old.news)) }
+        ensures same { (self.new.reader ≡ self.old.reader) × (self.new.news.title.number ≡ self.old.news.title.number) }
+    {
+        if !self.news.is_of_same(news) {
+            return false;
+        }
+        let front = self.news.front.longer(&news.front);
+        self.news = self.news.with(&front);
+        true
+    }
+
+    fn look(&mut self) -> Option<Shown>
+        ensures same { (view self.new.reader.place ≡ view self.old.reader.place) × (self.new.news ≡ self.old.news) }
+        ensures shown { IfSome result (Names (view self.old.reader.place)) }
+    {
+        replace_with(&mut self.reader, (), |reader, _x| look_once(reader))
+    }
+}
+
+impl View {
+    /// The world that is seen.
+    pub fn world(&self) -> &World
+        ensures { result.now ≡ world_of self.now.shown }
+    {
+        &self.shown.world
+    }
+}

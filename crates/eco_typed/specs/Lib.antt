@@ -1,0 +1,2 @@
+pub mod Fields
+pub mod Typing

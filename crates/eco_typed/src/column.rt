@@ -1,0 +1,81 @@
+//! A column of a table as values of a Rust type.
+ghost use Rattle.std.specs.Prelude.{◌≡◌, ◌≤◌, ◌∷◌, [], map, MatchOption};
+ghost use Rattle.std.specs.Iterator.{YieldsFirst, item_count};
+ghost use Rattle.eco_tables.specs.Column.{widened};
+ghost use Rattle.eco_tables.specs.Values.{shown};
+
+use crate::component::Component;
+use eco_ids::{FIELD_COUNT, Value};
+use eco_world::Values;
+use std::marker::PhantomData;
+
+/// The values of one id in a table that are left, in the order of the table's entities, each as a value of the type.
+#[derive_where(Clone, Copy)]
+pub struct Column<'a, C> {
+    values: Values<'a>,
+    of: PhantomData<C>,
+}
+
+// The value of these fields.
+#[inline(always)]
+fn widened<const N: usize>(fields: &[i64; N]) -> Value
+    requires { N ≤ FIELD_COUNT }
+    ensures { result ≡ widened fields.now }
+{
+    let mut all = [0; FIELD_COUNT];
+    all[..N].copy_from_slice(fields);
+    Value(all)
+}
+
+// The first of them, and those behind it.
+#[inline(always)]
+fn split_first(values: Values<'_>) -> Option<(Value, Values<'_>)>
+    ensures { MatchOption result (shown values.entry ≡ [])
+        (λ first. shown values.entry ≡ first.0 ∷ shown first.1) }
+{
+    match values {
+        Values::One(rows) => {
+            let (first, rest) = rows.split_first()?;
+            Some((widened(first), Values::One(rest)))
+        }
+        Values::Two(rows) => {
+            let (first, rest) = rows.split_first()?;
+            Some((widened(first), Values::Two(rest)))
+        }
+        Values::Three(rows) => {
+            let (first, rest) = rows.split_first()?;
+            Some((widened(first), Values::Three(rest)))
+        }
+        Values::Four(rows) => {
+            let (first, rest) = rows.split_first()?;
+            Some((widened(first), Values::Four(rest)))
+        }
+    }
+}
+
+impl<'a, C> Column<'a, C> {
+    // All of these values.
+    pub(crate) fn of(values: Values<'a>) -> Column<'a, C>
+        ensures { shown result.values ≡ shown values.entry }
+    {
+        Column {
+            values,
+            of: PhantomData,
+        }
+    }
+}
+
+impl<'a, C: Component> Iterator for Column<'a, C> {
+    type Item = C;
+
+    ghost next_gives = { YieldsFirst (λ s. map C.from (shown s.values)) };
+
+    ghost remaining = { item_count (λ s. map C.from (shown s.values)) };
+
+    #[inline]
+    fn next(&mut self) -> Option<C> {
+        let (first, rest) = split_first(self.values)?;
+        self.values = rest;
+        Some(C::from_value(first))
+    }
+}

@@ -1,0 +1,4 @@
+pub mod Bytes
+pub mod Listed
+pub mod Numbers
+pub mod Scripts

@@ -1,0 +1,9 @@
+use Rattle.std.proofs.Common.{◌≡◌, map, take}
+use Rattle.serde_json.specs.View.{view}
+use Rattle.eco_steps.specs.Decode.{action_in}
+use Rattle.eco_checker.specs.Faults.{numbers_without}
+use Rattle.eco_checker.proofs.search.actions_not_read.Given as goal
+
+-- the numbers so far are those of the values so far
+abbrev pub invariant-loop-number : goal.invariant-loop-number
+invariant-loop-number l = l.numbers.items ≡ numbers_without action_in 0 (map view (take l.number l.values))

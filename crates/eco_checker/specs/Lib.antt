@@ -1,0 +1,5 @@
+pub mod Clean
+pub mod Faults
+pub mod Laws
+pub mod Told
+pub mod Verdicts

@@ -1,0 +1,19 @@
+-- What a check tells of the bytes that it read.
+use Rattle.std.specs.Prelude.{ℕ, List, codes, Option, Some, None, ⊤}
+use Rattle.eco_steps.specs.Script.{Script, IsScript}
+
+-- what is written where the bytes are a script
+abbrev pub script_line : List ℕ
+script_line = codes "is a script\n"
+
+-- Each of these is said of the bytes that the reader had. Of a reader that tells no bytes nothing is said.
+
+-- they are a script
+abbrev pub AreScript : Option (List ℕ) → Type 0
+AreScript None = ⊤
+AreScript (Some bytes) = (s : Script) × IsScript bytes s
+
+-- they are none
+abbrev pub AreNoScript : Option (List ℕ) → Type 0
+AreNoScript None = ⊤
+AreNoScript (Some bytes) = (s : Script) → ¬ IsScript bytes s

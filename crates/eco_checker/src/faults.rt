@@ -1,0 +1,82 @@
+//! What keeps a value from being a script.
+
+ghost use Rattle.std.specs.Prelude.{◌≡◌, ◌↔◌, true, [], is_some, map, unwrap_or, IfOk, IsTrue};
+ghost use Rattle.serde_json.specs.View.{view};
+ghost use Rattle.eco_steps.specs.Decode.{list_in, parts_in, step_in};
+ghost use Rattle.eco_steps.specs.Script.{Script, IsScriptData};
+ghost use Rattle.eco_checker.specs.Faults.{items_in, numbers_without};
+
+use crate::search::steps_not_read;
+use eco_steps::{read_list, read_number};
+use serde_json::Value;
+use std::alloc::{AllocError, Global};
+
+/// What keeps a value from being a script: all of it.
+#[derive(Drop)]
+pub struct Faults<'a> {
+    /// Whether the value is a list of three: 1, a limit from 9 to 1,048,576, and a list.
+    pub has_head: bool,
+    /// What the list of steps holds, where the value is a list of three whose third is a list, whatever stands in front.
+    pub items: &'a [Value],
+    /// The numbers, from 0 and ascending, of the items that are no step.
+    pub steps: Vec<usize>,
+}
+
+// Whether a value has the three parts of a script.
+fn has_parts(value: &Value) -> bool
+    ensures { result ≡ is_some (parts_in (view value.now)) }
+{
+    let Some([version, limit, steps]) = read_list(value) else {
+        return false;
+    };
+    read_number(version, 1, 1).is_some()
+        && read_number(limit, 9, 1_048_576).is_some()
+        && read_list(steps).is_some()
+}
+
+// The items of a list, and none of anything else.
+fn items_of(value: &Value) -> &[Value]
+    ensures { map view result.now ≡ unwrap_or (list_in (view value.now)) [] }
+{
+    read_list(value).unwrap_or(&[])
+}
+
+// The items of the list of steps.
+fn step_items(value: &Value) -> &[Value]
+    ensures { map view result.now ≡ items_in (view value.now) }
+{
+    match items_of(value) {
+        [_, _, steps] => items_of(steps),
+        _ => &[],
+    }
+}
+
+impl<'a> Faults<'a> {
+    ghost use Rattle.eco_checker.specs.Clean.{IsClean};
+
+    /// All faults of a value. There are none exactly where the value is a script.
+    pub fn find(alloc: Global, value: &'a Value) -> Result<Faults<'a>, AllocError>
+        ensures head { IfOk result (λ f. f.has_head ≡ is_some (parts_in (view value.now))) }
+        ensures items { IfOk result (λ f. map view f.items.now ≡ items_in (view value.now)) }
+        ensures steps { IfOk result (λ f. f.steps.items
+            ≡ numbers_without step_in 0 (items_in (view value.now))) }
+        ensures script { IfOk result (λ f. IsClean f → (s : Script) × IsScriptData (view value.now) s) }
+        ensures none { IfOk result (λ f. (s : Script) → IsScriptData (view value.now) s → IsClean f) }
+    {
+        let has_head = has_parts(value);
+        let items = step_items(value);
+        let steps = steps_not_read(alloc, items)?;
+        Ok(Faults {
+            has_head,
+            items,
+            steps,
+        })
+    }
+
+    /// Whether there is no fault.
+    pub fn is_empty(&self) -> bool
+        ensures { IsTrue result ↔ IsClean self.now }
+    {
+        self.has_head && self.steps.is_empty()
+    }
+}

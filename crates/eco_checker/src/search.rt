@@ -1,0 +1,49 @@
+//! Which of some values are none of what they have to be.
+
+ghost use Rattle.std.specs.Prelude.{◌≡◌, map, IfOk};
+ghost use Rattle.serde_json.specs.View.{view};
+ghost use Rattle.eco_steps.specs.Decode.{action_in, command_in, step_in};
+ghost use Rattle.eco_checker.specs.Faults.{numbers_without};
+
+use eco_steps::{Action, Command, Step};
+use serde_json::Value;
+use std::alloc::{AllocError, Global};
+
+/// The numbers, from 0 and ascending, of the values that are no step.
+pub fn steps_not_read(alloc: Global, values: &[Value]) -> Result<Vec<usize>, AllocError>
+    ensures { IfOk result (λ v. v.items ≡ numbers_without step_in 0 (map view values.now)) }
+{
+    let mut numbers = Vec::new(alloc);
+    for (number, value) in values.iter().enumerate() {
+        if Step::read(value).is_none() {
+            numbers.push(number)?;
+        }
+    }
+    Ok(numbers)
+}
+
+/// The numbers, likewise, of the values that are no command of a stage.
+pub fn commands_not_read(alloc: Global, values: &[Value]) -> Result<Vec<usize>, AllocError>
+    ensures { IfOk result (λ v. v.items ≡ numbers_without command_in 0 (map view values.now)) }
+{
+    let mut numbers = Vec::new(alloc);
+    for (number, value) in values.iter().enumerate() {
+        if Command::read(value).is_none() {
+            numbers.push(number)?;
+        }
+    }
+    Ok(numbers)
+}
+
+/// The numbers, likewise, of the values that are no action of a system.
+pub fn actions_not_read(alloc: Global, values: &[Value]) -> Result<Vec<usize>, AllocError>
+    ensures { IfOk result (λ v. v.items ≡ numbers_without action_in 0 (map view values.now)) }
+{
+    let mut numbers = Vec::new(alloc);
+    for (number, value) in values.iter().enumerate() {
+        if Action::read(value).is_none() {
+            numbers.push(number)?;
+        }
+    }
+    Ok(numbers)
+}

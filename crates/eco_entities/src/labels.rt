@@ -1,19 +1,20 @@
 //! The names of entities by their indices.
-ghost use Rattle.std.specs.Prelude.{◌≡◌, None, Some, OnOk, OnErr, IfOk, option_map, string_bytes};
+ghost use Rattle.std.specs.Prelude.{◌≡◌, None, Some, OnOk, OnErr, IfOk, option_map};
 ghost use Rattle.std.specs.Option.{option_copied};
 
+use crate::label::Label;
 use std::alloc::{AllocError, Global};
 use std::collections::BTreeMap;
 
 /// An index without a name costs nothing here.
 #[derive(Drop)]
 pub(crate) struct Labels {
-    names: BTreeMap<u32, String>,
+    names: BTreeMap<u32, Label>,
 }
 
 impl Labels {
     ghost use Rattle.eco_entities.specs.Changes.{ChangesAt, Keeps};
-    ghost use Rattle.eco_entities.specs.Labels.{label_of};
+    ghost use Rattle.eco_entities.specs.Labels.{label_of, label_text};
 
     /// No index has a name.
     pub(crate) fn new(alloc: Global) -> Labels
@@ -44,19 +45,19 @@ impl Labels {
 
     /// The index has this name. The answer is the one that it had. An `Err` comes where a growth was refused, and changes
     /// nothing.
-    pub(crate) fn insert(&mut self, index: u32, name: String) -> Result<Option<String>, AllocError>
+    pub(crate) fn insert(&mut self, index: u32, name: Label) -> Result<Option<Label>, AllocError>
         ensures ok { OnOk result (ChangesAt (label_of self.old) (label_of self.new) index
-            (Some (string_bytes name))) }
-        ensures was { IfOk result (λ was. option_map string_bytes was ≡ label_of self.old index) }
+            (Some (label_text name))) }
+        ensures was { IfOk result (λ was. option_map label_text was ≡ label_of self.old index) }
         ensures err { OnErr result (Keeps (label_of self.old) (label_of self.new)) }
     {
         Ok(self.names.insert(index, name)?)
     }
 
     /// The index has no name. The answer is the one that it had.
-    pub(crate) fn remove(&mut self, index: u32) -> Option<String>
+    pub(crate) fn remove(&mut self, index: u32) -> Option<Label>
         ensures removed { ChangesAt (label_of self.old) (label_of self.new) index None }
-        ensures was { option_map string_bytes result ≡ label_of self.old index }
+        ensures was { option_map label_text result ≡ label_of self.old index }
     {
         self.names.remove(&index)
     }

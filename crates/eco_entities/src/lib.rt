@@ -3,6 +3,7 @@
 
 mod entity_index;
 mod free_set;
+mod label;
 mod labels;
 pub mod laws;
 mod level;

@@ -1,15 +1,17 @@
 //! The known indices: which of them live, are free or retired, and what is kept of the living.
-ghost use Rattle.std.specs.Prelude.{◌≡◌, ℕ, ◌+◌, ◌≤◌, ◌<◌, ◌&&◌, false, nat_lt, [], ◌++◌, replicate, vec_len, vec_capacity, length, slice_get, IsTrue, IsFalse, OnOk, OnErr, IfOk, IfSome, IfNone, Some, None, option_map, string_bytes};
+ghost use Rattle.std.specs.Prelude.{◌≡◌, ℕ, ◌+◌, ◌≤◌, ◌<◌, ◌&&◌, false, nat_lt, [], ◌++◌, replicate, vec_len, vec_capacity, length, slice_get, IsTrue, IsFalse, OnOk, OnErr, IfOk, IfSome, IfNone, Some, None, option_map};
 ghost use Rattle.eco_ids.specs.Births.{Admits, may_admit, MakesAliveWith};
 ghost use Rattle.eco_ids.specs.Indices.{changed, record_of, is_alive, is_free_at, next_entity, admitted, with_new, with_record, with_death};
 ghost use Rattle.eco_ids.specs.Outcome.{Meets};
 ghost use Rattle.std.specs.Option.{option_copied};
 ghost use Rattle.eco_ids.specs.Renaming.{own_name};
+ghost use Rattle.eco_entities.specs.Labels.{label_text};
 ghost use Rattle.eco_entities.specs.Needs.{need_of};
 ghost use Rattle.eco_entities.specs.Registration.{name_of, newcomer, own_arity, own_place, entity_at, placed, renamed};
 ghost use Rattle.eco_entities.specs.Slots.{living_slot, next_generation, put_at, Fits, IsNextSlot};
 
 use crate::free_set::FreeSet;
+use crate::label::Label;
 use crate::labels::Labels;
 use crate::place::Place;
 use crate::slot::{ALL_FIELDS, Slot};
@@ -251,12 +253,12 @@ impl Slots {
     pub(crate) fn settle_named(
         &mut self,
         entity: Entity,
-        name: String,
+        name: Label,
         arity: Option<u8>,
     ) -> Result<(), AllocError>
         requires { next_entity self.old ≡ Some entity }
         ensures ok { OnOk result (self.new ≡ with_new self.old entity
-            (newcomer (Some (string_bytes name)) arity)) }
+            (newcomer (Some (label_text name)) arity)) }
         ensures err { OnErr result (self.new ≡ self.old) }
     {
         let slot = Slot::newcomer(entity.generation, true, arity);
@@ -327,11 +329,11 @@ impl Slots {
     pub(crate) fn give_name(
         &mut self,
         entity: Entity,
-        name: String,
-    ) -> Result<Option<String>, AllocError>
+        name: Label,
+    ) -> Result<Option<Label>, AllocError>
         requires { IsTrue (is_alive self.old entity) }
-        ensures ok { OnOk result (self.new ≡ changed self.old entity (renamed (Some (string_bytes name)))) }
-        ensures was { IfOk result (λ was. option_map string_bytes was ≡ own_name name_of self.old entity) }
+        ensures ok { OnOk result (self.new ≡ changed self.old entity (renamed (Some (label_text name)))) }
+        ensures was { IfOk result (λ was. option_map label_text was ≡ own_name name_of self.old entity) }
         ensures err { OnErr result (self.new ≡ self.old) }
     {
         let label = self.labels.insert(entity.index, name)?;
@@ -343,10 +345,10 @@ impl Slots {
 
     /// The living entity has no name from now on. The answer is the one that it had.
     #[inline(always)]
-    pub(crate) fn take_name(&mut self, entity: Entity) -> Option<String>
+    pub(crate) fn take_name(&mut self, entity: Entity) -> Option<Label>
         requires { IsTrue (is_alive self.old entity) }
         ensures renamed { self.new ≡ changed self.old entity (renamed None) }
-        ensures was { option_map string_bytes result ≡ own_name name_of self.old entity }
+        ensures was { option_map label_text result ≡ own_name name_of self.old entity }
     {
         let index = entity.index as usize;
         if !self.slots[index].is_named() {

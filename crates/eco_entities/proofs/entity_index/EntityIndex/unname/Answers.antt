@@ -8,7 +8,15 @@ use Rattle.eco_entities.proofs.entity_index.EntityIndex.unname.Goals as goal
 pub invariant_of-self : goal.invariant_of-self
 invariant_of-self c =
     let named : own_name name_of c.self.inside.slots c.args.entity ≡ Some c.as_str.result.now = sym c.in-Some.ensures.was
-    ∙ ap Some (sym c.as_str.ensures.value) in
+    ∙ ap Some (sym c.as_str.ensures) in
+    rw c.take_name.ensures.renamed
+    (registry_lose c.as_str.result.now c.args.entity c.self.invariant named c.remove.ensures
+    (own-renamed c.self.inside.slots c.args.entity None (rw c.self.view_is c.requires)))
+
+pub invariant_of-self-in-Some-2 : goal.invariant_of-self-in-Some-2
+invariant_of-self-in-Some-2 c =
+    let named : own_name name_of c.self.inside.slots c.args.entity ≡ Some c.as_str.result.now = sym c.in-Some.ensures.was
+    ∙ ap Some (sym c.as_str.ensures) in
     rw c.take_name.ensures.renamed
     (registry_lose c.as_str.result.now c.args.entity c.self.invariant named c.remove.ensures
     (own-renamed c.self.inside.slots c.args.entity None (rw c.self.view_is c.requires)))

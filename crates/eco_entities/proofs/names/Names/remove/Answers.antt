@@ -1,9 +1,23 @@
-use Rattle.std.proofs.Common.{None}
+use Rattle.std.proofs.Common.{length, nat_le, None}
 use Rattle.std.proofs.lemmas.Map.Text.{btree_map_updates_text}
-use Rattle.eco_entities.proofs.Texts.{changes_text}
+use Rattle.std.specs.BTreeMap.{get_by_text}
+use Rattle.eco_entities.specs.Registry.{short_entity_of}
+use Rattle.eco_entities.proofs.Texts.{changes_text, changes_short, left_changes, right_changes}
 use Rattle.eco_entities.proofs.names.Names.remove.Goals as goal
 
-pub returns : goal.returns
-returns c =
-    let m = c.args.self.now.entities in
-    changes_text c.args.name.now m c.remove.new.self None (btree_map_updates_text c.args.name.now m c.remove.new.self None c.remove.ensures.updates)
+pub returns-in-Some : goal.returns-in-Some
+returns-in-Some c =
+    let m = c.args.self.now.short in
+    let n = c.remove.new.self in
+    let long = get_by_text c.args.self.now.long in
+    left_changes (λ k. nat_le (length k) 24) (short_entity_of m) (short_entity_of n) long long c.args.name.now None c.in-Some.ensures.1
+    (rw c.in-Some.ensures.0 at (changes_short c.in-Some.short.bytes m n None c.remove.ensures.updates))
+
+pub returns-in-None : goal.returns-in-None
+returns-in-None c =
+    let name = c.args.name.now in
+    let m = c.args.self.now.long in
+    let n = c.remove-in-None.new.self in
+    let short = short_entity_of c.args.self.now.short in
+    right_changes (λ k. nat_le (length k) 24) short short (get_by_text m) (get_by_text n) name None c.in-None.ensures
+    (changes_text name m n None (btree_map_updates_text name m n None c.remove-in-None.ensures.updates))

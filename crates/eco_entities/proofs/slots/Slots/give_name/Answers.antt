@@ -1,7 +1,7 @@
 use Rattle.std.proofs.lemmas.Grind.{common_steps}
-use Rattle.std.proofs.Common.{◌<◌, cond, length, ap, ◌∙◌, Some, None, option_map, string_bytes, arith}
+use Rattle.std.proofs.Common.{◌<◌, cond, length, ap, ◌∙◌, Some, None, option_map, arith}
 use Rattle.eco_ids.specs.Indices.{map_state}
-use Rattle.eco_entities.specs.Labels.{label_of}
+use Rattle.eco_entities.specs.Labels.{label_of, label_text}
 use Rattle.eco_entities.specs.Registration.{renamed}
 use Rattle.eco_entities.specs.Slots.{state_of}
 use Rattle.eco_entities.proofs.Marks.{alive_within, slot_changed}
@@ -18,7 +18,7 @@ invariant_of-self-2 c =
     let label' = label_of c.insert.new.self in
     let e = c.args.entity in
     let old = c.index_mut-slot.result.now in
-    (slot_changed c.self.inside c.args.self.now c.self.invariant c.self.view_is label' e old c.set_named.new.self (renamed (Some (string_bytes c.args.name)))
+    (slot_changed c.self.inside c.args.self.now c.self.invariant c.self.view_is label' e old c.set_named.new.self (renamed (Some (label_text c.args.name)))
     c.in_ok-label.ensures.ok.others c.requires c.index_mut-slot.ensures.value
     (c.set_named.ensures (label e.index) (label' e.index) ∙ ap (λ l. map_state (renamed l) (state_of (label e.index) old)) c.in_ok-label.ensures.ok.here)).0
 
@@ -28,7 +28,7 @@ returns-clause-ok c =
     let label' = label_of c.insert.new.self in
     let e = c.args.entity in
     let old = c.index_mut-slot.result.now in
-    (slot_changed c.self.inside c.args.self.now c.self.invariant c.self.view_is label' e old c.set_named.new.self (renamed (Some (string_bytes c.args.name)))
+    (slot_changed c.self.inside c.args.self.now c.self.invariant c.self.view_is label' e old c.set_named.new.self (renamed (Some (label_text c.args.name)))
     c.in_ok-label.ensures.ok.others c.requires c.index_mut-slot.ensures.value
     (c.set_named.ensures (label e.index) (label' e.index) ∙ ap (λ l. map_state (renamed l) (state_of (label e.index) old)) c.in_ok-label.ensures.ok.here)).1
 
@@ -40,7 +40,7 @@ returns-clause-was c =
     let within : e.index < length slots = alive_within c.self.inside c.args.self.now c.self.invariant c.self.view_is e c.requires in
     let own = name_read c.self.inside c.args.self.now c.self.view_is e c.index_mut-slot.result.now c.requires within c.index_mut-slot.ensures.value in
     elim c.if-is_named.branch [
-      | then-is_named b ↦ ap (option_map string_bytes) b.was-is
+      | then-is_named b ↦ ap (option_map label_text) b.was-is
           ∙ (c.in_ok-label.ensures.was ∙ (ap (λ b. cond b (label e.index) None) b.if-is_named.ensures ∙ own))
-      | else-is_named b ↦ ap (option_map string_bytes) b.was-is ∙ (ap (λ b. cond b (label e.index) None) b.if-is_named.ensures ∙ own)
+      | else-is_named b ↦ ap (option_map label_text) b.was-is ∙ (ap (λ b. cond b (label e.index) None) b.if-is_named.ensures ∙ own)
     ]

@@ -1,7 +1,7 @@
 use Rattle.std.proofs.lemmas.Grind.{common_steps}
-use Rattle.std.proofs.Common.{ap, ◌∙◌, Some, string_bytes, arith}
+use Rattle.std.proofs.Common.{ap, ◌∙◌, Some, arith}
 use Rattle.eco_ids.specs.Indices.{Living}
-use Rattle.eco_entities.specs.Labels.{label_of}
+use Rattle.eco_entities.specs.Labels.{label_of, label_text}
 use Rattle.eco_entities.specs.Registration.{newcomer}
 use Rattle.eco_entities.proofs.Marks.{next_slot, next_unlabelled, slot_settled}
 use Rattle.eco_entities.proofs.slots.Slots.settle_named.Goals as goal
@@ -14,7 +14,7 @@ invariant_of-self-in-Ok c =
     let e = c.args.entity in
     let label' = label_of c.insert.new.self in
     (slot_settled c.self.inside c.args.self.now c.self.invariant c.self.view_is e label' c.put.new.slots.items c.put.new.free c.newcomer-slot.result
-    (newcomer (Some (string_bytes c.args.name)) c.args.arity) c.in_ok-insert.ensures.ok.others c.requires (omega arith)
+    (newcomer (Some (label_text c.args.name)) c.args.arity) c.in_ok-insert.ensures.ok.others c.requires (omega arith)
     (c.newcomer-slot.ensures (label' e.index) ∙ ap (λ o. Living e.generation (newcomer o c.args.arity)) c.in_ok-insert.ensures.ok.here)
     c.in-Ok.ensures.slots c.in-Ok.ensures.free).0
 
@@ -23,7 +23,7 @@ returns-in-Ok-clause-ok c =
     let e = c.args.entity in
     let label' = label_of c.insert.new.self in
     (slot_settled c.self.inside c.args.self.now c.self.invariant c.self.view_is e label' c.put.new.slots.items c.put.new.free c.newcomer-slot.result
-    (newcomer (Some (string_bytes c.args.name)) c.args.arity) c.in_ok-insert.ensures.ok.others c.requires (omega arith)
+    (newcomer (Some (label_text c.args.name)) c.args.arity) c.in_ok-insert.ensures.ok.others c.requires (omega arith)
     (c.newcomer-slot.ensures (label' e.index) ∙ ap (λ o. Living e.generation (newcomer o c.args.arity)) c.in_ok-insert.ensures.ok.here)
     c.in-Ok.ensures.slots c.in-Ok.ensures.free).1
 

@@ -2,3 +2,4 @@ pub mod Chunked
 pub mod Filtered
 pub mod Least
 pub mod Only
+pub mod Unseen

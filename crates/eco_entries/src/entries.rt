@@ -1,16 +1,20 @@
 //! The entries that a slot may have on an entity.
-ghost use Rattle.std.specs.Prelude.{◌≡◌, ◌++◌, ◌∷◌, [], map, filter, find, Some, OnOk, option_to_list, ◌&&◌};
+ghost use Rattle.std.specs.Prelude.{◌≡◌, ◌++◌, ◌∷◌, [], map, filter, find, Some, OnOk, option_to_list, ◌&&◌, IsTrue};
 ghost use Rattle.std.specs.List.{list_any};
 ghost use Rattle.std.specs.Ordering.{is_lt};
 ghost use Rattle.eco_ids.specs.Answer.{entries_of, is_least_match, same_filling};
 ghost use Rattle.eco_entries.specs.Answers.{has_any_part, parts_alike};
 ghost use Rattle.eco_ids.specs.Matching.{pattern_matches};
-ghost use Rattle.eco_ids.specs.Order.{has_item, id_cmp};
+ghost use Rattle.eco_ids.specs.Order.{has_item, id_cmp, is_ascending};
 ghost use Rattle.eco_query.specs.Queries.{term_view};
 
+use crate::fillings::add_first_of_each;
 use eco_ids::{Entity, Id, Part, Pattern, TypeList};
 use eco_query::{Slot, Term};
 use std::alloc::AllocError;
+
+// Up to so many ids are compared with one another, which takes no memory.
+const FEW_IDS: usize = 12;
 
 // Whether two ids that match fill the `*` parts alike.
 fn fills_alike(pattern: Pattern, id: Id, other: Id) -> bool
@@ -73,6 +77,7 @@ fn put(entry: Option<Id>, entries: &mut Vec<Option<Id>>) -> Result<(), AllocErro
 // relationship: each of these has a loop of its own, which the compiler makes for its pattern alone.
 #[inline(always)]
 fn add_least(pattern: &Pattern, ids: &[Id], entries: &mut Vec<Option<Id>>) -> Result<(), AllocError>
+    requires { IsTrue (is_ascending id_cmp ids.now) }
     ensures { OnOk result (entries.new.items
         ≡ entries.old.items ++ map Some (filter (is_least_match pattern.now ids.now) ids.now)) }
 {
@@ -93,6 +98,7 @@ fn add_least_of(
     ids: &[Id],
     entries: &mut Vec<Option<Id>>,
 ) -> Result<(), AllocError>
+    requires { IsTrue (is_ascending id_cmp ids.now) }
     ensures { OnOk result (entries.new.items
         ≡ entries.old.items ++ map Some (filter (is_least_match pattern ids.now) ids.now)) }
 {
@@ -101,6 +107,23 @@ fn add_least_of(
     } else {
         // No two ids fill it alike.
         add_matches(pattern, ids, entries)
+    }
+}
+
+// Puts the least match of each filling behind other entries, where several may fill the pattern alike.
+fn add_least_alike(
+    pattern: Pattern,
+    ids: &[Id],
+    entries: &mut Vec<Option<Id>>,
+) -> Result<(), AllocError>
+    requires { IsTrue (is_ascending id_cmp ids.now) }
+    ensures { OnOk result (entries.new.items
+        ≡ entries.old.items ++ map Some (filter (is_least_match pattern ids.now) ids.now)) }
+{
+    if ids.len() <= FEW_IDS {
+        add_least_of_few(pattern, ids, entries)
+    } else {
+        add_first_of_each(pattern, ids, entries)
     }
 }
 
@@ -132,8 +155,8 @@ fn add_matches(
     Ok(())
 }
 
-// Puts the least match of each filling behind other entries, where several may fill the pattern alike.
-fn add_least_alike(
+// Puts the least match of each filling behind other entries: each id is compared with all.
+fn add_least_of_few(
     pattern: Pattern,
     ids: &[Id],
     entries: &mut Vec<Option<Id>>,

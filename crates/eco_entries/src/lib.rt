@@ -4,6 +4,7 @@
 
 mod choices;
 mod entries;
+mod fillings;
 mod product;
 mod single;
 

@@ -1,7 +1,7 @@
 use Rattle.std.proofs.Common.{◌≡◌, ◌++◌, take, map, Some}
 use Rattle.std.specs.Prelude.{filter}
 use Rattle.eco_ids.specs.Answer.{is_least_match}
-use Rattle.eco_entries.proofs.entries.add_least_alike.Given as goal
+use Rattle.eco_entries.proofs.entries.add_least_of_few.Given as goal
 
 abbrev pub invariant-loop-id : goal.invariant-loop-id
 invariant-loop-id l = l.entries.items ≡ l.fn.entries.items ++ map Some (filter (is_least_match l.pattern l.ids) (take l.id-index l.ids))

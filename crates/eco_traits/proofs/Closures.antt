@@ -1,33 +1,22 @@
 -- The closure of an id is the walk of pairs of With from its head.
-use Rattle.std.proofs.lemmas.Grind.{common_steps}
-use Rattle.std.proofs.Common.{arith}
-use Rattle.std.proofs.Common.{◌≡◌, ℕ, ◌+◌, ◌<◌, ◌||◌, ◌↔◌, inl, inr, List, [], ◌∷◌, length, take, get_or, refl, sym, ap, ◌∙◌, subst, true≢false, IsTrue}
-use Rattle.std.proofs.lemmas.List.{take_more}
+use Rattle.std.proofs.Common.{◌≡◌, ◌||◌, ◌↔◌, inl, inr, List, [], ◌∷◌, refl, sym, ap, ◌∙◌, subst, true≢false, IsTrue}
 use Rattle.eco_ids.specs.declared.entity.Entity.{Entity}
 use Rattle.eco_ids.specs.declared.entity.TheConstants.{WITH}
 use Rattle.eco_ids.specs.declared.id.Id.{Id}
 use Rattle.eco_ids.specs.declared.id.Id.TheVariants.{One, Two}
 use Rattle.eco_ids.specs.Least.{root, next}
-use Rattle.eco_ids.specs.Order.{id_cmp, id_eq, entity_cmp, entity_eq, has_item, is_ascending, Joins}
+use Rattle.eco_ids.specs.Order.{id_cmp, id_eq, entity_cmp, entity_eq, has_item, is_ascending}
 use Rattle.eco_ids.specs.Step.{IsClosure}
 use Rattle.eco_ids.specs.Traits.{Brings, InClosure, Reaches}
 use Rattle.eco_ids.specs.World.{WorldState, has}
 use Rattle.eco_traits.specs.Closure.{head_of, with_head, with_heads}
 use Rattle.std.proofs.lemmas.Bool.{or_left}
-use Rattle.std.proofs.Math.Bool.{or-false, or_comm}
-use Rattle.std.proofs.lemmas.List.{map-append}
 use Rattle.eco_ids.proofs.IdOrder.{same_id}
 use Rattle.eco_ids.proofs.Facts.{or_parts, or_right, id_eq_is, id_eq_itself}
 use Rattle.eco_ids.proofs.Overlaps.{entity_eq_is, entity_eq_itself}
-use Rattle.eco_traits.proofs.Members.{only, has_append}
+use Rattle.eco_traits.proofs.Members.{only}
 
 -- ---- the id with many heads
-
--- one more head
-pub heads_more : (i : Id) (heads : List Entity) (k : ℕ) (d : Entity) (old new : List Id) → k < length heads
-    → ((j : Id) → has_item id_cmp old j ≡ has_item id_cmp (with_heads i (take k heads)) j) → Joins id_cmp old (with_head i (get_or heads k d)) new
-    → (j : Id) → has_item id_cmp new j ≡ has_item id_cmp (with_heads i (take (k + 1) heads)) j
-heads_more i heads k d old new l h joins j = grind (arith, common_steps, or_comm, or-false, has_append, map-append, take_more)
 
 has_head : (i : Id) (heads : List Entity) (x : Entity) → IsTrue (has_item entity_cmp heads x) → IsTrue (has_item id_cmp (with_heads i heads) (with_head i x))
 has_head i [] x h = absurd (true≢false (sym h))

@@ -93,9 +93,10 @@ fn with_heads(alloc: Global, id: Id, heads: &[Entity]) -> Result<TypeList, Alloc
     ensures members { IfOk result (λ ids. spec.HasSameIds ids (spec.with_heads id heads.now)) }
     ensures ascending { IfOk result (λ ids. IsTrue (is_ascending id_cmp ids)) }
 {
+    eco_ids::order::items_join_and_leave();
     let mut ids = TypeList::empty(alloc);
     for head in heads {
-        ids = ids.with(with_head(id, *head))?;
+        ids.insert(with_head(id, *head))?;
     }
     Ok(ids)
 }

@@ -334,12 +334,9 @@ fn is_replaced<H: Holdings>(holdings: &H, coming: &[Id], id: Id) -> bool
 fn joined(ids: &TypeList, coming: &[Id]) -> Result<TypeList, AllocError>
     ensures { IfOk result (λ all. all ≡ fold (with_item id_cmp) ids.now coming.now) }
 {
-    let Some((first, others)) = coming.split_first() else {
-        return ids.try_copy();
-    };
-    let mut all = ids.with(*first)?;
-    for id in others {
-        all = all.with(*id)?;
+    let mut all = ids.try_copy()?;
+    for id in coming {
+        all.insert(*id)?;
     }
     Ok(all)
 }

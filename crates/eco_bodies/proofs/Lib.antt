@@ -1,4 +1,5 @@
 pub mod Allowed
+pub mod Called
 pub mod Entries
 pub mod Fields
 pub mod Refused

@@ -1,5 +1,6 @@
 //! The systems of a frame.
-ghost use Rattle.std.specs.Prelude.{◌≡◌, ◌++◌, ◌∷◌, [], length, IfErr, MatchOption, MatchResult, OnErr, OnOk, string_bytes};
+ghost use Rattle.std.specs.Prelude.{◌≡◌, ◌||◌, [], ℕ, List, IfErr, MatchOption, MatchResult, OnErr, OnOk};
+ghost use Rattle.std.specs.BTreeSet.{contains_text};
 ghost use Rattle.eco_ids.specs.declared.refusal.Refusal.TheVariants.{OutOfMemory};
 ghost use Rattle.eco_ids.specs.Names.{is_text};
 ghost use Rattle.eco_query.specs.Queries.{HasPositive, reads};
@@ -8,7 +9,8 @@ use crate::script::Script;
 use eco_ids::{Pattern, Refusal, is_name};
 use eco_query::Query;
 use eco_systems::Phase;
-use std::alloc::Global;
+use std::alloc::{AllocError, Global};
+use std::collections::BTreeSet;
 use std::marker::Model;
 
 /// A system (Flecs manual, Systems): its name, when it runs, what it asks for, and what it does with each row.
@@ -63,35 +65,63 @@ impl<B: Drop> Drop for NotAdded<B> {
     }
 }
 
+impl<B> NotAdded<B> {
+    // Memory was refused.
+    fn for_memory(query: Query, body: B) -> NotAdded<B>
+        ensures { (result.refusal ≡ OutOfMemory) × (result.query ≡ query) × (result.body ≡ body) }
+    {
+        NotAdded {
+            refusal: Refusal::OutOfMemory,
+            query,
+            body,
+        }
+    }
+}
+
 /// The systems of a frame, in the order of declaration. Those of a list have bodies of one type: scripts, or an enum of all
 /// bodies that a program has.
 #[derive(Debug)]
 pub struct Systems<B = Script> {
     alloc: Global,
     list: Vec<System<B>>,
+    // The names of those on the list: a new one is looked for among them.
+    names: BTreeSet<String>,
 }
 
 // By hand, so that dropping it is one call: a derived drop is proved anew at each early return of whoever holds it.
 impl<B: Drop> Drop for Systems<B> {
     fn drop(self) {
-        let Systems { alloc: _, list: _ } = self;
+        let Systems {
+            alloc: _,
+            list: _,
+            names: _,
+        } = self;
     }
 }
 
-// Whether a system has the name.
-fn is_called<B>(system: &System<B>, name: &str) -> bool
-    ensures { result ≡ is_text (string_bytes system.now.name) name.now }
+// The name stands among the names. An `Err` comes where memory is refused, and leaves them.
+fn add_name(alloc: Global, names: &mut BTreeSet<String>, name: &str) -> Result<(), AllocError>
+    ensures ok { OnOk result ((other : List ℕ)
+        → contains_text names.new other ≡ (contains_text names.old other || is_text name.now other)) }
+    ensures err { OnErr result ((other : List ℕ)
+        → contains_text names.new other ≡ contains_text names.old other) }
 {
-    system.name.as_str() == name
+    let own = String::from_str(alloc, name)?;
+    names.insert(own)?;
+    Ok(())
 }
 
 impl<B> Model for Systems<B> {
-    ghost use Rattle.std.specs.Prelude.{List};
+    ghost use Rattle.std.specs.Prelude.{◌≡◌, ℕ, List};
+    ghost use Rattle.std.specs.BTreeSet.{contains_text};
+    ghost use Rattle.eco_bodies.specs.Added.{is_named};
     ghost use Rattle.eco_bodies.specs.declared.systems.System.{System};
 
     ghost Value = { List (System B) };
 
     ghost view = { λ s. s.list.items };
+
+    ghost invariant = { λ s. (name : List ℕ) → contains_text s.names name ≡ is_named s.list.items name };
 }
 
 impl<B: Drop> Systems<B> {
@@ -104,6 +134,7 @@ impl<B: Drop> Systems<B> {
         Systems {
             alloc,
             list: Vec::new(alloc),
+            names: BTreeSet::new(alloc),
         }
     }
 
@@ -118,7 +149,7 @@ impl<B: Drop> Systems<B> {
     fn has_name(&self, name: &str) -> bool
         ensures { result ≡ is_named self.now name.now }
     {
-        self.list.iter().any(|system| is_called(system, name))
+        self.names.contains(name)
     }
 
     // Why a system of the name can't be added.
@@ -158,20 +189,19 @@ impl<B: Drop> Systems<B> {
                 body,
             });
         }
-        let (Ok(()), Ok(name), Ok(query_reads)) = (
+        let (Ok(()), Ok(own), Ok(query_reads)) = (
             self.list.reserve(1),
             String::from_str(self.alloc, name),
             query.reads(self.alloc),
         ) else {
-            return Err(NotAdded {
-                refusal: Refusal::OutOfMemory,
-                query,
-                body,
-            });
+            return Err(NotAdded::for_memory(query, body));
+        };
+        let Ok(()) = add_name(self.alloc, &mut self.names, name) else {
+            return Err(NotAdded::for_memory(query, body));
         };
         query.is_positive();
         self.list.push_reserved(System {
-            name,
+            name: own,
             phase,
             query,
             query_reads,

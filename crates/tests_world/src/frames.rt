@@ -1,5 +1,5 @@
-//! Frames: two workers are inside two pieces at once.
-ghost use Rattle.std.specs.Prelude.{false, refl, []};
+//! Frames: as many workers as pieces are each inside of one at the same time.
+ghost use Rattle.std.specs.Prelude.{◌≤◌, false, refl, []};
 
 use eco_bodies::{BodyRow, Draws, SystemBody, Systems};
 use eco_frame::run_frame;
@@ -11,31 +11,43 @@ use std::alloc::Global;
 use std::sync::atomic::{AtomicU64, Ordering};
 use std::thread::Threads;
 
-// Waits at the first row until the last one is recorded, for so many turns, and notes where it waited in vain.
+const ROWS_OF_A_PIECE: u32 = 64;
+
+// Each piece but the last waits at its first row until the last one has begun, for so many turns. It notes how many have passed.
 #[derive(Drop)]
 struct Gate<'a> {
-    first: Entity,
-    last: Entity,
+    // The index of the first row's entity; each other row has the next one.
+    first: u32,
+    // How many pieces there are.
+    pieces: u32,
     turns: u64,
     opened: &'a AtomicU64,
-    missed: &'a AtomicU64,
+    passed: &'a AtomicU64,
 }
 
 impl Gate<'_> {
-    // Opens or waits.
-    fn pass(&self, entity: Entity) {
-        if entity.is(self.last) {
-            self.opened.store(1, Ordering::SeqCst);
-        }
-        if !entity.is(self.first) {
-            return;
-        }
+    // Waits until the last piece has begun, or in vain.
+    fn wait(&self) -> bool {
         for _ in 0..self.turns {
             if self.opened.load(Ordering::SeqCst) == 1 {
-                return;
+                return true;
             }
         }
-        self.missed.store(1, Ordering::SeqCst);
+        false
+    }
+
+    // Opens or waits, where a piece begins.
+    fn pass(&self, entity: Entity) {
+        let row = entity.index.wrapping_sub(self.first);
+        if row % ROWS_OF_A_PIECE != 0 {
+            return;
+        }
+        if row / ROWS_OF_A_PIECE + 1 == self.pieces {
+            self.opened.store(1, Ordering::SeqCst);
+        }
+        if self.wait() {
+            self.passed.fetch_add(1, Ordering::SeqCst);
+        }
     }
 }
 
@@ -77,17 +89,15 @@ impl SystemBody for Gate<'_> {
     ghost settled = { λ s row mine later h. (h, refl) };
 }
 
-// The tag `T`, and 65 entities that have it: the first and the last of them.
-fn prepare(world: &mut World) -> Result<(Entity, Entity), Refusal> {
+// The tag `T`, and so many entities that have it: the index of the first of them.
+fn prepare(world: &mut World, rows: u32) -> Result<u32, Refusal> {
     let tag = Id::One(world.create(Some("T"))?);
-    let first = world.create(None)?;
-    world.add(first, tag)?;
-    let mut last = first;
-    for _ in 1..65 {
-        last = world.create(None)?;
-        world.add(last, tag)?;
+    let first = world.high();
+    for _ in 0..rows {
+        let entity = world.create(None)?;
+        world.add(entity, tag)?;
     }
-    Ok((first, last))
+    Ok(first)
 }
 
 // Whether a frame of one system has one batch.
@@ -97,31 +107,47 @@ fn has_one_batch<R: Threads + Sync>(
     world: &mut World,
     query: Query,
     gate: Gate<'_>,
-) -> bool {
+    workers: u32,
+) -> bool
+    requires { (1 ≤ workers) × (workers ≤ 64) }
+{
     let mut systems = Systems::new(alloc);
     systems.add("gate", Phase::OnUpdate, query, gate).is_ok()
-        && run_frame(rt, alloc, world, &systems, 2).is_ok_and(|report| report.batches() == 1)
+        && run_frame(rt, alloc, world, &systems, workers).is_ok_and(|report| report.batches() == 1)
 }
 
-// Whether two workers overlap: the record of the first of 65 rows waits for that of the last, which stands in another piece.
-fn overlap<R: Threads + Sync>(rt: &R, alloc: Global) -> Result<bool, Refusal> {
+// Whether as many workers as so many rows have pieces are inside of one each at the same time: each piece but the last waits at
+// its first row for the first row of the last.
+fn overlap<R: Threads + Sync>(
+    rt: &R,
+    alloc: Global,
+    rows: u32,
+    pieces: u32,
+) -> Result<bool, Refusal>
+    requires { (1 ≤ pieces) × (pieces ≤ 64) }
+{
     let opened = AtomicU64::new(0);
-    let missed = AtomicU64::new(0);
-    let mut world = World::new(alloc, 256)?;
-    let (first, last) = prepare(&mut world)?;
+    let passed = AtomicU64::new(0);
+    let mut world = World::new(alloc, 1024)?;
+    let first = prepare(&mut world, rows)?;
     let query = world.read_query("T")?;
     let gate = Gate {
         first,
-        last,
+        pieces,
         turns: 2_000_000_000,
         opened: &opened,
-        missed: &missed,
+        passed: &passed,
     };
-    let is_one = has_one_batch(rt, alloc, &mut world, query, gate);
-    Ok(is_one && missed.load(Ordering::SeqCst) == 0)
+    let is_one = has_one_batch(rt, alloc, &mut world, query, gate, pieces);
+    Ok(is_one && passed.load(Ordering::SeqCst) == u64::from(pieces))
 }
 
 #[test]
-fn workers_of_a_frame_overlap(rt: HostRuntime) {
-    assert!(rt; overlap(&rt, rt.alloc()) == Ok(true));
+fn two_workers_of_a_frame_overlap(rt: HostRuntime) {
+    assert!(rt; overlap(&rt, rt.alloc(), 65, 2) == Ok(true));
+}
+
+#[test]
+fn eight_workers_of_a_frame_overlap(rt: HostRuntime) {
+    assert!(rt; overlap(&rt, rt.alloc(), 512, 8) == Ok(true));
 }

@@ -45,3 +45,5 @@ mod steps;
 mod store;
 #[cfg(test)]
 mod sweeps;
+#[cfg(test)]
+mod twins;

@@ -1,0 +1,218 @@
+//! Fresh handles of a frame: each is drawn once, and those of a piece ascend, however many workers draw at the same time.
+ghost use Rattle.std.specs.Prelude.{◌≡◌, ◌≤◌, ◌∷◌, [], false};
+ghost use Rattle.eco_ids.specs.declared.pattern.Pattern.TheVariants as pattern;
+ghost use Rattle.eco_bodies.specs.Lent.{item_at};
+ghost use Rattle.tests_world.specs.Twins.{made, made_is_declared, made_is_settled, makes};
+
+use eco_bodies::{BodyRow, Draws, SystemBody, Systems, record_command};
+use eco_frame::run_frame;
+use eco_ids::{Entity, Id, Pattern, Refusal, Value};
+use eco_stages::{Command, Stage};
+use eco_systems::Phase;
+use eco_world::World;
+use std::alloc::Global;
+use std::sync::atomic::{AtomicU64, Ordering};
+use std::thread::Threads;
+
+const ROWS: u32 = 512;
+
+const ROWS_OF_A_PIECE: usize = 64;
+
+// Makes an entity for each row that has a number, and gives it that number. Where a piece begins it waits, behind its first draw,
+// until so many pieces have drawn, for so many turns.
+#[derive(Drop)]
+struct Twins<'a> {
+    twin: Entity,
+    writes: [Pattern; 1],
+    together: u64,
+    turns: u64,
+    begun: &'a AtomicU64,
+    ghost own: { writes ≡ pattern.One twin ∷ [] },
+}
+
+impl Twins<'_> {
+    // Tells that one more piece has drawn, and waits for others, where it is a piece's first row.
+    fn meet(&self, number: Value) {
+        if number.0[0] % 64 != 0 {
+            return;
+        }
+        self.begun.fetch_add(1, Ordering::SeqCst);
+        for _ in 0..self.turns {
+            if self.begun.load(Ordering::SeqCst) >= self.together {
+                return;
+            }
+        }
+    }
+}
+
+impl SystemBody for Twins<'_> {
+    ghost reads_of = { λ s. [] };
+
+    ghost writes_of = { λ s. s.writes };
+
+    ghost kills_of = { λ s. false };
+
+    ghost commands = { λ s row draws. made s.twin (item_at row.values 0) draws };
+
+    ghost taken = { λ s row draws. makes (item_at row.values 0) };
+
+    fn reads(&self) -> &[Pattern] {
+        &[]
+    }
+
+    fn writes(&self) -> &[Pattern] {
+        &self.writes
+    }
+
+    fn kills(&self) -> bool {
+        false
+    }
+
+    fn record<R: BodyRow, D: Draws>(
+        &self,
+        row: &R,
+        draws: &mut D,
+        stage: &mut Stage,
+    ) -> Result<(), Refusal> {
+        let Some(number) = row.value(0) else {
+            return Ok(());
+        };
+        let twin = draws.draw()?;
+        self.meet(number);
+        record_command(stage, Command::Create(twin))?;
+        record_command(stage, Command::Set(twin, Id::One(self.twin), number))
+    }
+
+    ghost declared = { λ s row draws h.
+        made_is_declared s.twin s.writes s.own (item_at row.values 0) draws };
+
+    ghost settled = { λ s row mine later h.
+        made_is_settled s.twin (item_at row.values 0) mine later h };
+}
+
+// The components `Number` and `Twin`, and entities with the numbers from 0 up: the second component.
+fn prepare(world: &mut World) -> Result<Entity, Refusal> {
+    let number = Id::One(world.component(Some("Number"), 1)?);
+    let twin = world.component(Some("Twin"), 1)?;
+    for k in 0..ROWS {
+        let entity = world.create(None)?;
+        world.set(entity, number, Value([i64::from(k), 0, 0, 0]))?;
+    }
+    Ok(twin)
+}
+
+// Runs a frame of one system.
+fn run_twins<R: Threads + Sync>(
+    rt: &R,
+    alloc: Global,
+    world: &mut World,
+    body: Twins<'_>,
+    workers: u32,
+) -> Result<(), Refusal>
+    requires { (1 ≤ workers) × (workers ≤ 64) }
+{
+    let query = world.read_query("[in] Number")?;
+    let mut systems = Systems::new(alloc);
+    if let Err(refused) = systems.add("twins", Phase::OnUpdate, query, body) {
+        return Err(refused.refusal);
+    }
+    match run_frame(rt, alloc, world, &systems, workers) {
+        Ok(_) => Ok(()),
+        Err(stop) => Err(stop.refusal),
+    }
+}
+
+// The row whose number an entity has, if it is a twin.
+fn row_of(world: &World, entity: Entity, twin: Entity) -> Option<usize> {
+    let number = world.get(entity, Id::One(twin))?;
+    usize::try_from(number.0[0]).ok()
+}
+
+// The index of the twin of each row, in the order of rows; 0 where there is none.
+fn twins_of(alloc: Global, world: &World, twin: Entity) -> Result<Vec<u32>, Refusal> {
+    let mut twins = vec![in alloc; 0u32; ROWS as usize]?;
+    for entity in world.living()? {
+        let row = row_of(world, entity, twin).unwrap_or(usize::MAX);
+        if row < twins.len() {
+            twins[row] = entity.index;
+        }
+    }
+    Ok(twins)
+}
+
+// The twins of a frame by so many workers.
+fn draw_twins<R: Threads + Sync>(rt: &R, alloc: Global, workers: u32) -> Result<Vec<u32>, Refusal>
+    requires { (1 ≤ workers) × (workers ≤ 64) }
+{
+    let begun = AtomicU64::new(0);
+    let mut world = World::new(alloc, 2048)?;
+    let twin = prepare(&mut world)?;
+    let body = Twins {
+        twin,
+        writes: [Pattern::One(twin)],
+        together: u64::from(workers),
+        turns: 2_000_000_000,
+        begun: &begun,
+    };
+    run_twins(rt, alloc, &mut world, body, workers)?;
+    twins_of(alloc, &world, twin)
+}
+
+// Whether indices ascend from each to the next, but from the last of so many to the first of the next so many.
+fn ascend_by(rows: usize, twins: &[u32]) -> bool
+    requires { 1 ≤ rows }
+{
+    let mut before = 0;
+    for (row, twin) in twins.iter().enumerate() {
+        if row % rows != 0 && *twin <= before {
+            return false;
+        }
+        before = *twin;
+    }
+    true
+}
+
+// Whether the first index of each of so many pieces is below a bound.
+fn begin_below(pieces: usize, bound: u32, twins: &[u32]) -> bool {
+    twins
+        .iter()
+        .step_by(ROWS_OF_A_PIECE)
+        .take(pieces)
+        .all(|twin| *twin < bound)
+}
+
+// Whether they are the indices from one on.
+fn are_from(base: u32, sorted: &[u32]) -> bool {
+    let mut next = base;
+    for index in sorted {
+        if *index != next {
+            return false;
+        }
+        next = next.wrapping_add(1);
+    }
+    true
+}
+
+// Whether the rows draw the indices from 523 on, each once, whether those of each so many rows ascend, and whether as many pieces as
+// there are workers draw one before any of them draws its second.
+fn draws_each_once<R: Threads + Sync>(
+    rt: &R,
+    alloc: Global,
+    workers: u32,
+    rows: usize,
+) -> Result<bool, Refusal>
+    requires { (1 ≤ workers) × (workers ≤ 64) × (1 ≤ rows) }
+{
+    let mut twins = draw_twins(rt, alloc, workers)?;
+    let in_pieces = ascend_by(rows, twins.as_slice());
+    let at_once = begin_below(workers as usize, 523 + workers, twins.as_slice());
+    twins.sort()?;
+    Ok(in_pieces && at_once && twins.len() == 512 && are_from(523, twins.as_slice()))
+}
+
+#[test]
+fn a_frame_draws_each_handle_once(rt: HostRuntime) {
+    assert!(rt; draws_each_once(&rt, rt.alloc(), 1, 512) == Ok(true));
+    assert!(rt; draws_each_once(&rt, rt.alloc(), 2, 64) == Ok(true));
+    assert!(rt; draws_each_once(&rt, rt.alloc(), 8, 64) == Ok(true));
+}

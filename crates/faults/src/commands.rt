@@ -92,6 +92,15 @@ fn found_none(report: &Report, number: usize) -> bool {
     matches!(report.iter().nth(number), Some(Err(Refusal::OutOfMemory)))
 }
 
+/// Records what is merged before them: another name, and a pair that nobody has.
+pub fn record_first(alloc: Global, stages: &mut [Stage; 2]) -> Result<(), AllocError> {
+    stages[0].clear();
+    stages[1].clear();
+    let likes = Id::Two(first(11), first(13));
+    record(&mut stages[0], rename(alloc, first(13), "before")?)?;
+    record(&mut stages[1], Command::Add(first(12), likes))
+}
+
 /// Records all commands, but for those that found no memory by a report, if there is one.
 pub fn record_all(
     alloc: Global,

@@ -69,13 +69,14 @@ fn push_query(text: &mut String, world: &World, number: usize) -> Result<(), All
 
 /// All that a world tells: who lives, with names, arities, ids and values; how many indices are known; its tables; and what the
 /// queries answer that were added to it.
-pub fn push_world(text: &mut String, alloc: Global, world: &World) -> Result<(), Refusal> {
+pub fn dump_of(alloc: Global, world: &World) -> Result<String, Refusal> {
+    let mut text = String::new(alloc);
     let high = world.high();
-    write!(text, "high {high}\n")?;
-    push_entities(text, world)?;
-    push_tables(text, alloc, world)?;
+    write!(&mut text, "high {high}\n")?;
+    push_entities(&mut text, world)?;
+    push_tables(&mut text, alloc, world)?;
     for number in 0..QUERIES {
-        push_query(text, world, number)?;
+        push_query(&mut text, world, number)?;
     }
-    Ok(())
+    Ok(text)
 }

@@ -11,23 +11,42 @@ mod commands;
 mod dump;
 mod scenario;
 mod scene;
+mod shared;
 mod verdict;
 mod worlds;
 
 use eco_ids::Refusal;
+use eco_shared::Blank;
 use scenario::{SCENARIOS, Scenario};
+use shared::judge_shared;
+use std::marker::Brand;
 use std::process::ExitCode;
+use std::sync::Wait;
 use std::thread::Threads;
 use std::{env, io};
 use verdict::{Verdict, judge};
 
+// What comes of the call of a scenario. The registry of a shared world gets its name here: `Brand` stands for one that this call
+// picks (proofs/judge_any).
+fn judge_any<R: Eprint + Threads + Wait + Copy + Drop + Sync + AllocGlobal>(
+    rt: &R,
+    scenario: Scenario,
+) -> Result<Verdict, Refusal> {
+    match scenario {
+        Scenario::OpenShared | Scenario::MergeShared => {
+            judge_shared::<Brand, R>(*rt, rt.alloc(), Blank::new(), scenario)
+        }
+        _ => judge(rt, scenario),
+    }
+}
+
 // Makes the call of a scenario, writes what came of it, and answers whether it was no fault.
-fn show<R: Print + Eprint + Threads + Sync + AllocGlobal>(
+fn show<R: Print + Eprint + Threads + Wait + Copy + Drop + Sync + AllocGlobal>(
     rt: &R,
     scenario: Scenario,
 ) -> Result<bool, Refusal> {
     let name = scenario.name();
-    let verdict = judge(rt, scenario)?;
+    let verdict = judge_any(rt, scenario)?;
     let _written = match &verdict {
         Verdict::Done(answer) => println!(rt; "{name} done {answer}"),
         Verdict::Refused(answer) => println!(rt; "{name} refused {answer}"),
@@ -45,7 +64,10 @@ fn is_asked(scenario: Scenario, word: Option<&String>) -> bool {
 }
 
 // The status that the program ends with.
-fn run<R: Print + Eprint + Threads + Sync + AllocGlobal>(rt: &R, word: Option<&String>) -> u8 {
+fn run<R: Print + Eprint + Threads + Wait + Copy + Drop + Sync + AllocGlobal>(
+    rt: &R,
+    word: Option<&String>,
+) -> u8 {
     let (mut calls, mut faults) = (0u32, 0u32);
     for scenario in SCENARIOS {
         if is_asked(scenario, word) {

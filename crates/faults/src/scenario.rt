@@ -34,10 +34,14 @@ pub enum Scenario {
     Pipeline,
     /// A command is recorded into a stage.
     Record,
+    /// A world is shared with two viewers.
+    OpenShared,
+    /// A merge of twenty commands into a shared world, with another merge before it.
+    MergeShared,
 }
 
 /// All of them, in the order of their lines.
-pub const SCENARIOS: [Scenario; 15] = [
+pub const SCENARIOS: [Scenario; 17] = [
     Scenario::Add,
     Scenario::Step,
     Scenario::Turn,
@@ -53,6 +57,8 @@ pub const SCENARIOS: [Scenario; 15] = [
     Scenario::Frame,
     Scenario::Pipeline,
     Scenario::Record,
+    Scenario::OpenShared,
+    Scenario::MergeShared,
 ];
 
 impl Scenario {
@@ -74,6 +80,8 @@ impl Scenario {
             Scenario::Frame => "frame",
             Scenario::Pipeline => "pipeline",
             Scenario::Record => "record",
+            Scenario::OpenShared => "open_shared",
+            Scenario::MergeShared => "merge_shared",
         }
     }
 }

@@ -1,7 +1,7 @@
 //! A world, and what a call on it takes.
 use crate::answer::Answer;
-use crate::commands::{ADMITTED, first, record_all, rename};
-use crate::dump::push_world;
+use crate::commands::{ADMITTED, first, record_all, record_first, rename};
+use crate::dump::dump_of;
 use crate::scenario::Scenario;
 use crate::worlds::{self, Subject};
 use eco_bodies::{Action, Script, Systems};
@@ -62,7 +62,9 @@ fn make(world: &mut World, scenario: Scenario) -> Result<Subject, Refusal> {
         Scenario::Delete => worlds::with_chain(world),
         Scenario::DeleteWith => worlds::with_holders(world),
         Scenario::ReadQuery | Scenario::Query => worlds::with_likes(world),
-        Scenario::Merge | Scenario::Record => worlds::with_two(world),
+        Scenario::Merge | Scenario::Record | Scenario::OpenShared | Scenario::MergeShared => {
+            worlds::with_two(world)
+        }
         Scenario::Frame | Scenario::Pipeline => worlds::with_mover(world),
     }
 }
@@ -146,6 +148,21 @@ impl Scene {
         Ok(Scene::of(self.alloc, self.scenario, world, self.subject))
     }
 
+    /// A copy of the world alone.
+    pub fn copy_world(&self) -> Result<World, AllocError> {
+        self.world.try_copy()
+    }
+
+    /// What a merge does.
+    pub fn stages(&self) -> &[Stage; 2] {
+        &self.stages
+    }
+
+    /// Makes what a merge takes that comes before the call.
+    pub fn arm_first(&mut self) -> Result<(), AllocError> {
+        record_first(self.alloc, &mut self.stages)
+    }
+
     /// Makes what the call takes.
     pub fn arm(&mut self) -> Result<(), Refusal> {
         match self.scenario {
@@ -154,7 +171,9 @@ impl Scene {
             Scenario::Record => {
                 self.command = Some(rename(self.alloc, self.subject.entity, "name")?);
             }
-            Scenario::Merge => record_all(self.alloc, &mut self.stages, None)?,
+            Scenario::Merge | Scenario::OpenShared | Scenario::MergeShared => {
+                record_all(self.alloc, &mut self.stages, None)?;
+            }
             Scenario::Frame | Scenario::Pipeline => {
                 self.systems = first_systems(self.alloc, &self.world, 2)?;
             }
@@ -176,7 +195,7 @@ impl Scene {
             Scenario::ReadQuery => return Ok(Answer::Read(self.world.read_query(WIDE)?)),
             Scenario::AddQuery => return self.add_query(),
             Scenario::Query => return self.find(),
-            Scenario::Merge => return self.merge(),
+            Scenario::Merge | Scenario::OpenShared | Scenario::MergeShared => return self.merge(),
             Scenario::Frame => return Ok(self.run_systems(rt)),
             Scenario::Pipeline => return self.run_pipeline(rt),
             Scenario::Record => return self.record(),
@@ -264,8 +283,7 @@ impl Scene {
 
     /// All that the world tells, and of a command that is recorded where it stands.
     pub fn dump(&self) -> Result<String, Refusal> {
-        let mut text = String::new(self.alloc);
-        push_world(&mut text, self.alloc, &self.world)?;
+        let mut text = dump_of(self.alloc, &self.world)?;
         if let Scenario::Record = self.scenario {
             let (commands, command) = (self.stages[0].commands(), &self.command);
             write!(&mut text, "stage {commands:?} {command:?}\n")?;

@@ -36,8 +36,8 @@ fn line_at(text: &str, number: usize) -> &str {
     ""
 }
 
-// The first line in which two texts differ, if there is one.
-fn difference(alloc: Global, has: &str, wanted: &str) -> Result<Option<String>, AllocError> {
+/// The first line in which two texts differ, if there is one.
+pub fn difference(alloc: Global, has: &str, wanted: &str) -> Result<Option<String>, AllocError> {
     if has == wanted {
         return Ok(None);
     }
@@ -65,12 +65,31 @@ fn compare(
     Ok(difference(alloc, &has, &wanted)?)
 }
 
+/// Writes that the call begins.
+pub fn begin_call<R: Eprint>(rt: &R) {
+    let _written = eprintln!(rt; "faults: the call begins");
+}
+
+/// Writes that the call ends.
+pub fn end_call<R: Eprint>(rt: &R) {
+    let _written = eprintln!(rt; "faults: the call ends");
+}
+
 // Makes the call between the two lines on standard error.
 fn call_marked<R: Eprint + Threads + Sync>(rt: &R, scene: &mut Scene) -> Result<Answer, Refusal> {
-    let _written = eprintln!(rt; "faults: the call begins");
+    begin_call(rt);
     let answer = scene.call(rt);
-    let _written = eprintln!(rt; "faults: the call ends");
+    end_call(rt);
     answer
+}
+
+/// What came of a call of which nothing differs, by its answer and the text of that.
+pub fn sound(answer: &Result<Answer, Refusal>, text: String) -> Verdict {
+    if wanted_memory(answer) {
+        Verdict::Refused(text)
+    } else {
+        Verdict::Done(text)
+    }
 }
 
 // Changes both worlds, which are equal, makes the call once more on both, and says where they differ then.
@@ -110,10 +129,7 @@ fn judge_on<R: Eprint + Threads + Sync>(
     if let Some(difference) = call_again(rt, alloc, scene, other)? {
         return Ok(Verdict::Fault(difference));
     }
-    if wanted_memory(&answer) {
-        return Ok(Verdict::Refused(text));
-    }
-    Ok(Verdict::Done(text))
+    Ok(sound(&answer, text))
 }
 
 /// Makes the call of a scenario on a copy of its world, and tells what came of it by another copy, on which it is made where

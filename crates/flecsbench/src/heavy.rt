@@ -3,9 +3,10 @@ ghost use Rattle.std.specs.Prelude.{◌≡◌, ◌∷◌, [], false, refl};
 ghost use Rattle.eco_ids.specs.Run as run;
 ghost use Rattle.eco_ids.specs.declared.id.Id.TheVariants as id;
 ghost use Rattle.eco_ids.specs.declared.pattern.Pattern.TheVariants as pattern;
+ghost use Rattle.eco_bodies.specs.Own.{is_own};
 ghost use Rattle.flecsbench.specs.Mixing as spec;
 
-use eco_bodies::{BodyRow, Draws, SystemBody};
+use eco_bodies::{BodyRow, Draws, SystemBody, record_command};
 use eco_ids::{Entity, Id, Pattern, Refusal, Value};
 use eco_world::{Command, Stage};
 
@@ -85,13 +86,10 @@ impl SystemBody for Heavy {
     ) -> Result<(), Refusal> {
         let entity = row.entity();
         let value = value_of(self.rounds, entity.index);
-        match stage.record(Command::Set(entity, Id::One(self.component), value)) {
-            Ok(()) => Ok(()),
-            Err(_) => Err(Refusal::OutOfMemory),
-        }
+        record_command(stage, Command::Set(entity, Id::One(self.component), value))
     }
 
-    ghost declared = { λ s row draws h. (spec.is_own s.component s.writes s.own, tt) };
+    ghost declared = { λ s row draws h. (is_own (id.One s.component) s.writes s.own, tt) };
 
     ghost settled = { λ s row mine later h. (h, refl) };
 }

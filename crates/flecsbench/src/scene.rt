@@ -2,6 +2,7 @@
 use crate::group::{Group, Ids};
 use crate::start::Pick;
 use crate::work::Work;
+use eco_bodies::record_command;
 use eco_ids::{Entity, Id, Refusal, Value};
 use eco_world::{Command, Query, QueryId, Results, Stage, Values, World};
 use std::alloc::Global;
@@ -111,21 +112,13 @@ fn sum_first(rows: &[[i64; 2]]) -> i64 {
     sum
 }
 
-// The command comes last.
-fn record(stage: &mut Stage, command: Command) -> Result<(), Refusal> {
-    match stage.record(command) {
-        Ok(()) => Ok(()),
-        Err(_) => Err(Refusal::OutOfMemory),
-    }
-}
-
 // A fresh entity lives, gets the tag and a value of the component, and dies.
 fn record_life(stage: &mut Stage, entity: Entity, tag: Id, component: Id) -> Result<(), Refusal> {
     let value = Value([1, 2, 0, 0]);
-    record(stage, Command::Create(entity))?;
-    record(stage, Command::Add(entity, tag))?;
-    record(stage, Command::Set(entity, component, value))?;
-    record(stage, Command::Delete(entity))
+    record_command(stage, Command::Create(entity))?;
+    record_command(stage, Command::Add(entity, tag))?;
+    record_command(stage, Command::Set(entity, component, value))?;
+    record_command(stage, Command::Delete(entity))
 }
 
 // What is recorded of an entity and an id: an add where there is no value.
@@ -140,7 +133,7 @@ fn command_of(entity: Entity, id: Id, value: Option<Value>) -> Command {
 fn record_all(stage: &mut Stage, work: &Work, value: Option<Value>) -> Result<(), Refusal> {
     for (turn, entity) in work.entities().iter().enumerate() {
         if let Some(id) = work.id(turn) {
-            record(stage, command_of(*entity, id, value))?;
+            record_command(stage, command_of(*entity, id, value))?;
         }
     }
     Ok(())

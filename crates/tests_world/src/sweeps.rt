@@ -1,31 +1,18 @@
 //! Frames of systems that clear and delete: the world is that of the same systems run one by one.
-ghost use Rattle.std.specs.Prelude.{◌≡◌, ◌++◌, ◌∷◌, [], true, refl, IfErr, OnOk};
+ghost use Rattle.std.specs.Prelude.{◌∷◌, [], true, refl};
 ghost use Rattle.eco_ids.specs.Run as run;
-ghost use Rattle.eco_ids.specs.declared.refusal.Refusal.TheVariants.{OutOfMemory};
-ghost use Rattle.eco_stages.specs.Commands.{command_of};
 
 use crate::draws::Draws;
 use crate::frame_runs::{Totals, frame_agrees};
 use crate::handles::at;
 use crate::long_frames::mend;
 use crate::plans::{Deeds, Plan, prepare};
-use eco_bodies::{BodyRow, Draws as Handles, SystemBody, Systems};
+use eco_bodies::{BodyRow, Draws as Handles, SystemBody, Systems, record_command};
 use eco_ids::{Id, Pattern, Refusal};
 use eco_systems::Phase;
 use eco_world::{Command, Stage, World};
 use std::alloc::Global;
 use std::thread::Threads;
-
-// Puts a command behind those of the stage.
-fn record(stage: &mut Stage, command: Command) -> Result<(), Refusal>
-    ensures ok { OnOk result (stage.new ≡ stage.old ++ command_of command ∷ []) }
-    ensures err { IfErr result (λ why. why ≡ OutOfMemory) }
-{
-    match stage.record(command) {
-        Ok(()) => Ok(()),
-        Err(_) => Err(Refusal::OutOfMemory),
-    }
-}
 
 // Clears each row's entity, and then deletes all who have an id.
 #[derive(Clone, Copy, Drop)]
@@ -62,8 +49,8 @@ impl SystemBody for Sweep {
         _draws: &mut D,
         stage: &mut Stage,
     ) -> Result<(), Refusal> {
-        record(stage, Command::Clear(row.entity()))?;
-        record(stage, Command::DeleteWith(self.id))
+        record_command(stage, Command::Clear(row.entity()))?;
+        record_command(stage, Command::DeleteWith(self.id))
     }
 
     ghost declared = { λ s row draws h. (refl, (refl, tt)) };

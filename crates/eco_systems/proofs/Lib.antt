@@ -8,6 +8,7 @@ mod Frames
 mod FramesExist
 mod FreshDraws
 mod JoinedOneByOne
+mod Left
 pub mod Lists
 mod OneCut
 mod Orders

@@ -1,5 +1,5 @@
 -- The laws above the definitions, as the contracts of `src/laws.rt` cite them.
-use Rattle.std.specs.Prelude.{◌≡◌, ◌↔◌, ℕ, Bool, not, IsTrue, List, [], ◌∷◌, ◌++◌, length, map, slice_get, Some, None, Err, ◌⊎◌}
+use Rattle.std.specs.Prelude.{◌≡◌, ◌↔◌, ◌<◌, ℕ, Bool, not, IsTrue, List, [], ◌∷◌, ◌++◌, length, map, slice_get, Some, None, Err, ◌⊎◌}
 use Rattle.std.specs.List.{AllByRecursion, list_all}
 use Rattle.eco_ids.specs.declared.entity.Entity.{Entity}
 use Rattle.eco_ids.specs.declared.entity.TheConstants.{WITH}
@@ -31,6 +31,13 @@ abbrev pub StoppedAreSolo : Type 0
 StoppedAreSolo =
     (w : WorldState) (systems : List SystemModel) (draws : List BatchDraws) (outcomes : Outcomes) (new : WorldState)
     → IsLawful w → AllByRecursion IsLawfulSystem systems → IsFrameSoFar w systems draws outcomes new → IsSoloSoFar w systems draws outcomes new
+
+-- a frame that stopped has batches left, unless its systems have none
+abbrev pub StoppedHaveMore : Type 0
+StoppedHaveMore =
+    (w : WorldState) (systems : List SystemModel) (draws : List BatchDraws) (outcomes : Outcomes) (new : WorldState)
+    (batches : List (List SystemModel)) → IsFrameSoFar w systems draws outcomes new → AreBatches w (in_order systems) batches
+    → (batches ≡ []) ⊎ (length draws < length batches)
 
 -- each row takes some number of draws, whichever they are
 abbrev pub TakesSome : SystemModel → Type 0

@@ -3,7 +3,7 @@ ghost use Rattle.std.specs.Prelude.{◌≡◌};
 ghost use Rattle.eco_systems.specs.Laws.{AscendingAreFresh, BatchesAreUnique, BatchesExist, DrawsDecide, FramesAreSolo, FramesExist};
 ghost use Rattle.eco_systems.specs.Laws.{FramesKeepLawful, HeadlessAreAmong, HeadsAreAmong, JoiningMakesBatches};
 ghost use Rattle.eco_systems.specs.Laws.{NoneAreListed, OneMoreIsListed, OneWorkerDecides, OrderHasSystems};
-ghost use Rattle.eco_systems.specs.Laws.{RefusedCommandsChangeNothing, StoppedAreSolo, StoppedAtOnceChangesNothing};
+ghost use Rattle.eco_systems.specs.Laws.{RefusedCommandsChangeNothing, StoppedAreSolo, StoppedAtOnceChangesNothing, StoppedHaveMore};
 ghost use Rattle.eco_systems.specs.Phases.{phases};
 ghost use Rattle.eco_systems.specs.declared.phase.TheConstants.{PHASES};
 
@@ -11,6 +11,11 @@ ghost use Rattle.eco_systems.specs.declared.phase.TheConstants.{PHASES};
 pub fn frames_are_one_by_one()
     ensures whole { FramesAreSolo }
     ensures stopped { StoppedAreSolo }
+{}
+
+/// A frame that stopped has batches left: to merge all and then answer a refusal is no frame.
+pub fn stopped_frames_have_batches_left()
+    ensures { StoppedHaveMore }
 {}
 
 /// Each lawful world has a frame, or one that stops where no indices are left, and it stays lawful.

@@ -1,0 +1,26 @@
+-- A frame that stopped has batches left, unless its systems have none.
+use Rattle.std.proofs.Common.{◌≡◌, ℕ, suc, ◌+◌, ◌<◌, ◌⊎◌, inl, inr, List, [], ◌∷◌, ◌++◌, length, refl, ap, ◌∙◌, arith}
+use Rattle.std.proofs.lemmas.List.{append-nil, length-append}
+use Rattle.eco_ids.specs.World.{WorldState}
+use Rattle.eco_systems.specs.Frames.{BatchDraws, InTurn, Outcomes}
+use Rattle.eco_systems.specs.Laws.{StoppedHaveMore}
+use Rattle.eco_systems.specs.Phases.{in_order}
+use Rattle.eco_systems.specs.Systems.{SystemModel}
+use Rattle.eco_systems.proofs.OneCut.{batches_unique}
+
+-- each batch that ran has its draws
+as_long : (Way : WorldState → List SystemModel → BatchDraws → Outcomes → WorldState → Type 0) (done : List (List SystemModel)) (w : WorldState)
+    (draws : List BatchDraws) (outcomes : Outcomes) (new : WorldState) → InTurn Way w done draws outcomes new → length draws ≡ length done
+as_long Way [] w [] outcomes new h = refl
+as_long Way [] w (d ∷ ds) outcomes new h = absurd h
+as_long Way (b ∷ bs) w [] outcomes new h = absurd h
+as_long Way (b ∷ bs) w (d ∷ ds) outcomes new h = ap suc (as_long Way bs h.2 ds h.1 new h.4)
+
+left : (done rest batches : List (List SystemModel)) (count : ℕ) → batches ≡ done ++ rest → (rest ≡ [] → done ≡ []) → count ≡ length done
+    → (batches ≡ []) ⊎ (count < length batches)
+left done [] batches count is none long = inl (is ∙ append-nil done ∙ none refl)
+left done (b ∷ bs) batches count is none long = inr (omega (arith, long, ap length is ∙ length-append done (b ∷ bs)))
+
+pub stopped_have_more : StoppedHaveMore
+stopped_have_more w systems draws outcomes new batches h cut =
+    left h.0 h.1 batches (length draws) (batches_unique w (in_order systems) batches (h.0 ++ h.1) cut h.2) h.4 (as_long _ h.0 w draws outcomes new h.3)

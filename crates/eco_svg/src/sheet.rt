@@ -16,6 +16,9 @@ pub const WIDTH: u64 = 372;
 // How far the frames are from the edges, in pixels, and how far a text from the frame round it.
 const MARGIN: u64 = 8;
 
+// How far the lines are from the frame above and below them, in pixels.
+const PADDING: u64 = 4;
+
 // How far the foot of the letters is from the top of their line, in pixels.
 const FOOT: u64 = 13;
 
@@ -134,8 +137,16 @@ impl Sheet {
         Ok(())
     }
 
-    /// Draws a frame round the lines from there, in pixels from the top, to the last one.
-    pub fn frame(&mut self, top: u64) -> Result<(), AllocError> {
+    /// Where a frame begins that is to be drawn round the next lines, in pixels from the top.
+    pub fn open_frame(&mut self) -> u64 {
+        let top = self.height;
+        self.skip(PADDING);
+        top
+    }
+
+    /// Draws a frame that begins there, round all lines since.
+    pub fn close_frame(&mut self, top: u64) -> Result<(), AllocError> {
+        self.skip(PADDING);
         let height = self.height.saturating_sub(top);
         self.rectangle(MARGIN, top, WIDTH - 2 * MARGIN, height)
     }

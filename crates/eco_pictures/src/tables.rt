@@ -1,0 +1,78 @@
+//! Pictures of tables.
+
+use crate::pen::Pen;
+use eco_ids::{Entity, Id};
+use eco_svg::Ink;
+use eco_world::{TableRows, World};
+use std::alloc::{AllocError, Global};
+
+// How many entities of a table are named.
+const NAMED: usize = 8;
+
+impl Pen<'_> {
+    // Writes how many rows a table has.
+    fn write_count(&mut self, number: usize, count: usize) -> Result<(), AllocError> {
+        self.say("table ")?;
+        self.say_number(number)?;
+        self.say(": ")?;
+        self.say_number(count)?;
+        self.say(if count == 1 { " row" } else { " rows" })?;
+        self.write(0, Ink::Head)
+    }
+
+    // Writes the ids of a table, a line each.
+    fn write_ids(&mut self, ids: &[Id]) -> Result<(), AllocError> {
+        if ids.is_empty() {
+            self.sheet.line(14, Ink::Plain, "no ids")?;
+        }
+        for id in ids {
+            self.say_id(*id)?;
+            self.write(14, Ink::Plain)?;
+        }
+        Ok(())
+    }
+
+    // Writes who has a table's type, the first of them by their names.
+    fn write_rows(&mut self, entities: &[Entity]) -> Result<(), AllocError> {
+        for (place, entity) in entities.iter().take(NAMED).enumerate() {
+            self.say(if place == 0 { "" } else { ", " })?;
+            self.say_entity(*entity)?;
+        }
+        let more = entities.len().saturating_sub(NAMED);
+        if more > 0 {
+            self.say(" and ")?;
+            self.say_number(more)?;
+            self.say(" more")?;
+        }
+        self.write(14, Ink::Faint)
+    }
+
+    // Draws a table.
+    fn draw_table(&mut self, number: usize, table: &TableRows<'_>) -> Result<(), AllocError> {
+        let top = self.sheet.open_frame();
+        self.write_count(number, table.entities.len())?;
+        self.write_ids(table.ids)?;
+        self.write_rows(table.entities)?;
+        self.sheet.close_frame(top)?;
+        self.sheet.skip(8);
+        Ok(())
+    }
+
+    fn draw_tables(&mut self, tables: &[TableRows<'_>]) -> Result<(), AllocError> {
+        for (number, table) in tables.iter().enumerate() {
+            self.draw_table(number, table)?;
+        }
+        Ok(())
+    }
+}
+
+/// A picture of the tables of a world, as SVG: of each its number from 0, how many rows it has, its ids, and who has them, the
+/// first eight by their names.
+///
+/// `AllocError` comes where memory for it is refused.
+pub fn tables_svg(alloc: Global, world: &World) -> Result<String, AllocError> {
+    let mut pen = Pen::new(alloc, world);
+    let tables = world.tables()?;
+    pen.draw_tables(tables.as_slice())?;
+    pen.sheet.svg("The tables of a world")
+}

@@ -4,10 +4,10 @@
 mod fault;
 pub mod laws;
 mod lines;
-mod perform;
+pub mod perform;
 mod recording;
 mod references;
-mod reply;
+pub mod reply;
 pub mod run;
 mod shown_value;
 pub mod status;

@@ -1,12 +1,14 @@
 #!/bin/sh
-# Runs the program on a script, and checks scripts: ./run.sh --help tells all.
+# Runs the program on a script, and checks and shows scripts: ./run.sh --help tells all.
 set -eu
 
 usage() {
     cat <<'TEXT'
 usage: ./run.sh SCRIPT [--workers N]     runs a script, and shows its lines
        ./run.sh --check SCRIPT           says whether it is a script, and if not, all that is wrong with it
-       ./run.sh --build                  proves and builds the programs that run and check scripts
+       ./run.sh --view SCRIPT [WORD..]   shows each step beside its lines, and draws pictures (docs/VIEWER.md):
+                                         --names, --tables FILE, --graph FILE, --batches FILE
+       ./run.sh --build                  proves and builds the programs that run, check and show scripts
        ./run.sh --help                   shows this
 
 A program that --build made is started if it is newer than the sources, specs and proofs of all that it stands on. Else
@@ -14,7 +16,7 @@ a trial build is: it proves nothing, and is made once, in some three minutes, an
 It is kept as crates/NAME/out/NAME-unproved, so that the next run starts at once. --build proves all crates that the
 programs stand on, which takes about an hour of processor time once, and after a change as long as what has changed.
 
-The status is that of the program (docs/FORMATS.md, docs/CHECKER.md): 0 where the script was run, 1 where it was
+The status is that of the program (docs/FORMATS.md, docs/CHECKER.md, docs/VIEWER.md): 0 where the script was run, 1 where it was
 stopped, 2 where it is not read (its faults are shown then), 64 for bad arguments. N is 1 to 64. It is 127 where a
 program has to be built and the kit's command rt is not on the path.
 TEXT
@@ -168,10 +170,24 @@ run_program() {
     fi
 }
 
-# Proves and builds both programs, and tells how far it is.
+# The same, and where the script is not read tells its faults. Ends with the status of the program.
+run_or_tell() {
+    status=0
+    run_program "$@" || status=$?
+    if [ "$status" -eq 2 ]; then
+        say "the script is not read; its faults:"
+        (
+            clean_at_end
+            run_program flecscheck >&2
+        ) || :
+    fi
+    exit "$status"
+}
+
+# Proves and builds the programs, and tells how far it is.
 build() {
     need_rt
-    names=$(crates_below flecsrun flecscheck)
+    names=$(crates_below flecsrun flecscheck flecsview)
     count=$(echo "$names" | wc -l)
     done=0
     begin=$(date +%s)
@@ -183,7 +199,7 @@ build() {
         printf 'run.sh: %d of %d: %s ..' "$done" "$count" "$name" >&2
         cd "$top/crates/$name"
         case $name in
-        flecsrun | flecscheck) set -- run ;;
+        flecsrun | flecscheck | flecsview) set -- run ;;
         *) set -- lib ;;
         esac
         if [ "$1" = run ] && is_fresh "$name" "$PWD/out/$name" src specs proofs; then
@@ -235,6 +251,12 @@ case ${1-} in
     run_program flecscheck
     exit 0
     ;;
+--view)
+    [ $# -ge 2 ] || refuse "--view takes a script"
+    take_script "$2"
+    shift 2
+    run_or_tell flecsview "$@"
+    ;;
 '') refuse "no script is named" ;;
 --workers*) refuse "the script comes first, then --workers" ;;
 -*) refuse "there is no option $1" ;;
@@ -249,13 +271,4 @@ case $#-${1-} in
 1---workers) refuse "--workers takes a number from 1 to 64" ;;
 *) refuse "behind the script stands --workers N, and nothing else" ;;
 esac
-status=0
-run_program flecsrun "$@" || status=$?
-if [ "$status" -eq 2 ]; then
-    say "the script is not read; its faults:"
-    (
-        clean_at_end
-        run_program flecscheck >&2
-    ) || :
-fi
-exit "$status"
+run_or_tell flecsrun "$@"

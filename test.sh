@@ -13,6 +13,7 @@ It runs, one after the other,
   tools/growing_calls   whether each public call that may want memory is called by a test or by a program
   ./faults.sh           calls whose requests for memory are refused, each in turn
   tools/rows            each script of examples/ with 1 and 4 workers, and hostile scripts, words and devices
+  tools/views           what the viewer shows and draws of each script of examples/
 over the programs that rt ci has built. The last line is `N passed, M failed`, of all together; the status is 0
 where none failed. From nothing it takes as long as rt ci, half an hour to an hour; what comes behind takes a minute.
 TEXT
@@ -77,7 +78,7 @@ is_built() {
 
 [ "$prove" -eq 0 ] || run rt ci
 run tools/growing_calls
-for part in faults:./faults.sh flecsrun:tools/rows; do
+for part in faults:./faults.sh flecsrun:tools/rows flecsview:tools/views; do
     if is_built "${part%%:*}"; then
         run "${part#*:}"
     else

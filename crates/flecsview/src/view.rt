@@ -1,0 +1,105 @@
+//! Steps beside their lines.
+
+use crate::named::push_named;
+use crate::stopped::Stopped;
+use eco_bodies::Systems;
+use eco_ids::Refusal;
+use eco_meaning::push_meaning;
+use eco_script::perform::perform;
+use eco_script::reply::push_step_lines;
+use eco_steps::Step;
+use eco_world::World;
+use serde_json::Value;
+use std::alloc::{AllocError, Global};
+use std::thread::Threads;
+
+// Adds the number of a step and the step itself.
+fn push_step(
+    alloc: Global,
+    text: &mut String,
+    number: usize,
+    value: &Value,
+) -> Result<(), AllocError> {
+    let step = value.to_string(alloc)?;
+    write!(text, "{number:>4}  {step}\n")
+}
+
+// Adds lines below their step, with names in place of handles where that is asked for.
+fn push_lines(
+    text: &mut String,
+    world: &World,
+    lines: &str,
+    has_names: bool,
+) -> Result<(), AllocError> {
+    for line in lines.lines() {
+        text.push_str("      ")?;
+        if has_names {
+            push_named(text, world, line)?;
+        } else {
+            text.push_str(line)?;
+        }
+        text.push_str("\n")?;
+    }
+    Ok(())
+}
+
+// Adds the line that says what a refusal means.
+fn push_refusal(
+    alloc: Global,
+    text: &mut String,
+    world: &World,
+    step: &Step<'_>,
+    refusal: &Refusal,
+) -> Result<(), AllocError> {
+    text.push_str("      means ")?;
+    push_meaning(alloc, text, world, step, refusal)?;
+    text.push_str("\n")
+}
+
+// Runs a step, and adds it with its lines.
+fn view_step<T: Threads + Sync>(
+    threads: &T,
+    alloc: Global,
+    world: &mut World,
+    systems: &mut Systems,
+    step: &Step<'_>,
+    text: &mut String,
+    has_names: bool,
+) -> Result<(), AllocError> {
+    let answer = perform(threads, alloc, world, systems, 1, step);
+    let mut lines = String::new(alloc);
+    push_step_lines(&mut lines, world, &answer)?;
+    push_lines(text, world, lines.as_str(), has_names)?;
+    match &answer {
+        Ok(_) => Ok(()),
+        Err(refusal) => push_refusal(alloc, text, world, step, refusal),
+    }
+}
+
+/// Runs the steps on a world, one by one, and shows each with its lines. A frame has one worker.
+pub fn view_steps<T: Threads + Sync>(
+    rt: &HostRuntime,
+    threads: &T,
+    world: &mut World,
+    systems: &mut Systems,
+    steps: &[Step<'_>],
+    values: &[Value],
+    has_names: bool,
+) -> Result<(), Stopped> {
+    let mut text = String::new(rt.alloc());
+    for (number, (step, value)) in steps.iter().zip(values).enumerate() {
+        push_step(rt.alloc(), &mut text, number, value)?;
+        view_step(
+            threads,
+            rt.alloc(),
+            world,
+            systems,
+            step,
+            &mut text,
+            has_names,
+        )?;
+        rt.print(text.as_str())?;
+        text.clear();
+    }
+    Ok(())
+}

@@ -135,8 +135,8 @@ pub(crate) fn run_batches<B: SystemBody + Sync + Drop, R: Threads + Sync>(
 
 /// Runs a frame of systems on a world (Flecs manual, Systems): for each batch between sync points, what its systems record on
 /// the world as it is then, by at most so many threads, 1 to 64, the caller's among them, is merged into it. So a frame leaves
-/// the world as the run of its systems one by one does, with the same fresh handles and outcomes, however many workers there
-/// are; which row draws which handle may differ. With one worker handles are drawn in the order of the rows.
+/// the world as the run of its systems one by one does with the same draws. More workers draw the same handles together, but
+/// which row draws which may differ from run to run. With one worker they are drawn in the order of the rows.
 ///
 /// It stops at a batch that is refused: with `NoMoreIds` where the rows of the batch draw more fresh handles than there are
 /// indices left, and with `OutOfMemory` where memory is refused, or where the batch has more than 16,777,216 pieces of 64 rows.

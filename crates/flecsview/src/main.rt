@@ -7,6 +7,8 @@ mod pictures;
 mod stopped;
 mod view;
 
+ghost use Rattle.std.specs.Prelude.{◌≤◌};
+
 use arguments::Request;
 use eco_bodies::Systems;
 use eco_steps::{ReadError, Script, read_list};
@@ -69,7 +71,10 @@ fn view_script<T: Threads + Sync>(
     request: &Request<'_>,
     script: &Script<'_>,
     values: &[Value],
-) -> Result<u8, Stopped> {
+) -> Result<u8, Stopped>
+    requires at_least { 9 ≤ script.now.limit }
+    requires at_most { script.now.limit ≤ 1048576 }
+{
     let Ok(mut world) = World::new(rt.alloc(), script.limit) else {
         return Err(Stopped);
     };

@@ -2,6 +2,5 @@
 #![tactic(auto)]
 
 pub mod position;
-
 #[cfg(test)]
 mod ships;

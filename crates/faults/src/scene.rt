@@ -19,6 +19,11 @@ const LIMIT: u32 = 256;
 // The query that is added, read or answered.
 const ASKED: &str = "[in] T";
 
+// Names of more than 24 bytes have memory of their own.
+const FRESH: &str = "fresh_name_with_memory_of_its_own";
+
+const ANOTHER: &str = "another_name_with_memory_of_its_own";
+
 const WIDE: &str = "Position, ?Frozen, (Likes, *)";
 
 /// A world, and what a call on it takes.
@@ -188,10 +193,10 @@ impl Scene {
         match self.scenario {
             Scenario::Add | Scenario::Step | Scenario::Turn => self.world.add(entity, id)?,
             Scenario::Set => self.world.set(entity, id, Value([5, 0, 0, 0]))?,
-            Scenario::Rename => self.world.rename(entity, Some("another"))?,
+            Scenario::Rename => self.world.rename(entity, Some(ANOTHER))?,
             Scenario::Delete => self.world.delete(entity)?,
             Scenario::DeleteWith => self.world.delete_with(id)?,
-            Scenario::Create => return Ok(Answer::Made(self.world.create(Some("fresh"))?)),
+            Scenario::Create => return Ok(Answer::Made(self.world.create(Some(FRESH))?)),
             Scenario::ReadQuery => return Ok(Answer::Read(self.world.read_query(WIDE)?)),
             Scenario::AddQuery => return self.add_query(),
             Scenario::Query => return self.find(),

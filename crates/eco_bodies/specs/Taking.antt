@@ -2,8 +2,8 @@
 use Rattle.std.specs.Prelude.{◌≡◌, ◌==◌, ℕ, ◌+◌, Bool, List, [], ◌∷◌, ◌++◌, Some, length, drop, slice_get, take}
 use Rattle.eco_ids.specs.declared.entity.Entity.{Entity}
 use Rattle.eco_ids.specs.Run.{Command}
-use Rattle.eco_workers.specs.Taking as recording
-use Rattle.eco_workers.specs.Taking.{Broke}
+use Rattle.eco_stages.specs.Taking as recording
+use Rattle.eco_stages.specs.Taking.{Broke}
 
 -- some things that record, each with the handles that are there to draw: how many it takes from the front
 module _ {X : Type 0} (taken : X → List Entity → ℕ) where

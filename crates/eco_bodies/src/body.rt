@@ -7,12 +7,12 @@ ghost use Rattle.eco_ids.specs.Run.{Command};
 ghost use Rattle.eco_systems.specs.Rows.{ValuedRow};
 ghost use Rattle.eco_systems.specs.Systems.{IsDeclared};
 ghost use Rattle.eco_bodies.specs.Taking.{Took, takes};
-ghost use Rattle.eco_workers.specs.Taking.{Broke, stopped_by};
+ghost use Rattle.eco_stages.specs.Taking.{Broke, stopped_by};
 
 use crate::row::BodyRow;
 use eco_ids::{Pattern, Refusal};
 use eco_stages::Stage;
-use eco_workers::Draws;
+use eco_stages::Draws;
 
 /// What a system does with each row of its query (Flecs manual, Systems). It changes nothing itself: it records commands,
 /// which are merged behind the system's batch. The commands, and how many fresh handles it draws, are a function of the row

@@ -6,7 +6,7 @@ ghost use Rattle.eco_systems.specs.Systems.{matches_one};
 ghost use Rattle.eco_bodies.specs.Lent.{item_at};
 ghost use Rattle.eco_bodies.specs.Scripts.{action_commands, change_of, set_of, spawned, sum_at, takes_draws, value_at};
 ghost use Rattle.eco_bodies.specs.Taking.{Took};
-ghost use Rattle.eco_workers.specs.Taking.{Broke, stopped_by};
+ghost use Rattle.eco_stages.specs.Taking.{Broke, stopped_by};
 
 use crate::action::Action;
 use crate::recording::record_command;
@@ -14,7 +14,7 @@ use crate::row::BodyRow;
 use crate::sum::sum_of;
 use eco_ids::{Entity, Id, Pattern, Refusal, Value};
 use eco_stages::{Command, Stage};
-use eco_workers::Draws;
+use eco_stages::Draws;
 
 // Whether one of some patterns matches.
 #[inline(always)]

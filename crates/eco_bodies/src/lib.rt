@@ -15,7 +15,7 @@ mod writes;
 
 pub use action::Action;
 pub use body::SystemBody;
-pub use eco_workers::Draws;
+pub use eco_stages::Draws;
 pub use lawful::{
     rows_are_recorded_one_by_one, scripts_set_their_own_entries, scripts_take_one_beginning,
     systems_are_lawful,

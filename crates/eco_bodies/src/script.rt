@@ -7,7 +7,7 @@ ghost use Rattle.eco_bodies.specs.Actions as spec;
 ghost use Rattle.eco_bodies.specs.Actions.{script_writes};
 ghost use Rattle.eco_bodies.specs.Scripts.{is_allowed, script_commands, script_taken};
 ghost use Rattle.eco_bodies.specs.Taking.{Took};
-ghost use Rattle.eco_workers.specs.Taking.{Broke, stopped_by};
+ghost use Rattle.eco_stages.specs.Taking.{Broke, stopped_by};
 ghost use Rattle.eco_bodies.specs.Allowing.{script_declared};
 ghost use Rattle.eco_bodies.specs.Settling.{script_settled};
 
@@ -19,7 +19,7 @@ use crate::writes::script_writes;
 use eco_ids::{Pattern, Refusal};
 use eco_query::Query;
 use eco_stages::Stage;
-use eco_workers::Draws;
+use eco_stages::Draws;
 use std::alloc::Global;
 
 /// A system's body that does the same actions with each row, in their order. An action that sets a slot's entry records

@@ -8,5 +8,6 @@ pub mod Merged
 pub mod Placed
 pub mod Ran
 pub mod Recorded
+pub mod Shown
 pub mod Turns
 pub mod Within

@@ -11,7 +11,7 @@ use Rattle.eco_systems.specs.Rows.{ValuedRow}
 use Rattle.eco_bodies.specs.Taking.{commands_of, taken_of}
 use Rattle.eco_bodies.specs.declared.systems.System.{System}
 use Rattle.eco_workers.specs.Batches.{AreStages}
-use Rattle.eco_workers.specs.Taking.{by_index, fresh}
+use Rattle.eco_stages.specs.Taking.{by_index, fresh}
 use Rattle.eco_frame.specs.Models.{model_of}
 use Rattle.eco_frame.specs.Pieces.{Settled, piece_commands, piece_taken}
 

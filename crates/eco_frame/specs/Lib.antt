@@ -3,4 +3,5 @@ pub mod Pieces
 pub mod Pipelines
 pub mod Progresses
 pub mod Reports
+pub mod Rows
 pub mod Stops

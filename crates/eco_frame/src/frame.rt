@@ -4,7 +4,7 @@ ghost use Rattle.std.specs.List.{All, AllByRecursion};
 ghost use Rattle.eco_ids.specs.declared.refusal.Refusal.TheVariants.{NoMoreIds, OutOfMemory};
 ghost use Rattle.eco_systems.specs.Frames.{AscendingRuns, BatchRuns, BatchRunsSolo};
 ghost use Rattle.eco_systems.specs.Systems.{IsLawfulSystem};
-ghost use Rattle.eco_workers.specs.Taking.{IsStopped};
+ghost use Rattle.eco_stages.specs.Taking.{IsStopped};
 ghost use Rattle.eco_frame.specs.Models.{ArePlaced, model_at, model_of};
 ghost use Rattle.eco_frame.specs.Progresses.{HaveRun};
 ghost use Rattle.eco_frame.specs.Reports.{Frames};

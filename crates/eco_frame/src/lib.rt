@@ -9,7 +9,9 @@ mod pipeline;
 mod points;
 mod progress;
 mod report;
+mod row;
 mod stop;
+mod system_rows;
 
 pub use frame::run_frame;
 pub use pipeline::Pipeline;

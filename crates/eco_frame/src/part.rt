@@ -5,9 +5,9 @@ ghost use Rattle.eco_ids.specs.declared.refusal.Refusal.TheVariants.{OutOfMemory
 ghost use Rattle.eco_frame.specs.Pieces.{part_at, part_of, pieces_in, seen_part, seen_piece};
 
 use crate::piece::RowsPiece;
+use crate::system_rows::SystemRows;
 use eco_bodies::{System, SystemBody};
 use eco_ids::Refusal;
-use eco_rows::SystemRows;
 use eco_world::World;
 use std::alloc::{AllocError, Global};
 

@@ -1,11 +1,11 @@
 //! Pieces of a batch.
 ghost use Rattle.std.specs.Prelude.{◌≡◌, ◌-◌, ◌≤◌, drop, false, length, take, IfErr, IfOk};
 ghost use Rattle.eco_bodies.specs.Taking.{commands_of, taken_of};
-ghost use Rattle.eco_workers.specs.Taking.{Broke, Took, stopped_by};
+ghost use Rattle.eco_stages.specs.Taking.{Broke, Took, stopped_by};
 
+use crate::system_rows::SystemRows;
 use eco_bodies::{Draws, SystemBody, rows_are_recorded_one_by_one};
 use eco_ids::Refusal;
-use eco_rows::SystemRows;
 use eco_stages::Stage;
 use eco_workers::Piece;
 

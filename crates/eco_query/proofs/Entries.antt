@@ -11,7 +11,7 @@ use Rattle.std.specs.declared.cmp.Ordering.{Ordering}
 use Rattle.std.specs.declared.cmp.Ordering.TheVariants.{Less, Equal, Greater}
 use Rattle.eco_ids.specs.Terms as terms
 use Rattle.eco_query.specs.Queries.{has_any, holds}
-use Rattle.eco_query.proofs.ByteTests.{and_left, and_right, and_both}
+use Rattle.eco_query.proofs.Booleans.{and_left, and_right, and_both}
 use Rattle.eco_query.proofs.Matched.{is_some_find}
 
 or_right : (a b : Bool) → b ≡ true → (a || b) ≡ true

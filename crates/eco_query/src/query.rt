@@ -70,8 +70,8 @@ impl Model for Query {
 impl Query {
     ghost use Rattle.eco_query.specs.Queries.{HasPositive, IsQuery, matches_type, reads};
 
-    /// Of its slots; only a reader of texts makes one.
-    pub(crate) fn of_slots(slots: Vec<Slot>) -> Query
+    /// Of its slots, which keep to what each query keeps to.
+    pub fn of_slots(slots: Vec<Slot>) -> Query
         requires { IsQuery (map slot_view slots.items) }
         ensures { result ≡ map slot_view slots.items }
     {

@@ -23,9 +23,9 @@ use Rattle.eco_ids.specs.Data.{arity, fits}
 use Rattle.eco_ids.specs.declared.value.Value.{Value}
 use Rattle.eco_ids.specs.Terms.{QueryTerm}
 use Rattle.eco_ids.specs.World.{WorldState, has, names_living, is_alive, living, entities, with_entities}
-use Rattle.eco_query.specs.Grammar.{SpellsId, SpellsQuery, SpellsRef}
+use Rattle.eco_grammar.specs.Grammar.{SpellsId, SpellsQuery, SpellsRef}
 use Rattle.eco_query.specs.Queries.{QuerySlot}
-use Rattle.eco_query.specs.Readings.{ReadsAll, entity_at, id_of, query_of}
+use Rattle.eco_grammar.specs.Readings.{ReadsAll, entity_at, id_of, query_of}
 use Rattle.eco_frame.specs.declared.stop.FrameStop.{FrameStop}
 use Rattle.eco_script.specs.States.{ScriptState}
 use Rattle.eco_script.specs.References.{ReadsEntity, ReadsId, ReadsQuery}

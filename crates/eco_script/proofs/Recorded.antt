@@ -10,7 +10,7 @@ use Rattle.eco_ids.specs.declared.refusal.Refusal.TheVariants.{OutOfMemory}
 use Rattle.eco_ids.specs.Outcome.{is_out_of_memory, Meets}
 use Rattle.eco_ids.specs.Run as run
 use Rattle.eco_ids.specs.World.{WorldState}
-use Rattle.eco_query.specs.Readings.{ok_map}
+use Rattle.eco_grammar.specs.Readings.{ok_map}
 use Rattle.eco_steps.specs.Commands.{Command}
 use Rattle.eco_steps.specs.Steps as step
 use Rattle.eco_stages.specs.Outcomes.{Outcomes}

@@ -3,7 +3,7 @@ use Rattle.std.specs.Prelude.{◌≡◌, Bool, true, false, List, [], ◌∷◌,
 use Rattle.eco_ids.specs.declared.refusal.Refusal.{Refusal}
 use Rattle.eco_ids.specs.Run as run
 use Rattle.eco_ids.specs.World.{WorldState}
-use Rattle.eco_query.specs.Readings.{ok_map}
+use Rattle.eco_grammar.specs.Readings.{ok_map}
 use Rattle.eco_bodies.specs.declared.action.Action.{Action}
 use Rattle.eco_bodies.specs.declared.action.Action.TheVariants.{AddId, RemoveId, Put, Sum, Kill, Spawn}
 use Rattle.eco_steps.specs.Actions as texts

@@ -5,9 +5,9 @@ use Rattle.eco_ids.specs.declared.id.Id.{Id}
 use Rattle.eco_ids.specs.declared.refusal.Refusal.{Refusal}
 use Rattle.eco_ids.specs.Names.{lookup}
 use Rattle.eco_ids.specs.World.{WorldState}
-use Rattle.eco_query.specs.Grammar.{SpellsId, SpellsQuery, SpellsRef}
+use Rattle.eco_grammar.specs.Grammar.{SpellsId, SpellsQuery, SpellsRef}
 use Rattle.eco_query.specs.Queries.{QuerySlot}
-use Rattle.eco_query.specs.Readings.{Reads, ReadsInMemory, entity_at, id_of, ok_both, query_of}
+use Rattle.eco_grammar.specs.Readings.{Reads, ReadsInMemory, entity_at, id_of, ok_both, query_of}
 
 -- the text, a name or a handle with white space round it, names this entity, or is refused
 unfoldable pub ReadsEntity : WorldState → List ℕ → Result Entity Refusal → Type 0

@@ -7,5 +7,5 @@ pub fn runs_have_one_text()
     ensures may_be { MayBeText }
 {
     eco_ids::laws::steps_have_one_end();
-    eco_query::laws::texts_read_once();
+    eco_grammar::laws::texts_read_once();
 }

@@ -2,7 +2,7 @@
 
 ghost use Rattle.std.specs.Prelude.{◌≡◌, Some, IfOk, IsFalse, IsTrue, flat_map, option_map, string_bytes};
 ghost use Rattle.eco_ids.specs.Outcome.{is_out_of_memory};
-ghost use Rattle.eco_query.specs.Readings.{ok_map};
+ghost use Rattle.eco_grammar.specs.Readings.{ok_map};
 ghost use Rattle.eco_script.specs.Recording.{ReadsAction, ReadsActions, ReadsCommand, ReadsCommands, has_stages};
 ghost use Rattle.eco_stages.specs.Commands.{command_of};
 ghost use Rattle.eco_steps.specs.Actions as actions;

@@ -3,7 +3,7 @@
 ghost use Rattle.eco_script.specs.References.{ReadsBoth, ReadsEntity, ReadsId, ReadsQuery};
 
 use eco_ids::{Entity, Id, Refusal};
-use eco_query::read_ref;
+use eco_grammar::read_ref;
 use eco_world::{Query, World};
 
 /// The entity that a text names.
@@ -19,7 +19,7 @@ pub fn read_entity(text: &str, world: &World) -> Result<Entity, Refusal>
 pub fn read_id(text: &str, world: &World) -> Result<Id, Refusal>
     ensures { ReadsId world.now text.now result }
 {
-    eco_query::read_id(text, world)
+    eco_grammar::read_id(text, world)
 }
 
 /// The query that a text spells.

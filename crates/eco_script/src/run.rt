@@ -79,7 +79,7 @@ fn run_steps<R: Threads + Sync, W: ScriptWriter>(
     ensures device { IsErrOf result Fault.Device → W.failures writer.new ≡ W.failures writer.old + 1 }
     ensures read { IsErrOf result Fault.NotRead → ⊥ }
 {
-    eco_query::laws::texts_are_read();
+    eco_grammar::laws::texts_are_read();
     let mut systems = Systems::new(alloc);
     let mut text = String::new(alloc);
     for step in steps {

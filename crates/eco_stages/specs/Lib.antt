@@ -1,2 +1,3 @@
 pub mod Commands
 pub mod Outcomes
+pub mod Taking

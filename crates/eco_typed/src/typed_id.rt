@@ -9,7 +9,7 @@ ghost use Rattle.eco_ids.specs.Data.{arity, value_of};
 ghost use Rattle.eco_ids.specs.Outcome.{Meets};
 ghost use Rattle.eco_ids.specs.Run.{Set};
 ghost use Rattle.eco_ids.specs.Step.{Sets, may_set, unfit, unfit_set};
-ghost use Rattle.eco_query.specs.Readings.{ok_map};
+ghost use Rattle.eco_grammar.specs.Readings.{ok_map};
 ghost use Rattle.eco_stages.specs.Commands.{command_of};
 ghost use Rattle.eco_tables.specs.Values.{shown};
 ghost use Rattle.eco_typed.specs.Typing.{found_at};

@@ -5,7 +5,7 @@ use Rattle.eco_ids.specs.declared.entity.Entity.{Entity}
 use Rattle.eco_ids.specs.declared.refusal.Refusal.{Refusal}
 use Rattle.eco_ids.specs.declared.refusal.Refusal.TheVariants.{NoMoreIds}
 use Rattle.eco_ids.specs.Run.{Command}
-use Rattle.eco_workers.specs.Taking.{Broke, Took, fresh, stopped_by, IsStopped}
+use Rattle.eco_stages.specs.Taking.{Broke, Took, fresh, stopped_by, IsStopped}
 
 -- what was drawn behind the first fresh handles are fresh handles too
 behind : (old new : List ℕ) (mine : List Entity) → map fresh new ≡ map fresh old ++ mine → (indices : List ℕ) × (new ≡ old ++ indices)

@@ -4,9 +4,9 @@ use Rattle.std.proofs.lemmas.Bool.Decides.{nat_tests}
 use Rattle.std.specs.List.{All, flat_map}
 use Rattle.std.proofs.lemmas.List.{map-append}
 use Rattle.std.proofs.lemmas.List.Elements.{All-append, All-nil, All-cons, All-head, All-tail}
-use Rattle.eco_rounds.specs.declared.seat.Seat.{Seat}
-use Rattle.eco_rounds.specs.Counting.{total, times, once, all_above, ascends}
-use Rattle.eco_rounds.specs.Rounds.{claimed, drawn, is_done, done_count}
+use Rattle.eco_workers.specs.declared.seat.Seat.{Seat}
+use Rattle.eco_workers.specs.Counting.{total, times, once, all_above, ascends}
+use Rattle.eco_workers.specs.Rounds.{claimed, drawn, is_done, done_count}
 use Rattle.eco_workers.proofs.Totals.{total-append}
 use Rattle.eco_ids.specs.Run.{Command}
 use Rattle.eco_workers.specs.declared.collected.Collected.{Collected}

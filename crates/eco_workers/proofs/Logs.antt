@@ -5,17 +5,17 @@ use Rattle.std.proofs.lemmas.List.{append-nil, map_push}
 use Rattle.std.proofs.lemmas.List.Concat.{flat_map-append}
 use Rattle.std.proofs.lemmas.List.Elements.{All-push, All-nil, All-map, All-weaker, Contains-push}
 use Rattle.std.proofs.lemmas.Option.{slice_get_within}
-use Rattle.eco_rounds.specs.Counting.{ascends}
+use Rattle.eco_workers.specs.Counting.{ascends}
 use Rattle.eco_workers.proofs.Turned.{short}
 use Rattle.eco_ids.specs.Run.{Command}
 use Rattle.eco_workers.specs.declared.collected.Collected.{Collected}
-use Rattle.eco_workers.specs.Taking.{IsStopped}
+use Rattle.eco_stages.specs.Taking.{IsStopped}
 use Rattle.eco_workers.specs.Entries.{Entry, entry_of, share_of, piece_of_entry, IsEntry, IsLog, IsShare, IsShort, IsStage}
 use Rattle.eco_workers.specs.Workers.{IsBroken}
 use Rattle.eco_ids.specs.declared.refusal.Refusal.{Refusal}
 use Rattle.eco_ids.specs.declared.refusal.Refusal.TheVariants.{NoMoreIds, OutOfMemory}
-use Rattle.eco_rounds.specs.declared.seat.Seat.{Seat}
-use Rattle.eco_rounds.specs.Rounds.{claimed, drawn, is_dry}
+use Rattle.eco_workers.specs.declared.seat.Seat.{Seat}
+use Rattle.eco_workers.specs.Rounds.{claimed, drawn, is_dry}
 
 module _ {S : Type 0} (commands : S → List ℕ → List Command) (taken : S → List ℕ → ℕ) (pieces : List S) where
   pub entry_made : (number : ℕ) (piece : S) (mine : List ℕ) (stage : List Command)

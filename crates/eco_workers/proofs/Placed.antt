@@ -11,12 +11,12 @@ use Rattle.std.proofs.lemmas.List.{length-set, get_or-set_same, get_or-set_other
 use Rattle.std.proofs.lemmas.List.{replicate_more}
 use Rattle.std.proofs.lemmas.List.{ext_get_or, get_or_default, get_or_past}
 use Rattle.std.proofs.lemmas.List.Elements.{All-head, All-tail, All-from_get_or, All-map}
-use Rattle.eco_rounds.specs.Counting.{total, times, once, ascends}
+use Rattle.eco_workers.specs.Counting.{total, times, once, ascends}
 use Rattle.eco_ids.specs.Run.{Command}
 use Rattle.eco_workers.specs.declared.collected.Collected.{Collected}
 use Rattle.eco_workers.specs.Entries.{Entry, piece_of_entry, IsStage, IsGood, IsShare, IsShort, IsShared}
-use Rattle.eco_rounds.specs.declared.seat.Seat.{Seat}
-use Rattle.eco_rounds.specs.Rounds.{claimed, drawn}
+use Rattle.eco_workers.specs.declared.seat.Seat.{Seat}
+use Rattle.eco_workers.specs.Rounds.{claimed, drawn}
 use Rattle.eco_workers.proofs.Turned.{in_turn}
 use Rattle.eco_workers.specs.Batches.{placed, AreStages, IsBatch, IsOut}
 

@@ -3,10 +3,10 @@ use Rattle.std.proofs.Common.{◌≡◌, ◌⊎◌, inl, inr, ℕ, zero, suc, Bo
 use Rattle.std.specs.List.{All, Contains, flat_map}
 use Rattle.std.proofs.lemmas.List.{map-append, map_push}
 use Rattle.std.proofs.lemmas.List.Elements.{All-head, All-tail, All-append, All-nil, Contains-append_left, Contains-append_right}
-use Rattle.eco_rounds.specs.declared.round.Round.{Round}
-use Rattle.eco_rounds.specs.declared.seat.Seat.{Seat}
-use Rattle.eco_rounds.specs.Counting.{total, times}
-use Rattle.eco_rounds.specs.Rounds.{claimed, drawn, is_dry}
+use Rattle.eco_workers.specs.declared.round.Round.{Round}
+use Rattle.eco_workers.specs.declared.seat.Seat.{Seat}
+use Rattle.eco_workers.specs.Counting.{total, times}
+use Rattle.eco_workers.specs.Rounds.{claimed, drawn, is_dry}
 use Rattle.eco_workers.proofs.Totals.{total-append}
 use Rattle.eco_ids.specs.Run.{Command}
 use Rattle.eco_ids.specs.declared.refusal.Refusal.{Refusal}
@@ -15,7 +15,7 @@ use Rattle.eco_workers.specs.declared.collected.Collected.{Collected}
 use Rattle.eco_workers.specs.declared.worked.Worked.{Worked}
 use Rattle.eco_workers.specs.declared.end.End.{End}
 use Rattle.eco_workers.specs.declared.end.End.TheVariants.{Done, NoMemory, Refused}
-use Rattle.eco_workers.specs.Taking.{IsStopped}
+use Rattle.eco_stages.specs.Taking.{IsStopped}
 use Rattle.eco_workers.specs.Entries.{Entry, IsShare, IsShort, IsShared, IsFoundShort}
 use Rattle.eco_workers.specs.Workers.{HasEnded, IsStop, IsWorked, ends_of}
 use Rattle.eco_workers.proofs.Gathered.{times_flat}

@@ -3,7 +3,7 @@ use Rattle.std.proofs.Common.{◌≡◌, ℕ, zero, suc, ◌+◌, ◌<◌, ◌�
 use Rattle.std.proofs.lemmas.Bool.Decides.{nat_tests}
 use Rattle.std.specs.List.{All, range_with_len}
 use Rattle.std.proofs.lemmas.List.Elements.{All-head, All-tail}
-use Rattle.eco_rounds.specs.Counting.{times, once, all_above, ascends}
+use Rattle.eco_workers.specs.Counting.{times, once, all_above, ascends}
 
 head_above : (z : ℕ) (zs : List ℕ) → ascends (z ∷ zs) ≡ true → all_above z zs ≡ true
 head_above z zs up = grind (arith, nat_tests)

@@ -15,7 +15,7 @@ use Rattle.eco_workers.specs.declared.counter.Counter.{Counter}
 use Rattle.eco_workers.specs.Alone.{IsInTurn, IsOutInTurn, all_of}
 use Rattle.eco_workers.specs.Batches.{AreStages}
 use Rattle.eco_workers.specs.Entries.{IsStage}
-use Rattle.eco_workers.specs.Taking.{Broke, Took, by_index, fresh, stopped_by}
+use Rattle.eco_stages.specs.Taking.{Broke, Took, by_index, fresh, stopped_by}
 use Rattle.eco_workers.proofs.Drawn.{broke_indices, took_behind}
 
 pub drawn_more : (base next : ℕ) → base ≤ next

@@ -1,5 +1,6 @@
-pub mod Taking
-pub mod Entries
-pub mod Workers
-pub mod Batches
 pub mod Alone
+pub mod Batches
+pub mod Counting
+pub mod Entries
+pub mod Rounds
+pub mod Workers

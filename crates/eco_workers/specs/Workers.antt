@@ -1,9 +1,9 @@
 -- What a worker gives back.
 use Rattle.std.specs.Prelude.{◌≡◌, ◌⊎◌, ℕ, ◌≤◌, Bool, true, false, List, map, Option, Some, None}
 use Rattle.std.specs.List.{All, Contains, flat_map}
-use Rattle.eco_rounds.specs.declared.round.Round.{Round}
-use Rattle.eco_rounds.specs.declared.seat.Seat.{Seat}
-use Rattle.eco_rounds.specs.Rounds.{claimed, drawn, is_done, is_dry, IsSeatOf, IsNewSeatOf}
+use Rattle.eco_workers.specs.declared.round.Round.{Round}
+use Rattle.eco_workers.specs.declared.seat.Seat.{Seat}
+use Rattle.eco_workers.specs.Rounds.{claimed, drawn, is_done, is_dry, IsSeatOf, IsNewSeatOf}
 use Rattle.eco_ids.specs.Run.{Command}
 use Rattle.eco_ids.specs.declared.refusal.Refusal.{Refusal}
 use Rattle.eco_ids.specs.declared.refusal.Refusal.TheVariants.{NoMoreIds, OutOfMemory}
@@ -12,7 +12,7 @@ use Rattle.eco_workers.specs.declared.job.Job.{Job}
 use Rattle.eco_workers.specs.declared.worked.Worked.{Worked}
 use Rattle.eco_workers.specs.declared.end.End.{End}
 use Rattle.eco_workers.specs.declared.end.End.TheVariants.{Done, NoMemory, Refused}
-use Rattle.eco_workers.specs.Taking.{IsStopped}
+use Rattle.eco_stages.specs.Taking.{IsStopped}
 use Rattle.eco_workers.specs.Entries.{Entry, IsLog, IsShare, IsShort}
 
 -- the job's seat is a new one of the round

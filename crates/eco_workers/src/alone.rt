@@ -2,7 +2,7 @@
 ghost use Rattle.std.specs.Prelude.{◌≡◌, ◌+◌, ◌-◌, ◌≤◌, false, [], IfOk, IfErr};
 ghost use Rattle.eco_ids.specs.declared.refusal.Refusal.TheVariants.{NoMoreIds};
 ghost use Rattle.eco_workers.specs.Alone.{IsInTurn, IsOutInTurn};
-ghost use Rattle.eco_workers.specs.Taking.{by_index, IsStopped};
+ghost use Rattle.eco_stages.specs.Taking.{by_index, IsStopped};
 
 use crate::counter::Counter;
 use crate::piece::Piece;

@@ -3,10 +3,10 @@ ghost use Rattle.std.specs.Prelude.{◌≡◌, ℕ, ◌+◌, ◌<◌, ◌≤◌,
 ghost use Rattle.std.specs.Prelude.{length};
 ghost use Rattle.std.specs.List.{All, Contains};
 ghost use Rattle.eco_ids.specs.declared.refusal.Refusal.TheVariants.{NoMoreIds, OutOfMemory};
-ghost use Rattle.eco_rounds.specs.Rounds.{is_done, pieces_of, IsSeatOf};
+ghost use Rattle.eco_workers.specs.Rounds.{is_done, pieces_of, IsSeatOf};
 ghost use Rattle.eco_workers.specs.declared.end.End.{End};
 ghost use Rattle.eco_workers.specs.declared.end.End.TheVariants.{Done, Refused};
-ghost use Rattle.eco_workers.specs.Taking.{by_index, IsStopped};
+ghost use Rattle.eco_stages.specs.Taking.{by_index, IsStopped};
 ghost use Rattle.eco_workers.specs.Entries.{Entry, IsGathered, IsShared, IsFoundShort};
 ghost use Rattle.eco_workers.specs.Workers.{IsNewJobOf, IsWorked, IsStop, IsFound, ends_of};
 ghost use Rattle.eco_workers.specs.Batches.{IsBatch, IsOut};
@@ -16,10 +16,12 @@ use crate::end::End;
 use crate::job::{Job, share_out};
 use crate::order::place;
 use crate::piece::Piece;
+use crate::round::Round;
+use crate::seat::Seat;
 use crate::worked::Worked;
 use crate::worker::work;
 use eco_ids::Refusal;
-use eco_rounds::{Round, Seat};
+
 use eco_stages::Stage;
 use std::alloc::{AllocError, Global};
 use std::thread;

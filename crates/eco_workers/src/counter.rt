@@ -1,10 +1,10 @@
 //! Indices in turn.
 ghost use Rattle.std.specs.Prelude.{◌≡◌, ◌-◌, ◌≤◌, map, true};
 ghost use Rattle.std.specs.List.{range_with_len};
-ghost use Rattle.eco_workers.specs.Taking.{fresh};
+ghost use Rattle.eco_stages.specs.Taking.{fresh};
 
-use crate::draws::Draws;
 use eco_ids::{Entity, Refusal};
+use eco_stages::Draws;
 
 // Where one worker alone draws: the fresh handles of the indices from a base on, in turn, to below a limit.
 #[derive(Drop)]

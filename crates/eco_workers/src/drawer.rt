@@ -1,11 +1,14 @@
 //! A seat with its round.
 ghost use Rattle.std.specs.Prelude.{◌≡◌, map};
-ghost use Rattle.eco_rounds.specs.Rounds.{drawn, is_dry as is_dry_seat, IsSeatOf};
-ghost use Rattle.eco_workers.specs.Taking.{fresh};
+ghost use Rattle.eco_workers.specs.Rounds.{drawn, is_dry as is_dry_seat, IsSeatOf};
+ghost use Rattle.eco_stages.specs.Taking.{fresh};
 
-use crate::draws::Draws;
+use crate::round::Round;
+use crate::seat::Seat;
+use crate::ticket::Ticket;
 use eco_ids::{Entity, Refusal};
-use eco_rounds::{Round, Seat, Ticket};
+use eco_stages::Draws;
+
 
 // A seat with its round: where a worker draws.
 pub(crate) struct Drawer<'a> {

@@ -1,10 +1,11 @@
 //! What a worker is given.
 ghost use Rattle.std.specs.Prelude.{◌≡◌, vec_len, IfOk};
 ghost use Rattle.std.specs.List.{All};
-ghost use Rattle.eco_rounds.specs.Rounds.{IsNewSeatOf};
+ghost use Rattle.eco_workers.specs.Rounds.{IsNewSeatOf};
 ghost use Rattle.eco_workers.specs.Workers.{IsNewJobOf};
 
-use eco_rounds::{Round, Seat};
+use crate::round::Round;
+use crate::seat::Seat;
 use eco_stages::Stage;
 use std::alloc::{AllocError, Global};
 

@@ -2,11 +2,10 @@
 ghost use Rattle.std.specs.Prelude.{◌≡◌, ℕ, List, false, IfErr, IfOk};
 ghost use Rattle.eco_ids.specs.declared.entity.Entity.{Entity as EntityData};
 ghost use Rattle.eco_ids.specs.Run.{Command};
-ghost use Rattle.eco_workers.specs.Taking.{Broke, Took, stopped_by};
+ghost use Rattle.eco_stages.specs.Taking.{Broke, Took, stopped_by};
 
-use crate::draws::Draws;
 use eco_ids::Refusal;
-use eco_stages::Stage;
+use eco_stages::{Draws, Stage};
 
 /// A piece of a batch: some rows of a system, recorded by one thread (Flecs manual, Systems, multithreading). The commands, and
 /// how many fresh handles it draws, are a function of the piece and of the handles that are there to draw.

@@ -1,7 +1,7 @@
 //! What a worker gives back.
 use crate::collected::Collected;
 use crate::end::End;
-use eco_rounds::Seat;
+use crate::seat::Seat;
 
 // Its seat, what it has recorded, and how it ended.
 #[derive(Drop)]

@@ -2,8 +2,8 @@
 ghost use Rattle.std.specs.Prelude.{◌≡◌, ℕ, ◌+◌, ◌<◌, ◌≤◌, List, true, false, [], ◌∷◌, ◌++◌, IfOk, IfErr, IfNone};
 ghost use Rattle.std.specs.Prelude.{MatchOption, length};
 ghost use Rattle.eco_ids.specs.declared.refusal.Refusal.TheVariants.{NoMoreIds};
-ghost use Rattle.eco_rounds.specs.Rounds.{claimed, drawn, is_dry, pieces_of};
-ghost use Rattle.eco_workers.specs.Taking.{by_index, IsStopped};
+ghost use Rattle.eco_workers.specs.Rounds.{claimed, drawn, is_dry, pieces_of};
+ghost use Rattle.eco_stages.specs.Taking.{by_index, IsStopped};
 ghost use Rattle.eco_workers.specs.Entries.{entry_of, share_of, IsEntry, IsShare, IsShort, IsStage};
 ghost use Rattle.eco_workers.specs.Workers.{IsGoing, HasEnded, IsNewJobOf, IsWorked};
 
@@ -12,9 +12,10 @@ use crate::drawer::Drawer;
 use crate::end::End;
 use crate::job::Job;
 use crate::piece::Piece;
+use crate::round::Round;
 use crate::worked::Worked;
 use eco_ids::Refusal;
-use eco_rounds::Round;
+
 use eco_stages::Stage;
 use std::alloc::Global;
 

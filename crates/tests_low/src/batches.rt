@@ -5,8 +5,8 @@ ghost use Rattle.eco_ids.specs.declared.refusal.Refusal.TheVariants.{OutOfMemory
 ghost use Rattle.eco_ids.specs.declared.entity.TheConstants.{CHILD_OF};
 
 use eco_ids::{Entity, Id, Refusal};
-use eco_stages::{Command, Stage};
-use eco_workers::{Draws, Piece, run_batch};
+use eco_stages::{Command, Draws, Stage};
+use eco_workers::{Piece, run_batch};
 use std::alloc::{AllocError, Global};
 use std::sync::atomic::{AtomicU64, Ordering};
 use std::thread::Threads;

@@ -1,9 +1,9 @@
 //! Rounds: seats claim pieces and draw handles, in turn and side by side.
 ghost use Rattle.std.specs.Prelude.{◌≡◌};
-ghost use Rattle.eco_rounds.specs.Rounds.{IsNewSeatOf};
+ghost use Rattle.eco_workers.specs.Rounds.{IsNewSeatOf};
 
 use eco_ids::{Entity, Refusal};
-use eco_rounds::{Round, Seat};
+use eco_workers::{Round, Seat};
 use std::alloc::{AllocError, Global};
 use std::thread;
 use std::thread::Threads;

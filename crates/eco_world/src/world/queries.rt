@@ -3,8 +3,8 @@ ghost use Rattle.std.specs.Prelude.{◌≡◌, ◌<◌, IfErr, IfOk, IsTrue, len
 ghost use Rattle.eco_ids.specs.declared.refusal.Refusal.TheVariants.{OutOfMemory};
 ghost use Rattle.eco_ids.specs.Answer.{answer};
 ghost use Rattle.eco_ids.specs.Names.{lookup};
-ghost use Rattle.eco_query.specs.Grammar.{SpellsQuery};
-ghost use Rattle.eco_query.specs.Readings.{ReadsInMemory, query_of};
+ghost use Rattle.eco_grammar.specs.Grammar.{SpellsQuery};
+ghost use Rattle.eco_grammar.specs.Readings.{ReadsInMemory, query_of};
 ghost use Rattle.eco_answers.specs.Answers.{asked};
 ghost use Rattle.eco_world.specs.Queries.{may_query, result_of};
 
@@ -45,7 +45,7 @@ impl World {
     pub fn read_query(&self, text: &str) -> Result<Query, Refusal>
         ensures { ReadsInMemory SpellsQuery (query_of (lookup self.now)) text.now result }
     {
-        eco_query::read_query(self.alloc, text, self)
+        eco_grammar::read_query(self.alloc, text, self)
     }
 
     /// The results of the query, by entity and then by entries (Flecs manual, Queries): each living entity for which all

@@ -2,7 +2,7 @@ use Rattle.std.proofs.Common.{◌≡◌, ◌<◌, flat_map, length, map, subst, 
 use Rattle.std.proofs.lemmas.List.Elements.{recursion_from_All}
 use Rattle.std.proofs.lemmas.Result.{IfErr-weaker, IfOk-weaker}
 use Rattle.eco_workers.specs.Batches.{IsBatch, IsOut}
-use Rattle.eco_workers.specs.Taking.{by_index}
+use Rattle.eco_stages.specs.Taking.{by_index}
 use Rattle.eco_frame.specs.Pieces.{IsRecorded, pieces_at, pieces_in, piece_commands, piece_taken, seen_part, seen_piece}
 use Rattle.eco_frame.specs.Models.{model_at, model_of}
 use Rattle.eco_frame.proofs.Batched.{out_seen, recorded}

@@ -2,10 +2,10 @@ use Rattle.std.proofs.Common.{◌≡◌, List, length, length-append, [], ◌∷
 use Rattle.std.specs.List.{All}
 use Rattle.std.proofs.lemmas.List.{nil_from_length}
 use Rattle.std.proofs.lemmas.List.Elements.{All-push}
-use Rattle.eco_rounds.specs.Rounds.{IsSeatOf}
-use Rattle.eco_workers.proofs.Totals.{popped_all}
+use Rattle.eco_workers.specs.Rounds.{IsSeatOf}
+use Rattle.eco_workers.proofs.Popped.{popped_all}
 use Rattle.eco_workers.specs.declared.worked.Worked.{Worked}
-use Rattle.eco_workers.specs.Taking.{by_index}
+use Rattle.eco_stages.specs.Taking.{by_index}
 use Rattle.eco_workers.specs.Workers.{IsWorked}
 use Rattle.eco_workers.proofs.Shared.{IsSearched, searched_more, searched_all}
 use Rattle.eco_workers.proofs.batch.all_seats.Goals as goal

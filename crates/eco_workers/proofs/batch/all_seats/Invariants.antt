@@ -1,7 +1,7 @@
 use Rattle.std.proofs.Common.{◌≡◌, ◌+◌, ◌≤◌, length}
 use Rattle.std.specs.List.{All}
-use Rattle.eco_rounds.specs.Rounds.{IsSeatOf}
-use Rattle.eco_workers.specs.Taking.{by_index}
+use Rattle.eco_workers.specs.Rounds.{IsSeatOf}
+use Rattle.eco_stages.specs.Taking.{by_index}
 use Rattle.eco_workers.specs.Workers.{IsWorked}
 use Rattle.eco_workers.proofs.Shared.{IsSearched}
 use Rattle.eco_workers.proofs.batch.all_seats.Given as goal

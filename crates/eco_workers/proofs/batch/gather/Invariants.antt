@@ -1,8 +1,8 @@
 use Rattle.std.proofs.Common.{◌≡◌, ◌+◌, ◌≤◌, true, length, List}
 use Rattle.std.specs.List.{All}
-use Rattle.eco_rounds.specs.Rounds.{is_done, IsSeatOf}
+use Rattle.eco_workers.specs.Rounds.{is_done, IsSeatOf}
 use Rattle.eco_workers.specs.declared.end.End.TheVariants.{Done}
-use Rattle.eco_workers.specs.Taking.{by_index}
+use Rattle.eco_stages.specs.Taking.{by_index}
 use Rattle.eco_workers.specs.Entries.{Entry, IsGathered}
 use Rattle.eco_workers.specs.Workers.{IsWorked}
 use Rattle.eco_workers.proofs.batch.gather.Given as goal

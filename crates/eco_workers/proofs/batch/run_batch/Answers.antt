@@ -1,7 +1,7 @@
 use Rattle.std.proofs.Common.{◌≡◌, ◌+◌, ◌<◌, List, length, [], replicate, sym, ap, ◌∙◌, subst, arith}
-use Rattle.eco_rounds.specs.Counting.{once}
+use Rattle.eco_workers.specs.Counting.{once}
 use Rattle.eco_workers.specs.declared.collected.Collected.{Collected}
-use Rattle.eco_workers.specs.Taking.{by_index}
+use Rattle.eco_stages.specs.Taking.{by_index}
 use Rattle.eco_workers.specs.Batches.{IsBatch, placed}
 use Rattle.eco_workers.proofs.Gathered.{all_claimed}
 use Rattle.eco_workers.proofs.Placed.{batch_made, within_pieces, out_made}

@@ -3,9 +3,9 @@ use Rattle.std.specs.List.{All}
 use Rattle.std.specs.Option.{option_to_list}
 use Rattle.std.proofs.lemmas.List.Elements.{All-push}
 use Rattle.eco_workers.specs.declared.worked.Worked.{Worked}
-use Rattle.eco_workers.specs.Taking.{by_index}
+use Rattle.eco_stages.specs.Taking.{by_index}
 use Rattle.eco_workers.specs.Workers.{IsNewJobOf, IsWorked}
-use Rattle.eco_workers.proofs.Totals.{popped_all}
+use Rattle.eco_workers.proofs.Popped.{popped_all}
 use Rattle.eco_workers.proofs.batch.work_all.Goals as goal
 
 pub returns : goal.returns

@@ -1,9 +1,9 @@
 use Rattle.std.proofs.Common.{length, length-append, [], ◌∷◌, ap, ◌∙◌, sym, subst, arith, rules}
 use Rattle.std.specs.List.{All}
 use Rattle.std.proofs.lemmas.List.Elements.{All-push, All-nil}
-use Rattle.eco_rounds.specs.Rounds.{IsNewSeatOf}
+use Rattle.eco_workers.specs.Rounds.{IsNewSeatOf}
 use Rattle.eco_workers.specs.Workers.{IsNewJobOf}
-use Rattle.eco_workers.proofs.Totals.{popped_all}
+use Rattle.eco_workers.proofs.Popped.{popped_all}
 use Rattle.eco_workers.proofs.job.share_out.Goals as goal
 
 pub loop-seat-init : goal.loop-seat-init

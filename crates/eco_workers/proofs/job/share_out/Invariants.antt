@@ -1,6 +1,6 @@
 use Rattle.std.proofs.Common.{◌≡◌, ◌+◌, ◌≤◌, length}
 use Rattle.std.specs.List.{All}
-use Rattle.eco_rounds.specs.Rounds.{IsNewSeatOf}
+use Rattle.eco_workers.specs.Rounds.{IsNewSeatOf}
 use Rattle.eco_workers.specs.Workers.{IsNewJobOf}
 use Rattle.eco_workers.proofs.job.share_out.Given as goal
 

@@ -1,4 +1,4 @@
-use Rattle.eco_rounds.specs.Rounds.{drawn}
+use Rattle.eco_workers.specs.Rounds.{drawn}
 use Rattle.eco_workers.proofs.Drawn.{took_indices}
 use Rattle.eco_workers.proofs.worker.record.Goals as goal
 

@@ -1,7 +1,7 @@
 use Rattle.std.proofs.Common.{◌≡◌, ℕ, List, [], ◌∷◌, ◌++◌, ap, sym, ◌∙◌}
-use Rattle.eco_rounds.specs.declared.ticket.Ticket.{Ticket}
-use Rattle.eco_rounds.specs.Rounds.{claimed, drawn}
-use Rattle.eco_workers.specs.Taking.{by_index}
+use Rattle.eco_workers.specs.declared.ticket.Ticket.{Ticket}
+use Rattle.eco_workers.specs.Rounds.{claimed, drawn}
+use Rattle.eco_stages.specs.Taking.{by_index}
 use Rattle.eco_workers.specs.Entries.{entry_of}
 use Rattle.eco_workers.proofs.Logs.{log_push, stopped, broken}
 use Rattle.eco_workers.proofs.worker.take_turn.Goals as goal

@@ -1,6 +1,6 @@
 use Rattle.std.proofs.Common.{◌≡◌, ◌+◌, length}
-use Rattle.eco_rounds.specs.Rounds.{claimed}
-use Rattle.eco_workers.specs.Taking.{by_index}
+use Rattle.eco_workers.specs.Rounds.{claimed}
+use Rattle.eco_stages.specs.Taking.{by_index}
 use Rattle.eco_workers.specs.Workers.{IsGoing}
 use Rattle.eco_workers.proofs.worker.turns.Given as goal
 

@@ -1,4 +1,4 @@
-use Rattle.eco_rounds.specs.Rounds.{IsSeatOf}
+use Rattle.eco_workers.specs.Rounds.{IsSeatOf}
 use Rattle.tests_low.proofs.rounds.claimed_by.Given as goal
 
 abbrev pub invariant-loop : goal.invariant-loop

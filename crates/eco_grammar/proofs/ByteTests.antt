@@ -1,0 +1,73 @@
+-- The tests of bytes, names and digits.
+use Rattle.eco_ids.proofs.Common.{◌≡◌, ℕ, zero, suc, ◌+◌, ◌-◌, ◌*◌, ◌^◌, ◌<◌, ◌≤◌, Bool, true, false, not, ◌&&◌, ◌≢◌, List, [], ◌∷◌, ◌++◌, length, IfSome}
+use Rattle.eco_ids.proofs.Common.{if◌then◌else◌, codes, decimal, Option, refl, ap, ◌∙◌, arith, le-leb, leb-true, list_all, nat_tests, common_steps}
+use Rattle.eco_ids.proofs.Common.{is_eq-slice_cmp, bytes_eq-Decides, may_follow, is_name, is_text, may_begin}
+use Rattle.std.proofs.lemmas.Fmt.{decimal_digit, decimal_step}
+use Rattle.std.proofs.lemmas.Str.{IsUtf8-from_ascii}
+use Rattle.std.specs.Str.{IsAscii, IsUtf8}
+use Rattle.eco_query.proofs.Booleans.{and_left, and_right, and_both}
+use Rattle.eco_grammar.specs.Tokens.{is_white, is_digit}
+use Rattle.eco_grammar.specs.Reader.Machine.{is_lone}
+
+-- ---- tests
+
+pub if_some_cond : {X : Type 0} (c : Bool) (x y : Option X) (P : X → Type 0) → (c ≡ true → IfSome x P) → (c ≡ false → IfSome y P)
+    → IfSome (if c then x else y) P
+if_some_cond true x y P f g = f refl
+if_some_cond false x y P f g = g refl
+
+pub white_not_word : (b : ℕ) → is_white b ≡ true → may_follow b ≡ false
+white_not_word b e = grind (arith, nat_tests)
+
+pub digit_is : (b : ℕ) → is_digit b ≡ true → (48 ≤ b) × (b ≤ 57)
+digit_is b e = (leb-true 48 b (and_left _ _ e), leb-true b 57 (and_right _ _ e))
+
+pub is_digit_of : (n : ℕ) → n < 10 → is_digit (48 + n) ≡ true
+is_digit_of n lt = and_both _ _ (le-leb 48 (48 + n) (omega arith)) (le-leb (48 + n) 57 (omega arith))
+
+pub not_lone : (n : List ℕ) → not (is_lone n) ≡ true → n ≢ codes "_"
+not_lone n e h = let same : is_lone n ≡ true = (bytes_eq-Decides n (codes "_")).1 h in cc
+
+pub one_digit : (b : ℕ) → is_digit b ≡ true → b ∷ [] ≡ decimal (b - 48)
+one_digit b d = grind (arith, common_steps, digit_is, decimal_digit)
+
+pub more_digits : (n b : ℕ) → 0 < n → is_digit b ≡ true → 10 * n + (b - 48) < 2 ^ 64 → decimal n ++ b ∷ [] ≡ decimal (10 * n + (b - 48))
+more_digits n b pos d small = grind (arith, common_steps, digit_is, decimal_step)
+
+-- ---- names
+
+-- `_` is told by one test as by the other
+lone_is_text : (n : List ℕ) → is_text n (95 ∷ []) ≡ is_lone n
+lone_is_text n = is_eq-slice_cmp n (95 ∷ [])
+
+not_true : (a : Bool) → not a ≡ true → a ≡ false
+not_true true e = cc
+not_true false e = refl
+
+-- what a name is
+pub name_parts : (b : ℕ) (bs : List ℕ) → is_name (b ∷ bs) ≡ true
+    → (may_begin b ≡ true) × (list_all may_follow bs ≡ true) × (length bs < 63) × (is_lone (b ∷ bs) ≡ false)
+name_parts b bs e = grind (arith, common_steps, and_right, leb-true, and_left, lone_is_text, not_true)
+
+pub name_of_parts : (b : ℕ) (bs : List ℕ) → may_begin b ≡ true → list_all may_follow bs ≡ true → length bs < 63 → is_lone (b ∷ bs) ≡ false
+    → is_name (b ∷ bs) ≡ true
+name_of_parts b bs letter words small lone =
+    and_both _ _ letter (and_both _ _ words (and_both _ _ (le-leb (length bs) 62 (omega arith)) (ap not (lone_is_text (b ∷ bs) ∙ lone))))
+
+begins_follows : (b : ℕ) → may_begin b ≡ true → may_follow b ≡ true
+begins_follows b e = rw e refl
+
+may_follow_ascii : (b : ℕ) → may_follow b ≡ true → b < 128
+may_follow_ascii b e = grind (arith, nat_tests)
+
+words_ascii : (bs : List ℕ) → list_all may_follow bs ≡ true → IsAscii bs
+words_ascii [] e i = omega arith
+words_ascii (b ∷ bs) e zero = may_follow_ascii b (and_left _ _ e)
+words_ascii (b ∷ bs) e (suc i) = words_ascii bs (and_right _ _ e) i
+
+-- a name is a text
+pub name_utf8 : (n : List ℕ) → is_name n ≡ true → IsUtf8 n
+name_utf8 [] e = cc
+name_utf8 (b ∷ bs) e =
+    let (letter, words, small, lone) = name_parts b bs e in
+    IsUtf8-from_ascii (b ∷ bs) (words_ascii (b ∷ bs) (and_both _ _ (begins_follows b letter) words))

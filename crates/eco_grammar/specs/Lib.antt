@@ -1,0 +1,5 @@
+pub mod Faults
+pub mod Grammar
+pub mod Reader
+pub mod Readings
+pub mod Tokens

@@ -1,7 +1,0 @@
-use Rattle.eco_ids.proofs.Common.{◌≡◌, false, drop}
-use Rattle.eco_query.proofs.Built.{misplaced}
-use Rattle.eco_query.proofs.build.misplaces_wildcard.Given as goal
-
--- what the atoms that are left answer is what all do
-abbrev pub invariant-loop-mark : goal.invariant-loop-mark
-invariant-loop-mark l = misplaced false l.marks ≡ misplaced l.grouped (drop l.mark-index l.marks)

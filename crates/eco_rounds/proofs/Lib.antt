@@ -1,4 +1,0 @@
-pub mod Totals
-pub mod Steps
-pub mod Gather
-pub mod Alone

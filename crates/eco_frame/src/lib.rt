@@ -1,4 +1,5 @@
-//! Frames: the batches of a list of systems, and their runs (Flecs manual, Systems).
+//! Frames: the batches of a list of systems, and their runs (Flecs manual, Systems). Who runs frames finds here what systems and
+//! bodies are, too.
 #![tactic(auto)]
 
 mod batch;
@@ -13,6 +14,10 @@ mod row;
 mod stop;
 mod system_rows;
 
+pub use eco_bodies::{
+    Action, BodyRow, Draws, LentRow, NotAdded, Script, System, SystemBody, Systems, record_command,
+};
+pub use eco_systems::{PHASES, Phase};
 pub use frame::run_frame;
 pub use pipeline::Pipeline;
 pub use points::sync_points;

@@ -2,10 +2,8 @@
 use crate::find;
 use crate::wake::Wake;
 use anyhow::Result;
-use eco_bodies::{Action, Script, SystemBody, Systems};
-use eco_frame::run_frame;
+use eco_frame::{Action, Phase, Script, SystemBody, Systems, run_frame};
 use eco_ids::{Entity, Id, Refusal};
-use eco_systems::Phase;
 use eco_world::World;
 use std::alloc::Global;
 use std::io;

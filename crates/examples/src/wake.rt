@@ -4,7 +4,7 @@ ghost use Rattle.eco_ids.specs.declared.pattern.Pattern.TheVariants as pattern;
 ghost use Rattle.eco_bodies.specs.Lent.{item_at};
 ghost use Rattle.examples.specs.Wakes.{noted, noted_is_declared};
 
-use eco_bodies::{BodyRow, Draws, SystemBody, record_command};
+use eco_frame::{BodyRow, Draws, SystemBody, record_command};
 use eco_ids::{Entity, Id, Pattern, Refusal};
 use eco_world::{Command, Stage};
 

@@ -9,6 +9,8 @@ use std::alloc::{AllocError, Global};
 pub struct Choice<'a> {
     /// The cases are measured, not only listed.
     pub is_run: bool,
+    /// Lines are fields with commas between, below a line of their names.
+    pub is_csv: bool,
     /// How the names of the cases begin.
     pub prefix: &'a str,
     /// Larger sizes are left out.
@@ -56,6 +58,13 @@ fn run_flag<'a>(alloc: Global) -> Arg<'a> {
         .action(ArgAction::SetTrue)
 }
 
+fn csv_flag<'a>(alloc: Global) -> Arg<'a> {
+    Arg::new(alloc, "csv")
+        .long("csv")
+        .help("Prints fields with commas between, below a line of their names")
+        .action(ArgAction::SetTrue)
+}
+
 fn only_option<'a>(alloc: Global) -> Arg<'a> {
     option(
         alloc,
@@ -95,6 +104,7 @@ fn command<'a>(alloc: Global) -> Result<Command<'a>, AllocError> {
         "Measures the calls of a world: a line for each case, with its name, its size and the nanoseconds of one call",
     );
     let command = command.arg(run_flag(alloc))?;
+    let command = command.arg(csv_flag(alloc))?;
     let command = command.arg(only_option(alloc))?;
     let command = command.arg(max_option(alloc))?;
     command.arg(repeat_option(alloc))
@@ -104,6 +114,7 @@ fn command<'a>(alloc: Global) -> Result<Command<'a>, AllocError> {
 fn chosen<'a>(matches: &ArgMatches<'a>) -> Option<Choice<'a>> {
     Some(Choice {
         is_run: matches.get_flag("run"),
+        is_csv: matches.get_flag("csv"),
         prefix: matches.get_str("only")?,
         largest: matches.get_one::<u32>("max")?,
         repeat: matches.get_one::<u32>("repeat")?,

@@ -18,6 +18,10 @@ const SMALL: &[u32] = &[1_000];
 
 const CHAIN: &[u32] = &[20_000];
 
+const WITH: &[u32] = &[10_000];
+
+const WIDE: &[u32] = &[1_000, 4_000];
+
 /// Of twice the size a case makes twice the calls: where each of them takes as long as before, none of them looks at all
 /// that there is.
 const DOUBLED: &[u32] = &[1_000, 2_000];
@@ -32,6 +36,7 @@ pub const CASES: &[Case] = &[
     Case("create", EACH, 1, Start::Nothing, Calls::Create),
     Case("delete", EACH, 1, Start::LackTag, Calls::Delete),
     Case("create_again", EACH, 1, Start::Freed, Calls::Create),
+    Case("create_named", MANY, 1, Start::Names, Calls::CreateNamed),
     Case("add_tag", EACH, 1, Start::LackTag, Calls::Add),
     Case("remove_tag", EACH, 1, Start::HaveTag, Calls::Remove),
     Case(
@@ -67,6 +72,16 @@ pub const CASES: &[Case] = &[
         Start::OneLacksPairs,
         Calls::Add,
     ),
+    Case("with_1", WITH, 1, Start::LackWith, Calls::Add),
+    Case("with_40", WITH, 40, Start::LackWith, Calls::Add),
+    Case(
+        "wild_pairs",
+        WIDE,
+        1,
+        Start::OneHasPairs,
+        Calls::ManyResults,
+    ),
+    Case("delete_targets", WIDE, 1, Start::Targets, Calls::Delete),
     Case(
         "chain_build_leaf_first",
         CHAIN,

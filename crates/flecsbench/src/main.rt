@@ -31,14 +31,35 @@ fn words(rt: &HostRuntime) -> io::Result<Vec<String>> {
     Ok(words)
 }
 
+// What stands between the fields of a line.
+fn between(choice: &Choice<'_>) -> &'static str {
+    if choice.is_csv { "," } else { " " }
+}
+
 // The line of a case at one size: what one call took, or where nothing is measured the size alone.
-fn print_line<R: Print>(rt: &R, name: &str, size: u32, time: Option<Duration>) -> io::Result<()> {
+fn print_line<R: Print>(
+    rt: &R,
+    choice: &Choice<'_>,
+    name: &str,
+    size: u32,
+    time: Option<Duration>,
+) -> io::Result<()> {
+    let between = between(choice);
     let Some(time) = time else {
-        return println!(rt; "{name} {size}");
+        return println!(rt; "{name}{between}{size}");
     };
     let tenths = tenths_for_one(time, size);
     let (whole, rest) = (tenths / 10, tenths % 10);
-    println!(rt; "{name} {size} {whole}.{rest}")
+    println!(rt; "{name}{between}{size}{between}{whole}.{rest}")
+}
+
+// The names of the fields, where they are asked for.
+fn print_names<R: Print>(rt: &R, choice: &Choice<'_>) -> io::Result<()> {
+    match (choice.is_csv, choice.is_run) {
+        (false, _) => Ok(()),
+        (true, false) => println!(rt; "case,size"),
+        (true, true) => println!(rt; "case,size,nanoseconds"),
+    }
 }
 
 // The line of a case at one size.
@@ -53,7 +74,7 @@ fn print_size<R: Print + Clock + AllocGlobal>(
     } else {
         None
     };
-    Ok(print_line(rt, case.name(), size, time)?)
+    Ok(print_line(rt, choice, case.name(), size, time)?)
 }
 
 // The lines of a case at each of its sizes that is chosen.
@@ -84,7 +105,7 @@ fn print_frames<R: Print + Clock + Threads + Sync + AllocGlobal>(
     } else {
         None
     };
-    Ok(print_line(rt, case.name(), case.size(), time)?)
+    Ok(print_line(rt, choice, case.name(), case.size(), time)?)
 }
 
 // The lines of all cases that are chosen.
@@ -92,6 +113,7 @@ fn print_cases<R: Print + Clock + Threads + Sync + AllocGlobal>(
     rt: &R,
     choice: &Choice,
 ) -> Result<(), Fault> {
+    print_names(rt, choice)?;
     for case in CASES {
         print_case(rt, choice, case)?;
     }

@@ -26,6 +26,8 @@ pub struct Scene {
     // What the yardsticks fill and go through. They have nothing to do with the world.
     numbers: HashMap<u32, u32>,
     rows: Vec<[i64; 2]>,
+    // What entities are to be called.
+    names: Vec<String>,
     // What a merge does, and how many indices it admits first.
     stages: [Stage; 1],
     admitted: u32,
@@ -46,6 +48,7 @@ impl Drop for Scene {
             results: _,
             numbers: _,
             rows: _,
+            names: _,
             stages: _,
             admitted: _,
             copy: _,
@@ -60,6 +63,8 @@ pub enum Calls {
     InsertNumbers,
     /// So many creates of entities without a name.
     Create,
+    /// A create with each of the names.
+    CreateNamed,
     /// Each id is added to its entity.
     Add,
     /// Each id is removed from its entity.
@@ -84,6 +89,8 @@ pub enum Calls {
     Merge,
     /// One answer of the query, which has so many results.
     Results,
+    /// One answer of the query, which has so many results and a few more, of built-ins.
+    ManyResults,
     /// One answer of the query that was added, which has so many results.
     Cached,
     /// So many answers of the query, which has no result.
@@ -99,7 +106,7 @@ pub enum Calls {
 impl Calls {
     /// Whether they ask for results alone.
     pub fn only_ask(self) -> bool {
-        matches!(self, Calls::Results | Calls::Cached)
+        matches!(self, Calls::Results | Calls::ManyResults | Calls::Cached)
     }
 }
 
@@ -153,6 +160,7 @@ impl Scene {
             results: None,
             numbers: HashMap::new(alloc),
             rows: Vec::new(alloc),
+            names: Vec::new(alloc),
             stages: [Stage::new(alloc)],
             admitted: 0,
             copy: None,
@@ -168,12 +176,14 @@ impl Scene {
             Calls::SumColumns => return Ok(self.sum_columns()? == i64::from(size)),
             Calls::Merge => return Ok(self.merge()? == size as usize),
             Calls::Results => return Ok(self.find()? == size as usize),
+            Calls::ManyResults => return Ok(self.find()? >= size as usize),
             Calls::Cached => return Ok(self.find_kept()? == size as usize),
             Calls::NoResults => return Ok(self.find_often(size)? == 0),
             Calls::Rows => return Ok(self.count_rows()? == size as usize),
             Calls::ReadEach => return Ok(self.count_by_texts()? == size as usize),
             Calls::Copy => return Ok(self.copy()? == self.world.high()),
             Calls::Create => self.create(size)?,
+            Calls::CreateNamed => self.create_named()?,
             Calls::Add => self.add()?,
             Calls::Remove => self.remove()?,
             Calls::Toggle => self.toggle(size / 2)?,
@@ -223,6 +233,15 @@ impl Scene {
     pub fn make_rows(&mut self, count: u32) -> Result<(), Refusal> {
         for _ in 0..count {
             self.rows.push([1, 2])?;
+        }
+        Ok(())
+    }
+
+    /// Makes so many names.
+    pub fn make_names(&mut self, count: u32) -> Result<(), Refusal> {
+        for number in 0..count {
+            let name = format!(in self.alloc; "entity_{number}")?;
+            self.names.push(name)?;
         }
         Ok(())
     }
@@ -329,6 +348,14 @@ impl Scene {
     fn create(&mut self, count: u32) -> Result<(), Refusal> {
         for _ in 0..count {
             self.world.create(None)?;
+        }
+        Ok(())
+    }
+
+    // Makes an entity of each of the names.
+    fn create_named(&mut self) -> Result<(), Refusal> {
+        for name in &self.names {
+            self.world.create(Some(name.as_str()))?;
         }
         Ok(())
     }

@@ -1,7 +1,7 @@
 //! What the measured part of a case begins with: steps that make it in a new world.
 use crate::group::Group;
 use crate::scene::Scene;
-use eco_ids::entity::{CHILD_OF, EXCLUSIVE};
+use eco_ids::entity::{CHILD_OF, EXCLUSIVE, WITH};
 use eco_ids::{Entity, Refusal, Value};
 
 /// How many there are, where the size of the case is N.
@@ -85,6 +85,8 @@ pub enum Step {
     ReadColumns,
     /// So many plain rows are made.
     MakeRows(Count),
+    /// So many names are made.
+    MakeNames(Count),
 }
 
 impl Step {
@@ -110,6 +112,7 @@ impl Step {
             Step::Keep(text) => scene.keep(text),
             Step::ReadColumns => scene.read_columns(),
             Step::MakeRows(count) => scene.make_rows(count.of(size, parts)),
+            Step::MakeNames(count) => scene.make_names(count.of(size, parts)),
         }
     }
 }
@@ -126,6 +129,8 @@ fn make_part(scene: &mut Scene, part: &[Step], size: u32, parts: u32) -> Result<
 pub enum Start {
     /// What lives in each new world.
     Nothing,
+    /// The same, and N names that nobody has.
+    Names,
     /// One entity lacks a tag.
     OneLacksTag,
     /// N entities lack a tag.
@@ -173,6 +178,12 @@ pub enum Start {
     LackCommonPair,
     /// One entity lacks N pairs of one plain relationship.
     OneLacksPairs,
+    /// One entity has N pairs of one plain relationship, and whatever pair somebody has is asked.
+    OneHasPairs,
+    /// The N targets of the pairs that one entity has.
+    Targets,
+    /// N entities lack a tag that brings by With as many others as the case has parts.
+    LackWith,
     /// One entity lacks N tags.
     OneLacksTags,
     /// One entity lacks a trait of relationships, and is the target of N pairs of a relationship each. It is no relationship itself.
@@ -292,6 +303,22 @@ const ONE_LACKS_PAIRS: &[Step] = &[
     Step::PlanTwos(Count::Each, Pick::Made(2), Pick::Made(0), Pick::Made(1)),
 ];
 
+const NAMES: &[Step] = &[Step::MakeNames(Count::Each)];
+
+const LACK_WITH: &[Step] = &[
+    Step::Make(Count::One),
+    Step::Make(Count::Parts),
+    Step::PlanTwos(
+        Count::Parts,
+        Pick::Made(0),
+        Pick::BuiltIn(WITH),
+        Pick::Made(1),
+    ),
+    Step::Add,
+    Step::Make(Count::Each),
+    Step::PlanOnes(Count::Each, Pick::Made(2), Pick::Made(0)),
+];
+
 const ONE_LACKS_TAGS: &[Step] = &[
     Step::Make(Count::One),
     Step::Make(Count::Each),
@@ -364,6 +391,7 @@ impl Start {
     fn first(&self) -> &'static [Step] {
         match self {
             Start::Nothing => &[],
+            Start::Names => NAMES,
             Start::LackTag | Start::HaveTag | Start::Freed | Start::RecordedAdds => TAG,
             Start::LackValue | Start::HaveValue | Start::RecordedSets => COMPONENT,
             Start::AskOne
@@ -380,7 +408,8 @@ impl Start {
             Start::Rows => ROWS,
             Start::NobodyHas => NOBODY_HAS,
             Start::LackPair => LACK_PAIR,
-            Start::OneLacksPairs => ONE_LACKS_PAIRS,
+            Start::OneLacksPairs | Start::OneHasPairs | Start::Targets => ONE_LACKS_PAIRS,
+            Start::LackWith => LACK_WITH,
             Start::OneLacksTags => ONE_LACKS_TAGS,
             Start::LackTrait => LACK_TRAIT,
             Start::NextParent => NEXT_PARENT,
@@ -412,6 +441,11 @@ impl Start {
                 Step::ReadColumns,
             ],
             Start::HaveOwnPair => &[Step::Add],
+            Start::OneHasPairs => &[Step::Add, Step::Ask("(_, *)")],
+            Start::Targets => &[
+                Step::Add,
+                Step::PlanOnes(Count::Each, Pick::Made(1), Pick::Made(1)),
+            ],
             Start::LackCommonPair => &[
                 Step::Add,
                 Step::Make(Count::One),

@@ -1,7 +1,7 @@
 -- The loop that joins systems one by one.
 use Rattle.std.proofs.Common.{◌≡◌, ℕ, ◌+◌, ◌<◌, Bool, true, false, cond, ◌&&◌, ◌||◌, List, [], ◌∷◌, ◌++◌, map, length, get_or, take, drop, Option}
 use Rattle.std.proofs.Common.{◌≤◌, slice_get, refl, sym, ap, ◌∙◌, subst, true≢false, append_assoc}
-use Rattle.std.specs.List.{AllZip, list_any}
+use Rattle.std.specs.List.{AllZip, IsDistinct, list_any}
 use Rattle.std.proofs.lemmas.List.{drop_all, drop_more, map-append, map_push, take_more}
 use Rattle.std.proofs.lemmas.List.Folds.{list_any-append}
 use Rattle.eco_ids.specs.declared.edition.Edition.{Edition}
@@ -14,6 +14,7 @@ use Rattle.eco_query.specs.Queries.{has_any}
 use Rattle.eco_systems.specs.Joining.{batched}
 use Rattle.eco_systems.specs.Closing.{ListsClosed}
 use Rattle.eco_systems.specs.Writes.{writes_trait}
+use Rattle.eco_batches.specs.Brought.{same}
 use Rattle.eco_batches.specs.Open.{IsFresh, IsOpen, JoinsNext, JoinsOpen, stands_apart}
 use Rattle.eco_batches.specs.OutlineModels.{OutlineModel}
 use Rattle.eco_batches.specs.Outlines.{IsOutline, clash_at, clash_of, closed_in, disturbs, kills_in, kills_too, late_at, reads_in, traits_in}
@@ -176,15 +177,16 @@ the_edition First = refl
 
 -- one outline more
 pub outlined_more : (w : WorldState) (ds : List Declared) (k : ℕ) (d : Declared) (old new : List OutlineModel) (closed shown : List Pattern) → k < length ds
-    → AllZip (IsOutline w) (take k ds) old → ListsClosed w (get_or ds k d).writes.now closed → shown ≡ closed
+    → AllZip (IsOutline w) (take k ds) old → ListsClosed w (get_or ds k d).writes.now closed → IsDistinct same closed → shown ≡ closed
     → new ≡ old ++ record { closed = shown; writes_traits = list_any (writes_trait First) shown; kills = (get_or ds k d).kills } ∷ []
     → AllZip (IsOutline w) (take (k + 1) ds) new
-outlined_more w ds k d old new closed shown below all listed same pushed =
+outlined_more w ds k d old new closed shown below all listed once is pushed =
     let made : OutlineModel = record { closed = shown; writes_traits = list_any (writes_trait First) shown; kills = (get_or ds k d).kills } in
     subst (AllZip (IsOutline w) (take (k + 1) ds)) (sym pushed)
     (subst (λ xs. AllZip (IsOutline w) xs (old ++ made ∷ [])) (sym (take_more ds k d below))
     (zip_push (IsOutline w) (take k ds) old (get_or ds k d) made all (record {
       kills = refl;
-      closed = subst (ListsClosed w (get_or ds k d).writes.now) (sym same) listed;
+      closed = subst (ListsClosed w (get_or ds k d).writes.now) (sym is) listed;
+      once = subst (IsDistinct same) (sym is) once;
       traits = ap (λ e. list_any (writes_trait e) shown) (the_edition w.edition);
     })))

@@ -1,8 +1,12 @@
+mod Brings
 mod Clashes
-mod Closing
+mod Done
 mod Joins
 mod Keyed
+mod Members
+mod Once
 mod Orders
 mod Overlapped
 mod Parts
+mod Patterns
 mod Same

@@ -1,33 +1,12 @@
--- `==` of closed writes and of outlines says whether they are the same.
-use Rattle.eco_ids.proofs.Common.{◌≡◌, List, ap, arith, pointwise, pointwise_decides, common_steps}
+-- `==` of outlines says whether they are the same.
+use Rattle.eco_ids.proofs.Common.{◌≡◌, List, arith, pointwise, pointwise_decides, common_steps}
 use Rattle.std.specs.Bool.{Decides}
-use Rattle.eco_ids.specs.declared.pattern.Part.{Part}
-use Rattle.eco_ids.specs.declared.pattern.Part.TheVariants.{Is, Each, Any}
 use Rattle.eco_ids.specs.declared.pattern.Pattern.{Pattern}
-use Rattle.eco_ids.specs.declared.pattern.Pattern.TheVariants.{One, Two}
-use Rattle.eco_ids.specs.contracts.pattern.PartPartialEq.TheImpl as part_eq
 use Rattle.eco_ids.specs.contracts.pattern.PatternPartialEq.TheImpl as pattern_eq
 use Rattle.eco_ids.proofs.Ascending.{both, first, second}
-use Rattle.eco_ids.proofs.SameIds.{entity_eq-Decides}
 use Rattle.eco_batches.specs.declared.outline.Outline.{Outline}
 use Rattle.eco_batches.specs.contracts.outline.OutlinePartialEq.TheImpl as outline_eq
-
-part_eq-Decides : (p q : Part) → Decides ((part_eq.eq-value).it p q) (p ≡ q)
-part_eq-Decides (Is a) (Is b) = (λ e. ap Is ((entity_eq-Decides a b).0 e), λ e. (entity_eq-Decides a b).1 (let same : a ≡ b = cc in same))
-part_eq-Decides (Is a) Each = (λ e. cc, λ e. cc)
-part_eq-Decides (Is a) Any = (λ e. cc, λ e. cc)
-part_eq-Decides Each (Is b) = (λ e. cc, λ e. cc)
-part_eq-Decides Each Each = grind (arith, common_steps)
-part_eq-Decides Each Any = (λ e. cc, λ e. cc)
-part_eq-Decides Any (Is b) = (λ e. cc, λ e. cc)
-part_eq-Decides Any Each = (λ e. cc, λ e. cc)
-part_eq-Decides Any Any = grind (arith, common_steps)
-
-pattern_eq-Decides : (p q : Pattern) → Decides ((pattern_eq.eq-value).it p q) (p ≡ q)
-pattern_eq-Decides (One a) (One b) = (λ e. ap One ((entity_eq-Decides a b).0 e), λ e. (entity_eq-Decides a b).1 (let same : a ≡ b = cc in same))
-pattern_eq-Decides (One a) (Two r t) = (λ e. cc, λ e. cc)
-pattern_eq-Decides (Two r t) (One a) = (λ e. cc, λ e. cc)
-pattern_eq-Decides (Two r t) (Two s u) = grind (arith, common_steps, part_eq-Decides, first, second, both)
+use Rattle.eco_batches.proofs.Patterns.{pattern_eq-Decides}
 
 outline_eq-Decides : (a b : Outline) → Decides ((outline_eq.eq-value).it a b) (a ≡ b)
 outline_eq-Decides a b = grind (arith, common_steps, first, second, both)

@@ -1,8 +1,13 @@
 -- Keys that are noted.
-use Rattle.std.specs.Prelude.{◌≡◌, true, ◌||◌, List, Option, Some, None}
+use Rattle.std.specs.Prelude.{◌≡◌, true, ◌||◌, List, Option, Some, None, unwrap_or}
 use Rattle.std.specs.declared.cmp.Ordering.{Ordering}
 use Rattle.std.specs.Ordering.{eq_by_cmp}
 use Rattle.eco_ids.specs.declared.entity.Entity.{Entity}
+use Rattle.eco_ids.specs.declared.entity.TheConstants.{WITH}
+use Rattle.eco_ids.specs.declared.id.Id.{Id}
+use Rattle.eco_ids.specs.declared.id.Id.TheVariants as id
+use Rattle.eco_ids.specs.declared.pattern.Pattern.{Pattern}
+use Rattle.eco_ids.specs.declared.pattern.Pattern.TheVariants.{One, Two}
 use Rattle.eco_ids.specs.declared.pattern.Part.{Part}
 use Rattle.eco_ids.specs.declared.pattern.Part.TheVariants.{Is, Each, Any}
 use Rattle.eco_ids.specs.Order.{has_item}
@@ -13,6 +18,11 @@ abbrev pub named : Part → Option Entity
 named (Is e) = Some e
 named Each = None
 named Any = None
+
+-- an id that the pattern looks like: With stands for a wildcard
+abbrev pub looks_like : Pattern → Id
+looks_like (One e) = id.One e
+looks_like (Two p q) = id.Two (unwrap_or (named p) WITH) (unwrap_or (named q) WITH)
 
 -- the new keys are the old ones and x
 pub record IsNoted {K : Type 0} (R : K → K → Ordering) (old : List K) (x : K) (new : List K) : Type 0 where

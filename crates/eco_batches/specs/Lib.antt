@@ -1,3 +1,5 @@
+pub mod Brought
+pub mod KeyLaws
 pub mod Keys
 pub mod Open
 pub mod OutlineModels

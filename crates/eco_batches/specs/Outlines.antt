@@ -1,6 +1,6 @@
 -- What is worked out of each system once, and when two clash.
 use Rattle.std.specs.Prelude.{◌≡◌, ℕ, Bool, false, ◌||◌, List, [], ◌∷◌, ◌++◌, map, slice_get, Option, Some, None}
-use Rattle.std.specs.List.{list_any}
+use Rattle.std.specs.List.{IsDistinct, list_any}
 use Rattle.eco_ids.specs.declared.pattern.Pattern.{Pattern}
 use Rattle.eco_ids.specs.Matching.{pattern_overlaps}
 use Rattle.eco_ids.specs.World as world
@@ -11,6 +11,7 @@ use Rattle.eco_systems.specs.Phases.{in_order, order_of}
 use Rattle.eco_systems.specs.Systems.{SystemModel}
 use Rattle.eco_systems.specs.Writes.{writes_trait}
 use Rattle.eco_systems.specs.declared.phase.Phase.TheVariants.{OnLoad}
+use Rattle.eco_batches.specs.Brought.{same}
 use Rattle.eco_batches.specs.declared.declaration.Declared.{Declared}
 use Rattle.eco_batches.specs.OutlineModels.{OutlineModel}
 
@@ -49,10 +50,11 @@ system_at ds k = system_in (slice_get ds k)
 abbrev pub systems_of : List Declared → List SystemModel
 systems_of ds = map system_of ds
 
--- an outline is that of a system
+-- an outline is that of a system: each closed write stands there once
 pub record IsOutline (w : WorldState) (d : Declared) (o : OutlineModel) : Type 0 where
   pub kills : o.kills ≡ d.kills
   pub closed : ListsClosed w d.writes.now o.closed
+  pub once : IsDistinct same o.closed
   pub traits : o.writes_traits ≡ list_any (writes_trait w.edition) o.closed
 
 -- the closed writes of a system

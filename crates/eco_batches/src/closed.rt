@@ -1,35 +1,21 @@
-//! What a system's writes bring with them.
-ghost use Rattle.std.specs.Prelude.{◌≡◌, ◌++◌, map, IsFalse, OnOk};
-ghost use Rattle.std.specs.List.{list_any};
-ghost use Rattle.eco_systems.specs.Closing.{ListsClosed, Among, head_of, with_head};
+//! The closed writes of a system.
+ghost use Rattle.std.specs.Prelude.{◌≡◌, ◌++◌, map, IfOk, OnOk};
+ghost use Rattle.std.specs.List.{IsDistinct, list_any};
+ghost use Rattle.indexmap.specs.IndexSet.{insert_all, insert_key};
+ghost use Rattle.eco_systems.specs.Closing.{ListsClosed};
 ghost use Rattle.eco_systems.specs.Writes as writes;
-ghost use Rattle.eco_traits.specs.Closure.{LacksWith};
-ghost use Rattle.eco_traits.specs.Prospect as traits;
+ghost use Rattle.eco_batches.specs.Brought.{key_of, once, pattern_of, same};
 
-use eco_ids::entity::{EXCLUSIVE, WITH};
-use eco_ids::{Entity, Id, Part, Pattern};
-use eco_traits::{Holdings, has, reached};
+use crate::brought::{bring_nothing, closure};
+use crate::key::Key;
+use eco_ids::entity::EXCLUSIVE;
+use eco_ids::{Id, Part, Pattern};
+use eco_traits::{Holdings, has};
+use indexmap::IndexSet;
 use std::alloc::{AllocError, Global};
 
-// The entity whose pairs of With say what the pattern brings. Pairs of any relationship have none.
-fn head_of(pattern: Pattern) -> Option<Entity>
-    ensures { result ≡ head_of pattern }
-{
-    match pattern {
-        Pattern::One(head) | Pattern::Two(Part::Is(head), _) => Some(head),
-        Pattern::Two(Part::Each | Part::Any, _) => None,
-    }
-}
-
-// The pattern with another head: the single, or the relationship of the pairs.
-fn with_head(pattern: Pattern, head: Entity) -> Pattern
-    ensures { result ≡ with_head pattern head }
-{
-    match pattern {
-        Pattern::One(_) => Pattern::One(head),
-        Pattern::Two(_, targets) => Pattern::Two(Part::Is(head), targets),
-    }
-}
+// So many patterns are compared with each other, which takes no memory.
+const FEW: usize = 8;
 
 // Pairs of an exclusive relationship become all its pairs.
 fn widened<H: Holdings>(holdings: &H, pattern: Pattern) -> Pattern
@@ -44,84 +30,83 @@ fn widened<H: Holdings>(holdings: &H, pattern: Pattern) -> Pattern
     }
 }
 
-// Puts the pattern with each of the heads behind others, widened.
-fn add_widened<H: Holdings>(
+fn stands_in(patterns: &[Pattern], pattern: Pattern) -> bool
+    ensures { result ≡ list_any (same pattern) patterns.now }
+{
+    patterns.iter().any(|other| pattern == *other)
+}
+
+// Puts a pattern behind others, unless it stands there.
+fn add_once(pattern: Pattern, closed: &mut Vec<Pattern>) -> Result<(), AllocError>
+    ensures { OnOk result (closed.new.items ≡ insert_key same closed.old.items pattern) }
+{
+    if stands_in(closed, pattern) {
+        return Ok(());
+    }
+    closed.push(pattern)?;
+    Ok(())
+}
+
+// Widens a few patterns, and puts each once behind others.
+fn add_few<H: Holdings>(
     holdings: &H,
-    pattern: Pattern,
-    heads: &[Entity],
+    patterns: &[Pattern],
     closed: &mut Vec<Pattern>,
 ) -> Result<(), AllocError>
-    ensures { OnOk result (closed.new.items ≡ closed.old.items
-        ++ map (λ x. writes.widened (H.world holdings.now) (with_head pattern x)) heads.now) }
+    ensures { OnOk result (closed.new.items
+        ≡ insert_all same closed.old.items (map (writes.widened (H.world holdings.now)) patterns.now)) }
 {
-    for head in heads {
-        closed.push(widened(holdings, with_head(pattern, *head)))?;
+    for pattern in patterns {
+        add_once(widened(holdings, *pattern), closed)?;
     }
     Ok(())
 }
 
-// Whether the id is a pair of With.
-fn is_with(id: Id) -> bool
-    ensures { result ≡ traits.is_with id }
-{
-    match id {
-        Id::One(_) => false,
-        Id::Two(relationship, _) => relationship.is(WITH),
-    }
-}
-
-fn any_with(ids: &[Id]) -> bool
-    ensures { result ≡ list_any traits.is_with ids.now }
-{
-    ids.iter().any(|id| is_with(*id))
-}
-
-// Whether the entity has a pair of With: few have, and the others bring nothing.
-fn brings_more<H: Holdings>(holdings: &H, entity: Entity) -> bool
-    ensures { IsFalse result → LacksWith (H.world holdings.now) entity }
-{
-    match holdings.type_of(entity) {
-        Some(ids) => any_with(ids.as_slice()),
-        None => false,
-    }
-}
-
-// Puts the closed writes of one pattern behind others.
-fn add_closed<H: Holdings>(
+// Widens any number of patterns: each comes once.
+fn widened_once<H: Holdings>(
     alloc: Global,
     holdings: &H,
-    pattern: Pattern,
-    closed: &mut Vec<Pattern>,
-) -> Result<(), AllocError>
-    ensures { OnOk result (Among (H.world holdings.now) pattern closed.old.items closed.new.items) }
+    keys: &[Key],
+) -> Result<IndexSet<Key>, AllocError>
+    ensures { IfOk result (λ all. map pattern_of all.keys
+        ≡ once (map (writes.widened (H.world holdings.now)) (map pattern_of keys.now))) }
 {
-    eco_systems::laws::closed_writes_are_listed();
-    let Some(head) = head_of(pattern) else {
-        closed.push(pattern)?;
-        return Ok(());
-    };
-    if !brings_more(holdings, head) {
-        return add_widened(holdings, pattern, &[head], closed);
+    let mut all = IndexSet::new(alloc);
+    for key in keys {
+        all.insert(Key {
+            pattern: widened(holdings, key.pattern),
+        })?;
     }
-    let heads = reached(alloc, holdings, WITH, head)?;
-    add_widened(holdings, pattern, heads.as_slice(), closed)
+    Ok(all)
 }
 
-/// Lists the closed writes of some patterns in the place of whatever the list has: each with what it brings by With (Flecs
-/// manual, Component Traits, "With"), pairs of an exclusive relationship widened to all its pairs. In no order, and some may
-/// come twice. `AllocError` comes where memory for them is refused.
+// Puts patterns behind others.
+fn append(keys: &[Key], closed: &mut Vec<Pattern>) -> Result<(), AllocError>
+    ensures { OnOk result (closed.new.items ≡ closed.old.items ++ map pattern_of keys.now) }
+{
+    for key in keys {
+        closed.push(key.pattern)?;
+    }
+    Ok(())
+}
+
+/// Lists the closed writes of some patterns in the place of whatever the list has: the patterns with all that they bring by With
+/// (Flecs manual, Component Traits, "With"), pairs of an exclusive relationship widened to all its pairs. Each comes once, in no
+/// order. `AllocError` comes where memory for them is refused.
 pub(crate) fn list_closed<H: Holdings>(
     alloc: Global,
     holdings: &H,
     writes: &[Pattern],
     closed: &mut Vec<Pattern>,
 ) -> Result<(), AllocError>
-    ensures { OnOk result (ListsClosed (H.world holdings.now) writes.now closed.new.items) }
+    ensures closed { OnOk result (ListsClosed (H.world holdings.now) writes.now closed.new.items) }
+    ensures once { OnOk result (IsDistinct same closed.new.items) }
 {
-    eco_systems::laws::closed_writes_are_listed();
     closed.clear();
-    for pattern in writes {
-        add_closed(alloc, holdings, *pattern, closed)?;
+    if writes.len() <= FEW && bring_nothing(holdings, writes) {
+        return add_few(holdings, writes, closed);
     }
-    Ok(())
+    let all = closure(alloc, holdings, writes)?;
+    let widened = widened_once(alloc, holdings, all.as_slice())?;
+    append(widened.as_slice(), closed)
 }

@@ -2,8 +2,10 @@
 #![tactic(auto)]
 
 mod batch;
+mod brought;
 mod closed;
 mod declaration;
+mod key;
 mod order;
 mod outline;
 mod plan;

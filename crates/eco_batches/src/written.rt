@@ -44,7 +44,7 @@ impl Drop for Written {
 }
 
 // The entity of a part, which a wildcard has not.
-fn named(part: Part) -> Option<Entity>
+pub(crate) fn named(part: Part) -> Option<Entity>
     ensures { result ≡ keys.named part }
 {
     match part {

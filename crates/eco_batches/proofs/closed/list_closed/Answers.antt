@@ -1,23 +1,41 @@
-use Rattle.std.proofs.Common.{[], take, get_or, sym, subst}
-use Rattle.std.proofs.lemmas.List.{take_all, take_more}
-use Rattle.eco_systems.specs.Closing.{ListsClosed}
+use Rattle.std.proofs.Common.{◌++◌, map, ap, ◌∙◌}
+use Rattle.indexmap.specs.IndexSet.{insert_all}
+use Rattle.eco_systems.specs.Writes as writes
+use Rattle.eco_batches.specs.Brought.{once, pattern_of, same}
+use Rattle.eco_batches.proofs.Done.{if_done}
+use Rattle.eco_batches.proofs.Once.{lists_closed, once_is_distinct}
 use Rattle.eco_batches.proofs.closed.list_closed.Goals as goal
 
-pub loop-pattern-init : goal.loop-pattern-init
-loop-pattern-init g c =
+pub returns-then-bring_nothing-clause-closed : goal.returns-then-bring_nothing-clause-closed
+returns-then-bring_nothing-clause-closed g c =
     let w = g.H.Holdings.world c.args.holdings.now in
-    subst (ListsClosed w []) (sym c.clear.ensures.items) (c.closed_writes_are_listed.ensures.none w)
+    if_done
+    (λ made. lists_closed w c.args.writes.now c.args.writes.now c.add_few.new.closed.items (c.bring_nothing.ensures c.if-bring_nothing.true)
+    (made ∙ ap (λ ks. insert_all same ks (map (writes.widened w) c.args.writes.now)) c.clear.ensures.items))
+    c.add_few.result c.add_few.ensures
 
-pub loop-pattern-preserved : goal.loop-pattern-preserved
-loop-pattern-preserved g c =
+pub returns-then-bring_nothing-clause-once : goal.returns-then-bring_nothing-clause-once
+returns-then-bring_nothing-clause-once g c =
     let w = g.H.Holdings.world c.args.holdings.now in
-    let writes = c.args.writes.now in
-    let k = c.loop-pattern.pattern-index in
-    subst (λ ws. ListsClosed w ws c.add_closed.new.closed.items) (sym (take_more writes k _ c.loop-pattern-test.true))
-    (c.closed_writes_are_listed.ensures.more w (take k writes) (get_or writes k _) c.loop-pattern.closed.items c.add_closed.new.closed.items
-    c.loop-pattern.invariant c.in_ok-add_closed.ensures)
+    if_done
+    (λ made. once_is_distinct c.add_few.new.closed.items (map (writes.widened w) c.args.writes.now)
+    (made ∙ ap (λ ks. insert_all same ks (map (writes.widened w) c.args.writes.now)) c.clear.ensures.items))
+    c.add_few.result c.add_few.ensures
 
-pub returns : goal.returns
-returns g c =
-    subst (λ ws. ListsClosed (g.H.Holdings.world c.args.holdings.now) ws c.loop-pattern.closed.items)
-    (take_all c.loop-pattern.pattern-index c.args.writes.now c.loop-pattern-test.false) c.loop-pattern.invariant
+pub returns-clause-closed : goal.returns-clause-closed
+returns-clause-closed g c =
+    let w = g.H.Holdings.world c.args.holdings.now in
+    if_done
+    (λ made. lists_closed w c.args.writes.now (map pattern_of c.in_ok-all.all.keys) c.append.new.closed.items c.in_ok-all.ensures
+    (made ∙ ap (λ ks. ks ++ map pattern_of c.as_slice-2.result.now) c.clear.ensures.items ∙ ap (map pattern_of) c.as_slice-2.ensures.keys
+    ∙ c.in_ok-widened.ensures ∙ ap (λ ks. once (map (writes.widened w) (map pattern_of ks))) c.as_slice.ensures.keys))
+    c.append.result c.append.ensures
+
+pub returns-clause-once : goal.returns-clause-once
+returns-clause-once g c =
+    let w = g.H.Holdings.world c.args.holdings.now in
+    if_done
+    (λ made. once_is_distinct c.append.new.closed.items (map (writes.widened w) (map pattern_of c.in_ok-all.all.keys))
+    (made ∙ ap (λ ks. ks ++ map pattern_of c.as_slice-2.result.now) c.clear.ensures.items ∙ ap (map pattern_of) c.as_slice-2.ensures.keys
+    ∙ c.in_ok-widened.ensures ∙ ap (λ ks. once (map (writes.widened w) (map pattern_of ks))) c.as_slice.ensures.keys))
+    c.append.result c.append.ensures

@@ -1,4 +1,4 @@
-use Rattle.eco_batches.proofs.Closing.{if_done}
+use Rattle.eco_batches.proofs.Done.{if_done}
 use Rattle.eco_batches.proofs.Joins.{joins_open}
 use Rattle.eco_batches.proofs.batch.Batch.add.Goals as goal
 

@@ -1,4 +1,4 @@
-use Rattle.eco_batches.proofs.Closing.{if_done}
+use Rattle.eco_batches.proofs.Done.{if_done}
 use Rattle.eco_batches.proofs.Overlapped.{pairs_more, single_more, wild_more}
 use Rattle.eco_batches.proofs.written.Written.add.Goals as goal
 

@@ -1,0 +1,270 @@
+-- What patterns bring, by the ids of their heads, and their closures.
+use Rattle.std.proofs.Common.{◌≡◌, ℕ, zero, suc, ◌<◌, ◌==◌, Bool, true, false, ◌||◌, ◌↔◌, ◌⊎◌, inl, inr, List, [], ◌∷◌, ◌++◌, map, flat_map, refl, sym, ap, ◌∙◌, subst}
+use Rattle.std.proofs.Common.{◌+◌, ◌^◌, if◌then◌else◌, append_assoc, get_or, length, take, IsTrue, true≢false, arith, Option, Some, None, option_map, option_to_list, slice_get}
+use Rattle.std.specs.List.{AllByRecursion, list_any}
+use Rattle.std.proofs.lemmas.Bool.{cases_eq}
+use Rattle.std.proofs.lemmas.Grind.{flat_map-append}
+use Rattle.std.proofs.lemmas.List.{map-append, take_more}
+use Rattle.std.proofs.lemmas.Option.{same_Some, none-some}
+use Rattle.eco_ids.specs.declared.entity.Entity.{Entity}
+use Rattle.eco_ids.specs.declared.entity.TheConstants.{WITH}
+use Rattle.eco_ids.specs.declared.id.Id.{Id}
+use Rattle.eco_ids.specs.declared.id.Id.TheVariants as id
+use Rattle.eco_ids.specs.declared.pattern.Part.{Part}
+use Rattle.eco_ids.specs.declared.pattern.Part.TheVariants.{Is, Each, Any}
+use Rattle.eco_ids.specs.declared.pattern.Pattern.{Pattern}
+use Rattle.eco_ids.specs.declared.pattern.Pattern.TheVariants.{One, Two}
+use Rattle.eco_ids.specs.Indices.{IndexState, Retired, Free, Living, record_in}
+use Rattle.eco_ids.specs.Least.{Least, root, next}
+use Rattle.eco_ids.specs.Order.{entity_eq, has_item, id_cmp, id_eq}
+use Rattle.eco_ids.specs.World.{WorldState, Record, has, record_of}
+use Rattle.eco_ids.proofs.Exact.{keys, keys_find}
+use Rattle.eco_ids.proofs.Facts.{id_eq_is, id_eq_itself}
+use Rattle.eco_ids.proofs.Keeps.{has_in}
+use Rattle.eco_ids.proofs.Overlaps.{entity_eq_is, entity_eq_itself}
+use Rattle.eco_systems.specs.Closing.{head_of, with_head}
+use Rattle.eco_systems.specs.Writes.{BringsPattern, InClosedPatterns}
+use Rattle.eco_traits.specs.Prospect.{is_with}
+use Rattle.eco_traits.specs.Target.{type_of_record}
+use Rattle.eco_search.specs.Search.{Appends, Covers, IsInLeast, IsLeastSet, is_among}
+use Rattle.eco_batches.specs.Brought.{AreClosed, HasKnownTarget, below, brought, brought_by, ids_in, key_of, keys_by, known_keys, pattern_of, targets_below}
+use Rattle.eco_batches.specs.KeyLaws.{same_keys}
+use Rattle.eco_batches.specs.declared.key.Key.{Key}
+use Rattle.eco_batches.specs.contracts.key.KeyPartialEq.TheImpl as key_eq
+use Rattle.eco_batches.proofs.Members.{Member, from_flat, from_map, in_flat, in_left, in_map, in_parts, in_right, passes, passing}
+use Rattle.eco_batches.proofs.Patterns.{pattern_eq-Decides}
+
+abbrev pub Brings : WorldState → Key → Key → Type 0
+Brings w a b = BringsPattern w a.pattern b.pattern
+
+abbrev same_key : Key → Key → Bool
+same_key = (key_eq.eq-value).it
+
+-- ---- by the ids of the head
+
+item_is_member : (ids : List Id) (i : Id) → IsTrue (has_item id_cmp ids i) ↔ Member i ids
+item_is_member ids i = (
+  λ h. let one = passing (λ j. id_eq j i) ids h in subst (λ j. Member j ids) (id_eq_is one.0 i one.2) one.1,
+  λ m. passes (λ j. id_eq j i) ids m (id_eq_itself i),
+)
+
+one_brings : (w : WorldState) (p : Pattern) (h x : Entity) → head_of p ≡ Some h → IsTrue (has w h (id.Two WITH x)) → BringsPattern w p (with_head p x)
+one_brings w (One c) h x at t = subst (λ e. IsTrue (has w e (id.Two WITH x))) (sym (same_Some c h at)) t
+one_brings w (Two (Is r) q) h x at t = (subst (λ e. IsTrue (has w e (id.Two WITH x))) (sym (same_Some r h at)) t, refl)
+one_brings w (Two Each q) h x at t = absurd (none-some h at)
+one_brings w (Two Any q) h x at t = absurd (none-some h at)
+
+brought_one : (w : WorldState) (p q : Pattern) (h : Entity) → head_of p ≡ Some h → BringsPattern w p q
+    → (x : Entity) × IsTrue (has w h (id.Two WITH x)) × (with_head p x ≡ q)
+brought_one w (One c) (One x) h at b = (x, subst (λ e. IsTrue (has w e (id.Two WITH x))) (same_Some c h at) b, refl)
+brought_one w (One c) (Two p u) h at b = absurd b
+brought_one w (Two p u) (One x) h at b = absurd (no_single p b)
+  where
+    no_single : (p : Part) → BringsPattern w (Two p u) (One x) → ⊥
+    no_single (Is r) b = b
+    no_single Each b = b
+    no_single Any b = b
+brought_one w (Two Each q) (Two p u) h at b = absurd (none-some h at)
+brought_one w (Two Any q) (Two p u) h at b = absurd (none-some h at)
+brought_one w (Two (Is r) q) (Two Each u) h at b = absurd b
+brought_one w (Two (Is r) q) (Two Any u) h at b = absurd b
+brought_one w (Two (Is r) q) (Two (Is x) u) h at b =
+    (x, subst (λ e. IsTrue (has w e (id.Two WITH x))) (same_Some r h at) b.0, ap (Two (Is x)) (sym b.1))
+
+by_with : (p : Pattern) (x : Entity) → brought_by p (id.Two WITH x) ≡ Some (with_head p x)
+by_with p x = ap (λ b. if b then Some (with_head p x) else None) (entity_eq_itself WITH)
+
+by_id : (p q : Pattern) (i : Id) → Member q (option_to_list (brought_by p i)) → (x : Entity) × (i ≡ id.Two WITH x) × (with_head p x ≡ q)
+by_id p q (id.One e) m = absurd m
+by_id p q (id.Two r x) m = by (entity_eq r WITH) refl m
+  where
+    by : (b : Bool) → entity_eq r WITH ≡ b → Member q (option_to_list (if b then Some (with_head p x) else None))
+        → (y : Entity) × (id.Two r x ≡ id.Two WITH y) × (with_head p y ≡ q)
+    by true e (inl is) = (x, ap (λ s. id.Two s x) (entity_eq_is r WITH e), is)
+    by true e (inr none) = absurd none
+    by false e none = absurd none
+
+-- a pattern brings what the ids of its head say
+pub brought_by_ids : (w : WorldState) (p : Pattern) (h : Entity) (ids : List Id) → head_of p ≡ Some h
+    → ((x : Entity) → has w h (id.Two WITH x) ≡ has_item id_cmp ids (id.Two WITH x)) → (q : Pattern) → BringsPattern w p q ↔ Member q (brought p ids)
+brought_by_ids w p h ids at own q = (
+  λ b. let one = brought_one w p q h at b in
+  in_flat (λ i. option_to_list (brought_by p i)) (id.Two WITH one.0) q ids ((item_is_member ids (id.Two WITH one.0)).0 (sym (own one.0) ∙ one.1))
+  (subst (λ o. Member q (option_to_list o)) (sym (by_with p one.0)) (inl one.2)),
+  λ m.
+  let some = from_flat (λ i. option_to_list (brought_by p i)) q ids m in
+  let one = by_id p q some.0 some.2 in
+  subst (BringsPattern w p) one.2 (one_brings w p h one.0 at
+  (own one.0 ∙ (item_is_member ids (id.Two WITH one.0)).1 (subst (λ i. Member i ids) one.1 some.1))),
+)
+
+has_listed : (o : Option Record) (i : Id) (ids : List Id) → Some ids ≡ option_map type_of_record o → has_in o i ≡ has_item id_cmp ids i
+has_listed None i ids own = absurd (none-some ids (sym own))
+has_listed (Some d) i ids own = keys_find d.held i ∙ ap (λ xs. has_item id_cmp xs i) (sym (same_Some ids (keys d.held) own))
+
+pub has_shown : (w : WorldState) (e : Entity) (ids shown : List Id) → Some ids ≡ option_map type_of_record (record_of w e) → shown ≡ ids
+    → (x : Entity) → has w e (id.Two WITH x) ≡ has_item id_cmp shown (id.Two WITH x)
+has_shown w e ids shown own is x = has_listed (record_of w e) (id.Two WITH x) ids own ∙ ap (λ xs. has_item id_cmp xs (id.Two WITH x)) (sym is)
+
+-- a pattern of whose head no id is a pair of With brings nothing
+none_brought : (p : Pattern) (ids : List Id) → list_any is_with ids ≡ false → brought p ids ≡ []
+none_brought p [] h = refl
+none_brought p (id.One e ∷ ids) h = none_brought p ids h
+none_brought p (id.Two r x ∷ ids) h = by (none_brought p ids) (entity_eq r WITH) refl
+  where
+    by : (list_any is_with ids ≡ false → brought p ids ≡ []) → (b : Bool) → entity_eq r WITH ≡ b → brought p (id.Two r x ∷ ids) ≡ []
+    by rest true e = absurd (true≢false (sym (ap (λ c. c || list_any is_with ids) e) ∙ h))
+    by rest false e =
+        ap (λ c. option_to_list (if c then Some (with_head p x) else None) ++ brought p ids) e
+        ∙ rest (sym (ap (λ c. c || list_any is_with ids) e) ∙ h)
+
+pub nothing_by : (w : WorldState) (p : Pattern) (ids : List Id) → list_any is_with ids ≡ false → ((q : Pattern) → BringsPattern w p q ↔ Member q (brought p ids))
+    → (q : Pattern) → BringsPattern w p q → ⊥
+nothing_by w p ids none exact q b = subst (Member q) (none_brought p ids none) ((exact q).0 b)
+
+-- one more id is looked at
+pub brought_more : (ids : List Id) (k : ℕ) (d : Id) (start now : List Key) (o : Option Pattern) (p : Pattern) → k < length ids
+    → o ≡ brought_by p (get_or ids k d) → now ≡ start ++ map key_of (brought p (take k ids))
+    → now ++ option_to_list (option_map key_of o) ≡ start ++ map key_of (brought p (take (k + 1) ids))
+brought_more ids k d start now o p there is before =
+    ap (λ l. l ++ option_to_list (option_map key_of o)) before
+    ∙ append_assoc start (map key_of (brought p (take k ids))) (option_to_list (option_map key_of o))
+    ∙ ap (λ l. start ++ l) (sym more)
+  where
+    listed : (o : Option Pattern) → map key_of (option_to_list o ++ []) ≡ option_to_list (option_map key_of o)
+    listed None = refl
+    listed (Some q) = refl
+
+    more : map key_of (brought p (take (k + 1) ids)) ≡ map key_of (brought p (take k ids)) ++ option_to_list (option_map key_of o)
+    more =
+        ap (λ l. map key_of (brought p l)) (take_more ids k d there)
+        ∙ ap (map key_of) (flat_map-append (λ i. option_to_list (brought_by p i)) (take k ids) (get_or ids k d ∷ []))
+        ∙ map-append key_of (brought p (take k ids)) (option_to_list (brought_by p (get_or ids k d)) ++ [])
+        ∙ ap (λ l. map key_of (brought p (take k ids)) ++ l) (ap (λ r. map key_of (option_to_list r ++ [])) (sym is) ∙ listed o)
+
+-- ---- an end to them
+
+below_has : (i n : ℕ) → i < n → Member i (below n)
+unfolding below
+below_has i zero h = let no : ⊥ = omega arith in absurd no
+below_has i (suc n) h =
+    elim (cases_eq i n) [
+      | inl e ↦ inl (sym e)
+      | inr ne ↦ let less : i < n = omega arith in inr (below_has i n less)
+    ]
+
+abbrev IsBelow : ℕ → ℕ → Part → Type 0
+IsBelow m n (Is e) = (e.index < m) × (e.generation < n)
+IsBelow m n Each = Unit {0}
+IsBelow m n Any = Unit {0}
+
+abbrev HasTargetBelow : ℕ → ℕ → Pattern → Type 0
+HasTargetBelow m n (One e) = Unit {0}
+HasTargetBelow m n (Two p q) = IsBelow m n q
+
+target_below : (p : Pattern) → HasKnownTarget p → HasTargetBelow (2 ^ 32) (2 ^ 16) p
+target_below (One c) h = tt
+target_below (Two r (Is e)) h = h
+target_below (Two r Each) h = tt
+target_below (Two r Any) h = tt
+
+target_listed : (m n : ℕ) (q : Part) → IsBelow m n q → Member q (targets_below m n)
+target_listed m n Each h = inl refl
+target_listed m n Any h = inr (inl refl)
+target_listed m n (Is e) h =
+    inr (inr (in_flat (λ i. map (λ g. Is (record { index = i; generation = g })) (below n)) e.index (Is e) (below m) (below_has e.index m h.0)
+    (in_map (λ g. Is (record { index = e.index; generation = g })) e.generation (below n) (below_has e.generation n h.1))))
+
+held_by : (states : List (IndexState Record)) (n g : ℕ) (i : Id) → IsTrue (has_in (record_in (slice_get states n) g) i) → Member i (flat_map ids_in states)
+held_by [] n g i h = absurd (true≢false (sym h))
+held_by (Retired ∷ rest) zero g i h = absurd (true≢false (sym h))
+held_by (Free f ∷ rest) zero g i h = absurd (true≢false (sym h))
+held_by (Living f r ∷ rest) zero g i h = in_left i (keys r.held) (flat_map ids_in rest) (by (g == f) h)
+  where
+    by : (b : Bool) → IsTrue (has_in (if b then Some r else None) i) → Member i (keys r.held)
+    by true k = (item_is_member (keys r.held) i).0 (sym (keys_find r.held i) ∙ k)
+    by false k = absurd (true≢false (sym k))
+held_by (s ∷ rest) (suc n) g i h = in_right i (ids_in s) (flat_map ids_in rest) (held_by rest n g i h)
+
+module _ (w : WorldState) where
+  -- what a pattern brings is known
+  known_by : (targets : List Part) (e x : Entity) (k : Key) → IsTrue (has w e (id.Two WITH x)) → Member k (keys_by targets (id.Two WITH x))
+      → Member k (flat_map (keys_by targets) (flat_map ids_in w.indices))
+  known_by targets e x k h m = in_flat (keys_by targets) (id.Two WITH x) k (flat_map ids_in w.indices) (held_by w.indices e.index e.generation (id.Two WITH x) h) m
+
+  known_below : (m n : ℕ) (p q : Pattern) → HasTargetBelow m n p → BringsPattern w p q
+      → Member (key_of q) (flat_map (keys_by (targets_below m n)) (flat_map ids_in w.indices))
+  known_below m n (One c) (One x) is b = known_by (targets_below m n) c x (key_of (One x)) b (inl refl)
+  known_below m n (One c) (Two p u) is b = absurd b
+  known_below m n (Two (Is r) t) (One x) is b = absurd b
+  known_below m n (Two Each t) (One x) is b = absurd b
+  known_below m n (Two Any t) (One x) is b = absurd b
+  known_below m n (Two Each t) (Two p u) is b = absurd b
+  known_below m n (Two Any t) (Two p u) is b = absurd b
+  known_below m n (Two (Is r) t) (Two Each u) is b = absurd b
+  known_below m n (Two (Is r) t) (Two Any u) is b = absurd b
+  known_below m n (Two (Is r) t) (Two (Is x) u) is b =
+      known_by (targets_below m n) r x (key_of (Two (Is x) u)) b.0
+      (inr (in_map (λ q. key_of (Two (Is x) q)) u (targets_below m n) (target_listed m n u (subst (IsBelow m n) (sym b.1) is))))
+
+  among_is_member : (ks : List Key) (k : Key) → IsTrue (is_among same_key ks k) ↔ Member k ks
+  among_is_member ks k = (
+    λ h. let one = passing (same_key k) ks h in subst (λ j. Member j ks) (sym (same_keys k one.0 one.2)) one.1,
+    λ m. passes (same_key k) ks m ((pattern_eq-Decides k.pattern k.pattern).1 refl),
+  )
+
+  pub all_known : (p : Key) → HasKnownTarget p.pattern → Covers same_key (known_keys w) (Brings w p)
+  all_known p is q b = (among_is_member (known_keys w) q).1 (known_below (2 ^ 32) (2 ^ 16) p.pattern q.pattern (target_below p.pattern is) b)
+
+  -- ---- closures
+
+  pub appended : (p : Key) (old new : List Key) (ids : List Id) → new ≡ old ++ map key_of (brought p.pattern ids)
+      → ((q : Pattern) → BringsPattern w p.pattern q ↔ Member q (brought p.pattern ids)) → Appends same_key (Brings w p) old new
+  appended p old new ids more exact k = (
+    λ h. there (in_parts k old (map key_of (brought p.pattern ids)) (subst (Member k) more ((among_is_member new k).0 h))),
+    λ s. (among_is_member new k).1 (subst (Member k) (sym more) (here s)),
+  )
+    where
+      there : Member k old ⊎ Member k (map key_of (brought p.pattern ids)) → IsTrue (is_among same_key old k) ⊎ Brings w p k
+      there (inl m) = inl ((among_is_member old k).1 m)
+      there (inr m) =
+          let one = from_map key_of (brought p.pattern ids) m in
+          inr ((exact k.pattern).1 (subst (λ q. Member q (brought p.pattern ids)) (ap pattern_of one.2) one.1))
+
+      here : IsTrue (is_among same_key old k) ⊎ Brings w p k → Member k (old ++ map key_of (brought p.pattern ids))
+      here (inl h) = in_left k old _ ((among_is_member old k).0 h)
+      here (inr b) = in_right k old _ (in_map key_of k.pattern (brought p.pattern ids) ((exact k.pattern).0 b))
+
+  -- the least set of the keys is the closure
+  pub closed : (ps : List Pattern) (roots ks : List Key) → roots ≡ map key_of ps → IsLeastSet same_key (Brings w) roots ks → AreClosed w ps (map pattern_of ks)
+  closed ps roots ks made least p = (
+    λ m. let one = from_map pattern_of ks m in
+    subst (InClosedPatterns w ps) one.2 (there ((least one.0).0 ((among_is_member ks one.0).1 one.1))),
+    λ c. in_map pattern_of (key_of p) ks ((among_is_member ks (key_of p)).0 ((least (key_of p)).1 (here c))),
+  )
+    where
+      there : {k : Key} → IsInLeast same_key (Brings w) roots k → InClosedPatterns w ps k.pattern
+      there {k = k} (root h) =
+          let one = from_map key_of ps (subst (Member k) made ((among_is_member roots k).0 h)) in
+          root (subst (λ q. Member q ps) (ap pattern_of one.2) one.1)
+      there (next m b) = next (there m) b
+
+      here : {q : Pattern} → InClosedPatterns w ps q → IsInLeast same_key (Brings w) roots (key_of q)
+      here {q = q} (root m) = root ((among_is_member roots (key_of q)).1 (subst (Member (key_of q)) (sym made) (in_map key_of q ps m)))
+      here (next c b) = next (here c) b
+
+  abbrev pub BringsNothing : Pattern → Type 0
+  BringsNothing p = (q : Pattern) → BringsPattern w p q → ⊥
+
+  -- patterns that bring nothing are closed
+  pub closed_alone : (ps : List Pattern) → AllByRecursion BringsNothing ps → AreClosed w ps ps
+  closed_alone ps none p = (λ m. root m, λ c. here c)
+    where
+      at : (zs : List Pattern) → AllByRecursion BringsNothing zs → (q : Pattern) → Member q zs → BringsNothing q
+      at [] none q m = absurd m
+      at (z ∷ zs) none q (inl e) = subst BringsNothing e none.0
+      at (z ∷ zs) none q (inr m) = at zs none.1 q m
+
+      here : {q : Pattern} → InClosedPatterns w ps q → Member q ps
+      here (root m) = m
+      here (next {a = a} {b = b} c brings) = absurd (at ps none a (here c) b brings)

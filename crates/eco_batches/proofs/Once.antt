@@ -1,0 +1,139 @@
+-- Patterns that are listed once.
+use Rattle.std.proofs.Common.{◌≡◌, Bool, true, false, ◌||◌, ◌↔◌, List, [], ◌∷◌, ◌++◌, map, refl, sym, ap, ◌∙◌, subst, IsTrue, true≢false, if◌then◌else◌}
+use Rattle.std.proofs.Common.{ℕ, ◌+◌, ◌<◌, get_or, length, take}
+use Rattle.std.proofs.lemmas.List.{map_push, take_more}
+use Rattle.std.specs.List.{AllByRecursion, IsDistinct, list_any}
+use Rattle.std.proofs.lemmas.List.Folds.{list_any-append}
+use Rattle.std.proofs.lemmas.Map.Keys.{IsDistinct-cons, IsDistinct-head, IsDistinct-tail}
+use Rattle.indexmap.specs.IndexSet.{insert_all, insert_key}
+use Rattle.eco_ids.specs.declared.pattern.Pattern.{Pattern}
+use Rattle.eco_ids.specs.World.{WorldState}
+use Rattle.eco_systems.specs.Closing.{ClosedPasses, ListsClosed}
+use Rattle.eco_systems.specs.Writes.{widened}
+use Rattle.eco_batches.specs.Brought.{AreClosed, once, pattern_of, same}
+use Rattle.eco_batches.specs.declared.key.Key.{Key}
+use Rattle.eco_batches.specs.contracts.key.KeyPartialEq.TheImpl as key_eq
+use Rattle.eco_batches.proofs.Keyed.{or_joins, or_none}
+use Rattle.eco_batches.proofs.Members.{all_push, from_map, in_map, passes, passing}
+use Rattle.eco_batches.proofs.Patterns.{pattern_eq-Decides}
+
+insert_all_push : {K : Type 0} (eq : K → K → Bool) (ks xs : List K) (x : K) → insert_all eq ks (xs ++ x ∷ []) ≡ insert_key eq (insert_all eq ks xs) x
+insert_all_push eq ks [] x = refl
+insert_all_push eq ks (y ∷ ys) x = insert_all_push eq (insert_key eq ks y) ys x
+
+-- ---- a test finds the same
+
+one_more : (test : Pattern → Bool) (ks : List Pattern) (x : Pattern) → list_any test (insert_key same ks x) ≡ (list_any test ks || test x)
+one_more test ks x = by (list_any (same x) ks) refl
+  where
+    by : (b : Bool) → list_any (same x) ks ≡ b → list_any test (if b then ks else ks ++ x ∷ []) ≡ (list_any test ks || test x)
+    by true found =
+        let one = passing (same x) ks found in
+        let is = (pattern_eq-Decides x one.0).0 one.2 in
+        there (test x) refl (λ t. passes test ks one.1 (subst (λ p. IsTrue (test p)) is t))
+      where
+        there : (b : Bool) → test x ≡ b → (IsTrue (test x) → IsTrue (list_any test ks)) → list_any test ks ≡ (list_any test ks || b)
+        there true e f = f e ∙ sym (ap (λ c. c || true) (f e))
+        there false e f = sym (or_none (list_any test ks))
+    by false found = list_any-append test ks (x ∷ []) ∙ ap (λ c. list_any test ks || c) (or_none (test x))
+
+all_more : (test : Pattern → Bool) (ks xs : List Pattern) → list_any test (insert_all same ks xs) ≡ (list_any test ks || list_any test xs)
+all_more test ks [] = sym (or_none (list_any test ks))
+all_more test ks (x ∷ xs) =
+    all_more test (insert_key same ks x) xs
+    ∙ ap (λ c. c || list_any test xs) (one_more test ks x)
+    ∙ sym (or_joins (list_any test ks) (test x) (list_any test xs))
+
+-- the closure, widened, lists the closed writes
+pub lists_closed : (w : WorldState) (writes members listed : List Pattern) → AreClosed w writes members → listed ≡ once (map (widened w) members)
+    → ListsClosed w writes listed
+lists_closed w writes members listed closed made test = (
+  λ h.
+  let one = passing test (map (widened w) members) (sym (all_more test [] (map (widened w) members)) ∙ ap (list_any test) (sym made) ∙ h) in
+  let from = from_map (widened w) members one.1 in
+  (one.0, (from.0, (closed from.0).0 from.1, sym from.2), one.2),
+  λ c. ap (list_any test) made ∙ all_more test [] (map (widened w) members)
+  ∙ passes test (map (widened w) members) (in_map (widened w) (c.1).0 members ((closed (c.1).0).1 (c.1).1)) (subst (λ p. IsTrue (test p)) (c.1).2 c.2),
+)
+
+-- ---- each once
+
+turned : (p q : Pattern) → same p q ≡ false → same q p ≡ false
+turned p q h = by (same q p) refl
+  where
+    by : (b : Bool) → same q p ≡ b → same q p ≡ false
+    by true e = absurd (true≢false (sym ((pattern_eq-Decides p p).1 refl) ∙ subst (λ r. same p r ≡ false) ((pattern_eq-Decides q p).0 e) h))
+    by false e = e
+
+apart_from_all : (x : Pattern) (ks : List Pattern) → list_any (same x) ks ≡ false → AllByRecursion (λ y. same y x ≡ false) ks
+apart_from_all x [] h = tt
+apart_from_all x (k ∷ ks) h = by (apart_from_all x ks) (same x k) refl
+  where
+    by : (list_any (same x) ks ≡ false → AllByRecursion (λ y. same y x ≡ false) ks) → (b : Bool) → same x k ≡ b
+        → AllByRecursion (λ y. same y x ≡ false) (k ∷ ks)
+    by rest true e = absurd (true≢false (sym (ap (λ c. c || list_any (same x) ks) e) ∙ h))
+    by rest false e = (turned x k e, rest (sym (ap (λ c. c || list_any (same x) ks) e) ∙ h))
+
+distinct_push : (ks : List Pattern) (x : Pattern) → IsDistinct same ks → AllByRecursion (λ y. same y x ≡ false) ks → IsDistinct same (ks ++ x ∷ [])
+distinct_push [] x d apart = IsDistinct-cons same x [] tt d
+distinct_push (k ∷ ks) x d apart =
+    IsDistinct-cons same k (ks ++ x ∷ []) (all_push (λ y. same k y ≡ false) ks x (IsDistinct-head same k ks d) apart.0)
+    (distinct_push ks x (IsDistinct-tail same k ks d) apart.1)
+
+distinct : (ks xs : List Pattern) → IsDistinct same ks → IsDistinct same (insert_all same ks xs)
+distinct ks [] d = d
+distinct ks (x ∷ xs) d = distinct (insert_key same ks x) xs (by (list_any (same x) ks) refl)
+  where
+    by : (b : Bool) → list_any (same x) ks ≡ b → IsDistinct same (if b then ks else ks ++ x ∷ [])
+    by true e = d
+    by false e = distinct_push ks x d (apart_from_all x ks e)
+
+-- ---- keys of patterns
+
+inserted : (ks : List Key) (k : Key) → map pattern_of (insert_key (key_eq.eq-value).it ks k) ≡ insert_key same (map pattern_of ks) k.pattern
+inserted ks k = by (list_any ((key_eq.eq-value).it k) ks) refl
+  where
+    found : (ks : List Key) → list_any ((key_eq.eq-value).it k) ks ≡ list_any (same k.pattern) (map pattern_of ks)
+    found [] = refl
+    found (j ∷ js) = ap (λ c. same k.pattern j.pattern || c) (found js)
+
+    push : (ks : List Key) → map pattern_of (ks ++ k ∷ []) ≡ map pattern_of ks ++ k.pattern ∷ []
+    push [] = refl
+    push (j ∷ js) = ap (λ l. j.pattern ∷ l) (push js)
+
+    by : (b : Bool) → list_any ((key_eq.eq-value).it k) ks ≡ b → map pattern_of (if b then ks else ks ++ k ∷ []) ≡ insert_key same (map pattern_of ks) k.pattern
+    by true e = sym (ap (λ c. if c then map pattern_of ks else map pattern_of ks ++ k.pattern ∷ []) (sym (found ks) ∙ e))
+    by false e = push ks ∙ sym (ap (λ c. if c then map pattern_of ks else map pattern_of ks ++ k.pattern ∷ []) (sym (found ks) ∙ e))
+
+-- one more is widened
+module _ (f : Pattern → Pattern) where
+  pub once_more : (xs : List Pattern) (k : ℕ) (d : Pattern) (start old new : List Pattern) (y : Pattern) → k < length xs
+      → old ≡ insert_all same start (map f (take k xs)) → y ≡ f (get_or xs k d) → new ≡ insert_key same old y
+      → new ≡ insert_all same start (map f (take (k + 1) xs))
+  once_more xs k d start old new y there before is made =
+      made ∙ (λ i. insert_key same (before i) (is i)) ∙ sym (insert_all_push same start (map f (take k xs)) (f (get_or xs k d)))
+      ∙ ap (insert_all same start) (sym (ap (map f) (take_more xs k d there) ∙ map_push f (take k xs) (get_or xs k d)))
+
+  pub keyed_more : (ks : List Key) (k : ℕ) (d : Key) (old new : List Key) (key : Key) → k < length ks
+      → map pattern_of old ≡ once (map f (map pattern_of (take k ks))) → key.pattern ≡ f (get_or ks k d).pattern
+      → new ≡ insert_key (key_eq.eq-value).it old key → map pattern_of new ≡ once (map f (map pattern_of (take (k + 1) ks)))
+  keyed_more ks k d old new key there before is made =
+      ap (map pattern_of) made ∙ inserted old key ∙ (λ i. insert_key same (before i) (is i))
+      ∙ sym (insert_all_push same [] (map f (map pattern_of (take k ks))) (f (get_or ks k d).pattern))
+      ∙ ap once (sym (ap (λ l. map f (map pattern_of l)) (take_more ks k d there)
+      ∙ ap (map f) (map_push pattern_of (take k ks) (get_or ks k d)) ∙ map_push f (map pattern_of (take k ks)) (get_or ks k d).pattern))
+
+none_distinct : IsDistinct same []
+unfolding IsDistinct
+none_distinct = tt
+
+pub once_is_distinct : (listed ps : List Pattern) → listed ≡ once ps → IsDistinct same listed
+once_is_distinct listed ps made = subst (IsDistinct same) (sym made) (distinct [] ps none_distinct)
+
+-- ---- one pattern more, where it is known whether it stands there
+
+pub stands : (ks : List Pattern) (k : Pattern) (b : Bool) → b ≡ list_any (same k) ks → b ≡ true → ks ≡ insert_key same ks k
+stands ks k b is t = sym (ap (λ c. if c then ks else ks ++ k ∷ []) (sym is ∙ t))
+
+pub pushed_once : (ks new : List Pattern) (k : Pattern) (b : Bool) → b ≡ list_any (same k) ks → b ≡ false → new ≡ ks ++ k ∷ [] → new ≡ insert_key same ks k
+pushed_once ks new k b is f made = made ∙ sym (ap (λ c. if c then ks else ks ++ k ∷ []) (sym is ∙ f))

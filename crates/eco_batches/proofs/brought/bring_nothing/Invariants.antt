@@ -1,0 +1,7 @@
+use Rattle.std.proofs.Common.{take}
+use Rattle.std.specs.List.{AllByRecursion}
+use Rattle.eco_batches.proofs.Brings.{BringsNothing}
+use Rattle.eco_batches.proofs.brought.bring_nothing.Given as goal
+
+abbrev pub invariant-loop-pattern : goal.invariant-loop-pattern
+invariant-loop-pattern g l = AllByRecursion (BringsNothing (g.H.Holdings.world l.holdings)) (take l.pattern-index l.patterns)

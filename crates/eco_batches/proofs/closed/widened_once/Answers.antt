@@ -1,0 +1,17 @@
+use Rattle.std.proofs.Common.{ap, ◌∙◌, map}
+use Rattle.std.proofs.lemmas.List.{take_all}
+use Rattle.eco_systems.specs.Writes as writes
+use Rattle.eco_batches.specs.Brought.{once, pattern_of}
+use Rattle.eco_batches.proofs.Once.{keyed_more}
+use Rattle.eco_batches.proofs.closed.widened_once.Goals as goal
+
+pub loop-key-preserved : goal.loop-key-preserved
+loop-key-preserved g c =
+    keyed_more (writes.widened (g.H.Holdings.world c.args.holdings.now)) c.args.keys.now c.loop-key.key-index _ c.loop-key.all.keys c.insert.new.self.keys
+    (record { pattern = c.widened.result }) c.loop-key-test.true c.loop-key.invariant c.widened.ensures c.in_ok-insert.ensures.keys
+
+pub returns : goal.returns
+returns g c =
+    c.loop-key.invariant
+    ∙ ap (λ ks. once (map (writes.widened (g.H.Holdings.world c.args.holdings.now)) (map pattern_of ks)))
+    (take_all c.loop-key.key-index c.args.keys.now c.loop-key-test.false)

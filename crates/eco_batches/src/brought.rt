@@ -1,0 +1,158 @@
+//! What patterns bring with them.
+ghost use Rattle.std.specs.Prelude.{◌≡◌, ◌++◌, ◌↔◌, flat_map, map, option_to_list, IfOk, IsFalse, IsTrue, OnOk};
+ghost use Rattle.std.specs.List.{list_any};
+ghost use Rattle.eco_ids.specs.declared.pattern.Pattern.{Pattern as PatternData};
+ghost use Rattle.eco_systems.specs.Closing.{head_of, with_head};
+ghost use Rattle.eco_systems.specs.Writes.{BringsPattern, SomeOf};
+ghost use Rattle.eco_traits.specs.Prospect as traits;
+ghost use Rattle.eco_batches.specs.Brought as spec;
+ghost use Rattle.eco_batches.specs.Brought.{AreClosed, HasKnownTarget, brought_by, key_of, known_keys, pattern_of};
+ghost use Rattle.eco_batches.specs.KeyLaws.{same_keys};
+
+use crate::key::Key;
+use eco_ids::entity::WITH;
+use eco_ids::{Entity, Id, Part, Pattern};
+use eco_search::{Graph, least_set};
+use eco_traits::Holdings;
+use indexmap::IndexSet;
+use std::alloc::{AllocError, Global};
+
+// Each pattern leads to those that it brings by a pair of With.
+#[derive(Drop)]
+struct Brought<'a, H> {
+    holdings: &'a H,
+}
+
+impl<H: Holdings> Graph for Brought<'_, H> {
+    type Node = Key;
+
+    ghost nodes = { λ b. known_keys (H.world b.holdings.now) };
+
+    ghost leads = { λ b p q. BringsPattern (H.world b.holdings.now) p.pattern q.pattern };
+
+    fn append_next(&self, key: Key, found: &mut Vec<Key>) -> Result<(), AllocError> {
+        target_is_known(key.pattern);
+        append_brought(key.pattern, ids_of_head(self.holdings, key.pattern), found)
+    }
+
+    ghost same = { same_keys };
+}
+
+// The numbers of a target are in range: so there is an end to the patterns that a search may find.
+fn target_is_known(pattern: Pattern)
+    ensures { HasKnownTarget pattern }
+{
+    if let Pattern::Two(_, Part::Is(target)) = pattern {
+        let Entity {
+            index: _,
+            generation: _,
+        } = target;
+    }
+}
+
+// The entity whose pairs of With say what the pattern brings. Pairs of any relationship have none.
+fn head_of(pattern: Pattern) -> Option<Entity>
+    ensures { result ≡ head_of pattern }
+{
+    match pattern {
+        Pattern::One(head) | Pattern::Two(Part::Is(head), _) => Some(head),
+        Pattern::Two(Part::Each | Part::Any, _) => None,
+    }
+}
+
+// The pattern with another head: the single, or the relationship of the pairs.
+fn with_head(pattern: Pattern, head: Entity) -> Pattern
+    ensures { result ≡ with_head pattern head }
+{
+    match pattern {
+        Pattern::One(_) => Pattern::One(head),
+        Pattern::Two(_, targets) => Pattern::Two(Part::Is(head), targets),
+    }
+}
+
+// The ids among which stand the pairs of With that say what the pattern brings.
+fn ids_of_head<H: Holdings>(holdings: &H, pattern: Pattern) -> &[Id]
+    ensures { (q : PatternData) → BringsPattern (H.world holdings.now) pattern q
+        ↔ SomeOf (λ r. r ≡ q) (spec.brought pattern result.now) }
+{
+    let Some(head) = head_of(pattern) else {
+        return &[];
+    };
+    match holdings.type_of(head) {
+        Some(ids) => ids.as_slice(),
+        None => &[],
+    }
+}
+
+// What the pattern brings by the id of its head.
+fn brought_by(pattern: Pattern, id: Id) -> Option<Pattern>
+    ensures { result ≡ brought_by pattern id }
+{
+    match id {
+        Id::Two(relationship, head) if relationship.is(WITH) => Some(with_head(pattern, head)),
+        _ => None,
+    }
+}
+
+// Puts what the pattern brings by the ids of its head behind others.
+fn append_brought(pattern: Pattern, ids: &[Id], found: &mut Vec<Key>) -> Result<(), AllocError>
+    ensures { OnOk result (found.new.items
+        ≡ found.old.items ++ map key_of (spec.brought pattern ids.now)) }
+{
+    for id in ids {
+        if let Some(pattern) = brought_by(pattern, *id) {
+            found.push(Key { pattern })?;
+        }
+    }
+    Ok(())
+}
+
+// Whether the id is a pair of With.
+fn is_with(id: Id) -> bool
+    ensures { result ≡ traits.is_with id }
+{
+    match id {
+        Id::One(_) => false,
+        Id::Two(relationship, _) => relationship.is(WITH),
+    }
+}
+
+fn any_with(ids: &[Id]) -> bool
+    ensures { result ≡ list_any traits.is_with ids.now }
+{
+    ids.iter().any(|id| is_with(*id))
+}
+
+/// Whether none of the patterns brings anything: few do.
+pub(crate) fn bring_nothing<H: Holdings>(holdings: &H, patterns: &[Pattern]) -> bool
+    ensures { IsTrue result → AreClosed (H.world holdings.now) patterns.now patterns.now }
+{
+    for pattern in patterns {
+        if any_with(ids_of_head(holdings, *pattern)) {
+            return false;
+        }
+    }
+    true
+}
+
+fn keys_of(alloc: Global, patterns: &[Pattern]) -> Result<Vec<Key>, AllocError>
+    ensures { IfOk result (λ keys. keys.items ≡ map key_of patterns.now) }
+{
+    let mut keys = Vec::with_capacity(alloc, patterns.len())?;
+    for pattern in patterns {
+        keys.push(Key { pattern: *pattern })?;
+    }
+    Ok(keys)
+}
+
+/// The patterns with all that they bring, each once. Its cost grows with these and the pairs of With that lead from one to another.
+pub(crate) fn closure<H: Holdings>(
+    alloc: Global,
+    holdings: &H,
+    patterns: &[Pattern],
+) -> Result<IndexSet<Key>, AllocError>
+    ensures { IfOk result (λ keys. AreClosed (H.world holdings.now) patterns.now (map pattern_of keys.keys)) }
+{
+    let written = keys_of(alloc, patterns)?;
+    least_set(alloc, &Brought { holdings }, &written)
+}

@@ -1,6 +1,8 @@
 -- What patterns bring, by the ids of their heads, and their closures.
-use Rattle.std.proofs.Common.{◌≡◌, ℕ, zero, suc, ◌<◌, ◌==◌, Bool, true, false, ◌||◌, ◌↔◌, ◌⊎◌, inl, inr, List, [], ◌∷◌, ◌++◌, map, flat_map, refl, sym, ap, ◌∙◌, subst}
-use Rattle.std.proofs.Common.{◌+◌, ◌^◌, if◌then◌else◌, append_assoc, get_or, length, take, IsTrue, true≢false, arith, Option, Some, None, option_map, option_to_list, slice_get}
+use Rattle.std.proofs.Common.{◌≡◌, ℕ, zero, suc, ◌<◌, ◌==◌, Bool, true, false, ◌||◌, ◌↔◌, ◌⊎◌}
+use Rattle.std.proofs.Common.{inl, inr, List, [], ◌∷◌, ◌++◌, map, flat_map, refl, sym, ap, ◌∙◌, subst}
+use Rattle.std.proofs.Common.{◌+◌, ◌^◌, if◌then◌else◌, append_assoc, get_or, length, take, IsTrue}
+use Rattle.std.proofs.Common.{true≢false, arith, Option, Some, None, option_map, option_to_list, slice_get}
 use Rattle.std.specs.List.{AllByRecursion, list_any}
 use Rattle.std.proofs.lemmas.Bool.{cases_eq}
 use Rattle.std.proofs.lemmas.Grind.{flat_map-append}
@@ -15,7 +17,7 @@ use Rattle.eco_ids.specs.declared.pattern.Part.TheVariants.{Is, Each, Any}
 use Rattle.eco_ids.specs.declared.pattern.Pattern.{Pattern}
 use Rattle.eco_ids.specs.declared.pattern.Pattern.TheVariants.{One, Two}
 use Rattle.eco_ids.specs.Indices.{IndexState, Retired, Free, Living, record_in}
-use Rattle.eco_ids.specs.Least.{Least, root, next}
+use Rattle.eco_ids.specs.Least.{root, next}
 use Rattle.eco_ids.specs.Order.{entity_eq, has_item, id_cmp, id_eq}
 use Rattle.eco_ids.specs.World.{WorldState, Record, has, record_of}
 use Rattle.eco_ids.proofs.Exact.{keys, keys_find}
@@ -27,7 +29,8 @@ use Rattle.eco_systems.specs.Writes.{BringsPattern, InClosedPatterns}
 use Rattle.eco_traits.specs.Prospect.{is_with}
 use Rattle.eco_traits.specs.Target.{type_of_record}
 use Rattle.eco_search.specs.Search.{Appends, Covers, IsInLeast, IsLeastSet, is_among}
-use Rattle.eco_batches.specs.Brought.{AreClosed, HasKnownTarget, below, brought, brought_by, ids_in, key_of, keys_by, known_keys, pattern_of, targets_below}
+use Rattle.eco_batches.specs.Brought.{AreClosed, HasKnownTarget, below, brought, brought_by}
+use Rattle.eco_batches.specs.Brought.{ids_in, key_of, keys_by, known_keys, pattern_of, targets_below}
 use Rattle.eco_batches.specs.KeyLaws.{same_keys}
 use Rattle.eco_batches.specs.declared.key.Key.{Key}
 use Rattle.eco_batches.specs.contracts.key.KeyPartialEq.TheImpl as key_eq
@@ -89,13 +92,13 @@ pub brought_by_ids : (w : WorldState) (p : Pattern) (h : Entity) (ids : List Id)
     → ((x : Entity) → has w h (id.Two WITH x) ≡ has_item id_cmp ids (id.Two WITH x)) → (q : Pattern) → BringsPattern w p q ↔ Member q (brought p ids)
 brought_by_ids w p h ids at own q = (
   λ b. let one = brought_one w p q h at b in
-  in_flat (λ i. option_to_list (brought_by p i)) (id.Two WITH one.0) q ids ((item_is_member ids (id.Two WITH one.0)).0 (sym (own one.0) ∙ one.1))
-  (subst (λ o. Member q (option_to_list o)) (sym (by_with p one.0)) (inl one.2)),
+      in_flat (λ i. option_to_list (brought_by p i)) (id.Two WITH one.0) q ids ((item_is_member ids (id.Two WITH one.0)).0 (sym (own one.0) ∙ one.1))
+      (subst (λ o. Member q (option_to_list o)) (sym (by_with p one.0)) (inl one.2)),
   λ m.
-  let some = from_flat (λ i. option_to_list (brought_by p i)) q ids m in
-  let one = by_id p q some.0 some.2 in
-  subst (BringsPattern w p) one.2 (one_brings w p h one.0 at
-  (own one.0 ∙ (item_is_member ids (id.Two WITH one.0)).1 (subst (λ i. Member i ids) one.1 some.1))),
+      let some = from_flat (λ i. option_to_list (brought_by p i)) q ids m in
+      let one = by_id p q some.0 some.2 in
+      subst (BringsPattern w p) one.2 (one_brings w p h one.0 at
+      (own one.0 ∙ (item_is_member ids (id.Two WITH one.0)).1 (subst (λ i. Member i ids) one.1 some.1))),
 )
 
 has_listed : (o : Option Record) (i : Id) (ids : List Id) → Some ids ≡ option_map type_of_record o → has_in o i ≡ has_item id_cmp ids i
@@ -118,7 +121,8 @@ none_brought p (id.Two r x ∷ ids) h = by (none_brought p ids) (entity_eq r WIT
         ap (λ c. option_to_list (if c then Some (with_head p x) else None) ++ brought p ids) e
         ∙ rest (sym (ap (λ c. c || list_any is_with ids) e) ∙ h)
 
-pub nothing_by : (w : WorldState) (p : Pattern) (ids : List Id) → list_any is_with ids ≡ false → ((q : Pattern) → BringsPattern w p q ↔ Member q (brought p ids))
+pub nothing_by : (w : WorldState) (p : Pattern) (ids : List Id) → list_any is_with ids ≡ false
+    → ((q : Pattern) → BringsPattern w p q ↔ Member q (brought p ids))
     → (q : Pattern) → BringsPattern w p q → ⊥
 nothing_by w p ids none exact q b = subst (Member q) (none_brought p ids none) ((exact q).0 b)
 
@@ -190,7 +194,8 @@ module _ (w : WorldState) where
   -- what a pattern brings is known
   known_by : (targets : List Part) (e x : Entity) (k : Key) → IsTrue (has w e (id.Two WITH x)) → Member k (keys_by targets (id.Two WITH x))
       → Member k (flat_map (keys_by targets) (flat_map ids_in w.indices))
-  known_by targets e x k h m = in_flat (keys_by targets) (id.Two WITH x) k (flat_map ids_in w.indices) (held_by w.indices e.index e.generation (id.Two WITH x) h) m
+  known_by targets e x k h m =
+      in_flat (keys_by targets) (id.Two WITH x) k (flat_map ids_in w.indices) (held_by w.indices e.index e.generation (id.Two WITH x) h) m
 
   known_below : (m n : ℕ) (p q : Pattern) → HasTargetBelow m n p → BringsPattern w p q
       → Member (key_of q) (flat_map (keys_by (targets_below m n)) (flat_map ids_in w.indices))
@@ -239,7 +244,7 @@ module _ (w : WorldState) where
   pub closed : (ps : List Pattern) (roots ks : List Key) → roots ≡ map key_of ps → IsLeastSet same_key (Brings w) roots ks → AreClosed w ps (map pattern_of ks)
   closed ps roots ks made least p = (
     λ m. let one = from_map pattern_of ks m in
-    subst (InClosedPatterns w ps) one.2 (there ((least one.0).0 ((among_is_member ks one.0).1 one.1))),
+        subst (InClosedPatterns w ps) one.2 (there ((least one.0).0 ((among_is_member ks one.0).1 one.1))),
     λ c. in_map pattern_of (key_of p) ks ((among_is_member ks (key_of p)).0 ((least (key_of p)).1 (here c))),
   )
     where

@@ -1,5 +1,5 @@
 -- Members of lists.
-use Rattle.std.proofs.Common.{◌≡◌, Bool, true, false, ◌||◌, ◌⊎◌, inl, inr, List, [], ◌∷◌, ◌++◌, map, flat_map, refl, sym, ap, ◌∙◌, subst, IsTrue, true≢false}
+use Rattle.std.proofs.Common.{◌≡◌, Bool, ◌⊎◌, inl, inr, List, [], ◌∷◌, ◌++◌, map, flat_map, refl, sym, ap, subst, IsTrue, true≢false}
 use Rattle.std.specs.List.{AllByRecursion, list_any}
 use Rattle.eco_ids.proofs.Facts.{or_left, or_parts, or_right}
 use Rattle.eco_systems.specs.Writes.{SomeOf}

@@ -1,5 +1,5 @@
 -- Patterns that are listed once.
-use Rattle.std.proofs.Common.{◌≡◌, Bool, true, false, ◌||◌, ◌↔◌, List, [], ◌∷◌, ◌++◌, map, refl, sym, ap, ◌∙◌, subst, IsTrue, true≢false, if◌then◌else◌}
+use Rattle.std.proofs.Common.{◌≡◌, Bool, true, false, ◌||◌, List, [], ◌∷◌, ◌++◌, map, refl, sym, ap, ◌∙◌, subst, IsTrue, true≢false, if◌then◌else◌}
 use Rattle.std.proofs.Common.{ℕ, ◌+◌, ◌<◌, get_or, length, take}
 use Rattle.std.proofs.lemmas.List.{map_push, take_more}
 use Rattle.std.specs.List.{AllByRecursion, IsDistinct, list_any}
@@ -8,7 +8,7 @@ use Rattle.std.proofs.lemmas.Map.Keys.{IsDistinct-cons, IsDistinct-head, IsDisti
 use Rattle.indexmap.specs.IndexSet.{insert_all, insert_key}
 use Rattle.eco_ids.specs.declared.pattern.Pattern.{Pattern}
 use Rattle.eco_ids.specs.World.{WorldState}
-use Rattle.eco_systems.specs.Closing.{ClosedPasses, ListsClosed}
+use Rattle.eco_systems.specs.Closing.{ListsClosed}
 use Rattle.eco_systems.specs.Writes.{widened}
 use Rattle.eco_batches.specs.Brought.{AreClosed, once, pattern_of, same}
 use Rattle.eco_batches.specs.declared.key.Key.{Key}
@@ -49,11 +49,11 @@ pub lists_closed : (w : WorldState) (writes members listed : List Pattern) → A
     → ListsClosed w writes listed
 lists_closed w writes members listed closed made test = (
   λ h.
-  let one = passing test (map (widened w) members) (sym (all_more test [] (map (widened w) members)) ∙ ap (list_any test) (sym made) ∙ h) in
-  let from = from_map (widened w) members one.1 in
-  (one.0, (from.0, (closed from.0).0 from.1, sym from.2), one.2),
+      let one = passing test (map (widened w) members) (sym (all_more test [] (map (widened w) members)) ∙ ap (list_any test) (sym made) ∙ h) in
+      let from = from_map (widened w) members one.1 in
+      (one.0, (from.0, (closed from.0).0 from.1, sym from.2), one.2),
   λ c. ap (list_any test) made ∙ all_more test [] (map (widened w) members)
-  ∙ passes test (map (widened w) members) (in_map (widened w) (c.1).0 members ((closed (c.1).0).1 (c.1).1)) (subst (λ p. IsTrue (test p)) (c.1).2 c.2),
+      ∙ passes test (map (widened w) members) (in_map (widened w) (c.1).0 members ((closed (c.1).0).1 (c.1).1)) (subst (λ p. IsTrue (test p)) (c.1).2 c.2),
 )
 
 -- ---- each once

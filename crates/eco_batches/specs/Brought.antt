@@ -1,7 +1,7 @@
 -- What patterns bring, as a search meets it.
-use Rattle.std.specs.Prelude.{◌≡◌, ℕ, zero, suc, ◌^◌, ◌↔◌, ⊤, Bool, List, [], ◌∷◌, map, flat_map, Option, Some, None, option_to_list, if◌then◌else◌}
+use Rattle.std.specs.Prelude.{◌≡◌, ℕ, zero, suc, ◌^◌, ◌↔◌, ⊤, Bool, List}
+use Rattle.std.specs.Prelude.{[], ◌∷◌, map, flat_map, Option, Some, None, option_to_list, if◌then◌else◌}
 use Rattle.indexmap.specs.IndexSet.{insert_all}
-use Rattle.eco_ids.specs.declared.entity.Entity.{Entity}
 use Rattle.eco_ids.specs.declared.entity.TheConstants.{WITH}
 use Rattle.eco_ids.specs.declared.id.Id.{Id}
 use Rattle.eco_ids.specs.declared.id.Id.TheVariants as id

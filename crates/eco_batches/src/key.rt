@@ -6,8 +6,8 @@ ghost use Rattle.eco_ids.specs.Hashing.{id_fed};
 ghost use Rattle.eco_batches.specs.Keys.{looks_like};
 
 use crate::written::named;
-use eco_ids::{Id, Pattern};
 use eco_ids::entity::WITH;
+use eco_ids::{Id, Pattern};
 use std::hash::{Hash, Hasher};
 
 /// A pattern that a set holds.

@@ -1,5 +1,5 @@
 -- A type that fulfils all slots has an id for each that asks for something to be there.
-use Rattle.eco_ids.proofs.Common.{◌≡◌, ℕ, zero, suc, ◌<◌, Bool, true, false, true≢false, cond, ◌&&◌, ◌||◌, IsTrue, List, [], ◌∷◌, map, filter, length}
+use Rattle.eco_ids.proofs.Common.{◌≡◌, ℕ, zero, suc, ◌+◌, ◌<◌, nat_eq, nat_tests, Bool, true, false, true≢false, cond, ◌&&◌, ◌||◌, IsTrue, List, [], ◌∷◌, map, filter, length}
 use Rattle.eco_ids.proofs.Common.{slice_get, length-map, none-some, same_Some, option_copied}
 use Rattle.std.proofs.Common.{Bor}
 use Rattle.eco_ids.proofs.Common.{Option, Some, None, refl, sym, ap, ◌∙◌, subst, arith, list_any, option_to_list}
@@ -10,20 +10,20 @@ use Rattle.std.proofs.lemmas.List.Elements.{All-from_recursion}
 use Rattle.eco_ids.specs.Terms.{QueryTerm, And, Not, Optional, Or}
 use Rattle.eco_ids.specs.declared.id.Id.{Id}
 use Rattle.eco_ids.specs.declared.id.Id.TheVariants as id
-use Rattle.eco_ids.specs.Order.{id_eq}
+use Rattle.eco_ids.specs.Order.{entity_eq, id_eq}
 use Rattle.eco_ids.specs.declared.pattern.Pattern.{Pattern}
 use Rattle.eco_ids.proofs.Ascending.{both, first, less, second}
 use Rattle.eco_ids.proofs.Facts.{any_is, id_eq_is, id_eq_itself, or_left, or_right}
 use Rattle.eco_ids.proofs.IdOrder.{id_cmp_total, same_id}
 use Rattle.eco_ids.proofs.Listable.{IsLeastOf, decide_bool, item_in, least_of}
-use Rattle.eco_ids.proofs.Overlaps.{entity_eq_itself}
-use Rattle.eco_query.specs.declared.access.Access.{Access}
+use Rattle.eco_ids.proofs.Overlaps.{entity_eq_is, entity_eq_itself}
 use Rattle.eco_query.specs.declared.slot.Slot.{Slot}
 use Rattle.eco_query.specs.Queries.{QuerySlot, exactly, has_any, holds, is_positive, matches_type, patterns_of, slot_view, term_view}
 use Rattle.eco_index.specs.IdIndex.{any_matches}
 use Rattle.eco_index.specs.TypeTests.{AreNeeded, group_at, matches_one}
-use Rattle.eco_answers.specs.Answers.{asks}
-use Rattle.eco_answers.specs.Groups.{groups_of, is_one_plain, is_plain}
+use Rattle.eco_answers.specs.Answers.{asked, asks}
+use Rattle.eco_answers.proofs.Answered.{asks_asked}
+use Rattle.eco_answers.specs.Groups.{groups_of, number_after, others_hold}
 
 -- there is one of those that pass where some item passes
 any-filter : {X Y : Type 0} (f : X → Y) (p : X → Bool) (xs : List X) → has_any (map f (filter p xs)) ≡ list_any p xs
@@ -164,26 +164,94 @@ plain_holds ids p found =
         (both _ _ (second (has_item id_cmp ids l.0) _ l.1.passes) (none_less l.0 l.1.least _ refl))
     by (inr none) = let one = among (pattern_matches p) found in absurd (none one.0 (both _ _ one.2 one.1))
 
--- a type with an id that the pattern of one plain term matches is asked for nothing more
-pub plain_passes : (slots : List Slot) (q : List QuerySlot) → map slot_view slots ≡ q → is_one_plain (asks slots) ≡ true
-    → (k : ℕ) (ids : List Id) → k < length (groups_of q) → matches_one (group_at (groups_of q) k) ids ≡ true → matches_type ids q ≡ true
-plain_passes slots q same plain k ids =
-    subst (λ q. k < length (groups_of q) → matches_one (group_at (groups_of q) k) ids ≡ true → matches_type ids q ≡ true) same (go slots plain)
+-- ---- the slot that makes a group holds where one of its patterns matches
+
+-- the pattern that an id alone matches matches no other
+exactly_is : (i j : Id) → pattern_matches (exactly i) j ≡ true → i ≡ j
+exactly_is (id.One e) (id.One f) h = ap id.One (entity_eq_is e f h)
+exactly_is (id.One e) (id.Two r t) h = absurd (true≢false (sym h))
+exactly_is (id.Two r t) (id.One e) h = absurd (true≢false (sym h))
+exactly_is (id.Two r t) (id.Two s u) h =
+    ap (λ x. id.Two x t) (entity_eq_is r s (first (entity_eq r s) _ h)) ∙ ap (id.Two s) (entity_eq_is t u (second (entity_eq r s) _ h))
+
+matched_has : (ids : List Id) (i : Id) → any_matches ids (exactly i) ≡ true → has_item id_cmp ids i ≡ true
+matched_has ids i h =
+    let own = any_is (pattern_matches (exactly i)) ids h in
+    own.2 (λ j. id_eq j i) (subst (λ j. id_eq j i ≡ true) (exactly_is i own.0 own.1) (id_eq_itself i))
+
+one_holds : (ids is : List Id) → list_any (any_matches ids) (map exactly is) ≡ true
+    → has_any (map (λ (i : Id). Some i) (option_to_list (find (has_item id_cmp ids) is))) ≡ true
+one_holds ids [] h = h
+one_holds ids (i ∷ is) h = by (one_holds ids is) (has_item id_cmp ids i) refl
+  where
+    other : (a b : Bool) → (a || b) ≡ true → (a ≡ true → ⊥) → b ≡ true
+    other true b h absent = absurd (absent refl)
+    other false b h absent = h
+
+    by : (list_any (any_matches ids) (map exactly is) ≡ true → has_any (map (λ (i : Id). Some i) (option_to_list (find (has_item id_cmp ids) is))) ≡ true)
+        → (b : Bool) → has_item id_cmp ids i ≡ b
+        → has_any (map (λ (i : Id). Some i) (option_to_list (cond b (Some i) (find (has_item id_cmp ids) is)))) ≡ true
+    by rest true e = refl
+    by rest false e = rest (other (any_matches ids (exactly i)) _ h (λ m. true≢false (sym (matched_has ids i m) ∙ e)))
+
+found_holds : (ids : List Id) (t : QueryTerm) → is_positive t ≡ true → matches_one (patterns_of t) ids ≡ true → holds ids t ≡ true
+found_holds ids (And p) pos h = plain_holds ids p (alone (any_matches ids p) h)
   where
     alone : (b : Bool) → (b || false) ≡ true → b ≡ true
     alone true h = refl
     alone false h = h
+found_holds ids (Not p) pos h = absurd (true≢false (sym pos))
+found_holds ids (Optional i) pos h = absurd (true≢false (sym pos))
+found_holds ids (Or is) pos h = one_holds ids is h
 
-    one : (a : Access) (t : QueryTerm) (k : ℕ) → is_plain t ≡ true → k < length (groups_of (record { access = a; term = t } ∷ []))
-        → matches_one (group_at (groups_of (record { access = a; term = t } ∷ [])) k) ids ≡ true → (holds ids t && true) ≡ true
-    one a (And p) zero plain there found = both _ _ (plain_holds ids p (alone (any_matches ids p) found)) refl
-    one a (And p) (suc k) plain there found = absurd (omega (arith, there))
-    one a (Not p) k plain there found = absurd (true≢false (sym plain))
-    one a (Optional i) k plain there found = absurd (true≢false (sym plain))
-    one a (Or is) k plain there found = absurd (true≢false (sym plain))
+-- ---- the others
 
-    go : (slots : List Slot) → is_one_plain (asks slots) ≡ true → k < length (groups_of (map slot_view slots))
-        → matches_one (group_at (groups_of (map slot_view slots)) k) ids ≡ true → matches_type ids (map slot_view slots) ≡ true
-    go [] plain there found = refl
-    go (s ∷ []) plain there found = one s.access (term_view s.term) k plain there found
-    go (s ∷ t ∷ slots) plain there found = absurd (true≢false (sym plain))
+-- behind the slot that makes the group all are asked
+asked_behind : (ids : List Id) (q : List QuerySlot) (n g : ℕ) → g < n → others_hold ids (asked q) n g ≡ matches_type ids q
+asked_behind ids [] n g lt = refl
+asked_behind ids (s ∷ q) n g lt =
+    let apart : nat_eq n g ≡ false = grind (arith, nat_tests) in
+    ap (λ b. ((b && is_positive s.term) || holds ids s.term) && others_hold ids (asked q) (number_after n s.term) g) apart
+    ∙ ap (λ b. holds ids s.term && b) (asked_behind ids q (number_after n s.term) g (later (is_positive s.term)))
+  where
+    later : (b : Bool) → g < cond b (n + 1) n
+    later true = omega (arith, lt)
+    later false = lt
+
+others_found : (ids : List Id) (q : List QuerySlot) (n k : ℕ) → k < length (groups_of q) → matches_one (group_at (groups_of q) k) ids ≡ true
+    → others_hold ids (asked q) n (n + k) ≡ matches_type ids q
+others_found ids [] n k there found = absurd (omega (arith, there))
+others_found ids (s ∷ q) n k there found = by (others_found ids q) k (is_positive s.term) refl there found
+  where
+    groups : Bool → List (List Pattern)
+    groups b =
+        map (λ (s : QuerySlot). patterns_of s.term) (cond b (s ∷ filter (λ s. is_positive s.term) q) (filter (λ s. is_positive s.term) q))
+
+    neither : (b : Bool) → (b && false) ≡ false
+    neither true = refl
+    neither false = refl
+
+    by : ((n k : ℕ) → k < length (groups_of q) → matches_one (group_at (groups_of q) k) ids ≡ true → others_hold ids (asked q) n (n + k) ≡ matches_type ids q)
+        → (k : ℕ) (b : Bool) → is_positive s.term ≡ b → k < length (groups b) → matches_one (group_at (groups b) k) ids ≡ true
+        → (((nat_eq n (n + k) && b) || holds ids s.term) && others_hold ids (asked q) (cond b (n + 1) n) (n + k)) ≡ (holds ids s.term && matches_type ids q)
+    by rest zero true e there found =
+        let own : nat_eq n (n + 0) ≡ true = grind (arith, nat_tests) in
+        ap (λ b. ((b && true) || holds ids s.term) && others_hold ids (asked q) (n + 1) (n + 0)) own
+        ∙ asked_behind ids q (n + 1) (n + 0) (omega arith)
+        ∙ ap (λ b. b && matches_type ids q) (sym (found_holds ids s.term e found))
+    by rest (suc k) true e there found =
+        let apart : nat_eq n (n + suc k) ≡ false = grind (arith, nat_tests) in
+        let place : n + suc k ≡ n + 1 + k = omega arith in
+        ap (λ b. ((b && true) || holds ids s.term) && others_hold ids (asked q) (n + 1) (n + suc k)) apart
+        ∙ ap (λ j. holds ids s.term && others_hold ids (asked q) (n + 1) j) place
+        ∙ ap (λ b. holds ids s.term && b) (rest (n + 1) k (omega (arith, there)) found)
+    by rest k false e there found =
+        ap (λ b. (b || holds ids s.term) && others_hold ids (asked q) n (n + k)) (neither (nat_eq n (n + k)))
+        ∙ ap (λ b. holds ids s.term && b) (rest n k there found)
+
+-- a type that a pattern of a group has found is asked for what the other slots say
+pub others_suffice : (slots : List Slot) (q : List QuerySlot) → map slot_view slots ≡ q → (k : ℕ) (ids : List Id) → k < length (groups_of q)
+    → matches_one (group_at (groups_of q) k) ids ≡ true → others_hold ids (asks slots) 0 k ≡ matches_type ids q
+others_suffice slots q same k ids there found =
+    let place : k ≡ 0 + k = omega arith in
+    ap (λ ts. others_hold ids ts 0 k) (asks_asked slots q same) ∙ ap (others_hold ids (asked q) 0) place ∙ others_found ids q 0 k there found

@@ -1,9 +1,9 @@
 //! A query is a test of types.
-ghost use Rattle.std.specs.Prelude.{◌≡◌, ◌<◌, filter, length, slice_get, Some};
+ghost use Rattle.std.specs.Prelude.{◌≡◌, ◌<◌, ◌^◌, filter, length, slice_get, Some};
 ghost use Rattle.std.specs.Option.{option_copied};
 ghost use Rattle.eco_index.specs.TypeTests.{group_at};
 ghost use Rattle.eco_answers.specs.Answers.{asks};
-ghost use Rattle.eco_answers.specs.Groups.{groups_of, is_one_plain, is_plain};
+ghost use Rattle.eco_answers.specs.Groups.{groups_of, number_after, others_hold};
 ghost use Rattle.eco_query.specs.Queries.{is_positive, patterns_of, term_view};
 
 use eco_archetypes::TypeTest;
@@ -66,21 +66,31 @@ fn pattern_at(slot: &Slot, place: usize) -> Pattern
     }
 }
 
-// Whether the slot is a plain term.
-fn is_plain(slot: &Slot) -> bool
-    ensures { result ≡ is_plain (term_view slot.now.term) }
+// How many slots that ask for something to be there have come, with this one.
+fn number_after(before: usize, slot: &Slot) -> usize
+    requires { before < 2 ^ 63 }
+    ensures { result ≡ number_after before (term_view slot.now.term) }
 {
-    matches!(&slot.term, Term::And(_))
+    if is_positive(slot) {
+        before + 1
+    } else {
+        before
+    }
 }
 
-// Whether the slots are one plain term.
-fn is_one_plain(slots: &[Slot]) -> bool
-    ensures { result ≡ is_one_plain (asks slots.now) }
+// Whether each slot holds on an entity of this type, but for the one that makes the group.
+fn others_hold(slots: &[Slot], group: usize, ids: &TypeList) -> bool
+    ensures { result ≡ others_hold ids.now (asks slots.now) 0 group }
 {
-    match slots {
-        [slot] => is_plain(slot),
-        _ => false,
+    let mut before = 0;
+    for slot in slots {
+        let is_own = before == group && is_positive(slot);
+        if !is_own && !slot.holds(ids) {
+            return false;
+        }
+        before = number_after(before, slot);
     }
+    true
 }
 
 impl<'a> Asking<'a> {
@@ -118,9 +128,9 @@ impl<'a> TypeTest for Asking<'a> {
         self.query.matches_type(type_list)
     }
 
-    fn passes_found(&self, _group: usize, type_list: &TypeList) -> bool {
-        // One plain term asks for nothing but an id that its pattern matches.
-        is_one_plain(self.query.slots()) || self.passes(type_list)
+    fn passes_found(&self, group: usize, type_list: &TypeList) -> bool {
+        // The slot that makes the group holds where one of its patterns matches an id.
+        others_hold(self.query.slots(), group, type_list)
     }
 
     fn cached(&self) -> Option<(usize, &Query)> {

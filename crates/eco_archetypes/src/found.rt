@@ -1,5 +1,5 @@
 //! The tables that a pattern finds, and who stands in them.
-ghost use Rattle.std.specs.Prelude.{◌≡◌, ◌<◌, IfOk, OnErr, length};
+ghost use Rattle.std.specs.Prelude.{◌≡◌, ◌<◌, ◌∷◌, ◌++◌, [], IfOk, OnErr, OnOk, length};
 ghost use Rattle.std.specs.List.Sorted.{IsPermutation, IsSorted};
 ghost use Rattle.eco_ids.specs.Order.{entity_cmp};
 ghost use Rattle.eco_tables.specs.Table.{entities_of};
@@ -15,6 +15,18 @@ use std::alloc::{AllocError, Global};
 pub struct Found<'a> {
     pub tables: &'a Tables,
     pub slots: Vec<usize>,
+}
+
+/// Puts a slot behind those that were found before, of at most so many. Where there is no room, room for all of them is asked for
+/// at once: what grows bit by bit is copied again and again.
+pub(crate) fn put_behind(found: &mut Vec<usize>, slot: usize, most: usize) -> Result<(), AllocError>
+    ensures { OnOk result (found.new.items ≡ found.old.items ++ slot ∷ []) }
+{
+    if found.len() == found.capacity() {
+        found.reserve(most.max(1))?;
+    }
+    found.push_reserved(slot);
+    Ok(())
 }
 
 /// The entities that stand in the tables in these slots, in their order. An `Err` comes where memory is refused, and never

@@ -5,6 +5,7 @@ ghost use Rattle.eco_index.specs.Caching.{fulfils, AreKept, AreThose};
 ghost use Rattle.eco_archetypes.specs.Archetypes.{type_at, has_rows, ArePassing};
 
 use crate::archetypes::Archetypes;
+use crate::found::put_behind;
 use eco_entries::Choices;
 use eco_index::TypeTest;
 use eco_query::Query;
@@ -72,7 +73,7 @@ impl Archetypes {
         let mut found = Vec::new(self.alloc);
         for slot in slots {
             if self.tables.row_count(*slot) > 0 {
-                found.push(*slot)?;
+                put_behind(&mut found, *slot, slots.len())?;
             }
         }
         Ok(found)

@@ -6,6 +6,7 @@ ghost use Rattle.eco_archetypes.specs.Archetypes.{is_found_in, FindsSome, IsAllF
 ghost use Rattle.eco_archetypes.specs.Naming.{is_named_by_some};
 
 use crate::archetypes::Archetypes;
+use crate::found::put_behind;
 use eco_ids::{Entity, Pattern};
 use eco_index::TypeTest;
 use std::alloc::AllocError;
@@ -79,7 +80,7 @@ impl Archetypes {
     {
         for slot in slots {
             if self.is_new(*slot, test, group, place) {
-                found.push(*slot)?;
+                put_behind(found, *slot, slots.len())?;
             }
         }
         Ok(())

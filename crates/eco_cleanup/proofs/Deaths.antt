@@ -103,7 +103,7 @@ module _ (slots : List (Option TableState)) where
 pub some_entity : (p : Entity → Bool) (es : List Entity) → IsTrue (list_any p es) → (e : Entity) × IsTrue (has_item entity_cmp es e) × IsTrue (p e)
 some_entity p es h = let one = any_is p es h in (one.0, one.2 (λ y. entity_eq y one.0) (entity_eq_itself one.0), one.1)
 
-any_entity : (p : Entity → Bool) (es : List Entity) (e : Entity) → IsTrue (has_item entity_cmp es e) → IsTrue (p e) → IsTrue (list_any p es)
+pub any_entity : (p : Entity → Bool) (es : List Entity) (e : Entity) → IsTrue (has_item entity_cmp es e) → IsTrue (p e) → IsTrue (list_any p es)
 any_entity p es e there passes =
     let one = any_is (λ y. entity_eq y e) es there in one.2 p (subst (λ y. IsTrue (p y)) (sym (entity_eq_is one.0 e one.1)) passes)
 

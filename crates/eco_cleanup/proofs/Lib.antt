@@ -3,7 +3,10 @@ pub mod Firsts
 pub mod Forbidden
 pub mod Noted
 pub mod Objections
+pub mod OnlyFound
+pub mod OnlyHeld
 pub mod Planned
+pub mod Relationships
 pub mod Roles
 pub mod Rooted
 pub mod Sparing

@@ -43,7 +43,7 @@ named_alike dead others same (One e) = same e
 named_alike dead others same (Two r t) = λ k. same r k || same t k
 
 -- an id names one of them where one of them is named by it
-some_named : (es : List Entity) (m : Entity) (i : Id) → IsTrue (has_item entity_cmp es m) → IsTrue (names_entity i m) → IsTrue (names_any es i)
+pub some_named : (es : List Entity) (m : Entity) (i : Id) → IsTrue (has_item entity_cmp es m) → IsTrue (names_entity i m) → IsTrue (names_any es i)
 some_named es m (One e) among names = ap (has_item entity_cmp es) (entity_eq_is e m names) ∙ among
 some_named es m (Two r t) among names =
     elim (or_parts (entity_eq r m) (entity_eq t m) names) as (λ _. IsTrue (has_item entity_cmp es r || has_item entity_cmp es t)) [
@@ -51,7 +51,7 @@ some_named es m (Two r t) among names =
       | inr tail ↦ or_right (has_item entity_cmp es r) (has_item entity_cmp es t) (ap (has_item entity_cmp es) (entity_eq_is t m tail) ∙ among)
     ]
 
-named_some : (es : List Entity) (i : Id) → IsTrue (names_any es i) → (m : Entity) × IsTrue (has_item entity_cmp es m) × IsTrue (names_entity i m)
+pub named_some : (es : List Entity) (i : Id) → IsTrue (names_any es i) → (m : Entity) × IsTrue (has_item entity_cmp es m) × IsTrue (names_entity i m)
 named_some es (One e) names = (e, names, entity_eq_itself e)
 named_some es (Two r t) names =
     elim (or_parts (has_item entity_cmp es r) (has_item entity_cmp es t) names) as

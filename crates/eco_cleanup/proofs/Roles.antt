@@ -41,7 +41,7 @@ policy_of_none w e c own = chosen_alike (λ i. false) (has w e) c (λ i. sym (ha
 
 -- ---- roles
 
-tested : (a b : Entity) → a ≡ b → IsTrue (entity_eq a b)
+pub tested : (a b : Entity) → a ≡ b → IsTrue (entity_eq a b)
 tested a b e = subst (λ x. IsTrue (entity_eq a x)) e (entity_eq_itself a)
 
 pair_tested : (a b c d : Entity) → IsTrue (entity_eq a b && entity_eq c d) ↔ ((a ≡ b) × (c ≡ d))

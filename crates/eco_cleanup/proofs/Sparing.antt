@@ -1,72 +1,72 @@
--- Ids go from a list one after another.
-use Rattle.std.proofs.Common.{◌≡◌, Bool, true, false, cond, not, ◌&&◌, ◌||◌, List, [], ◌∷◌, filter, fold, refl, sym, ap, ◌∙◌, IsTrue}
-use Rattle.std.proofs.lemmas.List.Elements.{filter_agree}
+-- Ids that stay are put into a list one after another.
+use Rattle.std.proofs.Common.{◌≡◌, Bool, true, false, cond, not, ◌&&◌, List, [], ◌∷◌, ◌++◌, filter, fold, refl, sym, ap, ◌∙◌, subst, IsTrue, append_assoc}
+use Rattle.std.proofs.lemmas.List.{append-nil}
+use Rattle.std.specs.List.{list_all}
+use Rattle.std.specs.Ordering.{is_lt}
 use Rattle.eco_ids.specs.declared.id.Id.{Id}
-use Rattle.eco_ids.specs.Order.{has_item, id_cmp, id_eq, without_item}
-use Rattle.eco_ids.proofs.Exact.{id_eq_sym}
-use Rattle.eco_ids.proofs.Facts.{id_eq_is, id_eq_itself}
+use Rattle.std.specs.FinMap.Entries.{by_order}
+use Rattle.eco_ids.specs.Order.{id_cmp, is_ascending, with_item}
+use Rattle.eco_ids.proofs.Ascending.{both, first, less, second}
+
+-- what is below all of two lists is below all of the first, and of what comes behind one of the second
+below_front : (t : Id → Bool) (xs ys : List Id) → IsTrue (list_all t (xs ++ ys)) → IsTrue (list_all t xs)
+below_front t [] ys h = refl
+below_front t (x ∷ xs) ys h =
+    both (t x) (list_all t xs) (first (t x) (list_all t (xs ++ ys)) h) (below_front t xs ys (second (t x) (list_all t (xs ++ ys)) h))
+
+below_rest : (t : Id → Bool) (xs : List Id) (y : Id) (ys : List Id) → IsTrue (list_all t (xs ++ y ∷ ys)) → IsTrue (list_all t (xs ++ ys))
+below_rest t [] y ys h = second (t y) (list_all t ys) h
+below_rest t (x ∷ xs) y ys h =
+    both (t x) (list_all t (xs ++ ys)) (first (t x) (list_all t (xs ++ y ∷ ys)) h) (below_rest t xs y ys (second (t x) (list_all t (xs ++ y ∷ ys)) h))
+
+front_ascends : (xs ys : List Id) → IsTrue (is_ascending id_cmp (xs ++ ys)) → IsTrue (is_ascending id_cmp xs)
+front_ascends [] ys h = refl
+front_ascends (x ∷ xs) ys h =
+    both (list_all (λ y. is_lt (id_cmp x y)) xs) (is_ascending id_cmp xs)
+    (below_front (λ y. is_lt (id_cmp x y)) xs ys (first (list_all (λ y. is_lt (id_cmp x y)) (xs ++ ys)) (is_ascending id_cmp (xs ++ ys)) h))
+    (front_ascends xs ys (second (list_all (λ y. is_lt (id_cmp x y)) (xs ++ ys)) (is_ascending id_cmp (xs ++ ys)) h))
+
+rest_ascends : (xs : List Id) (y : Id) (ys : List Id) → IsTrue (is_ascending id_cmp (xs ++ y ∷ ys)) → IsTrue (is_ascending id_cmp (xs ++ ys))
+rest_ascends [] y ys h = second (list_all (λ x. is_lt (id_cmp y x)) ys) (is_ascending id_cmp ys) h
+rest_ascends (x ∷ xs) y ys h =
+    both (list_all (λ z. is_lt (id_cmp x z)) (xs ++ ys)) (is_ascending id_cmp (xs ++ ys))
+    (below_rest (λ z. is_lt (id_cmp x z)) xs y ys (first (list_all (λ z. is_lt (id_cmp x z)) (xs ++ y ∷ ys)) (is_ascending id_cmp (xs ++ y ∷ ys)) h))
+    (rest_ascends xs y ys (second (list_all (λ z. is_lt (id_cmp x z)) (xs ++ y ∷ ys)) (is_ascending id_cmp (xs ++ y ∷ ys)) h))
+
+-- what is above all of a list goes to its end
+with_last : (xs : List Id) (x : Id) → IsTrue (is_ascending id_cmp (xs ++ x ∷ [])) → with_item id_cmp xs x ≡ xs ++ x ∷ []
+with_last [] x h = refl
+with_last (y ∷ ys) x h =
+    let above : IsTrue (is_lt (id_cmp y x)) = last_of ys
+    (first (list_all (λ z. is_lt (id_cmp y z)) (ys ++ x ∷ [])) (is_ascending id_cmp (ys ++ x ∷ [])) h) in
+    ap (λ o. by_order o (y ∷ with_item id_cmp ys x) (y ∷ ys) (x ∷ y ∷ ys)) (less (id_cmp y x) above)
+    ∙ ap (λ zs. y ∷ zs) (with_last ys x (second (list_all (λ z. is_lt (id_cmp y z)) (ys ++ x ∷ [])) (is_ascending id_cmp (ys ++ x ∷ [])) h))
+  where
+    last_of : (zs : List Id) → IsTrue (list_all (λ z. is_lt (id_cmp y z)) (zs ++ x ∷ [])) → IsTrue (is_lt (id_cmp y x))
+    last_of [] all = first (is_lt (id_cmp y x)) true all
+    last_of (z ∷ zs) all = last_of zs (second (is_lt (id_cmp y z)) (list_all (λ u. is_lt (id_cmp y u)) (zs ++ x ∷ [])) all)
 
 module _ (goes : Id → Bool) where
-  -- without those of these ids that go
-  abbrev pub without_named : List Id → List Id → List Id
-  without_named xs ids = fold (λ ks i. cond (goes i) (without_item id_cmp ks i) ks) ids xs
+  -- with those of the ids that stay
+  abbrev pub with_staying : List Id → List Id → List Id
+  with_staying ids kept = fold (λ ks i. cond (goes i) ks (with_item id_cmp ks i)) kept ids
 
-  -- all but those of these ids that go
-  abbrev keeps : List Id → Id → Bool
-  keeps xs j = not (has_item id_cmp xs j && goes j)
-
-  kept_all : (ids : List Id) → ids ≡ filter (keeps []) ids
-  kept_all [] = refl
-  kept_all (i ∷ ids) = ap (λ js. i ∷ js) (kept_all ids)
-
-  -- who doesn't go
-  not_this : (i : Id) (xs : List Id) (j : Id) → goes i ≡ false → keeps xs j ≡ keeps (i ∷ xs) j
-  not_this i xs j stays = by (id_eq i j) refl (has_item id_cmp xs j)
+  behind : (kept ids : List Id) → IsTrue (is_ascending id_cmp (kept ++ ids)) → with_staying ids kept ≡ kept ++ filter (λ i. not (goes i)) ids
+  behind kept [] h = sym (append-nil kept)
+  behind kept (i ∷ ids) h =
+      let ascending = subst (λ xs. IsTrue (is_ascending id_cmp xs)) (sym (append_assoc kept (i ∷ []) ids)) h in
+      by (goes i) (behind kept ids (rest_ascends kept i ids h))
+      (ap (with_staying ids) (with_last kept i (front_ascends (kept ++ i ∷ []) ids ascending))
+      ∙ behind (kept ++ i ∷ []) ids ascending
+      ∙ append_assoc kept (i ∷ []) (filter (λ j. not (goes j)) ids))
     where
-      by : (b : Bool) → id_eq i j ≡ b → (h : Bool) → not (h && goes j) ≡ not ((b || h) && goes j)
-      by false is h = refl
-      by true is true = refl
-      by true is false = sym (ap not (ap goes (sym (id_eq_is i j is)) ∙ stays))
+      by : (b : Bool) → with_staying ids kept ≡ kept ++ filter (λ j. not (goes j)) ids
+          → with_staying ids (with_item id_cmp kept i) ≡ kept ++ i ∷ filter (λ j. not (goes j)) ids
+          → with_staying ids (cond b kept (with_item id_cmp kept i))
+          ≡ kept ++ cond (not b) (i ∷ filter (λ j. not (goes j)) ids) (filter (λ j. not (goes j)) ids)
+      by true gone stays = gone
+      by false gone stays = stays
 
-  -- who goes
-  one_less : (i : Id) (xs ids : List Id) → goes i ≡ true → filter (keeps xs) (without_item id_cmp ids i) ≡ filter (keeps (i ∷ xs)) ids
-  one_less i xs [] going = refl
-  one_less i xs (j ∷ ids) going = by (id_eq j i) refl (one_less i xs ids going)
-    where
-      kept : List Id
-      kept = filter (keeps (i ∷ xs)) ids
-
-      by : (b : Bool) → id_eq j i ≡ b → filter (keeps xs) (without_item id_cmp ids i) ≡ kept
-          → filter (keeps xs) (cond (not b) (j ∷ without_item id_cmp ids i) (without_item id_cmp ids i))
-          ≡ cond (not ((id_eq i j || has_item id_cmp xs j) && goes j)) (j ∷ kept) kept
-      by true is rest =
-          rest
-          ∙ sym (ap (λ b. cond (not ((b || has_item id_cmp xs j) && goes j)) (j ∷ kept) kept) (id_eq_sym i j ∙ is)
-          ∙ ap (λ b. cond (not b) (j ∷ kept) kept) (ap goes (id_eq_is j i is) ∙ going))
-      by false is rest =
-          ap (λ js. cond (keeps xs j) (j ∷ js) js) rest
-          ∙ sym (ap (λ b. cond (not ((b || has_item id_cmp xs j) && goes j)) (j ∷ kept) kept) (id_eq_sym i j ∙ is))
-
-  kept_without : (xs ids : List Id) → without_named xs ids ≡ filter (keeps xs) ids
-  kept_without [] ids = kept_all ids
-  kept_without (i ∷ xs) ids = kept_without xs (cond (goes i) (without_item id_cmp ids i) ids) ∙ by (goes i) refl
-    where
-      by : (b : Bool) → goes i ≡ b → filter (keeps xs) (cond b (without_item id_cmp ids i) ids) ≡ filter (keeps (i ∷ xs)) ids
-      by true is = one_less i xs ids is
-      by false is = filter_agree (keeps xs) (keeps (i ∷ xs)) (λ j. not_this i xs j is) ids
-
-  own_kept : (ids xs : List Id) → ((j : Id) → IsTrue (has_item id_cmp ids j) → IsTrue (has_item id_cmp xs j))
-      → filter (keeps xs) ids ≡ filter (λ j. not (goes j)) ids
-  own_kept [] xs within = refl
-  own_kept (i ∷ ids) xs within =
-      ap (λ b. cond (not (b && goes i)) (i ∷ filter (keeps xs) ids) (filter (keeps xs) ids))
-      (within i (ap (λ b. b || has_item id_cmp ids i) (id_eq_itself i)))
-      ∙ ap (λ js. cond (not (goes i)) (i ∷ js) js) (own_kept ids xs (λ j there. within j (later (id_eq i j) (has_item id_cmp ids j) there)))
-    where
-      later : (a b : Bool) → IsTrue b → IsTrue (a || b)
-      later true b h = refl
-      later false b h = h
-
-  -- all of them that go
-  pub all_without : (ids : List Id) → without_named ids ids ≡ filter (λ j. not (goes j)) ids
-  all_without ids = kept_without ids ids ∙ own_kept ids ids (λ j there. there)
+  -- all of them
+  pub all_staying : (ids : List Id) → IsTrue (is_ascending id_cmp ids) → with_staying ids [] ≡ filter (λ i. not (goes i)) ids
+  all_staying ids h = behind [] ids h

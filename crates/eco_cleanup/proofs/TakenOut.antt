@@ -33,7 +33,7 @@ Held = List (Id × Value)
 -- ---- values under some of their ids
 
 -- what has the old values is the old under its own ids
-retyped_part : (test : Id → Bool) (part old : Held) → T (is_sorted id_cmp part) → ((i : Id) (v : Value) → find id_cmp i part ≡ Some v → value_in old i ≡ v)
+pub retyped_part : (test : Id → Bool) (part old : Held) → T (is_sorted id_cmp part) → ((i : Id) (v : Value) → find id_cmp i part ≡ Some v → value_in old i ≡ v)
     → retyped (filter test (keys part)) old ≡ where_key id_cmp test part
 retyped_part test [] old up values = refl
 retyped_part test (p ∷ part) old up values =

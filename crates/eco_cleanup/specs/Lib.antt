@@ -1,5 +1,6 @@
 pub mod Firsts
 pub mod Nodes
 pub mod Objections
+pub mod OnlyHolders
 pub mod Plans
 pub mod Policies

@@ -17,3 +17,8 @@ abbrev pub names_on : WorldState → Entity → Entity → Id → Bool
 names_on w action member (One x) = entity_eq x member && entity_eq (policy w x ON_DELETE) action
 names_on w action member (Two r t) =
     (entity_eq r member && entity_eq (policy w r ON_DELETE) action) || (entity_eq t member && entity_eq (policy w r ON_DELETE_TARGET) action)
+
+-- the id is the entity or a pair of it
+abbrev pub is_head : Entity → Id → Bool
+is_head e (One x) = entity_eq x e
+is_head e (Two r t) = entity_eq r e

@@ -1,6 +1,7 @@
 //! The delete itself: planned completely, then carried out at once.
-ghost use Rattle.std.specs.Prelude.{◌≡◌, Bool, true, List, map, IsTrue, IfOk, OnOk, OnErr};
-ghost use Rattle.eco_ids.specs.Cleanup.{Ends, IsDoomed as IsDoomedList};
+ghost use Rattle.std.specs.Prelude.{◌≡◌, ◌∷◌, [], Bool, true, List, map, IsTrue, IfOk, IfSome, OnOk, OnErr};
+ghost use Rattle.eco_ids.specs.Cleanup.{after_delete, Ends, IsDoomed as IsDoomedList};
+ghost use Rattle.eco_ids.specs.Indices.{is_alive};
 ghost use Rattle.eco_ids.specs.Losses.{without};
 ghost use Rattle.eco_ids.specs.Order.{entity_cmp, has_item};
 ghost use Rattle.eco_ids.specs.Outcome.{Meets};
@@ -8,11 +9,13 @@ ghost use Rattle.eco_ids.specs.declared.entity.Entity.{Entity as EntityData};
 ghost use Rattle.eco_ids.specs.declared.id.Id.{Id as IdData};
 ghost use Rattle.eco_store.specs.Holders.{entities_with};
 ghost use Rattle.eco_cleanup.specs.Objections.{Answers};
+ghost use Rattle.eco_cleanup.specs.OnlyHolders.{IsOnlyHolder};
 ghost use Rattle.eco_cleanup.specs.Plans.{IsPlan, TakesOutOfAll};
 ghost use Rattle.eco_store.specs.Worlds.{world_of};
 ghost use Rattle.eco_cleanup.specs.declared.node.Node.TheVariants.{Root, Falling};
 
 use crate::node::Node;
+use crate::only_holder::OnlyHolder;
 use crate::plan::Plan;
 use crate::ties::Ties;
 use eco_ids::{Entity, Pattern, Refusal};
@@ -31,8 +34,45 @@ pub fn delete(alloc: Global, store: &mut Store, roots: &[Entity]) -> Result<(), 
         → Meets (Ends (world_of store.old.entities) members) true
         (world_of store.old.entities) result (world_of store.new.entities) }
 {
+    if let Some(only) = only_held(alloc, store, roots)? {
+        take_from(store, only)?;
+        return Ok(());
+    }
     let plan = plan_delete(alloc, store, roots)?;
     carry_out(store, &plan.dead, &plan.changes)?;
+    Ok(())
+}
+
+// The one root, if it is one who lives, and if no more than one id of another goes with it.
+fn only_held(
+    alloc: Global,
+    store: &Store,
+    roots: &[Entity],
+) -> Result<Option<OnlyHolder>, AllocError>
+    ensures only { IfOk result (λ o. IfSome o (λ h. IsOnlyHolder store.now.entities h)) }
+    ensures root { IfOk result (λ o. IfSome o (λ h. roots.now ≡ h.member ∷ [])) }
+    ensures alive { IfOk result (λ o. IfSome o (λ h. IsTrue (is_alive store.now.entities h.member))) }
+{
+    if roots.len() != 1 || !store.is_alive(roots[0]) {
+        return Ok(None);
+    }
+    let ties = Ties {
+        store,
+        places: store.places(),
+    };
+    ties.only_holder(alloc, roots[0])
+}
+
+// The id goes, and then the member dies, who is named no more. Memory is wanted for the first alone, so an `Err` changes nothing.
+fn take_from(store: &mut Store, only: OnlyHolder) -> Result<(), AllocError>
+    requires only { IsOnlyHolder store.old.entities only }
+    requires alive { IsTrue (is_alive store.old.entities only.member) }
+    ensures ok { OnOk result (world_of store.new.entities
+        ≡ after_delete (world_of store.old.entities) (only.member ∷ [])) }
+    ensures err { OnErr result (store.new.entities ≡ store.old.entities) }
+{
+    store.step(only.holder, only.id)?;
+    store.take_out(only.member);
     Ok(())
 }
 

@@ -86,7 +86,7 @@ impl Ties<'_> {
     {
         let mut changes = Vec::new(alloc);
         for node in doomed.nodes.as_slice() {
-            self.append_change(doomed, *node, &mut changes)?;
+            self.append_change(alloc, doomed, *node, &mut changes)?;
         }
         Ok(changes)
     }
@@ -94,6 +94,7 @@ impl Ties<'_> {
     // The change of the table of a node, where that is named and does not fall.
     fn append_change(
         &self,
+        alloc: Global,
         doomed: &Doomed,
         node: Node,
         changes: &mut Vec<TypeChange>,
@@ -103,13 +104,16 @@ impl Ties<'_> {
         ensures ascend { Ascend changes.old.items → OnOk result (Ascend changes.new.items) }
     {
         match node {
-            Node::Named(slot) if !doomed.falls(slot) => self.append_in(doomed, slot, changes),
+            Node::Named(slot) if !doomed.falls(slot) => {
+                self.append_in(alloc, doomed, slot, changes)
+            }
             _ => Ok(()),
         }
     }
 
     fn append_in(
         &self,
+        alloc: Global,
         doomed: &Doomed,
         slot: usize,
         changes: &mut Vec<TypeChange>,
@@ -121,22 +125,23 @@ impl Ties<'_> {
     {
         if let Some(table) = self.table(slot) {
             let from = table.type_list().try_copy()?;
-            let to = self.spared(doomed, &from)?;
+            let to = self.spared(alloc, doomed, from.as_slice())?;
             changes.push(TypeChange { from, to })?;
         }
         Ok(())
     }
 
-    // The list without the ids that name one who dies.
-    fn spared(&self, doomed: &Doomed, ids: &TypeList) -> Result<TypeList, AllocError>
-        ensures spared { IfOk result (λ t.
+    // The list without the ids that name one who dies: the others one after another, so that its time grows little faster than
+    // the list, however many go.
+    fn spared(&self, alloc: Global, doomed: &Doomed, ids: &[Id]) -> Result<TypeList, AllocError>
+        requires { IsTrue (is_ascending id_cmp ids.now) }
+        ensures { IfOk result (λ t.
             t ≡ spared (taken_among self.now.places doomed.now.nodes.keys) ids.now) }
-        ensures ascending { IfOk result (λ t. IsTrue (is_ascending id_cmp ids.now)) }
     {
-        let mut kept = ids.try_copy()?;
-        for id in ids.as_slice() {
-            if self.names_dead(doomed, *id) {
-                kept.remove(*id);
+        let mut kept = TypeList::empty(alloc);
+        for id in ids {
+            if !self.names_dead(doomed, *id) {
+                kept.insert(*id)?;
             }
         }
         Ok(kept)

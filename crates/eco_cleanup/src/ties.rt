@@ -11,8 +11,7 @@ ghost use Rattle.eco_cleanup.specs.declared.node.Node.TheVariants.{Falling};
 
 use crate::doomed::Doomed;
 use crate::node::Node;
-use crate::role::any_names_on;
-use eco_ids::entity::DELETE;
+use crate::role::any_deletes;
 use eco_ids::{Entity, Part, Pattern};
 use eco_search::{Graph, least_set};
 use eco_store::{Places, Store};
@@ -55,9 +54,9 @@ impl Ties<'_> {
         Ok(Doomed { nodes })
     }
 
-    // The tables that have rows and a type which names the entity.
+    /// The tables that have rows and a type which names the entity.
     #[inline(always)]
-    fn append_named(&self, entity: Entity, found: &mut Vec<Node>) -> Result<(), AllocError>
+    pub fn append_named(&self, entity: Entity, found: &mut Vec<Node>) -> Result<(), AllocError>
         ensures { OnOk result (Appends (touches (world_of self.now.store.now.entities) self.now.places entity)
             found.old.items found.new.items) }
     {
@@ -120,7 +119,7 @@ impl Ties<'_> {
         ensures { result ≡ falls (world_of self.now.store.now.entities) self.now.places member slot }
     {
         match self.table(slot) {
-            Some(table) => any_names_on(self.store, DELETE, member, table.type_list().as_slice()),
+            Some(table) => any_deletes(self.store, member, table.type_list()),
             None => false,
         }
     }

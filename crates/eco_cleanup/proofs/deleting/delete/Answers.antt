@@ -1,6 +1,8 @@
-use Rattle.std.proofs.Common.{IsTrue, ◌∙◌}
-use Rattle.eco_ids.specs.Cleanup.{names_any}
+use Rattle.std.proofs.Common.{IsTrue, ◌∙◌, subst}
+use Rattle.eco_ids.specs.Cleanup.{IsDoomed, names_any}
 use Rattle.eco_ids.specs.Order.{entity_cmp, has_item}
+use Rattle.eco_store.specs.Worlds.{world_of}
+use Rattle.eco_cleanup.proofs.OnlyHeld.{listed_one, none_forbids}
 use Rattle.eco_cleanup.proofs.Planned.{as_listed}
 use Rattle.eco_cleanup.proofs.deleting.delete.Goals as goal
 
@@ -17,3 +19,12 @@ returns c =
           ∙ as_listed c.args.store.now.entities (λ x. IsTrue (has_item entity_cmp c.args.roots.now x)) plan.dead.items plan.changes.items planned members list,
       c.in_ok-plan.ensures.judged members list,
     )
+
+pub returns-in-Some : goal.returns-in-Some
+returns-in-Some c =
+    let v = c.args.store.now.entities in
+    let only = c.in-Some.only in
+    let facts = rw c.in-Some.is at c.in_ok-only.ensures.only in
+    λ members list.
+    let own = subst (λ es. IsDoomed (world_of v) (λ x. IsTrue (has_item entity_cmp es x)) members) (rw c.in-Some.is at c.in_ok-only.ensures.root) list in
+    (c.in_ok-take_from.ensures.ok ∙ listed_one v only facts members own, none_forbids v only facts members own)

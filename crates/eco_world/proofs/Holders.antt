@@ -1,9 +1,7 @@
 -- Who has an id, as a store finds them by the pattern of that id.
-use Rattle.std.proofs.Common.{if◌then◌else◌, ◌≡◌, Bool, true, false, cond, ◌||◌, List, [], ◌∷◌, map, filter, Some, refl, sym, ap, ◌∙◌, is_some, IsTrue}
-use Rattle.std.proofs.Common.{◌<◌, arith, length, true≢false}
+use Rattle.std.proofs.Common.{if◌then◌else◌, ◌≡◌, true, false, cond, ◌||◌, List, [], ◌∷◌, map, filter, Some, refl, ap, ◌∙◌, is_some}
 use Rattle.std.specs.List.{list_any}
 use Rattle.std.specs.FinMap.Entries.{find}
-use Rattle.std.proofs.lemmas.List.{length-map}
 use Rattle.eco_ids.specs.declared.entity.Entity.{Entity}
 use Rattle.eco_ids.specs.declared.id.Id.{Id}
 use Rattle.eco_ids.specs.declared.id.Id.TheVariants as id
@@ -45,19 +43,3 @@ found i (p ∷ ps) = λ t. if exactly_held i p.1.held t then p ∷ found i ps t 
 -- whom the store finds by the id's pattern has the id in the world
 pub found_holders : (w : WorldState) (i : Id) → store.entities_with (entities w) (exactly i) ≡ holders w i
 found_holders w i = ap (map (λ (p : Entity × Record). p.0)) (found i (living (entities w)))
-
-some_kept : {X : Type 0} (test : X → Bool) (xs : List X) → IsTrue (list_any test xs) → 0 < length (filter test xs)
-some_kept test [] h = absurd (true≢false (sym h))
-some_kept test (x ∷ xs) h = by (test x) (some_kept test xs) h
-  where
-    by : (b : Bool) → (IsTrue (list_any test xs) → 0 < length (filter test xs)) → (b || list_any test xs) ≡ true →
-        0 < length (cond b (x ∷ filter test xs) (filter test xs))
-    by true rest h = omega arith
-    by false rest h = rest h
-
--- where the store finds somebody, somebody has the id in the world
-pub some_holder : (w : WorldState) (i : Id) → IsTrue (list_any (λ (p : Entity × Record). has_match (exactly i) p.1) (living (entities w))) →
-    0 < length (holders w i)
-some_holder w i h =
-    let kept = some_kept (λ (p : Entity × Record). has_match (exactly i) p.1) (living (entities w)) h in
-    rw (← found_holders w i, length-map) kept

@@ -1,5 +1,5 @@
 //! The world and what it answers.
-ghost use Rattle.std.specs.Prelude.{◌≡◌, ◌≤◌, ◌<◌, false, ◌||◌, IfErr, IfOk, is_some, IsTrue, length, map, MatchOption, None, not, OnErr, OnOk, option_map};
+ghost use Rattle.std.specs.Prelude.{◌≡◌, ◌≤◌, ◌<◌, false, ◌||◌, IfErr, IfOk, is_some, IsTrue, length, map, MatchOption, None, not, OnOk, option_map};
 ghost use Rattle.std.specs.Option.{option_copied};
 ghost use Rattle.eco_ids.specs.declared.entity.Entity.{Entity as Entities};
 ghost use Rattle.eco_ids.specs.declared.refusal.Refusal.TheVariants.{OutOfMemory};
@@ -11,7 +11,7 @@ ghost use Rattle.eco_ids.specs.Step.{own_name};
 ghost use Rattle.eco_ids.specs.World.{entities, first_world, has, held_by, is_alive, living, record_of};
 ghost use Rattle.eco_entities.specs.Registration.{entity_at};
 ghost use Rattle.eco_traits.specs.Target.{type_of_record};
-ghost use Rattle.eco_world.specs.Queries.{holders, is_matched};
+ghost use Rattle.eco_world.specs.Queries.{is_matched};
 ghost use Rattle.eco_world.specs.Refs.{StandsIn};
 
 use crate::builtins::builtin_store;
@@ -21,7 +21,6 @@ use crate::world::changes::is_zero_past;
 use eco_ids::entity::BUILTIN_COUNT;
 use eco_ids::{Edition, Entity, Id, Pattern, Refusal, TypeList, Value};
 use eco_grammar::Names;
-use eco_query::exactly;
 use eco_store::{Store, Table};
 use std::alloc::{AllocError, Global};
 use std::marker::Model;
@@ -267,14 +266,6 @@ impl World {
         ensures { result ≡ is_matched self.now pattern }
     {
         self.store.is_held(pattern)
-    }
-
-    // The living entities that have the id, ascending.
-    fn holders(&self, id: Id) -> Result<Vec<Entity>, AllocError>
-        ensures all { IfOk result (λ entities. entities.items ≡ holders self.now id) }
-        ensures some { OnErr result (0 < length (holders self.now id)) }
-    {
-        self.store.entities_with(exactly(id))
     }
 
     // Who lives at the index.

@@ -45,19 +45,18 @@ impl Ties<'_> {
         Ok(self.only_in(member, found[0]))
     }
 
-    // Whether one table alone names the entity, by one of the three patterns. A look at lists, before any is gone through.
+    // Whether one table alone names the entity, by one of the three patterns. Most who die are named nowhere: then one look at marks
+    // is all that is done.
     fn is_named_once(&self, entity: Entity) -> bool {
         let archetypes = self.places.archetypes();
-        let single = archetypes.listed(Pattern::One(entity)).len();
-        let heads = archetypes
-            .listed(Pattern::Two(Part::Is(entity), Part::Any))
-            .len();
-        let tails = archetypes
-            .listed(Pattern::Two(Part::Any, Part::Is(entity)))
-            .len();
-        single == 1 && heads == 0 && tails == 0
-            || single == 0 && heads == 1 && tails == 0
-            || single == 0 && heads == 0 && tails == 1
+        if !archetypes.is_named(entity) {
+            return false;
+        }
+        let single = archetypes.listed(Pattern::One(entity));
+        let heads = archetypes.listed(Pattern::Two(Part::Is(entity), Part::Any));
+        let tails = archetypes.listed(Pattern::Two(Part::Any, Part::Is(entity)));
+        let count = single.len().saturating_add(heads.len());
+        count.saturating_add(tails.len()) == 1
     }
 
     // Who alone has an id that names the member, where no other node than this one is led to by the member's death.

@@ -107,6 +107,22 @@ module _ {V A : Type 0} (view : V → Data) (find : Data → Option A) where
       with_all (λ xs. slice_get xs i ≡ option_and_then (λ v. find (view v)) (slice_get vs i)) (each_in find (map view vs)) some
       (λ xs e. each_get vs xs i e)
 
+  -- something was found in each
+  pub kept_each : (vs : List V) (i : ℕ) (v : V) → IsSome (each_in find (map view vs)) → slice_get vs i ≡ Some v → IsSome (find (view v))
+  kept_each [] i v some at = cc
+  kept_each (w ∷ ws) zero v some at =
+      let same : w ≡ v = cc in rw (sym same) (first (find (view w)) some)
+    where
+      first : (o : Option A) → IsSome (option_and_then (λ x. option_map (λ xs. x ∷ xs) (each_in find (map view ws))) o) → IsSome o
+      first None k = k
+      first (Some x) k = refl
+  kept_each (w ∷ ws) (suc i) v some at = kept_each ws i v (others (find (view w)) (each_in find (map view ws)) some) at
+    where
+      others : (o : Option A) (rest : Option (List A)) → IsSome (option_and_then (λ x. option_map (λ xs. x ∷ xs) rest) o) → IsSome rest
+      others None rest k = cc
+      others (Some x) None k = k
+      others (Some x) (Some xs) k = refl
+
   -- what was found so far, and what is found in the rest, are all
   abbrev pub FoundSoFar : List V → ℕ → Type 0
   FoundSoFar vs i = (xs : List A) × (each_in find (map view vs) ≡ option_map (λ ys. xs ++ ys) (each_in find (map view (drop i vs))))
@@ -136,6 +152,10 @@ module _ {V A : Type 0} (view : V → Data) (find : Data → Option A) where
   pub kept_found : (vs : List V) (d : Data) → Some (map view vs) ≡ list_in d → IsSome (each_in find (map view vs))
       → Some (unwrap_or (each_in find (map view vs)) []) ≡ option_and_then (each_in find) (list_in d)
   kept_found vs d is some = some_kept (each_in find (map view vs)) some ∙ ap (option_and_then (each_in find)) is
+
+  pub some_found : (vs : List V) (d : Data) → Some (map view vs) ≡ list_in d → IsSome (option_and_then (each_in find) (list_in d))
+      → IsSome (each_in find (map view vs))
+  some_found vs d is some = rw (ap (option_and_then (each_in find)) is) some
 
   pub none_found : (vs : List V) (d : Data) → Some (map view vs) ≡ list_in d → each_in find (map view vs) ≡ None
       → None ≡ option_and_then (each_in find) (list_in d)

@@ -31,6 +31,15 @@ impl<'a> Commands<'a> {
         Some(Commands { values })
     }
 
+    /// The same of a value that was read before, so that they aren't looked through again.
+    pub(crate) fn read_again(value: &'a Value) -> Option<Commands<'a>>
+        requires { IsSome (stage_in (view value.now)) }
+        ensures { option_map commands_view result ≡ stage_in (view value.now) }
+    {
+        let values = read_list(value)?;
+        Some(Commands { values })
+    }
+
     /// How many commands there are.
     pub fn len(&self) -> usize
         ensures { result ≡ length (commands_view self.now) }

@@ -42,6 +42,6 @@ impl<'a> Stages<'a> {
         ensures { option_map commands_view result ≡ slice_get (stages_view self.now) place }
     {
         let value = self.values.get(place)?;
-        Commands::read(value)
+        Commands::read_again(value)
     }
 }

@@ -1,4 +1,4 @@
--- The rows of a layout's tables after some of them came, went or moved.
+-- The rows of a layout's tables after some of them came, went or moved, and which tables stay.
 use Rattle.std.proofs.Common.{◌≡◌, ◌≢◌, ℕ, ◌-◌, ◌<◌, List, [], ◌∷◌, ◌++◌, map, length, slice_get, Option, Some, unwrap_or, refl, sym, ap, subst, ◌∙◌, arith}
 use Rattle.std.proofs.Common.{inl, inr}
 use Rattle.std.specs.List.{swap_remove}
@@ -11,12 +11,9 @@ use Rattle.eco_tables.specs.Table.{TableState, Row, retyped_row, entities_of}
 use Rattle.eco_tables.specs.Tables.{table_in, row_in, no_row, no_table, new_row, Sets, Moves, with_row, without_row}
 use Rattle.eco_entities.specs.declared.place.Place.{Place}
 use Rattle.eco_archetypes.specs.Archetypes.{RowlessIn, row_at, SameRows}
-use Rattle.eco_store.specs.declared.moving.Move.{Move}
 use Rattle.eco_store.specs.Layout.{IsLaid, rows_in, SetsRows, PutsRow, TakesRow, MovesRow}
-use Rattle.eco_store.specs.Preparing.{PreparedState, nothing_prepared, staying, HasNoIdleTarget, IsReady, move_to, moves_of}
+use Rattle.eco_store.specs.Staying.{StayingState, only_idle, all_staying}
 use Rattle.eco_store.proofs.Pouring.{rows_same}
-use Rattle.eco_store.proofs.Readiness.{ready_nothing}
-use Rattle.eco_store.proofs.Rowless.{rowless_moved}
 use Rattle.eco_store.proofs.RowChanges.{swap_at_last, swap_others}
 use Rattle.eco_ids.proofs.Lists.{slice_get-push_other}
 
@@ -24,22 +21,17 @@ use Rattle.eco_ids.proofs.Lists.{slice_get-push_other}
 pub rows_alike : (s s' : List (Option TableState)) → SameRows s s' → rows_in s' ≡ rows_in s
 rows_alike s s' same = λ t n. rows_same s s' same n t
 
--- nothing is prepared, and no table but the idle ones is without rows
-pub laid_nothing : (s : List (Option TableState)) (p : PreparedState) (idle : List ℕ) → p ≡ nothing_prepared idle → RowlessIn s idle → IsLaid s p
-laid_nothing s p idle nothing few = record {
-  ready = ready_nothing s p idle nothing;
-  tidy = subst (λ (q : PreparedState). RowlessIn s (staying q)) (sym nothing) few;
-  done = λ none_left. (ap (λ (q : PreparedState). q.targets) nothing, ap (λ (q : PreparedState). q.gathered) nothing);
+-- no call is under way, and no table but the idle ones is without rows
+pub laid_idle : (s : List (Option TableState)) (p : StayingState) (idle : List ℕ) → p ≡ only_idle idle → RowlessIn s idle → IsLaid s p
+laid_idle s p idle nothing few = record {
+  tidy = subst (λ (q : StayingState). RowlessIn s (all_staying q)) (sym nothing) few;
+  done = nothing ∙ ap only_idle (sym (ap (λ (q : StayingState). q.idle) nothing));
 }
 
--- a move is to come, so tables may stay for it
-pub laid_more : (s : List (Option TableState)) (p : PreparedState) (m : Move) (ms : List Move) → moves_of s p ≡ m ∷ ms → IsReady s p
-    → RowlessIn s (staying p) → IsLaid s p
-laid_more s p m ms is ready tidy = record {
-  ready = ready;
-  tidy = tidy;
-  done = λ none. let bad : ◌≡◌ {A = List Move} [] (m ∷ ms) = sym (ap (map (move_to s)) none) ∙ is in absurd (cc);
-}
+-- other tables are the idle ones
+pub still_laid : (s : List (Option TableState)) (p q : StayingState) → q ≡ record p { idle = q.idle } → p ≡ only_idle p.idle → RowlessIn s (all_staying q)
+    → IsLaid s q
+still_laid s p q same done tidy = record { tidy = tidy; done = same ∙ (λ t. record (done t) { idle = q.idle }) }
 
 pub sets_rows : (s s' : List (Option TableState)) (n : ℕ) (slot : Option TableState) → Sets s s' n slot
     → SetsRows (rows_in s) (rows_in s') n (unwrap_or slot no_table).rows
@@ -100,42 +92,3 @@ put_back s s1 s2 p e ids moved puts takes n k =
           ∙ pop (rows_in s p.table) _ k ∙ sym (ap (λ m. row_at s m k) here)
       | inr other ↦ ap (λ xs. slice_get xs k) (takes.rows.others n other ∙ puts.rows.others n other)
     ]
-
--- ---- where no move is to come
-
-none_go : (s : List (Option TableState)) (xs : List (Entity × ℕ)) → map (move_to s) xs ≡ [] → xs ≡ []
-none_go s [] none = refl
-none_go s (a ∷ xs) none = absurd (cc)
-
-module _ (s : List (Option TableState)) (p : PreparedState) (laid : IsLaid s p) (none : moves_of s p ≡ []) where
-  pub idle : p ≡ nothing_prepared p.idle
-  idle =
-      let arrivals = none_go s p.arrivals none in
-      let (targets, gathered) = laid.done arrivals in
-      λ t. record { arrivals = arrivals t; targets = targets t; gathered = gathered t; idle = p.idle }
-
-  idle_ready : (s' : List (Option TableState)) → IsReady s' p
-  idle_ready s' = ready_nothing s' p p.idle idle
-
-  -- tables change, and none of them is left without rows
-  pub idle_laid : (s' : List (Option TableState)) → (RowlessIn s (staying p) → RowlessIn s' (staying p)) → IsLaid s' p
-  idle_laid s' keeps = record { ready = idle_ready s'; tidy = keeps laid.tidy; done = laid.done }
-
-  -- a row goes from a table to another, and the table that it left is to be released
-  pub idle_leaves : (s1 s2 : List (Option TableState)) (from row to : ℕ) → Moves s1 s2 from row to
-      → (RowlessIn s (staying p) → RowlessIn s1 (to ∷ staying p)) → IsReady s2 p × RowlessIn s2 (from ∷ staying p)
-  idle_leaves s1 s2 from row to moves keeps = (idle_ready s2, rowless_moved s1 s2 from row to (staying p) moves (keeps laid.tidy))
-
-  pub idle_moves : (s' : List (Option TableState)) → moves_of s' p ≡ []
-  idle_moves s' = ap (moves_of s') idle
-
--- other tables are the idle ones, and the moves are the same
-pub still_laid : (s : List (Option TableState)) (p q : PreparedState) → q ≡ record p { idle = q.idle } → HasNoIdleTarget p → IsReady s q
-    → RowlessIn s (staying q) → IsLaid s q
-still_laid s p q same done ready tidy = record {
-  ready = ready;
-  tidy = tidy;
-  done = λ none.
-      let (targets, gathered) = done (sym (ap (λ (x : PreparedState). x.arrivals) same) ∙ none) in
-      (ap (λ (x : PreparedState). x.targets) same ∙ targets, ap (λ (x : PreparedState). x.gathered) same ∙ gathered);
-}

@@ -10,10 +10,9 @@ pub mod Values
 pub mod Sorting
 pub mod Retyping
 pub mod Pouring
-pub mod Arrivals
-pub mod Readiness
+pub mod Coming
+pub mod Targets
 pub mod LaidRows
-pub mod NextMoves
 pub mod RowCounts
 pub mod Rowless
 pub mod FoundTypes

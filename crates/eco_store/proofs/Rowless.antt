@@ -11,10 +11,10 @@ use Rattle.eco_ids.proofs.Lists.{not_equal}
 use Rattle.eco_archetypes.specs.Archetypes.{is_rowless, RowlessIn, SameRows, SameTypes}
 use Rattle.eco_store.specs.declared.transfer.Transfer.{Transfer}
 use Rattle.eco_store.specs.Transfers.{AreNamed, Pours}
-use Rattle.eco_store.specs.Preparing.{PreparedState, staying, with_gathered, with_target}
+use Rattle.eco_store.specs.Staying.{StayingState, all_staying, with_gathered, with_target}
 use Rattle.eco_ids.proofs.Facts.{or_right}
 use Rattle.eco_archetypes.proofs.ArchetypeLemmas.{type_there, there_as_typed}
-use Rattle.eco_store.proofs.Readiness.{is_targeted, still_targeted}
+use Rattle.eco_store.proofs.Targets.{is_targeted, still_targeted}
 use Rattle.std.proofs.lemmas.List.Folds.{list_any-append}
 use Rattle.std.proofs.lemmas.Option.{same_Some}
 use Rattle.eco_store.proofs.Pouring.{rows_same}
@@ -169,24 +169,24 @@ rowless_but s n slots has_rows was m empty =
     sym (ap (λ b. b || list_any (nat_eq m) slots) (not_equal m n other)) ∙ was m empty
 
 -- the tables of the transfers are targets, and so they stay
-pub named_stay : (p : PreparedState) (ts : List Transfer) → AreNamed p.targets ts → AreNamed (staying p) ts
+pub named_stay : (p : StayingState) (ts : List Transfer) → AreNamed p.targets ts → AreNamed (all_staying p) ts
 named_stay p ts named k d within =
     let both = named k d within in (stays (get_or ts k d).from both.0, stays (get_or ts k d).to both.1)
   where
-    stays : (m : ℕ) → IsTrue (list_any (nat_eq m) p.targets) → IsTrue (list_any (nat_eq m) (staying p))
+    stays : (m : ℕ) → IsTrue (list_any (nat_eq m) p.targets) → IsTrue (list_any (nat_eq m) (all_staying p))
     stays m there = among_more (p.gathered ++ p.targets) p.idle m (among_last p.gathered p.targets m there)
 
 -- whether a slot is one of those that stay
-among_staying : (p : PreparedState) (m : ℕ) → list_any (nat_eq m) (staying p)
+among_staying : (p : StayingState) (m : ℕ) → list_any (nat_eq m) (all_staying p)
     ≡ ((list_any (nat_eq m) p.gathered || list_any (nat_eq m) p.targets) || list_any (nat_eq m) p.idle)
 among_staying p m =
     list_any-append (nat_eq m) (p.gathered ++ p.targets) p.idle
     ∙ ap (λ b. b || list_any (nat_eq m) p.idle) (list_any-append (nat_eq m) p.gathered p.targets)
 
 -- a slot becomes one of the targets
-pub rowless_targeted : (s : List (Option TableState)) (p : PreparedState) (n : ℕ) → RowlessIn s (n ∷ staying p) → RowlessIn s (staying (with_target p n))
+pub rowless_targeted : (s : List (Option TableState)) (p : StayingState) (n : ℕ) → RowlessIn s (n ∷ all_staying p) → RowlessIn s (all_staying (with_target p n))
 rowless_targeted s p n =
-    rowless_more s (n ∷ staying p) (staying (with_target p n)) (λ m there.
+    rowless_more s (n ∷ all_staying p) (all_staying (with_target p n)) (λ m there.
     rw (among_staying (with_target p n) m)
     (elim (cases_eq m n) [
       | inl here ↦
@@ -195,7 +195,7 @@ rowless_targeted s p n =
       | inr other ↦
           still_there (list_any (nat_eq m) p.gathered) (list_any (nat_eq m) p.targets) (list_any (nat_eq m) (with_target p n).targets)
           (list_any (nat_eq m) p.idle) (still_targeted p n m)
-          (sym (among_staying p m) ∙ sym (ap (λ b. b || list_any (nat_eq m) (staying p)) (not_equal m n other)) ∙ there)
+          (sym (among_staying p m) ∙ sym (ap (λ b. b || list_any (nat_eq m) (all_staying p)) (not_equal m n other)) ∙ there)
     ]))
   where
     now_there : (a b c : Bool) → IsTrue b → IsTrue ((a || b) || c)
@@ -209,9 +209,9 @@ rowless_targeted s p n =
     still_there false false false c kept h = h
 
 -- a slot is gathered
-pub rowless_gathered : (s : List (Option TableState)) (p : PreparedState) (n : ℕ) → RowlessIn s (n ∷ staying p) → RowlessIn s (staying (with_gathered p n))
+pub rowless_gathered : (s : List (Option TableState)) (p : StayingState) (n : ℕ) → RowlessIn s (n ∷ all_staying p) → RowlessIn s (all_staying (with_gathered p n))
 rowless_gathered s p n =
-    rowless_more s (n ∷ staying p) (staying (with_gathered p n)) (λ m there.
+    rowless_more s (n ∷ all_staying p) (all_staying (with_gathered p n)) (λ m there.
     rw (among_staying (with_gathered p n) m)
     (rw (list_any-append (nat_eq m) p.gathered (n ∷ []))
     (last (nat_eq m n) (list_any (nat_eq m) p.gathered) (list_any (nat_eq m) p.targets) (list_any (nat_eq m) p.idle)

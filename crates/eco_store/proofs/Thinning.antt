@@ -9,10 +9,10 @@ use Rattle.eco_archetypes.specs.Archetypes.{type_at}
 use Rattle.eco_archetypes.proofs.ArchetypeLemmas.{sets_types}
 use Rattle.eco_store.specs.declared.transfer.Transfer.{Transfer}
 use Rattle.eco_store.specs.declared.type_change.TypeChange.{TypeChange}
-use Rattle.eco_store.specs.Preparing.{SameIn}
+use Rattle.eco_store.specs.Staying.{SameIn}
 use Rattle.eco_store.specs.Transfers.{change_of, AreNamed, IsPlan, HasRoom, Thins, due}
 use Rattle.eco_store.proofs.Pouring.{changes_alike, plan_alike, due_fewer, due_none}
-use Rattle.eco_store.proofs.Readiness.{room_won}
+use Rattle.eco_store.proofs.Targets.{room_won}
 
 pub thins_same : (s : List (Option TableState)) (slots : List ℕ) → Thins s s slots
 thins_same s slots = record { types = λ n among. refl; rows = λ n among. omega arith; room = λ n among. omega arith }

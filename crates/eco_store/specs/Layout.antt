@@ -1,4 +1,4 @@
--- Tables, and the moves that are prepared over them.
+-- The tables of a store, and how their rows change.
 use Rattle.std.specs.Prelude.{◌≡◌, ◌≢◌, ℕ, List, [], ◌∷◌, ◌++◌, length, map, slice_get, slice_index_or, slice_set}
 use Rattle.std.specs.Prelude.{Option, None, Some}
 use Rattle.std.specs.List.{swap_remove}
@@ -9,23 +9,14 @@ use Rattle.eco_tables.specs.Table.{TableState, Row, HasIds, retyped_row, entitie
 use Rattle.eco_tables.specs.Tables.{table_in, row_in, no_row, new_row, row_with}
 use Rattle.eco_entities.specs.declared.place.Place.{Place}
 use Rattle.eco_index.specs.Edges.{exchanged, toggled}
-use Rattle.eco_store.specs.declared.moving.Move.{Move}
 use Rattle.eco_store.specs.declared.layout.moves.Moved.{Moved}
 use Rattle.eco_archetypes.specs.Archetypes.{RowlessIn}
-use Rattle.eco_store.specs.Preparing.{PreparedState, staying, IsReady, HasNoIdleTarget}
+use Rattle.eco_store.specs.Staying.{StayingState, only_idle, all_staying}
 
--- the tables in their slots, and the moves to come, the next one first
-pub record LayoutState : Type 0 where
-  pub tables : List (Option TableState)
-  pub moves : List Move
-
--- ready: the moves to come have their tables and their room; tidy: no other table is without rows, but the idle
--- ones; done: none stays for moves where no move is left. How types and what they name lead to tables is the tables' own
--- (`IsArchetypes`).
-pub record IsLaid (slots : List (Option TableState)) (p : PreparedState) : Type 0 where
-  pub ready : IsReady slots p
-  pub tidy : RowlessIn slots (staying p)
-  pub done : HasNoIdleTarget p
+-- tidy: no table is without rows but the idle ones; done: no call is under way
+pub record IsLaid (slots : List (Option TableState)) (p : StayingState) : Type 0 where
+  pub tidy : RowlessIn slots (all_staying p)
+  pub done : p ≡ only_idle p.idle
 
 -- the rows of the table in a slot; none, where it is empty
 abbrev pub rows_in : List (Option TableState) → ℕ → List Row

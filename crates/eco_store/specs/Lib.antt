@@ -7,7 +7,8 @@ pub mod Holders
 pub mod Deaths
 pub mod Retyping
 pub mod Transfers
-pub mod Preparing
+pub mod Moving
+pub mod Staying
 pub mod Layout
 pub mod Lent
 pub mod Worlds

@@ -24,16 +24,13 @@ use Rattle.eco_entities.specs.Needs.{need}
 use Rattle.eco_entities.specs.Registration.{Registration}
 use Rattle.eco_tables.specs.Tables.{table_in}
 use Rattle.eco_index.specs.Edges.{exchanged, toggled}
-use Rattle.eco_store.specs.declared.moving.Move.{Move}
 use Rattle.eco_store.specs.Seats.{Seat, IsSeated, held_of}
 use Rattle.eco_archetypes.specs.Archetypes.{row_at}
 use Rattle.eco_archetypes.specs.Widths.{Covers}
 
--- a store: a record of each living entity by its index, and the moves that were prepared and are not yet made, the next
--- one first
+-- a store: a record of each living entity by its index
 pub record StoreState : Type 0 where
   pub entities : Indexed Record
-  pub prepared : List Move
 
 -- the name, if there is one
 abbrev pub record_name : Record → Option (List ℕ)

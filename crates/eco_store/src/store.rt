@@ -32,11 +32,8 @@ mod standing;
 mod stepping;
 mod viewing;
 
-/// A contract sees what is known of each index, of each living entity its name and its ids with their values, and the moves
-/// that were prepared and are not yet made. No table is seen.
-///
-/// Moves stay prepared while the first of them is made ([`Store::retype`]) or an entity without a move of its own is taken
-/// out ([`Store::take_out`]). Any other call that may change the store leaves none of them.
+/// A contract sees what is known of each index, and of each living entity its name and its ids with their values. No table is
+/// seen.
 pub struct Store {
     alloc: Global,
     entities: EntityIndex,
@@ -48,9 +45,9 @@ impl Model for Store {
 
     ghost Value = { StoreState };
 
-    ghost view = { λ s. record { entities = read s.entities s.layout.tables; prepared = s.layout.moves } };
+    ghost view = { λ s. record { entities = read s.entities s.layout } };
 
-    ghost invariant = { λ s. IsKept s.entities s.layout.tables };
+    ghost invariant = { λ s. IsKept s.entities s.layout };
 }
 
 // By hand, so that dropping it is one call: a derived drop is proved anew at each early return of whoever holds it.
@@ -80,7 +77,7 @@ impl Store {
     /// No index is known. Indices lie below the limit.
     pub fn new(alloc: Global, limit: u32) -> Store
         requires { limit ≤ 1048576 }
-        ensures { result ≡ record { entities = record { limit = limit; indices = [] }; prepared = [] } }
+        ensures { result ≡ record { entities = record { limit = limit; indices = [] } } }
     {
         Store {
             alloc,
@@ -216,7 +213,6 @@ impl Store {
     ) -> Result<Entity, Refusal>
         ensures step { Creates self.old.entities (option_copied name.entry) arity type_list.now
             result self.new.entities }
-        ensures unprepared { self.new.prepared ≡ [] }
     {
         // Most entities have no name, and are made one after another with the same ids.
         if name.is_none() {
@@ -227,13 +223,12 @@ impl Store {
         self.create_at_length(name, arity, type_list)
     }
 
-    // What `create` does without a name, where that wants no memory, the type is the one that was asked for last, and no move
-    // is to come; the answer is the entity. Else nothing changes.
+    // What `create` does without a name, where that wants no memory and the type is the one that was asked for last; the answer is
+    // the entity. Else nothing changes.
     #[inline]
     fn create_in_room(&mut self, arity: Option<u8>, type_list: &TypeList) -> Option<Entity>
         ensures step { IfSome result (λ e.
             Creates self.old.entities None arity type_list.now (Ok e) self.new.entities) }
-        ensures unprepared { IfSome result (λ _. self.new.prepared ≡ []) }
         ensures none { IfNone result (self.new ≡ self.old) }
     {
         // A place's row fits, as a table has no more rows than there are indices.
@@ -255,13 +250,11 @@ impl Store {
     ) -> Result<Entity, Refusal>
         ensures step { Creates self.old.entities (option_copied name.entry) arity type_list.now
             result self.new.entities }
-        ensures unprepared { self.new.prepared ≡ [] }
     {
         // A place's row fits, as a table has no more rows than there are indices.
         self.entities.rules();
         needs_never_grow();
         let Some(entity) = self.entities.next() else {
-            self.layout.forget();
             self.entities.check_name(name)?;
             return Err(Refusal::NoMoreIds);
         };
@@ -279,7 +272,7 @@ impl Store {
                 Ok(created)
             }
             Err(refused) => {
-                self.layout.take_row(entity, place);
+                self.layout.take_row(place);
                 Err(refused)
             }
         }
@@ -290,10 +283,8 @@ impl Store {
     /// Refused with `NoMoreIds` where they would pass the limit, else with `OutOfMemory` where memory is refused.
     pub fn admit(&mut self, count: u32) -> Result<(), Refusal>
         ensures step { Admission self.old.entities count result self.new.entities }
-        ensures unprepared { self.new.prepared ≡ [] }
     {
         needs_never_grow();
-        self.layout.forget();
         self.entities.admit(count)
     }
 
@@ -303,12 +294,10 @@ impl Store {
     /// refused. A refusal changes nothing.
     pub fn make_alive(&mut self, e: Entity) -> Result<(), Refusal>
         ensures step { MakesAlive self.old.entities e result self.new.entities }
-        ensures unprepared { self.new.prepared ≡ [] }
     {
         self.entities.rules();
         needs_never_grow();
         if !self.entities.is_free_at(e) {
-            self.layout.forget();
             return Err(Refusal::Taken);
         }
         let place = self
@@ -325,10 +314,8 @@ impl Store {
     /// another living entity has it, in this order; then with `OutOfMemory`. The old name stays then.
     pub fn rename(&mut self, e: Entity, name: Option<&str>) -> Result<(), Refusal>
         ensures step { Renames self.old.entities e (option_copied name.entry) result self.new.entities }
-        ensures unprepared { self.new.prepared ≡ [] }
     {
         needs_never_grow();
-        self.layout.forget();
         self.entities.rename(e, name)
     }
 
@@ -340,7 +327,6 @@ impl Store {
         requires fits { IsTrue (fits self.old.entities id value) }
         ensures written { self.new.entities ≡ changed self.old.entities e (with_written id value) }
         ensures had { result ≡ is_some (find id_cmp id (held_by self.old.entities e)) }
-        ensures unprepared { self.new.prepared ≡ [] }
     {
         let place = self.entities.place_of(e).unwrap();
         self.layout.set_value(place, id, value)

@@ -13,6 +13,11 @@ const HOLDER: Entity = Entity {
     generation: 0,
 };
 
+const NOBODY: Entity = Entity {
+    index: 9,
+    generation: 0,
+};
+
 // The type of who has the tag, and the holder as an id.
 fn tagged(alloc: Global) -> Result<TypeList, AllocError> {
     TypeList::empty(alloc)
@@ -32,18 +37,23 @@ fn fill(store: &mut Store, nothing: &TypeList) -> Result<(), Refusal> {
     store.rename(TAG, Some("Tag"))
 }
 
-// How many tables there are once a move to the tag is prepared, and how many once it is made.
+// How many tables there are before the holder gets the tag, and how many once it did. Nobody has the other handle, which goes
+// nowhere, and leaves no table behind.
 fn moved(store: &mut Store, tagged: TypeList) -> Result<[usize; 2], AllocError> {
-    let moves = [Move {
-        entity: HOLDER,
-        type_list: tagged,
-    }];
-    store.prepare(&moves)?;
-    let prepared = store.tables().len();
-    if store.is_alive(HOLDER) {
-        store.retype(HOLDER, &moves[0].type_list)?;
-    }
-    Ok([prepared, store.tables().len()])
+    let before = store.tables().len();
+    let other = tagged.without(Id::One(TAG))?;
+    let moves = [
+        Move {
+            entity: HOLDER,
+            type_list: tagged,
+        },
+        Move {
+            entity: NOBODY,
+            type_list: other,
+        },
+    ];
+    store.retype_all(&moves)?;
+    Ok([before, store.tables().len()])
 }
 
 // How many tables, entities and types have the tag, and how many entities have both ids.
@@ -70,7 +80,7 @@ fn used(alloc: Global, store: &mut Store) -> Result<([usize; 2], [usize; 4]), Re
 
 // Whether all is made and found in a new store.
 fn is_used(alloc: Global) -> bool {
-    used(alloc, &mut Store::new(alloc, 16)) == Ok(([2, 2], [1, 1, 1, 1]))
+    used(alloc, &mut Store::new(alloc, 16)) == Ok(([1, 2], [1, 1, 1, 1]))
 }
 
 #[test]

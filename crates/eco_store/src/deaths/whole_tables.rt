@@ -6,14 +6,14 @@ ghost use Rattle.eco_entities.specs.Needs.{need};
 ghost use Rattle.eco_ids.specs.Order.{entity_cmp, has_item};
 ghost use Rattle.eco_store.specs.Deaths.{after_deaths, with_deaths};
 ghost use Rattle.eco_store.specs.Layout.{rows_in};
-ghost use Rattle.eco_store.specs.Preparing.{staying, moves_of, IsReady};
+ghost use Rattle.eco_store.specs.Staying.{all_staying};
 ghost use Rattle.eco_store.specs.Store.{IsStore, read};
 ghost use Rattle.eco_store.specs.Transfers.{Thins};
 ghost use Rattle.eco_tables.specs.Table.{entities_of};
 ghost use Rattle.eco_tables.specs.Tables.{slot_of};
 
 use crate::deaths::kill;
-use crate::prepared::Prepared;
+use crate::staying::Staying;
 use eco_archetypes::Archetypes;
 use eco_entities::EntityIndex;
 use eco_entities::laws::needs_never_grow;
@@ -25,25 +25,21 @@ use eco_tables::Tables;
 pub fn kill_next(
     entities: &mut EntityIndex,
     archetypes: &mut Archetypes,
-    prepared: &mut Prepared,
+    staying: &mut Staying,
     dead: &[Entity],
 ) -> usize
     requires some { 0 < length dead.now }
     requires store { IsStore entities.old archetypes.old }
-    requires ready { IsReady archetypes.old prepared.old }
-    requires tidy { RowlessIn archetypes.old (staying prepared.old) }
+    requires tidy { RowlessIn archetypes.old (all_staying staying.old) }
     ensures some { 0 < result }
     ensures within { result ≤ length dead.now }
     ensures store { IsStore entities.new archetypes.new }
     ensures covers { Covers (need entities.old) archetypes.old → Covers (need entities.new) archetypes.new }
     ensures read { read entities.new archetypes.new
         ≡ after_deaths (read entities.old archetypes.old) (has_item entity_cmp (take result dead.now)) }
-    ensures ready { IsReady archetypes.new prepared.new }
-    ensures tidy { RowlessIn archetypes.new (staying prepared.new) }
-    ensures same { prepared.new
-        ≡ record prepared.old { gathered = prepared.new.gathered; idle = prepared.new.idle } }
-    ensures left { moves_of archetypes.new prepared.new ≡ moves_of archetypes.old prepared.old }
-    ensures thins { Thins archetypes.old archetypes.new prepared.old.targets }
+    ensures tidy { RowlessIn archetypes.new (all_staying staying.new) }
+    ensures targets { staying.new.targets ≡ staying.old.targets }
+    ensures thins { Thins archetypes.old archetypes.new staying.old.targets }
 {
     let first = dead[0];
     // One that is named twice lives no more.
@@ -54,10 +50,10 @@ pub fn kill_next(
     // in later rows, so it is not made again for each of them.
     if place.row == 0 && is_begun_by(archetypes.tables(), place.table, dead) {
         let count = archetypes.tables().row_count(place.table);
-        kill_rows(entities, archetypes, prepared, place.table);
+        kill_rows(entities, archetypes, staying, place.table);
         return count;
     }
-    kill(entities, archetypes, prepared, first);
+    kill(entities, archetypes, staying, first);
     1
 }
 
@@ -74,26 +70,22 @@ fn is_begun_by(tables: &Tables, slot: usize, dead: &[Entity]) -> bool
 fn kill_rows(
     entities: &mut EntityIndex,
     archetypes: &mut Archetypes,
-    prepared: &mut Prepared,
+    staying: &mut Staying,
     slot: usize,
 )
     requires there { IsSome (slot_of archetypes.old slot) }
     requires store { IsStore entities.old archetypes.old }
-    requires ready { IsReady archetypes.old prepared.old }
-    requires tidy { RowlessIn archetypes.old (staying prepared.old) }
+    requires tidy { RowlessIn archetypes.old (all_staying staying.old) }
     ensures store { IsStore entities.new archetypes.new }
     ensures covers { Covers (need entities.old) archetypes.old → Covers (need entities.new) archetypes.new }
     ensures read { read entities.new archetypes.new ≡ after_deaths (read entities.old archetypes.old)
         (has_item entity_cmp (entities_of (rows_in archetypes.old slot))) }
-    ensures ready { IsReady archetypes.new prepared.new }
-    ensures tidy { RowlessIn archetypes.new (staying prepared.new) }
-    ensures same { prepared.new
-        ≡ record prepared.old { gathered = prepared.new.gathered; idle = prepared.new.idle } }
-    ensures left { moves_of archetypes.new prepared.new ≡ moves_of archetypes.old prepared.old }
-    ensures thins { Thins archetypes.old archetypes.new prepared.old.targets }
+    ensures tidy { RowlessIn archetypes.new (all_staying staying.new) }
+    ensures targets { staying.new.targets ≡ staying.old.targets }
+    ensures thins { Thins archetypes.old archetypes.new staying.old.targets }
 {
     kill_standing(entities, archetypes.tables(), slot);
-    prepared.take_rows(archetypes, slot);
+    staying.take_rows(archetypes, slot);
 }
 
 // All who stand in the table of a slot die, the one in the last row first. Their rows stay, which `kill_rows` takes at once.

@@ -1,9 +1,8 @@
 //! Entities die, and all rows of some types go to the tables of others.
-ghost use Rattle.std.specs.Prelude.{◌≡◌, [], IsTrue, OnOk, OnErr};
+ghost use Rattle.std.specs.Prelude.{◌≡◌, IsTrue, OnOk, OnErr};
 ghost use Rattle.eco_ids.specs.Indices.{is_alive, with_death};
 ghost use Rattle.eco_ids.specs.Order.{entity_cmp, has_item};
 ghost use Rattle.eco_store.specs.Deaths.{after_deaths};
-ghost use Rattle.eco_store.specs.Preparing.{moves_beside};
 ghost use Rattle.eco_store.specs.Retyping.{after_changes, IsOneWay};
 ghost use Rattle.eco_store.specs.Store.{IsStore, read};
 ghost use Rattle.eco_entities.specs.Needs.{need};
@@ -17,60 +16,51 @@ use eco_ids::Entity;
 use std::alloc::AllocError;
 
 impl Layout {
-    /// The entity dies, and its row goes. If it has a move to come, none is left. It takes no memory.
+    /// The entity dies, and its row goes. It takes no memory.
     pub fn kill(&mut self, entities: &mut EntityIndex, entity: Entity)
         requires alive { IsTrue (is_alive entities.old entity) }
-        requires store { IsStore entities.old self.old.tables }
-        ensures store { IsStore entities.new self.new.tables }
-        ensures covers { Covers (need entities.old) self.old.tables →
-            Covers (need entities.new) self.new.tables }
-        ensures read { read entities.new self.new.tables
-            ≡ with_death (read entities.old self.old.tables) entity }
-        ensures left { self.new.moves ≡ moves_beside self.old.moves entity }
+        requires store { IsStore entities.old self.old }
+        ensures store { IsStore entities.new self.new }
+        ensures covers { Covers (need entities.old) self.old → Covers (need entities.new) self.new }
+        ensures read { read entities.new self.new ≡ with_death (read entities.old self.old) entity }
     {
-        self.forget_awaited(entity);
-        kill(entities, &mut self.archetypes, &mut self.prepared, entity);
+        kill(entities, &mut self.archetypes, &mut self.staying, entity);
     }
 
     /// Each of these entities that lives dies, and then all entities of a type get another, for each of these changes, one
     /// after another. The tables that this leaves without rows go, but for the idle ones. All memory
-    /// is taken before the first row goes or moves. No move is to come from then on. An `Err` comes where memory is refused,
-    /// and changes no row.
+    /// is taken before the first row goes or moves. An `Err` comes where memory is refused, and changes no row.
     pub fn delete_all(
         &mut self,
         entities: &mut EntityIndex,
         dead: &[Entity],
         changes: &[TypeChange],
     ) -> Result<(), AllocError>
-        requires store { IsStore entities.old self.old.tables }
+        requires store { IsStore entities.old self.old }
         requires one_way { IsOneWay changes.now }
-        ensures store { IsStore entities.new self.new.tables }
-        ensures covers { Covers (need entities.old) self.old.tables →
-            Covers (need entities.new) self.new.tables }
+        ensures store { IsStore entities.new self.new }
+        ensures covers { Covers (need entities.old) self.old → Covers (need entities.new) self.new }
         ensures ok { OnOk result
-            (read entities.new self.new.tables
-            ≡ after_changes
-            (after_deaths (read entities.old self.old.tables) (has_item entity_cmp dead.now)) changes.now) }
-        ensures err { OnErr result (read entities.new self.new.tables ≡ read entities.old self.old.tables) }
-        ensures unprepared { self.new.moves ≡ [] }
+            (read entities.new self.new ≡ after_changes
+            (after_deaths (read entities.old self.old) (has_item entity_cmp dead.now)) changes.now) }
+        ensures err { OnErr result (read entities.new self.new ≡ read entities.old self.old) }
     {
-        self.forget();
         let planned = self
-            .prepared
+            .staying
             .plan_changes(entities, &mut self.archetypes, changes);
         if let Ok(transfers) = &planned {
-            self.prepared
+            self.staying
                 .expect(dead.len().min(self.archetypes.tables().len()));
             // The tables of the transfers stay, though the deaths may leave them without rows.
             carry_out(
                 entities,
                 &mut self.archetypes,
-                &mut self.prepared,
+                &mut self.staying,
                 dead,
                 transfers,
             );
         }
-        self.prepared.forget(&mut self.archetypes);
+        self.staying.forget(&mut self.archetypes);
         planned.map(|_| ())
     }
 }

@@ -1,5 +1,5 @@
 //! A row goes to the table of the type that has one id in the place of another.
-ghost use Rattle.std.specs.Prelude.{◌≡◌, ◌<◌, [], length, true, false, OnErr, IfOk};
+ghost use Rattle.std.specs.Prelude.{◌≡◌, ◌<◌, length, true, false, OnErr, IfOk};
 ghost use Rattle.eco_ids.specs.Order.{id_cmp, has_item};
 ghost use Rattle.eco_store.specs.Layout.{rows_in, ids_at, ExchangesRow};
 ghost use Rattle.eco_archetypes.specs.Archetypes.{SameRows};
@@ -13,8 +13,7 @@ use std::alloc::AllocError;
 
 impl Layout {
     /// Gives the row of an entity an id that it lacks, with zeros, in the place of one that it has; the values of its other
-    /// ids stay. The answer is where the row stands now. No move is to come from then on. An `Err` comes where memory is
-    /// refused, and then no row has changed.
+    /// ids stay. The answer is where the row stands now. An `Err` comes where memory is refused, and then no row has changed.
     #[inline(always)]
     pub fn exchange_row(
         &mut self,
@@ -23,35 +22,12 @@ impl Layout {
         leaving: Id,
         coming: Id,
     ) -> Result<Moved, AllocError>
-        requires row { place.row < length (rows_in self.old.tables place.table) }
-        requires there { has_item id_cmp (ids_at self.old.tables place) leaving ≡ true }
-        requires absent { has_item id_cmp (ids_at self.old.tables place) coming ≡ false }
-        ensures ok { IfOk result (ExchangesRow self.old.tables self.new.tables place leaving coming) }
-        ensures err { OnErr result (SameRows self.old.tables self.new.tables) }
-        ensures unprepared { self.new.moves ≡ [] }
-        ensures widths { StillCover entities.now self.old.tables self.new.tables }
-    {
-        self.forget();
-        self.exchange_at_once(entities, place, leaving, coming)
-    }
-
-    // What `exchange_row` does where no move is to come.
-    #[inline(always)]
-    fn exchange_at_once(
-        &mut self,
-        entities: &EntityIndex,
-        place: Place,
-        leaving: Id,
-        coming: Id,
-    ) -> Result<Moved, AllocError>
-        requires row { place.row < length (rows_in self.old.tables place.table) }
-        requires there { has_item id_cmp (ids_at self.old.tables place) leaving ≡ true }
-        requires absent { has_item id_cmp (ids_at self.old.tables place) coming ≡ false }
-        requires unprepared { self.old.moves ≡ [] }
-        ensures ok { IfOk result (ExchangesRow self.old.tables self.new.tables place leaving coming) }
-        ensures err { OnErr result (SameRows self.old.tables self.new.tables) }
-        ensures unprepared { self.new.moves ≡ [] }
-        ensures widths { StillCover entities.now self.old.tables self.new.tables }
+        requires row { place.row < length (rows_in self.old place.table) }
+        requires there { has_item id_cmp (ids_at self.old place) leaving ≡ true }
+        requires absent { has_item id_cmp (ids_at self.old place) coming ≡ false }
+        ensures ok { IfOk result (ExchangesRow self.old self.new place leaving coming) }
+        ensures err { OnErr result (SameRows self.old self.new) }
+        ensures widths { StillCover entities.now self.old self.new }
     {
         // The type that the row leaves is that of its own ids, since each row has a value for each id of its table.
         self.archetypes.tables().rows_have_ids();
@@ -59,7 +35,7 @@ impl Layout {
             .archetypes
             .exchange(entities, place.table, leaving, coming)?;
         let moved = shift(&mut self.archetypes, place, to);
-        self.prepared.release(&mut self.archetypes, place.table);
+        self.staying.release(&mut self.archetypes, place.table);
         Ok(moved)
     }
 }

@@ -1,14 +1,14 @@
 //! The store once more.
-ghost use Rattle.std.specs.Prelude.{◌≡◌, [], IfOk};
+ghost use Rattle.std.specs.Prelude.{◌≡◌, IfOk};
 
 use crate::store::Store;
 use std::alloc::AllocError;
 
 impl Store {
-    /// The same store once more: the same indices and entities, with their names, arities, ids and values, and no move
-    /// prepared. An `Err` comes where memory is refused.
+    /// The same store once more: the same indices and entities, with their names, arities, ids and values. An `Err` comes where
+    /// memory is refused.
     pub fn try_copy(&self) -> Result<Store, AllocError>
-        ensures { IfOk result (λ s. s ≡ record { entities = self.now.entities; prepared = [] }) }
+        ensures { IfOk result (λ s. s ≡ self.now) }
     {
         let entities = self.entities.try_copy()?;
         let layout = self.layout.try_copy()?;

@@ -1,9 +1,8 @@
 //! An entity dies, or many do and others get another type, at once.
-ghost use Rattle.std.specs.Prelude.{◌≡◌, [], IsTrue, OnOk, OnErr};
+ghost use Rattle.std.specs.Prelude.{◌≡◌, IsTrue, OnOk, OnErr};
 ghost use Rattle.eco_ids.specs.Indices.{is_alive, with_death};
 ghost use Rattle.eco_ids.specs.Order.{entity_cmp, has_item};
 ghost use Rattle.eco_store.specs.Deaths.{after_deaths};
-ghost use Rattle.eco_store.specs.Preparing.{moves_beside};
 ghost use Rattle.eco_store.specs.Retyping.{after_changes, IsOneWay};
 
 use crate::store::Store;
@@ -17,7 +16,6 @@ impl Store {
     pub fn take_out(&mut self, e: Entity)
         requires { IsTrue (is_alive self.old.entities e) }
         ensures entities { self.new.entities ≡ with_death self.old.entities e }
-        ensures left { self.new.prepared ≡ moves_beside self.old.prepared e }
     {
         self.layout.kill(&mut self.entities, e);
     }
@@ -33,7 +31,6 @@ impl Store {
         ensures ok { OnOk result (self.new.entities
             ≡ after_changes (after_deaths self.old.entities (has_item entity_cmp dead.now)) changes.now) }
         ensures err { OnErr result (self.new.entities ≡ self.old.entities) }
-        ensures unprepared { self.new.prepared ≡ [] }
     {
         self.layout.delete_all(&mut self.entities, dead, changes)
     }

@@ -1,5 +1,5 @@
 //! An entity gets one id in the place of another.
-ghost use Rattle.std.specs.Prelude.{◌≡◌, [], true, false, IsTrue, OnOk, OnErr};
+ghost use Rattle.std.specs.Prelude.{◌≡◌, true, false, IsTrue, OnOk, OnErr};
 ghost use Rattle.eco_ids.specs.Indices.{changed, is_alive};
 ghost use Rattle.eco_store.specs.Store.{has, with_exchanged};
 
@@ -19,7 +19,6 @@ impl Store {
         ensures ok { OnOk result
             (self.new.entities ≡ changed self.old.entities e (with_exchanged leaving coming)) }
         ensures err { OnErr result (self.new.entities ≡ self.old.entities) }
-        ensures unprepared { self.new.prepared ≡ [] }
     {
         // A place's row fits, as a table has no more rows than there are indices.
         self.entities.rules();

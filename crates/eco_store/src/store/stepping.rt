@@ -1,5 +1,5 @@
 //! An entity gets an id, or loses one that it has.
-ghost use Rattle.std.specs.Prelude.{◌≡◌, [], IsTrue, OnOk, OnErr};
+ghost use Rattle.std.specs.Prelude.{◌≡◌, IsTrue, OnOk, OnErr};
 ghost use Rattle.eco_ids.specs.Indices.{changed, is_alive};
 ghost use Rattle.eco_store.specs.Store.{with_toggled};
 
@@ -16,7 +16,6 @@ impl Store {
         requires { IsTrue (is_alive self.old.entities e) }
         ensures ok { OnOk result (self.new.entities ≡ changed self.old.entities e (with_toggled id)) }
         ensures err { OnErr result (self.new.entities ≡ self.old.entities) }
-        ensures unprepared { self.new.prepared ≡ [] }
     {
         // A place's row fits, as a table has no more rows than there are indices.
         self.entities.rules();

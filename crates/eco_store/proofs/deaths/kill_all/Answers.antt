@@ -2,11 +2,9 @@ use Rattle.std.proofs.Common.{◌≡◌, ◌-◌, length, take, drop, refl, sym,
 use Rattle.std.proofs.lemmas.List.{length-drop, take_all}
 use Rattle.eco_ids.specs.Order.{entity_cmp, has_item}
 use Rattle.eco_store.specs.Deaths.{after_deaths}
-use Rattle.eco_store.specs.Preparing.{PreparedState}
 use Rattle.eco_store.specs.Store.{read}
 use Rattle.eco_store.specs.Transfers.{Thins}
 use Rattle.eco_store.proofs.Dying.{more_die, nobody_dies}
-use Rattle.eco_store.proofs.Readiness.{same_plan}
 use Rattle.eco_store.proofs.Thinning.{thins_same, thins_both}
 use Rattle.eco_store.proofs.deaths.kill_all.Goals as goal
 
@@ -15,11 +13,9 @@ loop-done-init c = record {
   store = c.requires.store;
   covers = λ was. was;
   read = sym (nobody_dies (read c.args.entities.now c.args.archetypes.now));
-  ready = c.requires.ready;
   tidy = c.requires.tidy;
-  same = refl;
-  left = refl;
-  thins = thins_same c.args.archetypes.now c.args.prepared.now.targets;
+  targets = refl;
+  thins = thins_same c.args.archetypes.now c.args.staying.now.targets;
 }
 
 pub loop-done-preserved : goal.loop-done-preserved
@@ -38,16 +34,11 @@ loop-done-preserved c =
       read =
           next.read ∙ (λ t. after_deaths (was.read t) (has_item entity_cmp (take c.kill_next-done.result (rest t))))
           ∙ more_die (read c.args.entities.now c.args.archetypes.now) es done c.kill_next-done.result;
-      ready = next.ready;
       tidy = next.tidy;
-      same =
-          same_plan c.args.prepared.now c.kill_next-done.new.prepared
-          (ap (λ (q : PreparedState). q.arrivals) next.same ∙ ap (λ (q : PreparedState). q.arrivals) was.same)
-          (ap (λ (q : PreparedState). q.targets) next.same ∙ ap (λ (q : PreparedState). q.targets) was.same);
-      left = next.left ∙ was.left;
+      targets = next.targets ∙ was.targets;
       thins =
-          thins_both c.args.archetypes.now s s1 c.args.prepared.now.targets was.thins
-          (subst (Thins s s1) (ap (λ (q : PreparedState). q.targets) was.same) next.thins);
+          thins_both c.args.archetypes.now s s1 c.args.staying.now.targets was.thins
+          (subst (Thins s s1) was.targets next.thins);
     }
 
 pub returns-clause-read : goal.returns-clause-read

@@ -4,7 +4,7 @@ use Rattle.eco_archetypes.specs.Widths.{Covers}
 use Rattle.eco_entities.specs.Needs.{need}
 use Rattle.eco_ids.specs.Order.{entity_cmp, has_item}
 use Rattle.eco_store.specs.Deaths.{after_deaths}
-use Rattle.eco_store.specs.Preparing.{moves_of, staying, IsReady}
+use Rattle.eco_store.specs.Staying.{all_staying}
 use Rattle.eco_store.specs.Store.{IsStore, read}
 use Rattle.eco_store.specs.Transfers.{Thins}
 use Rattle.eco_store.proofs.deaths.kill_all.Given as goal
@@ -15,11 +15,9 @@ invariant-loop-done l = record {
   covers : Covers (need l.initial.entities) l.initial.archetypes → Covers (need l.entities) l.archetypes;
   read : read l.entities l.archetypes
       ≡ after_deaths (read l.initial.entities l.initial.archetypes) (has_item entity_cmp (take l.done l.dead));
-  ready : IsReady l.archetypes l.prepared;
-  tidy : RowlessIn l.archetypes (staying l.prepared);
-  same : l.prepared ≡ record l.initial.prepared { gathered = l.prepared.gathered; idle = l.prepared.idle };
-  left : moves_of l.archetypes l.prepared ≡ moves_of l.initial.archetypes l.initial.prepared;
-  thins : Thins l.initial.archetypes l.archetypes l.initial.prepared.targets;
+  tidy : RowlessIn l.archetypes (all_staying l.staying);
+  targets : l.staying.targets ≡ l.initial.staying.targets;
+  thins : Thins l.initial.archetypes l.archetypes l.initial.staying.targets;
 }
 
 abbrev pub decreases-loop-done : goal.decreases-loop-done

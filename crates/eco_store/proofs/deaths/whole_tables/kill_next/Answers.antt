@@ -5,11 +5,10 @@ use Rattle.eco_tables.specs.Tables.{slot_of}
 use Rattle.eco_archetypes.proofs.ArchetypeLemmas.{there_by_row}
 use Rattle.eco_store.specs.Deaths.{after_deaths}
 use Rattle.eco_store.specs.Layout.{rows_in}
-use Rattle.eco_store.specs.Preparing.{PreparedState}
+use Rattle.eco_store.specs.Staying.{StayingState}
 use Rattle.eco_store.specs.Store.{read}
 use Rattle.eco_store.proofs.Clearing.{begun_rows, no_entity, unplaced_dead}
 use Rattle.eco_store.proofs.Dying.{first_dies, first_passes}
-use Rattle.eco_store.proofs.Readiness.{same_plan}
 use Rattle.eco_store.proofs.StoreChanges.{placed_record, row_within}
 use Rattle.eco_store.proofs.Values.{alive_same}
 use Rattle.eco_store.proofs.deaths.whole_tables.kill_next.Goals as goal
@@ -71,7 +70,5 @@ returns-clause-read c =
     let r = placed_record w e c.in-Some.place (sym c.place_of.ensures ∙ c.in-Some.is) in
     c.kill.ensures.read ∙ sym (first_dies (read w s) c.args.dead.now no_entity c.requires.some (alive_same w s e ∙ ap is_some r.1))
 
-pub returns-clause-same : goal.returns-clause-same
-returns-clause-same c =
-    let same = c.kill.ensures.same in
-    same_plan c.args.prepared.now c.kill.new.prepared (ap (λ (q : PreparedState). q.arrivals) same) (ap (λ (q : PreparedState). q.targets) same)
+pub returns-clause-targets : goal.returns-clause-targets
+returns-clause-targets c = ap (λ (q : StayingState). q.targets) c.kill.ensures.same

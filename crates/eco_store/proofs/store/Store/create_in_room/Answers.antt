@@ -18,8 +18,8 @@ create_in_room-requires c =
 pub invariant_of-self-2 : goal.invariant_of-self-2
 invariant_of-self-2 c =
     let w = c.self.inside.entities in
-    let s = c.self.inside.layout.tables in
-    let s1 = c.fill_place.new.self.tables in
+    let s = c.self.inside.layout in
+    let s1 = c.fill_place.new.self in
     let e = c.in_ok-entity.entity in
     let place = c.in_ok-place.place in
     let arity = c.args.arity in
@@ -38,8 +38,8 @@ invariant_of-self-2 c =
 pub returns-clause-step : goal.returns-clause-step
 returns-clause-step c =
     let w = c.self.inside.entities in
-    let s = c.self.inside.layout.tables in
-    let s1 = c.fill_place.new.self.tables in
+    let s = c.self.inside.layout in
+    let s1 = c.fill_place.new.self in
     let e = c.in_ok-entity.entity in
     let place = c.in_ok-place.place in
     let arity = c.args.arity in

@@ -55,9 +55,6 @@ returns-clause-ok c =
     (changes.to_read c.self.inside.entities _ _ c.args.e c.unwrap-place.result c.in_ok-moved.moved.place _ _ c.self.invariant.store own c.in_ok-moved.ensures.ok
     ∙ exchanged_as c.self.inside.entities _ c.args.e c.unwrap-place.result c.self.invariant.store own c.args.leaving c.args.coming)
 
-pub returns-clause-unprepared : goal.returns-clause-unprepared
-returns-clause-unprepared c = c.exchange_row.ensures.unprepared
-
 -- no room is had
 pub invariant_of-self : goal.invariant_of-self
 invariant_of-self c = record {
@@ -68,8 +65,5 @@ invariant_of-self c = record {
 pub returns-in_err-moved-clause-err : goal.returns-in_err-moved-clause-err
 returns-in_err-moved-clause-err c =
     let p = err_from_is_err_and c.from_residual.result c.from_residual.ensures.1 in
-    let same = changes.same_read c.self.inside.entities c.self.inside.layout.tables _ c.in_err-moved.ensures.err in
+    let same = changes.same_read c.self.inside.entities c.self.inside.layout _ c.in_err-moved.ensures.err in
     rw p.1 (same ∙ ap (λ (x : StoreState). x.entities) c.self.view_is)
-
-pub returns-in_err-moved-clause-unprepared : goal.returns-in_err-moved-clause-unprepared
-returns-in_err-moved-clause-unprepared c = c.exchange_row.ensures.unprepared

@@ -13,7 +13,7 @@ set_value-requires-clause-row c =
 
 pub set_value-requires-clause-fits : goal.set_value-requires-clause-fits
 set_value-requires-clause-fits c =
-    fits_in c.self.inside.entities c.self.inside.layout.tables c.args.id c.args.value c.self.invariant.covers (rw (← c.self.view_is) at c.requires.fits)
+    fits_in c.self.inside.entities c.self.inside.layout c.args.id c.args.value c.self.invariant.covers (rw (← c.self.view_is) at c.requires.fits)
 
 pub invariant_of-self : goal.invariant_of-self
 invariant_of-self c = record {

@@ -6,7 +6,7 @@ use Rattle.eco_store.proofs.store.Store.standing_by.Goals as goal
 
 pub returns-in_err-slots-clause-some : goal.returns-in_err-slots-clause-some
 returns-in_err-slots-clause-some g c =
-    let s = c.self.inside.layout.tables in
+    let s = c.self.inside.layout in
     rw (← c.self.view_is)
     (err_says c.from_residual.result
     (some_held (read c.self.inside.entities s) s (g.T.TypeTest.test c.args.test.now)
@@ -15,7 +15,7 @@ returns-in_err-slots-clause-some g c =
 
 pub returns-in_err-list-clause-some : goal.returns-in_err-list-clause-some
 returns-in_err-list-clause-some g c =
-    let s = c.self.inside.layout.tables in
+    let s = c.self.inside.layout in
     let all = rw c.archetypes.ensures at c.in_ok-slots.ensures.all in
     rw (← c.self.view_is)
     (err_says c.from_residual-in_err-list.result

@@ -59,7 +59,7 @@ pub invariant_of-self-in-None : goal.invariant_of-self-in-None
 invariant_of-self-in-None c = record {
   store =
       written_store c.self.inside.entities _ _ c.args.e c.unwrap-place.result
-      (retyped (toggled (ids_at c.self.inside.layout.tables c.unwrap-place.result) c.args.id)) c.self.invariant.store
+      (retyped (toggled (ids_at c.self.inside.layout c.unwrap-place.result) c.args.id)) c.self.invariant.store
       (sym c.place_of.ensures ∙ c.unwrap-place.ensures)
       (subst (StepsRow _ _ c.unwrap-place.result c.args.id) c.in-None.is c.in_ok-moved.ensures.ok);
   covers = c.step_row.ensures.widths c.self.invariant.covers;
@@ -70,6 +70,6 @@ returns-in-None-clause-ok c =
     let own = sym c.place_of.ensures ∙ c.unwrap-place.ensures in
     rw (← c.self.view_is)
     (written_read c.self.inside.entities _ _ c.args.e c.unwrap-place.result
-    (retyped (toggled (ids_at c.self.inside.layout.tables c.unwrap-place.result) c.args.id)) c.self.invariant.store own
+    (retyped (toggled (ids_at c.self.inside.layout c.unwrap-place.result) c.args.id)) c.self.invariant.store own
     (subst (StepsRow _ _ c.unwrap-place.result c.args.id) c.in-None.is c.in_ok-moved.ensures.ok)
     ∙ toggled_as c.self.inside.entities _ c.args.e c.unwrap-place.result c.args.id c.self.invariant.store own)

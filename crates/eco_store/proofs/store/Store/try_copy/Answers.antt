@@ -12,6 +12,6 @@ invariant_of-result c =
 
 pub returns : goal.returns
 returns c =
-    let s = c.in_ok-layout.layout.tables in
+    let s = c.in_ok-layout.layout in
     let same = ap (λ w. read w s) c.in_ok-entities.ensures ∙ same_read c.self.inside.entities _ s c.in_ok-layout.ensures.rows in
-    rw (← c.self.view_is) (λ t. record { entities = same t; prepared = c.in_ok-layout.ensures.unprepared t })
+    rw (← c.self.view_is) (λ t. record { entities = same t })

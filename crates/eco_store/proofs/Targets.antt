@@ -1,0 +1,48 @@
+-- Targets stay while tables change.
+use Rattle.std.proofs.Common.{◌≡◌, ℕ, ◌≤◌, Bool, true, false, true≢false, ◌||◌, IsTrue, if◌then◌else◌, List, [], ◌∷◌, ◌++◌}
+use Rattle.std.proofs.Common.{Option, Some, None, unwrap_or, OnSome, IfNone, nat_eq, refl, sym, ap, subst, ◌∙◌, arith, inl, inr}
+use Rattle.std.specs.List.{list_any}
+use Rattle.std.proofs.lemmas.Bool.{cases_eq}
+use Rattle.std.proofs.lemmas.List.Folds.{list_any-append}
+use Rattle.eco_ids.specs.declared.id.Id.{Id}
+use Rattle.eco_tables.specs.Table.{TableState}
+use Rattle.eco_tables.specs.Tables.{table_in, no_table, Sets}
+use Rattle.eco_archetypes.specs.Archetypes.{KeepsRoom, SameSlots}
+use Rattle.eco_store.specs.Staying.{StayingState, with_target, SameIn}
+use Rattle.eco_store.proofs.RowChanges.{is_equal}
+
+-- a target stays one
+pub still_targeted : (p : StayingState) (n m : ℕ) → IsTrue (list_any (nat_eq m) p.targets) → IsTrue (list_any (nat_eq m) (with_target p n).targets)
+still_targeted p n m = by (list_any (nat_eq n) p.targets)
+  where
+    by : (b : Bool) → IsTrue (list_any (nat_eq m) p.targets) → IsTrue (list_any (nat_eq m) (if b then p.targets else p.targets ++ n ∷ []))
+    by true h = h
+    by false h = list_any-append (nat_eq m) p.targets (n ∷ []) ∙ ap (λ b. b || list_any (nat_eq m) (n ∷ [])) h
+
+-- the slot is one of the targets
+pub is_targeted : (p : StayingState) (n : ℕ) → IsTrue (list_any (nat_eq n) (with_target p n).targets)
+is_targeted p n = by (list_any (nat_eq n) p.targets) refl
+  where
+    by : (b : Bool) → list_any (nat_eq n) p.targets ≡ b → IsTrue (list_any (nat_eq n) (if b then p.targets else p.targets ++ n ∷ []))
+    by true h = h
+    by false h = list_any-append (nat_eq n) p.targets (n ∷ []) ∙ ap (λ b. b || list_any (nat_eq n) (n ∷ [])) h ∙ ap (λ b. b || false) (is_equal n n refl)
+
+-- a table that is no target may have gone
+pub same_targets : (s s' : List (Option TableState)) (targets : List ℕ) (n : ℕ) (o : Option (List Id)) → list_any (nat_eq n) targets ≡ false
+    → OnSome o (Sets s s' n None) → IfNone o (SameSlots s s') → SameIn s s' targets
+same_targets s s' targets n (Some ids) free dropped kept m among =
+    dropped.others m (λ same. true≢false (sym among ∙ ap (λ k. list_any (nat_eq k) targets) same ∙ free))
+same_targets s s' targets n None free dropped kept m among = kept m
+
+-- a table changes and has no less room, and so has none
+pub room_won : (s s1 : List (Option TableState)) (n : ℕ) (t : TableState) → Sets s s1 n (Some t) → (table_in s n).room ≤ t.room → KeepsRoom s s1
+room_won s s1 n t sets more m =
+    elim (cases_eq m n) [
+      | inl here ↦
+          let now : (table_in s1 n).room ≡ t.room = ap (λ o. (unwrap_or o no_table).room) sets.changed in
+          let kept : (table_in s n).room ≤ (table_in s1 n).room = omega (arith, now, more) in
+          subst (λ k. (table_in s k).room ≤ (table_in s1 k).room) (sym here) kept
+      | inr other ↦
+          let same = ap (λ o. (unwrap_or o no_table).room) (sets.others m other) in
+          omega (arith, same)
+    ]

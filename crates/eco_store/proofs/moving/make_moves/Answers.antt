@@ -1,0 +1,79 @@
+use Rattle.std.proofs.Common.{◌≡◌, ℕ, ◌+◌, ◌<◌, List, ◌∷◌, ◌++◌, [], Some, IsTrue, nat_eq, take, drop, get_or, length, refl, sym, ap, ◌∙◌, subst, arith, add-one}
+use Rattle.std.specs.List.{All, list_any}
+use Rattle.std.proofs.Math.Seq.{drop-cons}
+use Rattle.std.proofs.lemmas.List.{take_all, take_more}
+use Rattle.std.proofs.lemmas.List.Elements.{All-drop}
+use Rattle.std.proofs.lemmas.List.Sums.{fold-append}
+use Rattle.eco_archetypes.specs.Archetypes.{type_at}
+use Rattle.eco_store.specs.declared.moving.Move.{Move}
+use Rattle.eco_store.specs.Moving.{after_move, after_moves, HasRoomFor}
+use Rattle.eco_store.specs.Staying.{StayingState}
+use Rattle.eco_store.specs.Store.{read}
+use Rattle.eco_store.proofs.Coming.{as_many, first_place, rest_places, typed_alike, typed_at}
+use Rattle.eco_store.proofs.moving.make_moves.Goals as goal
+
+from_there : (ns : List ℕ) (i : ℕ) → i < length ns → drop i ns ≡ get_or ns i 0 ∷ drop (i + 1) ns
+from_there ns i within = rw add-one (drop-cons ns i 0 within)
+
+pub loop-place-init : goal.loop-place-init
+loop-place-init c = record {
+  store = c.requires.store;
+  covers = λ was. was;
+  tidy = c.requires.tidy;
+  named = c.requires.named;
+  typed = c.requires.typed;
+  room = c.requires.room;
+  read = refl;
+}
+
+pub make_move-requires-clause-typed : goal.make_move-requires-clause-typed
+make_move-requires-clause-typed c =
+    let i = c.loop-place.place in
+    let m = c.index-moves-place.result in
+    subst (λ (x : Move). type_at c.loop-place.archetypes (get_or c.args.slots.now i 0) ≡ Some x.type_list) (sym c.index-moves-place.is)
+    (typed_at c.loop-place.archetypes c.args.moves.now c.args.slots.now i 0 _ c.loop-place.invariant.typed c.loop-place-test.true)
+
+pub make_move-requires-clause-room : goal.make_move-requires-clause-room
+make_move-requires-clause-room c =
+    let i = c.loop-place.place in
+    let s = c.loop-place.archetypes in
+    let ns = c.args.slots.now in
+    let many = as_many s c.args.moves.now ns c.loop-place.invariant.typed in
+    let below = c.loop-place-test.true in
+    let within : i < length ns = omega (arith, many, below) in
+    first_place s (get_or ns i 0) (drop (i + 1) ns) (subst (HasRoomFor s) (from_there ns i within) c.loop-place.invariant.room)
+
+pub loop-place-preserved : goal.loop-place-preserved
+loop-place-preserved c =
+    let i = c.loop-place.place in
+    let s = c.loop-place.archetypes in
+    let s' = c.make_move.new.archetypes in
+    let ms = c.args.moves.now in
+    let ns = c.args.slots.now in
+    let m = c.index-moves-place.result in
+    let was = c.loop-place.invariant in
+    let targets = c.loop-place.staying.targets in
+    let w0 = read c.args.entities.now c.args.archetypes.now in
+    let many = as_many s ms ns was.typed in
+    let below = c.loop-place-test.true in
+    let within : i < length ns = omega (arith, many, below) in
+    let same : c.make_move.new.staying.targets ≡ targets = ap (λ (p : StayingState). p.targets) c.make_move.ensures.same in
+    let more : take (i + 1) ms ≡ take i ms ++ m ∷ [] = take_more ms i m below ∙ ap (λ x. take i ms ++ x ∷ []) (sym c.index-moves-place.is) in
+    record {
+      store = c.make_move.ensures.store;
+      covers = λ kept. c.make_move.ensures.covers (was.covers kept);
+      tidy = c.make_move.ensures.tidy;
+      named = subst (λ slots. All (λ n. IsTrue (list_any (nat_eq n) slots)) ns) (sym same) was.named;
+      typed = typed_alike s s' ms ns (λ k d inside. c.make_move.ensures.admits.types _ (was.named k d inside)) was.typed;
+      room =
+          rest_places s s' targets (get_or ns i 0) (drop (i + 1) ns) (All-drop (λ n. IsTrue (list_any (nat_eq n) targets)) (i + 1) ns was.named)
+          c.make_move.ensures.admits (subst (HasRoomFor s) (from_there ns i within) was.room);
+      read =
+          c.make_move.ensures.read ∙ ap (λ w. after_move w m) was.read ∙ sym (fold-append after_move w0 (take i ms) (m ∷ []))
+          ∙ sym (ap (after_moves w0) more);
+    }
+
+pub returns-clause-read : goal.returns-clause-read
+returns-clause-read c =
+    c.loop-place.invariant.read
+    ∙ ap (after_moves (read c.args.entities.now c.args.archetypes.now)) (take_all c.loop-place.place c.args.moves.now c.loop-place-test.false)

@@ -1,0 +1,8 @@
+use Rattle.std.proofs.Common.{◌<◌, ◌%◌, length, refl, rules}
+use Rattle.std.proofs.lemmas.Option.{slice_get-get_or}
+use Rattle.eco_store.proofs.staying.Staying.set_idle.Goals as goal
+
+pub returns : goal.returns
+returns c =
+    let within : c.self.inside.turn % 8 < length c.self.inside.idle = search rules in
+    rw (← c.self.view_is) (c.self.inside.turn % 8, slice_get-get_or c.self.inside.idle (c.self.inside.turn % 8) 0 within, refl)

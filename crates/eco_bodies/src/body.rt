@@ -11,8 +11,7 @@ ghost use Rattle.eco_stages.specs.Taking.{Broke, stopped_by};
 
 use crate::row::BodyRow;
 use eco_ids::{Pattern, Refusal};
-use eco_stages::Stage;
-use eco_stages::Draws;
+use eco_stages::{Draws, Stage};
 
 /// What a system does with each row of its query (Flecs manual, Systems). It changes nothing itself: it records commands,
 /// which are merged behind the system's batch. The commands, and how many fresh handles it draws, are a function of the row

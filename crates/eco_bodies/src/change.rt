@@ -13,8 +13,7 @@ use crate::recording::record_command;
 use crate::row::BodyRow;
 use crate::sum::sum_of;
 use eco_ids::{Entity, Id, Pattern, Refusal, Value};
-use eco_stages::{Command, Stage};
-use eco_stages::Draws;
+use eco_stages::{Command, Draws, Stage};
 
 // Whether one of some patterns matches.
 #[inline(always)]

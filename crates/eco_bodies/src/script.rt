@@ -18,8 +18,7 @@ use crate::row::BodyRow;
 use crate::writes::script_writes;
 use eco_ids::{Pattern, Refusal};
 use eco_query::Query;
-use eco_stages::Stage;
-use eco_stages::Draws;
+use eco_stages::{Draws, Stage};
 use std::alloc::Global;
 
 /// A system's body that does the same actions with each row, in their order. An action that sets a slot's entry records

@@ -4,10 +4,10 @@ ghost use Rattle.eco_grammar.specs.Reader.Machine as machine;
 ghost use Rattle.eco_grammar.specs.Reader.Machine.{part_or};
 ghost use Rattle.eco_grammar.specs.Reader.Points.{Draft, IsBegunAt, KeepsSlots, is_bare, is_bare_head, is_bare_role, is_bare_spot, atom_view, before_view, marked, or_point, role_view, spot_view, step_view};
 
-use eco_query::Access;
 use crate::classes::{is_name_start, is_white_space};
 use crate::point::{Head, Mark, Point, Role, Spot, Step};
 use crate::written::{WrittenAtom, WrittenPart};
+use eco_query::Access;
 
 /// Begins a part.
 pub fn begin_part<'a>(text: &'a [u8], at: usize, role: Role<'a>) -> Option<Point<'a>>

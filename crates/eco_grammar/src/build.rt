@@ -8,14 +8,12 @@ ghost use Rattle.eco_grammar.specs.Reader.Marks as term;
 ghost use Rattle.eco_grammar.specs.Reader.LastTerms.{IsLast, left_over, term_with};
 ghost use Rattle.eco_grammar.specs.Reader.Marks.{AreProperMarks, AreWhole, slots_from};
 
-use eco_query::Access;
 use crate::last_term::{LastTerm, last_term, misplaces_last};
 use crate::names::Names;
 use crate::point::{Head, Mark};
-use eco_query::Query;
 use crate::range::id_is_in_range;
-use eco_query::Slot;
 use eco_ids::{Id, Refusal};
+use eco_query::{Access, Query, Slot};
 use std::alloc::Global;
 
 /// Whether a wildcard stands where none may stand: as a single id, behind `?` or among alternatives.

@@ -3,11 +3,11 @@ ghost use Rattle.std.specs.Prelude.{◌≡◌, true, false, ◌+◌, ◌<◌, le
 ghost use Rattle.eco_grammar.specs.Reader.Machine as machine;
 ghost use Rattle.eco_grammar.specs.Reader.Points.{IsBegunAt, IsMove, KeepsSlots, is_bare, is_bare_role};
 
-use eco_query::Access;
 use crate::between::move_at;
 use crate::classes::{digit, grow, is_decimal_digit, is_name_byte};
 use crate::point::{Head, Mark, Point, Role, Spot, Step};
 use crate::written::{Reference, WrittenAtom, WrittenPart};
+use eco_query::Access;
 
 /// What a byte behind some of a name does.
 #[tactic(auto, using(crate::proofs::Stuck::slice_range_more))]

@@ -10,9 +10,9 @@ ghost use Rattle.eco_query.specs.Queries.{term_view};
 use crate::names::Names;
 use crate::point::Head;
 use crate::range::{id_is_in_range, pattern_is_in_range};
-use eco_query::Term;
 use crate::written::WrittenAtom;
 use eco_ids::{Id, Pattern, Refusal};
+use eco_query::Term;
 use std::alloc::Global;
 use std::mem;
 

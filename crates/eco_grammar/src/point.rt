@@ -4,8 +4,8 @@ ghost use Rattle.eco_grammar.specs.Reader.Machine.{takes_wildcard};
 ghost use Rattle.eco_grammar.specs.Reader.Points.{Draft, role_view};
 ghost use Rattle.eco_grammar.specs.declared.point.Mark.TheVariants as Mark;
 
-use eco_query::Access;
 use crate::written::{WrittenAtom, WrittenPart};
+use eco_query::Access;
 
 /// What stands before an atom: nothing or `||`, `!`, `?`; or nothing, and nothing may come behind it.
 #[derive(Clone, Copy)]

@@ -2,14 +2,13 @@
 ghost use Rattle.eco_grammar.specs.Grammar.{SpellsId, SpellsQuery, SpellsRef};
 ghost use Rattle.eco_grammar.specs.Readings.{Reads, ReadsInMemory, entity_at, id_of, query_of};
 
-use eco_query::Access;
 use crate::build::query_from;
 use crate::names::Names;
 use crate::point::{Head, Role, Spot};
-use eco_query::Query;
 use crate::scan::{scan_atom, scan_query};
 use crate::written::WrittenAtom;
 use eco_ids::{Entity, Id, Refusal};
+use eco_query::{Access, Query};
 use std::alloc::Global;
 
 /// Reads a reference: the name of an entity, or a handle as `#9.0`, with white space (space, tab, newline and carriage

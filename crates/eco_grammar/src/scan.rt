@@ -6,12 +6,12 @@ ghost use Rattle.eco_grammar.specs.Reader.Machine.{EndsWith, Stops, query_start}
 ghost use Rattle.eco_grammar.specs.Reader.Points.{Draft, IsBegunAt, KeepsLast, is_bare, is_bare_role, atom_view, before_view, part_view, point_view, role_view, start_view};
 ghost use Rattle.eco_grammar.specs.Reader.Marks.{HoldsSlots};
 
-use eco_query::Access;
 use crate::inside::advance;
 use crate::point::{Head, Mark, Point, Role, Spot};
 use crate::skip::skip;
 use crate::terms::Terms;
 use crate::written::{Reference, WrittenAtom, WrittenPart};
+use eco_query::Access;
 
 /// Reads a text of one atom from a start. The error is how many bytes are the longest beginning of such a text.
 pub fn scan_atom<'a>(text: &'a [u8], start: Spot<'a>) -> Result<WrittenAtom<'a>, usize>

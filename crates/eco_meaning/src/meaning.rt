@@ -2,8 +2,8 @@
 
 use crate::reasons::reason;
 use crate::texts::{Texts, texts_of_action, texts_of_command, texts_of_step};
-use eco_ids::Refusal;
 use eco_grammar::{Names, read_id, read_query, read_ref};
+use eco_ids::Refusal;
 use eco_steps::{Actions, Commands, Stages, Step};
 use std::alloc::{AllocError, Global};
 

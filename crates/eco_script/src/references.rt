@@ -2,8 +2,8 @@
 
 ghost use Rattle.eco_script.specs.References.{ReadsBoth, ReadsEntity, ReadsId, ReadsQuery};
 
-use eco_ids::{Entity, Id, Refusal};
 use eco_grammar::read_ref;
+use eco_ids::{Entity, Id, Refusal};
 use eco_world::{Query, World};
 
 /// The entity that a text names.

@@ -21,7 +21,6 @@ use crate::seat::Seat;
 use crate::worked::Worked;
 use crate::worker::work;
 use eco_ids::Refusal;
-
 use eco_stages::Stage;
 use std::alloc::{AllocError, Global};
 use std::thread;

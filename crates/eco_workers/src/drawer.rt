@@ -9,7 +9,6 @@ use crate::ticket::Ticket;
 use eco_ids::{Entity, Refusal};
 use eco_stages::Draws;
 
-
 // A seat with its round: where a worker draws.
 pub(crate) struct Drawer<'a> {
     pub(crate) round: &'a Round,

@@ -15,7 +15,6 @@ use crate::piece::Piece;
 use crate::round::Round;
 use crate::worked::Worked;
 use eco_ids::Refusal;
-
 use eco_stages::Stage;
 use std::alloc::Global;
 

@@ -2,7 +2,7 @@
 use Rattle.eco_ids.proofs.Common.{◌≡◌, Bool, true, false, List, [], ◌∷◌, ◌++◌, map, IsTrue, Some, None, MatchBool, Option, option_map, sym, refl, subst, inl}
 use Rattle.eco_ids.proofs.Common.{inr, ⊎_elim, arith, list_any, common_steps, Entity, ACYCLIC, WITH, Id, Two, One, Refusal, Cycle, InUse, NotAPolicy}
 use Rattle.eco_ids.proofs.Common.{late_traits, IsLawful, root, next, id_cmp, has_item, id_eq, Answers, changed, IsClosure, Judges, grown, Extends, ClosesCycle}
-use Rattle.eco_ids.proofs.Common.{IsFirstCycle, is_late, is_wrong_policy, InClosure, Reaches, Brings, WorldState, Record, has, is_alive, names_living}
+use Rattle.eco_ids.proofs.Common.{cond, option_or, has_clash, TraitClash, IsFirstCycle, is_late, is_wrong_policy, InClosure, Reaches, Brings, WorldState, Record, has, is_alive, names_living}
 use Rattle.eco_ids.proofs.Common.{is_acyclic}
 use Rattle.eco_ids.proofs.Ascending.{both, first, second}
 use Rattle.eco_ids.proofs.Endings.{End, done, unless}
@@ -97,20 +97,23 @@ module _ (w : WorldState) (l : IsLawful w) where
         ⊎_elim (λ r. (Some r.0, (r.1.passes, r.1.least))) (λ none. (None, none))
         (least_of entity_cmp_total (ClosesCycle w e s) decide_cycle (the_living w) (λ r c. living_in w r (has_alive w r (One ACYCLIC) c.0)))
 
-    abbrev HasCycle : Option Refusal → Type 0
-    HasCycle v = (cycle : Option Entity) × IsFirstCycle w e s cycle × (v ≡ option_map Cycle cycle)
+    abbrev verdict_of : WorldState → Option Entity → Option Refusal
+    verdict_of after cycle = cond (has_clash after) (option_or (option_map Cycle cycle) (Some TraitClash)) (option_map Cycle cycle)
 
-    judged : (verdict : Option Refusal) × Judges w e s verdict
-    judged = by (list_any is_wrong_policy s) (list_any (is_late w e s) (late_traits w.edition))
+    abbrev HasCycle : WorldState → Option Refusal → Type 0
+    HasCycle after v = (cycle : Option Entity) × IsFirstCycle w e s cycle × (v ≡ verdict_of after cycle)
+
+    judged : (after : WorldState) → (verdict : Option Refusal) × Judges w e s after verdict
+    judged after = by (list_any is_wrong_policy s) (list_any (is_late w e s) (late_traits w.edition))
       where
-        by : (b c : Bool) → (v : Option Refusal) × MatchBool b (v ≡ Some NotAPolicy) (MatchBool c (v ≡ Some InUse) (HasCycle v))
+        by : (b c : Bool) → (v : Option Refusal) × MatchBool b (v ≡ Some NotAPolicy) (MatchBool c (v ≡ Some InUse) (HasCycle after v))
         by true c = (Some NotAPolicy, refl)
         by false true = (Some InUse, refl)
-        by false false = (option_map Cycle first_cycle.0, (first_cycle.0, first_cycle.1, refl))
+        by false false = (verdict_of after first_cycle.0, (first_cycle.0, first_cycle.1, refl))
 
   pub extends_end : (e : Entity) (i : Id) (besides : Record → Record) → IsTrue (names_living w i) → End (Extends w e i besides)
   extends_end e i besides h =
       let s = closure_listed i h in
-      let v = judged e s.0 (λ j m. member_lives i h ((s.1.exact j).0 m)) in
-      let end = unless w v.0 (Answers {A = Unit {0}} tt (changed (grown w e s.0) e besides)) (λ _. done tt (changed (grown w e s.0) e besides)) in
+      let v = judged e s.0 (λ j m. member_lives i h ((s.1.exact j).0 m)) (grown w e i s.0) in
+      let end = unless w v.0 (Answers {A = Unit {0}} tt (changed (grown w e i s.0) e besides)) (λ _. done tt (changed (grown w e i s.0) e besides)) in
       (end.0, end.1, (s.0, s.1, v.0, v.1, end.2))

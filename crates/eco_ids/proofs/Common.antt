@@ -34,16 +34,16 @@ pub use Rattle.std.proofs.lemmas.Option.{slice_get_read}
 pub use Rattle.std.proofs.lemmas.Result.{err_from_is_err_and, IfOk-weaker}
 pub use Rattle.std.proofs.lemmas.Slice.Eq.{bytes_eq-Decides}
 pub use Rattle.eco_ids.specs.declared.edition.Edition.{Edition}
-pub use Rattle.eco_ids.specs.declared.edition.Edition.TheVariants.{First}
+pub use Rattle.eco_ids.specs.declared.edition.Edition.TheVariants.{First, Second}
 pub use Rattle.eco_ids.specs.declared.entity.Entity.{Entity}
-pub use Rattle.eco_ids.specs.declared.entity.TheConstants.{ACYCLIC, WITH, EXCLUSIVE, DELETE, ON_DELETE, PANIC, CHILD_OF}
+pub use Rattle.eco_ids.specs.declared.entity.TheConstants.{ACYCLIC, WITH, EXCLUSIVE, DELETE, ON_DELETE, PANIC, CHILD_OF, SYMMETRIC}
 pub use Rattle.eco_ids.specs.declared.id.Id.{Id}
 pub use Rattle.eco_ids.specs.declared.id.Id.TheVariants.{Two, One}
 pub use Rattle.eco_ids.specs.declared.pattern.Part.TheVariants.{Any, Is, Each}
 pub use Rattle.eco_ids.specs.declared.pattern.Pattern.{Pattern}
 pub use Rattle.eco_ids.specs.declared.refusal.Refusal.{Refusal}
 pub use Rattle.eco_ids.specs.declared.refusal.Refusal.TheVariants.{Reserved, NotAlive, DeadId, NoMoreIds, BadName, Cycle, NameTaken, Taken, NotData, TooWide}
-pub use Rattle.eco_ids.specs.declared.refusal.Refusal.TheVariants.{InUse, NotAPolicy, OutOfMemory, Syntax}
+pub use Rattle.eco_ids.specs.declared.refusal.Refusal.TheVariants.{InUse, NotAPolicy, OutOfMemory, Syntax, TraitClash}
 pub use Rattle.eco_ids.specs.declared.value.TheConstants.{FIELD_COUNT}
 pub use Rattle.eco_ids.specs.declared.value.Value.{Value}
 pub use Rattle.eco_ids.specs.Answer.{answer, is_least_match, same_filling}
@@ -52,20 +52,21 @@ pub use Rattle.eco_ids.specs.Builtin.{is_builtin, is_builtins, is_among_first}
 pub use Rattle.eco_ids.specs.Cleanup.{after_delete, Deletes, Doomed, Ends, Forbids, HoldsOn, Names, IsDoomed, names_any}
 pub use Rattle.eco_ids.specs.Data.{fits, arity, is_zero_past}
 pub use Rattle.eco_ids.specs.Delete.{DeletesOne, DeletesWith}
-pub use Rattle.eco_ids.specs.Edition.{builtin_count, late_traits}
+pub use Rattle.eco_ids.specs.Edition.{builtin_count, late_traits, has_symmetric}
 pub use Rattle.eco_ids.specs.Indices.{Living, IndexState, Indexed, Free, Retired, record_in, next_entity, living_from, with_new, is_free_at, map_state}
 pub use Rattle.eco_ids.specs.Indices.{change_kept, is_free_in, with_record, admitted, lowest_free, raised, with_death}
-pub use Rattle.eco_ids.specs.Lawful.{IsLawful, IsOrderly, is_proper_arity, is_proper_state, KeepsAcyclic, KeepsExclusive}
+pub use Rattle.eco_ids.specs.Lawful.{IsLawful, IsOrderly, is_proper_arity, is_proper_state, KeepsAcyclic, KeepsExclusive, KeepsEdition, KeepsMirrors, IsMirrored}
 pub use Rattle.eco_ids.specs.Least.{root, next, Least}
 pub use Rattle.eco_ids.specs.Losses.{nobody, without, keeping}
 pub use Rattle.eco_ids.specs.Matching.{pattern_matches, IsLeastMatch, ShareAnEntity, part_overlaps, pattern_overlaps}
+pub use Rattle.eco_ids.specs.Mirrors.{mirrored_pair, mirror_of, at_mirror, goes_too, is_with, is_clashing, has_clash}
 pub use Rattle.eco_ids.specs.Names.{is_proper, may_follow, is_name, is_called, is_same_name, is_taken, is_text, lookup, may_begin, named_entity}
 pub use Rattle.eco_ids.specs.Order.{id_cmp, has_item, id_eq, entity_cmp, entity_eq, is_ascending, with_item, without_item, Joins, SearchSays}
 pub use Rattle.eco_ids.specs.Outcome.{Refuses, Answers, Meets, is_out_of_memory, first_refusal}
 pub use Rattle.eco_ids.specs.Renaming.{own_name, RenamesWith, may_rename, unfit_rename}
 pub use Rattle.eco_ids.specs.Step.{changed, Adds, IsClosure, Judges, Sets, with_closure, with_value, RemovesAll, Renames, grown, is_replaced, unfit_actor}
 pub use Rattle.eco_ids.specs.Step.{Extends, Loses, unchanged, unfit, Clears, ClosesCycle, Removes, is_pair_of, unfit_set, with_name, IsFirstCycle, is_late}
-pub use Rattle.eco_ids.specs.Step.{is_wrong_policy, is_used, may_add, with_zeros}
+pub use Rattle.eco_ids.specs.Step.{is_wrong_policy, is_used, may_add, with_zeros, with_id, with_mirror, is_reserved}
 pub use Rattle.eco_ids.specs.Traits.{InClosure, Reaches, Brings}
 pub use Rattle.eco_ids.specs.World.{WorldState, Record, has, record_of, is_alive, entities, names_living, zeros, with_entities, OnEntities, first_world, living}
-pub use Rattle.eco_ids.specs.World.{world_of_edition, builtin_states, held_by, is_exclusive, is_acyclic}
+pub use Rattle.eco_ids.specs.World.{world_of_edition, builtin_states, held_by, is_exclusive, is_acyclic, is_symmetric}

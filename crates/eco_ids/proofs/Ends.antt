@@ -64,7 +64,7 @@ removes_all_settled w i = by_bool w (is_builtins w i) _ _ (refuses w Reserved) (
 extends_settled : (w : WorldState) (e : Entity) (i : Id) (besides : Record → Record) → IsSettled w (Extends w e i besides)
 extends_settled w e i besides = record {
   one = λ r q new other. extends_unique w e i besides r q new other;
-  kept = λ why new x. (at_once w x.2 tt (changed (grown w e x.0) e besides)).kept why new x.4;
+  kept = λ why new x. (at_once w x.2 tt (changed (grown w e i x.0) e besides)).kept why new x.4;
 }
 
 pub adds_settled : (w : WorldState) (e : Entity) (i : Id) → IsSettled w (Adds w e i)

@@ -1,48 +1,81 @@
 -- Exactly which ids and values an add and a delete leave.
-use Rattle.eco_ids.proofs.Common.{◌≡◌, Bool, true, false, cond, not, List, [], is_some, IsTrue, IsFalse, Some, None, Ok, Option, option_map, unwrap_or, sym}
-use Rattle.eco_ids.proofs.Common.{refl, ap, ◌∙◌, inl, inr, arith, find, option_or, common_steps, Entity, Id, Value, after_delete, Deletes, names_any}
+use Rattle.eco_ids.proofs.Common.{◌≡◌, Bool, true, false, cond, not, List, [], IsTrue, IsFalse, Some, None, Ok, Option, option_map, unwrap_or, sym, subst, true≢false}
+use Rattle.eco_ids.proofs.Common.{refl, ap, ◌∙◌, arith, MatchOption, MatchBool, Refuses, Answers, changed, unchanged, unfit, Extends, Refusal, Reserved, NotAlive, DeadId, Two, find, option_or, common_steps, Entity, Id, Value, after_delete, Deletes, names_any}
 use Rattle.eco_ids.proofs.Common.{DeletesOne, DeletesWith, keeping, id_cmp, has_item, entity_cmp, Adds, IsClosure, with_closure, grown, is_replaced, WorldState}
-use Rattle.eco_ids.proofs.Common.{Record, has, record_of, zeros}
+use Rattle.eco_ids.proofs.Common.{Record, has, record_of, zeros, is_alive, names_living, is_reserved, with_id, with_mirror, mirror_of, id_eq}
 use Rattle.std.specs.Option.{option_and_then}
 use Rattle.eco_ids.specs.Laws.{AddLeaves, DeleteLeaves}
-use Rattle.eco_ids.proofs.Adds.{closure_write}
+use Rattle.eco_ids.proofs.Adds.{half}
+use Rattle.eco_ids.proofs.Ascending.{second}
 use Rattle.eco_ids.proofs.Closures.{find_kept}
-use Rattle.eco_ids.proofs.Exact.{closure_find}
-use Rattle.eco_ids.proofs.Facts.{not_ok, same_or_apart}
+use Rattle.eco_ids.proofs.Exact.{closure_find, zero_find}
+use Rattle.eco_ids.proofs.Facts.{not_ok}
+use Rattle.eco_ids.proofs.Grown.{grown_alive, grown_at, grown_each}
 use Rattle.eco_ids.proofs.Keeps.{some_of}
 use Rattle.eco_ids.proofs.Losses.{record_left}
-use Rattle.eco_ids.proofs.Records.{IsWrite}
-use Rattle.eco_ids.proofs.Steps.{grown_unchanged, passed, was_true}
+use Rattle.eco_ids.proofs.Mirrors.{mirror_parts}
+use Rattle.eco_ids.proofs.Records.{changed_apart, changed_unchanged, write_change}
+use Rattle.eco_ids.proofs.Steps.{has_itself, passed, was_true}
 
 -- the ids of a record
 abbrev held_in : Option Record → List (Id × Value)
 held_in o = unwrap_or (option_map (λ r. r.held) o) []
 
-leaves_closure : (w : WorldState) (e : Entity) (i : Id) (s : List Id) (d : Record) → record_of w e ≡ Some d → IsClosure w i s → AddLeaves w e i (grown w e s)
-leaves_closure w e i s d at closure = record {
+leaves_grown : (w : WorldState) (e : Entity) (i : Id) (s : List Id) (d : Record) → record_of w e ≡ Some d → IsTrue (names_living w i) → IsClosure w i s →
+    AddLeaves w e i (grown w e i s)
+leaves_grown w e i s d at named closure = record {
   closure = s;
   is_closure = closure;
   values = λ j.
-      ap (λ o. find id_cmp j (held_in o)) write.at
+      ap (λ o. find id_cmp j (held_in o)) (grown_at w e i s d at (has_itself w i s closure))
       ∙ closure_find w s d j
       ∙ ap (λ o. option_or (cond (not (is_replaced w s j)) (find id_cmp j (held_in o)) None) (cond (has_item id_cmp s j) (Some zeros) None)) (sym at);
-  others = λ x n. ap held_in (write.apart x n);
-  name = each (λ o. option_and_then (λ (r : Record). r.name) o) refl;
-  arity = each (λ o. option_and_then (λ (r : Record). r.arity) o) refl;
-  alive = each is_some refl;
+  mirror = λ m is n j.
+      let p = mirror_parts w e i m is in
+      let holder : m.0 ≡ p.1 = ap (λ (x : Entity × Id). x.0) p.4 in
+      let both_live : IsTrue (names_living w (Two p.0 p.1)) = subst (λ k. IsTrue (names_living w k)) p.2 named in
+      let lives : IsTrue (is_alive w m.0) = ap (is_alive w) holder ∙ second (is_alive w p.0) (is_alive w p.1) both_live in
+      let here = some_of (record_of w m.0) lives in
+      let half_at : record_of (half w e s) m.0 ≡ Some here.0 = changed_apart w e (with_closure w s) m.0 n ∙ here.1 in
+      ap (λ o. find id_cmp j (held_in (record_of (with_mirror (half w e s) o) m.0))) is
+      ∙ ap (λ o. find id_cmp j (held_in o)) (write_change (half w e s) m.0 (with_id m.1) here.0 half_at).at
+      ∙ zero_find here.0.held m.1 j
+      ∙ ap (λ o. option_or (find id_cmp j (held_in o)) (cond (id_eq m.1 j) (Some zeros) None)) (sym here.1);
+  others = λ x n apart. ap held_in (other x n apart (mirror_of w e i) refl);
+  name = grown_each w e i s (λ o. option_and_then (λ (r : Record). r.name) o) (λ q. refl) (λ j q. refl);
+  arity = grown_each w e i s (λ o. option_and_then (λ (r : Record). r.arity) o) (λ q. refl) (λ j q. refl);
+  alive = grown_alive w e i s;
 }
   where
-    write : IsWrite w e (with_closure w s d) (grown w e s)
-    write = closure_write w e i s d at
-
-    each : {B : Type 0} (f : Option Record → B) → f (Some (with_closure w s d)) ≡ f (Some d) → (x : Entity) → f (record_of (grown w e s) x) ≡ f (record_of w x)
-    each f same x = elim (same_or_apart x e) as (λ _. f (record_of (grown w e s) x) ≡ f (record_of w x)) [
-      | inl k ↦ ap (λ y. f (record_of (grown w e s) y)) k ∙ ap f write.at ∙ same ∙ sym (ap f at) ∙ ap (λ y. f (record_of w y)) (sym k)
-      | inr n ↦ ap f (write.apart x n)
-    ]
+    other : (x : Entity) → (x ≡ e → ⊥) → ((m : Entity × Id) → mirror_of w e i ≡ Some m → x ≡ m.0 → ⊥) → (o : Option (Entity × Id)) → mirror_of w e i ≡ o →
+        record_of (with_mirror (half w e s) o) x ≡ record_of w x
+    other x n apart None is = changed_apart w e (with_closure w s) x n
+    other x n apart (Some m) is = changed_apart (half w e s) m.0 (with_id m.1) x (apart m is) ∙ changed_apart w e (with_closure w s) x n
 
 pub adds_leave : (w : WorldState) (e : Entity) (i : Id) (new : WorldState) → IsFalse (has w e i) → Adds w e i (Ok tt) new → AddLeaves w e i new
-adds_leave w e i new absent = grind (arith, common_steps, not_ok, some_of, was_true, passed, grown_unchanged, leaves_closure)
+adds_leave w e i new absent = go (unfit w e i) refl
+  where
+    done : (d : Record) → record_of w e ≡ Some d → IsTrue (names_living w i) → (s : List Id) → IsClosure w i s → (verdict : Option Refusal) →
+        MatchOption verdict (Answers {A = Unit {0}} tt (changed (grown w e i s) e unchanged) (Ok tt) new) (λ why. Refuses {A = Unit {0}} why w (Ok tt) new) →
+        AddLeaves w e i new
+    done d at named s closure None a = subst (AddLeaves w e i) (sym (a.1 ∙ changed_unchanged (grown w e i s) e)) (leaves_grown w e i s d at named closure)
+    done d at named s closure (Some why) a = absurd (not_ok a.0)
+
+    extended : unfit w e i ≡ None → (b : Bool) → IsFalse b →
+        MatchBool b (Answers {A = Unit {0}} tt w (Ok tt) new) (Extends w e i unchanged (Ok tt) new) → AddLeaves w e i new
+    extended fit true apart h = absurd (true≢false apart)
+    extended fit false apart x =
+        let one = passed (not (is_alive w e)) NotAlive _ fit in
+        let two = passed (is_reserved w e i) Reserved _ one.1 in
+        let three = passed (not (names_living w i)) DeadId _ two.1 in
+        let here = some_of (record_of w e) (was_true _ one.0) in
+        done here.0 here.1 (was_true _ three.0) x.0 x.1 x.2 x.4
+
+    go : (o : Option Refusal) → unfit w e i ≡ o →
+        MatchOption o (MatchBool (has w e i) (Answers {A = Unit {0}} tt w (Ok tt) new) (Extends w e i unchanged (Ok tt) new))
+        (λ why. Refuses {A = Unit {0}} why w (Ok tt) new) → AddLeaves w e i new
+    go None fit h = extended fit (has w e i) absent h
+    go (Some why) fit h = absurd (not_ok h.0)
 
 -- an entity that doesn't die keeps the ids that name no doomed one
 module _ (w : WorldState) (members : List Entity) (x : Entity) where

@@ -5,14 +5,17 @@ use Rattle.eco_ids.proofs.Common.{subst, arith, ltb-true, eq-eqb, eqb-true, le-l
 use Rattle.eco_ids.proofs.Common.{common_steps, same_Some, none-some, Entity, Id, Refusal, Reserved, NotAlive, Value, is_builtin, is_builtins, builtin_count}
 use Rattle.eco_ids.proofs.Common.{Living, IndexState, Free, Retired, record_in, map_state, change_kept, raised, IsLawful, IsOrderly, is_proper_state, nobody}
 use Rattle.eco_ids.proofs.Common.{without, keeping, id_cmp, id_eq, entity_eq, Refuses, changed, RemovesAll, unfit_actor, Loses, Clears, Removes, WorldState}
-use Rattle.eco_ids.proofs.Common.{Record, has, record_of, is_alive, entities, with_entities}
+use Rattle.eco_ids.proofs.Common.{Record, has, record_of, is_alive, entities, with_entities, true≢false, Two, One, SYMMETRIC, IsMirrored, mirror_of, at_mirror, goes_too, is_symmetric}
+use Rattle.eco_ids.proofs.Common.{has_symmetric}
 use Rattle.eco_ids.specs.Builtin.{builtin_entities}
 use Rattle.eco_ids.specs.Indices.{map_from}
 use Rattle.eco_ids.specs.Losses.{left_at}
 use Rattle.eco_ids.proofs.Ascending.{both, first, second}
-use Rattle.eco_ids.proofs.Closures.{kept_entry}
+use Rattle.eco_ids.proofs.Closures.{find_kept, kept_entry}
 use Rattle.eco_ids.proofs.Facts.{id_eq_is, id_eq_itself, not_both, or_right, not_true}
-use Rattle.eco_ids.proofs.Keeps.{IsPart, Named, orderly_shrink, lawful, entry_of, has_in, named_from, named_to, named_map, named_both, some_of}
+use Rattle.eco_ids.proofs.First.{builtin_ids, builtin_plain}
+use Rattle.eco_ids.proofs.Keeps.{IsPart, Named, builtin_parts, orderly_shrink, entry_of, has_in, named_from, named_to, named_map, named_both, some_of}
+use Rattle.eco_ids.proofs.Mirrors.{calm_fewer, calm_from, calm_to, lawful_after, mirror_is, mirror_parts, symmetric_before}
 use Rattle.eco_ids.proofs.Overlaps.{entity_eq_is, entity_eq_itself}
 use Rattle.eco_ids.proofs.States.{same_parts}
 use Rattle.eco_ids.proofs.Steps.{passed, unless_refused}
@@ -128,10 +131,85 @@ orderly_loss w dies goes l f = orderly_shrink l (record {
     same p None h = refl
     same p (Some r) h = ap Some (keeps_all p r h)
 
--- ids go, and nobody dies
+-- who has what once these died and those went
+some_left : (b : Bool) (o : Option Value) → is_some (cond (not b) o None) ≡ (not b && is_some o)
+some_left true o = refl
+some_left false o = refl
+
+pub has_left : (w : WorldState) (dies : Entity → Bool) (goes : Entity → Id → Bool) (x : Entity) (i : Id) →
+    has (without w dies goes) x i ≡ (not (dies x) && (not (goes x i) && has w x i))
+has_left w dies goes x i = ap (λ o. has_in o i) (record_left w dies goes x) ∙ go (dies x) (record_of w x)
+  where
+    never : (b : Bool) → false ≡ (not b && false)
+    never true = refl
+    never false = refl
+
+    go : (b : Bool) (o : Option Record) → has_in (cond b None (option_map (keeping (goes x)) o)) i ≡ (not b && (not (goes x i) && has_in o i))
+    go true o = refl
+    go false None = never (goes x i)
+    go false (Some r) = ap is_some (find_kept (λ j. not (goes x j)) i r.held) ∙ some_left (goes x i) (find id_cmp i r.held)
+
+turn : (a b : Bool) → IsTrue (not (a || b)) → IsTrue (not (b || a))
+turn true b h = absurd (true≢false (sym h))
+turn false true h = absurd (true≢false (sym h))
+turn false false h = refl
+
+-- what goes with its mirrors leaves a world with mirrors
+loses_mirrored : (w : WorldState) (goes : Entity → Id → Bool) → IsMirrored w → IsMirrored (without w nobody (goes_too w goes))
+loses_mirrored w goes m = record { mirrors = mirrors; calm = calm_to left (calm_fewer w left refl had (calm_from w m.calm)) }
+  where
+    left : WorldState
+    left = without w nobody (goes_too w goes)
+
+    parts : (x : Entity) (i : Id) → IsTrue (has left x i) → IsTrue (not (goes_too w goes x i) && has w x i)
+    parts x i h = sym (has_left w nobody (goes_too w goes) x i) ∙ h
+
+    had : (x : Entity) (i : Id) → IsTrue (has left x i) → IsTrue (has w x i)
+    had x i h = second (not (goes_too w goes x i)) (has w x i) (parts x i h)
+
+    -- a symmetric pair goes where it or its mirror was to go
+    either : (a r b : Entity) → IsTrue (is_symmetric w r) → goes_too w goes a (Two r b) ≡ (goes b (Two r a) || goes a (Two r b))
+    either a r b was = ap (λ o. at_mirror goes o || goes a (Two r b)) (mirror_is w a r b was)
+
+    mirrors : (r a b : Entity) → IsTrue (is_symmetric left r) → IsTrue (has left a (Two r b)) → IsTrue (has left b (Two r a))
+    mirrors r a b s edge =
+        let was = symmetric_before w left r refl (had r (One SYMMETRIC)) s in
+        let stays : IsTrue (not (goes b (Two r a) || goes a (Two r b))) =
+        sym (ap not (either a r b was)) ∙ first (not (goes_too w goes a (Two r b))) (has w a (Two r b)) (parts a (Two r b) edge) in
+        has_left w nobody (goes_too w goes) b (Two r a)
+        ∙ both (not (goes_too w goes b (Two r a))) (has w b (Two r a))
+        (ap not (either b r a was) ∙ turn (goes b (Two r a)) (goes a (Two r b)) stays) (m.mirrors r a b was (had a (Two r b) edge))
+
+-- no id of a built-in has a mirror
+untouched_too : (w : WorldState) (goes : Entity → Id → Bool) → IsOrderly w →
+    ((x : Entity) (i : Id) → IsTrue (is_builtin w x) → IsTrue (has w x i) → IsFalse (goes x i)) →
+    (x : Entity) (i : Id) → IsTrue (is_builtin w x) → IsTrue (has w x i) → IsFalse (goes_too w goes x i)
+untouched_too w goes l untouched x i h there = by (mirror_of w x i) refl
+  where
+    symmetric : (r t : Entity) → i ≡ Two r t → IsTrue (is_symmetric w r) → ⊥
+    symmetric r t is s =
+        let named = builtin_ids w x (Two r t) l h (subst (λ j. IsTrue (has w x j)) is there) in
+        builtin_plain w r l named.0 (second (has_symmetric w.edition) (has w r (One SYMMETRIC)) s)
+
+    by : (o : Option (Entity × Id)) → mirror_of w x i ≡ o → IsFalse (goes_too w goes x i)
+    by None is = ap (λ o. at_mirror goes o || goes x i) is ∙ untouched x i h there
+    by (Some m) is = let p = mirror_parts w x i m is in absurd (symmetric p.0 p.1 p.2 p.3)
+
+nobody_named : (i : Id) → Named (λ e. IsFalse (nobody e)) i
+nobody_named (One e) = refl
+nobody_named (Two r t) = (refl, refl)
+
+-- ids go, with their mirrors, and nobody dies
 loses_lawful : (w : WorldState) (goes : Entity → Id → Bool) (r : Result (Unit {0}) Refusal) (new : WorldState) →
     IsLawful w → ((x : Entity) (i : Id) → IsTrue (is_builtin w x) → IsTrue (has w x i) → IsFalse (goes x i)) → Loses w goes r new → IsLawful new
-loses_lawful w goes r new l untouched a = grind (arith, common_steps, lawful, orderly_loss)
+loses_lawful w goes r new l untouched a = subst IsLawful (sym a.1)
+    (lawful_after l
+    (orderly_loss w nobody (goes_too w goes) l.orderly (record {
+      spared = λ x h. refl;
+      untouched = untouched_too w goes l.orderly untouched;
+      named = λ x i _ _. nobody_named i;
+    }))
+    refl (λ _ m. loses_mirrored w goes m))
 
 -- the one who acts is no built-in
 acts_lawful : (w : WorldState) (e : Entity) (goes : Entity → Id → Bool) (r : Result (Unit {0}) Refusal) (new : WorldState) →
@@ -163,9 +241,6 @@ handle_at (suc count) from (suc k) l =
     let m : k < count = omega arith in
     let e : (from + 1) + k ≡ from + suc k = omega arith in
     handle_at count (from + 1) k m ∙ ap (λ n. Some (first_handle n)) e
-
-pub builtin_parts : (w : WorldState) (x : Entity) → IsTrue (is_builtin w x) → (x.index < builtin_count w.edition) × (x.generation ≡ 0)
-builtin_parts w x h = grind (arith, common_steps, ltb-true, first, eqb-true, second)
 
 any_get : {X : Type 0} (t : X → Bool) (xs : List X) (k : ℕ) (x : X) → slice_get xs k ≡ Some x → IsTrue (t x) → IsTrue (list_any t xs)
 any_get t [] k x at h = absurd (none-some x at)

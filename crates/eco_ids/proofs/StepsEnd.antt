@@ -1,8 +1,8 @@
 -- Each step has an end: some answer, and some world after it.
 use Rattle.eco_ids.proofs.Common.{◌≡◌, ℕ, Bool, cond, not, List, IsTrue, Some, None, Option, MatchOption, sym, subst, arith, rules, common_steps, Entity, Id}
-use Rattle.eco_ids.proofs.Common.{Refusal, Reserved, NotAlive, DeadId, NoMoreIds, Value, unfit_name, Makes, Admits, MakesAlive, is_builtin, is_builtins}
+use Rattle.eco_ids.proofs.Common.{Refusal, Reserved, NotAlive, DeadId, NoMoreIds, Value, unfit_name, Makes, Admits, MakesAlive, is_builtins}
 use Rattle.eco_ids.proofs.Common.{DeletesOne, DeletesWith, Indexed, next_entity, with_new, IsLawful, nobody, without, Refuses, Answers, changed, Adds, Sets}
-use Rattle.eco_ids.proofs.Common.{with_value, RemovesAll, Renames, unfit_actor, Loses, unchanged, unfit, unfit_set, WorldState, Record, has, is_alive, entities}
+use Rattle.eco_ids.proofs.Common.{with_value, RemovesAll, Renames, unfit_actor, Loses, unchanged, unfit, unfit_set, WorldState, Record, has, is_alive, entities, is_reserved, goes_too}
 use Rattle.eco_ids.proofs.Common.{names_living, OnEntities}
 use Rattle.eco_ids.proofs.AddsEnd.{extends_end}
 use Rattle.eco_ids.proofs.DeletesEnd.{deletes_end}
@@ -14,7 +14,7 @@ use Rattle.eco_ids.proofs.Steps.{passed, was_true}
 
 -- what is fit is named by the living, whatever is tested after that
 fit_names : (w : WorldState) (e : Entity) (i : Id) (rest : Option Refusal)
-    → cond (not (is_alive w e)) (Some NotAlive) (cond (is_builtin w e) (Some Reserved) (cond (not (names_living w i)) (Some DeadId) rest)) ≡ None
+    → cond (not (is_alive w e)) (Some NotAlive) (cond (is_reserved w e i) (Some Reserved) (cond (not (names_living w i)) (Some DeadId) rest)) ≡ None
     → IsTrue (names_living w i)
 fit_names w e i rest h = grind (arith, common_steps, passed, was_true)
 
@@ -34,7 +34,7 @@ pub admits_end : (w : WorldState) (n : ℕ) → End (OnEntities (λ v. Admits v 
 admits_end w n = search (rules, in_world, either, done, refused)
 
 pub loses_end : (w : WorldState) (o : Option Refusal) (goes : Entity → Id → Bool) → End (λ r new. MatchOption o (Loses w goes r new) (λ y. Refuses y w r new))
-loses_end w o goes = unless w o _ (λ _. done tt (without w nobody goes))
+loses_end w o goes = unless w o _ (λ _. done tt (without w nobody (goes_too w goes)))
 
 pub renames_end : (w : WorldState) (e : Entity) (name : Option (List ℕ)) → End (Renames w e name)
 renames_end w e name = search (rules, in_world, unless, done)

@@ -5,7 +5,6 @@ use Rattle.std.specs.List.{AllZip, IsDistinct, list_any}
 use Rattle.std.proofs.lemmas.List.{drop_all, drop_more, map-append, map_push, take_more}
 use Rattle.std.proofs.lemmas.List.Folds.{list_any-append}
 use Rattle.eco_ids.specs.declared.edition.Edition.{Edition}
-use Rattle.eco_ids.specs.declared.edition.Edition.TheVariants.{First}
 use Rattle.eco_ids.specs.declared.pattern.Pattern.{Pattern}
 use Rattle.eco_ids.specs.Matching.{pattern_overlaps}
 use Rattle.eco_ids.specs.World.{WorldState}
@@ -171,22 +170,19 @@ join_end os ds items order k done done' batch last end total more is =
     ∙ ap (λ rest. map items done ++ batched (clash_at os ds) (take k order) batch.places.items rest) (sym (drop_all k order end))
     ∙ total
 
--- there is one edition
-the_edition : (edition : Edition) → First ≡ edition
-the_edition First = refl
-
 -- one outline more
-pub outlined_more : (w : WorldState) (ds : List Declared) (k : ℕ) (d : Declared) (old new : List OutlineModel) (closed shown : List Pattern) → k < length ds
+pub outlined_more : (w : WorldState) (edition : Edition) → edition ≡ w.edition → (ds : List Declared) (k : ℕ) (d : Declared)
+    → (old new : List OutlineModel) (closed shown : List Pattern) → k < length ds
     → AllZip (IsOutline w) (take k ds) old → ListsClosed w (get_or ds k d).writes.now closed → IsDistinct same closed → shown ≡ closed
-    → new ≡ old ++ record { closed = shown; writes_traits = list_any (writes_trait First) shown; kills = (get_or ds k d).kills } ∷ []
+    → new ≡ old ++ record { closed = shown; writes_traits = list_any (writes_trait edition) shown; kills = (get_or ds k d).kills } ∷ []
     → AllZip (IsOutline w) (take (k + 1) ds) new
-outlined_more w ds k d old new closed shown below all listed once is pushed =
-    let made : OutlineModel = record { closed = shown; writes_traits = list_any (writes_trait First) shown; kills = (get_or ds k d).kills } in
+outlined_more w edition same_edition ds k d old new closed shown below all listed once is pushed =
+    let made : OutlineModel = record { closed = shown; writes_traits = list_any (writes_trait edition) shown; kills = (get_or ds k d).kills } in
     subst (AllZip (IsOutline w) (take (k + 1) ds)) (sym pushed)
     (subst (λ xs. AllZip (IsOutline w) xs (old ++ made ∷ [])) (sym (take_more ds k d below))
     (zip_push (IsOutline w) (take k ds) old (get_or ds k d) made all (record {
       kills = refl;
       closed = subst (ListsClosed w (get_or ds k d).writes.now) (sym is) listed;
       once = subst (IsDistinct same) (sym is) once;
-      traits = ap (λ e. list_any (writes_trait e) shown) (the_edition w.edition);
+      traits = ap (λ e. list_any (writes_trait e) shown) same_edition;
     })))

@@ -2,14 +2,15 @@
 ghost use Rattle.std.specs.Prelude.{◌≡◌, ◌++◌, map, IfOk, OnOk};
 ghost use Rattle.std.specs.List.{IsDistinct, list_any};
 ghost use Rattle.indexmap.specs.IndexSet.{insert_all, insert_key};
+ghost use Rattle.eco_ids.specs.World.{is_widened};
 ghost use Rattle.eco_systems.specs.Closing.{ListsClosed};
 ghost use Rattle.eco_systems.specs.Writes as writes;
 ghost use Rattle.eco_batches.specs.Brought.{key_of, once, pattern_of, same};
 
 use crate::brought::{bring_nothing, closure};
 use crate::key::Key;
-use eco_ids::entity::EXCLUSIVE;
-use eco_ids::{Id, Part, Pattern};
+use eco_ids::entity::{EXCLUSIVE, SYMMETRIC};
+use eco_ids::{Entity, Id, Part, Pattern};
 use eco_traits::{Holdings, has};
 use indexmap::IndexSet;
 use std::alloc::{AllocError, Global};
@@ -17,13 +18,20 @@ use std::alloc::{AllocError, Global};
 // So many patterns are compared with each other, which takes no memory.
 const FEW: usize = 8;
 
-// Pairs of an exclusive relationship become all its pairs.
+// What is done to one pair of the relationship may touch others of its pairs.
+fn is_widened<H: Holdings>(holdings: &H, relationship: Entity) -> bool
+    ensures { result ≡ is_widened (H.world holdings.now) relationship }
+{
+    (holdings.edition().has_symmetric() && has(holdings, relationship, Id::One(SYMMETRIC)))
+        || has(holdings, relationship, Id::One(EXCLUSIVE))
+}
+
+// Pairs of an exclusive or symmetric relationship become all its pairs.
 fn widened<H: Holdings>(holdings: &H, pattern: Pattern) -> Pattern
     ensures { result ≡ writes.widened (H.world holdings.now) pattern }
 {
     match pattern {
-        Pattern::Two(Part::Is(relationship), _)
-            if has(holdings, relationship, Id::One(EXCLUSIVE)) => {
+        Pattern::Two(Part::Is(relationship), _) if is_widened(holdings, relationship) => {
             Pattern::Two(Part::Is(relationship), Part::Each)
         }
         _ => pattern,
@@ -91,8 +99,8 @@ fn append(keys: &[Key], closed: &mut Vec<Pattern>) -> Result<(), AllocError>
 }
 
 /// Lists the closed writes of some patterns in the place of whatever the list has: the patterns with all that they bring by With
-/// (Flecs manual, Component Traits, "With"), pairs of an exclusive relationship widened to all its pairs. Each comes once, in no
-/// order. `AllocError` comes where memory for them is refused.
+/// (Flecs manual, Component Traits, "With"), pairs of an exclusive or symmetric relationship widened to all its pairs. Each comes
+/// once, in no order. `AllocError` comes where memory for them is refused.
 pub(crate) fn list_closed<H: Holdings>(
     alloc: Global,
     holdings: &H,

@@ -1,15 +1,14 @@
 //! What is worked out of each system once.
 ghost use Rattle.std.specs.Prelude.{◌≡◌, ◌∷◌, ◌++◌, [], IfOk, IsTrue, OnOk, slice_get};
 ghost use Rattle.std.specs.List.{AllZip, list_any};
-ghost use Rattle.eco_ids.specs.declared.edition.Edition.TheVariants.{First};
 ghost use Rattle.eco_systems.specs.Writes as writes;
 ghost use Rattle.eco_batches.specs.Outlines as spec;
 ghost use Rattle.eco_batches.specs.Outlines.{IsOutline};
 
 use crate::closed::list_closed;
 use crate::declaration::Declared;
-use eco_ids::entity::{BUILTIN_COUNT, CHILD_OF};
-use eco_ids::{Entity, Part, Pattern};
+use eco_ids::entity::CHILD_OF;
+use eco_ids::{Edition, Entity, Part, Pattern};
 use eco_traits::Holdings;
 use std::alloc::{AllocError, Global};
 use std::marker::Model;
@@ -68,10 +67,10 @@ impl Outlines {
     }
 
     // One more system.
-    fn push(&mut self, closed: &[Pattern], kills: bool) -> Result<(), AllocError>
+    fn push(&mut self, edition: Edition, closed: &[Pattern], kills: bool) -> Result<(), AllocError>
         ensures { OnOk result (self.new ≡ self.old ++ record {
           closed = closed.now;
-          writes_traits = list_any (writes.writes_trait First) closed.now;
+          writes_traits = list_any (writes.writes_trait edition) closed.now;
           kills = kills;
         } ∷ []) }
     {
@@ -80,7 +79,7 @@ impl Outlines {
         self.list.push(Outline {
             start,
             end: self.closed.len(),
-            writes_traits: writes_some_trait(closed),
+            writes_traits: writes_some_trait(edition, closed),
             kills,
         })?;
         Ok(())
@@ -117,39 +116,39 @@ impl Outlines {
     }
 }
 
-// A built-in other than ChildOf.
-fn is_trait(entity: Entity) -> bool
-    ensures { result ≡ writes.is_trait First entity }
+// A built-in of the edition other than ChildOf.
+fn is_trait(edition: Edition, entity: Entity) -> bool
+    ensures { result ≡ writes.is_trait edition entity }
 {
-    entity.is_among_first(BUILTIN_COUNT) && !entity.is(CHILD_OF)
+    entity.is_among_first(edition.builtin_count()) && !entity.is(CHILD_OF)
 }
 
-fn is_trait_part(part: Part) -> bool
-    ensures { result ≡ writes.is_trait_part First part }
+fn is_trait_part(edition: Edition, part: Part) -> bool
+    ensures { result ≡ writes.is_trait_part edition part }
 {
     match part {
-        Part::Is(entity) => is_trait(entity),
+        Part::Is(entity) => is_trait(edition, entity),
         Part::Each | Part::Any => false,
     }
 }
 
 // A trait is in the pattern, or the pattern is one of pairs of any relationship.
-fn writes_trait(pattern: Pattern) -> bool
-    ensures { result ≡ writes.writes_trait First pattern }
+fn writes_trait(edition: Edition, pattern: Pattern) -> bool
+    ensures { result ≡ writes.writes_trait edition pattern }
 {
     match pattern {
-        Pattern::One(entity) => is_trait(entity),
+        Pattern::One(entity) => is_trait(edition, entity),
         Pattern::Two(Part::Is(relationship), targets) => {
-            is_trait(relationship) || is_trait_part(targets)
+            is_trait(edition, relationship) || is_trait_part(edition, targets)
         }
         Pattern::Two(Part::Each | Part::Any, _) => true,
     }
 }
 
-fn writes_some_trait(closed: &[Pattern]) -> bool
-    ensures { result ≡ list_any (writes.writes_trait First) closed.now }
+fn writes_some_trait(edition: Edition, closed: &[Pattern]) -> bool
+    ensures { result ≡ list_any (writes.writes_trait edition) closed.now }
 {
-    closed.iter().any(|pattern| writes_trait(*pattern))
+    closed.iter().any(|pattern| writes_trait(edition, *pattern))
 }
 
 /// Works out each system.
@@ -164,7 +163,7 @@ pub(crate) fn work_out<H: Holdings>(
     let mut closed = Vec::new(alloc);
     for system in systems {
         list_closed(alloc, holdings, system.writes, &mut closed)?;
-        outlines.push(&closed, system.kills)?;
+        outlines.push(holdings.edition(), &closed, system.kills)?;
     }
     Ok(outlines)
 }

@@ -1,8 +1,8 @@
 -- What a system's commands touch lies in its closed writes.
-use Rattle.std.proofs.Common.{◌≡◌, Bool, true, false, cond, ◌&&◌, List, [], ◌∷◌, refl, sym, ap, ◌∙◌, subst, true≢false, IsTrue, inl, inr}
+use Rattle.std.proofs.Common.{◌≡◌, Bool, true, false, cond, ◌&&◌, List, [], ◌∷◌, refl, sym, ap, ◌∙◌, subst, true≢false, IsTrue, ◌⊎◌, inl, inr}
 use Rattle.std.specs.List.{list_any}
 use Rattle.eco_ids.specs.declared.entity.Entity.{Entity}
-use Rattle.eco_ids.specs.declared.entity.TheConstants.{EXCLUSIVE, WITH}
+use Rattle.eco_ids.specs.declared.entity.TheConstants.{EXCLUSIVE, SYMMETRIC, WITH}
 use Rattle.eco_ids.specs.declared.id.Id.{Id}
 use Rattle.eco_ids.specs.declared.id.Id.TheVariants as id
 use Rattle.eco_ids.specs.declared.pattern.Part.{Part}
@@ -10,34 +10,40 @@ use Rattle.eco_ids.specs.declared.pattern.Part.TheVariants.{Is, Each, Any}
 use Rattle.eco_ids.specs.declared.pattern.Pattern.{Pattern}
 use Rattle.eco_ids.specs.declared.pattern.Pattern.TheVariants.{One, Two}
 use Rattle.eco_ids.specs.declared.edition.Edition.{Edition}
-use Rattle.eco_ids.specs.declared.edition.Edition.TheVariants.{First}
+use Rattle.eco_ids.specs.declared.edition.Edition.TheVariants.{First, Second}
 use Rattle.eco_ids.specs.Builtin.{is_among_first}
-use Rattle.eco_ids.specs.Edition.{builtin_count}
+use Rattle.eco_ids.specs.Edition.{builtin_count, has_symmetric}
 use Rattle.eco_ids.specs.Least.{root, next}
 use Rattle.eco_ids.specs.Matching.{part_matches, pattern_matches, pattern_overlaps}
 use Rattle.eco_ids.specs.Order.{entity_eq}
 use Rattle.eco_ids.specs.Run.{Command, Create, Add, Remove, Set, Clear, Rename, Delete, DeleteWith, RemoveAll}
 use Rattle.eco_ids.specs.Traits.{Brings, InClosure}
-use Rattle.eco_ids.specs.World.{WorldState, has, is_exclusive}
+use Rattle.eco_ids.specs.World.{WorldState, has, is_symmetric, is_widened}
 use Rattle.eco_ids.proofs.Ascending.{both, first, second}
-use Rattle.eco_ids.proofs.Facts.{any_is, or_left, or_parts}
+use Rattle.eco_ids.proofs.Facts.{any_is, or_left, or_parts, or_right}
 use Rattle.eco_ids.proofs.Meaning.{closure_least}
 use Rattle.eco_ids.proofs.Overlaps.{entity_eq_is, entity_eq_itself, overlaps_exactly}
 use Rattle.eco_systems.specs.Batches.{Disturbs}
 use Rattle.eco_systems.specs.Systems.{SystemModel, IsDeclared, matches_one, system_reads}
 use Rattle.eco_systems.specs.Writes.{SomeOf, InClosedPatterns, widened, IsClosedWrite, writes_trait, IsTraitWriter}
-use Rattle.eco_systems.proofs.Steps.{Touches, Touched, Gained, IsMild}
+use Rattle.eco_systems.proofs.Steps.{Touches, Touched, Gained, Given, Goes, IsMild, IsTwin}
 
 -- ---- traits
 
--- an id that makes a closure or an eviction: Exclusive, or a pair of With
-abbrev pub IsTraitId : Id → Type 0
-IsTraitId (id.One e) = e ≡ EXCLUSIVE
-IsTraitId (id.Two r t) = r ≡ WITH
+-- an id that makes a closure, an eviction or a mirror: Exclusive, a pair of With, or Symmetric, where the edition has it
+abbrev pub IsTraitId : Edition → Id → Type 0
+IsTraitId edition (id.One e) = (e ≡ EXCLUSIVE) ⊎ (IsTrue (has_symmetric edition) × (e ≡ SYMMETRIC))
+IsTraitId edition (id.Two r t) = r ≡ WITH
 
--- whoever has such an id had it at the frame's start
+-- the edition is that of the frame's start, and whoever has such an id had it then
 abbrev pub TraitsWithin : WorldState → WorldState → Type 0
-TraitsWithin start w = (x : Entity) (j : Id) → IsTraitId j → IsTrue (has w x j) → IsTrue (has start x j)
+TraitsWithin start w = (w.edition ≡ start.edition) × ((x : Entity) (j : Id) → IsTraitId start.edition j → IsTrue (has w x j) → IsTrue (has start x j))
+
+-- so what was symmetric then is so now
+symmetric_within : (start w : WorldState) (r : Entity) → TraitsWithin start w → IsTrue (is_symmetric w r) → IsTrue (is_symmetric start r)
+symmetric_within start w r within h =
+    let has_it : IsTrue (has_symmetric start.edition) = sym (ap has_symmetric within.0) ∙ first (has_symmetric w.edition) _ h in
+    both (has_symmetric start.edition) _ has_it (within.1 r (id.One SYMMETRIC) (inr (has_it, refl)) (second (has_symmetric w.edition) _ h))
 
 -- Exclusive and With are built-ins in each edition
 exclusive_writes : (w : WorldState) → IsTrue (writes_trait w.edition (One EXCLUSIVE))
@@ -45,12 +51,21 @@ exclusive_writes w = by w.edition
   where
     by : (edition : Edition) → IsTrue (is_among_first (builtin_count edition) EXCLUSIVE && true)
     by First = refl
+    by Second = refl
+
+symmetric_writes : (w : WorldState) → IsTrue (has_symmetric w.edition) → IsTrue (writes_trait w.edition (One SYMMETRIC))
+symmetric_writes w h = by w.edition h
+  where
+    by : (edition : Edition) → IsTrue (has_symmetric edition) → IsTrue (is_among_first (builtin_count edition) SYMMETRIC && true)
+    by First k = absurd (true≢false (sym k))
+    by Second k = refl
 
 with_writes : (w : WorldState) (u : Part) → IsTrue (writes_trait w.edition (Two (Is WITH) u))
 with_writes w u = or_left _ _ (by w.edition)
   where
     by : (edition : Edition) → IsTrue (is_among_first (builtin_count edition) WITH && true)
     by First = refl
+    by Second = refl
 
 -- ---- the closure of an id lies in the closure of its pattern
 
@@ -89,7 +104,7 @@ module _ (start : WorldState) (writes : List Pattern) where
         Brings w j k → Covered start writes k
     brought w within (One own) (id.One c) (id.One x) member m brings = (
       One x,
-      next member (subst (λ y. IsTrue (has start y (id.Two WITH x))) (sym (entity_eq_is own c m)) (within c (id.Two WITH x) refl brings)),
+      next member (subst (λ y. IsTrue (has start y (id.Two WITH x))) (sym (entity_eq_is own c m)) (within.1 c (id.Two WITH x) refl brings)),
       entity_eq_itself x,
     )
     brought w within (One own) (id.One c) (id.Two x u) member m brings = absurd brings
@@ -100,7 +115,7 @@ module _ (start : WorldState) (writes : List Pattern) where
     brought w within (Two (Is own) u) (id.Two r t) (id.One x) member m brings = absurd brings
     brought w within (Two (Is own) u) (id.Two r t) (id.Two x v) member m brings = (
       Two (Is x) u,
-      next member (subst (λ y. IsTrue (has start y (id.Two WITH x))) (sym (entity_eq_is own r (first _ _ m))) (within r (id.Two WITH x) refl brings.0), refl),
+      next member (subst (λ y. IsTrue (has start y (id.Two WITH x))) (sym (entity_eq_is own r (first _ _ m))) (within.1 r (id.Two WITH x) refl brings.0), refl),
       both _ _ (entity_eq_itself x) (subst (λ y. IsTrue (part_matches u y)) (sym brings.1) (second (entity_eq own r) _ m)),
     )
 
@@ -108,16 +123,19 @@ module _ (start : WorldState) (writes : List Pattern) where
     closure_covered w within i here = closure_least w i (Covered start writes) (begins i here) (λ j k c b. brought w within c.0 j k c.1 c.2 b)
 
     -- no trait comes by such an add
-    no_trait_added : (q : Pattern) (j : Id) → InClosedPatterns start writes q → IsTrue (pattern_matches q j) → IsTraitId j → ⊥
-    no_trait_added (One own) (id.One e) member m trait =
+    no_trait_added : (q : Pattern) (j : Id) → InClosedPatterns start writes q → IsTrue (pattern_matches q j) → IsTraitId start.edition j → ⊥
+    no_trait_added (One own) (id.One e) member m (inl trait) =
         plain (One own) (One own, member, refl)
         (subst (λ y. IsTrue (writes_trait start.edition (One y))) (sym (entity_eq_is own e m ∙ trait)) (exclusive_writes start))
+    no_trait_added (One own) (id.One e) member m (inr trait) =
+        plain (One own) (One own, member, refl)
+        (subst (λ y. IsTrue (writes_trait start.edition (One y))) (sym (entity_eq_is own e m ∙ trait.1)) (symmetric_writes start trait.0))
     no_trait_added (One own) (id.Two r t) member m trait = absurd (true≢false (sym m))
     no_trait_added (Two p u) (id.One e) member m trait = absurd (true≢false (sym m))
     no_trait_added (Two Each u) (id.Two r t) member m trait = not_each u member
     no_trait_added (Two Any u) (id.Two r t) member m trait = not_any u member
     no_trait_added (Two (Is own) u) (id.Two r t) member m trait =
-        plain (widened start (Two (Is own) u)) (Two (Is own) u, member, refl) (still_trait (is_exclusive start own) (entity_eq_is own r (first _ _ m) ∙ trait))
+        plain (widened start (Two (Is own) u)) (Two (Is own) u, member, refl) (still_trait (is_widened start own) (entity_eq_is own r (first _ _ m) ∙ trait))
       where
         still_trait : (b : Bool) → own ≡ WITH → IsTrue (writes_trait start.edition (cond b (Two (Is own) Each) (Two (Is own) u)))
         still_trait true e = subst (λ y. IsTrue (writes_trait start.edition (Two (Is y) Each))) (sym e) (with_writes start Each)
@@ -129,7 +147,7 @@ module _ (start : WorldState) (writes : List Pattern) where
   widened_matches (One e) j m = m
   widened_matches (Two Each u) j m = m
   widened_matches (Two Any u) j m = m
-  widened_matches (Two (Is r) u) j m = wide (is_exclusive start r) j m
+  widened_matches (Two (Is r) u) j m = wide (is_widened start r) j m
     where
       wide : (b : Bool) (j : Id) → IsTrue (pattern_matches (Two (Is r) u) j) → IsTrue (pattern_matches (cond b (Two (Is r) Each) (Two (Is r) u)) j)
       wide true (id.One e) m = m
@@ -142,9 +160,9 @@ module _ (start : WorldState) (writes : List Pattern) where
   written_closed : (j : Id) → Covered start writes j → Written j
   written_closed j c = (widened start c.0, (c.0, c.1, refl), widened_matches c.0 j c.2)
 
-  -- what is evicted matches the pattern that brought the relationship, once it is widened
-  evicted_written : NoTraits start writes → (r t u : Entity) → IsTrue (is_exclusive start r) → Covered start writes (id.Two r u) → Written (id.Two r t)
-  evicted_written plain r t u exclusive c = go c.0 c.1 c.2
+  -- what is evicted, and a mirror, matches the pattern that brought the relationship, once it is widened
+  evicted_written : NoTraits start writes → (r t u : Entity) → IsTrue (is_widened start r) → Covered start writes (id.Two r u) → Written (id.Two r t)
+  evicted_written plain r t u wide c = go c.0 c.1 c.2
     where
       go : (q : Pattern) → InClosedPatterns start writes q → IsTrue (pattern_matches q (id.Two r u)) → Written (id.Two r t)
       go (One e) member m = absurd (true≢false (sym m))
@@ -154,35 +172,57 @@ module _ (start : WorldState) (writes : List Pattern) where
           let is : own ≡ r = entity_eq_is own r (first _ _ m) in (
             widened start (Two (Is own) v),
             (Two (Is own) v, member, refl),
-            subst (λ b. IsTrue (pattern_matches (cond b (Two (Is own) Each) (Two (Is own) v)) (id.Two r t))) (sym (ap (is_exclusive start) is ∙ exclusive))
+            subst (λ b. IsTrue (pattern_matches (cond b (Two (Is own) Each) (Two (Is own) v)) (id.Two r t))) (sym (ap (is_widened start) is ∙ wide))
                 (both _ _ (first (entity_eq own r) _ m) refl),
           )
+
+  -- a pair of the same symmetric relationship
+  twin_written : NoTraits start writes → (w : WorldState) → TraitsWithin start w → (i : Id) → IsTrue (matches_one writes i) → (j : Id) → IsTwin w i j → Written j
+  twin_written plain w within (id.One c) here j h = absurd h
+  twin_written plain w within (id.Two r t) here (id.One x) h = absurd h
+  twin_written plain w within (id.Two r t) here (id.Two q u) h =
+      subst (λ y. Written (id.Two y u)) (sym h.1)
+      (evicted_written plain r u t (or_left _ _ (symmetric_within start w r within h.0)) (begins (id.Two r t) here))
+
+  goes_written : NoTraits start writes → (w : WorldState) → TraitsWithin start w → (i : Id) → IsTrue (matches_one writes i) → (j : Id) → Goes w i j → Written j
+  goes_written plain w within i here j (inl h) = subst Written (sym h) (written_closed i (begins i here))
+  goes_written plain w within i here j (inr h) = twin_written plain w within i here j h
 
   touches_written : NoTraits start writes → (w : WorldState) → TraitsWithin start w → (i : Id) → IsTrue (matches_one writes i) → (j : Id) → Touches w i j →
       Written j
   touches_written plain w within i here j (inl h) = written_closed j (closure_covered plain w within i here j h)
-  touches_written plain w within i here (id.One e) (inr h) = absurd h
-  touches_written plain w within i here (id.Two r t) (inr h) =
-      evicted_written plain r t h.1 (within r (id.One EXCLUSIVE) refl h.0) (closure_covered plain w within i here (id.Two r h.1) h.2)
+  touches_written plain w within i here (id.One e) (inr (inl h)) = absurd h
+  touches_written plain w within i here (id.Two r t) (inr (inl h)) =
+      evicted_written plain r t h.1 (or_right (is_symmetric start r) _ (within.1 r (id.One EXCLUSIVE) (inl refl) h.0))
+      (closure_covered plain w within i here (id.Two r h.1) h.2)
+  touches_written plain w within i here j (inr (inr h)) = twin_written plain w within i here j h
 
   touched_written : NoTraits start writes → (w : WorldState) → TraitsWithin start w → (c : Command) → IsMild c → (kills : Bool) → IsDeclared writes kills c →
       (j : Id) → Touched w c j → Written j
   touched_written plain w within (Create e) mild kills d j h = absurd h
   touched_written plain w within (Add e i) mild kills d j h = touches_written plain w within i d j h
-  touched_written plain w within (Remove e i) mild kills d j h = subst Written (sym h) (written_closed i (begins i d))
+  touched_written plain w within (Remove e i) mild kills d j h = goes_written plain w within i d j h
   touched_written plain w within (Set e i v) mild kills d j h = touches_written plain w within i d j h
   touched_written plain w within (Clear e) mild kills d j h = absurd mild
   touched_written plain w within (Rename e name) mild kills d j h = absurd h
   touched_written plain w within (Delete e) mild kills d j h = absurd mild
   touched_written plain w within (DeleteWith i) mild kills d j h = absurd mild
-  touched_written plain w within (RemoveAll i) mild kills d j h = subst Written (sym h) (written_closed i (begins i d))
+  touched_written plain w within (RemoveAll i) mild kills d j h = goes_written plain w within i d j h
+
+  given_no_trait : NoTraits start writes → (w : WorldState) → TraitsWithin start w → (i : Id) → IsTrue (matches_one writes i) → (j : Id) →
+      IsTraitId start.edition j → Given w i j → ⊥
+  given_no_trait plain w within i here j trait (inl h) = let c = closure_covered plain w within i here j h in no_trait_added plain c.0 j c.1 c.2 trait
+  given_no_trait plain w within (id.One c) here j trait (inr h) = h
+  given_no_trait plain w within (id.Two r t) here (id.One x) trait (inr h) = h
+  given_no_trait plain w within (id.Two r t) here (id.Two q u) trait (inr h) =
+      let c = begins (id.Two r t) here in no_trait_added plain c.0 (id.Two r t) c.1 c.2 (sym h.1 ∙ trait)
 
   pub gained_no_trait : NoTraits start writes → (w : WorldState) → TraitsWithin start w → (c : Command) (kills : Bool) → IsDeclared writes kills c →
-      (j : Id) → IsTraitId j → Gained w c j → ⊥
+      (j : Id) → IsTraitId start.edition j → Gained w c j → ⊥
   gained_no_trait plain w within (Create e) kills d j trait h = h
-  gained_no_trait plain w within (Add e i) kills d j trait h = let c = closure_covered plain w within i d j h in no_trait_added plain c.0 j c.1 c.2 trait
+  gained_no_trait plain w within (Add e i) kills d j trait h = given_no_trait plain w within i d j trait h
   gained_no_trait plain w within (Remove e i) kills d j trait h = h
-  gained_no_trait plain w within (Set e i v) kills d j trait h = let c = closure_covered plain w within i d j h in no_trait_added plain c.0 j c.1 c.2 trait
+  gained_no_trait plain w within (Set e i v) kills d j trait h = given_no_trait plain w within i d j trait h
   gained_no_trait plain w within (Clear e) kills d j trait h = h
   gained_no_trait plain w within (Rename e name) kills d j trait h = h
   gained_no_trait plain w within (Delete e) kills d j trait h = h

@@ -52,7 +52,7 @@ module _ (w : WorldState) (n : ℕ) where
   }
 
   traits_admitted : (start : WorldState) → TraitsWithin start w → TraitsWithin start (with_admitted n w)
-  traits_admitted start within x j trait h = within x j trait (ap (λ o. has_in o j) (sym (same_records x)) ∙ h)
+  traits_admitted start within = (within.0, λ x j trait h. within.1 x j trait (ap (λ o. has_in o j) (sym (same_records x)) ∙ h))
 
   pub lawful_admitted : IsTrue (may_admit (entities w) n) → IsLawful w → IsLawful (with_admitted n w)
   lawful_admitted room l =
@@ -270,7 +270,7 @@ module _ (start : WorldState) where
   all_in_turn ((s ∷ b) ∷ bs) rest systems (d ∷ ds) outcomes new l laws cuts h =
       let each = all_apart_append (AllByRecursion IsLawfulSystem) ((s ∷ b) ∷ bs) rest
       (all_joined IsLawfulSystem ((s ∷ b) ∷ (bs ++ rest)) (subst (AllByRecursion IsLawfulSystem) cuts.0 laws)) in
-      let one = one_batch [] (s ∷ b) start d h.0 h.2 l (each.0).0 cuts.1 (λ none x j trait k. k) h.3 in
+      let one = one_batch [] (s ∷ b) start d h.0 h.2 l (each.0).0 cuts.1 (λ none. (refl, λ x j trait k. k)) h.3 in
       (h.0, h.1, h.2, one.solo, in_turn bs rest (s ∷ b) (s ∷ b) h.2 ds h.1 new one.lawful (each.0).1 cuts.2 one.within h.4, h.5)
 
 -- what holds of all systems holds of them in their order

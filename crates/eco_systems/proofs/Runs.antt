@@ -1,7 +1,8 @@
 -- What the commands of a system leave as it was.
-use Rattle.std.proofs.Common.{◌≡◌, Bool, List, [], ◌∷◌, ◌++◌, refl, sym, ap, subst, IsTrue, ◌⊎◌, inl, inr, Result}
+use Rattle.std.proofs.Common.{◌≡◌, Bool, List, [], ◌∷◌, ◌++◌, refl, sym, ap, ◌∙◌, subst, IsTrue, ◌⊎◌, inl, inr, Result}
 use Rattle.std.specs.List.{AllByRecursion}
 use Rattle.eco_ids.specs.declared.entity.Entity.{Entity}
+use Rattle.eco_ids.specs.declared.id.Id.{Id}
 use Rattle.eco_ids.specs.declared.pattern.Pattern.{Pattern}
 use Rattle.eco_ids.specs.declared.refusal.Refusal.{Refusal}
 use Rattle.eco_ids.specs.Outcome.{Meets}
@@ -13,10 +14,10 @@ use Rattle.eco_systems.specs.Recording.{RowsRecord, PiecesRecord, Records, piece
 use Rattle.eco_systems.specs.Rows.{ValuedRow, rows_of}
 use Rattle.eco_systems.specs.Systems.{SystemModel, IsLawfulSystem, IsDeclared, system_reads, matches_one}
 use Rattle.eco_systems.specs.Writes.{IsTraitWriter}
-use Rattle.eco_systems.proofs.Covered.{TraitsWithin, no_traits, gained_no_trait, read_untouched}
+use Rattle.eco_systems.proofs.Covered.{IsTraitId, TraitsWithin, no_traits, gained_no_trait, read_untouched}
 use Rattle.eco_systems.proofs.Lists.{all_append}
 use Rattle.eco_systems.proofs.Same.{LooksSame, looks_itself, looks_then}
-use Rattle.eco_systems.proofs.Steps.{IsMild, Gained, meets_effect, meets_gains}
+use Rattle.eco_systems.proofs.Steps.{IsMild, Gained, meets_edition, meets_effect, meets_gains}
 
 -- a run of two lists is a run after a run
 pub record Split (cs ds : List Command) (w new : WorldState) (rs : Outcomes) : Type 0 where
@@ -81,11 +82,11 @@ mild writes kills n (RemoveAll i) d = tt
 module _ (start : WorldState) (s : SystemModel) (plain : IsTraitWriter start s → ⊥) where
   command_traits : (c : Command) (w : WorldState) (r : Result (Unit {0}) Refusal) (new : WorldState) → IsDeclared s.writes s.kills c → TraitsWithin start w →
       Meets (Applies c w) (may_want c w) w r new → TraitsWithin start new
-  command_traits c w r new d within h x j trait has_it = go (meets_gains c w r new h x j has_it)
+  command_traits c w r new d within h = (meets_edition c w r new h ∙ within.0, λ x j trait has_it. go x j trait (meets_gains c w r new h x j has_it))
     where
-      go : IsTrue (has w x j) ⊎ Gained w c j → IsTrue (has start x j)
-      go (inl a) = within x j trait a
-      go (inr g) = absurd (gained_no_trait start s.writes (no_traits start s plain) w within c s.kills d j trait g)
+      go : (x : Entity) (j : Id) → IsTraitId start.edition j → IsTrue (has w x j) ⊎ Gained w c j → IsTrue (has start x j)
+      go x j trait (inl a) = within.1 x j trait a
+      go x j trait (inr g) = absurd (gained_no_trait start s.writes (no_traits start s plain) w within c s.kills d j trait g)
 
   pub runs_traits : (cs : List Command) (w : WorldState) (rs : Outcomes) (new : WorldState) → AllByRecursion (IsDeclared s.writes s.kills) cs →
       TraitsWithin start w → Runs w cs rs new → TraitsWithin start new

@@ -6,7 +6,7 @@ use Rattle.eco_ids.specs.declared.entity.Entity.{Entity}
 use Rattle.eco_ids.specs.declared.id.Id.{Id}
 use Rattle.eco_ids.specs.declared.refusal.Refusal.{Refusal}
 use Rattle.eco_ids.specs.declared.refusal.Refusal.TheVariants.{NotAlive, DeadId, Reserved, NotAPolicy, InUse, Cycle, NotData, TooWide, NameTaken}
-use Rattle.eco_ids.specs.declared.refusal.Refusal.TheVariants.{BadName, Taken, OutOfMemory}
+use Rattle.eco_ids.specs.declared.refusal.Refusal.TheVariants.{BadName, Taken, OutOfMemory, TraitClash}
 use Rattle.eco_ids.specs.Births.{bare}
 use Rattle.eco_ids.specs.declared.value.Value.{Value}
 use Rattle.eco_ids.specs.Builtin.{is_builtin, is_builtins}
@@ -14,6 +14,8 @@ use Rattle.eco_ids.specs.Data.{arity, fits}
 use Rattle.eco_ids.specs.Indices.{Indexed, is_free_at, with_record}
 use Rattle.eco_ids.specs.Indices as indexed
 use Rattle.eco_ids.specs.Losses.{nobody, without}
+use Rattle.eco_ids.specs.Mirrors.{goes_too, has_clash}
+use Rattle.std.specs.Option.{option_or}
 use Rattle.eco_ids.specs.Names.{is_proper, is_same_name, is_taken}
 use Rattle.eco_ids.specs.Cleanup.{Deletes}
 use Rattle.eco_ids.specs.Edition.{late_traits}
@@ -22,7 +24,7 @@ use Rattle.eco_ids.specs.Order.{entity_eq, id_eq}
 use Rattle.eco_ids.specs.Outcome.{Answers, Refuses, Meets, first_refusal, is_out_of_memory}
 use Rattle.eco_ids.specs.Run.{Command, Create, Add, Remove, Set, Clear, Rename, Delete, DeleteWith, RemoveAll, Applies, may_want, Runs}
 use Rattle.eco_ids.specs.Step.{Extends, Judges, is_late, is_wrong_policy, unfit_actor, IsFirstCycle, unfit, unfit_set, unfit_rename, changed, grown, unchanged}
-use Rattle.eco_ids.specs.Step.{own_name, with_name, with_value}
+use Rattle.eco_ids.specs.Step.{own_name, with_name, with_value, is_reserved}
 use Rattle.eco_ids.specs.World.{WorldState, Record, entities, has, is_alive, names_living}
 use Rattle.eco_ids.proofs.Endings.{End}
 use Rattle.eco_ids.proofs.Ends.{adds_settled, clears_settled, deletes_one_settled, deletes_with_settled, makes_alive_settled, removes_all_settled}
@@ -66,23 +68,28 @@ first_other (c ∷ cs) h = elim c.0 as (λ b. AreOther (cond b (Some c.1) (first
 
 -- ---- each command
 
-cycle_other : (o : Option Entity) → AreOther (option_map Cycle o)
-cycle_other None = tt
-cycle_other (Some r) = refl
+abbrev verdict_of : Bool → Option Entity → Option Refusal
+verdict_of clash o = cond clash (option_or (option_map Cycle o) (Some TraitClash)) (option_map Cycle o)
 
-judged_other : (w : WorldState) (e : Entity) (s : List Id) (v : Option Refusal) → Judges w e s v → AreOther v
-judged_other w e s v = by (list_any is_wrong_policy s) (list_any (is_late w e s) (late_traits w.edition))
+verdict_other : (clash : Bool) (o : Option Entity) → AreOther (verdict_of clash o)
+verdict_other true None = refl
+verdict_other true (Some r) = refl
+verdict_other false None = tt
+verdict_other false (Some r) = refl
+
+judged_other : (w : WorldState) (e : Entity) (s : List Id) (after : WorldState) (v : Option Refusal) → Judges w e s after v → AreOther v
+judged_other w e s after v = by (list_any is_wrong_policy s) (list_any (is_late w e s) (late_traits w.edition))
   where
     by : (b c : Bool) →
-        MatchBool b (v ≡ Some NotAPolicy) (MatchBool c (v ≡ Some InUse) ((o : Option Entity) × IsFirstCycle w e s o × (v ≡ option_map Cycle o))) → AreOther v
+        MatchBool b (v ≡ Some NotAPolicy) (MatchBool c (v ≡ Some InUse) ((o : Option Entity) × IsFirstCycle w e s o × (v ≡ verdict_of (has_clash after) o))) → AreOther v
     by true c h = subst AreOther (sym h) refl
     by false true h = subst AreOther (sym h) refl
-    by false false h = subst AreOther (sym h.2) (cycle_other h.0)
+    by false false h = subst AreOther (sym h.2) (verdict_other (has_clash after) h.0)
 
 extends_never : (w : WorldState) (e : Entity) (i : Id) (besides : Record → Record) → Never (Extends w e i besides)
 extends_never w e i besides new x =
-    let after : WorldState = changed (grown w e x.0) e besides in
-    never_unless w x.2 (Answers tt after) (judged_other w e x.0 x.2 x.3) (never_answers after) new x.4
+    let after : WorldState = changed (grown w e i x.0) e besides in
+    never_unless w x.2 (Answers tt after) (judged_other w e x.0 (grown w e i x.0) x.2 x.3) (never_answers after) new x.4
 
 deletes_never : (w : WorldState) (IsRoot : Entity → Type 0) → Never (Deletes w IsRoot)
 deletes_never w IsRoot new d = true≢false (ap (λ why. is_out_of_memory {A = Unit {0}} (Err why)) d.2.3)
@@ -91,12 +98,12 @@ actor_other : (w : WorldState) (e : Entity) → AreOther (unfit_actor w e)
 actor_other w e = first_other ((not (is_alive w e), NotAlive) ∷ (is_builtin w e, Reserved) ∷ []) (refl, (refl, tt))
 
 add_other : (w : WorldState) (e : Entity) (i : Id) → AreOther (unfit w e i)
-add_other w e i = first_other ((not (is_alive w e), NotAlive) ∷ (is_builtin w e, Reserved) ∷ (not (names_living w i), DeadId) ∷ []) (refl, (refl, (refl, tt)))
+add_other w e i = first_other ((not (is_alive w e), NotAlive) ∷ (is_reserved w e i, Reserved) ∷ (not (names_living w i), DeadId) ∷ []) (refl, (refl, (refl, tt)))
 
 set_other : (w : WorldState) (e : Entity) (i : Id) (v : Value) → AreOther (unfit_set w e i v)
 set_other w e i v =
     first_other
-    ((not (is_alive w e), NotAlive) ∷ (is_builtin w e, Reserved) ∷ (not (names_living w i), DeadId)
+    ((not (is_alive w e), NotAlive) ∷ (is_reserved w e i, Reserved) ∷ (not (names_living w i), DeadId)
     ∷ (not (is_some (arity w i)), NotData) ∷ (not (fits w i v), TooWide) ∷ []) (refl, (refl, (refl, (refl, (refl, tt)))))
 
 rename_other : (w : WorldState) (e : Entity) (name : Option (List ℕ)) → AreOther (unfit_rename w e name)
@@ -114,14 +121,14 @@ applies_never (Add e i) w new h =
     never_unless w (unfit w e i) (λ r new. MatchBool (has w e i) (Answers tt w r new) (Extends w e i unchanged r new)) (add_other w e i)
     (never_either (has w e i) (Answers tt w) (Extends w e i unchanged) (never_answers w) (extends_never w e i unchanged)) new h
 applies_never (Remove e i) w new h =
-    let after : WorldState = without w nobody (λ x j. entity_eq x e && id_eq j i) in
+    let after : WorldState = without w nobody (goes_too w (λ x j. entity_eq x e && id_eq j i)) in
     never_unless w (unfit_actor w e) (Answers tt after) (actor_other w e) (never_answers after) new h
 applies_never (Set e i v) w new h =
     let after : WorldState = changed w e (with_value i v) in
     never_unless w (unfit_set w e i v) (λ r new. MatchBool (has w e i) (Answers tt after r new) (Extends w e i (with_value i v) r new)) (set_other w e i v)
     (never_either (has w e i) (Answers tt after) (Extends w e i (with_value i v)) (never_answers after) (extends_never w e i (with_value i v))) new h
 applies_never (Clear e) w new h =
-    let after : WorldState = without w nobody (λ x j. entity_eq x e) in
+    let after : WorldState = without w nobody (goes_too w (λ x j. entity_eq x e)) in
     never_unless w (unfit_actor w e) (Answers tt after) (actor_other w e) (never_answers after) new h
 applies_never (Rename e name) w new h =
     let after : Indexed Record = indexed.changed (entities w) e (with_name name) in
@@ -131,7 +138,7 @@ applies_never (DeleteWith i) w new h =
     never_either (is_builtins w i) (Refuses Reserved w) (Deletes w (λ x. IsTrue (has w x i))) (never_refuses Reserved w refl)
     (deletes_never w (λ x. IsTrue (has w x i))) new h
 applies_never (RemoveAll i) w new h =
-    let after : WorldState = without w nobody (λ x j. id_eq j i) in
+    let after : WorldState = without w nobody (goes_too w (λ x j. id_eq j i)) in
     never_either (is_builtins w i) (Refuses Reserved w) (Answers tt after) (never_refuses Reserved w refl) (never_answers after) new h
 
 applies_end : (c : Command) (w : WorldState) → IsLawful w → End (Applies c w)

@@ -1,5 +1,5 @@
 -- What each command leaves as it was, and what it may give.
-use Rattle.std.proofs.Common.{◌≡◌, ℕ, Bool, true, false, cond, not, ◌&&◌, List, [], refl, sym, ap, ◌∙◌, subst, true≢false, IsTrue, ◌⊎◌, inl, inr}
+use Rattle.std.proofs.Common.{◌≡◌, ℕ, Bool, true, false, cond, not, ◌&&◌, ◌||◌, List, [], refl, sym, ap, ◌∙◌, subst, true≢false, IsTrue, ◌⊎◌, inl, inr}
 use Rattle.std.proofs.Common.{Option, Some, None, is_some, option_map, unwrap_or, slice_get, MatchOption, MatchBool, Result, Ok, Err, eqb-true}
 use Rattle.std.specs.List.{list_any}
 use Rattle.std.specs.Option.{option_or, option_and_then}
@@ -20,19 +20,21 @@ use Rattle.eco_ids.specs.Indices.{Indexed, IndexState, Retired, Free, Living, re
 use Rattle.eco_ids.specs.Indices as indexed
 use Rattle.eco_ids.specs.Least.{root}
 use Rattle.eco_ids.specs.Losses.{keeping, nobody, without}
+use Rattle.eco_ids.specs.Mirrors.{mirror_of, at_mirror, goes_too}
 use Rattle.eco_ids.specs.Order.{id_cmp, entity_cmp, entity_eq, id_eq, has_item}
 use Rattle.eco_ids.specs.Outcome.{Answers, Refuses, Meets, is_out_of_memory}
 use Rattle.eco_ids.specs.Run.{Command, Create, Add, Remove, Set, Clear, Rename, Delete, DeleteWith, RemoveAll, Applies, may_want}
 use Rattle.eco_ids.specs.Step.{changed, with_name, with_value, with_closure, grown, unchanged, unfit, unfit_set, unfit_actor, unfit_rename, Extends}
-use Rattle.eco_ids.specs.Step.{Adds, Sets, Removes, Clears, Renames, RemovesAll, IsClosure, is_replaced, is_pair_of}
+use Rattle.eco_ids.specs.Step.{with_id, with_mirror, Adds, Sets, Removes, Clears, Renames, RemovesAll, IsClosure, is_replaced, is_pair_of}
 use Rattle.eco_ids.specs.Traits.{InClosure}
-use Rattle.eco_ids.specs.World.{WorldState, Record, has, held_by, is_exclusive, zeros, entities, with_entities, with_record, record_of}
-use Rattle.eco_ids.proofs.Closures.{find_kept}
-use Rattle.eco_ids.proofs.Exact.{closure_find}
+use Rattle.eco_ids.specs.World.{WorldState, Record, has, held_by, is_exclusive, is_symmetric, zeros, entities, with_entities, with_record, record_of}
+use Rattle.eco_ids.proofs.Closures.{find_kept, zero_entry}
+use Rattle.eco_ids.proofs.Exact.{closure_find, zero_find}
 use Rattle.eco_ids.proofs.Facts.{id_eq_is, id_eq_itself, same_or_apart, any_is}
 use Rattle.eco_ids.proofs.IdOrder.{id_cmp_total}
-use Rattle.eco_ids.proofs.Keeps.{has_in}
+use Rattle.eco_ids.proofs.Keeps.{has_in, some_of}
 use Rattle.eco_ids.proofs.Losses.{record_left}
+use Rattle.eco_ids.proofs.Mirrors.{mirror_parts}
 use Rattle.eco_ids.proofs.Overlaps.{entity_eq_is}
 use Rattle.eco_ids.proofs.Records.{IsWrite, write_known, open_living}
 
@@ -43,33 +45,47 @@ held_in o = unwrap_or (option_map (λ r. r.held) o) []
 abbrev arity_in : Option Record → Option ℕ
 arity_in o = option_and_then (λ r. r.arity) o
 
--- ---- what an add may touch: its closure, and what an exclusive relationship of the closure replaces
+-- ---- what an add may touch: its closure, what an exclusive relationship of the closure replaces, and the mirror
 
 abbrev pub IsEvicted : WorldState → Id → Id → Type 0
 IsEvicted w i (One e) = ⊥
 IsEvicted w i (Two r t) = IsTrue (is_exclusive w r) × (u : Entity) × InClosure w i (Two r u)
 
+-- a pair of the same symmetric relationship
+abbrev pub IsTwin : WorldState → Id → Id → Type 0
+IsTwin w (One c) j = ⊥
+IsTwin w (Two r t) (One x) = ⊥
+IsTwin w (Two r t) (Two q u) = IsTrue (is_symmetric w r) × (q ≡ r)
+
 abbrev pub Touches : WorldState → Id → Id → Type 0
-Touches w i j = InClosure w i j ⊎ IsEvicted w i j
+Touches w i j = InClosure w i j ⊎ (IsEvicted w i j ⊎ IsTwin w i j)
+
+-- what an add may give
+abbrev pub Given : WorldState → Id → Id → Type 0
+Given w i j = InClosure w i j ⊎ IsTwin w i j
+
+-- what goes with an id
+abbrev pub Goes : WorldState → Id → Id → Type 0
+Goes w i j = (j ≡ i) ⊎ IsTwin w i j
 
 -- what a command may change
 abbrev pub Touched : WorldState → Command → Id → Type 0
 Touched w (Create e) j = ⊥
 Touched w (Add e i) j = Touches w i j
-Touched w (Remove e i) j = j ≡ i
+Touched w (Remove e i) j = Goes w i j
 Touched w (Set e i v) j = Touches w i j
 Touched w (Clear e) j = Unit {0}
 Touched w (Rename e name) j = ⊥
 Touched w (Delete e) j = Unit {0}
 Touched w (DeleteWith i) j = Unit {0}
-Touched w (RemoveAll i) j = j ≡ i
+Touched w (RemoveAll i) j = Goes w i j
 
 -- what a command may give
 abbrev pub Gained : WorldState → Command → Id → Type 0
 Gained w (Create e) j = ⊥
-Gained w (Add e i) j = InClosure w i j
+Gained w (Add e i) j = Given w i j
 Gained w (Remove e i) j = ⊥
-Gained w (Set e i v) j = InClosure w i j
+Gained w (Set e i v) j = Given w i j
 Gained w (Clear e) j = ⊥
 Gained w (Rename e name) j = ⊥
 Gained w (Delete e) j = ⊥
@@ -193,16 +209,35 @@ both_false : (a b : Bool) → b ≡ false → (a && b) ≡ false
 both_false true b h = h
 both_false false b h = refl
 
+-- a mirror is one of the same relationship
+twin_of : (w : WorldState) (x : Entity) (i j : Id) (m : Entity × Id) → mirror_of w x j ≡ Some m → m.1 ≡ i → IsTwin w i j
+twin_of w x i j m is same =
+    let p = mirror_parts w x j m is in
+    let pair : Two p.0 x ≡ i = sym (ap (λ (y : Entity × Id). y.1) p.4) ∙ same in
+    subst (λ y. IsTwin w y j) pair (subst (λ y. IsTwin w (Two p.0 x) y) (sym p.2) (p.3, refl))
+
+-- what isn't touched stays, and so does what has its mirror elsewhere
+stays_too : (w : WorldState) (i : Id) (goes : Entity → Id → Bool) → ((x : Entity) (j : Id) → (j ≡ i → ⊥) → goes x j ≡ false) →
+    (x : Entity) (j : Id) → (Goes w i j → ⊥) → goes_too w goes x j ≡ false
+stays_too w i goes stays x j n = by (mirror_of w x j) refl
+  where
+    by : (o : Option (Entity × Id)) → mirror_of w x j ≡ o → goes_too w goes x j ≡ false
+    by None is = ap (λ o. at_mirror goes o || goes x j) is ∙ stays x j (λ k. n (inl k))
+    by (Some m) is =
+        ap (λ o. at_mirror goes o || goes x j) is
+        ∙ ap (λ b. b || goes x j) (stays m.0 m.1 (λ k. n (inr (twin_of w x i j m is k)))) ∙ stays x j (λ k. n (inl k))
+
 removes_effect : (w : WorldState) (e : Entity) (i : Id) (r : Result (Unit {0}) Refusal) (new : WorldState) → Removes w e i r new →
-    Effect w new (λ j. j ≡ i) (λ j. ⊥)
+    Effect w new (Goes w i) (λ j. ⊥)
 removes_effect w e i r new h =
-    effect_unless w (λ j. j ≡ i) (λ j. ⊥) r (without w nobody (λ x j. entity_eq x e && id_eq j i)) new
-    (loses_effect w (λ x j. entity_eq x e && id_eq j i) (λ j. j ≡ i) (λ x j n. both_false (entity_eq x e) (id_eq j i) (not_same i j n))) (unfit_actor w e) h
+    effect_unless w (Goes w i) (λ j. ⊥) r (without w nobody (goes_too w (λ x j. entity_eq x e && id_eq j i))) new
+    (loses_effect w (goes_too w (λ x j. entity_eq x e && id_eq j i)) (Goes w i)
+    (stays_too w i (λ x j. entity_eq x e && id_eq j i) (λ x j n. both_false (entity_eq x e) (id_eq j i) (not_same i j n)))) (unfit_actor w e) h
 
 clears_effect : (w : WorldState) (e : Entity) (r : Result (Unit {0}) Refusal) (new : WorldState) → Clears w e r new → Effect w new (λ j. Unit {0}) (λ j. ⊥)
 clears_effect w e r new h =
-    effect_unless w (λ j. Unit {0}) (λ j. ⊥) r (without w nobody (λ x j. entity_eq x e)) new
-    (loses_effect w (λ x j. entity_eq x e) (λ j. Unit {0}) (λ x j n. absurd (n tt))) (unfit_actor w e) h
+    effect_unless w (λ j. Unit {0}) (λ j. ⊥) r (without w nobody (goes_too w (λ x j. entity_eq x e))) new
+    (loses_effect w (goes_too w (λ x j. entity_eq x e)) (λ j. Unit {0}) (λ x j n. absurd (n tt))) (unfit_actor w e) h
 
 renames_effect : (w : WorldState) (e : Entity) (name : Option (List ℕ)) (r : Result (Unit {0}) Refusal) (new : WorldState) → Renames w e name r new →
     Effect w new (λ j. ⊥) (λ j. ⊥)
@@ -211,12 +246,13 @@ renames_effect w e name r new h =
     (entities_unless w (λ j. ⊥) (λ j. ⊥) r (indexed.changed (entities w) e (with_name name)) h.0
     (effect_changed w e (with_name name) (λ j. ⊥) (λ j. ⊥) (λ d. refl) (λ d j n. refl) (λ d j k. inl k)) (unfit_rename w e name) h.1)
 
-removes_all_effect : (w : WorldState) (i : Id) (r : Result (Unit {0}) Refusal) (new : WorldState) → RemovesAll w i r new → Effect w new (λ j. j ≡ i) (λ j. ⊥)
+removes_all_effect : (w : WorldState) (i : Id) (r : Result (Unit {0}) Refusal) (new : WorldState) → RemovesAll w i r new → Effect w new (Goes w i) (λ j. ⊥)
 removes_all_effect w i r new =
-    elim (is_builtins w i) as (λ b. MatchBool b (Refuses Reserved w r new) (Answers tt (without w nobody (λ x j. id_eq j i)) r new) →
-    Effect w new (λ j. j ≡ i) (λ j. ⊥)) [
-      | true ↦ λ a. subst (λ v. Effect w v (λ j. j ≡ i) (λ j. ⊥)) (sym a.1) (effect_itself w (λ j. j ≡ i) (λ j. ⊥))
-      | false ↦ λ a. subst (λ v. Effect w v (λ j. j ≡ i) (λ j. ⊥)) (sym a.1) (loses_effect w (λ x j. id_eq j i) (λ j. j ≡ i) (λ x j n. not_same i j n))
+    elim (is_builtins w i) as (λ b. MatchBool b (Refuses Reserved w r new) (Answers tt (without w nobody (goes_too w (λ x j. id_eq j i))) r new) →
+    Effect w new (Goes w i) (λ j. ⊥)) [
+      | true ↦ λ a. subst (λ v. Effect w v (Goes w i) (λ j. ⊥)) (sym a.1) (effect_itself w (Goes w i) (λ j. ⊥))
+      | false ↦ λ a. subst (λ v. Effect w v (Goes w i) (λ j. ⊥)) (sym a.1)
+          (loses_effect w (goes_too w (λ x j. id_eq j i)) (Goes w i) (stays_too w i (λ x j. id_eq j i) (λ x j n. not_same i j n)))
     ]
 
 -- ---- a handle comes to live
@@ -277,7 +313,7 @@ module _ (w : WorldState) (i : Id) (s : List Id) (closure : IsClosure w i s) whe
       )
 
   not_replaced : (j : Id) → (Touches w i j → ⊥) → is_replaced w s j ≡ false
-  not_replaced j n = elim (is_replaced w s j) as (λ b. is_replaced w s j ≡ b → b ≡ false) [ true ↦ λ e. absurd (n (inr (evicted j e))) | false ↦ λ e. refl ]
+  not_replaced j n = elim (is_replaced w s j) as (λ b. is_replaced w s j ≡ b → b ≡ false) [ true ↦ λ e. absurd (n (inr (inl (evicted j e)))) | false ↦ λ e. refl ]
       refl
 
   or_none : (o : Option Value) → option_or o None ≡ o
@@ -308,26 +344,60 @@ module _ (w : WorldState) (i : Id) (s : List Id) (closure : IsClosure w i s) whe
 pub record IsBesides (w : WorldState) (i : Id) (besides : Record → Record) : Type 0 where
   pub arity : (d : Record) → (besides d).arity ≡ d.arity
   pub held : (d : Record) (j : Id) → (Touches w i j → ⊥) → find id_cmp j (besides d).held ≡ find id_cmp j d.held
-  pub gains : (d : Record) (j : Id) → IsTrue (is_some (find id_cmp j (besides d).held)) → IsTrue (is_some (find id_cmp j d.held)) ⊎ InClosure w i j
+  pub gains : (d : Record) (j : Id) → IsTrue (is_some (find id_cmp j (besides d).held)) → IsTrue (is_some (find id_cmp j d.held)) ⊎ Given w i j
+
+-- the mirror comes
+mirror_effect : (w half : WorldState) (e : Entity) (i : Id) (o : Option (Entity × Id)) → mirror_of w e i ≡ o →
+    Effect half (with_mirror half o) (Touches w i) (Given w i)
+mirror_effect w half e i None is = effect_itself half (Touches w i) (Given w i)
+mirror_effect w half e i (Some m) is =
+    effect_changed half m.0 (with_id m.1) (Touches w i) (Given w i) (λ d. refl)
+    (λ d j n. zero_find d.held m.1 j ∙ ap (λ b. option_or (find id_cmp j d.held) (cond b (Some zeros) None)) (not_it j n) ∙ plain (find id_cmp j d.held))
+    (λ d j h. came d j (some_of (find id_cmp j (with_id m.1 d).held) h))
+  where
+    twin : (j : Id) → m.1 ≡ j → IsTwin w i j
+    twin j same =
+        let p = mirror_parts w e i m is in
+        let pair : Two p.0 e ≡ j = sym (ap (λ (y : Entity × Id). y.1) p.4) ∙ same in
+        subst (λ y. IsTwin w y j) (sym p.2) (subst (λ y. IsTwin w (Two p.0 p.1) y) pair (p.3, refl))
+
+    not_it : (j : Id) → (Touches w i j → ⊥) → id_eq m.1 j ≡ false
+    not_it j n = elim (id_eq m.1 j) as (λ b. id_eq m.1 j ≡ b → b ≡ false)
+        [ true ↦ λ k. absurd (n (inr (inr (twin j (id_eq_is m.1 j k))))) | false ↦ λ k. refl ] refl
+
+    plain : (o : Option Value) → option_or o None ≡ o
+    plain None = refl
+    plain (Some v) = refl
+
+    came : (d : Record) (j : Id) → (v : Value) × (find id_cmp j (with_id m.1 d).held ≡ Some v) → IsTrue (is_some (find id_cmp j d.held)) ⊎ Given w i j
+    came d j v = elim (zero_entry d.held m.1 j v.0 v.1) as (λ _. IsTrue (is_some (find id_cmp j d.held)) ⊎ Given w i j) [
+      | inl h ↦ inl (ap is_some h)
+      | inr p ↦ inr (inr (twin j p.0))
+    ]
+
+closed_or : (w : WorldState) (i j : Id) {A : Type 0} → A ⊎ InClosure w i j → A ⊎ Given w i j
+closed_or w i j (inl a) = inl a
+closed_or w i j (inr c) = inr (inl c)
 
 extends_effect : (w : WorldState) (e : Entity) (i : Id) (besides : Record → Record) (r : Result (Unit {0}) Refusal) (new : WorldState) → IsBesides w i besides →
-    Extends w e i besides r new → Effect w new (Touches w i) (InClosure w i)
+    Extends w e i besides r new → Effect w new (Touches w i) (Given w i)
 extends_effect w e i besides r new more x =
-    effect_unless w (Touches w i) (InClosure w i) r (changed (grown w e x.0) e besides) new
+    effect_unless w (Touches w i) (Given w i) r (changed (grown w e i x.0) e besides) new
     (effect_then
-    (effect_changed w e (with_closure w x.0) (Touches w i) (InClosure w i) (λ d. refl) (λ d j n. closure_held w i x.0 x.1 d j n)
-    (λ d j h. closure_gains w i x.0 x.1 d j h))
-    (effect_changed (grown w e x.0) e besides (Touches w i) (InClosure w i) more.arity more.held more.gains))
+    (effect_changed w e (with_closure w x.0) (Touches w i) (Given w i) (λ d. refl) (λ d j n. closure_held w i x.0 x.1 d j n)
+    (λ d j h. closed_or w i j (closure_gains w i x.0 x.1 d j h)))
+    (effect_then (mirror_effect w (changed w e (with_closure w x.0)) e i (mirror_of w e i) refl)
+    (effect_changed (grown w e i x.0) e besides (Touches w i) (Given w i) more.arity more.held more.gains)))
     x.2 x.4
 
 adds_effect : (w : WorldState) (e : Entity) (i : Id) (r : Result (Unit {0}) Refusal) (new : WorldState) → Adds w e i r new →
-    Effect w new (Touches w i) (InClosure w i)
+    Effect w new (Touches w i) (Given w i)
 adds_effect w e i r new =
     elim (unfit w e i) as (λ o. MatchOption o (MatchBool (has w e i) (Answers tt w r new) (Extends w e i unchanged r new)) (λ why. Refuses why w r new) →
-    Effect w new (Touches w i) (InClosure w i)) [
-      | Some why ↦ λ a. subst (λ v. Effect w v (Touches w i) (InClosure w i)) (sym a.1) (effect_itself w (Touches w i) (InClosure w i))
-      | None ↦ elim (has w e i) as (λ b. MatchBool b (Answers tt w r new) (Extends w e i unchanged r new) → Effect w new (Touches w i) (InClosure w i)) [
-        | true ↦ λ a. subst (λ v. Effect w v (Touches w i) (InClosure w i)) (sym a.1) (effect_itself w (Touches w i) (InClosure w i))
+    Effect w new (Touches w i) (Given w i)) [
+      | Some why ↦ λ a. subst (λ v. Effect w v (Touches w i) (Given w i)) (sym a.1) (effect_itself w (Touches w i) (Given w i))
+      | None ↦ elim (has w e i) as (λ b. MatchBool b (Answers tt w r new) (Extends w e i unchanged r new) → Effect w new (Touches w i) (Given w i)) [
+        | true ↦ λ a. subst (λ v. Effect w v (Touches w i) (Given w i)) (sym a.1) (effect_itself w (Touches w i) (Given w i))
         | false ↦ extends_effect w e i unchanged r new (record { arity = λ d. refl; held = λ d j n. refl; gains = λ d j h. inl h })
       ]
     ]
@@ -340,21 +410,21 @@ value_besides w i v = record {
 }
   where
     there : (d : Record) (j : Id) (b : Bool) → id_eq j i ≡ b → IsTrue (is_some (cond b (Some v) (find id_cmp j d.held))) →
-        IsTrue (is_some (find id_cmp j d.held)) ⊎ InClosure w i j
-    there d j true e h = inr (root (id_eq_is j i e))
+        IsTrue (is_some (find id_cmp j d.held)) ⊎ Given w i j
+    there d j true e h = inr (inl (root (id_eq_is j i e)))
     there d j false e h = inl h
 
 sets_effect : (w : WorldState) (e : Entity) (i : Id) (v : Value) (r : Result (Unit {0}) Refusal) (new : WorldState) → Sets w e i v r new →
-    Effect w new (Touches w i) (InClosure w i)
+    Effect w new (Touches w i) (Given w i)
 sets_effect w e i v r new =
     elim (unfit_set w e i v) as (λ o. MatchOption o
     (MatchBool (has w e i) (Answers tt (changed w e (with_value i v)) r new) (Extends w e i (with_value i v) r new)) (λ why. Refuses why w r new) →
-    Effect w new (Touches w i) (InClosure w i)) [
-      | Some why ↦ λ a. subst (λ u. Effect w u (Touches w i) (InClosure w i)) (sym a.1) (effect_itself w (Touches w i) (InClosure w i))
+    Effect w new (Touches w i) (Given w i)) [
+      | Some why ↦ λ a. subst (λ u. Effect w u (Touches w i) (Given w i)) (sym a.1) (effect_itself w (Touches w i) (Given w i))
       | None ↦ elim (has w e i) as (λ b. MatchBool b (Answers tt (changed w e (with_value i v)) r new) (Extends w e i (with_value i v) r new) →
-          Effect w new (Touches w i) (InClosure w i)) [
-            | true ↦ λ a. subst (λ u. Effect w u (Touches w i) (InClosure w i)) (sym a.1)
-                (effect_changed w e (with_value i v) (Touches w i) (InClosure w i) (value_besides w i v).arity (value_besides w i v).held
+          Effect w new (Touches w i) (Given w i)) [
+            | true ↦ λ a. subst (λ u. Effect w u (Touches w i) (Given w i)) (sym a.1)
+                (effect_changed w e (with_value i v) (Touches w i) (Given w i) (value_besides w i v).arity (value_besides w i v).held
                 (value_besides w i v).gains)
             | false ↦ extends_effect w e i (with_value i v) r new (value_besides w i v)
           ]
@@ -446,4 +516,38 @@ meets_gains c w r new =
     IsTrue (has w x j) ⊎ Gained w c j) [
       | true ↦ λ h x j k. inl (ap (λ v. has v x j) (sym h.1) ∙ k)
       | false ↦ applies_gains c w r new
+    ]
+
+-- no command changes the edition
+ends_edition : (w : WorldState) (members : List Entity) (r : Result (Unit {0}) Refusal) (new : WorldState) → Ends w members r new → new.edition ≡ w.edition
+ends_edition w members (Ok done) new h = ap (λ (v : WorldState). v.edition) h.0
+ends_edition w members (Err why) new h = ap (λ (v : WorldState). v.edition) h.0
+
+deletes_edition : (w : WorldState) (o : Option Refusal) (IsRoot : Entity → Type 0) (r : Result (Unit {0}) Refusal) (new : WorldState) →
+    MatchOption o (Deletes w IsRoot r new) (λ why. Refuses why w r new) → new.edition ≡ w.edition
+deletes_edition w None IsRoot r new h = ends_edition w h.0 r new h.2
+deletes_edition w (Some why) IsRoot r new h = ap (λ (v : WorldState). v.edition) h.1
+
+with_edition : (w : WorldState) (b : Bool) (IsRoot : Entity → Type 0) (r : Result (Unit {0}) Refusal) (new : WorldState) →
+    MatchBool b (Refuses Reserved w r new) (Deletes w IsRoot r new) → new.edition ≡ w.edition
+with_edition w true IsRoot r new h = ap (λ (v : WorldState). v.edition) h.1
+with_edition w false IsRoot r new h = ends_edition w h.0 r new h.2
+
+applies_edition : (c : Command) (w : WorldState) (r : Result (Unit {0}) Refusal) (new : WorldState) → Applies c w r new → new.edition ≡ w.edition
+applies_edition (Create e) w r new h = (makes_alive_effect w e r new h).edition
+applies_edition (Add e i) w r new h = (adds_effect w e i r new h).edition
+applies_edition (Remove e i) w r new h = (removes_effect w e i r new h).edition
+applies_edition (Set e i v) w r new h = (sets_effect w e i v r new h).edition
+applies_edition (Clear e) w r new h = (clears_effect w e r new h).edition
+applies_edition (Rename e name) w r new h = (renames_effect w e name r new h).edition
+applies_edition (Delete e) w r new h = deletes_edition w (unfit_actor w e) (λ x. x ≡ e) r new h
+applies_edition (DeleteWith i) w r new h = with_edition w (is_builtins w i) (λ x. IsTrue (has w x i)) r new h
+applies_edition (RemoveAll i) w r new h = (removes_all_effect w i r new h).edition
+
+pub meets_edition : (c : Command) (w : WorldState) (r : Result (Unit {0}) Refusal) (new : WorldState) → Meets (Applies c w) (may_want c w) w r new →
+    new.edition ≡ w.edition
+meets_edition c w r new =
+    elim (is_out_of_memory r) as (λ b. MatchBool b (IsTrue (may_want c w) × (new ≡ w)) (Applies c w r new) → new.edition ≡ w.edition) [
+      | true ↦ λ h. ap (λ (v : WorldState). v.edition) h.1
+      | false ↦ applies_edition c w r new
     ]

@@ -12,7 +12,7 @@ use Rattle.eco_ids.specs.Builtin.{is_among_first}
 use Rattle.eco_ids.specs.Edition.{builtin_count}
 use Rattle.eco_ids.specs.Least.{Least}
 use Rattle.eco_ids.specs.Order.{entity_eq}
-use Rattle.eco_ids.specs.World.{WorldState, has, is_exclusive}
+use Rattle.eco_ids.specs.World.{WorldState, has, is_widened}
 use Rattle.eco_systems.specs.Systems.{SystemModel}
 
 -- by a pair of With, the pattern of a single brings that of a single, and a pattern of pairs of one relationship brings one of
@@ -36,12 +36,12 @@ SomeOf P (x ∷ xs) = P x ⊎ SomeOf P xs
 abbrev pub InClosedPatterns : WorldState → List Pattern → Pattern → Type 0
 InClosedPatterns w patterns = Least (λ p. SomeOf (λ q. q ≡ p) patterns) (BringsPattern w)
 
--- a pattern of pairs of an exclusive relationship, widened to all its pairs: an add takes the others away
+-- a pattern of pairs of an exclusive or symmetric relationship, widened to all its pairs: what is done to one may touch others
 abbrev pub widened : WorldState → Pattern → Pattern
 widened w (One e) = One e
 widened w (Two Each q) = Two Each q
 widened w (Two Any q) = Two Any q
-widened w (Two (Is r) q) = if is_exclusive w r then Two (Is r) Each else Two (Is r) q
+widened w (Two (Is r) q) = if is_widened w r then Two (Is r) Each else Two (Is r) q
 
 -- the write patterns closed, and then widened
 abbrev pub IsClosedWrite : WorldState → List Pattern → Pattern → Type 0

@@ -11,7 +11,7 @@ use Rattle.eco_ids.specs.declared.entity.Entity.{Entity}
 use Rattle.eco_ids.specs.declared.id.Id.{Id}
 use Rattle.eco_ids.specs.declared.refusal.Refusal.{Refusal}
 use Rattle.eco_ids.specs.Order.{id_cmp, id_eq, has_item, is_ascending, with_item, without_item}
-use Rattle.eco_ids.specs.Step.{IsClosure, Judges, is_replaced, with_closure}
+use Rattle.eco_ids.specs.Step.{IsClosure, Judges, grown, is_replaced, with_closure}
 use Rattle.eco_ids.specs.World.{WorldState, Record, has, names_living, record_of}
 use Rattle.std.proofs.lemmas.Bool.{and_right, or_left}
 use Rattle.eco_ids.proofs.Entries.{sorted_is}
@@ -96,7 +96,7 @@ fold_more f start now new xs k d l is goes_on = grind (arith, common_steps, fold
 
 -- ---- all of it
 
-some_record : (o : Option Record) (ids : List Id) → Some ids ≡ option_map type_of_record o → (d : Record) × (o ≡ Some d) × (ids ≡ type_of_record d)
+pub some_record : (o : Option Record) (ids : List Id) → Some ids ≡ option_map type_of_record o → (d : Record) × (o ≡ Some d) × (ids ≡ type_of_record d)
 some_record None ids e = absurd (true≢false (ap is_some e))
 some_record (Some d) ids e = (d, refl, ap (λ o. unwrap_or o ids) e)
 
@@ -111,6 +111,6 @@ pub lacked : (w : WorldState) (e : Entity) (i : Id) (r : Result (List Id) Refusa
 lacked w e i r lives absent extends = grind (arith, common_steps)
 
 pub leads_to : (w : WorldState) (e : Entity) (i : Id) (s own kept all : List Id) (verdict : Option Refusal) → names_living w i ≡ true → has w e i ≡ false
-    → IsClosure w i s → Judges w e s verdict → verdict ≡ None → Some own ≡ option_map type_of_record (record_of w e) → IsTrue (is_ascending id_cmp own)
+    → IsClosure w i s → Judges w e s (grown w e i s) verdict → verdict ≡ None → Some own ≡ option_map type_of_record (record_of w e) → IsTrue (is_ascending id_cmp own)
     → kept ≡ filter (λ j. not (is_replaced w s j)) own → all ≡ fold (with_item id_cmp) kept s → LeadsTo w e i (Ok all)
 leads_to w e i s own kept all verdict lives absent closure judges none owns up is_kept is_all = search (rules, some_record, type_with, lacked)

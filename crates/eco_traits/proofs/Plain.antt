@@ -1,25 +1,33 @@
 -- An id that comes alone, replaces nothing, and against which nothing stands.
 use Rattle.std.proofs.lemmas.Grind.{common_steps}
 use Rattle.std.proofs.Common.{arith}
-use Rattle.std.proofs.Common.{◌≡◌, true, false, not, List, [], ◌∷◌, filter, refl, sym, ◌∙◌, true≢false, IsTrue, Some, None, Ok, option_map}
+use Rattle.std.proofs.Common.{◌≡◌, Bool, true, false, cond, not, ◌&&◌, ◌||◌, inl, inr, List, [], ◌∷◌, filter, refl, sym, ap, subst, ◌∙◌, true≢false, IsTrue}
+use Rattle.std.proofs.Common.{Some, None, Option, Ok, option_map}
+use Rattle.std.specs.List.{list_any}
 use Rattle.std.proofs.lemmas.Bool.{and_right}
 use Rattle.eco_ids.proofs.Gains.{same_relationship}
 use Rattle.eco_ids.proofs.IdOrder.{same_id}
 use Rattle.eco_ids.specs.declared.entity.Entity.{Entity}
-use Rattle.eco_ids.specs.declared.entity.TheConstants.{WITH}
+use Rattle.eco_ids.specs.declared.entity.TheConstants.{ACYCLIC, EXCLUSIVE, SYMMETRIC, WITH}
 use Rattle.eco_ids.specs.declared.id.Id.{Id}
 use Rattle.eco_ids.specs.declared.id.Id.TheVariants.{One, Two}
-use Rattle.eco_ids.specs.Order.{id_cmp, is_ascending, with_item}
-use Rattle.eco_ids.specs.Step.{IsClosure, Judges, is_replaced}
-use Rattle.eco_ids.specs.World.{WorldState, has, is_alive, is_exclusive, names_living, record_of}
+use Rattle.eco_ids.specs.Order.{id_cmp, entity_eq, has_item, is_ascending, with_item}
+use Rattle.eco_ids.specs.Step.{IsClosure, ClosesCycle, Judges, grown, is_late, is_replaced, is_used, is_wrong_policy}
+use Rattle.eco_ids.specs.World.{WorldState, Record, has, is_acyclic, is_alive, is_exclusive, is_symmetric, names_living, record_of}
 use Rattle.eco_traits.specs.Closure.{head_of}
-use Rattle.eco_ids.proofs.Ascending.{first, second}
+use Rattle.eco_ids.specs.declared.edition.Edition.{Edition}
+use Rattle.eco_ids.specs.declared.edition.Edition.TheVariants.{First, Second}
+use Rattle.eco_ids.specs.Edition.{has_symmetric, late_traits}
+use Rattle.eco_ids.specs.Mirrors.{mirror_of, mirrored_pair}
+use Rattle.eco_ids.proofs.Ascending.{both, first, second}
+use Rattle.eco_ids.proofs.Clashes.{IsQuiet, quiet_grows}
 use Rattle.eco_ids.proofs.Facts.{or_parts}
-use Rattle.eco_ids.proofs.Overlaps.{entity_eq_is}
-use Rattle.eco_traits.proofs.Members.{only, same_truth}
-use Rattle.eco_traits.specs.Target.{BringsNone, IsPlain, LeadsTo, type_of_record}
+use Rattle.eco_ids.proofs.Overlaps.{entity_eq_is, entity_eq_itself}
+use Rattle.eco_traits.proofs.Members.{only}
+use Rattle.eco_traits.proofs.Traits.{not_so}
+use Rattle.eco_traits.specs.Target.{BringsNone, IsPlain, IsSound, LeadsTo, type_of_record}
 use Rattle.eco_traits.proofs.Closures.{closure_alone}
-use Rattle.eco_traits.proofs.Joined.{leads_to}
+use Rattle.eco_traits.proofs.Joined.{leads_to, some_record}
 use Rattle.eco_traits.proofs.Verdicts.{judged_cycle}
 use Rattle.eco_traits.proofs.Walks.{has_listed}
 
@@ -37,11 +45,19 @@ pub comes_alone : (w : WorldState) (i : Id) (ids : List Id) → AreTraitsOf w i 
 comes_alone w i ids own none = closure_alone w i (λ x h. true≢false (sym h ∙ has_listed w (head_of i) (Two WITH x) ids own ∙ none x))
 
 -- nothing is replaced
-replaces_none : (w : WorldState) (i : Id) (ids : List Id) → AreTraitsOf w i ids → IsPlain i ids → (j : Id) → is_replaced w (i ∷ []) j ≡ false
+replaces_none : (w : WorldState) (i : Id) (ids : List Id) → AreTraitsOf w i ids → IsPlain w.edition i ids → (j : Id) → is_replaced w (i ∷ []) j ≡ false
 replaces_none w (One c) ids own plain (One e) = refl
 replaces_none w (One c) ids own plain (Two q u) = and_right (is_exclusive w q) false refl
 replaces_none w (Two r t) ids own plain (One e) = refl
-replaces_none w (Two r t) ids own plain (Two q u) = grind (arith, common_steps, same_truth, or_parts, first, second, entity_eq_is, has_listed)
+replaces_none w (Two r t) ids own plain (Two q u) =
+    not_so (is_replaced w (Two r t ∷ []) (Two q u)) (λ h.
+    let rest = second (is_exclusive w q) _ h in
+    let pair = or_parts (entity_eq q r) false (first (entity_eq q r || false) _ rest) in
+    elim pair as (λ _. ⊥) [
+      | inl k ↦ true≢false (sym (subst (λ y. IsTrue (is_exclusive w y)) (entity_eq_is q r k) (first (is_exclusive w q) _ h))
+          ∙ has_listed w r (One EXCLUSIVE) ids own ∙ plain.1.0)
+      | inr k ↦ true≢false (sym k)
+    ])
 
 keeps_all : (w : WorldState) (i : Id) → ((j : Id) → is_replaced w (i ∷ []) j ≡ false) → (own : List Id)
     → own ≡ filter (λ j. not (is_replaced w (i ∷ []) j)) own
@@ -49,20 +65,94 @@ keeps_all w i none [] = refl
 keeps_all w i none (x ∷ xs) = grind (arith, common_steps, keeps_all w i none xs)
 
 -- nothing stands against it
-unopposed : (w : WorldState) (e : Entity) (i : Id) (ids : List Id) → AreTraitsOf w i ids → IsPlain i ids → Judges w e (i ∷ []) None
-unopposed w e (One c) ids own plain = grind (arith, common_steps, judged_cycle)
-unopposed w e (Two r t) ids own plain = grind (arith, common_steps, judged_cycle, same_relationship, only, same_id, has_listed)
+pub alone_judged : (w : WorldState) (e : Entity) (i : Id) (d : Record) → record_of w e ≡ Some d → IsClosure w i (i ∷ []) → names_living w i ≡ true → IsSound w →
+    list_any is_wrong_policy (i ∷ []) ≡ false → list_any (is_late w e (i ∷ [])) (late_traits w.edition) ≡ false →
+    ((r : Entity) → ClosesCycle w e (i ∷ []) r → ⊥) → (IsTrue (has_symmetric w.edition) → IsQuiet (i ∷ [])) → Judges w e (i ∷ []) (grown w e i (i ∷ [])) None
+alone_judged w e i d at closure lives sound policy late open_end quiet =
+    judged_cycle w e (i ∷ []) (grown w e i (i ∷ [])) None false None policy late open_end (quiet_grows w e i (i ∷ []) d at closure lives sound quiet) refl
+
+-- no trait comes too late where none comes
+pub pair_late : (w : WorldState) (e r t : Entity) → list_any (is_late w e (Two r t ∷ [])) (late_traits w.edition) ≡ false
+pair_late w e r t = by w.edition
+  where
+    by : (d : Edition) → list_any (is_late w e (Two r t ∷ [])) (late_traits d) ≡ false
+    by First = refl
+    by Second = refl
+
+-- a pair of another relationship than With is quiet
+pub pair_quiet : (w : WorldState) (r t : Entity) → (has_symmetric w.edition && entity_eq r WITH) ≡ false → IsTrue (has_symmetric w.edition) → IsQuiet (Two r t ∷ [])
+pair_quiet w r t apart has_it = record {
+  exclusive = refl;
+  acyclic = refl;
+  symmetric = refl;
+  with = λ x. not_so (has_item id_cmp (Two r t ∷ []) (Two WITH x)) (λ h.
+      let is : r ≡ WITH = same_relationship (only same_id (Two r t) (Two WITH x) h) in
+      true≢false (sym (both (has_symmetric w.edition) _ has_it (subst (λ y. IsTrue (entity_eq y WITH)) (sym is) (entity_eq_itself WITH))) ∙ apart));
+}
+
+module _ (w : WorldState) (e c : Entity) (excl : entity_eq c EXCLUSIVE ≡ false) (acyc : entity_eq c ACYCLIC ≡ false)
+    (symm : (has_symmetric w.edition && entity_eq c SYMMETRIC) ≡ false) where
+  not_late : (x : Entity) → entity_eq c x ≡ false → is_late w e (One c ∷ []) x ≡ false
+  not_late x h = ap (λ b. (b || false) && (not (has w e (One x)) && is_used w e)) h
+
+  single_late : list_any (is_late w e (One c ∷ [])) (late_traits w.edition) ≡ false
+  single_late = by w.edition symm
+    where
+      both_false : (a b : Bool) → a ≡ false → b ≡ false → (a || b) ≡ false
+      both_false true b p q = absurd (true≢false p)
+      both_false false b p q = q
+
+      by : (d : Edition) → (has_symmetric d && entity_eq c SYMMETRIC) ≡ false → list_any (is_late w e (One c ∷ [])) (late_traits d) ≡ false
+      by First h = both_false _ _ (not_late EXCLUSIVE excl) (both_false _ _ (not_late ACYCLIC acyc) refl)
+      by Second h = both_false _ _ (not_late EXCLUSIVE excl) (both_false _ _ (not_late ACYCLIC acyc) (both_false _ _ (not_late SYMMETRIC h) refl))
+
+  single_quiet : IsTrue (has_symmetric w.edition) → IsQuiet (One c ∷ [])
+  single_quiet has_it = record {
+    exclusive = ap (λ b. b || false) excl;
+    acyclic = ap (λ b. b || false) acyc;
+    symmetric = ap (λ b. b || false) (not_so (entity_eq c SYMMETRIC) (λ h. true≢false (sym (both (has_symmetric w.edition) _ has_it h) ∙ symm)));
+    with = λ x. refl;
+  }
 
 -- nothing comes along with a plain id
-plain_alone : (w : WorldState) (i : Id) (ids : List Id) → AreTraitsOf w i ids → IsPlain i ids → IsClosure w i (i ∷ [])
-plain_alone w (One c) ids own plain = comes_alone w (One c) ids own plain.2
+plain_alone : (w : WorldState) (i : Id) (ids : List Id) → AreTraitsOf w i ids → IsPlain w.edition i ids → IsClosure w i (i ∷ [])
+plain_alone w (One c) ids own plain = comes_alone w (One c) ids own plain.1
 plain_alone w (Two r t) ids own plain = comes_alone w (Two r t) ids own plain.1.2
 
+unopposed : (w : WorldState) (e : Entity) (i : Id) (ids : List Id) (d : Record) → record_of w e ≡ Some d → names_living w i ≡ true → IsSound w →
+    AreTraitsOf w i ids → IsPlain w.edition i ids → Judges w e (i ∷ []) (grown w e i (i ∷ [])) None
+unopposed w e (One c) ids d at lives sound own plain =
+    alone_judged w e (One c) d at (plain_alone w (One c) ids own plain) lives sound refl (single_late w e c plain.0.0 plain.0.1 plain.0.2)
+    (λ r closes. true≢false (sym closes.2)) (single_quiet w e c plain.0.0 plain.0.1 plain.0.2)
+unopposed w e (Two r t) ids d at lives sound own plain =
+    alone_judged w e (Two r t) d at (plain_alone w (Two r t) ids own plain) lives sound (ap (λ b. b || false) plain.0) (pair_late w e r t)
+    (λ q closes.
+    let same : r ≡ q = same_relationship (only same_id (Two r t) (Two q closes.1) closes.2) in
+    true≢false (sym (subst (λ y. IsTrue (is_acyclic w y)) (sym same) closes.0) ∙ has_listed w r (One ACYCLIC) ids own ∙ plain.1.1))
+    (pair_quiet w r t plain.2)
+
 -- it goes to its place
-pub plain_leads_to : (w : WorldState) (e : Entity) (i : Id) (ids own all : List Id) → names_living w i ≡ true → has w e i ≡ false → AreTraitsOf w i ids
-    → IsPlain i ids
+pub plain_leads_to : (w : WorldState) (e : Entity) (i : Id) (ids own all : List Id) → names_living w i ≡ true → has w e i ≡ false → IsSound w → AreTraitsOf w i ids
+    → IsPlain w.edition i ids
     → Some own ≡ option_map type_of_record (record_of w e) → IsTrue (is_ascending id_cmp own) → all ≡ with_item id_cmp own i
     → LeadsTo w e i (Ok all)
-plain_leads_to w e i ids own all lives absent traits plain owns up is_all =
-    leads_to w e i (i ∷ []) own own all None lives absent (plain_alone w i ids traits plain) (unopposed w e i ids traits plain) refl owns up
+plain_leads_to w e i ids own all lives absent sound traits plain owns up is_all =
+    let d = some_record (record_of w e) own owns in
+    leads_to w e i (i ∷ []) own own all None lives absent (plain_alone w i ids traits plain) (unopposed w e i ids d.0 d.1 lives sound traits plain) refl owns up
     (keeps_all w i (replaces_none w i ids traits plain) own) is_all
+
+-- and nobody gets a mirror
+pub plain_unmirrored : (w : WorldState) (e : Entity) (i : Id) (ids : List Id) → AreTraitsOf w i ids → IsPlain w.edition i ids → mirror_of w e i ≡ None
+plain_unmirrored w e (One c) ids own plain = by (has_symmetric w.edition)
+  where
+    by : (b : Bool) → (let m : Option (Entity × Id) = cond b (mirrored_pair w e (One c)) None in m ≡ None)
+    by true = refl
+    by false = refl
+plain_unmirrored w e (Two r t) ids own plain =
+    by (has_symmetric w.edition) (is_symmetric w r)
+    (ap (λ b. has_symmetric w.edition && b) (has_listed w r (One SYMMETRIC) ids own) ∙ plain.1.3)
+  where
+    by : (b c : Bool) → c ≡ false → (let m : Option (Entity × Id) = cond b (cond c (Some (t, Two r e)) None) None in m ≡ None)
+    by b true h = absurd (true≢false h)
+    by true false h = refl
+    by false false h = refl

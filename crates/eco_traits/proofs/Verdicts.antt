@@ -1,20 +1,27 @@
 -- What stands against a closure.
 use Rattle.std.proofs.lemmas.Grind.{common_steps}
 use Rattle.std.proofs.Common.{◌≡◌, ℕ, zero, suc, ◌+◌, ◌<◌, false, ◌||◌, ◌⊎◌, inl, inr, List, [], ◌∷◌, length, take, get_or, refl, sym, ap, ◌∙◌, subst}
-use Rattle.std.proofs.Common.{true≢false, IsTrue, Option, Some, None, option_map, is_lt, arith}
+use Rattle.std.proofs.Common.{true≢false, IsTrue, ◌↔◌, map, unwrap_or, Ok, Bool, true, cond, MatchBool, Option, Some, None, option_map, is_lt, arith}
+use Rattle.std.specs.Option.{option_or}
 use Rattle.std.proofs.lemmas.List.{take_more}
 use Rattle.std.specs.Cmp.{tied_itself}
 use Rattle.std.specs.List.{list_any}
 use Rattle.std.specs.Ordering.{is_le}
 use Rattle.eco_ids.specs.declared.entity.Entity.{Entity}
-use Rattle.eco_ids.specs.declared.entity.TheConstants.{ACYCLIC, EXCLUSIVE}
 use Rattle.eco_ids.specs.declared.id.Id.{Id}
 use Rattle.eco_ids.specs.declared.id.Id.TheVariants.{Two}
 use Rattle.eco_ids.specs.declared.refusal.Refusal.{Refusal}
-use Rattle.eco_ids.specs.declared.refusal.Refusal.TheVariants.{Cycle}
+use Rattle.eco_ids.specs.declared.refusal.Refusal.TheVariants.{Cycle, InUse, NotAPolicy, TraitClash}
+use Rattle.eco_ids.specs.Edition.{late_traits}
+use Rattle.eco_ids.specs.Mirrors.{has_clash, is_with, would_clash}
 use Rattle.eco_ids.specs.Order.{id_cmp, id_eq, entity_cmp, has_item, is_ascending}
-use Rattle.eco_ids.specs.Step.{IsFirstCycle, Judges, is_late, is_wrong_policy}
-use Rattle.eco_ids.specs.World.{WorldState}
+use Rattle.eco_ids.specs.Step.{IsClosure, IsFirstCycle, Judges, grown, is_late, is_wrong_policy}
+use Rattle.eco_ids.specs.declared.value.Value.{Value}
+use Rattle.eco_ids.specs.declared.entity.TheConstants.{WITH}
+use Rattle.eco_ids.specs.World.{WorldState, Record, has, held_by, is_alive, living, names_living, record_of}
+use Rattle.eco_ids.proofs.Clashes.{clash_is_local}
+use Rattle.eco_ids.proofs.Keeps.{entry_of, some_of}
+use Rattle.eco_ids.proofs.Mirrors.{living_some, some_living}
 use Rattle.std.proofs.lemmas.Bool.{or_left}
 use Rattle.eco_ids.proofs.Gains.{same_relationship}
 use Rattle.eco_ids.proofs.Members.{all_item}
@@ -22,8 +29,9 @@ use Rattle.eco_ids.proofs.IdOrder.{id_cmp_total, same_id}
 use Rattle.eco_ids.proofs.Ascending.{first, second}
 use Rattle.eco_ids.proofs.Facts.{or_parts, or_right, id_eq_is}
 use Rattle.eco_ids.proofs.IdOrder.{entity_cmp_total}
-use Rattle.eco_traits.proofs.Members.{only, has_get, has_append}
-use Rattle.eco_traits.specs.Target.{ClosesBy, IsClosedBy}
+use Rattle.eco_traits.proofs.Members.{only, has_get, has_append, same_truth}
+use Rattle.eco_traits.specs.Target.{ClosesBy, IsClosedBy, IsSound, LeadsTo, extended_by, left_by, type_of_record}
+use Rattle.eco_traits.proofs.Joined.{leads_to, some_record}
 
 -- ---- ascending ids
 
@@ -85,7 +93,74 @@ none_more w e s k d l none o says is = λ j r h closes.
 
 -- ---- all of it
 
-pub judged_cycle : (w : WorldState) (e : Entity) (s : List Id) (o : Option Entity) (verdict : Option Refusal) → list_any is_wrong_policy s ≡ false
-    → is_late w e s EXCLUSIVE ≡ false → is_late w e s ACYCLIC ≡ false
-    → IsFirstCycle w e s o → verdict ≡ option_map Cycle o → Judges w e s verdict
-judged_cycle w e s o verdict policy late later first is = grind (arith, common_steps)
+abbrev pub verdict_of : Bool → Option Entity → Option Refusal
+verdict_of clash o = cond clash (option_or (option_map Cycle o) (Some TraitClash)) (option_map Cycle o)
+
+module _ (w : WorldState) (e : Entity) (s : List Id) (after : WorldState) where
+  pub judged_policy : list_any is_wrong_policy s ≡ true → Judges w e s after (Some NotAPolicy)
+  judged_policy policy =
+      subst (λ b. MatchBool b (Some NotAPolicy ≡ Some NotAPolicy)
+      (MatchBool (list_any (is_late w e s) (late_traits w.edition)) (Some NotAPolicy ≡ Some InUse)
+      ((o : Option Entity) × IsFirstCycle w e s o × (Some NotAPolicy ≡ verdict_of (has_clash after) o)))) (sym policy) refl
+
+  go : (v : Option Refusal) (b c : Bool) → b ≡ false → (c ≡ false → (o : Option Entity) × IsFirstCycle w e s o × (v ≡ verdict_of (has_clash after) o)) →
+      (c ≡ true → v ≡ Some InUse) →
+      MatchBool b (v ≡ Some NotAPolicy) (MatchBool c (v ≡ Some InUse) ((o : Option Entity) × IsFirstCycle w e s o × (v ≡ verdict_of (has_clash after) o)))
+  go v true c p q r = absurd (true≢false p)
+  go v false true p q r = r refl
+  go v false false p q r = q refl
+
+  pub judged_late : list_any is_wrong_policy s ≡ false → list_any (is_late w e s) (late_traits w.edition) ≡ true → Judges w e s after (Some InUse)
+  judged_late policy late = go (Some InUse) (list_any is_wrong_policy s) (list_any (is_late w e s) (late_traits w.edition)) policy
+      (λ k. absurd (true≢false (sym late ∙ k))) (λ k. refl)
+
+  pub judged_cycle : (o : Option Entity) (clash : Bool) (verdict : Option Refusal) → list_any is_wrong_policy s ≡ false →
+      list_any (is_late w e s) (late_traits w.edition) ≡ false → IsFirstCycle w e s o → has_clash after ≡ clash → verdict ≡ verdict_of clash o →
+      Judges w e s after verdict
+  judged_cycle o clash verdict policy late first same is =
+      go verdict (list_any is_wrong_policy s) (list_any (is_late w e s) (late_traits w.edition)) policy
+      (λ _. (o, first, is ∙ ap (λ b. verdict_of b o) (sym same))) (λ k. absurd (true≢false (sym k ∙ late)))
+
+  -- a cycle comes before a clash
+  pub judged_closed : (r : Entity) → list_any is_wrong_policy s ≡ false → list_any (is_late w e s) (late_traits w.edition) ≡ false → IsFirstCycle w e s (Some r) →
+      Judges w e s after (Some (Cycle r))
+  judged_closed r policy late first = judged_cycle (Some r) (has_clash after) (Some (Cycle r)) policy late first refl (first_said (has_clash after))
+    where
+      first_said : (b : Bool) → Some (Cycle r) ≡ verdict_of b (Some r)
+      first_said true = refl
+      first_said false = refl
+
+-- what clashes in the world that it grows to is seen at a look
+pub clash_seen : (w : WorldState) (e : Entity) (i : Id) (s : List Id) → IsTrue (is_alive w e) → IsTrue (names_living w i) → IsClosure w i s → IsSound w →
+    has_clash (grown w e i s) ≡ would_clash w e s
+clash_seen w e i s alive named closure sound =
+    let d = some_of (record_of w e) alive in clash_is_local w e i s d.0 d.1 closure named sound
+
+-- pairs of With among the ids of an entity
+any_keys : (t : Id → Bool) (es : List (Id × Value)) → list_any t (map (λ p. p.0) es) ≡ list_any (λ h. t h.0) es
+any_keys t [] = refl
+any_keys t (e ∷ es) = ap (λ b. t e.0 || b) (any_keys t es)
+
+pub with_held : (w : WorldState) (e : Entity) (own : List Id) → Some own ≡ option_map type_of_record (record_of w e) →
+    list_any is_with own ≡ list_any (λ h. is_with h.0) (held_by w e)
+with_held w e own owns =
+    let d = some_record (record_of w e) own owns in
+    ap (list_any is_with) d.2 ∙ any_keys is_with d.0.held
+    ∙ sym (ap (λ (o : Option Record). list_any (λ h. is_with h.0) (unwrap_or (option_map (λ r. r.held) o) [])) d.1)
+
+-- the target of some pair of With
+pub target_any : (w : WorldState) (e : Entity) (b : Bool) → IsTrue b ↔ ((holder : Entity) × IsTrue (has w holder (Two WITH e))) →
+    b ≡ list_any (λ p. has w p.0 (Two WITH e)) (living w)
+target_any w e b exact = same_truth b (list_any (λ p. has w p.0 (Two WITH e)) (living w))
+    (λ h.
+    let x = exact.0 h in
+    let d = entry_of (record_of w x.0) (Two WITH e) x.1 in
+    some_living (λ p. has w p.0 (Two WITH e)) w x.0 d.0 d.2 x.1)
+    (λ h. let x = living_some (λ p. has w p.0 (Two WITH e)) w h in exact.1 (x.0, x.3))
+
+-- a closure that nothing stands against leads to the type that has it
+pub judged_leads : (w : WorldState) (e : Entity) (i : Id) (s own all : List Id) (verdict : Option Refusal) → names_living w i ≡ true → has w e i ≡ false →
+    IsClosure w i s → Judges w e s (grown w e i s) verdict → verdict ≡ None → Some own ≡ option_map type_of_record (record_of w e) →
+    IsTrue (is_ascending id_cmp own) → all ≡ extended_by w s own → LeadsTo w e i (Ok all)
+judged_leads w e i s own all verdict lives absent closure judges none owns up is_all =
+    leads_to w e i s own (left_by w s own) all verdict lives absent closure judges none owns up refl is_all

@@ -1,15 +1,18 @@
 -- The type that an add leads to.
-use Rattle.std.specs.Prelude.{Bool, true, [], unwrap_or, ◌≡◌, ◌↔◌, ◌||◌, not, List, map, filter, fold, option_map, Option, Some, None, Result, Ok, Err}
+use Rattle.std.specs.Prelude.{Bool, true, [], unwrap_or, ◌≡◌, ◌↔◌, ◌||◌, ◌&&◌, not, List, map, filter, fold, option_map, Option, Some, None, Result, Ok, Err}
 use Rattle.std.specs.Prelude.{IsTrue, IsFalse, false, MatchBool, MatchOption, if◌then◌else◌}
+use Rattle.eco_ids.specs.declared.edition.Edition.{Edition}
 use Rattle.eco_ids.specs.declared.entity.Entity.{Entity}
-use Rattle.eco_ids.specs.declared.entity.TheConstants.{ACYCLIC, EXCLUSIVE, WITH}
+use Rattle.eco_ids.specs.declared.entity.TheConstants.{ACYCLIC, EXCLUSIVE, SYMMETRIC, WITH}
 use Rattle.eco_ids.specs.declared.id.Id.{Id}
 use Rattle.eco_ids.specs.declared.id.Id.TheVariants.{One, Two}
 use Rattle.eco_ids.specs.declared.refusal.Refusal.{Refusal}
 use Rattle.eco_ids.specs.declared.refusal.Refusal.TheVariants.{DeadId}
+use Rattle.eco_ids.specs.Edition.{has_symmetric}
+use Rattle.eco_ids.specs.Lawful.{IsLawful}
 use Rattle.eco_ids.specs.Order.{entity_cmp, entity_eq, has_item, id_cmp, with_item, without_item}
 use Rattle.eco_ids.specs.Outcome.{is_out_of_memory}
-use Rattle.eco_ids.specs.Step.{IsClosure, Judges, is_replaced, is_wrong_policy, with_closure}
+use Rattle.eco_ids.specs.Step.{IsClosure, Judges, grown, is_replaced, is_wrong_policy, with_closure}
 use Rattle.eco_ids.specs.Traits.{Reaches}
 use Rattle.eco_traits.specs.declared.target.Target.{Target}
 use Rattle.eco_traits.specs.declared.target.Target.TheVariants.{Own, With, Instead, Other}
@@ -57,16 +60,28 @@ IsClosedBy w e i (Some r) = ClosesBy w e i r
 abbrev pub BringsNone : List Id → Type 0
 BringsNone ids = (x : Entity) → IsFalse (has_item id_cmp ids (Two WITH x))
 
--- no id says what pairs of the relationship bring along, replace or close
-abbrev pub LacksTraits : List Id → Type 0
-LacksTraits ids = (has_item id_cmp ids (One EXCLUSIVE) ≡ false) × (has_item id_cmp ids (One ACYCLIC) ≡ false) × BringsNone ids
+-- no id says what pairs of the relationship bring along, replace, close or mirror
+abbrev pub LacksTraits : Edition → List Id → Type 0
+LacksTraits edition ids =
+    (has_item id_cmp ids (One EXCLUSIVE) ≡ false) × (has_item id_cmp ids (One ACYCLIC) ≡ false) × BringsNone ids
+    × ((has_symmetric edition && has_item id_cmp ids (One SYMMETRIC)) ≡ false)
 
--- an id that brings nothing along and replaces nothing, and nothing stands against it, where its entity or its
+-- neither Exclusive nor Acyclic, nor Symmetric where the edition has it
+abbrev pub IsNoTrait : Edition → Entity → Type 0
+IsNoTrait edition c = (entity_eq c EXCLUSIVE ≡ false) × (entity_eq c ACYCLIC ≡ false) × ((has_symmetric edition && entity_eq c SYMMETRIC) ≡ false)
+
+-- an id that brings nothing along, replaces nothing and has no mirror, and nothing stands against it, where its entity or its
 -- relationship has these ids: a single id that is no trait which may come too late, or a pair of a relationship that is
--- neither exclusive nor acyclic, and no wrong cleanup pair
-abbrev pub IsPlain : Id → List Id → Type 0
-IsPlain (One c) ids = (entity_eq c EXCLUSIVE ≡ false) × (entity_eq c ACYCLIC ≡ false) × BringsNone ids
-IsPlain (Two r t) ids = (is_wrong_policy (Two r t) ≡ false) × LacksTraits ids
+-- neither exclusive nor acyclic nor symmetric, and no wrong cleanup pair; where relationships may be symmetric, no pair of
+-- With either
+abbrev pub IsPlain : Edition → Id → List Id → Type 0
+IsPlain edition (One c) ids = IsNoTrait edition c × BringsNone ids
+IsPlain edition (Two r t) ids =
+    (is_wrong_policy (Two r t) ≡ false) × LacksTraits edition ids × ((has_symmetric edition && entity_eq r WITH) ≡ false)
+
+-- what is asked of a world: where relationships may be symmetric, that it is in order
+abbrev pub IsSound : WorldState → Type 0
+IsSound w = IsTrue (has_symmetric w.edition) → IsLawful w
 
 -- the type that e has once the closure s came to it
 abbrev pub IsTypeWith : WorldState → Entity → List Id → Result (List Id) Refusal → Type 0
@@ -79,7 +94,7 @@ IsOwnType w e r = (d : Record) × (record_of w e ≡ Some d) × (r ≡ Ok (type_
 -- the closure of i leads to a type, or something stands against it
 abbrev pub ExtendsTo : WorldState → Entity → Id → Result (List Id) Refusal → Type 0
 ExtendsTo w e i r =
-    (s : List Id) × IsClosure w i s × (verdict : Option Refusal) × Judges w e s verdict
+    (s : List Id) × IsClosure w i s × (verdict : Option Refusal) × Judges w e s (grown w e i s) verdict
     × MatchOption verdict (IsTypeWith w e s r) (λ why. r ≡ Err why)
 
 -- an add of i to e leads to a type, or something stands against it: an entity in the id that isn't living; e has its own

@@ -6,12 +6,16 @@ ghost use Rattle.eco_ids.specs.Step.{is_used as some_has_pair_of};
 ghost use Rattle.eco_ids.specs.World.{WorldState, has, record_of};
 ghost use Rattle.eco_traits.specs.Target.{type_of_record};
 
-use eco_ids::{Entity, TypeList};
+use eco_ids::{Edition, Entity, TypeList};
 
 /// Whatever says which entities live and which ids each of them has.
 pub trait Holdings {
     /// What is kept, as the definitions see it. Names, arities and values do not matter here.
     ghost world: { Self → WorldState };
+
+    /// Which rules are kept.
+    fn edition(&self) -> Edition
+        ensures { result ≡ (world self.now).edition };
 
     /// The ids of a living entity; none for one that isn't living.
     fn type_of(&self, entity: Entity) -> Option<&TypeList>

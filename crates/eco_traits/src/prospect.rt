@@ -1,17 +1,20 @@
 //! What an add does, as far as that is known at a look.
-ghost use Rattle.std.specs.Prelude.{◌≡◌, ◌↔◌, IfSome, IsFalse, IsTrue, Some, is_some};
+ghost use Rattle.eco_ids.specs.declared.entity.TheConstants.{SYMMETRIC as SYMMETRIC_DATA};
+ghost use Rattle.eco_ids.specs.Edition.{has_symmetric};
+ghost use Rattle.eco_ids.specs.Order.{entity_eq};
+ghost use Rattle.std.specs.Prelude.{◌≡◌, ◌↔◌, ◌&&◌, IfSome, IsFalse, IsTrue, Some, is_some};
 ghost use Rattle.std.specs.List.{list_any};
 ghost use Rattle.eco_ids.specs.World.{is_alive as lives};
 ghost use Rattle.eco_ids.specs.World as world;
 ghost use Rattle.eco_traits.specs.Closure.{head_of};
 ghost use Rattle.eco_traits.specs.Prospect.{Foresees, is_trait};
-ghost use Rattle.eco_traits.specs.Target.{IsPlain, LacksTraits, type_of_entity};
+ghost use Rattle.eco_traits.specs.Target.{IsNoTrait, IsPlain, IsSound, LacksTraits, type_of_entity};
 
 use crate::holdings::Holdings;
 use crate::implied::brings_any;
 use crate::verdict::is_wrong_policy;
-use eco_ids::entity::{ACYCLIC, EXCLUSIVE, WITH};
-use eco_ids::{Entity, Id, TypeList};
+use eco_ids::entity::{ACYCLIC, EXCLUSIVE, SYMMETRIC, WITH};
+use eco_ids::{Edition, Entity, Id, TypeList};
 
 /// What an add does, as far as two types tell: that of the entity to which the id comes, and that of the id's own entity,
 /// which for a pair is its relationship. Of most adds they tell all.
@@ -30,7 +33,8 @@ pub enum Prospect {
 /// What an add of the id does to a living entity, as far as a look tells. It takes no memory.
 #[inline(always)]
 pub fn foresee<H: Holdings>(holdings: &H, entity: Entity, id: Id) -> Prospect
-    requires { IsTrue (lives (H.world holdings.now) entity) }
+    requires alive { IsTrue (lives (H.world holdings.now) entity) }
+    requires sound { IsSound (H.world holdings.now) }
     ensures { Foresees (H.world holdings.now) entity id result }
 {
     let own = holdings.type_of(entity).unwrap();
@@ -40,7 +44,7 @@ pub fn foresee<H: Holdings>(holdings: &H, entity: Entity, id: Id) -> Prospect
     if own.has(id) {
         return Prospect::There;
     }
-    if is_plain(id, traits) {
+    if is_plain(holdings.edition(), id, traits) {
         return Prospect::Alone;
     }
     Prospect::Open
@@ -68,36 +72,60 @@ fn traits_of<H: Holdings>(holdings: &H, id: Id) -> Option<&TypeList>
 
 // Whether the id comes alone, replaces nothing, and nothing stands against it, as with most tags, components and pairs.
 #[inline(always)]
-fn is_plain(id: Id, traits: &TypeList) -> bool
-    ensures { IsTrue result ↔ IsPlain id traits.now }
+fn is_plain(edition: Edition, id: Id, traits: &TypeList) -> bool
+    ensures { IsTrue result ↔ IsPlain edition id traits.now }
 {
     match id {
-        Id::One(single) => !single.is(EXCLUSIVE) && !single.is(ACYCLIC) && !brings_any(traits),
-        Id::Two(..) => !is_wrong_policy(id) && !has_trait(traits),
+        Id::One(single) => is_no_trait(edition, single) && !brings_any(traits),
+        Id::Two(relationship, _) => {
+            !is_wrong_policy(id)
+                && !has_trait(edition, traits)
+                && !(edition.has_symmetric() && relationship.is(WITH))
+        }
     }
+}
+
+// Whether the entity is no trait that may come too late.
+#[inline(always)]
+fn is_no_trait(edition: Edition, single: Entity) -> bool
+    ensures { IsTrue result ↔ IsNoTrait edition single }
+{
+    !single.is(EXCLUSIVE) && !single.is(ACYCLIC) && !is_symmetric(edition, single)
+}
+
+// Whether it is Symmetric, of an edition that has it.
+#[inline(always)]
+fn is_symmetric(edition: Edition, single: Entity) -> bool
+    ensures { result ≡ (has_symmetric edition && entity_eq single SYMMETRIC_DATA) }
+{
+    edition.has_symmetric() && single.is(SYMMETRIC)
 }
 
 // Whether one of the ids says how pairs behave.
 #[inline(always)]
-fn has_trait(ids: &TypeList) -> bool
-    ensures { IsFalse result ↔ LacksTraits ids.now }
+fn has_trait(edition: Edition, ids: &TypeList) -> bool
+    ensures { IsFalse result ↔ LacksTraits edition ids.now }
 {
-    any_trait(ids.as_slice())
+    any_trait(edition, ids.as_slice())
 }
 
 // The same of a list, in one pass.
-fn any_trait(ids: &[Id]) -> bool
-    ensures { result ≡ list_any is_trait ids.now }
+fn any_trait(edition: Edition, ids: &[Id]) -> bool
+    ensures { result ≡ list_any (is_trait edition) ids.now }
 {
-    ids.iter().any(|id| is_trait(*id))
+    ids.iter().any(|id| is_trait(edition, *id))
 }
 
 // Whether the id says how pairs behave.
-fn is_trait(id: Id) -> bool
-    ensures { result ≡ is_trait id }
+fn is_trait(edition: Edition, id: Id) -> bool
+    ensures { result ≡ is_trait edition id }
 {
     match id {
-        Id::One(single) => single.is(EXCLUSIVE) || single.is(ACYCLIC),
+        Id::One(single) => {
+            single.is(EXCLUSIVE)
+                || single.is(ACYCLIC)
+                || (edition.has_symmetric() && single.is(SYMMETRIC))
+        }
         Id::Two(relationship, _) => relationship.is(WITH),
     }
 }

@@ -4,19 +4,20 @@ ghost use Rattle.std.specs.List.{list_any};
 ghost use Rattle.eco_ids.specs.Outcome.{is_out_of_memory};
 ghost use Rattle.eco_ids.specs.World.{has, is_alive as lives, record_of};
 ghost use Rattle.eco_ids.specs.declared.id.Id.TheVariants.{One, Two};
-ghost use Rattle.eco_ids.specs.Order.{has_item, id_cmp, id_eq, is_ascending, with_item};
+ghost use Rattle.eco_ids.specs.Edition.{has_symmetric};
+ghost use Rattle.eco_ids.specs.Order.{entity_eq, has_item, id_cmp, id_eq, is_ascending, with_item};
 ghost use Rattle.eco_ids.specs.Step as step;
 ghost use Rattle.eco_ids.specs.World as world;
 ghost use Rattle.eco_traits.specs.Closure.{head_of};
 ghost use Rattle.eco_ids.specs.Traits.{Reaches};
-ghost use Rattle.eco_traits.specs.Target.{FindsTarget, FindsType, is_own, IsAmong, TakesOwn, Replaces, extended_by, left_by, spared, type_of_entity};
+ghost use Rattle.eco_traits.specs.Target.{FindsTarget, FindsType, is_own, IsAmong, IsSound, TakesOwn, Replaces, extended_by, left_by, spared, type_of_entity};
 
 use crate::holdings::Holdings;
 use crate::implied::{brings_any, closure, head_of};
 use crate::prospect::{Prospect, foresee};
 use crate::verdict::{is_among, is_wrong_policy, verdict};
 use crate::walk::{has, has_pair_of, is_pair_of, may_reach};
-use eco_ids::entity::{ACYCLIC, EXCLUSIVE};
+use eco_ids::entity::{ACYCLIC, EXCLUSIVE, WITH};
 use eco_ids::{Entity, Id, Refusal, TypeList};
 use std::alloc::{AllocError, Global};
 
@@ -43,9 +44,10 @@ pub enum Target {
 /// - [`Refusal::NotAPolicy`]: a pair of OnDelete or OnDeleteTarget in the closure has another target than Remove, Delete
 ///   and Panic;
 /// - [`Refusal::InUse`]: Exclusive or Acyclic is in the closure, the entity lacks it, and some living entity has a pair
-///   with the entity as relationship;
+///   with the entity as relationship; likewise Symmetric, where relationships may be symmetric;
 /// - [`Refusal::Cycle`]: for a pair (R, T) in the closure, R is acyclic, and T is the entity or a walk of pairs of R leads
 ///   from T to it. It names the least such R;
+/// - [`Refusal::TraitClash`]: a symmetric relationship would be exclusive, acyclic or tied to another by With;
 /// - [`Refusal::OutOfMemory`]: no memory is to be had for the closure, for a walk or for the new list. An id that is there
 ///   already wants none.
 pub fn target_type<H: Holdings>(
@@ -54,7 +56,8 @@ pub fn target_type<H: Holdings>(
     entity: Entity,
     id: Id,
 ) -> Result<Target, Refusal>
-    requires { IsTrue (lives (H.world holdings.now) entity) }
+    requires alive { IsTrue (lives (H.world holdings.now) entity) }
+    requires sound { IsSound (H.world holdings.now) }
     ensures target { FindsTarget (H.world holdings.now) entity id result }
     ensures own { IfOk result (λ target. is_own target ≡ has (H.world holdings.now) entity id) }
     ensures there { IfOk result (TakesOwn (H.world holdings.now) entity) }
@@ -80,6 +83,7 @@ pub fn open_target<H: Holdings>(
     requires alive { IsTrue (lives (H.world holdings.now) entity) }
     requires living { world.names_living (H.world holdings.now) id ≡ true }
     requires absent { has (H.world holdings.now) entity id ≡ false }
+    requires sound { IsSound (H.world holdings.now) }
     ensures target { FindsTarget (H.world holdings.now) entity id result }
     ensures own { IfOk result (λ target. is_own target ≡ has (H.world holdings.now) entity id) }
     ensures there { IfOk result (TakesOwn (H.world holdings.now) entity) }
@@ -102,6 +106,7 @@ fn new_target<H: Holdings>(
 ) -> Result<Target, Refusal>
     requires lives { IsTrue (world.names_living (H.world holdings.now) added) }
     requires absent { IsFalse (world.has (H.world holdings.now) entity added) }
+    requires sound { IsSound (H.world holdings.now) }
     requires own { Some own.now ≡ type_of_entity (H.world holdings.now) entity }
     requires traits { Some traits.now ≡ type_of_entity (H.world holdings.now) (head_of added) }
     ensures target { FindsTarget (H.world holdings.now) entity added result }
@@ -130,6 +135,7 @@ fn short_way<H: Holdings>(
 ) -> Option<Option<Id>>
     requires lives { IsTrue (world.names_living (H.world holdings.now) added) }
     requires absent { IsFalse (world.has (H.world holdings.now) entity added) }
+    requires sound { IsSound (H.world holdings.now) }
     requires own { Some own.now ≡ type_of_entity (H.world holdings.now) entity }
     requires traits { Some traits.now ≡ type_of_entity (H.world holdings.now) (head_of added) }
     ensures among { IfSome result (IsAmong own.now) }
@@ -160,6 +166,7 @@ fn short_pair<H: Holdings>(
 ) -> Option<Option<Id>>
     requires lives { IsTrue (world.names_living (H.world holdings.now) (Two relationship target)) }
     requires absent { IsFalse (world.has (H.world holdings.now) entity (Two relationship target)) }
+    requires sound { IsSound (H.world holdings.now) }
     requires own { Some own.now ≡ type_of_entity (H.world holdings.now) entity }
     requires traits { Some traits.now ≡ type_of_entity (H.world holdings.now) relationship }
     ensures among { IfSome result (IsAmong own.now) }
@@ -167,6 +174,9 @@ fn short_pair<H: Holdings>(
         (λ replaced. Replaces (H.world holdings.now) entity (Two relationship target) own.now replaced) }
 {
     if is_wrong_policy(Id::Two(relationship, target)) {
+        return None;
+    }
+    if may_tie(holdings, relationship) {
         return None;
     }
     if brings_any(traits) {
@@ -177,6 +187,13 @@ fn short_pair<H: Holdings>(
     }
     let replaced = replaced_by(own, relationship, traits)?;
     Some(replaced)
+}
+
+// Whether a pair may tie a symmetric relationship to another.
+fn may_tie<H: Holdings>(holdings: &H, relationship: Entity) -> bool
+    ensures { result ≡ (has_symmetric (H.world holdings.now).edition && entity_eq relationship WITH) }
+{
+    holdings.edition().has_symmetric() && relationship.is(WITH)
 }
 
 // Whether a pair may close a cycle at the entity, as far as that is known without a walk.
@@ -253,6 +270,7 @@ fn closed_type<H: Holdings>(
 ) -> Result<TypeList, Refusal>
     requires lives { IsTrue (world.names_living (H.world holdings.now) added) }
     requires absent { IsFalse (world.has (H.world holdings.now) entity added) }
+    requires sound { IsSound (H.world holdings.now) }
     requires own { Some own.now ≡ type_of_entity (H.world holdings.now) entity }
     requires traits { Some traits.now ≡ type_of_entity (H.world holdings.now) (head_of added) }
     ensures { FindsType (H.world holdings.now) entity added result }
@@ -276,11 +294,12 @@ fn judged_type<H: Holdings>(
 ) -> Result<TypeList, Refusal>
     requires lives { IsTrue (world.names_living (H.world holdings.now) added) }
     requires absent { IsFalse (world.has (H.world holdings.now) entity added) }
+    requires sound { IsSound (H.world holdings.now) }
     requires own { Some own.now ≡ type_of_entity (H.world holdings.now) entity }
     requires closure { step.IsClosure (H.world holdings.now) added coming.now }
     ensures { FindsType (H.world holdings.now) entity added result }
 {
-    if let Some(refusal) = verdict(alloc, holdings, entity, coming)? {
+    if let Some(refusal) = verdict(alloc, holdings, entity, added, coming)? {
         return Err(refusal);
     }
     Ok(extended(holdings, own, coming)?)

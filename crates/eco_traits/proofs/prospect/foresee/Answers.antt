@@ -1,5 +1,6 @@
 use Rattle.std.proofs.lemmas.Grind.{common_steps}
 use Rattle.std.proofs.Common.{arith}
+use Rattle.eco_traits.proofs.Plain.{plain_unmirrored}
 use Rattle.eco_traits.proofs.Targets.{plain_target}
 use Rattle.eco_traits.proofs.Walks.{has_listed}
 use Rattle.eco_traits.proofs.prospect.foresee.Goals as goal
@@ -8,7 +9,11 @@ pub returns-then-has : goal.returns-then-has
 returns-then-has g c = (grind (arith, common_steps), grind (arith, common_steps, has_listed))
 
 pub returns-then-is_plain : goal.returns-then-is_plain
-returns-then-is_plain g c = (grind (arith, common_steps, has_listed), grind (arith, common_steps, plain_target, has_listed))
+returns-then-is_plain g c = (
+  grind (arith, common_steps, has_listed),
+  grind (arith, common_steps, plain_target, has_listed),
+  grind (arith, common_steps, plain_unmirrored),
+)
 
 pub returns : goal.returns
 returns g c = (grind (arith, common_steps), grind (arith, common_steps, has_listed))

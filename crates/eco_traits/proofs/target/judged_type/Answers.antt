@@ -1,7 +1,8 @@
-use Rattle.std.proofs.lemmas.Grind.{common_steps}
-use Rattle.std.proofs.Common.{arith}
-use Rattle.eco_traits.proofs.Joined.{leads_to}
+use Rattle.eco_traits.proofs.Verdicts.{judged_leads}
 use Rattle.eco_traits.proofs.target.judged_type.Goals as goal
 
 pub returns : goal.returns
-returns g c = grind (arith, common_steps, leads_to)
+returns g c =
+    judged_leads (g.H.Holdings.world c.args.holdings.now) c.args.entity c.args.added c.args.coming.now c.args.own.now c.in_ok-extended.field-0
+    c.in_ok-refusal.field-0 c.requires.lives c.requires.absent c.requires.closure c.in_ok-refusal.ensures c.in_default.is c.requires.own
+    c.extended.ensures.ascending c.in_ok-extended.ensures.ids

@@ -1,4 +1,5 @@
 use Rattle.std.proofs.Common.{subst, ◌∙◌}
+use Rattle.std.proofs.lemmas.Result.{err_from_is_err_and}
 use Rattle.eco_traits.specs.Target.{IsAmong}
 use Rattle.eco_traits.proofs.Walks.{has_listed}
 use Rattle.eco_traits.proofs.target.new_target.Goals as goal
@@ -7,3 +8,6 @@ pub returns-clause-there : goal.returns-clause-there
 returns-clause-there g c =
     has_listed (g.H.Holdings.world c.args.holdings.now) c.args.entity c.in-Some-replaced.old c.args.own.now c.requires.own
     ∙ subst (IsAmong c.args.own.now) c.in-Some-replaced.is c.in-Some.ensures.among
+
+pub returns-in_err-ids-clause-target : goal.returns-in_err-ids-clause-target
+returns-in_err-ids-clause-target g c = let p = err_from_is_err_and c.from_residual.result c.from_residual.ensures.1 in rw (p.1, p.2) c.in_err-ids.ensures

@@ -5,6 +5,7 @@ use Rattle.std.specs.FinMap.Entries.{find}
 use Rattle.std.specs.List.{list_any}
 use Rattle.eco_ids.specs.declared.id.Id.{Id}
 use Rattle.eco_ids.specs.declared.id.Id.TheVariants as id
+use Rattle.eco_ids.specs.declared.value.TheConstants.{FIELD_COUNT}
 use Rattle.eco_ids.specs.Matching.{pattern_matches}
 use Rattle.eco_ids.specs.Order.{id_cmp, id_eq, has_item}
 use Rattle.eco_ids.proofs.Exact.{id_eq_sym}
@@ -55,7 +56,7 @@ width_listed s n i k = by (slot_of s n)
     by (Some t) h = any_has t.ids i ∙ paired_has t.ids t.widths i k h
 
 -- as wide as in a table that has the id
-pub width_as : (need : Id → ℕ) (s : List (Option TableState)) (n : ℕ) (i : Id) (w : ℕ) → AreAgreed s → w ≤ 4 → width_in (table_in s n) i ≡ Some w
+pub width_as : (need : Id → ℕ) (s : List (Option TableState)) (n : ℕ) (i : Id) (w : ℕ) → AreAgreed s → w ≤ FIELD_COUNT → width_in (table_in s n) i ≡ Some w
     → IsWidth need s i w
 width_as need s n i w agreed few at = record {
   few = few;
@@ -64,7 +65,7 @@ width_as need s n i w agreed few at = record {
 }
 
 -- as wide as the id may need, where no table has it
-pub width_new : (need : Id → ℕ) (s : List (Option TableState)) (i : Id) (w : ℕ) → ((n : ℕ) → type_matches (type_at s n) (exactly i) ≡ false) → w ≤ 4
+pub width_new : (need : Id → ℕ) (s : List (Option TableState)) (i : Id) (w : ℕ) → ((n : ℕ) → type_matches (type_at s n) (exactly i) ≡ false) → w ≤ FIELD_COUNT
     → w ≡ need i → IsWidth need s i w
 width_new need s i w none few is = record {
   few = few;

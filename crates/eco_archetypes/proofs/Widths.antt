@@ -93,7 +93,7 @@ widths_lengths need s [] (w ∷ ws) ok = absurd ok
 widths_lengths need s (i ∷ is) [] ok = absurd ok
 widths_lengths need s (i ∷ is) (w ∷ ws) ok = ap suc (widths_lengths need s is ws ok.1)
 
-pub widths_few : (need : Id → ℕ) (s : List (Option TableState)) (ids : List Id) (ws : List ℕ) → AreWidths need s ids ws → All (λ w. w ≤ 4) ws
+pub widths_few : (need : Id → ℕ) (s : List (Option TableState)) (ids : List Id) (ws : List ℕ) → AreWidths need s ids ws → All (λ w. w ≤ FIELD_COUNT) ws
 widths_few need s [] [] ok k d within = absurd (omega arith)
 widths_few need s [] (w ∷ ws) ok k d within = absurd ok
 widths_few need s (i ∷ is) [] ok k d within = absurd ok
@@ -178,12 +178,12 @@ all_later t (x ∷ xs) (suc m) zero few all = absurd (omega (arith, few))
 all_later t (x ∷ xs) (suc m) (suc k) few all = all_later t xs m k (omega (arith, few)) all
 
 -- a value without fields past these has none past more
-pub zero_later : (m k : ℕ) (v : Value) → IsTrue ((length v.0 == FIELD_COUNT) && is_zero_past m v) → min m 4 ≤ k
+pub zero_later : (m k : ℕ) (v : Value) → IsTrue ((length v.0 == FIELD_COUNT) && is_zero_past m v) → min m FIELD_COUNT ≤ k
     → IsTrue ((length v.0 == FIELD_COUNT) && is_zero_past k v)
 zero_later m k v h few =
-    let long : (length v.0 == 4) ≡ true = first _ _ h in
-    let four : length v.0 ≡ 4 = eqb-true (length v.0) 4 long in
-    rw long (all_later (λ x. int_eq x (pos 0)) v.0 m k (omega (arith, four, few)) (second (length v.0 == 4) _ h))
+    let long : (length v.0 == FIELD_COUNT) ≡ true = first _ _ h in
+    let full : length v.0 ≡ FIELD_COUNT = eqb-true (length v.0) FIELD_COUNT long in
+    rw long (all_later (λ x. int_eq x (pos 0)) v.0 m k (omega (arith, full, few)) (second (length v.0 == FIELD_COUNT) _ h))
 
 zeros_are : (xs : List ℤ) → IsTrue (list_all (λ x. int_eq x (pos 0)) xs) → xs ≡ replicate (length xs) (pos 0)
 zeros_are [] all = refl
@@ -194,11 +194,11 @@ zeros_are (x ∷ xs) all =
 
 fits_past : (k : ℕ) (v : Value) → IsTrue ((length v.0 == FIELD_COUNT) && is_zero_past k v) → Fits k v
 fits_past k v h =
-    let four : length v.0 ≡ 4 = eqb-true (length v.0) 4 (first _ _ h) in
-    let rest : drop k v.0 ≡ replicate (length (drop k v.0)) (pos 0) = zeros_are (drop k v.0) (second (length v.0 == 4) _ h) in
+    let full : length v.0 ≡ FIELD_COUNT = eqb-true (length v.0) FIELD_COUNT (first _ _ h) in
+    let rest : drop k v.0 ≡ replicate (length (drop k v.0)) (pos 0) = zeros_are (drop k v.0) (second (length v.0 == FIELD_COUNT) _ h) in
     let taken = length-take k v.0 in
     let dropped = length-drop k v.0 in
-    let many : length (drop k v.0) ≡ 4 - length (take k v.0) = omega (arith, four, taken, dropped) in
+    let many : length (drop k v.0) ≡ FIELD_COUNT - length (take k v.0) = omega (arith, full, taken, dropped) in
     ap of_fields (sym (take-append-drop k v.0) ∙ ap (λ ys. take k v.0 ++ ys) (rest ∙ ap (λ n. replicate n (pos 0)) many))
   where
     of_fields : List ℤ → Value

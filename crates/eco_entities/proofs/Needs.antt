@@ -6,6 +6,7 @@ use Rattle.std.proofs.lemmas.Bool.{cases_eq, cases_Bool, le-ltb, ltb-false, ltb-
 use Rattle.std.proofs.lemmas.Option.{slice_get_within}
 use Rattle.eco_ids.specs.declared.entity.Entity.{Entity}
 use Rattle.eco_ids.specs.declared.id.Id.TheVariants.{One, Two}
+use Rattle.eco_ids.specs.declared.value.TheConstants.{FIELD_COUNT}
 use Rattle.eco_ids.specs.declared.refusal.Refusal.{Refusal}
 use Rattle.eco_ids.specs.declared.refusal.Refusal.TheVariants.{Taken, NoMoreIds}
 use Rattle.eco_ids.specs.Births.{may_make, Admits, may_admit, unfit_name}
@@ -23,17 +24,17 @@ use Rattle.eco_entities.proofs.Kept.{next_has_room, IsRoom, with_room}
 
 -- ---- one state
 
-choice_few : (b : Bool) → (if b then 0 else 4) ≤ 4
+choice_few : (b : Bool) → (if b then 0 else FIELD_COUNT) ≤ FIELD_COUNT
 choice_few true = omega arith
 choice_few false = omega arith
 
-pub need_few : (o : Option (IndexState Registration)) (g : ℕ) → need_in o g ≤ 4
+pub need_few : (o : Option (IndexState Registration)) (g : ℕ) → need_in o g ≤ FIELD_COUNT
 need_few None g = omega arith
 need_few (Some Retired) g = omega arith
 need_few (Some (Free f)) g = choice_few (nat_lt g f)
 need_few (Some (Living f r)) g = by (g == f)
   where
-    by : (b : Bool) → (if b then fields_for r.arity else (if nat_lt g f then 0 else 4)) ≤ 4
+    by : (b : Bool) → (if b then fields_for r.arity else (if nat_lt g f then 0 else FIELD_COUNT)) ≤ FIELD_COUNT
     by true = omega arith
     by false = choice_few (nat_lt g f)
 
@@ -41,7 +42,7 @@ need_few (Some (Living f r)) g = by (g == f)
 need_settled : (f g : ℕ) (r : Registration) → need_in (Some (Living f r)) g ≤ need_in (Some (Free f)) g
 need_settled f g r = by (nat_lt g f) refl
   where
-    by : (b : Bool) → nat_lt g f ≡ b → need_in (Some (Living f r)) g ≤ (if b then 0 else 4)
+    by : (b : Bool) → nat_lt g f ≡ b → need_in (Some (Living f r)) g ≤ (if b then 0 else FIELD_COUNT)
     by true h =
         let below : g < f = ltb-true g f h in
         let other : (g == f) ≡ false = ne_eqb g f (λ e. omega (arith, e)) in
@@ -52,7 +53,7 @@ need_settled f g r = by (nat_lt g f) refl
 need_died : (f g : ℕ) (r : Registration) → need_in (Some (raised f)) g ≤ need_in (Some (Living f r)) g
 need_died f g r = by (nat_lt f 65535)
   where
-    next : (b : Bool) → nat_lt g (f + 1) ≡ b → (if b then 0 else 4) ≤ need_in (Some (Living f r)) g
+    next : (b : Bool) → nat_lt g (f + 1) ≡ b → (if b then 0 else FIELD_COUNT) ≤ need_in (Some (Living f r)) g
     next true h = omega arith
     next false h =
         let above : f + 1 ≤ g = ltb-false g (f + 1) h in

@@ -6,6 +6,7 @@ ghost use Rattle.std.specs.Prelude.{◌≡◌, ◌↔◌, ◌≤◌, ◌<◌, �
 ghost use Rattle.std.specs.Option.{option_copied};
 ghost use Rattle.eco_ids.specs.Births.{Admits, may_admit, Makes, MakesAliveWith, unfit_name};
 ghost use Rattle.eco_ids.specs.declared.entity.Entity.{Entity};
+ghost use Rattle.eco_ids.specs.declared.value.TheConstants.{FIELD_COUNT};
 ghost use Rattle.eco_ids.specs.Indices.{changed, is_alive, is_free_at, next_entity, with_new, with_death};
 ghost use Rattle.eco_ids.specs.Names.{named_entity, is_name};
 ghost use Rattle.eco_ids.specs.Outcome.{Meets};
@@ -142,7 +143,7 @@ impl EntityIndex {
     /// is not known. A pair's value has the fields of its relationship's or of its target's.
     pub fn need(&self, id: Id) -> u8
         ensures need { result ≡ need self.now id }
-        ensures few { result ≤ 4 }
+        ensures few { result ≤ FIELD_COUNT }
     {
         match id {
             Id::One(entity) => self.slots.need(entity),

@@ -8,7 +8,7 @@ use Rattle.std.specs.List.{list_any, list_all}
 use Rattle.std.specs.BTreeSet.{BTreeSet, contains}
 use Rattle.std.proofs.lemmas.List.Folds.{list_any_more}
 use Rattle.eco_ids.specs.Answer.{is_least_match, same_filling}
-use Rattle.eco_ids.specs.Matching.{part_matches, pattern_matches}
+use Rattle.eco_ids.specs.Matching.{pattern_matches}
 use Rattle.eco_ids.specs.Order.{entity_cmp, id_cmp, is_ascending}
 use Rattle.eco_ids.specs.declared.entity.Entity.{Entity}
 use Rattle.eco_ids.specs.declared.id.Id.{Id}

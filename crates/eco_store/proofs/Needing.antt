@@ -40,7 +40,7 @@ own_needed w s e = rw (slice_get-map (map_state (record_for (row_at s))) w.indic
       where
         here : (b : Bool)
             → fields_for (option_and_then (λ (x : Record). x.arity) (cond b (Some (record_for (row_at s) r)) None))
-            ≤ cond b (fields_for r.arity) (cond (nat_lt e.generation f) 0 4)
+            ≤ cond b (fields_for r.arity) (cond (nat_lt e.generation f) 0 FIELD_COUNT)
         here true = omega arith
         here false = omega arith
 

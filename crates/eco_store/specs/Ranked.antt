@@ -1,7 +1,6 @@
 -- Entities with the places of their tables.
 use Rattle.std.specs.Prelude.{List, map}
 use Rattle.std.specs.Slice.Iter.{iter_rest}
-use Rattle.eco_ids.specs.declared.entity.Entity.{Entity}
 use Rattle.eco_store.specs.declared.standing.Standing.{Standing}
 use Rattle.eco_store.specs.declared.ranked.Ranks.{Ranks}
 use Rattle.eco_store.specs.declared.ranked.Ranks.TheVariants as kept

@@ -1,13 +1,12 @@
 -- The values of one id, a place for each row.
-use Rattle.std.specs.Prelude.{◌≡◌, ℕ, ℤ, pos, ◌+◌, ◌-◌, List, [], ◌∷◌, ◌++◌, filter, not, map, length, take, replicate, slice_index_or, slice_set, unwrap_or}
+use Rattle.std.specs.Prelude.{◌≡◌, ℕ, ◌+◌, ◌-◌, List, [], ◌∷◌, ◌++◌, filter, not, map, length, take, slice_index_or, slice_set, unwrap_or}
 use Rattle.std.specs.Prelude.{if◌then◌else◌}
 use Rattle.std.specs.List.{swap_remove}
 use Rattle.std.specs.FinMap.Entries.{find}
 use Rattle.std.specs.Ordering.{is_lt}
 use Rattle.eco_ids.specs.declared.id.Id.{Id}
 use Rattle.eco_ids.specs.declared.value.Value.{Value}
-use Rattle.eco_ids.specs.declared.value.TheConstants.{FIELD_COUNT}
-use Rattle.eco_ids.specs.World.{zeros}
+use Rattle.eco_ids.specs.World.{padded, zeros}
 use Rattle.eco_ids.specs.Order.{id_cmp, id_eq}
 
 -- width: so many fields are kept of each value; room: so many more values fit with no allocation
@@ -17,13 +16,9 @@ pub record ColumnState : Type 0 where
   pub values : List Value
   pub room : ℕ
 
--- the value of these fields: those past them are 0
-abbrev pub widened : List ℤ → Value
-widened fields = record { 0 = fields ++ replicate (FIELD_COUNT - length fields) (pos 0) }
-
 -- the fields of the value past so many are 0
 abbrev pub Fits : ℕ → Value → Type 0
-Fits width v = v ≡ widened (take width v.0)
+Fits width v = v ≡ padded (take width v.0)
 
 -- the id, and how wide its values are
 abbrev pub kind_of : ColumnState → Id × ℕ

@@ -1,9 +1,9 @@
 -- What a column keeps of values: so many fields of each.
 use Rattle.std.specs.Prelude.{ℕ, ◌-◌, List, map, vec_len, vec_capacity}
 use Rattle.eco_ids.specs.declared.value.Value.{Value}
+use Rattle.eco_ids.specs.World.{padded}
 use Rattle.eco_tables.specs.declared.column.Fields.{Fields}
-use Rattle.eco_tables.specs.declared.column.Fields.TheVariants.{One, Two, Three, Four}
-use Rattle.eco_tables.specs.Column.{widened}
+use Rattle.eco_tables.specs.declared.column.Fields.TheVariants.{One, Two, Three, Four, Five, Six, Seven, Eight}
 
 -- how many fields are kept of each value
 abbrev pub width_of : Fields → ℕ
@@ -11,13 +11,21 @@ width_of (One _) = 1
 width_of (Two _) = 2
 width_of (Three _) = 3
 width_of (Four _) = 4
+width_of (Five _) = 5
+width_of (Six _) = 6
+width_of (Seven _) = 7
+width_of (Eight _) = 8
 
 -- the whole values
 abbrev pub values_of : Fields → List Value
-values_of (One v) = map widened v.items
-values_of (Two v) = map widened v.items
-values_of (Three v) = map widened v.items
-values_of (Four v) = map widened v.items
+values_of (One v) = map padded v.items
+values_of (Two v) = map padded v.items
+values_of (Three v) = map padded v.items
+values_of (Four v) = map padded v.items
+values_of (Five v) = map padded v.items
+values_of (Six v) = map padded v.items
+values_of (Seven v) = map padded v.items
+values_of (Eight v) = map padded v.items
 
 -- so many more fit with no allocation
 abbrev pub room_of : Fields → ℕ
@@ -25,3 +33,7 @@ room_of (One v) = vec_capacity v - vec_len v
 room_of (Two v) = vec_capacity v - vec_len v
 room_of (Three v) = vec_capacity v - vec_len v
 room_of (Four v) = vec_capacity v - vec_len v
+room_of (Five v) = vec_capacity v - vec_len v
+room_of (Six v) = vec_capacity v - vec_len v
+room_of (Seven v) = vec_capacity v - vec_len v
+room_of (Eight v) = vec_capacity v - vec_len v

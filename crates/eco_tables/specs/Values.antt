@@ -1,13 +1,17 @@
 -- Values that a column lends.
 use Rattle.std.specs.Prelude.{List, map}
 use Rattle.eco_ids.specs.declared.value.Value.{Value}
+use Rattle.eco_ids.specs.World.{padded}
 use Rattle.eco_tables.specs.declared.values.Values.{Values}
-use Rattle.eco_tables.specs.declared.values.Values.TheVariants.{One, Two, Three, Four}
-use Rattle.eco_tables.specs.Column.{widened}
+use Rattle.eco_tables.specs.declared.values.Values.TheVariants.{One, Two, Three, Four, Five, Six, Seven, Eight}
 
 -- the whole values
 abbrev pub shown : Values → List Value
-shown (One v) = map widened v.now
-shown (Two v) = map widened v.now
-shown (Three v) = map widened v.now
-shown (Four v) = map widened v.now
+shown (One v) = map padded v.now
+shown (Two v) = map padded v.now
+shown (Three v) = map padded v.now
+shown (Four v) = map padded v.now
+shown (Five v) = map padded v.now
+shown (Six v) = map padded v.now
+shown (Seven v) = map padded v.now
+shown (Eight v) = map padded v.now

@@ -1,8 +1,8 @@
 //! The values of one id, a place for each row, in as many fields as the id has.
-ghost use Rattle.std.specs.Prelude.{◌≡◌, ◌<◌, ◌≤◌, ◌+◌, ◌-◌, ◌++◌, ◌^◌, [], length, map, take, replicate, vec_len, vec_capacity, slice_index_or, OnOk, IfOk, ◌↔◌, IsTrue};
+ghost use Rattle.std.specs.Prelude.{◌≡◌, ◌<◌, ◌≤◌, ◌+◌, ◌-◌, ◌++◌, ◌^◌, [], length, map, take, replicate, vec_len, vec_capacity, slice_index_or, ◌∷◌, OnOk, IfOk, ◌↔◌, IsTrue};
 ghost use Rattle.std.specs.List.{swap_remove};
-ghost use Rattle.eco_ids.specs.World.{zeros};
-ghost use Rattle.eco_tables.specs.Column.{ColumnState, Fits, kind_of, pushed, joined, widened, with_removed, with_value, emptied, contents};
+ghost use Rattle.eco_ids.specs.World.{padded, zeros};
+ghost use Rattle.eco_tables.specs.Column.{ColumnState, Fits, kind_of, pushed, joined, with_removed, with_value, emptied, contents};
 ghost use Rattle.eco_tables.specs.Values.{shown};
 ghost use Rattle.eco_tables.specs.Fields.{width_of, values_of};
 
@@ -19,6 +19,59 @@ pub enum Fields {
     Two(Vec<[i64; 2]>),
     Three(Vec<[i64; 3]>),
     Four(Vec<[i64; 4]>),
+    Five(Vec<[i64; 5]>),
+    Six(Vec<[i64; 6]>),
+    Seven(Vec<[i64; 7]>),
+    Eight(Vec<[i64; 8]>),
+}
+
+// Does the same with the fields, however many are kept of each value.
+macro_rules! at_each_width {
+    ($fields:expr, |$rows:ident| $done:expr) => {
+        match $fields {
+            Fields::One($rows) => $done,
+            Fields::Two($rows) => $done,
+            Fields::Three($rows) => $done,
+            Fields::Four($rows) => $done,
+            Fields::Five($rows) => $done,
+            Fields::Six($rows) => $done,
+            Fields::Seven($rows) => $done,
+            Fields::Eight($rows) => $done,
+        }
+    };
+}
+
+// What is made of the fields, in the variant of the same width.
+macro_rules! of_same_width {
+    ($made:ident, $fields:expr, |$rows:ident| $done:expr) => {
+        match $fields {
+            Fields::One($rows) => $made::One($done),
+            Fields::Two($rows) => $made::Two($done),
+            Fields::Three($rows) => $made::Three($done),
+            Fields::Four($rows) => $made::Four($done),
+            Fields::Five($rows) => $made::Five($done),
+            Fields::Six($rows) => $made::Six($done),
+            Fields::Seven($rows) => $made::Seven($done),
+            Fields::Eight($rows) => $made::Eight($done),
+        }
+    };
+}
+
+// Does the same with the fields of two columns, as many of each value.
+macro_rules! at_equal_widths {
+    ($fields:expr, $others:expr, |$rows:ident, $source:ident| $done:expr) => {
+        match ($fields, $others) {
+            (Fields::One($rows), Fields::One($source)) => $done,
+            (Fields::Two($rows), Fields::Two($source)) => $done,
+            (Fields::Three($rows), Fields::Three($source)) => $done,
+            (Fields::Four($rows), Fields::Four($source)) => $done,
+            (Fields::Five($rows), Fields::Five($source)) => $done,
+            (Fields::Six($rows), Fields::Six($source)) => $done,
+            (Fields::Seven($rows), Fields::Seven($source)) => $done,
+            (Fields::Eight($rows), Fields::Eight($source)) => $done,
+            _ => unreachable!(),
+        }
+    };
 }
 
 /// A contract sees the id, how many fields are kept (`width`), the whole values, and how many more fit with no allocation
@@ -56,12 +109,7 @@ impl Fields {
         ensures width { IfOk result (λ f. width_of f ≡ width_of self.now) }
         ensures values { IfOk result (λ f. values_of f ≡ values_of self.now) }
     {
-        match self {
-            Fields::One(rows) => Ok(Fields::One(copied(rows)?)),
-            Fields::Two(rows) => Ok(Fields::Two(copied(rows)?)),
-            Fields::Three(rows) => Ok(Fields::Three(copied(rows)?)),
-            Fields::Four(rows) => Ok(Fields::Four(copied(rows)?)),
-        }
+        Ok(of_same_width!(Fields, self, |rows| copied(rows)?))
     }
 }
 
@@ -70,38 +118,44 @@ fn narrowed<const N: usize>(value: Value) -> [i64; N]
     requires { N ≤ FIELD_COUNT }
     ensures { result ≡ take N value.0 }
 {
-    let mut fields = [0; N];
-    fields.copy_from_slice(&value.0[..N]);
-    fields
+    *value.0.first_chunk().unwrap()
 }
 
 // The value of these fields.
 #[inline(always)]
-#[tactic(auto, using(crate::proofs::Packing::fits_widened))]
-fn widened<const N: usize>(fields: [i64; N]) -> Value
+#[tactic(auto, using(crate::proofs::Packing::fits_padded))]
+fn whole<const N: usize>(fields: [i64; N]) -> Value
     requires { N ≤ FIELD_COUNT }
-    ensures value { result ≡ widened fields.entry }
+    ensures value { result ≡ padded fields.entry }
     ensures fits { Fits N result }
 {
-    let mut all = [0; FIELD_COUNT];
-    all[..N].copy_from_slice(&fields);
-    Value(all)
+    Value::of(fields)
 }
 
 // The row's fields go, and the last ones take their place.
 #[tactic(auto, using(crate::proofs::Packing::map_swap_remove))]
 fn take_out<const N: usize>(rows: &mut Vec<[i64; N]>, row: usize)
     requires { row < vec_len rows.old }
-    ensures values { map widened rows.new.items ≡ swap_remove (map widened rows.old.items) row zeros }
+    ensures values { map padded rows.new.items ≡ swap_remove (map padded rows.old.items) row zeros }
     ensures room { vec_capacity rows.new - vec_len rows.new ≡ vec_capacity rows.old - vec_len rows.old + 1 }
 {
     rows.swap_remove(row);
 }
 
+// Zeros behind the own fields, in reserved room.
+fn push_zeros<const N: usize>(rows: &mut Vec<[i64; N]>)
+    requires few { N ≤ FIELD_COUNT }
+    requires room { vec_len rows.old < vec_capacity rows.old }
+    ensures values { map padded rows.new.items ≡ map padded rows.old.items ++ zeros ∷ [] }
+    ensures room { vec_capacity rows.new - vec_len rows.new ≡ vec_capacity rows.old - vec_len rows.old - 1 }
+{
+    rows.push_reserved([0; N]);
+}
+
 // The fields of all rows of another column behind the own, in reserved room.
 fn join<const N: usize>(rows: &mut Vec<[i64; N]>, source: &Vec<[i64; N]>)
     requires { vec_len rows.old + vec_len source.now ≤ vec_capacity rows.old }
-    ensures values { map widened rows.new.items ≡ map widened rows.old.items ++ map widened source.now.items }
+    ensures values { map padded rows.new.items ≡ map padded rows.old.items ++ map padded source.now.items }
     ensures room { vec_capacity rows.old - vec_len rows.old - vec_len source.now
         ≤ vec_capacity rows.new - vec_len rows.new }
 {
@@ -112,7 +166,7 @@ fn join<const N: usize>(rows: &mut Vec<[i64; N]>, source: &Vec<[i64; N]>)
 fn join_zeros<const N: usize>(rows: &mut Vec<[i64; N]>, count: usize)
     requires few { N ≤ FIELD_COUNT }
     requires room { vec_len rows.old + count ≤ vec_capacity rows.old }
-    ensures values { map widened rows.new.items ≡ map widened rows.old.items ++ replicate count zeros }
+    ensures values { map padded rows.new.items ≡ map padded rows.old.items ++ replicate count zeros }
     ensures room { vec_capacity rows.old - vec_len rows.old - count
         ≤ vec_capacity rows.new - vec_len rows.new }
 {
@@ -120,7 +174,7 @@ fn join_zeros<const N: usize>(rows: &mut Vec<[i64; N]>, count: usize)
 }
 
 impl Column {
-    /// A column without values, of 1 to 4 fields each.
+    /// A column without values, of 1 to 8 fields each.
     pub fn new(alloc: Global, id: Id, width: u8) -> Column
         requires at_least { 1 ≤ width }
         requires at_most { width ≤ FIELD_COUNT }
@@ -132,7 +186,11 @@ impl Column {
             1 => Fields::One(Vec::new(alloc)),
             2 => Fields::Two(Vec::new(alloc)),
             3 => Fields::Three(Vec::new(alloc)),
-            _ => Fields::Four(Vec::new(alloc)),
+            4 => Fields::Four(Vec::new(alloc)),
+            5 => Fields::Five(Vec::new(alloc)),
+            6 => Fields::Six(Vec::new(alloc)),
+            7 => Fields::Seven(Vec::new(alloc)),
+            _ => Fields::Eight(Vec::new(alloc)),
         };
         Column { id, fields }
     }
@@ -187,6 +245,10 @@ impl Column {
             Fields::Two(_) => 2,
             Fields::Three(_) => 3,
             Fields::Four(_) => 4,
+            Fields::Five(_) => 5,
+            Fields::Six(_) => 6,
+            Fields::Seven(_) => 7,
+            Fields::Eight(_) => 8,
         }
     }
 
@@ -201,12 +263,7 @@ impl Column {
     pub fn values(&self) -> Values<'_>
         ensures { shown result ≡ self.now.values }
     {
-        match &self.fields {
-            Fields::One(values) => Values::One(values.as_slice()),
-            Fields::Two(values) => Values::Two(values.as_slice()),
-            Fields::Three(values) => Values::Three(values.as_slice()),
-            Fields::Four(values) => Values::Four(values.as_slice()),
-        }
+        of_same_width!(Values, &self.fields, |rows| rows.as_slice())
     }
 
     /// Room for more values. An `Err` keeps what is there.
@@ -215,12 +272,7 @@ impl Column {
         ensures kept { self.old.room ≤ self.new.room }
         ensures room { OnOk result (more ≤ self.new.room) }
     {
-        match &mut self.fields {
-            Fields::One(values) => values.reserve(more),
-            Fields::Two(values) => values.reserve(more),
-            Fields::Three(values) => values.reserve(more),
-            Fields::Four(values) => values.reserve(more),
-        }
+        at_each_width!(&mut self.fields, |rows| rows.reserve(more))
     }
 
     /// Zeros for one more row, in reserved room.
@@ -228,12 +280,7 @@ impl Column {
         requires { 0 < self.old.room }
         ensures { self.new ≡ pushed self.old zeros }
     {
-        match &mut self.fields {
-            Fields::One(values) => values.push_reserved([0; 1]),
-            Fields::Two(values) => values.push_reserved([0; 2]),
-            Fields::Three(values) => values.push_reserved([0; 3]),
-            Fields::Four(values) => values.push_reserved([0; 4]),
-        }
+        at_each_width!(&mut self.fields, |rows| push_zeros(rows))
     }
 
     /// A value for one more row, in reserved room: that of a row of another column of as many fields.
@@ -243,13 +290,11 @@ impl Column {
         requires width { self.old.width ≡ source.now.width }
         ensures { self.new ≡ pushed self.old (slice_index_or source.now.values row zeros) }
     {
-        match (&mut self.fields, &source.fields) {
-            (Fields::One(values), Fields::One(from)) => values.push_reserved(from[row]),
-            (Fields::Two(values), Fields::Two(from)) => values.push_reserved(from[row]),
-            (Fields::Three(values), Fields::Three(from)) => values.push_reserved(from[row]),
-            (Fields::Four(values), Fields::Four(from)) => values.push_reserved(from[row]),
-            _ => unreachable!(),
-        }
+        at_equal_widths!(
+            &mut self.fields,
+            &source.fields,
+            |rows, others| rows.push_reserved(others[row])
+        )
     }
 
     /// Zeros for more rows, in reserved room.
@@ -259,12 +304,7 @@ impl Column {
             record (joined self.old (replicate count zeros)) { room = self.new.room } }
         ensures room { self.old.room ≤ self.new.room + count }
     {
-        match &mut self.fields {
-            Fields::One(values) => join_zeros(values, count),
-            Fields::Two(values) => join_zeros(values, count),
-            Fields::Three(values) => join_zeros(values, count),
-            Fields::Four(values) => join_zeros(values, count),
-        }
+        at_each_width!(&mut self.fields, |rows| join_zeros(rows, count))
     }
 
     /// All values of another column of as many fields, for more rows, in reserved room.
@@ -274,13 +314,11 @@ impl Column {
         ensures values { self.new ≡ record (joined self.old source.now.values) { room = self.new.room } }
         ensures room { self.old.room ≤ self.new.room + length source.now.values }
     {
-        match (&mut self.fields, &source.fields) {
-            (Fields::One(values), Fields::One(from)) => join(values, from),
-            (Fields::Two(values), Fields::Two(from)) => join(values, from),
-            (Fields::Three(values), Fields::Three(from)) => join(values, from),
-            (Fields::Four(values), Fields::Four(from)) => join(values, from),
-            _ => unreachable!(),
-        }
+        at_equal_widths!(
+            &mut self.fields,
+            &source.fields,
+            |rows, others| join(rows, others)
+        )
     }
 
     /// The value in a row.
@@ -290,12 +328,7 @@ impl Column {
         ensures value { result ≡ slice_index_or self.now.values row zeros }
         ensures fits { Fits self.now.width result }
     {
-        match &self.fields {
-            Fields::One(values) => widened(values[row]),
-            Fields::Two(values) => widened(values[row]),
-            Fields::Three(values) => widened(values[row]),
-            Fields::Four(values) => widened(values[row]),
-        }
+        at_each_width!(&self.fields, |rows| whole(rows[row]))
     }
 
     /// Writes the value in a row.
@@ -305,12 +338,7 @@ impl Column {
         requires fits { Fits self.old.width value }
         ensures { self.new ≡ with_value self.old row value }
     {
-        match &mut self.fields {
-            Fields::One(values) => values[row] = narrowed(value),
-            Fields::Two(values) => values[row] = narrowed(value),
-            Fields::Three(values) => values[row] = narrowed(value),
-            Fields::Four(values) => values[row] = narrowed(value),
-        }
+        at_each_width!(&mut self.fields, |rows| rows[row] = narrowed(value))
     }
 
     /// The row's value goes, and the last one takes its place.
@@ -318,23 +346,13 @@ impl Column {
         requires { row < length self.old.values }
         ensures { self.new ≡ with_removed self.old row }
     {
-        match &mut self.fields {
-            Fields::One(values) => take_out(values, row),
-            Fields::Two(values) => take_out(values, row),
-            Fields::Three(values) => take_out(values, row),
-            Fields::Four(values) => take_out(values, row),
-        }
+        at_each_width!(&mut self.fields, |rows| take_out(rows, row))
     }
 
     /// All values go; the memory stays.
     pub fn clear(&mut self)
         ensures { self.new ≡ emptied self.old }
     {
-        match &mut self.fields {
-            Fields::One(values) => values.clear(),
-            Fields::Two(values) => values.clear(),
-            Fields::Three(values) => values.clear(),
-            Fields::Four(values) => values.clear(),
-        }
+        at_each_width!(&mut self.fields, |rows| rows.clear())
     }
 }

@@ -3,6 +3,7 @@ ghost use Rattle.std.specs.Prelude.{◌≡◌, ℕ, ◌<◌, ◌≤◌, ◌+◌,
 ghost use Rattle.std.specs.List.{All, position_from};
 ghost use Rattle.std.specs.FinMap.Entries.{find};
 ghost use Rattle.std.specs.Ordering.{is_lt};
+ghost use Rattle.eco_ids.specs.declared.value.TheConstants.{FIELD_COUNT};
 ghost use Rattle.eco_ids.specs.World.{zeros};
 ghost use Rattle.eco_ids.specs.Order.{id_cmp, id_eq, has_item, is_ascending};
 ghost use Rattle.eco_tables.specs.Column.{Fits, pushed, joined, emptied, with_removed, written, held_in, value_in, contents, kind_of, with_column, without_column};
@@ -103,7 +104,7 @@ pub fn write_value(columns: &mut [Column], row: usize, id: Id, value: Value) -> 
 /// One column for each id that has a width, without a row.
 pub fn columns_of(alloc: Global, ids: &[Id], widths: &[u8]) -> Result<Vec<Column>, AllocError>
     requires lengths { length ids.now ≡ length widths.now }
-    requires widths { All (λ w. w ≤ 4) widths.now }
+    requires widths { All (λ w. w ≤ FIELD_COUNT) widths.now }
     ensures kinds { IfOk result (λ v. map kind_of v.items ≡ kinds_of ids.now widths.now) }
     ensures empty { IfOk result (λ v. All (λ c. c.values ≡ []) v.items) }
 {

@@ -4,6 +4,7 @@ ghost use Rattle.eco_ids.specs.declared.id.Id.{Id as Ids};
 ghost use Rattle.std.specs.List.{swap_remove, All};
 ghost use Rattle.std.specs.FinMap.Entries.{find};
 ghost use Rattle.eco_ids.specs.Order.{id_cmp, has_item};
+ghost use Rattle.eco_ids.specs.declared.value.TheConstants.{FIELD_COUNT};
 ghost use Rattle.eco_ids.specs.World.{zeros};
 ghost use Rattle.eco_tables.specs.Column.{value_in, with_held, retyped};
 ghost use Rattle.eco_tables.specs.Table.{TableState, Row, entities_of, HasIds, Agree, FitsId, width_in, empty_table};
@@ -54,7 +55,7 @@ impl Table {
     /// refused.
     pub fn new(alloc: Global, type_list: TypeList, widths: &[u8]) -> Result<Table, AllocError>
         requires lengths { length type_list ≡ length widths.now }
-        requires widths { All (λ w. w ≤ 4) widths.now }
+        requires widths { All (λ w. w ≤ FIELD_COUNT) widths.now }
         ensures { IfOk result (λ t. t ≡ empty_table type_list widths.now) }
     {
         let columns = columns_of(alloc, type_list.as_slice(), widths)?;
@@ -92,7 +93,7 @@ impl Table {
     /// How many fields the values of an id may use, if the type has the id.
     pub fn width(&self, id: Id) -> Option<u8>
         ensures width { result ≡ width_in self.now id }
-        ensures few { IfSome result (λ fields. fields ≤ 4) }
+        ensures few { IfSome result (λ fields. fields ≤ FIELD_COUNT) }
     {
         match find_column(self.columns.as_slice(), id) {
             Some(place) => Some(self.columns[place].width()),

@@ -1,6 +1,7 @@
 //! Tables, each in a slot of its own.
 ghost use Rattle.std.specs.Prelude.{◌≡◌, ◌≢◌, ℕ, ◌<◌, ◌≤◌, ◌+◌, ◌-◌, [], ◌∷◌, length, slice_get, slice_index_or, slice_set, None, Some, IsSome, is_some, OnSome, IfNone, count_by, OnOk, OnErr, IsOk, IfOk, option_copied, unwrap_or};
 ghost use Rattle.std.specs.FinMap.Entries.{find};
+ghost use Rattle.eco_ids.specs.declared.value.TheConstants.{FIELD_COUNT};
 ghost use Rattle.eco_ids.specs.Order.{id_cmp};
 ghost use Rattle.eco_tables.specs.Column.{value_in, with_held};
 ghost use Rattle.std.specs.List.{All};
@@ -72,7 +73,7 @@ impl Tables {
     /// and changes nothing.
     pub fn insert(&mut self, type_list: TypeList, widths: &[u8]) -> Result<usize, AllocError>
         requires lengths { length type_list ≡ length widths.now }
-        requires widths { All (λ w. w ≤ 4) widths.now }
+        requires widths { All (λ w. w ≤ FIELD_COUNT) widths.now }
         ensures vacant { IfOk result (λ n. slot_of self.old n ≡ None) }
         ensures sets { IfOk result (λ n. Sets self.old self.new n (Some (empty_table type_list widths.now))) }
         ensures err { OnErr result (self.new ≡ self.old) }

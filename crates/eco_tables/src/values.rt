@@ -7,4 +7,8 @@ pub enum Values<'a> {
     Two(&'a [[i64; 2]]),
     Three(&'a [[i64; 3]]),
     Four(&'a [[i64; 4]]),
+    Five(&'a [[i64; 5]]),
+    Six(&'a [[i64; 6]]),
+    Seven(&'a [[i64; 7]]),
+    Eight(&'a [[i64; 8]]),
 }

@@ -1,6 +1,7 @@
 //! A table of one row takes the type of its next step where it stands: to make a table of that type, and to drop this one,
 //! would cost as much as the type has ids.
 ghost use Rattle.std.specs.Prelude.{◌≡◌, ◌≢◌, ◌≤◌, ℕ, length, Some, IsSome, true, false, IfOk, OnOk, OnErr};
+ghost use Rattle.eco_ids.specs.declared.value.TheConstants.{FIELD_COUNT};
 ghost use Rattle.eco_ids.specs.Order.{id_cmp, has_item};
 ghost use Rattle.eco_tables.specs.Tables.{slot_of, table_in};
 ghost use Rattle.eco_index.specs.Edges.{toggled};
@@ -104,7 +105,7 @@ fn toggle(
     requires there { IsSome (slot_of tables.old slot) }
     requires index { IsIdIndex (type_at tables.old) (lists_in by_id.old) }
     requires agreed { AreAgreed tables.old }
-    requires few { width ≤ 4 }
+    requires few { width ≤ FIELD_COUNT }
     requires width { FitsAll tables.old id width }
     ensures ok { OnOk result
         (TakesType tables.old tables.new slot (toggled (table_in tables.old slot).ids id)) }
@@ -133,7 +134,7 @@ fn gain(
     requires lacks { has_item id_cmp (table_in tables.old slot).ids id ≡ false }
     requires index { IsIdIndex (type_at tables.old) (lists_in by_id.old) }
     requires agreed { AreAgreed tables.old }
-    requires few { width ≤ 4 }
+    requires few { width ≤ FIELD_COUNT }
     requires width { FitsAll tables.old id width }
     ensures ok { OnOk result
         (TakesType tables.old tables.new slot (toggled (table_in tables.old slot).ids id)) }

@@ -1,5 +1,5 @@
 use Rattle.eco_store.specs.Staying.{all_staying}
-use Rattle.std.proofs.Common.{subst, ap, ◌∙◌}
+use Rattle.std.proofs.Common.{subst}
 use Rattle.eco_archetypes.specs.Archetypes.{RowlessIn}
 use Rattle.eco_archetypes.proofs.Copying.{copied_kept, copied_rows, copied_rowless}
 use Rattle.eco_store.proofs.LaidRows.{laid_idle}

@@ -1,4 +1,4 @@
-use Rattle.std.proofs.Common.{length, ap, sym, ◌∙◌, arith}
+use Rattle.std.proofs.Common.{◌∙◌}
 use Rattle.eco_archetypes.proofs.ArchetypeLemmas.{then_rows}
 use Rattle.eco_store.specs.Staying.{all_staying}
 use Rattle.eco_store.proofs.Coming.{all_there, none_typed, typed_alike}

@@ -1,4 +1,4 @@
-use Rattle.std.proofs.Common.{refl, sym, subst, ◌∙◌, arith}
+use Rattle.std.proofs.Common.{refl, sym, subst, arith}
 use Rattle.eco_ids.proofs.Lists.{length-swap_remove}
 use Rattle.eco_tables.specs.Tables.{no_row, table_in, without_row}
 use Rattle.eco_store.specs.Layout.{rows_in, TakesRow}

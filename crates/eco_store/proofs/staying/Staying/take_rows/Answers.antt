@@ -1,4 +1,4 @@
-use Rattle.std.proofs.Common.{[], ◌≡◌, ◌∷◌, refl, sym, ap, subst, ◌∙◌, arith}
+use Rattle.std.proofs.Common.{[], ◌∷◌, refl, sym, ap, subst, ◌∙◌, arith}
 use Rattle.eco_tables.specs.Tables.{cleared, table_in}
 use Rattle.eco_archetypes.specs.Archetypes.{RowlessIn}
 use Rattle.eco_store.specs.Layout.{rows_in, SetsRows}

@@ -9,6 +9,5 @@ pub mod Planned
 pub mod Relationships
 pub mod Roles
 pub mod Rooted
-pub mod Sparing
 pub mod Standing
 pub mod TakenOut

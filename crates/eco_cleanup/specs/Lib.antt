@@ -1,4 +1,5 @@
 pub mod Firsts
+pub mod Laws
 pub mod Nodes
 pub mod Objections
 pub mod OnlyHolders

@@ -5,6 +5,7 @@
 mod deleting;
 mod doomed;
 mod forbidding;
+pub mod laws;
 mod node;
 mod objection;
 mod only_holder;

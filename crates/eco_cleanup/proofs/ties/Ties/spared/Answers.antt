@@ -2,7 +2,7 @@ use Rattle.std.proofs.Common.{◌≡◌, [], take, length, ap, ◌∙◌, arith}
 use Rattle.std.proofs.Math.Seq.{take-length}
 use Rattle.eco_ids.specs.Cleanup.{names_any}
 use Rattle.eco_cleanup.specs.Nodes.{taken_among}
-use Rattle.eco_cleanup.proofs.Sparing.{all_staying, with_staying}
+use Rattle.eco_ids.proofs.Sparing.{all_staying, with_staying}
 use Rattle.eco_cleanup.proofs.ties.Ties.spared.Goals as goal
 
 pub returns : goal.returns

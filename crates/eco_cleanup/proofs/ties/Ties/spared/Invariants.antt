@@ -1,7 +1,7 @@
 use Rattle.std.proofs.Common.{◌≡◌, [], take}
 use Rattle.eco_ids.specs.Cleanup.{names_any}
 use Rattle.eco_cleanup.specs.Nodes.{taken_among}
-use Rattle.eco_cleanup.proofs.Sparing.{with_staying}
+use Rattle.eco_ids.proofs.Sparing.{with_staying}
 use Rattle.eco_cleanup.proofs.ties.Ties.spared.Given as goal
 
 abbrev pub invariant-loop-id : goal.invariant-loop-id

@@ -75,8 +75,8 @@ one_deleted w new e r lives ordinary ends =
     rw (lives, ordinary) (deleted w new r (e ∷ []) (λ x. x ≡ e) (only e) (λ x is. subst (λ y. IsTrue (is_alive w y)) (sym is) lives) ends)
 
 -- those whom a search for the id finds have it
-found : (w : WorldState) (i : Id) (e : Entity) → IsTrue (has_item entity_cmp (holders w i) e) ↔ IsTrue (has w e i)
-found w i e = (
+pub holders_have : (w : WorldState) (i : Id) (e : Entity) → IsTrue (has_item entity_cmp (holders w i) e) ↔ IsTrue (has w e i)
+holders_have w i e = (
   λ h. let own = own_from_passed (λ r. is_some (find id_cmp i r.held)) (entities w) e h in subst (λ o. IsTrue (has_in o i)) (sym own.1) own.2,
   λ h. let own = entry_of (record_of w e) i h in
       passed_from_own (λ r. is_some (find id_cmp i r.held)) (entities w) e (own.0, own.2, subst (λ o. IsTrue (has_in o i)) own.2 h),
@@ -87,4 +87,4 @@ pub with_deleted : (w new : WorldState) (i : Id) (r : Result (Unit {0}) Refusal)
     → ((members : List Entity) → IsDoomed w (λ x. IsTrue (has_item entity_cmp roots x)) members → Meets (Ends w members) true w r new)
     → Meets (DeletesWith w i) (may_delete_with w i) w r new
 with_deleted w new i r roots all ordinary ends =
-    rw ordinary (deleted w new r roots (λ x. IsTrue (has w x i)) (rw all (found w i)) (λ x. has_alive w x i) ends)
+    rw ordinary (deleted w new r roots (λ x. IsTrue (has w x i)) (rw all (holders_have w i)) (λ x. has_alive w x i) ends)

@@ -1,10 +1,10 @@
 -- An add is the type that it leads to, and a set is an add and a write.
-use Rattle.std.proofs.Common.{◌≡◌, Bool, true, false, cond, not, ◌&&◌, List, [], Option, Some, None, option_map, unwrap_or, refl, sym, ap, ◌∙◌, subst}
+use Rattle.std.proofs.Common.{◌≡◌, Bool, true, false, cond, not, ◌&&◌, List, [], map, Option, Some, None, option_map, unwrap_or, refl, sym, ap, ◌∙◌, subst}
 use Rattle.std.proofs.Common.{is_some, true≢false, IsTrue, MatchOption, MatchBool, Result, Ok, Err, OnOk}
 use Rattle.std.specs.List.{list_any}
 use Rattle.std.specs.Option.{option_or}
 use Rattle.std.proofs.lemmas.Option.{same_Some, none-some}
-use Rattle.std.specs.FinMap.Entries.{find}
+use Rattle.std.specs.FinMap.Entries.{find, where_key}
 use Rattle.eco_ids.specs.declared.entity.Entity.{Entity}
 use Rattle.eco_ids.specs.declared.id.Id.{Id}
 use Rattle.eco_ids.specs.declared.id.Id.TheVariants.{One, Two}
@@ -13,26 +13,34 @@ use Rattle.eco_ids.specs.declared.refusal.Refusal.TheVariants.{DeadId}
 use Rattle.eco_ids.specs.declared.value.Value.{Value}
 use Rattle.eco_ids.specs.Builtin.{is_builtin}
 use Rattle.eco_ids.specs.Losses.{without, nobody}
+use Rattle.eco_ids.specs.Mirrors.{goes_too, mirror_of}
 use Rattle.eco_ids.specs.Laws.{Keeps, AddsExactly, AddsOnce}
 use Rattle.eco_ids.specs.Lawful.{IsLawful}
 use Rattle.eco_ids.specs.Order.{id_cmp, has_item, with_item, without_item}
 use Rattle.eco_ids.specs.Outcome.{Meets, Answers, Refuses, is_out_of_memory}
 use Rattle.eco_ids.specs.Step as step
 use Rattle.eco_ids.specs.Step.{changed, grown, with_value, with_closure, is_replaced, is_pair_of, IsClosure, Judges, Loses, Extends, Adds, unfit, unchanged}
-use Rattle.eco_ids.specs.Step.{Sets, unfit_set, unfit_actor}
+use Rattle.eco_ids.specs.Step.{Sets, unfit_set, unfit_actor, is_reserved, with_mirror}
 use Rattle.eco_ids.specs.World.{WorldState, Record, zeros, has, names_living, is_exclusive, record_of, with_record, is_alive}
 use Rattle.eco_ids.proofs.Keeps.{some_of}
-use Rattle.eco_ids.proofs.Records.{changed_is, write_change}
-use Rattle.eco_ids.proofs.Steps.{grown_unchanged}
+use Rattle.eco_ids.proofs.Records.{changed_is, changed_unchanged}
+use Rattle.eco_ids.proofs.Closures.{zeros_have}
+use Rattle.eco_ids.proofs.Exact.{keys_find}
+use Rattle.eco_ids.proofs.Grown.{grown_at}
+use Rattle.eco_ids.proofs.Steps.{has_itself}
 use Rattle.eco_ids.proofs.Ascending.{second}
 use Rattle.eco_ids.proofs.Facts.{not_true}
 use Rattle.eco_store.specs.Store.{with_type}
+use Rattle.eco_traits.specs.declared.target.Target.{Target}
 use Rattle.eco_traits.specs.declared.target.Target.TheVariants.{Instead, With}
-use Rattle.eco_traits.specs.Target.{ExtendsTo, FindsTarget, FindsType, IsOwnType, IsTypeWith, LeadsTo, type_of_entity, type_of_record}
+use Rattle.eco_traits.specs.Target.{ExtendsTo, FindsTarget, FindsType, IsOwnType, IsTypeWith, LeadsTo, type_meant, type_of_entity, type_of_record}
 use Rattle.eco_tables.specs.Column.{value_in}
 use Rattle.eco_world.specs.Actor.{MaySet}
+use Rattle.eco_world.specs.Types.{type_of}
 use Rattle.eco_world.proofs.Changes.{held_at, sorted_at}
+use Rattle.eco_world.specs.Losses.{IsAlone}
 use Rattle.eco_world.proofs.Held.{retyped_is}
+use Rattle.eco_world.proofs.Mirroring.{alone_typed}
 
 -- ---- a closure more
 
@@ -51,14 +59,14 @@ left_value None false false v absent e = absurd (none-some v e)
 left_value old true true v absent e = absurd (true≢false (absent refl))
 left_value old true false v absent e = absurd (none-some v e)
 
--- an add that is done: that it keeps the world lawful, and that the entity's new ids say it all
-pub record IsExtended (w : WorldState) (e : Entity) (s : List Id) (d : Record) : Type 0 where
-  pub lawful : IsLawful (grown w e s)
-  pub typed : changed w e (with_type (type_of_record (with_closure w s d))) ≡ grown w e s
+-- an add that is done: that it keeps the world lawful, and that the entity's new ids and the mirror say it all
+pub record IsExtended (w : WorldState) (e : Entity) (i : Id) (s : List Id) (d : Record) : Type 0 where
+  pub lawful : IsLawful (grown w e i s)
+  pub typed : with_mirror (changed w e (with_type (type_of_record (with_closure w s d)))) (mirror_of w e i) ≡ grown w e i s
 
-module _ (w : WorldState) (e : Entity) (i : Id) (alive : is_alive w e ≡ true) (ordinary : is_builtin w e ≡ false) (living : names_living w i ≡ true) where
+module _ (w : WorldState) (e : Entity) (i : Id) (alive : is_alive w e ≡ true) (free : is_reserved w e i ≡ false) (living : names_living w i ≡ true) where
   fit : unfit w e i ≡ None
-  fit = rw (alive, ordinary, living) refl
+  fit = rw (alive, free, living) refl
 
   module _ (absent : has w e i ≡ false) where
     -- an add is the extension of what the entity has
@@ -68,34 +76,34 @@ module _ (w : WorldState) (e : Entity) (i : Id) (alive : is_alive w e ≡ true) 
         (subst (λ b. MatchBool b (Answers tt w r new) (Extends w e i unchanged r new)) (sym absent) x)
 
     module _ (s : List Id) (d : Record) (at : record_of w e ≡ Some d) (lawful : IsLawful w) (keeps : Keeps (λ v. Adds v e i)) (exactly : AddsExactly)
-        (closure : IsClosure w i s) (judges : Judges w e s None) where
-      done : Adds w e i (Ok tt) (grown w e s)
-      done = adds_by (Ok tt) (grown w e s) (s, closure, None, judges, (refl, sym (grown_unchanged w e s d at)))
+        (closure : IsClosure w i s) (judges : Judges w e s (grown w e i s) None) where
+      done : Adds w e i (Ok tt) (grown w e i s)
+      done = adds_by (Ok tt) (grown w e i s) (s, closure, None, judges, (refl, sym (changed_unchanged (grown w e i s) e)))
 
-      kept : IsLawful (grown w e s)
-      kept = keeps w (Ok tt) (grown w e s) lawful done
+      kept : IsLawful (grown w e i s)
+      kept = keeps w (Ok tt) (grown w e i s) lawful done
 
-      written : record_of (grown w e s) e ≡ Some (with_closure w s d)
-      written = (write_change w e (with_closure w s) d at).at
+      written : record_of (grown w e i s) e ≡ Some (with_closure w s d)
+      written = grown_at w e i s d at (has_itself w i s closure)
 
       values : (j : Id) (v : Value) → find id_cmp j (with_closure w s d).held ≡ Some v → value_in d.held j ≡ v
       values j v found =
-          let leaves = exactly w e i (grown w e s) absent done in
+          let leaves = exactly w e i (grown w e i s) absent done in
           left_value (find id_cmp j d.held) (is_replaced w leaves.closure j) (has_item id_cmp leaves.closure j) v (replaced_absent w leaves.closure j)
           (ap (λ held. option_or (cond (not (is_replaced w leaves.closure j)) (find id_cmp j held) None)
           (cond (has_item id_cmp leaves.closure j) (Some zeros) None)) (sym (held_at w e d at))
           ∙ sym (leaves.values j)
-          ∙ ap (find id_cmp j) (held_at (grown w e s) e (with_closure w s d) written)
+          ∙ ap (find id_cmp j) (held_at (grown w e i s) e (with_closure w s d) written)
           ∙ found)
 
-      extended_typed : IsExtended w e s d
+      extended_typed : IsExtended w e i s d
       extended_typed = record {
         lawful = kept;
-        typed =
-            changed_is w e (with_type (type_of_record (with_closure w s d))) d at
+        typed = ap (λ x. with_mirror x (mirror_of w e i))
+            (changed_is w e (with_type (type_of_record (with_closure w s d))) d at
             ∙ ap (λ held. with_record w e (record d { held = held }))
-            (retyped_is (with_closure w s d).held d.held (sorted_at (grown w e s) e kept (with_closure w s d) written) values)
-            ∙ sym (changed_is w e (with_closure w s) d at);
+            (retyped_is (with_closure w s d).held d.held (sorted_at (grown w e i s) e kept (with_closure w s d) written) values)
+            ∙ sym (changed_is w e (with_closure w s) d at));
       }
 
 -- ---- an add, from the type that it leads to
@@ -103,7 +111,7 @@ module _ (w : WorldState) (e : Entity) (i : Id) (alive : is_alive w e ≡ true) 
 record IsFound (w : WorldState) (e : Entity) (i : Id) (ids : List Id) : Type 0 where
   pub closure : List Id
   pub is_closure : IsClosure w i closure
-  pub judges : Judges w e closure None
+  pub judges : Judges w e closure (grown w e i closure) None
   pub of : Record
   pub at : record_of w e ≡ Some of
   pub ids_are : ids ≡ type_of_record (with_closure w closure of)
@@ -125,7 +133,8 @@ found w e i ids living absent finds = by_verdict extends.0 extends.1 extends.2 e
         subst (λ b. MatchBool b (IsOwnType w e (Ok ids)) (ExtendsTo w e i (Ok ids))) absent
         (subst (λ b. MatchBool b (MatchBool (has w e i) (IsOwnType w e (Ok ids)) (ExtendsTo w e i (Ok ids))) (Ok ids ≡ Err DeadId)) living finds)
 
-    by_verdict : (s : List Id) → IsClosure w i s → (v : Option Refusal) → Judges w e s v → MatchOption v (IsTypeWith w e s (Ok ids)) (λ why. Ok ids ≡ Err why) →
+    by_verdict : (s : List Id) → IsClosure w i s → (v : Option Refusal) → Judges w e s (grown w e i s) v → MatchOption v (IsTypeWith w e s (Ok ids))
+        (λ why. Ok ids ≡ Err why) →
         IsFound w e i ids
     by_verdict s closure None judges m = record { closure = s; is_closure = closure; judges = judges; of = m.0; at = m.1; ids_are = same_ok ids _ m.2 }
     by_verdict s closure (Some why) judges m = absurd (not_refused ids why m)
@@ -148,7 +157,7 @@ opposed w e i why living absent =
     not_found : (ids : List Id) → (let r : Result (List Id) Refusal = Err why in r ≡ Ok ids) → ⊥
     not_found ids h = cc
 
-    by_verdict : (s : List Id) → IsClosure w i s → (v : Option Refusal) → Judges w e s v →
+    by_verdict : (s : List Id) → IsClosure w i s → (v : Option Refusal) → Judges w e s (grown w e i s) v →
         MatchOption v (IsTypeWith w e s (Err why)) (λ y. (let r : Result (List Id) Refusal = Err why in r ≡ Err y)) → Extends w e i unchanged (Err why) w
     by_verdict s closure None judges m = absurd (not_found _ m.2)
     by_verdict s closure (Some y) judges m = (s, closure, Some y, judges, (let same : why ≡ y = cc in ap Err same, refl))
@@ -163,10 +172,10 @@ names_live w e i ids = by (names_living w i)
 
 -- ---- the whole add
 
-module _ (w : WorldState) (e : Entity) (i : Id) (alive : is_alive w e ≡ true) (ordinary : is_builtin w e ≡ false) where
+module _ (w : WorldState) (e : Entity) (i : Id) (alive : is_alive w e ≡ true) (free : is_reserved w e i ≡ false) where
   -- it is done where the id is there
   pub adds_there : names_living w i ≡ true → has w e i ≡ true → Adds w e i (Ok tt) w
-  adds_there living there = rw (alive, ordinary, living, there) (refl, refl)
+  adds_there living there = rw (alive, free, living, there) (refl, refl)
 
   module _ (living : names_living w i ≡ true) (absent : has w e i ≡ false) where
     -- where it isn't, an add is an extension
@@ -175,8 +184,8 @@ module _ (w : WorldState) (e : Entity) (i : Id) (alive : is_alive w e ≡ true) 
     adds_extends r new =
         elim (is_out_of_memory r) as (λ b. MatchBool b (IsTrue true × (new ≡ w)) (Extends w e i unchanged r new) →
         MatchBool b (IsTrue (step.may_add w e i) × (new ≡ w)) (Adds w e i r new)) [
-          | true ↦ λ m. (ap (λ o. not (is_some o) && not (has w e i)) (fit w e i alive ordinary living) ∙ ap not absent, m.1)
-          | false ↦ λ x. adds_by w e i alive ordinary living absent r new x
+          | true ↦ λ m. (ap (λ o. not (is_some o) && not (has w e i)) (fit w e i alive free living) ∙ ap not absent, m.1)
+          | false ↦ λ x. adds_by w e i alive free living absent r new x
         ]
 
     pub extends_adds : (r : Result (Unit {0}) Refusal) (new : WorldState) → Meets (Adds w e i) (step.may_add w e i) w r new →
@@ -192,7 +201,7 @@ module _ (w : WorldState) (e : Entity) (i : Id) (alive : is_alive w e ≡ true) 
         extends_by r new x =
             subst (λ b. MatchBool b (Answers tt w r new) (Extends w e i unchanged r new)) absent
             (subst (λ o. MatchOption o (MatchBool (has w e i) (Answers tt w r new) (Extends w e i unchanged r new)) (λ why. Refuses why w r new))
-            (fit w e i alive ordinary living) x)
+            (fit w e i alive free living) x)
 
   -- what stands against the type stands against the add
   pub opposed_add : (why : Refusal) → FindsType w e i (Err why) → (IsTrue (is_out_of_memory {A = Unit {0}} (Err why)) → has w e i ≡ false) →
@@ -211,7 +220,7 @@ module _ (w : WorldState) (e : Entity) (i : Id) (alive : is_alive w e ≡ true) 
                 let is : (let r : Result (List Id) Refusal = Err why in r ≡ Err DeadId) =
                 subst (λ b. MatchBool b (MatchBool (has w e i) (IsOwnType w e (Err why)) (ExtendsTo w e i (Err why)))
                 (let r : Result (List Id) Refusal = Err why in r ≡ Err DeadId)) lies m in
-                rw (alive, ordinary, lies) (ap Err (one why is), refl)
+                rw (alive, free, lies) (ap Err (one why is), refl)
           ]) finds
 
       there : names_living w i ≡ true → has w e i ≡ true → Meets (Adds w e i) (step.may_add w e i) w (Err why) w
@@ -238,55 +247,76 @@ module _ (w : WorldState) (e : Entity) (i : Id) (alive : is_alive w e ≡ true) 
       by_living true h = by_has h (has w e i) refl
       by_living false h = dead h
 
--- the entity with that type: the world is lawful, and it is the extension
-pub record IsTyped (w : WorldState) (e : Entity) (i : Id) (ids : List Id) : Type 0 where
-  pub lawful : IsLawful (changed w e (with_type ids))
-  pub extends : Extends w e i unchanged (Ok tt) (changed w e (with_type ids))
+-- the world once the entity has these ids, and the mirror of i stands where it belongs
+abbrev pub typed_both : WorldState → Entity → Id → List Id → WorldState
+typed_both w e i ids = with_mirror (changed w e (with_type ids)) (mirror_of w e i)
 
-pub typed : (w : WorldState) (e : Entity) (i : Id) (ids : List Id) → is_alive w e ≡ true → is_builtin w e ≡ false → names_living w i ≡ true →
-    has w e i ≡ false →
-    IsLawful w → Keeps (λ v. Adds v e i) → AddsExactly → FindsType w e i (Ok ids) → IsTyped w e i ids
-typed w e i ids alive ordinary living absent lawful keeps exactly finds =
-    let f = found w e i ids living absent finds in
-    let x = extended_typed w e i alive ordinary living absent f.closure f.of f.at lawful keeps exactly f.is_closure f.judges in
-    let same : changed w e (with_type ids) ≡ grown w e f.closure = ap (λ js. changed w e (with_type js)) f.ids_are ∙ x.typed in
+-- the entity with what the add leads to, and the mirror: the world is lawful, and the add is done
+pub record IsGrown (w : WorldState) (e : Entity) (i : Id) (new : WorldState) : Type 0 where
+  pub lawful : IsLawful new
+  pub adds : Adds w e i (Ok tt) new
+
+pub found_both : (w : WorldState) (e : Entity) (i : Id) (ids : List Id) → is_alive w e ≡ true → is_reserved w e i ≡ false → IsLawful w →
+    Keeps (λ v. Adds v e i) → AddsExactly → FindsType w e i (Ok ids) → has w e i ≡ false → IsGrown w e i (typed_both w e i ids)
+found_both w e i ids alive free lawful keeps exactly finds lacks =
+    let living = names_live w e i ids finds in
+    let f = found w e i ids living lacks finds in
+    let x = extended_typed w e i alive free living lacks f.closure f.of f.at lawful keeps exactly f.is_closure f.judges in
+    let same : typed_both w e i ids ≡ grown w e i f.closure = ap (typed_both w e i) f.ids_are ∙ x.typed in
     record {
       lawful = subst IsLawful (sym same) x.lawful;
-      extends = (f.closure, f.is_closure, None, f.judges, (refl, same ∙ sym (grown_unchanged w e f.closure f.of f.at)));
+      adds = adds_by w e i alive free living lacks (Ok tt) (typed_both w e i ids)
+          (f.closure, f.is_closure, None, f.judges, (refl, same ∙ sym (changed_unchanged (grown w e i f.closure) e)));
     }
 
--- the entity with what the add leads to: the world is lawful, and the add is done
-pub record IsGrown (w : WorldState) (e : Entity) (i : Id) (ids : List Id) : Type 0 where
-  pub lawful : IsLawful (changed w e (with_type ids))
-  pub adds : Adds w e i (Ok tt) (changed w e (with_type ids))
-
-pub found_other : (w : WorldState) (e : Entity) (i : Id) (ids : List Id) → is_alive w e ≡ true → is_builtin w e ≡ false → IsLawful w →
-    Keeps (λ v. Adds v e i) → AddsExactly → FindsType w e i (Ok ids) → has w e i ≡ false → IsGrown w e i ids
-found_other w e i ids alive ordinary lawful keeps exactly finds lacks =
+-- where nobody else has a mirror of it, the entity's ids are all
+pub found_other : (w : WorldState) (e : Entity) (i : Id) (ids : List Id) → is_alive w e ≡ true → is_reserved w e i ≡ false → IsLawful w →
+    Keeps (λ v. Adds v e i) → AddsExactly → FindsType w e i (Ok ids) → has w e i ≡ false → IsAlone w e i →
+    IsGrown w e i (changed w e (with_type ids))
+found_other w e i ids alive free lawful keeps exactly finds lacks alone =
     let living = names_live w e i ids finds in
-    let t = typed w e i ids alive ordinary living lacks lawful keeps exactly finds in
-    record { lawful = t.lawful; adds = adds_by w e i alive ordinary living lacks (Ok tt) (changed w e (with_type ids)) t.extends }
+    let f = found w e i ids living lacks finds in
+    let own : IsTrue (has_item id_cmp ids i) = subst (λ js. IsTrue (has_item id_cmp js i)) (sym f.ids_are)
+    (sym (keys_find (with_closure w f.closure f.of).held i)
+    ∙ zeros_have f.closure (where_key id_cmp (λ j. not (is_replaced w f.closure j)) (f.of).held) i (has_itself w i f.closure f.is_closure)) in
+    subst (IsGrown w e i) (alone_typed w e i ids f.of f.at alone own) (found_both w e i ids alive free lawful keeps exactly finds lacks)
 
-pub found_with : (w : WorldState) (e : Entity) (i : Id) → is_alive w e ≡ true → is_builtin w e ≡ false → IsLawful w →
-    Keeps (λ v. Adds v e i) → AddsExactly → FindsTarget w e i (Ok With) → has w e i ≡ false →
-    IsGrown w e i (with_item id_cmp (unwrap_or (type_of_entity w e) []) i)
+pub found_with : (w : WorldState) (e : Entity) (i : Id) → is_alive w e ≡ true → is_reserved w e i ≡ false → IsLawful w →
+    Keeps (λ v. Adds v e i) → AddsExactly → FindsTarget w e i (Ok With) → has w e i ≡ false → IsAlone w e i →
+    IsGrown w e i (changed w e (with_type (with_item id_cmp (unwrap_or (type_of_entity w e) []) i)))
 found_with w e i = found_other w e i (with_item id_cmp (unwrap_or (type_of_entity w e) []) i)
 
-pub found_instead : (w : WorldState) (e : Entity) (i old : Id) → is_alive w e ≡ true → is_builtin w e ≡ false → IsLawful w →
-    Keeps (λ v. Adds v e i) → AddsExactly → FindsTarget w e i (Ok (Instead old)) → has w e i ≡ false →
-    IsGrown w e i (with_item id_cmp (without_item id_cmp (unwrap_or (type_of_entity w e) []) old) i)
+pub found_instead : (w : WorldState) (e : Entity) (i old : Id) → is_alive w e ≡ true → is_reserved w e i ≡ false → IsLawful w →
+    Keeps (λ v. Adds v e i) → AddsExactly → FindsTarget w e i (Ok (Instead old)) → has w e i ≡ false → IsAlone w e i →
+    IsGrown w e i (changed w e (with_type (with_item id_cmp (without_item id_cmp (unwrap_or (type_of_entity w e) []) old) i)))
 found_instead w e i old = found_other w e i (with_item id_cmp (without_item id_cmp (unwrap_or (type_of_entity w e) []) old) i)
+
+own_type : (w : WorldState) (e : Entity) → unwrap_or (type_of_entity w e) [] ≡ type_of w e
+own_type w e = by (record_of w e)
+  where
+    by : (o : Option Record) → unwrap_or (option_map type_of_record o) [] ≡ map (λ (p : Id × Value). p.0) (unwrap_or (option_map (λ (r : Record). r.held) o) [])
+    by None = refl
+    by (Some d) = refl
+
+-- where somebody has a mirror of it
+pub found_mirrored : (w : WorldState) (e : Entity) (i : Id) (t : Target) (m : Entity × Id) → is_alive w e ≡ true → is_reserved w e i ≡ false → IsLawful w →
+    Keeps (λ v. Adds v e i) → AddsExactly → FindsTarget w e i (Ok t) → has w e i ≡ false → mirror_of w e i ≡ Some m →
+    IsGrown w e i (with_mirror (changed w e (with_type (type_meant (type_of w e) i t))) (Some m))
+found_mirrored w e i t m alive free lawful keeps exactly finds lacks mirror =
+    subst (λ o. IsGrown w e i (with_mirror (changed w e (with_type (type_meant (type_of w e) i t))) o)) mirror
+    (found_both w e i (type_meant (type_of w e) i t) alive free lawful keeps exactly
+    (subst (λ own. FindsType w e i (Ok (type_meant own i t))) (own_type w e) finds) lacks)
 
 -- ---- a set
 
 -- where nothing stands against a set and the id isn't there, the add that it begins with is an extension
 pub extended : (w : WorldState) (e : Entity) (i : Id) (v : Value) → MaySet w e i v → has w e i ≡ false → (r : Result (Unit {0}) Refusal) (new : WorldState) →
     Meets (Adds w e i) (step.may_add w e i) w r new → Meets (Extends w e i unchanged) true w r new
-extended w e i v may_set = extends_adds w e i may_set.alive may_set.ordinary may_set.living
+extended w e i v may_set = extends_adds w e i may_set.alive may_set.free may_set.living
 
 module _ (w : WorldState) (e : Entity) (i : Id) (v : Value) (may_set : MaySet w e i v) (lawful : IsLawful w) (keeps : Keeps (λ x. Sets x e i v)) where
   fit_set : unfit_set w e i v ≡ None
-  fit_set = rw (may_set.alive, may_set.ordinary, may_set.living, may_set.data_id, may_set.narrow) refl
+  fit_set = rw (may_set.alive, may_set.free, may_set.living, may_set.data_id, may_set.narrow) refl
 
   -- where the id is there
   sets_there : has w e i ≡ true → Sets w e i v (Ok tt) (changed w e (with_value i v))
@@ -316,8 +346,8 @@ module _ (w : WorldState) (e : Entity) (i : Id) (v : Value) (may_set : MaySet w 
             (refused x.0 x.1 x.2 x.3 x.4))
       ]
     where
-      refused : (s : List Id) → IsClosure w i s → (verdict : Option Refusal) → Judges w e s verdict →
-          MatchOption verdict (Answers {A = Unit {0}} tt (changed (grown w e s) e unchanged) (Err why) new) (λ y. Refuses {A = Unit {0}} y w (Err why) new) →
+      refused : (s : List Id) → IsClosure w i s → (verdict : Option Refusal) → Judges w e s (grown w e i s) verdict →
+          MatchOption verdict (Answers {A = Unit {0}} tt (changed (grown w e i s) e unchanged) (Err why) new) (λ y. Refuses {A = Unit {0}} y w (Err why) new) →
           Extends w e i (with_value i v) (Err why) new
       refused s closure None judges m = absurd (is_done why (sym m.0))
       refused s closure (Some y) judges m = (s, closure, Some y, judges, m)
@@ -325,7 +355,7 @@ module _ (w : WorldState) (e : Entity) (i : Id) (v : Value) (may_set : MaySet w 
   -- after the id was added
   module _ (absent : has w e i ≡ false) (once : AddsOnce) (mid : WorldState) (extends : Extends w e i unchanged (Ok tt) mid) where
     pub there_after : has mid e i ≡ true
-    there_after = (once w e i mid (adds_by w e i may_set.alive may_set.ordinary may_set.living absent (Ok tt) mid extends)).0
+    there_after = (once w e i mid (adds_by w e i may_set.alive may_set.free may_set.living absent (Ok tt) mid extends)).0
 
     pub alive_after : is_alive mid e ≡ true
     alive_after = lives (record_of mid e) there_after
@@ -337,10 +367,10 @@ module _ (w : WorldState) (e : Entity) (i : Id) (v : Value) (may_set : MaySet w 
     here : (d : Record) × (record_of w e ≡ Some d)
     here = some_of (record_of w e) may_set.alive
 
-    both_done : (s : List Id) → IsClosure w i s → (verdict : Option Refusal) → Judges w e s verdict →
-        MatchOption verdict (Answers {A = Unit {0}} tt (changed (grown w e s) e unchanged) (Ok tt) mid) (λ why. Refuses {A = Unit {0}} why w (Ok tt) mid) →
+    both_done : (s : List Id) → IsClosure w i s → (verdict : Option Refusal) → Judges w e s (grown w e i s) verdict →
+        MatchOption verdict (Answers {A = Unit {0}} tt (changed (grown w e i s) e unchanged) (Ok tt) mid) (λ why. Refuses {A = Unit {0}} why w (Ok tt) mid) →
         Extends w e i (with_value i v) (Ok tt) (changed mid e (with_value i v))
-    both_done s closure None judges m = (s, closure, None, judges, (refl, ap (λ x. changed x e (with_value i v)) (m.1 ∙ grown_unchanged w e s here.0 here.1)))
+    both_done s closure None judges m = (s, closure, None, judges, (refl, ap (λ x. changed x e (with_value i v)) (m.1 ∙ changed_unchanged (grown w e i s) e)))
     both_done s closure (Some why) judges m = absurd (is_done why m.0)
 
     pub sets_after : Sets w e i v (Ok tt) (changed mid e (with_value i v))
@@ -359,11 +389,11 @@ module _ (w : WorldState) (e : Entity) (i : Id) (v : Value) (may_set : MaySet w 
 -- ---- a remove, and a clear
 
 module _ (w : WorldState) (e : Entity) (alive : is_alive w e ≡ true) (ordinary : is_builtin w e ≡ false) where
-  -- the ids that go from one who may act
-  pub loses : (goes : Entity → Id → Bool) → MatchOption (unfit_actor w e) (Loses w goes (Ok tt) (without w nobody goes))
-      (λ why. Refuses {A = Unit {0}} why w (Ok tt) (without w nobody goes))
-  loses goes = subst (λ o. MatchOption o (Loses w goes (Ok tt) (without w nobody goes)) (λ why. Refuses {A = Unit {0}} why w (Ok tt) (without w nobody goes)))
-      (sym fit_actor) (refl, refl)
+  -- the ids that go from one who may act, each with its mirror
+  pub loses : (goes : Entity → Id → Bool) → MatchOption (unfit_actor w e) (Loses w goes (Ok tt) (without w nobody (goes_too w goes)))
+      (λ why. Refuses {A = Unit {0}} why w (Ok tt) (without w nobody (goes_too w goes)))
+  loses goes = subst (λ o. MatchOption o (Loses w goes (Ok tt) (without w nobody (goes_too w goes)))
+      (λ why. Refuses {A = Unit {0}} why w (Ok tt) (without w nobody (goes_too w goes)))) (sym fit_actor) (refl, refl)
     where
       fit_actor : unfit_actor w e ≡ None
       fit_actor = rw (alive, ordinary) refl

@@ -4,6 +4,7 @@ use Rattle.std.proofs.Common.{if◌then◌else◌, cond, refl, sym, ap, ◌∙�
 use Rattle.std.specs.List.{list_all}
 use Rattle.std.specs.Option.{option_or}
 use Rattle.std.specs.FinMap.Entries.{find, put, find-put}
+use Rattle.eco_ids.specs.declared.edition.Edition.{Edition}
 use Rattle.eco_ids.specs.declared.entity.Entity.{Entity}
 use Rattle.eco_ids.specs.declared.id.Id.{Id}
 use Rattle.eco_ids.specs.declared.id.Id.TheVariants.{One, Two}
@@ -31,9 +32,10 @@ all_past t (suc n) [] all = refl
 all_past t (suc n) (x ∷ xs) all = all_past t n xs (second _ _ all)
 
 -- the store knows no pair of a built-in: it asks for no more fields of one to be 0
-pub fits_stored : (v : Indexed Record) (qs : List (List QueryTerm)) (i : Id) (x : Value) → IsTrue (fits (world_with v qs) i x) → IsTrue (store.fits v i x)
-fits_stored v qs (One e) x h = h
-fits_stored v qs (Two r t) x h = by (is_builtin (world_with v qs) r) h
+pub fits_stored : (edition : Edition) (v : Indexed Record) (qs : List (List QueryTerm)) (i : Id) (x : Value) → IsTrue (fits (world_with edition v qs) i x)
+    → IsTrue (store.fits v i x)
+fits_stored edition v qs (One e) x h = h
+fits_stored edition v qs (Two r t) x h = by (is_builtin (world_with edition v qs) r) h
   where
     by : (b : Bool)
         → IsTrue ((length x.0 == FIELD_COUNT)

@@ -48,10 +48,10 @@ retyped_is (p ∷ new) old up values =
     ∙ ap (λ held. p ∷ held)
     (retyped_is new old (second_T _ _ up) (λ i v at. values i v (ap (λ b. cond b (Some p.1) (find id_cmp i new)) (apart i p new v (first_T _ _ up) at) ∙ at)))
 
-alike : (test : Id → Bool) (i j : Id) → id_cmp i j ≡ Equal → test j ≡ test i
+pub alike : (test : Id → Bool) (i j : Id) → id_cmp i j ≡ Equal → test j ≡ test i
 alike test i j e = ap test (sym (same_id i j e))
 
-kept_find : (test : Id → Bool) (held : Held) (i : Id) (v : Value) → find id_cmp i (where_key id_cmp test held) ≡ Some v → find id_cmp i held ≡ Some v
+pub kept_find : (test : Id → Bool) (held : Held) (i : Id) (v : Value) → find id_cmp i (where_key id_cmp test held) ≡ Some v → find id_cmp i held ≡ Some v
 kept_find test held i v at = go (test i) (sym (find-where_key id_cmp test i (alike test i) held) ∙ at)
   where
     go : (b : Bool) → cond b (find id_cmp i held) None ≡ Some v → find id_cmp i held ≡ Some v

@@ -9,8 +9,10 @@ pub mod Fitting
 pub mod Held
 pub mod Holders
 pub mod Layouts
-pub mod Merging
 pub mod Lending
+pub mod Losing
+pub mod Merging
+pub mod Mirroring
 pub mod Queried
 pub mod Removals
 pub mod Starting

@@ -10,31 +10,38 @@ use Rattle.eco_ids.specs.declared.value.Value.{Value}
 use Rattle.eco_ids.specs.Cleanup.{Doomed, Ends, Forbids, ForbidsFirst, HoldsOn, IsDoomed, Names}
 use Rattle.eco_ids.specs.Data.{fits}
 use Rattle.eco_ids.specs.Indices.{Indexed}
-use Rattle.eco_ids.specs.Lawful.{IsLawful, IsLawfulRecord}
+use Rattle.eco_ids.specs.Lawful.{IsLawful, IsLawfulRecord, KeepsEdition}
 use Rattle.eco_ids.specs.Least.{Least, root, next}
 use Rattle.eco_ids.specs.Outcome.{Meets, is_out_of_memory}
 use Rattle.eco_ids.specs.Terms.{QueryTerm}
+use Rattle.eco_ids.specs.declared.edition.Edition.{Edition}
+use Rattle.eco_ids.specs.declared.edition.Edition.TheVariants.{First, Second}
 use Rattle.eco_ids.specs.World.{Record, WorldState, names_living}
 use Rattle.eco_ids.proofs.Meaning.{least}
 use Rattle.eco_store.specs.Worlds.{world_of}
 use Rattle.eco_world.specs.Worlds.{world_with}
 
--- the same world with these queries
-abbrev asking : List (List QueryTerm) → WorldState → WorldState
-asking qs w = record w { queries = qs }
+-- the same world with these queries, of an edition
+abbrev asking : Edition → List (List QueryTerm) → WorldState → WorldState
+asking d qs w = record w { edition = d; queries = qs }
 
 -- ---- it is lawful
 
-module _ (v : Indexed Record) (qs rs : List (List QueryTerm)) where
-  names_live : (i : Id) → IsTrue (names_living (world_with v qs) i) → IsTrue (names_living (world_with v rs) i)
+-- the mirrors and whatever clashes are not a matter of queries
+edition_too : (d : Edition) (v : Indexed Record) (qs rs : List (List QueryTerm)) → KeepsEdition d (world_with d v qs) → KeepsEdition d (world_with d v rs)
+edition_too First v qs rs m = tt
+edition_too Second v qs rs m = record { mirrors = m.mirrors; calm = m.calm }
+
+module _ (d : Edition) (v : Indexed Record) (qs rs : List (List QueryTerm)) where
+  names_live : (i : Id) → IsTrue (names_living (world_with d v qs) i) → IsTrue (names_living (world_with d v rs) i)
   names_live (One e) h = h
   names_live (Two r t) h = h
 
-  fits_too : (i : Id) (x : Value) → IsTrue (fits (world_with v qs) i x) → IsTrue (fits (world_with v rs) i x)
+  fits_too : (i : Id) (x : Value) → IsTrue (fits (world_with d v qs) i x) → IsTrue (fits (world_with d v rs) i x)
   fits_too (One e) x h = h
   fits_too (Two r t) x h = h
 
-  record_too : (r : Record) → IsLawfulRecord (world_with v qs) r → IsLawfulRecord (world_with v rs) r
+  record_too : (r : Record) → IsLawfulRecord (world_with d v qs) r → IsLawfulRecord (world_with d v rs) r
   record_too r was = record {
     name = was.name;
     arity = was.arity;
@@ -42,7 +49,7 @@ module _ (v : Indexed Record) (qs rs : List (List QueryTerm)) where
     values = λ i x at. fits_too i x (was.values i x at);
   }
 
-  pub lawful_with : IsLawful (world_with v qs) → IsLawful (world_with v rs)
+  pub lawful_with : IsLawful (world_with d v qs) → IsLawful (world_with d v rs)
   lawful_with was = record {
     orderly = record {
       records = λ e r at. record_too r (was.orderly.records e r at);
@@ -56,59 +63,61 @@ module _ (v : Indexed Record) (qs rs : List (List QueryTerm)) where
       begun = was.orderly.begun;
       bounded = was.orderly.bounded;
     };
-    edition = was.edition;
+    edition = edition_too d v qs rs was.edition;
   }
 
-  -- ---- a delete takes the same
+-- ---- a delete takes the same
 
-  names_on : (action : Entity) (i : Id) (m : Entity) → Names (world_with v qs) action i m → Names (world_with v rs) action i m
+module _ (c d : Edition) (v : Indexed Record) (qs rs : List (List QueryTerm)) where
+  names_on : (action : Entity) (i : Id) (m : Entity) → Names (world_with c v qs) action i m → Names (world_with d v rs) action i m
   names_on action (One x) m n = n
   names_on action (Two r t) m n = n
 
-  holds_on : (action m h : Entity) → HoldsOn (world_with v qs) action m h → HoldsOn (world_with v rs) action m h
+  holds_on : (action m h : Entity) → HoldsOn (world_with c v qs) action m h → HoldsOn (world_with d v rs) action m h
   holds_on action m h x = (x.0, x.1, names_on action x.0 m x.2)
 
-  doomed_too : (IsRoot : Entity → Type 0) (e : Entity) → Doomed (world_with v qs) IsRoot e → Doomed (world_with v rs) IsRoot e
+  doomed_too : (IsRoot : Entity → Type 0) (e : Entity) → Doomed (world_with c v qs) IsRoot e → Doomed (world_with d v rs) IsRoot e
   doomed_too IsRoot e h =
-      least (Least IsRoot (HoldsOn (world_with v rs) DELETE)) (λ a p. root p) (λ a b member holds. next member (holds_on DELETE a b holds)) h
+      least (Least IsRoot (HoldsOn (world_with d v rs) DELETE)) (λ a p. root p) (λ a b member holds. next member (holds_on DELETE a b holds)) h
 
-  forbids_too : (members : List Entity) (h m : Entity) → Forbids (world_with v qs) members h m → Forbids (world_with v rs) members h m
+  forbids_too : (members : List Entity) (h m : Entity) → Forbids (world_with c v qs) members h m → Forbids (world_with d v rs) members h m
   forbids_too members h m f = (f.0, f.1, f.2, holds_on PANIC m h f.3)
 
-list_too : (v : Indexed Record) (qs rs : List (List QueryTerm)) (IsRoot : Entity → Type 0) (members : List Entity)
-    → IsDoomed (world_with v qs) IsRoot members → IsDoomed (world_with v rs) IsRoot members
-list_too v qs rs IsRoot members d = record {
-  ascending = d.ascending;
-  exact = λ e. (λ h. doomed_too v qs rs IsRoot e ((d.exact e).0 h), λ h. (d.exact e).1 (doomed_too v rs qs IsRoot e h));
+list_too : (c d : Edition) (v : Indexed Record) (qs rs : List (List QueryTerm)) (IsRoot : Entity → Type 0) (members : List Entity)
+    → IsDoomed (world_with c v qs) IsRoot members → IsDoomed (world_with d v rs) IsRoot members
+list_too c d v qs rs IsRoot members all = record {
+  ascending = all.ascending;
+  exact = λ e. (λ h. doomed_too c d v qs rs IsRoot e ((all.exact e).0 h), λ h. (all.exact e).1 (doomed_too d c v rs qs IsRoot e h));
 }
 
-first_too : (v : Indexed Record) (qs rs : List (List QueryTerm)) (members : List Entity) (holder member : Entity)
-    → ForbidsFirst (world_with v qs) members holder member → ForbidsFirst (world_with v rs) members holder member
-first_too v qs rs members holder member f = (
-  forbids_too v qs rs members holder member f.0,
-  λ h m forbids. f.1 h m (forbids_too v rs qs members h m forbids),
-  λ m forbids. f.2 m (forbids_too v rs qs members holder m forbids),
+first_too : (c d : Edition) (v : Indexed Record) (qs rs : List (List QueryTerm)) (members : List Entity) (holder member : Entity)
+    → ForbidsFirst (world_with c v qs) members holder member → ForbidsFirst (world_with d v rs) members holder member
+first_too c d v qs rs members holder member f = (
+  forbids_too c d v qs rs members holder member f.0,
+  λ h m forbids. f.1 h m (forbids_too d c v rs qs members h m forbids),
+  λ m forbids. f.2 m (forbids_too d c v rs qs members holder m forbids),
 )
 
-module _ (v new : Indexed Record) (qs rs : List (List QueryTerm)) (members : List Entity) where
-  ends_too : (r : Result (Unit {0}) Refusal) → Ends (world_with v qs) members r (world_with new qs)
-      → Ends (world_with v rs) members r (world_with new rs)
-  ends_too (Ok done) x = (ap (asking rs) x.0, λ h m forbids. x.1 h m (forbids_too v rs qs members h m forbids))
-  ends_too (Err why) x = (ap (asking rs) x.0, x.1, x.2, x.3, first_too v qs rs members x.1 x.2 x.4)
+module _ (c d : Edition) (v new : Indexed Record) (qs rs : List (List QueryTerm)) (members : List Entity) where
+  ends_too : (r : Result (Unit {0}) Refusal) → Ends (world_with c v qs) members r (world_with c new qs)
+      → Ends (world_with d v rs) members r (world_with d new rs)
+  ends_too (Ok done) x = (ap (asking d rs) x.0, λ h m forbids. x.1 h m (forbids_too d c v rs qs members h m forbids))
+  ends_too (Err why) x = (ap (asking d rs) x.0, x.1, x.2, x.3, first_too c d v qs rs members x.1 x.2 x.4)
 
-  meets_too : (r : Result (Unit {0}) Refusal) → Meets (Ends (world_with v qs) members) true (world_with v qs) r (world_with new qs)
-      → Meets (Ends (world_with v rs) members) true (world_with v rs) r (world_with new rs)
+  meets_too : (r : Result (Unit {0}) Refusal) → Meets (Ends (world_with c v qs) members) true (world_with c v qs) r (world_with c new qs)
+      → Meets (Ends (world_with d v rs) members) true (world_with d v rs) r (world_with d new rs)
   meets_too r =
       elim (is_out_of_memory r) as (λ b.
-      MatchBool b (IsTrue true × (world_with new qs ≡ world_with v qs)) (Ends (world_with v qs) members r (world_with new qs)) →
-      MatchBool b (IsTrue true × (world_with new rs ≡ world_with v rs)) (Ends (world_with v rs) members r (world_with new rs))) [
-        | true ↦ λ m. (m.0, ap (asking rs) m.1)
+      MatchBool b (IsTrue true × (world_with c new qs ≡ world_with c v qs)) (Ends (world_with c v qs) members r (world_with c new qs)) →
+      MatchBool b (IsTrue true × (world_with d new rs ≡ world_with d v rs)) (Ends (world_with d v rs) members r (world_with d new rs))) [
+        | true ↦ λ m. (m.0, ap (asking d rs) m.1)
         | false ↦ ends_too r
       ]
 
 -- what a delete of a store promises it keeps in the world
-pub ends_with : (v new : Indexed Record) (qs : List (List QueryTerm)) (r : Result (Unit {0}) Refusal) (IsRoot : Entity → Type 0)
+pub ends_with : (edition : Edition) (v new : Indexed Record) (qs : List (List QueryTerm)) (r : Result (Unit {0}) Refusal) (IsRoot : Entity → Type 0)
     → ((members : List Entity) → IsDoomed (world_of v) IsRoot members → Meets (Ends (world_of v) members) true (world_of v) r (world_of new))
-    → (members : List Entity) → IsDoomed (world_with v qs) IsRoot members
-    → Meets (Ends (world_with v qs) members) true (world_with v qs) r (world_with new qs)
-ends_with v new qs r IsRoot ends members d = meets_too v new [] qs members r (ends members (list_too v qs [] IsRoot members d))
+    → (members : List Entity) → IsDoomed (world_with edition v qs) IsRoot members
+    → Meets (Ends (world_with edition v qs) members) true (world_with edition v qs) r (world_with edition new qs)
+ends_with edition v new qs r IsRoot ends members all =
+    meets_too First edition v new [] qs members r (ends members (list_too edition First v qs [] IsRoot members all))

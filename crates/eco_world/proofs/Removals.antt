@@ -5,12 +5,15 @@ use Rattle.std.specs.List.{All, Contains, list_any, range_with_len}
 use Rattle.std.specs.FinMap.Entries.{find}
 use Rattle.std.proofs.lemmas.List.{get_or-map, length-map}
 use Rattle.std.proofs.lemmas.Option.{none-some, same_Some}
+use Rattle.eco_ids.specs.declared.edition.Edition.{Edition}
 use Rattle.eco_ids.specs.declared.entity.Entity.{Entity}
 use Rattle.eco_ids.specs.declared.id.Id.{Id}
 use Rattle.eco_ids.specs.Builtin.{is_builtins}
 use Rattle.eco_ids.specs.Indices.{Indexed, IndexState, Retired, Free, Living, map_state, record_of}
 use Rattle.eco_ids.specs.Lawful.{IsLawful}
+use Rattle.eco_ids.specs.Laws.{Keeps}
 use Rattle.eco_ids.specs.Losses.{keeping, without, nobody}
+use Rattle.eco_ids.specs.Mirrors.{goes_too}
 use Rattle.eco_ids.specs.Matching.{pattern_matches}
 use Rattle.eco_ids.specs.Order.{entity_cmp, has_item, id_cmp, id_eq, is_ascending, without_item}
 use Rattle.eco_ids.specs.Step.{RemovesAll}
@@ -27,9 +30,11 @@ use Rattle.eco_store.specs.declared.type_change.TypeChange.{TypeChange}
 use Rattle.eco_cleanup.specs.Plans.{TakesOutOfAll}
 use Rattle.eco_ids.specs.Terms.{QueryTerm}
 use Rattle.eco_store.specs.Worlds.{world_of}
+use Rattle.eco_world.specs.Losses.{symmetric_target}
 use Rattle.eco_world.specs.Worlds.{world_with}
 use Rattle.eco_world.proofs.Holders.{matches_exactly}
 use Rattle.eco_world.proofs.Changes.{sorted_at}
+use Rattle.eco_world.proofs.Losing.{plainly_taken}
 
 -- ---- the built-ins
 
@@ -74,15 +79,16 @@ typed None ids is = absurd (none-some ids is)
 typed (Some r) ids is = (r, refl, same_Some (record_ids r) ids is)
 
 -- the id goes from every type that has it, and nobody dies
-pub taken_out_of_all : (v : Indexed Record) (qs : List (List QueryTerm)) (i : Id) (types : List (List Id)) (cs : List TypeChange) → IsLawful (world_with v qs)
+pub taken_out_of_all : (edition : Edition) (v : Indexed Record) (qs : List (List QueryTerm)) (i : Id) (types : List (List Id)) (cs : List TypeChange)
+    → IsLawful (world_with edition v qs)
     → ((ids : List Id) → Contains types ids ↔ IsTypeWith v (exactly i) ids) → map (λ (c : TypeChange). c.from) cs ≡ types
     → All (λ (c : TypeChange). c.to ≡ without_item id_cmp c.from i) cs → TakesOutOfAll v (has_item entity_cmp []) (λ j. id_eq j i) cs
-taken_out_of_all v qs i types cs lawful listed froms taken = record {
+taken_out_of_all edition v qs i types cs lawful listed froms taken = record {
   each = λ k d within. record { there = sym (exact_ids i (get_or cs k d).from) ∙ (found k d within).0; taken = taken k d within };
   ascend = λ k d within.
       let one = found k d within in
       let own = typed (record_of v one.1) (get_or cs k d).from one.2 in
-      subst (λ ids. IsTrue (is_ascending id_cmp ids)) own.2 (keys_ascending own.0.held (sorted_at (world_with v qs) one.1 lawful own.0 own.1));
+      subst (λ ids. IsTrue (is_ascending id_cmp ids)) own.2 (keys_ascending own.0.held (sorted_at (world_with edition v qs) one.1 lawful own.0 own.1));
   all = λ e r at lives some.
       subst (λ xs. Contains xs (record_ids r)) (sym froms) ((listed (record_ids r)).1 (exact_ids i (record_ids r) ∙ some, e, ap (option_map record_ids) at));
 }
@@ -97,14 +103,20 @@ taken_out_of_all v qs i types cs lawful listed froms taken = record {
         )
 
 -- the step is done
-pub removed_all : (v after : Indexed Record) (qs : List (List QueryTerm)) (w : WorldState) (i : Id) (cs : List TypeChange) → world_with v qs ≡ w
+pub removed_all : (edition : Edition) (v after : Indexed Record) (qs : List (List QueryTerm)) (w : WorldState) (i : Id) (cs : List TypeChange)
+    → world_with edition v qs ≡ w → symmetric_target w i ≡ None
     → TakesOutOfAll (entities w) (has_item entity_cmp []) (λ j. id_eq j i) cs
     → ((goes : Id → Bool) → TakesOutOfAll v (has_item entity_cmp []) goes cs → world_of after ≡ without (world_of v) (has_item entity_cmp []) (λ e. goes))
-    → is_builtins w i ≡ false → RemovesAll w i (Ok tt) (world_with after qs)
-removed_all v after qs w i cs seen takes carried ordinary =
+    → is_builtins w i ≡ false → RemovesAll w i (Ok tt) (world_with edition after qs)
+removed_all edition v after qs w i cs seen plain takes carried ordinary =
     rw ordinary (
       refl,
-      ap (λ (x : WorldState). record x { queries = qs })
+      ap (λ (x : WorldState). record x { edition = edition; queries = qs })
           (carried (λ j. id_eq j i) (subst (λ x. TakesOutOfAll (entities x) (has_item entity_cmp []) (λ j. id_eq j i) cs) (sym seen) takes))
-          ∙ ap (λ x. without x nobody (λ e j. id_eq j i)) seen,
+          ∙ ap (λ x. without x nobody (λ e j. id_eq j i)) seen ∙ sym (plainly_taken w i plain),
     )
+
+-- what a remove_all that is not refused leaves is lawful
+pub taken_lawful : (w : WorldState) (i : Id) → IsLawful w → Keeps (λ v. RemovesAll v i) → is_builtins w i ≡ false
+    → IsLawful (without w nobody (goes_too w (λ x j. id_eq j i)))
+taken_lawful w i lawful keeps ordinary = keeps w (Ok tt) (without w nobody (goes_too w (λ x j. id_eq j i))) lawful (rw ordinary (refl, refl))

@@ -1,5 +1,5 @@
 -- The built-ins are made one by one, and nothing but memory stands against that.
-use Rattle.std.proofs.Common.{◌≡◌, ℕ, zero, suc, ◌+◌, ◌<◌, ◌≤◌, Bool, cond, List, [], ◌∷◌, ◌++◌, length, take, Option, Some, None, Ok, Err, Result}
+use Rattle.std.proofs.Common.{◌≡◌, ℕ, zero, suc, ◌+◌, ◌<◌, Bool, cond, List, [], ◌∷◌, ◌++◌, length, take, Option, Some, None, Ok, Err, Result}
 use Rattle.std.proofs.Common.{MatchOption, nat_lt, refl, sym, ap, ◌∙◌, subst, arith, lt-ltb, le-ltb, add-one}
 use Rattle.std.specs.Option.{option_or}
 use Rattle.eco_ids.specs.declared.entity.Entity.{Entity}
@@ -9,14 +9,17 @@ use Rattle.eco_ids.specs.declared.refusal.Refusal.TheVariants.{OutOfMemory, NoMo
 use Rattle.eco_ids.specs.Births.{Makes, unfit_name}
 use Rattle.eco_ids.specs.Indices.{Indexed, IndexState, Living, with_record, lowest_free, next_entity, with_new}
 use Rattle.eco_ids.specs.Outcome.{Meets, Answers, Refuses}
-use Rattle.eco_ids.specs.World.{Record, builtin_states}
-use Rattle.eco_ids.specs.declared.edition.Edition.TheVariants.{First}
+use Rattle.eco_ids.specs.World.{Record, builtin_states, world_of_edition}
+use Rattle.eco_ids.specs.Edition.{builtin_count}
+use Rattle.eco_ids.specs.declared.edition.Edition.{Edition}
+use Rattle.eco_ids.specs.declared.edition.Edition.TheVariants.{First, Second}
+use Rattle.eco_world.specs.Worlds.{world_with}
 use Rattle.eco_world.specs.Builtins.{first_entities, builtin_name, builtin_type}
 use Rattle.eco_store.specs.Store.{record_name, newborn}
 
 -- the states of the first built-ins
 abbrev builtins_below : ℕ → List (IndexState Record)
-builtins_below n = take n (builtin_states First)
+builtins_below n = take n (builtin_states Second)
 
 -- what is so of the first built-ins, when the next one comes
 record IsNext (limit k : ℕ) (name : Option (List ℕ)) (ids : List Id) : Type 0 where
@@ -25,7 +28,7 @@ record IsNext (limit k : ℕ) (name : Option (List ℕ)) (ids : List Id) : Type 
   count : length (builtins_below k) ≡ k
   more : builtins_below k ++ Living 0 (newborn name None ids) ∷ [] ≡ builtins_below (suc k)
 
-is_next : (limit k : ℕ) → k < 9 → IsNext limit k (builtin_name k) (builtin_type k)
+is_next : (limit k : ℕ) → k < 10 → IsNext limit k (builtin_name k) (builtin_type k)
 is_next limit zero l = record { fit = refl; none_free = refl; count = refl; more = refl }
 is_next limit (suc zero) l = record { fit = refl; none_free = refl; count = refl; more = refl }
 is_next limit (suc (suc zero)) l = record { fit = refl; none_free = refl; count = refl; more = refl }
@@ -35,12 +38,13 @@ is_next limit (suc (suc (suc (suc (suc zero))))) l = record { fit = refl; none_f
 is_next limit (suc (suc (suc (suc (suc (suc zero)))))) l = record { fit = refl; none_free = refl; count = refl; more = refl }
 is_next limit (suc (suc (suc (suc (suc (suc (suc zero))))))) l = record { fit = refl; none_free = refl; count = refl; more = refl }
 is_next limit (suc (suc (suc (suc (suc (suc (suc (suc zero)))))))) l = record { fit = refl; none_free = refl; count = refl; more = refl }
-is_next limit (suc (suc (suc (suc (suc (suc (suc (suc (suc k))))))))) l = absurd (omega arith)
+is_next limit (suc (suc (suc (suc (suc (suc (suc (suc (suc zero))))))))) l = record { fit = refl; none_free = refl; count = refl; more = refl }
+is_next limit (suc (suc (suc (suc (suc (suc (suc (suc (suc (suc k)))))))))) l = absurd (omega arith)
 
 not_done : (why : Refusal) (e : Entity) → Err why ≡ Ok e → ⊥
 not_done why e h = cc
 
-module _ (limit k : ℕ) (name : Option (List ℕ)) (ids : List Id) (enough : 9 ≤ limit) (within : k < 9) (is : name ≡ builtin_name k)
+module _ (limit k : ℕ) (name : Option (List ℕ)) (ids : List Id) (below : k < limit) (within : k < 10) (is : name ≡ builtin_name k)
     (typed : ids ≡ builtin_type k) where
   next : IsNext limit k name ids
   next = subst (λ n. IsNext limit k n ids) (sym is) (subst (IsNext limit k (builtin_name k)) (sym typed) (is_next limit k within))
@@ -50,7 +54,7 @@ module _ (limit k : ℕ) (name : Option (List ℕ)) (ids : List Id) (enough : 9 
       ap (λ o. option_or o (cond (nat_lt (length (builtins_below k)) limit)
       (Some (record { index = length (builtins_below k); generation = 0 })) None)) next.none_free
       ∙ ap (λ n. cond (nat_lt n limit) (Some (record { index = n; generation = 0 })) None) next.count
-      ∙ ap (λ b. cond b (Some (record { index = k; generation = 0 })) None) (lt-ltb k limit (omega arith))
+      ∙ ap (λ b. cond b (Some (record { index = k; generation = 0 })) None) (lt-ltb k limit below)
 
   after : with_new (first_entities limit k) (record { index = k; generation = 0 }) (newborn name None ids) ≡ first_entities limit (k + 1)
   after =
@@ -82,3 +86,9 @@ module _ (limit k : ℕ) (name : Option (List ℕ)) (ids : List Id) (enough : 9 
       Meets (Makes record_name (first_entities limit k) (newborn name None ids)) may (first_entities limit k) (Err why) new → why ≡ OutOfMemory
   builtin_refused OutOfMemory new may m = refl
   builtin_refused why new may m = absurd (not_done why (record { index = k; generation = 0 }) (made (Err why) new m).0)
+
+-- all of an edition's, and nobody else, are its first world
+pub all_builtins : (edition : Edition) (limit count : ℕ) → count ≡ builtin_count edition →
+    world_with edition (first_entities limit count) [] ≡ world_of_edition edition limit
+all_builtins First limit count is = ap (λ n. world_with First (first_entities limit n) []) is
+all_builtins Second limit count is = ap (λ n. world_with Second (first_entities limit n) []) is

@@ -1,5 +1,6 @@
 -- A call of the store, seen as a step of the world.
 use Rattle.std.proofs.Common.{◌≡◌, ℕ, Bool, true, false, not, ◌&&◌, List, [], ◌∷◌, Option, Result, Err, MatchOption, MatchBool, IsTrue, refl, sym, ap, subst}
+use Rattle.eco_ids.specs.declared.edition.Edition.{Edition}
 use Rattle.eco_ids.specs.declared.entity.Entity.{Entity}
 use Rattle.eco_ids.specs.declared.refusal.Refusal.{Refusal}
 use Rattle.eco_ids.specs.declared.refusal.Refusal.TheVariants.{NotAlive, Reserved, BadName, NameTaken}
@@ -15,49 +16,53 @@ use Rattle.eco_world.specs.Actor.{IsUnfit}
 use Rattle.eco_ids.specs.Terms.{QueryTerm}
 use Rattle.eco_world.specs.Worlds.{world_with}
 
-module _ {A : Type 0} (qs : List (List QueryTerm)) (Step : Indexed Record → Result A Refusal → Indexed Record → Type 0) (may : Bool)
+module _ {A : Type 0} (edition : Edition) (qs : List (List QueryTerm)) (Step : Indexed Record → Result A Refusal → Indexed Record → Type 0) (may : Bool)
     (v new : Indexed Record) (r : Result A Refusal) where
   -- a call that meets a step of the entities meets it in the world
-  pub lifted : Meets (Step v) may v r new → Meets (OnEntities Step (world_with v qs)) may (world_with v qs) r (world_with new qs)
+  pub lifted : Meets (Step v) may v r new → Meets (OnEntities Step (world_with edition v qs)) may (world_with edition v qs) r (world_with edition new qs)
   lifted =
       elim (is_out_of_memory r) as (λ b. MatchBool b (IsTrue may × (new ≡ v)) (Step v r new) →
-      MatchBool b (IsTrue may × (world_with new qs ≡ world_with v qs)) (OnEntities Step (world_with v qs) r (world_with new qs))) [
-        | true ↦ λ m. (m.0, ap (λ x. world_with x qs) m.1)
+      MatchBool b (IsTrue may × (world_with edition new qs ≡ world_with edition v qs))
+      (OnEntities Step (world_with edition v qs) r (world_with edition new qs))) [
+        | true ↦ λ m. (m.0, ap (λ x. world_with edition x qs) m.1)
         | false ↦ λ made. (new, made, refl)
       ]
 
   -- where the step keeps the world lawful, the call does
-  pub lawful_lifted : IsLawful (world_with v qs) → (OnEntities Step (world_with v qs) r (world_with new qs) → IsLawful (world_with new qs)) →
-      Meets (Step v) may v r new → IsLawful (world_with new qs)
+  pub lawful_lifted : IsLawful (world_with edition v qs) →
+      (OnEntities Step (world_with edition v qs) r (world_with edition new qs) → IsLawful (world_with edition new qs)) →
+      Meets (Step v) may v r new → IsLawful (world_with edition new qs)
   lawful_lifted was keeps =
-      elim (is_out_of_memory r) as (λ b. MatchBool b (IsTrue may × (new ≡ v)) (Step v r new) → IsLawful (world_with new qs)) [
-        | true ↦ λ m. subst (λ x. IsLawful (world_with x qs)) (sym m.1) was
+      elim (is_out_of_memory r) as (λ b. MatchBool b (IsTrue may × (new ≡ v)) (Step v r new) → IsLawful (world_with edition new qs)) [
+        | true ↦ λ m. subst (λ x. IsLawful (world_with edition x qs)) (sym m.1) was
         | false ↦ λ made. keeps (new, made, refl)
       ]
 
-module _ (w : WorldState) (e : Entity) (why : Refusal) (unfit : IsUnfit w e why) where
+module _ (w : WorldState) (e : Entity) (reserved : Bool) (why : Refusal) (unfit : IsUnfit w e reserved why) where
   -- what is refused for who acts is met by each step that refuses that
   refused_for : {S : Type 0} (Step : Result (Unit {0}) Refusal → S → Type 0) (may : Bool) (s : S) → Step (Err why) s → Meets Step may s (Err why) s
   refused_for Step may s step = subst (λ b. MatchBool b (IsTrue may × (s ≡ s)) (Step (Err why) s)) (sym unfit.other) step
 
   -- so does each step that asks for that first
   asked_first : {S : Type 0} (later : List (Bool × Refusal)) (Done : Result (Unit {0}) Refusal → S → Type 0) (s : S) →
-      MatchOption (first_refusal ((not (is_alive w e), NotAlive) ∷ (is_builtin w e, Reserved) ∷ later)) (Done (Err why) s)
+      MatchOption (first_refusal ((not (is_alive w e), NotAlive) ∷ (reserved, Reserved) ∷ later)) (Done (Err why) s)
       (λ y. Refuses {A = Unit {0}} y s (Err why) s)
   asked_first later Done s = subst (λ o. MatchOption o (Done (Err why) s) (λ y. Refuses {A = Unit {0}} y s (Err why) s)) (sym (unfit.first later)) (refl, refl)
 
   pub refused : (later : List (Bool × Refusal)) (Done : Result (Unit {0}) Refusal → WorldState → Type 0) (may : Bool) →
-      Meets (λ r new. MatchOption (first_refusal ((not (is_alive w e), NotAlive) ∷ (is_builtin w e, Reserved) ∷ later)) (Done r new)
+      Meets (λ r new. MatchOption (first_refusal ((not (is_alive w e), NotAlive) ∷ (reserved, Reserved) ∷ later)) (Done r new)
       (λ y. Refuses y w r new)) may w (Err why) w
   refused later Done may =
-      refused_for (λ r new. MatchOption (first_refusal ((not (is_alive w e), NotAlive) ∷ (is_builtin w e, Reserved) ∷ later)) (Done r new)
+      refused_for (λ r new. MatchOption (first_refusal ((not (is_alive w e), NotAlive) ∷ (reserved, Reserved) ∷ later)) (Done r new)
       (λ y. Refuses y w r new)) may w (asked_first later Done w)
 
+module _ (w : WorldState) (e : Entity) (why : Refusal) (unfit : IsUnfit w e (is_builtin w e) why) where
   pub rename_refused : (name : Option (List ℕ)) → Meets (Renames w e name) (may_rename w e name) w (Err why) w
   rename_refused name =
-      refused_for (Renames w e name) (may_rename w e name) w (
+      refused_for w e (is_builtin w e) why unfit (Renames w e name) (may_rename w e name) w (
         entities w,
-        asked_first ((not (is_proper name), BadName) ∷ (not (is_same_name (own_name w e) name) && is_taken w name, NameTaken) ∷ [])
+        asked_first w e (is_builtin w e) why unfit
+            ((not (is_proper name), BadName) ∷ (not (is_same_name (own_name w e) name) && is_taken w name, NameTaken) ∷ [])
             (λ r new. Answers tt (indexed.changed (entities w) e (with_name name)) r new) (entities w),
         refl,
       )

@@ -7,6 +7,7 @@ use Rattle.std.specs.List.{list_any}
 use Rattle.std.proofs.lemmas.Bool.Decides.{Decides-eqb}
 use Rattle.std.proofs.lemmas.Grind.{common_steps}
 use Rattle.std.proofs.lemmas.Option.{none-some, same_Some}
+use Rattle.eco_ids.specs.declared.edition.Edition.{Edition}
 use Rattle.eco_ids.specs.declared.entity.Entity.{Entity}
 use Rattle.eco_ids.specs.declared.entity.TheConstants.{DELETE, PANIC}
 use Rattle.eco_ids.specs.declared.id.Id.{Id}
@@ -172,8 +173,9 @@ module _ (w : WorldState) (e : Entity) (lives : is_alive w e ≡ true)
   deleted_alone ordinary = rw (lives, ordinary) (e ∷ [], doomed_alone, (sym after_alone, none_forbids))
 
 -- so the world of a store that took it out is the one without it
-pub taken_out : (v new : Indexed Record) (qs : List (List QueryTerm)) (e : Entity) → is_alive (world_with v qs) e ≡ true
-    → is_builtin (world_with v qs) e ≡ false → is_named (world_with v qs) e ≡ false → new ≡ with_death v e
-    → DeletesOne (world_with v qs) e (Ok tt) (world_with new qs)
-taken_out v new qs e lives ordinary unheld is =
-    subst (λ x. DeletesOne (world_with v qs) e (Ok tt) (world_with x qs)) (sym is) (deleted_alone (world_with v qs) e lives unheld ordinary)
+pub taken_out : (edition : Edition) (v new : Indexed Record) (qs : List (List QueryTerm)) (e : Entity) → is_alive (world_with edition v qs) e ≡ true
+    → is_builtin (world_with edition v qs) e ≡ false → is_named (world_with edition v qs) e ≡ false → new ≡ with_death v e
+    → DeletesOne (world_with edition v qs) e (Ok tt) (world_with edition new qs)
+taken_out edition v new qs e lives ordinary unheld is =
+    subst (λ x. DeletesOne (world_with edition v qs) e (Ok tt) (world_with edition x qs)) (sym is)
+    (deleted_alone (world_with edition v qs) e lives unheld ordinary)

@@ -3,6 +3,7 @@ pub mod Builtins
 pub mod Cached
 pub mod Laws
 pub mod Layouts
+pub mod Losses
 pub mod Merging
 pub mod Queries
 pub mod Refs

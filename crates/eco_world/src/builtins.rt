@@ -5,14 +5,14 @@ ghost use Rattle.eco_ids.specs.declared.id.Id.TheVariants.{One};
 ghost use Rattle.eco_ids.specs.declared.refusal.Refusal.TheVariants.{OutOfMemory};
 ghost use Rattle.eco_world.specs.Builtins.{first_entities, builtin_name, builtin_type};
 
-use eco_ids::entity::{ACYCLIC, BUILTIN_COUNT, DELETE, EXCLUSIVE, ON_DELETE_TARGET};
+use eco_ids::entity::{ACYCLIC, DELETE, EXCLUSIVE, ON_DELETE_TARGET};
 use eco_ids::{Id, Refusal, TypeList};
 use eco_store::Store;
 use std::alloc::{AllocError, Global};
 
 // The name of the built-in at this index.
 fn builtin_name(number: u32) -> &'static str
-    requires { number < 9 }
+    requires { number < 10 }
     ensures { Some result.now ≡ builtin_name number }
 {
     match number {
@@ -24,7 +24,8 @@ fn builtin_name(number: u32) -> &'static str
         5 => "OnDeleteTarget",
         6 => "Remove",
         7 => "Delete",
-        _ => "Panic",
+        8 => "Panic",
+        _ => "Symmetric",
     }
 }
 
@@ -51,7 +52,7 @@ fn child_of_type(alloc: Global) -> Result<TypeList, AllocError>
 
 // The ids of the built-in at this index.
 fn builtin_type(alloc: Global, number: u32) -> Result<TypeList, AllocError>
-    requires { number < 9 }
+    requires { number < 10 }
     ensures { IfOk result (λ type_list. type_list ≡ builtin_type number) }
 {
     match number {
@@ -61,15 +62,16 @@ fn builtin_type(alloc: Global, number: u32) -> Result<TypeList, AllocError>
     }
 }
 
-/// A store in which the built-ins live with their names and ids, and nobody else.
-pub(crate) fn builtin_store(alloc: Global, limit: u32) -> Result<Store, Refusal>
-    requires at_least { 9 ≤ limit }
+/// A store in which the first built-ins live with their names and ids, so many of them, and nobody else.
+pub(crate) fn builtin_store(alloc: Global, count: u32, limit: u32) -> Result<Store, Refusal>
+    requires few { count ≤ 10 }
+    requires at_least { count ≤ limit }
     requires at_most { limit ≤ 1048576 }
-    ensures ok { IfOk result (λ store. store.entities ≡ first_entities limit 9) }
+    ensures ok { IfOk result (λ store. store.entities ≡ first_entities limit count) }
     ensures err { IfErr result (λ why. why ≡ OutOfMemory) }
 {
     let mut store = Store::new(alloc, limit);
-    for number in 0..BUILTIN_COUNT {
+    for number in 0..count {
         let type_list = builtin_type(alloc, number)?;
         store.create(Some(builtin_name(number)), None, &type_list)?;
     }

@@ -5,6 +5,7 @@ mod builtins;
 mod entity_ref;
 mod kept_query;
 pub mod laws;
+mod loss;
 mod query_id;
 mod row;
 mod table_rows;

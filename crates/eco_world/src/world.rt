@@ -3,12 +3,14 @@ ghost use Rattle.std.specs.Prelude.{◌≡◌, ◌≤◌, ◌<◌, false, ◌||�
 ghost use Rattle.std.specs.Option.{option_copied};
 ghost use Rattle.eco_ids.specs.declared.entity.Entity.{Entity as Entities};
 ghost use Rattle.eco_ids.specs.declared.refusal.Refusal.TheVariants.{OutOfMemory};
+ghost use Rattle.eco_ids.specs.Builtin.{is_builtin};
 ghost use Rattle.eco_ids.specs.Data.{arity, arity_of, is_zero_past, value_of};
+ghost use Rattle.eco_ids.specs.Edition.{builtin_count};
 ghost use Rattle.eco_ids.specs.Lawful.{IsLawful};
 ghost use Rattle.eco_ids.specs.Names.{lookup};
 ghost use Rattle.eco_ids.specs.Order.{id_cmp, is_ascending};
 ghost use Rattle.eco_ids.specs.Step.{own_name};
-ghost use Rattle.eco_ids.specs.World.{entities, first_world, has, held_by, is_alive, living, record_of};
+ghost use Rattle.eco_ids.specs.World.{entities, first_world, has, held_by, is_alive, living, record_of, world_of_edition};
 ghost use Rattle.eco_entities.specs.Registration.{entity_at};
 ghost use Rattle.eco_traits.specs.Target.{type_of_record};
 ghost use Rattle.eco_world.specs.Queries.{is_matched};
@@ -19,7 +21,6 @@ use crate::entity_ref::EntityRef;
 use crate::kept_query::KeptQuery;
 use crate::world::changes::is_zero_past;
 use eco_grammar::Names;
-use eco_ids::entity::BUILTIN_COUNT;
 use eco_ids::{Edition, Entity, Id, Pattern, Refusal, TypeList, Value};
 use eco_store::{Store, Table};
 use std::alloc::{AllocError, Global};
@@ -33,6 +34,7 @@ mod deletes;
 mod holdings;
 mod layout;
 mod merging;
+mod mirrors;
 mod queries;
 
 /// Entities, each with a name or none and with the ids that were added to it, where an id that is data has a value
@@ -42,6 +44,8 @@ mod queries;
 /// than that, and a call that is refused leaves all of it as it was.
 pub struct World {
     alloc: Global,
+    // Which rules it keeps.
+    edition: Edition,
     // Which handles live, their names and arities, and their ids with values.
     store: Store,
     // The queries that were added, in the order of their numbers.
@@ -53,6 +57,7 @@ impl Drop for World {
     fn drop(self) {
         let World {
             alloc: _,
+            edition: _,
             store: _,
             queries: _,
         } = self;
@@ -67,14 +72,14 @@ impl Model for World {
     ghost use Rattle.eco_ids.specs.Lawful.{IsLawful};
     ghost use Rattle.eco_world.specs.Worlds.{asked_by, world_with};
 
-    ghost view = { λ w. world_with w.store.entities (asked_by w.queries.items) };
+    ghost view = { λ w. world_with w.edition w.store.entities (asked_by w.queries.items) };
 
-    ghost invariant = { λ w. IsLawful (world_with w.store.entities (asked_by w.queries.items)) };
+    ghost invariant = { λ w. IsLawful (world_with w.edition w.store.entities (asked_by w.queries.items)) };
 }
 
 impl World {
-    /// A world in which the nine built-ins live, and nobody else. All its indices lie below `limit`, which is at least 9
-    /// and at most 1,048,576. What grows in it takes its memory from `alloc`.
+    /// A world of the first edition, in which the nine built-ins live, and nobody else. All its indices lie below `limit`,
+    /// which is at least 9 and at most 1,048,576. What grows in it takes its memory from `alloc`.
     ///
     /// Refused with `OutOfMemory` alone.
     pub fn new(alloc: Global, limit: u32) -> Result<World, Refusal>
@@ -83,10 +88,25 @@ impl World {
         ensures ok { IfOk result (λ world. world ≡ first_world limit) }
         ensures err { IfErr result (λ why. why ≡ OutOfMemory) }
     {
+        World::of_edition(alloc, Edition::First, limit)
+    }
+
+    /// A world of an edition, in which its built-ins live, and nobody else: nine in the first edition, ten in the second.
+    /// All its indices lie below `limit`, which is at least the number of built-ins and at most 1,048,576. What grows in it
+    /// takes its memory from `alloc`.
+    ///
+    /// Refused with `OutOfMemory` alone.
+    pub fn of_edition(alloc: Global, edition: Edition, limit: u32) -> Result<World, Refusal>
+        requires at_least { builtin_count edition ≤ limit }
+        requires at_most { limit ≤ 1048576 }
+        ensures ok { IfOk result (λ world. world ≡ world_of_edition edition limit) }
+        ensures err { IfErr result (λ why. why ≡ OutOfMemory) }
+    {
         eco_ids::laws::first_world_is_lawful();
-        let store = builtin_store(alloc, limit)?;
+        let store = builtin_store(alloc, edition.builtin_count(), limit)?;
         Ok(World {
             alloc,
+            edition,
             store,
             queries: Vec::new(alloc),
         })
@@ -104,7 +124,7 @@ impl World {
     pub fn edition(&self) -> Edition
         ensures { result ≡ self.now.edition }
     {
-        Edition::First
+        self.edition
     }
 
     /// How many indices are known: those that were ever in use.
@@ -252,13 +272,21 @@ impl World {
         match id {
             Id::One(entity) => self.arity_of(entity),
             Id::Two(relationship, target) => {
-                if relationship.is_among_first(BUILTIN_COUNT) {
+                if self.is_builtin(relationship) {
                     None
                 } else {
                     self.arity_of(relationship).or(self.arity_of(target))
                 }
             }
         }
+    }
+
+    // Whether the entity lives from the start.
+    #[inline(always)]
+    pub(crate) fn is_builtin(&self, entity: Entity) -> bool
+        ensures { result ≡ is_builtin self.now entity }
+    {
+        entity.is_among_first(self.edition.builtin_count())
     }
 
     // Whether some living entity has an id that matches.

@@ -8,7 +8,6 @@ ghost use Rattle.eco_ids.specs.World.{entities};
 ghost use Rattle.eco_cleanup.specs.Plans.{TakesOutOfAll};
 
 use crate::world::World;
-use eco_ids::entity::BUILTIN_COUNT;
 use eco_ids::{Entity, Id, Refusal};
 use eco_query::exactly;
 use eco_store::TypeChange;
@@ -16,7 +15,7 @@ use std::alloc::AllocError;
 
 impl World {
     /// No living entity has the id any more (Flecs manual, Entities and Components). An id that nobody has is done,
-    /// and wants no memory. All memory that it wants is taken first, so that the id goes from all entities or from
+    /// and wants no memory. With a pair of a symmetric relationship its mirrors go. All memory that it wants is taken first, so that the id goes from all entities or from
     /// none. Its time grows with the entities that have the id, and with the tables whose types name the id's entity.
     ///
     /// Refused with `Reserved` where a built-in has the id, and last with `OutOfMemory`.
@@ -28,11 +27,14 @@ impl World {
         if self.is_builtins(id) {
             return Err(Refusal::Reserved);
         }
-        if self.is_had(id) {
-            let changes = self.changes_without(id)?;
-            eco_cleanup::carry_out(&mut self.store, &[], &changes)?;
+        if !self.is_had(id) {
+            return Ok(());
         }
-        Ok(())
+        if let Some(target) = self.symmetric_target(id) {
+            return Ok(self.remove_all_mirrored(id, target)?);
+        }
+        let changes = self.changes_without(id)?;
+        Ok(eco_cleanup::carry_out(&mut self.store, &[], &changes)?)
     }
 
     // Whether some living entity has the id.
@@ -46,7 +48,7 @@ impl World {
     pub(crate) fn is_builtins(&self, id: Id) -> bool
         ensures { result ≡ is_builtins self.now id }
     {
-        for index in 0..BUILTIN_COUNT {
+        for index in 0..self.edition.builtin_count() {
             let builtin = Entity {
                 index,
                 generation: 0,

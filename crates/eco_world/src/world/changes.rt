@@ -1,24 +1,28 @@
 //! The calls that change a world.
-ghost use Rattle.std.specs.Prelude.{◌≡◌, ◌≤◌, ◌&&◌, ◌∷◌, [], false, pos, IfErr, IfOk, IsOk, IsTrue, map, option_map, Some, MatchBool, Ok, OnErr, OnOk, true};
+ghost use Rattle.std.specs.Prelude.{◌≡◌, ◌≤◌, ◌||◌, ◌∷◌, [], false, pos, IfErr, IfOk, IsOk, IsTrue, map, nat_le, option_map, Some, MatchBool, Ok, OnErr, OnOk, true};
 ghost use Rattle.std.specs.List.{list_all};
 ghost use Rattle.std.specs.Option.{option_copied};
 ghost use Rattle.std.specs.Ordering.{int_eq};
+ghost use Rattle.eco_ids.specs.declared.edition.Edition.TheVariants.{First};
 ghost use Rattle.eco_ids.specs.declared.id.Id.TheVariants.{Two};
-ghost use Rattle.eco_ids.specs.declared.value.TheConstants.{LARGEST_ARITY};
 ghost use Rattle.eco_ids.specs.Births.{Creates, may_create, MakesComponent, may_make_component};
 ghost use Rattle.eco_ids.specs.Builtin.{is_builtin};
 ghost use Rattle.eco_ids.specs.Data.{fits, is_zero_past};
+ghost use Rattle.eco_ids.specs.Edition.{largest_arity};
 ghost use Rattle.eco_ids.specs.Lawful.{IsLawful};
 ghost use Rattle.eco_ids.specs.Losses.{nobody, without};
-ghost use Rattle.eco_ids.specs.Order.{entity_eq, id_eq};
+ghost use Rattle.eco_ids.specs.Mirrors.{goes_too};
 ghost use Rattle.eco_ids.specs.Outcome.{Meets};
-ghost use Rattle.eco_ids.specs.Step.{Adds, may_add, Clears, may_clear, Extends, Removes, may_remove, Renames, may_rename, Sets, may_set, changed, unchanged, with_value};
+ghost use Rattle.eco_ids.specs.Step.{Adds, may_add, Clears, may_clear, Extends, Removes, may_remove, Renames, may_rename, Sets, may_set, changed, is_reserved, unchanged, with_value};
 ghost use Rattle.eco_ids.specs.World.{has, names_living, is_alive, record_of};
 ghost use Rattle.eco_world.specs.Actor.{IsUnfit, MaySet, MayNotSet};
+ghost use Rattle.eco_world.specs.declared.loss.Loss.TheVariants.{One};
+ghost use Rattle.eco_world.specs.Losses.{takes};
 ghost use Rattle.eco_store.specs.Store.{record_ids, with_exchanged, with_toggled, with_type};
 
+use crate::loss::Loss;
 use crate::world::World;
-use eco_ids::entity::{BUILTIN_COUNT, ON_DELETE, PANIC};
+use eco_ids::entity::{ON_DELETE, PANIC};
 use eco_ids::value::FIELD_COUNT;
 use eco_ids::{Entity, Id, Refusal, TypeList, Value};
 use eco_traits::{Prospect, Target, foresee, open_target};
@@ -64,14 +68,15 @@ impl World {
         self.store.create(name, None, &none)
     }
 
-    /// Makes a component whose values have this many fields, 1 to [`LARGEST_ARITY`](eco_ids::value::LARGEST_ARITY), with
-    /// this name or none (Flecs manual, Entities and Components). It has the pair (OnDelete, Panic), so that it can't be
-    /// deleted while it is in use.
+    /// Makes a component whose values have this many fields, 1 to 4 in a world of the first edition and 1 to 8 in one of the
+    /// second, with this name or none (Flecs manual, Entities and Components). It has the pair (OnDelete, Panic), so that it
+    /// can't be deleted while it is in use.
     ///
     /// Refused as [`create`](World::create) is.
     pub fn component(&mut self, name: Option<&str>, arity: u8) -> Result<Entity, Refusal>
         requires at_least { 1 ≤ arity }
-        requires at_most { arity ≤ LARGEST_ARITY }
+        requires at_most { IsTrue (nat_le arity (largest_arity First)
+            || nat_le arity (largest_arity self.old.edition)) }
         ensures { Meets (MakesComponent self.old (option_copied name.entry) arity)
             (may_make_component self.old (option_copied name.entry)) self.old result self.new }
     {
@@ -98,14 +103,18 @@ impl World {
     /// relationship of which a pair comes go. Ids that stay keep their values, and new ones hold zeros (Flecs manual,
     /// Component Traits). An id that is there already is done, and wants no memory.
     ///
-    /// Refused with `NotAlive` where the entity isn't living, with `Reserved` where it is a built-in, with `DeadId` where
-    /// the id names an entity that isn't living; then, each over the whole closure, with `NotAPolicy` where a cleanup pair's
-    /// target is no action, with `InUse` where a trait comes to a relationship that has pairs, with `Cycle` where a pair of
-    /// an acyclic relationship would close one; and last with `OutOfMemory`.
+    /// A pair of a symmetric relationship also comes to its target, with the entity as target there: the mirror. It holds
+    /// zeros. Both come or none.
+    ///
+    /// Refused with `NotAlive` where the entity isn't living, with `Reserved` where it is a built-in or the mirror would come
+    /// to one, with `DeadId` where the id names an entity that isn't living; then, each over the whole closure, with
+    /// `NotAPolicy` where a cleanup pair's target is no action, with `InUse` where a trait comes to a relationship that has
+    /// pairs, with `Cycle` where a pair of an acyclic relationship would close one, with `TraitClash` where a symmetric
+    /// relationship would be exclusive, acyclic or tied to another by With; and last with `OutOfMemory`.
     pub fn add(&mut self, entity: Entity, id: Id) -> Result<(), Refusal>
         ensures { Meets (Adds self.old entity id) (may_add self.old entity id) self.old result self.new }
     {
-        self.check_actor(entity)?;
+        self.check_holder(entity, id)?;
         self.gain(entity, id)
     }
 
@@ -132,7 +141,7 @@ impl World {
     }
 
     /// The entity doesn't have the id any more (Flecs manual, Entities and Components). An absent id, a dead one
-    /// too, is done, and wants no memory.
+    /// too, is done, and wants no memory. With a pair of a symmetric relationship its mirror goes.
     ///
     /// Refused with `NotAlive` where the entity isn't living, with `Reserved` where it is a built-in, and last with
     /// `OutOfMemory`.
@@ -140,6 +149,7 @@ impl World {
         ensures { Meets (Removes self.old entity id) (may_remove self.old entity id)
             self.old result self.new }
     {
+        self.is_lawful();
         self.check_actor(entity)?;
         if self.has(entity, id) {
             self.take_away(entity, id)?;
@@ -148,7 +158,7 @@ impl World {
     }
 
     /// The entity has no ids any more (Flecs manual, Entities and Components). One that has none is done, and wants no
-    /// memory.
+    /// memory. With each pair of a symmetric relationship its mirror goes.
     ///
     /// Refused with `NotAlive` where the entity isn't living, with `Reserved` where it is a built-in, and last with
     /// `OutOfMemory`.
@@ -158,6 +168,9 @@ impl World {
         eco_ids::laws::steps_keep_lawful();
         self.is_lawful();
         self.check_actor(entity)?;
+        if self.has_mirrors(entity) {
+            return Ok(self.clear_mirrored(entity)?);
+        }
         let none = TypeList::empty(self.alloc);
         self.retype(entity, &none)?;
         Ok(())
@@ -194,12 +207,27 @@ impl World {
     #[inline(always)]
     pub(crate) fn check_actor(&self, entity: Entity) -> Result<(), Refusal>
         ensures ok { OnOk result ((is_alive self.now entity ≡ true) × (is_builtin self.now entity ≡ false)) }
-        ensures err { IfErr result (IsUnfit self.now entity) }
+        ensures err { IfErr result (IsUnfit self.now entity (is_builtin self.now entity)) }
     {
         if !self.is_alive(entity) {
             return Err(Refusal::NotAlive);
         }
-        if entity.is_among_first(BUILTIN_COUNT) {
+        if self.is_builtin(entity) {
+            return Err(Refusal::Reserved);
+        }
+        Ok(())
+    }
+
+    // Whether the id may come to the entity: it lives, and no built-in would be changed.
+    #[inline(always)]
+    fn check_holder(&self, entity: Entity, id: Id) -> Result<(), Refusal>
+        ensures ok { OnOk result ((is_alive self.now entity ≡ true) × (is_reserved self.now entity id ≡ false)) }
+        ensures err { IfErr result (IsUnfit self.now entity (is_reserved self.now entity id)) }
+    {
+        if !self.is_alive(entity) {
+            return Err(Refusal::NotAlive);
+        }
+        if self.is_reserved(entity, id) {
             return Err(Refusal::Reserved);
         }
         Ok(())
@@ -211,7 +239,7 @@ impl World {
         ensures ok { OnOk result (MaySet self.now entity id value) }
         ensures err { IfErr result (MayNotSet self.now entity id value) }
     {
-        self.check_actor(entity)?;
+        self.check_holder(entity, id)?;
         if !self.names_living(id) {
             return Err(Refusal::DeadId);
         }
@@ -227,7 +255,7 @@ impl World {
     #[inline(always)]
     fn gain(&mut self, entity: Entity, id: Id) -> Result<(), Refusal>
         requires alive { is_alive self.old entity ≡ true }
-        requires ordinary { is_builtin self.old entity ≡ false }
+        requires free { is_reserved self.old entity id ≡ false }
         ensures { Meets (Adds self.old entity id) (may_add self.old entity id) self.old result self.new }
     {
         eco_ids::laws::steps_keep_lawful();
@@ -245,7 +273,7 @@ impl World {
     #[inline(never)]
     fn extend(&mut self, entity: Entity, id: Id) -> Result<(), Refusal>
         requires alive { is_alive self.old entity ≡ true }
-        requires ordinary { is_builtin self.old entity ≡ false }
+        requires free { is_reserved self.old entity id ≡ false }
         requires living { names_living self.old id ≡ true }
         requires absent { has self.old entity id ≡ false }
         ensures { Meets (Adds self.old entity id) (may_add self.old entity id) self.old result self.new }
@@ -253,7 +281,11 @@ impl World {
         eco_ids::laws::steps_keep_lawful();
         eco_ids::laws::add_leaves_exactly();
         self.is_lawful();
-        match open_target(self.alloc, self, entity, id)? {
+        let target = open_target(self.alloc, self, entity, id)?;
+        if let Some(mirror) = self.other_mirror(entity, id) {
+            return Ok(self.gain_both(entity, id, target, mirror)?);
+        }
+        match target {
             Target::Own => Ok(()),
             Target::With => Ok(self.step(entity, id)?),
             Target::Instead(old) => Ok(self.exchange(entity, old, id)?),
@@ -267,11 +299,14 @@ impl World {
         requires ordinary { is_builtin self.old entity ≡ false }
         requires there { has self.old entity id ≡ true }
         ensures ok { OnOk result
-            (self.new ≡ without self.old nobody (λ x own. entity_eq x entity && id_eq own id)) }
+            (self.new ≡ without self.old nobody (goes_too self.old (takes (One entity id)))) }
         ensures err { OnErr result (self.new ≡ self.old) }
     {
         eco_ids::laws::steps_keep_lawful();
         self.is_lawful();
+        if let Some(mirror) = self.other_mirror(entity, id) {
+            return self.lose(Loss::One(entity, id), &[entity, mirror.0]);
+        }
         self.step(entity, id)
     }
 

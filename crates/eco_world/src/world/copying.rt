@@ -32,6 +32,7 @@ impl World {
         let store = self.store.try_copy()?;
         Ok(World {
             alloc: self.alloc,
+            edition: self.edition,
             store,
             queries,
         })

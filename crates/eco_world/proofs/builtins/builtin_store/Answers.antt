@@ -1,4 +1,4 @@
-use Rattle.std.proofs.Common.{Some, refl}
+use Rattle.std.proofs.Common.{Some, arith, refl}
 use Rattle.std.proofs.lemmas.Result.{err_from_is_err_and}
 use Rattle.eco_ids.specs.Births.{may_make}
 use Rattle.eco_store.specs.Store.{record_name}
@@ -11,7 +11,8 @@ returns-in_err-create-clause-err c =
     let p = err_from_is_err_and c.from_residual-in_err-create.result c.from_residual-in_err-create.ensures.1 in
     rw (p.1, p.2)
     (builtin_refused c.args.limit c.loop-number.number (Some c.builtin_name.result.now) c.in_ok-type_list.type_list
-    c.requires.at_least c.loop-number-test.true c.builtin_name.ensures c.in_ok-type_list.ensures
+    (omega (arith, c.requires.at_least, c.loop-number-test.true))
+    (omega (arith, c.requires.few, c.loop-number-test.true)) c.builtin_name.ensures c.in_ok-type_list.ensures
     c.in_err-create.field-0.0 c.create.new.self.entities
     (may_make record_name (first_entities c.args.limit c.loop-number.number) (Some c.builtin_name.result.now))
     (rw c.loop-number.invariant at c.in_err-create.ensures.step))
@@ -19,7 +20,8 @@ returns-in_err-create-clause-err c =
 pub loop-number-preserved : goal.loop-number-preserved
 loop-number-preserved c =
     builtin_made c.args.limit c.loop-number.number (Some c.builtin_name.result.now) c.in_ok-type_list.type_list
-    c.requires.at_least c.loop-number-test.true c.builtin_name.ensures c.in_ok-type_list.ensures
+    (omega (arith, c.requires.at_least, c.loop-number-test.true))
+    (omega (arith, c.requires.few, c.loop-number-test.true)) c.builtin_name.ensures c.in_ok-type_list.ensures
     c.in_ok-create.field-0 c.create.new.self.entities
     (may_make record_name (first_entities c.args.limit c.loop-number.number) (Some c.builtin_name.result.now))
     (rw c.loop-number.invariant at c.in_ok-create.ensures.step)

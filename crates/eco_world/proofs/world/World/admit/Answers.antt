@@ -9,7 +9,7 @@ invariant_of-self c =
     let qs = asked_by c.self.inside.queries.items in
     let v = c.self.inside.store.entities in
     let n = c.args.count in
-    lawful_lifted qs (λ x. Admits x n) (may_admit v n && nat_lt 0 n) v c.admit.new.self.entities c.admit.result c.self.invariant
+    lawful_lifted c.self.inside.edition qs (λ x. Admits x n) (may_admit v n && nat_lt 0 n) v c.admit.new.self.entities c.admit.result c.self.invariant
     (c.steps_keep_lawful.ensures.admit n _ _ _ c.self.invariant) c.admit.ensures.step
 
 pub returns : goal.returns
@@ -17,4 +17,5 @@ returns c =
     let qs = asked_by c.self.inside.queries.items in
     let v = c.self.inside.store.entities in
     let n = c.args.count in
-    rw (← c.self.view_is) (lifted qs (λ x. Admits x n) (may_admit v n && nat_lt 0 n) v c.admit.new.self.entities c.admit.result c.admit.ensures.step)
+    rw (← c.self.view_is)
+    (lifted c.self.inside.edition qs (λ x. Admits x n) (may_admit v n && nat_lt 0 n) v c.admit.new.self.entities c.admit.result c.admit.ensures.step)

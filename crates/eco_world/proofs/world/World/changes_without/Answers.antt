@@ -39,5 +39,5 @@ returns c =
     sym (append-nil c.loop-ids.yielded) ∙ sym (c.loop-ids.invariant.rest ∙ ap (λ xs. c.loop-ids.yielded ++ xs) none)
     ∙ c.into_iter-ids-iterator.ensures.into_iter_gives.0 in
     rw (← c.self.view_is)
-    (taken_out_of_all c.self.inside.store.entities qs c.args.id c.in_ok-types.types.items c.loop-ids.changes.items c.self.invariant
+    (taken_out_of_all c.self.inside.edition c.self.inside.store.entities qs c.args.id c.in_ok-types.types.items c.loop-ids.changes.items c.self.invariant
     (rw c.exactly.ensures at c.in_ok-types.ensures.listed) (c.loop-ids.invariant.types ∙ all) c.loop-ids.invariant.taken)

@@ -8,7 +8,7 @@ use Rattle.eco_world.proofs.world.World.create.Goals as goal
 pub invariant_of-self : goal.invariant_of-self
 invariant_of-self c =
     let qs = asked_by c.self.inside.queries.items in
-    lawful_lifted qs (λ v. Makes record_name v
+    lawful_lifted c.self.inside.edition qs (λ v. Makes record_name v
     (bare (option_copied c.args.name))) _ c.self.inside.store.entities c.create.new.self.entities c.create.result c.self.invariant
     (c.steps_keep_lawful.ensures.create (option_copied c.args.name) _ _ _ c.self.invariant) (rw c.empty-none.ensures at c.create.ensures.step)
 
@@ -16,5 +16,6 @@ pub returns : goal.returns
 returns c =
     let qs = asked_by c.self.inside.queries.items in
     rw (← c.self.view_is)
-    (lifted qs (λ v. Makes record_name v (bare (option_copied c.args.name))) _ c.self.inside.store.entities c.create.new.self.entities c.create.result
+    (lifted c.self.inside.edition qs
+    (λ v. Makes record_name v (bare (option_copied c.args.name))) _ c.self.inside.store.entities c.create.new.self.entities c.create.result
     (rw c.empty-none.ensures at c.create.ensures.step))

@@ -15,7 +15,7 @@ use Rattle.eco_world.proofs.world.World.delete.Goals as goal
 pub returns-in_err-check_actor : goal.returns-in_err-check_actor
 returns-in_err-check_actor c =
     let p = err_from_is_err_and c.from_residual.result c.from_residual.ensures.1 in
-    rw (p.1, p.2) (refused c.args.self.now c.args.entity _ c.in_err-check_actor.ensures.err [] (Deletes c.args.self.now (λ x. x ≡ c.args.entity)) _)
+    rw (p.1, p.2) (refused c.args.self.now c.args.entity _ _ c.in_err-check_actor.ensures.err [] (Deletes c.args.self.now (λ x. x ≡ c.args.entity)) _)
 
 pub invariant_of-self : goal.invariant_of-self
 invariant_of-self c =
@@ -23,12 +23,12 @@ invariant_of-self c =
     let new = c.delete.new.store.entities in
     let qs = asked_by c.self.inside.queries.items in
     let e = c.args.entity in
-    met_lawful (λ x. DeletesOne x e) (λ x. may_delete x e) (world_with v qs) (world_with new qs) c.delete.result
+    met_lawful (λ x. DeletesOne x e) (λ x. may_delete x e) (world_with c.self.inside.edition v qs) (world_with c.self.inside.edition new qs) c.delete.result
     (c.steps_keep_lawful.ensures.delete e) c.self.invariant
-    (one_deleted (world_with v qs) (world_with new qs) e c.delete.result
+    (one_deleted (world_with c.self.inside.edition v qs) (world_with c.self.inside.edition new qs) e c.delete.result
     (ap (λ (x : WorldState). is_alive x e) c.self.view_is ∙ c.in_ok-check_actor.ensures.ok.0)
     (ap (λ (x : WorldState). is_builtin x e) c.self.view_is ∙ c.in_ok-check_actor.ensures.ok.1)
-    (ends_with v new qs c.delete.result (λ x. IsTrue (has_item entity_cmp (e ∷ []) x)) c.delete.ensures))
+    (ends_with c.self.inside.edition v new qs c.delete.result (λ x. IsTrue (has_item entity_cmp (e ∷ []) x)) c.delete.ensures))
 
 pub returns-then-is_named : goal.returns-then-is_named
 returns-then-is_named c =
@@ -37,10 +37,10 @@ returns-then-is_named c =
     let qs = asked_by c.self.inside.queries.items in
     let e = c.args.entity in
     rw (← c.self.view_is)
-    (one_deleted (world_with v qs) (world_with new qs) e c.delete.result
+    (one_deleted (world_with c.self.inside.edition v qs) (world_with c.self.inside.edition new qs) e c.delete.result
     (ap (λ (x : WorldState). is_alive x e) c.self.view_is ∙ c.in_ok-check_actor.ensures.ok.0)
     (ap (λ (x : WorldState). is_builtin x e) c.self.view_is ∙ c.in_ok-check_actor.ensures.ok.1)
-    (ends_with v new qs c.delete.result (λ x. IsTrue (has_item entity_cmp (e ∷ []) x)) c.delete.ensures))
+    (ends_with c.self.inside.edition v new qs c.delete.result (λ x. IsTrue (has_item entity_cmp (e ∷ []) x)) c.delete.ensures))
 
 pub invariant_of-self-2 : goal.invariant_of-self-2
 invariant_of-self-2 c =
@@ -48,8 +48,8 @@ invariant_of-self-2 c =
     let new = c.take_out.new.self.entities in
     let qs = asked_by c.self.inside.queries.items in
     let e = c.args.entity in
-    c.steps_keep_lawful.ensures.delete e (world_with v qs) (Ok tt) (world_with new qs) c.self.invariant
-    (taken_out v new qs e
+    c.steps_keep_lawful.ensures.delete e (world_with c.self.inside.edition v qs) (Ok tt) (world_with c.self.inside.edition new qs) c.self.invariant
+    (taken_out c.self.inside.edition v new qs e
     (ap (λ (x : WorldState). is_alive x e) c.self.view_is ∙ c.in_ok-check_actor.ensures.ok.0)
     (ap (λ (x : WorldState). is_builtin x e) c.self.view_is ∙ c.in_ok-check_actor.ensures.ok.1)
     (ap (λ (x : WorldState). is_named x e) c.self.view_is ∙ sym c.is_named.ensures ∙ c.if-is_named.false) c.take_out.ensures.entities)
@@ -60,7 +60,7 @@ returns c =
     let qs = asked_by c.self.inside.queries.items in
     let e = c.args.entity in
     rw (← c.self.view_is)
-    (taken_out v c.take_out.new.self.entities qs e
+    (taken_out c.self.inside.edition v c.take_out.new.self.entities qs e
     (ap (λ (x : WorldState). is_alive x e) c.self.view_is ∙ c.in_ok-check_actor.ensures.ok.0)
     (ap (λ (x : WorldState). is_builtin x e) c.self.view_is ∙ c.in_ok-check_actor.ensures.ok.1)
     (ap (λ (x : WorldState). is_named x e) c.self.view_is ∙ sym c.is_named.ensures ∙ c.if-is_named.false) c.take_out.ensures.entities)

@@ -14,26 +14,26 @@ pub invariant_of-self : goal.invariant_of-self
 invariant_of-self c =
     let v = c.self.inside.store.entities in
     let qs = asked_by c.self.inside.queries.items in
-    let w = world_with v qs in
+    let w = world_with c.self.inside.edition v qs in
     let i = c.args.id in
     let new = c.delete_with.new.store.entities in
     let roots = entities_with v c.exactly.result in
-    met_lawful (λ x. DeletesWith x i) (λ x. may_delete_with x i) w (world_with new qs) c.delete_with.result
+    met_lawful (λ x. DeletesWith x i) (λ x. may_delete_with x i) w (world_with c.self.inside.edition new qs) c.delete_with.result
     (c.steps_keep_lawful.ensures.delete_with i) c.self.invariant
-    (with_deleted w (world_with new qs) i c.delete_with.result roots (ap (entities_with v) c.exactly.ensures ∙ found_holders w i)
+    (with_deleted w (world_with c.self.inside.edition new qs) i c.delete_with.result roots (ap (entities_with v) c.exactly.ensures ∙ found_holders w i)
     (ap (λ (x : WorldState). is_builtins x i) c.self.view_is ∙ sym c.is_builtins.ensures ∙ c.if-is_builtins.false)
-    (ends_with v new qs c.delete_with.result (λ x. IsTrue (has_item entity_cmp roots x)) c.delete_with.ensures))
+    (ends_with c.self.inside.edition v new qs c.delete_with.result (λ x. IsTrue (has_item entity_cmp roots x)) c.delete_with.ensures))
 
 pub returns : goal.returns
 returns c =
     let v = c.self.inside.store.entities in
     let qs = asked_by c.self.inside.queries.items in
-    let w = world_with v qs in
+    let w = world_with c.self.inside.edition v qs in
     let i = c.args.id in
     let new = c.delete_with.new.store.entities in
     let roots = entities_with v c.exactly.result in
     rw (← c.self.view_is)
-    (with_deleted w (world_with new qs) i c.delete_with.result roots
+    (with_deleted w (world_with c.self.inside.edition new qs) i c.delete_with.result roots
     (ap (entities_with v) c.exactly.ensures ∙ found_holders w i)
     (ap (λ (x : WorldState). is_builtins x i) c.self.view_is ∙ sym c.is_builtins.ensures ∙ c.if-is_builtins.false)
-    (ends_with v new qs c.delete_with.result (λ x. IsTrue (has_item entity_cmp roots x)) c.delete_with.ensures))
+    (ends_with c.self.inside.edition v new qs c.delete_with.result (λ x. IsTrue (has_item entity_cmp roots x)) c.delete_with.ensures))

@@ -6,5 +6,6 @@ use Rattle.eco_world.proofs.world.World.exchange.Goals as goal
 pub invariant_of-self : goal.invariant_of-self
 invariant_of-self c =
     let qs = asked_by c.self.inside.queries.items in
-    by_result (λ v. IsLawful (world_with v qs)) c.exchange.result c.self.inside.store.entities _ _ c.exchange.ensures.ok c.exchange.ensures.err
+    by_result (λ v. IsLawful
+    (world_with c.self.inside.edition v qs)) c.exchange.result c.self.inside.store.entities _ _ c.exchange.ensures.ok c.exchange.ensures.err
     (rw (← c.self.view_is) at c.requires.lawful) c.self.invariant

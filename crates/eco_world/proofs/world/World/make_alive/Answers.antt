@@ -10,7 +10,8 @@ invariant_of-self c =
     let qs = asked_by c.self.inside.queries.items in
     let v = c.self.inside.store.entities in
     let e = c.args.entity in
-    lawful_lifted qs (λ x. MakesAliveWith x e (bare None)) (is_free_at v e) v c.make_alive.new.self.entities c.make_alive.result c.self.invariant
+    lawful_lifted c.self.inside.edition qs (λ x. MakesAliveWith x e (bare None))
+    (is_free_at v e) v c.make_alive.new.self.entities c.make_alive.result c.self.invariant
     (c.steps_keep_lawful.ensures.make_alive e _ _ _ c.self.invariant) c.make_alive.ensures.step
 
 pub returns : goal.returns
@@ -19,4 +20,5 @@ returns c =
     let v = c.self.inside.store.entities in
     let e = c.args.entity in
     rw (← c.self.view_is)
-    (lifted qs (λ x. MakesAliveWith x e (bare None)) (is_free_at v e) v c.make_alive.new.self.entities c.make_alive.result c.make_alive.ensures.step)
+    (lifted c.self.inside.edition qs (λ x. MakesAliveWith x e (bare None))
+    (is_free_at v e) v c.make_alive.new.self.entities c.make_alive.result c.make_alive.ensures.step)

@@ -25,7 +25,8 @@ invariant_of-self c =
     let new = c.rename.new.self.entities in
     let step = subst (λ (b : Bool). Meets (RenamesWith record_name with_name old e b name) (may_rename record_name old e b name) old c.rename.result new)
     (sym (ap (λ (x : WorldState). is_builtin x e) c.self.view_is ∙ c.in_ok-check_actor.ensures.ok.1)) c.rename.ensures.step in
-    lawful_lifted qs (λ v. RenamesWith record_name with_name v e (is_builtin (world_with old qs) e) name) _ old new c.rename.result c.self.invariant
+    lawful_lifted c.self.inside.edition qs
+    (λ v. RenamesWith record_name with_name v e (is_builtin (world_with c.self.inside.edition old qs) e) name) _ old new c.rename.result c.self.invariant
     (c.steps_keep_lawful.ensures.rename e name _ _ _ c.self.invariant) step
 
 pub returns : goal.returns
@@ -37,4 +38,6 @@ returns c =
     let new = c.rename.new.self.entities in
     let step = subst (λ (b : Bool). Meets (RenamesWith record_name with_name old e b name) (may_rename record_name old e b name) old c.rename.result new)
     (sym (ap (λ (x : WorldState). is_builtin x e) c.self.view_is ∙ c.in_ok-check_actor.ensures.ok.1)) c.rename.ensures.step in
-    rw (← c.self.view_is) (lifted qs (λ v. RenamesWith record_name with_name v e (is_builtin (world_with old qs) e) name) _ old new c.rename.result step)
+    rw (← c.self.view_is)
+    (lifted c.self.inside.edition qs
+    (λ v. RenamesWith record_name with_name v e (is_builtin (world_with c.self.inside.edition old qs) e) name) _ old new c.rename.result step)

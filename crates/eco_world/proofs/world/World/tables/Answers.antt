@@ -21,7 +21,7 @@ returns-clause-layout c =
     let all : listed old ≡ with_rows slots =
     sym (append-nil (listed old)) ∙ ap (λ ss. listed old ++ with_rows ss) (sym (none_left (iter_rest c.loop-slot.slot-iterator) c.in-None.ensures.steps.0))
     ∙ c.loop-slot.invariant.0 ∙ ap with_rows (ap iter_rest c.into_iter-slot-iterator.ensures.into_iter_gives ∙ c.iter-slot-items.ensures) in
-    let w = world_with c.self.inside.store.entities qs in
+    let w = world_with c.self.inside.edition c.self.inside.store.entities qs in
     rw (← c.self.view_is)
     (layout_of w (listed new)
     (sorted_tables old new c.sort_by_type.ensures.same c.sort_by_type.ensures.ordered
@@ -34,7 +34,7 @@ returns-clause-values c =
     let qs = asked_by c.self.inside.queries.items in
     let slots = c.tables.result.now in
     let old = c.loop-slot.tables.items in
-    let w = world_with c.self.inside.store.entities qs in
+    let w = world_with c.self.inside.edition c.self.inside.store.entities qs in
     let run = rw (← c.self.view_is) at c.loop-slot.invariant.1 in
     let all : map lent old ≡ lent_rows w slots =
     sym (append-nil (map lent old))

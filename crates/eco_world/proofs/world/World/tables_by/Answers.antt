@@ -14,7 +14,7 @@ tables_in-requires g c =
     let qs = asked_by c.self.inside.queries.items in
     let found = c.in_ok-found.found in
     subst (All (HasTable found.tables.now)) (sym c.deref.ensures.value)
-    (found_there (world_with c.self.inside.store.entities qs) found.tables.now c.in_ok-found.ensures.shown c.in_ok-found.ensures.kinds
+    (found_there (world_with c.self.inside.edition c.self.inside.store.entities qs) found.tables.now c.in_ok-found.ensures.shown c.in_ok-found.ensures.kinds
     (g.T.TypeTest.test c.args.test.now) found.slots.items c.in_ok-found.ensures.listed)
 
 pub returns-clause-all : goal.returns-clause-all
@@ -26,7 +26,7 @@ returns-clause-all g c =
     let kinds = c.in_ok-found.ensures.kinds in
     let old = c.in_ok-tables.tables.items in
     let new = c.sort_by_type.new.tables.items in
-    let w = world_with c.self.inside.store.entities qs in
+    let w = world_with c.self.inside.edition c.self.inside.store.entities qs in
     let passes = g.T.TypeTest.test c.args.test.now in
     let all : listed old ≡ map (shown_at slots) ns = c.in_ok-tables.ensures.all ∙ ap (map (shown_at slots)) c.deref.ensures.value in
     let moved = IsPermutation-map listed_of old new c.sort_by_type.ensures.same in
@@ -46,7 +46,7 @@ returns-clause-values g c =
     let slots = c.in_ok-found.found.tables.now in
     let ns = c.in_ok-found.found.slots.items in
     let old = c.in_ok-tables.tables.items in
-    let w = world_with c.self.inside.store.entities qs in
+    let w = world_with c.self.inside.edition c.self.inside.store.entities qs in
     let listed_are = rw (← c.self.view_is) at c.in_ok-tables.ensures.lent in
     let all : map lent old ≡ map (lent_at w slots) ns = listed_are ∙ ap (map (lent_at w slots)) c.deref.ensures.value in
     rw (← c.self.view_is)
@@ -59,5 +59,5 @@ returns-in_err-tables-clause-some g c =
     let found = c.in_ok-found.found in
     rw (← c.self.view_is)
     (err_says c.from_residual-in_err-tables.result
-    (found_some (world_with c.self.inside.store.entities qs) found.tables.now c.in_ok-found.ensures.shown c.in_ok-found.ensures.kinds
+    (found_some (world_with c.self.inside.edition c.self.inside.store.entities qs) found.tables.now c.in_ok-found.ensures.shown c.in_ok-found.ensures.kinds
     (g.T.TypeTest.test c.args.test.now) found.slots.items c.in_ok-found.ensures.listed (rw c.deref.ensures.value at c.in_err-tables.ensures.some)))

@@ -1,0 +1,8 @@
+use Rattle.std.proofs.Common.{◌≡◌, [], take}
+use Rattle.eco_ids.specs.Mirrors.{goes_too}
+use Rattle.eco_ids.proofs.Sparing.{with_staying}
+use Rattle.eco_world.specs.Losses.{takes}
+use Rattle.eco_world.proofs.world.World.kept_ids.Given as goal
+
+abbrev pub invariant-loop-id : goal.invariant-loop-id
+invariant-loop-id l = l.kept ≡ with_staying (goes_too l.self (takes l.loss) l.entity) (take l.id-index l.ids) []

@@ -3,6 +3,7 @@ use Rattle.std.proofs.Common.{◌≡◌, ◌⊎◌, inl, inr, ℕ, ◌+◌, zero
 use Rattle.std.specs.List.{Contains, slice_get}
 use Rattle.std.proofs.lemmas.List.Elements.{Contains-append_cases, Contains-append_left, Contains-append_right, Contains-push, Contains-push_cases}
 use Rattle.serde_json.specs.Data.{Data}
+use Rattle.eco_ids.specs.declared.edition.Edition.{Edition}
 use Rattle.eco_steps.specs.Decode.{step_in}
 use Rattle.eco_steps.specs.Steps.{Step, IsStepData}
 use Rattle.eco_steps.proofs.Decodes.{step_found, step_is}
@@ -64,22 +65,23 @@ module _ {A : Type 0} (find : Data → Option A) where
   listed m (d ∷ ds) (suc n) q is there =
       behind m q (find d) (numbers_without find (m + 1) ds) (listed (m + 1) ds n q (omega arith) there)
 
-none_means : (d : Data) → step_in d ≡ None → (s : Step) → ¬ IsStepData d s
-none_means d none s is = let found = step_found d s is in cc
+module _ (edition : Edition) where
+  none_means : (d : Data) → step_in edition d ≡ None → (s : Step) → ¬ IsStepData edition d s
+  none_means d none s is = let found = step_found edition d s is in cc
 
-means_none : (d : Data) → ((s : Step) → ¬ IsStepData d s) → step_in d ≡ None
-means_none d never = cases (step_in d) refl where
-  cases : (o : Option Step) → step_in d ≡ o → o ≡ None
-  cases None at = refl
-  cases (Some s) at = absurd (never s (step_is d s at))
+  means_none : (d : Data) → ((s : Step) → ¬ IsStepData edition d s) → step_in edition d ≡ None
+  means_none d never = cases (step_in edition d) refl where
+    cases : (o : Option Step) → step_in edition d ≡ o → o ≡ None
+    cases None at = refl
+    cases (Some s) at = absurd (never s (step_is edition d s at))
 
-no_step_at : (ds : List Data) (n k : ℕ) → n ≡ 0 + k → Lacks step_in ds k
-    → (d : Data) × (slice_get ds n ≡ Some d) × ((s : Step) → ¬ IsStepData d s)
-no_step_at ds n k is (d, at, none) =
-    let same : n ≡ k = omega arith in (d, ap (λ i. slice_get ds i) same ∙ at, none_means d none)
+  no_step_at : (ds : List Data) (n k : ℕ) → n ≡ 0 + k → Lacks (step_in edition) ds k
+      → (d : Data) × (slice_get ds n ≡ Some d) × ((s : Step) → ¬ IsStepData edition d s)
+  no_step_at ds n k is (d, at, none) =
+      let same : n ≡ k = omega arith in (d, ap (λ i. slice_get ds i) same ∙ at, none_means d none)
 
 pub are_those_of_no_step : AreThoseOfNoStep
-are_those_of_no_step ds n = (
-  λ c. let (k, is, there) = lacks step_in 0 ds n c in no_step_at ds n k is there,
-  λ (d, at, never). listed step_in 0 ds n n (omega arith) (d, at, means_none d never),
+are_those_of_no_step edition ds n = (
+  λ c. let (k, is, there) = lacks (step_in edition) 0 ds n c in no_step_at edition ds n k is there,
+  λ (d, at, never). listed (step_in edition) 0 ds n n (omega arith) (d, at, means_none edition d never),
 )

@@ -3,11 +3,13 @@ use Rattle.std.proofs.Common.{◌≡◌, ℕ, ◌+◌, true, List, [], ◌∷◌
 use Rattle.std.specs.Option.{is_some, unwrap_or}
 use Rattle.std.proofs.lemmas.Option.{option_and_then_some}
 use Rattle.serde_json.specs.Data.{Data}
-use Rattle.eco_steps.specs.Decode.{each_in, list_in, number_in, parts_in, parts_of, step_in}
+use Rattle.eco_ids.specs.declared.edition.Edition.{Edition}
+use Rattle.eco_ids.specs.declared.edition.Edition.TheVariants.{Second}
+use Rattle.eco_steps.specs.Decode.{Parts, each_in, limit_in, list_in, parts_in, parts_of, parts_with, step_in, version_in}
 use Rattle.eco_steps.specs.Script.{Script, IsScriptData}
 use Rattle.eco_steps.specs.Steps.{Step}
 use Rattle.eco_steps.proofs.Decodes.{no_parts, no_steps, script_is}
-use Rattle.eco_checker.specs.Faults.{items_in, numbers_without, third_items, unless_found}
+use Rattle.eco_checker.specs.Faults.{edition_in, first_edition, items_in, numbers_without, third_items, unless_found}
 
 module _ {A : Type 0} (find : Data → Option A) where
   all_cases : (n : ℕ) (ds : List Data) (ns : List ℕ) (o : Option A) → unless_found n o ns ≡ []
@@ -33,45 +35,60 @@ module _ {A : Type 0} (find : Data → Option A) where
       option_and_then_some (λ x. option_map (λ ys. x ∷ ys) (each_in find ds)) (find d) xs e
       (λ x is h. none_cases n (numbers_without find (n + 1) ds) x (each_in find ds) xs (find d) is h (λ ys at. none_left (n + 1) ds ys at))
 
--- the items of what has the three parts of a script
-third_of_parts : (ds : List Data) (l : ℕ) (items : List Data) → parts_of ds ≡ Some (l, items) → third_items ds ≡ items
-third_of_parts [] l items e = cc
-third_of_parts (a ∷ []) l items e = cc
-third_of_parts (a ∷ b ∷ []) l items e = cc
-third_of_parts (a ∷ b ∷ c ∷ d ∷ ds) l items e = cc
-third_of_parts (a ∷ b ∷ c ∷ []) l items e =
-    option_and_then_some (λ _. option_and_then (λ k. option_map (λ ds. (k, ds)) (list_in c)) (number_in 9 1048576 b)) (number_in 1 1 a) (l, items) e
-    (λ v is h. option_and_then_some (λ k. option_map (λ ds. (k, ds)) (list_in c)) (number_in 9 1048576 b) (l, items) h
-    (λ k at n. whole k (list_in c) refl n)) where
-      whole : (k : ℕ) (o : Option (List Data)) → list_in c ≡ o → option_map {U = ℕ × List Data} (λ ds. (k, ds)) o ≡ Some (l, items)
-          → unwrap_or o [] ≡ items
-      whole k None is h = cc
-      whole k (Some ds) is h = let same : (k, ds) ≡ (l, items) = cc in ap (λ (p : ℕ × List Data). p.1) same
+-- the edition and the items of what has the three parts of a script
+third_of_parts : (ds : List Data) (edition : Edition) (l : ℕ) (items : List Data) → parts_of ds ≡ Some (edition, l, items)
+    → (first_edition ds ≡ edition) × (third_items ds ≡ items)
+third_of_parts [] edition l items e = cc
+third_of_parts (a ∷ []) edition l items e = cc
+third_of_parts (a ∷ b ∷ []) edition l items e = cc
+third_of_parts (a ∷ b ∷ c ∷ d ∷ ds) edition l items e = cc
+third_of_parts (a ∷ b ∷ c ∷ []) edition l items e =
+    option_and_then_some (λ v. parts_with v b c) (version_in a) (edition, l, items) e
+    (λ v is h. option_and_then_some (λ k. option_map (λ ds. (v, k, ds)) (list_in c)) (limit_in v b) (edition, l, items) h
+    (λ k at n. whole v is k (list_in c) refl n)) where
+      whole : (v : Edition) → version_in a ≡ Some v → (k : ℕ) (o : Option (List Data)) → list_in c ≡ o
+          → option_map {U = Parts} (λ ds. (v, k, ds)) o ≡ Some (edition, l, items)
+          → (unwrap_or (version_in a) Second ≡ edition) × (unwrap_or o [] ≡ items)
+      whole v told k None is h = cc
+      whole v told k (Some ds) is h =
+          let same : (v, k, ds) ≡ (edition, l, items) = cc in
+          (ap (λ o. unwrap_or o Second) told ∙ ap (λ (p : Parts). p.0) same, ap (λ (p : Parts). p.2) same)
 
-items_of_parts : (d : Data) (l : ℕ) (items : List Data) → parts_in d ≡ Some (l, items) → items_in d ≡ items
-items_of_parts d l items e =
-    option_and_then_some parts_of (list_in d) (l, items) e
-    (λ ds is h. ap (λ o. third_items (unwrap_or o [])) is ∙ third_of_parts ds l items h)
+told_by_parts : (d : Data) (edition : Edition) (l : ℕ) (items : List Data) → parts_in d ≡ Some (edition, l, items)
+    → (edition_in d ≡ edition) × (items_in d ≡ items)
+told_by_parts d edition l items e =
+    option_and_then_some parts_of (list_in d) (edition, l, items) e
+    (λ ds is h. let (first, third) = third_of_parts ds edition l items h in
+    (ap (λ o. first_edition (unwrap_or o [])) is ∙ first, ap (λ o. third_items (unwrap_or o [])) is ∙ third))
+
+-- the numbers that are listed are those of the items of the three parts
+numbers_by_parts : (d : Data) (edition : Edition) (l : ℕ) (items : List Data) → parts_in d ≡ Some (edition, l, items)
+    → numbers_without (step_in (edition_in d)) 0 (items_in d) ≡ numbers_without (step_in edition) 0 items
+numbers_by_parts d edition l items e =
+    let (first, third) = told_by_parts d edition l items e in
+    ap (λ v. numbers_without (step_in v) 0 (items_in d)) first ∙ ap (numbers_without (step_in edition) 0) third
 
 -- no fault, no other value
-pub script_without : (d : Data) → is_some (parts_in d) ≡ true → numbers_without step_in 0 (items_in d) ≡ [] → (s : Script) × IsScriptData d s
+pub script_without : (d : Data) → is_some (parts_in d) ≡ true → numbers_without (step_in (edition_in d)) 0 (items_in d) ≡ []
+    → (s : Script) × IsScriptData d s
 script_without d = parted (parts_in d) refl where
-  parted : (o : Option (ℕ × List Data)) → parts_in d ≡ o → is_some o ≡ true → numbers_without step_in 0 (items_in d) ≡ []
+  parted : (o : Option Parts) → parts_in d ≡ o → is_some o ≡ true → numbers_without (step_in (edition_in d)) 0 (items_in d) ≡ []
       → (s : Script) × IsScriptData d s
   parted None is some none = cc
-  parted (Some (l, items)) is some none =
-      let same = items_of_parts d l items is in
-      let (ss, are) = all_found step_in 0 items (ap (numbers_without step_in 0) (sym same) ∙ none) in
-      (record { limit = l; steps = ss }, script_is d l items ss is are)
+  parted (Some (edition, l, items)) is some none =
+      let (ss, are) = all_found (step_in edition) 0 items (sym (numbers_by_parts d edition l items is) ∙ none) in
+      (record { edition = edition; limit = l; steps = ss }, script_is d edition l items ss is are)
 
 -- a script, no fault
-pub none_of_script : (d : Data) (s : Script) → IsScriptData d s → (is_some (parts_in d) ≡ true) × (numbers_without step_in 0 (items_in d) ≡ [])
+pub none_of_script : (d : Data) (s : Script) → IsScriptData d s
+    → (is_some (parts_in d) ≡ true) × (numbers_without (step_in (edition_in d)) 0 (items_in d) ≡ [])
 none_of_script d s is = parted (parts_in d) refl where
-  stepped : (l : ℕ) (items : List Data) → parts_in d ≡ Some (l, items) → (o : Option (List Step)) → each_in step_in items ≡ o
-      → numbers_without step_in 0 (items_in d) ≡ []
-  stepped l items at None e = absurd (no_steps d l items at e s is)
-  stepped l items at (Some ss) e = ap (numbers_without step_in 0) (items_of_parts d l items at) ∙ none_left step_in 0 items ss e
+  stepped : (edition : Edition) (l : ℕ) (items : List Data) → parts_in d ≡ Some (edition, l, items)
+      → (o : Option (List Step)) → each_in (step_in edition) items ≡ o → numbers_without (step_in (edition_in d)) 0 (items_in d) ≡ []
+  stepped edition l items at None e = absurd (no_steps d edition l items at e s is)
+  stepped edition l items at (Some ss) e = numbers_by_parts d edition l items at ∙ none_left (step_in edition) 0 items ss e
 
-  parted : (o : Option (ℕ × List Data)) → parts_in d ≡ o → (is_some (parts_in d) ≡ true) × (numbers_without step_in 0 (items_in d) ≡ [])
+  parted : (o : Option Parts) → parts_in d ≡ o
+      → (is_some (parts_in d) ≡ true) × (numbers_without (step_in (edition_in d)) 0 (items_in d) ≡ [])
   parted None at = absurd (no_parts d at s is)
-  parted (Some (l, items)) at = (ap (λ o. is_some o) at, stepped l items at (each_in step_in items) refl)
+  parted (Some (edition, l, items)) at = (ap (λ o. is_some o) at, stepped edition l items at (each_in (step_in edition) items) refl)

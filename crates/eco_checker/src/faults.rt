@@ -4,18 +4,21 @@ ghost use Rattle.std.specs.Prelude.{◌≡◌, ◌↔◌, true, [], is_some, map
 ghost use Rattle.serde_json.specs.View.{view};
 ghost use Rattle.eco_steps.specs.Decode.{list_in, parts_in, step_in};
 ghost use Rattle.eco_steps.specs.Script.{Script, IsScriptData};
-ghost use Rattle.eco_checker.specs.Faults.{items_in, numbers_without};
+ghost use Rattle.eco_checker.specs.Faults.{edition_in, items_in, numbers_without};
 
 use crate::search::steps_not_read;
-use eco_steps::{read_list, read_number};
+use eco_ids::Edition;
+use eco_steps::{read_limit, read_list, read_version};
 use serde_json::Value;
 use std::alloc::{AllocError, Global};
 
 /// What keeps a value from being a script: all of it.
 #[derive(Drop)]
 pub struct Faults<'a> {
-    /// Whether the value is a list of three: 1, a limit from 9 to 1,048,576, and a list.
+    /// Whether the value is a list of three: a version, a limit that its edition allows, and a list.
     pub has_head: bool,
+    /// The edition that the steps are judged by: that of the version, or the second, which allows more, where there is none.
+    pub edition: Edition,
     /// What the list of steps holds, where the value is a list of three whose third is a list, whatever stands in front.
     pub items: &'a [Value],
     /// The numbers, from 0 and ascending, of the items that are no step.
@@ -29,9 +32,10 @@ fn has_parts(value: &Value) -> bool
     let Some([version, limit, steps]) = read_list(value) else {
         return false;
     };
-    read_number(version, 1, 1).is_some()
-        && read_number(limit, 9, 1_048_576).is_some()
-        && read_list(steps).is_some()
+    let Some(edition) = read_version(version) else {
+        return false;
+    };
+    read_limit(edition, limit).is_some() && read_list(steps).is_some()
 }
 
 // The items of a list, and none of anything else.
@@ -51,23 +55,36 @@ fn step_items(value: &Value) -> &[Value]
     }
 }
 
+// The edition that the steps are judged by.
+fn steps_edition(value: &Value) -> Edition
+    ensures { result ≡ edition_in (view value.now) }
+{
+    match items_of(value) {
+        [version, _, _] => read_version(version).unwrap_or(Edition::Second),
+        _ => Edition::Second,
+    }
+}
+
 impl<'a> Faults<'a> {
     ghost use Rattle.eco_checker.specs.Clean.{IsClean};
 
     /// All faults of a value. There are none exactly where the value is a script.
     pub fn find(alloc: Global, value: &'a Value) -> Result<Faults<'a>, AllocError>
         ensures head { IfOk result (λ f. f.has_head ≡ is_some (parts_in (view value.now))) }
+        ensures edition { IfOk result (λ f. f.edition ≡ edition_in (view value.now)) }
         ensures items { IfOk result (λ f. map view f.items.now ≡ items_in (view value.now)) }
         ensures steps { IfOk result (λ f. f.steps.items
-            ≡ numbers_without step_in 0 (items_in (view value.now))) }
+            ≡ numbers_without (step_in (edition_in (view value.now))) 0 (items_in (view value.now))) }
         ensures script { IfOk result (λ f. IsClean f → (s : Script) × IsScriptData (view value.now) s) }
         ensures none { IfOk result (λ f. (s : Script) → IsScriptData (view value.now) s → IsClean f) }
     {
         let has_head = has_parts(value);
+        let edition = steps_edition(value);
         let items = step_items(value);
-        let steps = steps_not_read(alloc, items)?;
+        let steps = steps_not_read(alloc, edition, items)?;
         Ok(Faults {
             has_head,
+            edition,
             items,
             steps,
         })

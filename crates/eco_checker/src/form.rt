@@ -1,6 +1,7 @@
 //! The arguments that the words of a script take.
 
 use crate::kind::Kind;
+use eco_ids::Edition;
 use serde_json::Value;
 
 /// An argument, by the word for what it stands for, and what it has to be.
@@ -165,10 +166,11 @@ impl Form {
         given == self.arguments.len() || (given == 0 && self.may_take_none)
     }
 
-    /// Whether these arguments are as many as it takes, and each is what it has to be.
-    pub(crate) fn fits(self, given: &[Value]) -> bool {
+    /// Whether these arguments are as many as it takes, and each is what it has to be in a script of an edition.
+    pub(crate) fn fits(self, edition: Edition, given: &[Value]) -> bool {
         let mut pairs = given.iter().zip(self.arguments);
-        self.counts(given.len()) && pairs.all(|(value, argument)| argument.kind.fits(value))
+        self.counts(given.len())
+            && pairs.all(|(value, argument)| argument.kind.fits(edition, value))
     }
 }
 

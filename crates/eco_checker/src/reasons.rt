@@ -4,7 +4,8 @@ use crate::form::{Argument, Form, script_form};
 use crate::kind::Kind;
 use crate::shown::{ARGUMENT_WIDTH, push_value};
 use crate::vocabulary::Vocabulary;
-use eco_steps::{read_list, read_words};
+use eco_ids::Edition;
+use eco_steps::{read_list, read_version, read_words};
 use serde_json::Value;
 use std::alloc::{AllocError, Global};
 
@@ -57,11 +58,14 @@ fn push_count(text: &mut String, word: &str, form: Form, given: usize) -> Result
 fn push_argument(
     alloc: Global,
     text: &mut String,
+    edition: Edition,
     argument: Argument,
     value: &Value,
 ) -> Result<(), AllocError> {
-    let (role, expected) = (argument.role, argument.kind.expected());
-    write!(text, "{role}: expected {expected}, not ")?;
+    let role = argument.role;
+    write!(text, "{role}: expected ")?;
+    argument.kind.push_expected(text, edition)?;
+    text.push_str(", not ")?;
     push_value(alloc, text, value, ARGUMENT_WIDTH)?;
     match (argument.kind, value.as_str()) {
         (Kind::Phase, Some(word)) => push_meant(alloc, text, Vocabulary::Phases, word),
@@ -73,16 +77,17 @@ fn push_argument(
 fn push_arguments(
     alloc: Global,
     text: &mut String,
+    edition: Edition,
     form: Form,
     given: &[Value],
     mut is_behind: bool,
 ) -> Result<(), AllocError> {
     for (value, argument) in given.iter().zip(form.arguments) {
-        if !argument.kind.fits(value) {
+        if !argument.kind.fits(edition, value) {
             if is_behind {
                 text.push_str("; ")?;
             }
-            push_argument(alloc, text, *argument, value)?;
+            push_argument(alloc, text, edition, *argument, value)?;
             is_behind = true;
         }
     }
@@ -93,22 +98,24 @@ fn push_arguments(
 fn push_form(
     alloc: Global,
     text: &mut String,
+    edition: Edition,
     word: &str,
     form: Form,
     given: &[Value],
 ) -> Result<(), AllocError> {
     if form.counts(given.len()) {
-        push_arguments(alloc, text, form, given, false)
+        push_arguments(alloc, text, edition, form, given, false)
     } else {
         push_count(text, word, form, given.len())?;
-        push_arguments(alloc, text, form, given, true)
+        push_arguments(alloc, text, edition, form, given, true)
     }
 }
 
-/// Adds why a value is no step, command or action: all that is wrong with it, joined by semicolons.
+/// Adds why a value is no step, command or action of a script of an edition: all that is wrong with it, joined by semicolons.
 pub(crate) fn push_reasons(
     alloc: Global,
     text: &mut String,
+    edition: Edition,
     vocabulary: Vocabulary,
     value: &Value,
 ) -> Result<(), AllocError> {
@@ -127,7 +134,7 @@ pub(crate) fn push_reasons(
         return push_value(alloc, text, first, ARGUMENT_WIDTH);
     };
     match vocabulary.form(word) {
-        Some(form) => push_form(alloc, text, word, form, given),
+        Some(form) => push_form(alloc, text, edition, word, form, given),
         None => push_unknown(alloc, text, vocabulary, first, word),
     }
 }
@@ -142,20 +149,20 @@ pub(crate) fn push_head_reasons(
         text.push_str("; expected a list, not ")?;
         return push_value(alloc, text, value, ARGUMENT_WIDTH);
     };
-    let form = script_form();
-    let given = items.len();
-    if form.counts(given) {
-        push_arguments(alloc, text, form, items, true)
-    } else {
-        write!(text, "; expected a list of 3 items, not {given}")
-    }
+    let [version, _, _] = items else {
+        let given = items.len();
+        return write!(text, "; expected a list of 3 items, not {given}");
+    };
+    // Without a version the limit is judged by the first edition, which allows more of them.
+    let edition = read_version(version).unwrap_or(Edition::First);
+    push_arguments(alloc, text, edition, script_form(), items, true)
 }
 
-/// Whether a value is written as one of these words asks, whatever the items of its lists are.
-pub(crate) fn is_well_formed(vocabulary: Vocabulary, value: &Value) -> bool {
+/// Whether a value is written as one of these words asks in a script of an edition, whatever the items of its lists are.
+pub(crate) fn is_well_formed(edition: Edition, vocabulary: Vocabulary, value: &Value) -> bool {
     match read_words(value) {
         Some((word, given)) => match vocabulary.form(word) {
-            Some(form) => form.fits(given),
+            Some(form) => form.fits(edition, given),
             None => false,
         },
         None => false,

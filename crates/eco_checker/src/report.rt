@@ -5,6 +5,7 @@ use crate::reasons::{is_well_formed, push_head_reasons, push_reasons};
 use crate::search::{actions_not_read, commands_not_read};
 use crate::shown::{ARGUMENT_WIDTH, STEP_WIDTH, push_value};
 use crate::vocabulary::Vocabulary;
+use eco_ids::Edition;
 use eco_steps::{read_list, read_words};
 use serde_json::Value;
 use std::alloc::{AllocError, Global};
@@ -44,15 +45,12 @@ impl fmt::Display for Place {
     }
 }
 
-// How the line of a head begins.
-const HEAD: &str =
-    "head: the script begins with 1, a limit from 9 to 1,048,576, and a list of steps";
-
-// The text that lines are added to, and how many of them tell a fault.
+// The text that lines are added to, the edition that its steps are judged by, and how many lines tell a fault.
 #[derive(Drop)]
 struct Lines<'a> {
     alloc: Global,
     text: &'a mut String,
+    edition: Edition,
     count: usize,
 }
 
@@ -68,7 +66,7 @@ impl Lines<'_> {
         write!(self.text, "{place}: ")?;
         push_value(self.alloc, self.text, value, STEP_WIDTH)?;
         self.text.push_str(": ")?;
-        push_reasons(self.alloc, self.text, words, value)?;
+        push_reasons(self.alloc, self.text, self.edition, words, value)?;
         self.text.push_str("\n")
     }
 
@@ -81,7 +79,7 @@ impl Lines<'_> {
             push_value(self.alloc, self.text, value, ARGUMENT_WIDTH)?;
             return self.text.push_str("\n");
         };
-        for command in &commands_not_read(self.alloc, items)? {
+        for command in &commands_not_read(self.alloc, self.edition, items)? {
             let place = Place::Command {
                 step,
                 stage,
@@ -106,7 +104,7 @@ impl Lines<'_> {
     // Adds the lines of the actions of a system.
     fn push_actions(&mut self, step: usize, actions: &Value) -> Result<(), AllocError> {
         let items = read_list(actions).unwrap_or(&[]);
-        for action in &actions_not_read(self.alloc, items)? {
+        for action in &actions_not_read(self.alloc, self.edition, items)? {
             let place = Place::Action {
                 step,
                 action: *action,
@@ -133,7 +131,7 @@ impl Lines<'_> {
     // Adds the lines of a step that is none, one at least.
     fn push_step(&mut self, step: usize, value: &Value) -> Result<(), AllocError> {
         let before = self.count;
-        if !is_well_formed(Vocabulary::Steps, value) {
+        if !is_well_formed(self.edition, Vocabulary::Steps, value) {
             self.push_fault(Place::Step(step), Vocabulary::Steps, value)?;
         }
         self.push_held(step, value)?;
@@ -143,10 +141,21 @@ impl Lines<'_> {
         Ok(())
     }
 
+    // Adds which three parts a script has.
+    fn push_parts(&mut self) -> Result<(), AllocError> {
+        let first = Edition::First.builtin_count();
+        let second = Edition::Second.builtin_count();
+        write!(
+            self.text,
+            "head: a script is [1, limit, steps] with a limit from {first} to 1,048,576, \
+             or [2, limit, steps] with a limit from {second} to 1,048,576"
+        )
+    }
+
     // Adds the line of what has not the three parts of a script.
     fn push_head(&mut self, value: &Value) -> Result<(), AllocError> {
         self.count = self.count.saturating_add(1);
-        self.text.push_str(HEAD)?;
+        self.push_parts()?;
         push_head_reasons(self.alloc, self.text, value)?;
         self.text.push_str("\n")
     }
@@ -172,6 +181,7 @@ pub(crate) fn push_report(
     let mut lines = Lines {
         alloc,
         text,
+        edition: faults.edition,
         count: 0,
     };
     if !faults.has_head {

@@ -5,17 +5,22 @@ ghost use Rattle.serde_json.specs.View.{view};
 ghost use Rattle.eco_steps.specs.Decode.{action_in, command_in, step_in};
 ghost use Rattle.eco_checker.specs.Faults.{numbers_without};
 
+use eco_ids::Edition;
 use eco_steps::{Action, Command, Step};
 use serde_json::Value;
 use std::alloc::{AllocError, Global};
 
-/// The numbers, from 0 and ascending, of the values that are no step.
-pub fn steps_not_read(alloc: Global, values: &[Value]) -> Result<Vec<usize>, AllocError>
-    ensures { IfOk result (λ v. v.items ≡ numbers_without step_in 0 (map view values.now)) }
+/// The numbers, from 0 and ascending, of the values that are no step of a script of an edition.
+pub fn steps_not_read(
+    alloc: Global,
+    edition: Edition,
+    values: &[Value],
+) -> Result<Vec<usize>, AllocError>
+    ensures { IfOk result (λ v. v.items ≡ numbers_without (step_in edition) 0 (map view values.now)) }
 {
     let mut numbers = Vec::new(alloc);
     for (number, value) in values.iter().enumerate() {
-        if Step::read(value).is_none() {
+        if Step::read(edition, value).is_none() {
             numbers.push(number)?;
         }
     }
@@ -23,12 +28,16 @@ pub fn steps_not_read(alloc: Global, values: &[Value]) -> Result<Vec<usize>, All
 }
 
 /// The numbers, likewise, of the values that are no command of a stage.
-pub fn commands_not_read(alloc: Global, values: &[Value]) -> Result<Vec<usize>, AllocError>
-    ensures { IfOk result (λ v. v.items ≡ numbers_without command_in 0 (map view values.now)) }
+pub fn commands_not_read(
+    alloc: Global,
+    edition: Edition,
+    values: &[Value],
+) -> Result<Vec<usize>, AllocError>
+    ensures { IfOk result (λ v. v.items ≡ numbers_without (command_in edition) 0 (map view values.now)) }
 {
     let mut numbers = Vec::new(alloc);
     for (number, value) in values.iter().enumerate() {
-        if Command::read(value).is_none() {
+        if Command::read(edition, value).is_none() {
             numbers.push(number)?;
         }
     }
@@ -36,12 +45,16 @@ pub fn commands_not_read(alloc: Global, values: &[Value]) -> Result<Vec<usize>, 
 }
 
 /// The numbers, likewise, of the values that are no action of a system.
-pub fn actions_not_read(alloc: Global, values: &[Value]) -> Result<Vec<usize>, AllocError>
-    ensures { IfOk result (λ v. v.items ≡ numbers_without action_in 0 (map view values.now)) }
+pub fn actions_not_read(
+    alloc: Global,
+    edition: Edition,
+    values: &[Value],
+) -> Result<Vec<usize>, AllocError>
+    ensures { IfOk result (λ v. v.items ≡ numbers_without (action_in edition) 0 (map view values.now)) }
 {
     let mut numbers = Vec::new(alloc);
     for (number, value) in values.iter().enumerate() {
-        if Action::read(value).is_none() {
+        if Action::read(edition, value).is_none() {
             numbers.push(number)?;
         }
     }

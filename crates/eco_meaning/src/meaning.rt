@@ -3,7 +3,7 @@
 use crate::reasons::reason;
 use crate::texts::{Texts, texts_of_action, texts_of_command, texts_of_step};
 use eco_grammar::{Names, read_id, read_query, read_ref};
-use eco_ids::Refusal;
+use eco_ids::{Edition, Refusal};
 use eco_steps::{Actions, Commands, Stages, Step};
 use std::alloc::{AllocError, Global};
 
@@ -83,6 +83,22 @@ fn unread_of_step<'a, N: Names>(alloc: Global, names: &N, step: &Step<'a>) -> Op
     }
 }
 
+// Whether a text names a built-in of the second edition, among which are those of the first.
+fn names_builtin<N: Names>(names: &N, text: &str) -> bool {
+    match read_ref(text, names) {
+        Ok(entity) => entity.is_among_first(Edition::Second.builtin_count()),
+        Err(_) => false,
+    }
+}
+
+// The text of what a built-in would be changed by: the entity, where it is a built-in itself, or else the id.
+fn reserved<'a, N: Names>(names: &N, texts: Texts<'a>) -> Option<&'a str> {
+    match texts.entity {
+        Some(entity) if names_builtin(names, entity) => Some(entity),
+        _ => texts.id,
+    }
+}
+
 // The text that a refusal means, where it means one.
 fn meant<'a, N: Names>(
     alloc: Global,
@@ -92,8 +108,9 @@ fn meant<'a, N: Names>(
 ) -> Option<&'a str> {
     let texts = texts_of_step(step);
     match refusal.number() {
-        1 | 3 | 7 => texts.entity.or(texts.id),
-        2 | 4..=6 | 8 => texts.id,
+        1 | 7 => texts.entity.or(texts.id),
+        2 | 4..=6 | 8 | 33 => texts.id,
+        3 => reserved(names, texts),
         10 | 11 | 32 => texts.name,
         20..=24 => unread_of_step(alloc, names, step),
         _ => None,

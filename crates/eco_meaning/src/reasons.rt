@@ -3,10 +3,13 @@
 use eco_ids::Refusal;
 
 // What each refusal says, by its number.
-const REASONS: [(u8, &str); 23] = [
+const REASONS: [(u8, &str); 24] = [
     (1, "it is nobody living"),
     (2, "it names nobody living"),
-    (3, "a built-in would be changed, or would lose an id"),
+    (
+        3,
+        "a built-in would be changed, or would lose an id or get a mirror",
+    ),
     (4, "the target of a policy is Remove, Delete or Panic"),
     (5, "the relationship has pairs already"),
     (6, "the pair would close a cycle"),
@@ -36,6 +39,10 @@ const REASONS: [(u8, &str); 23] = [
     ),
     (31, "an action's slot is not there, or is a ! slot"),
     (32, "another system has this name"),
+    (
+        33,
+        "a symmetric relationship would be exclusive, acyclic or tied to another by With",
+    ),
 ];
 
 /// What a refusal says, in words.

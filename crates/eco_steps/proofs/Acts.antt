@@ -4,6 +4,7 @@ use Rattle.std.specs.Str.{bytes_eq}
 use Rattle.std.proofs.lemmas.Option.{option_and_then_some}
 use Rattle.serde_json.specs.Data.{Data, string}
 use Rattle.serde_json.specs.Find.{as_str}
+use Rattle.eco_ids.specs.declared.edition.Edition.{Edition}
 use Rattle.eco_ids.specs.declared.value.Value.{Value}
 use Rattle.eco_systems.specs.declared.phase.Phase.{Phase}
 use Rattle.eco_systems.specs.declared.phase.Phase.TheVariants.{OnLoad, PostLoad, PreUpdate, OnUpdate, OnValidate, PostUpdate, PreStore, OnStore}
@@ -40,70 +41,73 @@ word_of w p e =
 pub phase_is : (d : Data) (p : Phase) → option_and_then phase_of (as_str d) ≡ Some p → d ≡ string (phase_word p)
 phase_is d p e = option_and_then_some phase_of (as_str d) p e (λ w is h. rw (← word_of w p h) (str_is d w is))
 
--- ---- what is written is found
+-- ---- actions
 
 slot_found : (d : Data) (n : ℕ) → IsSlotData d n → slot_in d ≡ Some n
 slot_found d n (is, most) = rw is (number_in_range 0 31 n (omega arith) most)
 
-action_found : (d : Data) (a : Action) → IsActionData d a → action_in d ≡ Some a
-action_found d (add i) is = rw is refl
-action_found d (remove i) is = rw is refl
-action_found d (put n v) (place, value, is, at, of) = rw (is, slot_found place n at, value_found value v of) refl
-action_found d (sum n m) (place, other, is, at, of) = rw (is, slot_found place n at, slot_found other m of) refl
-action_found d kill is = rw is refl
-action_found d (spawn None) is = rw is refl
-action_found d (spawn (Some i)) is = rw is refl
-
-pub actions_found : (d : Data) (actions : List Action) → IsActionsData d actions → actions_in d ≡ Some actions
-actions_found d actions (items, is, are) = rw (is, items_list-items_of items) (each_found action_in IsActionData action_found items actions are)
-
--- ---- what is found is what is written
-
 slot_is : (d : Data) (n : ℕ) → slot_in d ≡ Some n → IsSlotData d n
 slot_is d n e = let (is, low, high) = number_is 0 31 d n e in (is, high)
 
-none_is : (w : List ℕ) (a : Action) → action_of_none w ≡ Some a → IsActionData (written w []) a
-none_is w a e =
-    chosen _ (bytes_eq w (codes "kill")) _ _ a e (λ t h. let q : a ≡ kill = cc in rw (q, word_is w _ t) refl)
-    (λ f. chosen _ (bytes_eq w (codes "spawn")) _ _ a f (λ t h. let q : a ≡ spawn None = cc in rw (q, word_is w _ t) refl) (λ h. cc))
+module _ (edition : Edition) where
+  -- what is written is found
+  action_found : (d : Data) (a : Action) → IsActionData edition d a → action_in edition d ≡ Some a
+  action_found d (add i) is = rw is refl
+  action_found d (remove i) is = rw is refl
+  action_found d (put n v) (place, value, is, at, of) = rw (is, slot_found place n at, value_found edition value v of) refl
+  action_found d (sum n m) (place, other, is, at, of) = rw (is, slot_found place n at, slot_found other m of) refl
+  action_found d kill is = rw is refl
+  action_found d (spawn None) is = rw is refl
+  action_found d (spawn (Some i)) is = rw is refl
 
-text_is : (w x : List ℕ) (a : Action) → action_of_text w x ≡ Some a → IsActionData (written w (string x ∷ [])) a
-text_is w x a e =
-    chosen _ (bytes_eq w (codes "add")) _ _ a e (λ t h. let q : a ≡ add x = cc in rw (q, word_is w _ t) refl)
-    (λ f. chosen _ (bytes_eq w (codes "remove")) _ _ a f (λ t h. let q : a ≡ remove x = cc in rw (q, word_is w _ t) refl)
-    (λ g. chosen _ (bytes_eq w (codes "spawn")) _ _ a g (λ t h. let q : a ≡ spawn (Some x) = cc in rw (q, word_is w _ t) refl) (λ h. cc)))
+  pub actions_found : (d : Data) (actions : List Action) → IsActionsData edition d actions → actions_in edition d ≡ Some actions
+  actions_found d actions (items, is, are) = rw (is, items_list-items_of items)
+      (each_found (action_in edition) (IsActionData edition) action_found items actions are)
 
-put_is : (w : List ℕ) (d e : Data) (n : ℕ) (a : Action) → IsSlotData d n → bytes_eq w (codes "put") ≡ true → option_map (put n) (value_in e) ≡ Some a
-    → IsActionData (written w (d ∷ e ∷ [])) a
-put_is w d e n a at t f = valued (value_in e) refl f where
-  valued : (o : Option Value) → value_in e ≡ o → option_map (put n) o ≡ Some a → IsActionData (written w (d ∷ e ∷ [])) a
-  valued None is h = cc
-  valued (Some v) is h = let q : a ≡ put n v = cc in rw (q, word_is w _ t) (d, e, refl, at, value_is e v is)
+  -- what is found is what is written
+  none_is : (w : List ℕ) (a : Action) → action_of_none w ≡ Some a → IsActionData edition (written w []) a
+  none_is w a e =
+      chosen _ (bytes_eq w (codes "kill")) _ _ a e (λ t h. let q : a ≡ kill = cc in rw (q, word_is w _ t) refl)
+      (λ f. chosen _ (bytes_eq w (codes "spawn")) _ _ a f (λ t h. let q : a ≡ spawn None = cc in rw (q, word_is w _ t) refl) (λ h. cc))
 
-sum_is : (w : List ℕ) (d e : Data) (n : ℕ) (a : Action) → IsSlotData d n → bytes_eq w (codes "sum") ≡ true → option_map (sum n) (slot_in e) ≡ Some a
-    → IsActionData (written w (d ∷ e ∷ [])) a
-sum_is w d e n a at t f = counted (slot_in e) refl f where
-  counted : (o : Option ℕ) → slot_in e ≡ o → option_map (sum n) o ≡ Some a → IsActionData (written w (d ∷ e ∷ [])) a
-  counted None is h = cc
-  counted (Some m) is h = let q : a ≡ sum n m = cc in rw (q, word_is w _ t) (d, e, refl, at, slot_is e m is)
+  text_is : (w x : List ℕ) (a : Action) → action_of_text w x ≡ Some a → IsActionData edition (written w (string x ∷ [])) a
+  text_is w x a e =
+      chosen _ (bytes_eq w (codes "add")) _ _ a e (λ t h. let q : a ≡ add x = cc in rw (q, word_is w _ t) refl)
+      (λ f. chosen _ (bytes_eq w (codes "remove")) _ _ a f (λ t h. let q : a ≡ remove x = cc in rw (q, word_is w _ t) refl)
+      (λ g. chosen _ (bytes_eq w (codes "spawn")) _ _ a g (λ t h. let q : a ≡ spawn (Some x) = cc in rw (q, word_is w _ t) refl) (λ h. cc)))
 
-slots_are : (w : List ℕ) (d e : Data) (n : ℕ) (a : Action) → IsSlotData d n → action_of_slot w n e ≡ Some a → IsActionData (written w (d ∷ e ∷ [])) a
-slots_are w d e n a at f =
-    chosen _ (bytes_eq w (codes "put")) _ _ a f (put_is w d e n a at)
-    (λ g. chosen _ (bytes_eq w (codes "sum")) _ _ a g (sum_is w d e n a at) (λ h. cc))
+  put_is : (w : List ℕ) (d e : Data) (n : ℕ) (a : Action) → IsSlotData d n → bytes_eq w (codes "put") ≡ true → option_map (put n) (value_in edition e) ≡ Some a
+      → IsActionData edition (written w (d ∷ e ∷ [])) a
+  put_is w d e n a at t f = valued (value_in edition e) refl f where
+    valued : (o : Option Value) → value_in edition e ≡ o → option_map (put n) o ≡ Some a → IsActionData edition (written w (d ∷ e ∷ [])) a
+    valued None is h = cc
+    valued (Some v) is h = let q : a ≡ put n v = cc in rw (q, word_is w _ t) (d, e, refl, at, value_is edition e v is)
 
-action_of_is : (w : List ℕ) (ds : List Data) (a : Action) → action_of w ds ≡ Some a → IsActionData (written w ds) a
-action_of_is w [] a e = none_is w a e
-action_of_is w (d ∷ []) a e = option_and_then_some (action_of_text w) (as_str d) a e (λ x is h. rw (str_is d x is) (text_is w x a h))
-action_of_is w (d ∷ f ∷ []) a e =
-    option_and_then_some (λ n. action_of_slot w n f) (slot_in d) a e (λ n is h. slots_are w d f n a (slot_is d n is) h)
-action_of_is w (d ∷ f ∷ g ∷ ds) a e = cc
+  sum_is : (w : List ℕ) (d e : Data) (n : ℕ) (a : Action) → IsSlotData d n → bytes_eq w (codes "sum") ≡ true → option_map (sum n) (slot_in e) ≡ Some a
+      → IsActionData edition (written w (d ∷ e ∷ [])) a
+  sum_is w d e n a at t f = counted (slot_in e) refl f where
+    counted : (o : Option ℕ) → slot_in e ≡ o → option_map (sum n) o ≡ Some a → IsActionData edition (written w (d ∷ e ∷ [])) a
+    counted None is h = cc
+    counted (Some m) is h = let q : a ≡ sum n m = cc in rw (q, word_is w _ t) (d, e, refl, at, slot_is e m is)
 
-action_is : (d : Data) (a : Action) → action_in d ≡ Some a → IsActionData d a
-action_is d a e =
-    option_and_then_some (λ p. action_of p.0 p.1) (words_in d) a e (λ p is h. rw (words_is d p.0 p.1 is) (action_of_is p.0 p.1 a h))
+  slots_are : (w : List ℕ) (d e : Data) (n : ℕ) (a : Action) → IsSlotData d n → action_of_slot edition w n e ≡ Some a
+      → IsActionData edition (written w (d ∷ e ∷ [])) a
+  slots_are w d e n a at f =
+      chosen _ (bytes_eq w (codes "put")) _ _ a f (put_is w d e n a at)
+      (λ g. chosen _ (bytes_eq w (codes "sum")) _ _ a g (sum_is w d e n a at) (λ h. cc))
 
-pub actions_are : (d : Data) (actions : List Action) → actions_in d ≡ Some actions → IsActionsData d actions
-actions_are d actions e =
-    option_and_then_some (each_in action_in) (list_in d) actions e
-    (λ items is h. (items, list_is d items is, each_is action_in IsActionData action_is items actions h))
+  action_of_is : (w : List ℕ) (ds : List Data) (a : Action) → action_of edition w ds ≡ Some a → IsActionData edition (written w ds) a
+  action_of_is w [] a e = none_is w a e
+  action_of_is w (d ∷ []) a e = option_and_then_some (action_of_text w) (as_str d) a e (λ x is h. rw (str_is d x is) (text_is w x a h))
+  action_of_is w (d ∷ f ∷ []) a e =
+      option_and_then_some (λ n. action_of_slot edition w n f) (slot_in d) a e (λ n is h. slots_are w d f n a (slot_is d n is) h)
+  action_of_is w (d ∷ f ∷ g ∷ ds) a e = cc
+
+  action_is : (d : Data) (a : Action) → action_in edition d ≡ Some a → IsActionData edition d a
+  action_is d a e =
+      option_and_then_some (λ p. action_of edition p.0 p.1) (words_in d) a e (λ p is h. rw (words_is d p.0 p.1 is) (action_of_is p.0 p.1 a h))
+
+  pub actions_are : (d : Data) (actions : List Action) → actions_in edition d ≡ Some actions → IsActionsData edition d actions
+  actions_are d actions e =
+      option_and_then_some (each_in (action_in edition)) (list_in d) actions e
+      (λ items is h. (items, list_is d items is, each_is (action_in edition) (IsActionData edition) action_is items actions h))

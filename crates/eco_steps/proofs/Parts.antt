@@ -1,6 +1,6 @@
 -- Numbers, texts, names and values of steps: what is found in one is exactly what it is written as.
 use Rattle.std.proofs.Common.{◌≡◌, ◌+◌, ◌≤◌, ◌^◌, ◌<◌, ◌-◌, ℕ, ℤ, pos, negsuc, Bool, true, false, List, [], ◌∷◌, ◌++◌, length, take, drop, replicate, map}
-use Rattle.std.proofs.Common.{nat_lt, nat_le, ◌&&◌, Option, Some, None, option_map, option_and_then, if◌then◌else◌, refl, ap, sym, ◌∙◌, arith}
+use Rattle.std.proofs.Common.{nat_lt, nat_le, ◌&&◌, Option, Some, None, option_map, if◌then◌else◌, refl, ap, sym, ◌∙◌, arith}
 use Rattle.std.proofs.Common.{get_or, set as set_at, to_z, of_z}
 use Rattle.std.specs.Int.{w64}
 use Rattle.std.specs.List.{AllZip}
@@ -12,11 +12,15 @@ use Rattle.std.proofs.lemmas.Slice.Eq.{bytes_eq-Decides}
 use Rattle.std.proofs.lemmas.Option.{option_and_then_some, some_pair_parts}
 use Rattle.serde_json.specs.Data.{Data, null, boolean, number, string, array, object, unsigned, negative, float}
 use Rattle.serde_json.specs.Find.{as_str}
+use Rattle.eco_ids.specs.declared.edition.Edition.{Edition}
+use Rattle.eco_ids.specs.declared.edition.Edition.TheVariants.{First, Second}
 use Rattle.eco_ids.specs.declared.value.TheConstants.{FIELD_COUNT}
 use Rattle.eco_ids.specs.declared.value.Value.{Value}
+use Rattle.eco_ids.specs.Edition.{largest_arity}
+use Rattle.eco_ids.specs.World.{padded}
 use Rattle.eco_steps.specs.Decode.{items_list, list_in, each_in, name_in, number_in, integer_in, value_of_items, value_in}
 use Rattle.eco_steps.specs.Decode.{words_of, words_in}
-use Rattle.eco_steps.specs.Steps.{IsIntegerData, IsValueData, value_with, written, list_data, name_data}
+use Rattle.eco_steps.specs.Steps.{IsIntegerData, IsValueData, written, list_data, name_data}
 use Rattle.eco_steps.proofs.Values.{items_list-items_of, items_of-items_list, each_found, each_is, one_more}
 
 -- ---- what is written is found
@@ -35,15 +39,18 @@ same_length R [] (y ∷ ys) are = absurd are
 same_length R (x ∷ xs) [] are = absurd are
 same_length R (x ∷ xs) (y ∷ ys) are = grind (arith, same_length R xs ys are.1)
 
-value_of : (ds : List Data) (zs : List ℤ) → 1 ≤ length ds → length ds ≤ FIELD_COUNT → each_in integer_in ds ≡ Some zs
-    → value_of_items ds ≡ Some (value_with zs)
-value_of ds zs l h e = rw e (grind arith)
+module _ (edition : Edition) where
+  -- as many items as there may be fields are read
+  pub items_read : (ds : List Data) → 1 ≤ length ds → length ds ≤ largest_arity edition
+      → value_of_items edition ds ≡ option_map padded (each_in integer_in ds)
+  items_read ds l h = grind arith
 
-pub value_found : (d : Data) (v : Value) → IsValueData d v → value_in d ≡ Some v
-value_found d v is =
-    let long = same_length IsIntegerData is.items is.fields is.are_integers in
-    rw (is.is_list, items_list-items_of is.items, is.filled)
-    (value_of is.items is.fields (omega arith) (omega arith) (each_found integer_in IsIntegerData integer_found is.items is.fields is.are_integers))
+  pub value_found : (d : Data) (v : Value) → IsValueData edition d v → value_in edition d ≡ Some v
+  value_found d v is =
+      let long = same_length IsIntegerData is.items is.fields is.are_integers in
+      rw (is.is_list, items_list-items_of is.items, is.filled)
+      (items_read is.items (omega arith) (omega arith)
+      ∙ ap (option_map padded) (each_found integer_in IsIntegerData integer_found is.items is.fields is.are_integers))
 
 -- ---- what is found is what is written
 
@@ -107,53 +114,52 @@ integer_is (string s) z e = cc
 integer_is (array ds) z e = cc
 integer_is (object ms) z e = cc
 
--- a list of as many items as there may be fields
-few : (ds : List Data) (o : Option Value) (v : Value) → (if nat_le 1 (length ds) && nat_le (length ds) FIELD_COUNT then o else None) ≡ Some v
-    → (1 ≤ length ds) × (length ds ≤ FIELD_COUNT) × (o ≡ Some v)
-few ds o v e = grind arith
+module _ (edition : Edition) where
+  -- a list of as many items as there may be fields
+  few : (ds : List Data) (o : Option Value) (v : Value)
+      → (if nat_le 1 (length ds) && nat_le (length ds) (largest_arity edition) then o else None) ≡ Some v
+      → (1 ≤ length ds) × (length ds ≤ largest_arity edition) × (o ≡ Some v)
+  few ds o v e = grind arith
 
--- each of the items is a field
-fields_are : (ds : List Data) (v : Value) → value_of_items ds ≡ Some v → IsValueData (list_data ds) v
-fields_are ds v e = counted (each_in integer_in ds) refl (few ds (option_map value_with (each_in integer_in ds)) v e) where
-  counted : (o : Option (List ℤ)) → each_in integer_in ds ≡ o → (1 ≤ length ds) × (length ds ≤ FIELD_COUNT) × (option_map value_with o ≡ Some v)
-      → IsValueData (list_data ds) v
-  counted None n (low, high, h) = cc
-  counted (Some fields) n (low, high, h) =
-      let are = each_is integer_in IsIntegerData integer_is ds fields n in
-      let long = same_length IsIntegerData ds fields are in
-      record { items = ds; fields = fields; is_list = refl; are_integers = are; at_least = omega arith; at_most = omega arith; filled = cc }
+  -- each of the items is a field
+  fields_are : (ds : List Data) (v : Value) → value_of_items edition ds ≡ Some v → IsValueData edition (list_data ds) v
+  fields_are ds v e = counted (each_in integer_in ds) refl (few ds (option_map padded (each_in integer_in ds)) v e) where
+    counted : (o : Option (List ℤ)) → each_in integer_in ds ≡ o
+        → (1 ≤ length ds) × (length ds ≤ largest_arity edition) × (option_map padded o ≡ Some v) → IsValueData edition (list_data ds) v
+    counted None n (low, high, h) = cc
+    counted (Some fields) n (low, high, h) =
+        let are = each_is integer_in IsIntegerData integer_is ds fields n in
+        let long = same_length IsIntegerData ds fields are in
+        record { items = ds; fields = fields; is_list = refl; are_integers = are; at_least = omega arith; at_most = omega arith; filled = cc }
 
-pub value_is : (d : Data) (v : Value) → value_in d ≡ Some v → IsValueData d v
-value_is d v e = option_and_then_some value_of_items (list_in d) v e (λ ds is h. rw (list_is d ds is) (fields_are ds v h))
+  pub value_is : (d : Data) (v : Value) → value_in edition d ≡ Some v → IsValueData edition d v
+  value_is d v e = option_and_then_some (value_of_items edition) (list_in d) v e (λ ds is h. rw (list_is d ds is) (fields_are ds v h))
+
+-- an arity of any edition is one that a value has room for
+pub arity_fits : (edition : Edition) (n : ℕ) → n ≤ largest_arity edition → n ≤ FIELD_COUNT
+arity_fits First n h = omega arith
+arity_fits Second n h = h
 
 -- the fields that were read, with zeros behind them, are the value
-pub value_read : (ds : List Data) (fields : List ℤ) (i : ℕ) → i ≡ length ds → 1 ≤ length ds → length ds ≤ FIELD_COUNT
-    → each_in integer_in ds ≡ Some (take i fields) → drop i fields ≡ replicate (FIELD_COUNT - i) (pos 0)
-    → value_of_items ds ≡ Some (record { 0 = fields })
-value_read ds fields i count low high found zeros =
+fields_read : (ds : List Data) (fields : List ℤ) (i : ℕ) → i ≡ length ds → each_in integer_in ds ≡ Some (take i fields)
+    → drop i fields ≡ replicate (FIELD_COUNT - i) (pos 0) → Some (record { 0 = fields }) ≡ option_map padded (each_in integer_in ds)
+fields_read ds fields i count found zeros =
     let long : length ds ≡ length (take i fields) = same_length IsIntegerData ds (take i fields)
     (each_is integer_in IsIntegerData integer_is ds (take i fields) found) in
     let whole : take i fields ++ replicate (FIELD_COUNT - length (take i fields)) (pos 0) ≡ fields =
     ap (λ n. take i fields ++ replicate (FIELD_COUNT - n) (pos 0)) (sym long ∙ sym count) ∙ ap (λ t. take i fields ++ t) (sym zeros)
     ∙ take-append-drop i fields in
-    value_of ds (take i fields) low high found ∙ ap (λ fs. let v : Value = record { 0 = fs } in Some v) whole
+    ap (λ fs. let v : Value = record { 0 = fs } in Some v) (sym whole) ∙ ap (option_map padded) (sym found)
 
 -- likewise, where nothing is left of the items
-pub value_read_all : {X : Type 0} (f : X → Data) (items : List X) (d : Data) (fields : List ℤ) (i : ℕ) → i ≡ length items
-    → 1 ≤ length items → length items ≤ FIELD_COUNT
-    → Some (map f items) ≡ list_in d
+pub fields_read_all : {X : Type 0} (f : X → Data) (items : List X) (fields : List ℤ) (i : ℕ) → i ≡ length items
     → each_in integer_in (map f items) ≡ option_map (λ zs. take i fields ++ zs) (each_in integer_in (map f (drop i items)))
-    → drop i fields ≡ replicate (FIELD_COUNT - i) (pos 0) → Some (record { 0 = fields }) ≡ value_in d
-value_read_all f items d fields i count low high is found zeros =
-    let long = length-map items f in
+    → drop i fields ≡ replicate (FIELD_COUNT - i) (pos 0) → Some (record { 0 = fields }) ≡ option_map padded (each_in integer_in (map f items))
+fields_read_all f items fields i count found zeros =
     let none : drop i items ≡ [] = drop_all i items (omega arith) in
     let all : each_in integer_in (map f items) ≡ Some (take i fields) =
     found ∙ ap (λ xs. option_map (λ zs. take i fields ++ zs) (each_in integer_in (map f xs))) none ∙ ap Some (append-nil (take i fields)) in
-    sym (value_read (map f items) fields i (omega arith) (omega arith) (omega arith) all zeros) ∙ ap (λ o. option_and_then value_of_items o) is
-
-neither : (b : Bool) → let none : Option Value = None in none ≡ (if b then none else none)
-neither true = refl
-neither false = refl
+    fields_read (map f items) fields i (count ∙ sym (length-map items f)) all zeros
 
 -- one more field was read, into the place of a zero
 pub field_read : {X : Type 0} (f : X → Data) (items : List X) (i : ℕ) (item : X) (fields : List ℤ) (z : ℤ) → i < length items
@@ -173,11 +179,6 @@ field_read f items i item fields z there small is found zeros =
       one_more f integer_in items i item (take i fields) (take (i + 1) (set_at fields i z)) z there is (take_more_set fields i z (omega arith)) found,
       drop-set-lt (i + 1) fields i z (omega arith) ∙ behind ∙ ap (λ n. replicate n (pos 0)) count,
     )
-
--- where an item is no field, the value is none
-pub no_value : {X : Type 0} (f : X → Data) (items : List X) (d : Data) → Some (map f items) ≡ list_in d → each_in integer_in (map f items) ≡ None
-    → None ≡ value_in d
-no_value f items d is none = rw (← is, none) (neither (nat_le 1 (length (map f items)) && nat_le (length (map f items)) FIELD_COUNT))
 
 -- what has a word in front is written so
 words_are : (es : List Data) (w : List ℕ) (ds : List Data) → words_of es ≡ Some (w, ds) → list_data es ≡ written w ds

@@ -1,16 +1,19 @@
 -- How the program finds the script that a JSON value is, if it is one. The contracts of private functions speak of it;
 -- that it finds exactly the scripts is proved over it.
-use Rattle.std.specs.Prelude.{ℕ, ◌^◌, ◌&&◌, ℤ, pos, negsuc, List, [], ◌∷◌, length, codes, Option, Some, None, option_map, option_and_then, nat_le, nat_lt}
+use Rattle.std.specs.Prelude.{ℕ, ◌^◌, ◌==◌, ◌&&◌, ℤ, pos, negsuc, List, [], ◌∷◌, length, codes, Option, Some, None, option_map, option_and_then, nat_le, nat_lt}
 use Rattle.std.specs.Prelude.{if◌then◌else◌}
 use Rattle.std.specs.Str.{bytes_eq}
 use Rattle.serde_json.specs.Data.{Data, null, boolean, number, string, array, object, Items, no_items, item, Num, unsigned, negative, float}
 use Rattle.serde_json.specs.Find.{as_number, as_str, as_array, as_u64}
-use Rattle.eco_ids.specs.declared.value.TheConstants.{FIELD_COUNT, LARGEST_ARITY}
+use Rattle.eco_ids.specs.declared.edition.Edition.{Edition}
+use Rattle.eco_ids.specs.declared.edition.Edition.TheVariants.{First, Second}
 use Rattle.eco_ids.specs.declared.value.Value.{Value}
+use Rattle.eco_ids.specs.Edition.{builtin_count, largest_arity}
+use Rattle.eco_ids.specs.World.{padded}
 use Rattle.eco_systems.specs.declared.phase.Phase.{Phase}
 use Rattle.eco_systems.specs.declared.phase.Phase.TheVariants.{OnLoad, PostLoad, PreUpdate, OnUpdate, OnValidate, PostUpdate, PreStore, OnStore}
 use Rattle.eco_steps.specs.Steps.{Step, create, component, add, remove, set, clear, remove_all, delete, delete_with, rename, has, get, show, list, query}
-use Rattle.eco_steps.specs.Steps.{cache, cached, merge, system, frame, value_with, phase_word}
+use Rattle.eco_steps.specs.Steps.{cache, cached, merge, system, frame, phase_word}
 use Rattle.eco_steps.specs.Actions.{Action}
 use Rattle.eco_steps.specs.Actions as action
 use Rattle.eco_steps.specs.Commands.{Command}
@@ -45,14 +48,6 @@ integer_of (float x) = None
 -- a whole number of 64 bits
 abbrev pub integer_in : Data → Option ℤ
 integer_in d = option_and_then integer_of (as_number d)
-
--- the value whose first fields are in a list of as many items
-abbrev pub value_of_items : List Data → Option Value
-value_of_items ds = if nat_le 1 (length ds) && nat_le (length ds) FIELD_COUNT then option_map value_with (each_in integer_in ds) else None
-
--- the value of a component
-abbrev pub value_in : Data → Option Value
-value_in d = option_and_then value_of_items (list_in d)
 
 -- a name, or `null`
 abbrev pub name_in : Data → Option (Option (List ℕ))
@@ -96,25 +91,6 @@ step_of_texts word text other =
     else (if bytes_eq word (codes "has") then Some (has text other)
     else (if bytes_eq word (codes "get") then Some (get text other) else None)))
 
--- the step with this word, a text and one more argument
-abbrev pub step_of_two : List ℕ → List ℕ → Data → Option Step
-step_of_two word text d =
-    if bytes_eq word (codes "component") then option_map (component text) (number_in 1 LARGEST_ARITY d)
-    else (if bytes_eq word (codes "rename") then option_map (rename text) (name_in d)
-    else option_and_then (step_of_texts word text) (as_str d))
-
--- the step with this word, two texts and one more argument
-abbrev pub step_of_three : List ℕ → List ℕ → List ℕ → Data → Option Step
-step_of_three word text other d = if bytes_eq word (codes "set") then option_map (set text other) (value_in d) else None
-
--- the step with this word and these arguments, by how many there are
-abbrev pub step_of : List ℕ → List Data → Option Step
-step_of w [] = step_of_none w
-step_of w (d ∷ []) = step_of_one w d
-step_of w (d ∷ e ∷ []) = option_and_then (λ text. step_of_two w text e) (as_str d)
-step_of w (d ∷ e ∷ f ∷ []) = option_and_then (λ text. option_and_then (λ other. step_of_three w text other f) (as_str e)) (as_str d)
-step_of w (d ∷ e ∷ f ∷ g ∷ ds) = None
-
 -- a word, and what stands behind it in its list
 abbrev pub words_of : List Data → Option (List ℕ × List Data)
 words_of [] = None
@@ -123,10 +99,6 @@ words_of (word ∷ arguments) = option_map (λ w. (w, arguments)) (as_str word)
 -- these parts of a value
 abbrev pub words_in : Data → Option (List ℕ × List Data)
 words_in d = option_and_then words_of (list_in d)
-
--- the step that a value is, where it holds no other
-abbrev pub alone_in : Data → Option Step
-alone_in d = option_and_then (λ p. step_of p.0 p.1) (words_in d)
 
 -- the command that a step is, if a stage may hold it
 abbrev pub command_of : Step → Option Command
@@ -151,24 +123,6 @@ command_of (cached n) = None
 command_of (merge admitted stages) = None
 command_of (system name phase text actions) = None
 command_of frame = None
-
--- the command that a value is
-abbrev pub command_in : Data → Option Command
-command_in d = option_and_then command_of (alone_in d)
-
--- the commands that a value lists
-abbrev pub stage_in : Data → Option (List Command)
-stage_in d = option_and_then (each_in command_in) (list_in d)
-
--- the stages that a value lists
-abbrev pub stages_in : Data → Option (List (List Command))
-stages_in d = option_and_then (each_in stage_in) (list_in d)
-
--- the merge with these arguments
-abbrev pub merge_of : List Data → Option Step
-merge_of (admitted ∷ stages ∷ []) =
-    option_and_then (λ n. option_map (merge n) (stages_in stages)) (number_in 0 1048576 admitted)
-merge_of _ = None
 
 -- the phase of a word
 abbrev pub phase_of : List ℕ → Option Phase
@@ -199,60 +153,130 @@ action_of_text word text =
 abbrev pub slot_in : Data → Option ℕ
 slot_in = number_in 0 31
 
--- the action with this word, a slot and one more argument
-abbrev pub action_of_slot : List ℕ → ℕ → Data → Option Action
-action_of_slot word slot d =
-    if bytes_eq word (codes "put") then option_map (action.put slot) (value_in d)
-    else (if bytes_eq word (codes "sum") then option_map (action.sum slot) (slot_in d) else None)
+-- what is found by the ranges of an edition
+module _ (edition : Edition) where
+  -- the value whose first fields are in a list of as many items
+  abbrev pub value_of_items : List Data → Option Value
+  value_of_items ds = if nat_le 1 (length ds) && nat_le (length ds) (largest_arity edition) then option_map padded (each_in integer_in ds) else None
 
--- the action with this word and these arguments, by how many there are
-abbrev pub action_of : List ℕ → List Data → Option Action
-action_of w [] = action_of_none w
-action_of w (d ∷ []) = option_and_then (action_of_text w) (as_str d)
-action_of w (d ∷ e ∷ []) = option_and_then (λ slot. action_of_slot w slot e) (slot_in d)
-action_of w (d ∷ e ∷ f ∷ ds) = None
+  -- the value of a component
+  abbrev pub value_in : Data → Option Value
+  value_in d = option_and_then value_of_items (list_in d)
 
--- the action that a value is
-abbrev pub action_in : Data → Option Action
-action_in d = option_and_then (λ p. action_of p.0 p.1) (words_in d)
+  -- the step with this word, a text and one more argument
+  abbrev pub step_of_two : List ℕ → List ℕ → Data → Option Step
+  step_of_two word text d =
+      if bytes_eq word (codes "component") then option_map (component text) (number_in 1 (largest_arity edition) d)
+      else (if bytes_eq word (codes "rename") then option_map (rename text) (name_in d)
+      else option_and_then (step_of_texts word text) (as_str d))
 
--- the actions that a value lists
-abbrev pub actions_in : Data → Option (List Action)
-actions_in d = option_and_then (each_in action_in) (list_in d)
+  -- the step with this word, two texts and one more argument
+  abbrev pub step_of_three : List ℕ → List ℕ → List ℕ → Data → Option Step
+  step_of_three word text other d = if bytes_eq word (codes "set") then option_map (set text other) (value_in d) else None
 
--- the system with this name and these further arguments
-abbrev pub system_with : List ℕ → Data → Data → Data → Option Step
-system_with name phase text actions =
-    option_and_then (λ p. option_and_then (λ t. option_map (system name p t) (actions_in actions)) (as_str text)) (option_and_then phase_of (as_str phase))
+  -- the step with this word and these arguments, by how many there are
+  abbrev pub step_of : List ℕ → List Data → Option Step
+  step_of w [] = step_of_none w
+  step_of w (d ∷ []) = step_of_one w d
+  step_of w (d ∷ e ∷ []) = option_and_then (λ text. step_of_two w text e) (as_str d)
+  step_of w (d ∷ e ∷ f ∷ []) = option_and_then (λ text. option_and_then (λ other. step_of_three w text other f) (as_str e)) (as_str d)
+  step_of w (d ∷ e ∷ f ∷ g ∷ ds) = None
 
--- the system with these arguments
-abbrev pub system_of : List Data → Option Step
-system_of (name ∷ phase ∷ text ∷ actions ∷ []) = option_and_then (λ n. system_with n phase text actions) (as_str name)
-system_of _ = None
+  -- the step that a value is, where it holds no other
+  abbrev pub alone_in : Data → Option Step
+  alone_in d = option_and_then (λ p. step_of p.0 p.1) (words_in d)
 
--- the step with this word and these arguments
-abbrev pub step_with : List ℕ → List Data → Option Step
-step_with w ds =
-    if bytes_eq w (codes "merge") then merge_of ds
-    else (if bytes_eq w (codes "system") then system_of ds else step_of w ds)
+  -- the command that a value is
+  abbrev pub command_in : Data → Option Command
+  command_in d = option_and_then command_of (alone_in d)
 
--- the step that a value is
-abbrev pub step_in : Data → Option Step
-step_in d = option_and_then (λ p. step_with p.0 p.1) (words_in d)
+  -- the commands that a value lists
+  abbrev pub stage_in : Data → Option (List Command)
+  stage_in d = option_and_then (each_in command_in) (list_in d)
 
--- the limit, and the items of the list of steps, of what has the three parts of a script
-abbrev pub parts_of : List Data → Option (ℕ × List Data)
-parts_of (version ∷ limit ∷ steps ∷ []) =
-    option_and_then (λ _. option_and_then (λ l. option_map (λ items. (l, items)) (list_in steps)) (number_in 9 1048576 limit)) (number_in 1 1 version)
+  -- the stages that a value lists
+  abbrev pub stages_in : Data → Option (List (List Command))
+  stages_in d = option_and_then (each_in stage_in) (list_in d)
+
+  -- the merge with these arguments
+  abbrev pub merge_of : List Data → Option Step
+  merge_of (admitted ∷ stages ∷ []) =
+      option_and_then (λ n. option_map (merge n) (stages_in stages)) (number_in 0 1048576 admitted)
+  merge_of _ = None
+
+  -- the action with this word, a slot and one more argument
+  abbrev pub action_of_slot : List ℕ → ℕ → Data → Option Action
+  action_of_slot word slot d =
+      if bytes_eq word (codes "put") then option_map (action.put slot) (value_in d)
+      else (if bytes_eq word (codes "sum") then option_map (action.sum slot) (slot_in d) else None)
+
+  -- the action with this word and these arguments, by how many there are
+  abbrev pub action_of : List ℕ → List Data → Option Action
+  action_of w [] = action_of_none w
+  action_of w (d ∷ []) = option_and_then (action_of_text w) (as_str d)
+  action_of w (d ∷ e ∷ []) = option_and_then (λ slot. action_of_slot w slot e) (slot_in d)
+  action_of w (d ∷ e ∷ f ∷ ds) = None
+
+  -- the action that a value is
+  abbrev pub action_in : Data → Option Action
+  action_in d = option_and_then (λ p. action_of p.0 p.1) (words_in d)
+
+  -- the actions that a value lists
+  abbrev pub actions_in : Data → Option (List Action)
+  actions_in d = option_and_then (each_in action_in) (list_in d)
+
+  -- the system with this name and these further arguments
+  abbrev pub system_with : List ℕ → Data → Data → Data → Option Step
+  system_with name phase text actions =
+      option_and_then (λ p. option_and_then (λ t. option_map (system name p t) (actions_in actions)) (as_str text)) (option_and_then phase_of (as_str phase))
+
+  -- the system with these arguments
+  abbrev pub system_of : List Data → Option Step
+  system_of (name ∷ phase ∷ text ∷ actions ∷ []) = option_and_then (λ n. system_with n phase text actions) (as_str name)
+  system_of _ = None
+
+  -- the step with this word and these arguments
+  abbrev pub step_with : List ℕ → List Data → Option Step
+  step_with w ds =
+      if bytes_eq w (codes "merge") then merge_of ds
+      else (if bytes_eq w (codes "system") then system_of ds else step_of w ds)
+
+  -- the step that a value is
+  abbrev pub step_in : Data → Option Step
+  step_in d = option_and_then (λ p. step_with p.0 p.1) (words_in d)
+
+-- the edition that a version stands for
+abbrev pub edition_of : ℕ → Edition
+edition_of version = if version == 1 then First else Second
+
+-- the edition of a version that there is
+abbrev pub version_in : Data → Option Edition
+version_in d = option_map edition_of (number_in 1 2 d)
+
+-- the limit of a world of an edition
+abbrev pub limit_in : Edition → Data → Option ℕ
+limit_in edition = number_in (builtin_count edition) 1048576
+
+-- the edition, the limit, and the items of the list of steps, of what has the three parts of a script
+abbrev pub Parts : Type 0
+Parts = Edition × ℕ × List Data
+
+-- these parts, of an edition
+abbrev pub parts_with : Edition → Data → Data → Option Parts
+parts_with edition limit steps = option_and_then (λ l. option_map (λ items. (edition, l, items)) (list_in steps)) (limit_in edition limit)
+
+-- these parts, of three values
+abbrev pub parts_of : List Data → Option Parts
+parts_of (version ∷ limit ∷ steps ∷ []) = option_and_then (λ edition. parts_with edition limit steps) (version_in version)
 parts_of _ = None
 
 -- these parts of a value
-abbrev pub parts_in : Data → Option (ℕ × List Data)
+abbrev pub parts_in : Data → Option Parts
 parts_in d = option_and_then parts_of (list_in d)
 
 -- the script of such parts
-abbrev pub script_of : ℕ × List Data → Option Script
-script_of p = option_map (λ ss. record { limit = p.0; steps = ss }) (each_in step_in p.1)
+abbrev pub script_of : Parts → Option Script
+script_of p = option_map (λ ss. record { edition = p.0; limit = p.1; steps = ss }) (each_in (step_in p.0) p.2)
 
 -- the script that a value is
 abbrev pub script_in : Data → Option Script

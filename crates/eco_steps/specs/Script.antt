@@ -3,19 +3,28 @@ use Rattle.std.specs.Prelude.{◌≡◌, ℕ, ◌≤◌, List, [], ◌∷◌, So
 use Rattle.std.specs.List.{AllZip}
 use Rattle.serde_json.specs.Data.{Data, number, unsigned}
 use Rattle.serde_json.specs.Read.{read}
+use Rattle.eco_ids.specs.declared.edition.Edition.{Edition}
+use Rattle.eco_ids.specs.declared.edition.Edition.TheVariants.{First, Second}
+use Rattle.eco_ids.specs.Edition.{builtin_count}
 use Rattle.eco_steps.specs.Steps.{Step, IsStepData, list_data}
 
--- the limit of a world, and the steps that are run on it
+-- the edition and the limit of a world, and the steps that are run on it
 pub record Script : Type 0 where
+  pub edition : Edition
   pub limit : ℕ
   pub steps : List Step
 
--- the value is `[1, limit, steps]` of this script, and its limit is one that a world may have
+-- the version that the scripts of an edition begin with
+abbrev pub version : Edition → ℕ
+version First = 1
+version Second = 2
+
+-- the value is `[version, limit, steps]` of this script, and its limit is one that a world of its edition may have
 pub record IsScriptData (value : Data) (s : Script) : Type 0 where
   pub items : List Data
-  pub is_list : value ≡ list_data (number (unsigned 1) ∷ number (unsigned s.limit) ∷ list_data items ∷ [])
-  pub are_steps : AllZip IsStepData items s.steps
-  pub at_least : 9 ≤ s.limit
+  pub is_list : value ≡ list_data (number (unsigned (version s.edition)) ∷ number (unsigned s.limit) ∷ list_data items ∷ [])
+  pub are_steps : AllZip (IsStepData s.edition) items s.steps
+  pub at_least : builtin_count s.edition ≤ s.limit
   pub at_most : s.limit ≤ 1048576
 
 -- the bytes are one JSON text, and its value is this script

@@ -1,12 +1,14 @@
 -- The steps of a script, and how each is written.
-use Rattle.std.specs.Prelude.{◌≡◌, ℕ, ◌-◌, ◌≤◌, ℤ, pos, List, [], ◌∷◌, ◌++◌, length, replicate, codes, Option, Some, None, FitsSigned}
+use Rattle.std.specs.Prelude.{◌≡◌, ℕ, ◌≤◌, ℤ, List, [], ◌∷◌, length, codes, Option, Some, None, FitsSigned, ⊤}
 use Rattle.std.specs.Int.{w64}
 use Rattle.std.specs.List.{AllZip}
 use Rattle.serde_json.specs.Data.{Data, null, number, unsigned, string, array}
 use Rattle.serde_json.specs.Find.{of_integer}
 use Rattle.serde_json.specs.View.{items_of}
-use Rattle.eco_ids.specs.declared.value.TheConstants.{FIELD_COUNT, LARGEST_ARITY}
+use Rattle.eco_ids.specs.declared.edition.Edition.{Edition}
 use Rattle.eco_ids.specs.declared.value.Value.{Value}
+use Rattle.eco_ids.specs.Edition.{largest_arity}
+use Rattle.eco_ids.specs.World.{padded}
 use Rattle.eco_systems.specs.declared.phase.Phase.{Phase}
 use Rattle.eco_systems.specs.declared.phase.Phase.TheVariants.{OnLoad, PostLoad, PreUpdate, OnUpdate, OnValidate, PostUpdate, PreStore, OnStore}
 use Rattle.eco_steps.specs.Actions.{Action}
@@ -52,44 +54,20 @@ name_data (Some name) = string name
 abbrev pub IsIntegerData : Data → ℤ → Type 0
 IsIntegerData d z = (d ≡ number (of_integer z)) × FitsSigned w64 z
 
--- the value with these first fields; those that are missing are 0
-abbrev pub value_with : List ℤ → Value
-value_with fields = record { 0 = fields ++ replicate (FIELD_COUNT - length fields) (pos 0) }
-
--- the JSON value is a list of the first fields of this value, one at least
-pub record IsValueData (d : Data) (v : Value) : Type 0 where
+-- the JSON value is a list of the first fields of this value, one at least and no more than the largest arity of the
+-- edition; those that are missing are 0
+pub record IsValueData (edition : Edition) (d : Data) (v : Value) : Type 0 where
   pub items : List Data
   pub fields : List ℤ
   pub is_list : d ≡ list_data items
   pub are_integers : AllZip IsIntegerData items fields
   pub at_least : 1 ≤ length fields
-  pub at_most : length fields ≤ FIELD_COUNT
-  pub filled : v ≡ value_with fields
+  pub at_most : length fields ≤ largest_arity edition
+  pub filled : v ≡ padded fields
 
 -- a list that begins with the step's word
 abbrev pub written : List ℕ → List Data → Data
 written word arguments = list_data (string word ∷ arguments)
-
--- the JSON value is this command: it is written as the step of the same name
-abbrev pub IsCommandData : Data → Command → Type 0
-IsCommandData d (command.create handle) = d ≡ written (codes "create") (string handle ∷ [])
-IsCommandData d (command.add entity id) = d ≡ written (codes "add") (string entity ∷ string id ∷ [])
-IsCommandData d (command.remove entity id) = d ≡ written (codes "remove") (string entity ∷ string id ∷ [])
-IsCommandData d (command.set entity id v) =
-    (value : Data) × (d ≡ written (codes "set") (string entity ∷ string id ∷ value ∷ [])) × IsValueData value v
-IsCommandData d (command.clear entity) = d ≡ written (codes "clear") (string entity ∷ [])
-IsCommandData d (command.rename entity name) = d ≡ written (codes "rename") (string entity ∷ name_data name ∷ [])
-IsCommandData d (command.delete entity) = d ≡ written (codes "delete") (string entity ∷ [])
-IsCommandData d (command.delete_with id) = d ≡ written (codes "delete_with") (string id ∷ [])
-IsCommandData d (command.remove_all id) = d ≡ written (codes "remove_all") (string id ∷ [])
-
--- the JSON value is the list of these commands
-abbrev pub IsStageData : Data → List Command → Type 0
-IsStageData d commands = (items : List Data) × (d ≡ list_data items) × AllZip IsCommandData items commands
-
--- the JSON value is the list of these stages
-abbrev pub IsStagesData : Data → List (List Command) → Type 0
-IsStagesData d stages = (items : List Data) × (d ≡ list_data items) × AllZip IsStageData items stages
 
 -- the word of a phase
 abbrev pub phase_word : Phase → List ℕ
@@ -106,45 +84,73 @@ phase_word OnStore = codes "OnStore"
 abbrev pub IsSlotData : Data → ℕ → Type 0
 IsSlotData d slot = (d ≡ number (unsigned slot)) × (slot ≤ 31)
 
--- the JSON value is this action
-abbrev pub IsActionData : Data → Action → Type 0
-IsActionData d (action.add id) = d ≡ written (codes "add") (string id ∷ [])
-IsActionData d (action.remove id) = d ≡ written (codes "remove") (string id ∷ [])
-IsActionData d (action.put slot v) =
-    (place : Data) × (value : Data) × (d ≡ written (codes "put") (place ∷ value ∷ [])) × IsSlotData place slot × IsValueData value v
-IsActionData d (action.sum into from) =
-    (place : Data) × (other : Data) × (d ≡ written (codes "sum") (place ∷ other ∷ [])) × IsSlotData place into × IsSlotData other from
-IsActionData d action.kill = d ≡ written (codes "kill") []
-IsActionData d (action.spawn None) = d ≡ written (codes "spawn") []
-IsActionData d (action.spawn (Some id)) = d ≡ written (codes "spawn") (string id ∷ [])
+-- what a script of an edition may hold
+module _ (edition : Edition) where
+  -- the JSON value is this command: it is written as the step of the same name
+  abbrev pub IsCommandData : Data → Command → Type 0
+  IsCommandData d (command.create handle) = d ≡ written (codes "create") (string handle ∷ [])
+  IsCommandData d (command.add entity id) = d ≡ written (codes "add") (string entity ∷ string id ∷ [])
+  IsCommandData d (command.remove entity id) = d ≡ written (codes "remove") (string entity ∷ string id ∷ [])
+  IsCommandData d (command.set entity id v) =
+      (value : Data) × (d ≡ written (codes "set") (string entity ∷ string id ∷ value ∷ [])) × IsValueData edition value v
+  IsCommandData d (command.clear entity) = d ≡ written (codes "clear") (string entity ∷ [])
+  IsCommandData d (command.rename entity name) = d ≡ written (codes "rename") (string entity ∷ name_data name ∷ [])
+  IsCommandData d (command.delete entity) = d ≡ written (codes "delete") (string entity ∷ [])
+  IsCommandData d (command.delete_with id) = d ≡ written (codes "delete_with") (string id ∷ [])
+  IsCommandData d (command.remove_all id) = d ≡ written (codes "remove_all") (string id ∷ [])
 
--- the JSON value is the list of these actions
-abbrev pub IsActionsData : Data → List Action → Type 0
-IsActionsData d actions = (items : List Data) × (d ≡ list_data items) × AllZip IsActionData items actions
+  -- the JSON value is the list of these commands
+  abbrev pub IsStageData : Data → List Command → Type 0
+  IsStageData d commands = (items : List Data) × (d ≡ list_data items) × AllZip IsCommandData items commands
 
--- the JSON value is this step
-abbrev pub IsStepData : Data → Step → Type 0
-IsStepData d (create None) = d ≡ written (codes "create") []
-IsStepData d (create (Some name)) = d ≡ written (codes "create") (string name ∷ [])
-IsStepData d (component name arity) =
-    (d ≡ written (codes "component") (string name ∷ number (unsigned arity) ∷ [])) × (1 ≤ arity) × (arity ≤ LARGEST_ARITY)
-IsStepData d (add entity id) = d ≡ written (codes "add") (string entity ∷ string id ∷ [])
-IsStepData d (remove entity id) = d ≡ written (codes "remove") (string entity ∷ string id ∷ [])
-IsStepData d (set entity id v) = (value : Data) × (d ≡ written (codes "set") (string entity ∷ string id ∷ value ∷ [])) × IsValueData value v
-IsStepData d (clear entity) = d ≡ written (codes "clear") (string entity ∷ [])
-IsStepData d (remove_all id) = d ≡ written (codes "remove_all") (string id ∷ [])
-IsStepData d (delete entity) = d ≡ written (codes "delete") (string entity ∷ [])
-IsStepData d (delete_with id) = d ≡ written (codes "delete_with") (string id ∷ [])
-IsStepData d (rename entity name) = d ≡ written (codes "rename") (string entity ∷ name_data name ∷ [])
-IsStepData d (has entity id) = d ≡ written (codes "has") (string entity ∷ string id ∷ [])
-IsStepData d (get entity id) = d ≡ written (codes "get") (string entity ∷ string id ∷ [])
-IsStepData d (show entity) = d ≡ written (codes "show") (string entity ∷ [])
-IsStepData d list = d ≡ written (codes "list") []
-IsStepData d (query text) = d ≡ written (codes "query") (string text ∷ [])
-IsStepData d (cache text) = d ≡ written (codes "cache") (string text ∷ [])
-IsStepData d (cached n) = (d ≡ written (codes "cached") (number (unsigned n) ∷ [])) × (n ≤ 4294967295)
-IsStepData d (merge admitted stages) =
-    (value : Data) × (d ≡ written (codes "merge") (number (unsigned admitted) ∷ value ∷ [])) × (admitted ≤ 1048576) × IsStagesData value stages
-IsStepData d (system name phase text actions) =
-    (value : Data) × (d ≡ written (codes "system") (string name ∷ string (phase_word phase) ∷ string text ∷ value ∷ [])) × IsActionsData value actions
-IsStepData d frame = d ≡ written (codes "frame") []
+  -- the JSON value is the list of these stages
+  abbrev pub IsStagesData : Data → List (List Command) → Type 0
+  IsStagesData d stages = (items : List Data) × (d ≡ list_data items) × AllZip IsStageData items stages
+
+  -- the JSON value is this action
+  abbrev pub IsActionData : Data → Action → Type 0
+  IsActionData d (action.add id) = d ≡ written (codes "add") (string id ∷ [])
+  IsActionData d (action.remove id) = d ≡ written (codes "remove") (string id ∷ [])
+  IsActionData d (action.put slot v) =
+      (place : Data) × (value : Data) × (d ≡ written (codes "put") (place ∷ value ∷ [])) × IsSlotData place slot × IsValueData edition value v
+  IsActionData d (action.sum into from) =
+      (place : Data) × (other : Data) × (d ≡ written (codes "sum") (place ∷ other ∷ [])) × IsSlotData place into × IsSlotData other from
+  IsActionData d action.kill = d ≡ written (codes "kill") []
+  IsActionData d (action.spawn None) = d ≡ written (codes "spawn") []
+  IsActionData d (action.spawn (Some id)) = d ≡ written (codes "spawn") (string id ∷ [])
+
+  -- the JSON value is the list of these actions
+  abbrev pub IsActionsData : Data → List Action → Type 0
+  IsActionsData d actions = (items : List Data) × (d ≡ list_data items) × AllZip IsActionData items actions
+
+  -- the JSON value is this step
+  abbrev pub IsStepData : Data → Step → Type 0
+  IsStepData d (create None) = d ≡ written (codes "create") []
+  IsStepData d (create (Some name)) = d ≡ written (codes "create") (string name ∷ [])
+  IsStepData d (component name arity) =
+      (d ≡ written (codes "component") (string name ∷ number (unsigned arity) ∷ [])) × (1 ≤ arity) × (arity ≤ largest_arity edition)
+  IsStepData d (add entity id) = d ≡ written (codes "add") (string entity ∷ string id ∷ [])
+  IsStepData d (remove entity id) = d ≡ written (codes "remove") (string entity ∷ string id ∷ [])
+  IsStepData d (set entity id v) = (value : Data) × (d ≡ written (codes "set") (string entity ∷ string id ∷ value ∷ [])) × IsValueData edition value v
+  IsStepData d (clear entity) = d ≡ written (codes "clear") (string entity ∷ [])
+  IsStepData d (remove_all id) = d ≡ written (codes "remove_all") (string id ∷ [])
+  IsStepData d (delete entity) = d ≡ written (codes "delete") (string entity ∷ [])
+  IsStepData d (delete_with id) = d ≡ written (codes "delete_with") (string id ∷ [])
+  IsStepData d (rename entity name) = d ≡ written (codes "rename") (string entity ∷ name_data name ∷ [])
+  IsStepData d (has entity id) = d ≡ written (codes "has") (string entity ∷ string id ∷ [])
+  IsStepData d (get entity id) = d ≡ written (codes "get") (string entity ∷ string id ∷ [])
+  IsStepData d (show entity) = d ≡ written (codes "show") (string entity ∷ [])
+  IsStepData d list = d ≡ written (codes "list") []
+  IsStepData d (query text) = d ≡ written (codes "query") (string text ∷ [])
+  IsStepData d (cache text) = d ≡ written (codes "cache") (string text ∷ [])
+  IsStepData d (cached n) = (d ≡ written (codes "cached") (number (unsigned n) ∷ [])) × (n ≤ 4294967295)
+  IsStepData d (merge admitted stages) =
+      (value : Data) × (d ≡ written (codes "merge") (number (unsigned admitted) ∷ value ∷ [])) × (admitted ≤ 1048576) × IsStagesData value stages
+  IsStepData d (system name phase text actions) =
+      (value : Data) × (d ≡ written (codes "system") (string name ∷ string (phase_word phase) ∷ string text ∷ value ∷ [])) × IsActionsData value actions
+  IsStepData d frame = d ≡ written (codes "frame") []
+
+-- the arity of a component that the step makes is one that the edition allows
+abbrev pub KeepsTo : Edition → Step → Type 0
+KeepsTo edition (component name arity) = (1 ≤ arity) × (arity ≤ largest_arity edition)
+KeepsTo edition _ = ⊤

@@ -33,11 +33,11 @@ command_view (command.RemoveAll id) = commands.remove_all id.now
 
 -- the commands of the values that are kept, which are commands all
 abbrev pub commands_view : Commands → List commands.Command
-commands_view s = unwrap_or (each_in command_in (map view s.values.now)) []
+commands_view s = unwrap_or (each_in (command_in s.edition) (map view s.values.now)) []
 
 -- the stages of the values that are kept, likewise
 abbrev pub stages_view : Stages → List (List commands.Command)
-stages_view s = unwrap_or (each_in stage_in (map view s.values.now)) []
+stages_view s = unwrap_or (each_in (stage_in s.edition) (map view s.values.now)) []
 
 -- the action, with the texts that it borrows
 abbrev pub action_view : Action → acts.Action
@@ -50,12 +50,12 @@ action_view (action.Spawn id) = acts.spawn (option_map (λ s. s.now) id)
 
 -- the actions of the values that are kept, which are actions all
 abbrev pub actions_view : Actions → List acts.Action
-actions_view s = unwrap_or (each_in action_in (map view s.values.now)) []
+actions_view s = unwrap_or (each_in (action_in s.edition) (map view s.values.now)) []
 
 -- the step, with the texts that it borrows
 abbrev pub step_view : Step → script.Step
 step_view (Create name) = script.create (option_map (λ s. s.now) name)
-step_view (Component name arity) = script.component name.now arity.fields
+step_view (Component name arity) = script.component name.now arity
 step_view (Add entity id) = script.add entity.now id.now
 step_view (Remove entity id) = script.remove entity.now id.now
 step_view (Set entity id value) = script.set entity.now id.now value
@@ -77,4 +77,4 @@ step_view variant.Frame = script.frame
 
 -- the script, step by step
 abbrev pub script_view : Script → whole.Script
-script_view s = record { limit = s.limit; steps = map step_view s.steps.items }
+script_view s = record { edition = s.edition; limit = s.limit; steps = map step_view s.steps.items }

@@ -6,6 +6,7 @@ ghost use Rattle.eco_steps.specs.Decode.{action_in, action_of, action_of_none, a
 ghost use Rattle.eco_steps.specs.Views.{action_view};
 
 use crate::arguments::{read_number, read_value, read_words};
+use eco_ids::Edition;
 use serde_json::Value;
 
 /// What a system of a script may do with a row of its query, with the texts of the value that it was read from. Slots are counted
@@ -52,13 +53,13 @@ impl<'a> Action<'a> {
     }
 
     // An action with a slot and another argument.
-    fn of_slot(word: &str, slot: usize, argument: &Value) -> Option<Action<'a>>
-        ensures { option_map action_view result ≡ action_of_slot word.now slot (view argument.now) }
+    fn of_slot(edition: Edition, word: &str, slot: usize, argument: &Value) -> Option<Action<'a>>
+        ensures { option_map action_view result ≡ action_of_slot edition word.now slot (view argument.now) }
     {
         match word {
             "put" => Some(Action::Put {
                 slot,
-                value: read_value(argument)?,
+                value: read_value(edition, argument)?,
             }),
             "sum" => Some(Action::Sum {
                 into: slot,
@@ -69,22 +70,22 @@ impl<'a> Action<'a> {
     }
 
     // An action with these arguments.
-    fn of(word: &str, arguments: &'a [Value]) -> Option<Action<'a>>
-        ensures { option_map action_view result ≡ action_of word.now (map view arguments.now) }
+    fn of(edition: Edition, word: &str, arguments: &'a [Value]) -> Option<Action<'a>>
+        ensures { option_map action_view result ≡ action_of edition word.now (map view arguments.now) }
     {
         match arguments {
             [] => Action::of_none(word),
             [id] => Action::of_text(word, id.as_str()?),
-            [slot, argument] => Action::of_slot(word, read_slot(slot)?, argument),
+            [slot, argument] => Action::of_slot(edition, word, read_slot(slot)?, argument),
             _ => None,
         }
     }
 
-    /// The action that a value is, if it is one.
-    pub fn read(value: &'a Value) -> Option<Action<'a>>
-        ensures { option_map action_view result ≡ action_in (view value.now) }
+    /// The action that a value is in a script of an edition, if it is one.
+    pub fn read(edition: Edition, value: &'a Value) -> Option<Action<'a>>
+        ensures { option_map action_view result ≡ action_in edition (view value.now) }
     {
         let (word, arguments) = read_words(value)?;
-        Action::of(word, arguments)
+        Action::of(edition, word, arguments)
     }
 }

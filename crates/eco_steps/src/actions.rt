@@ -7,28 +7,30 @@ ghost use Rattle.eco_steps.specs.Decode.{action_in, each_in, actions_in};
 
 use crate::action::Action;
 use crate::arguments::read_list;
+use eco_ids::Edition;
 use serde_json::Value;
 
 /// A list of actions, which borrows them from the value that it was read from. Each is read again when it is asked for, so a list
 /// of any length takes no memory.
 #[derive(Clone, Copy)]
 pub struct Actions<'a> {
+    edition: Edition,
     values: &'a [Value],
-    ghost are_actions: { IsSome (each_in action_in (map view values.now)) },
+    ghost are_actions: { IsSome (each_in (action_in edition) (map view values.now)) },
 }
 
 impl<'a> Actions<'a> {
     ghost use Rattle.eco_steps.specs.Views.{action_view, actions_view};
 
-    /// The actions that a value lists, if it is a list of actions.
-    pub(crate) fn read(value: &'a Value) -> Option<Actions<'a>>
-        ensures { option_map actions_view result ≡ actions_in (view value.now) }
+    /// The actions that a value lists in a script of an edition, if it is a list of actions.
+    pub(crate) fn read(edition: Edition, value: &'a Value) -> Option<Actions<'a>>
+        ensures { option_map actions_view result ≡ actions_in edition (view value.now) }
     {
         let values = read_list(value)?;
         for item in values {
-            Action::read(item)?;
+            Action::read(edition, item)?;
         }
-        Some(Actions { values })
+        Some(Actions { edition, values })
     }
 
     /// How many actions there are.
@@ -43,6 +45,6 @@ impl<'a> Actions<'a> {
         ensures { option_map action_view result ≡ slice_get (actions_view self.now) place }
     {
         let value = self.values.get(place)?;
-        Action::read(value)
+        Action::read(self.edition, value)
     }
 }

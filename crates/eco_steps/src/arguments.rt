@@ -1,10 +1,13 @@
 //! The arguments of steps: which numbers, names and values a JSON value is.
 
-ghost use Rattle.std.specs.Prelude.{◌≡◌, map, option_map};
+ghost use Rattle.std.specs.Prelude.{◌≡◌, ◌≤◌, length, map, option_map};
 ghost use Rattle.serde_json.specs.View.{view};
-ghost use Rattle.eco_steps.specs.Decode.{integer_in, list_in, name_in, number_in, value_in, words_in};
+ghost use Rattle.eco_ids.specs.declared.value.TheConstants.{FIELD_COUNT};
+ghost use Rattle.eco_ids.specs.Edition.{largest_arity};
+ghost use Rattle.eco_ids.specs.World.{padded};
+ghost use Rattle.eco_steps.specs.Decode.{each_in, integer_in, limit_in, list_in, name_in, number_in, value_in, version_in, words_in};
 
-use eco_ids::FIELD_COUNT;
+use eco_ids::{Edition, FIELD_COUNT};
 use serde_json::Value;
 
 /// A whole number in a range.
@@ -15,6 +18,30 @@ pub fn read_number(value: &Value, low: u32, high: u32) -> Option<u32>
         Some(n) if u64::from(low) <= n && n <= u64::from(high) => Some(n as u32),
         _ => None,
     }
+}
+
+/// The edition that a script of this version runs on: the first of version 1, the second of version 2.
+pub fn read_version(value: &Value) -> Option<Edition>
+    ensures { result ≡ version_in (view value.now) }
+{
+    match read_number(value, 1, 2)? {
+        1 => Some(Edition::First),
+        _ => Some(Edition::Second),
+    }
+}
+
+/// The limit of a world of an edition: it has room for the built-ins, and for 1,048,576 entities at most.
+pub fn read_limit(edition: Edition, value: &Value) -> Option<u32>
+    ensures { result ≡ limit_in edition (view value.now) }
+{
+    read_number(value, edition.builtin_count(), 1_048_576)
+}
+
+/// The arity of a component in a world of an edition: how many fields its values have, one at least.
+pub fn read_arity(edition: Edition, value: &Value) -> Option<u8>
+    ensures { result ≡ number_in 1 (largest_arity edition) (view value.now) }
+{
+    Some(read_number(value, 1, u32::from(edition.largest_arity()))? as u8)
 }
 
 /// A name, or no name where `null` stands.
@@ -53,17 +80,26 @@ fn read_integer(value: &Value) -> Option<i64>
     value.as_number()?.as_i64()
 }
 
-/// The value of a component: a list of 1 to 4 whole numbers of 64 bits, which are its first fields. The others are 0.
-pub fn read_value(value: &Value) -> Option<eco_ids::Value>
-    ensures { result ≡ value_in (view value.now) }
+// The value whose first fields are in a list of as many items. The others are 0.
+fn read_fields(items: &[Value]) -> Option<eco_ids::Value>
+    requires { length items.now ≤ FIELD_COUNT }
+    ensures { result ≡ option_map padded (each_in integer_in (map view items.now)) }
 {
-    let items = read_list(value)?;
-    if items.is_empty() || items.len() > FIELD_COUNT {
-        return None;
-    }
     let mut fields = [0; FIELD_COUNT];
     for (i, item) in items.iter().enumerate() {
         fields[i] = read_integer(item)?;
     }
     Some(eco_ids::Value(fields))
+}
+
+/// The value of a component in a world of an edition: a list of its first fields, one at least and as many as the largest
+/// arity at most, which are whole numbers of 64 bits. The others are 0.
+pub fn read_value(edition: Edition, value: &Value) -> Option<eco_ids::Value>
+    ensures { result ≡ value_in edition (view value.now) }
+{
+    let items = read_list(value)?;
+    if items.is_empty() || items.len() > usize::from(edition.largest_arity()) {
+        return None;
+    }
+    read_fields(items)
 }

@@ -6,6 +6,7 @@ ghost use Rattle.eco_steps.specs.Decode.{command_in, command_of};
 ghost use Rattle.eco_steps.specs.Views.{command_view, step_view};
 
 use crate::step::Step;
+use eco_ids::Edition;
 use serde_json::Value;
 
 /// What a stage of a script may hold, with the texts of the value that it was read from.
@@ -65,10 +66,10 @@ impl<'a> Command<'a> {
         Some(command)
     }
 
-    /// The command that a value is, if it is one.
-    pub fn read(value: &'a Value) -> Option<Command<'a>>
-        ensures { option_map command_view result ≡ command_in (view value.now) }
+    /// The command that a value is in a script of an edition, if it is one.
+    pub fn read(edition: Edition, value: &'a Value) -> Option<Command<'a>>
+        ensures { option_map command_view result ≡ command_in edition (view value.now) }
     {
-        Command::of_step(Step::read_alone(value)?)
+        Command::of_step(Step::read_alone(edition, value)?)
     }
 }

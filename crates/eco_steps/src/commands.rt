@@ -7,37 +7,39 @@ ghost use Rattle.eco_steps.specs.Decode.{command_in, each_in, stage_in};
 
 use crate::arguments::read_list;
 use crate::command::Command;
+use eco_ids::Edition;
 use serde_json::Value;
 
 /// A list of commands, which borrows them from the value that it was read from. Each is read again when it is asked for, so a list
 /// of any length takes no memory.
 #[derive(Clone, Copy)]
 pub struct Commands<'a> {
+    edition: Edition,
     values: &'a [Value],
-    ghost are_commands: { IsSome (each_in command_in (map view values.now)) },
+    ghost are_commands: { IsSome (each_in (command_in edition) (map view values.now)) },
 }
 
 impl<'a> Commands<'a> {
     ghost use Rattle.eco_steps.specs.Views.{command_view, commands_view};
 
-    /// The commands that a value lists, if it is a list of commands.
-    pub(crate) fn read(value: &'a Value) -> Option<Commands<'a>>
-        ensures { option_map commands_view result ≡ stage_in (view value.now) }
+    /// The commands that a value lists in a script of an edition, if it is a list of commands.
+    pub(crate) fn read(edition: Edition, value: &'a Value) -> Option<Commands<'a>>
+        ensures { option_map commands_view result ≡ stage_in edition (view value.now) }
     {
         let values = read_list(value)?;
         for item in values {
-            Command::read(item)?;
+            Command::read(edition, item)?;
         }
-        Some(Commands { values })
+        Some(Commands { edition, values })
     }
 
     /// The same of a value that was read before, so that they aren't looked through again.
-    pub(crate) fn read_again(value: &'a Value) -> Option<Commands<'a>>
-        requires { IsSome (stage_in (view value.now)) }
-        ensures { option_map commands_view result ≡ stage_in (view value.now) }
+    pub(crate) fn read_again(edition: Edition, value: &'a Value) -> Option<Commands<'a>>
+        requires { IsSome (stage_in edition (view value.now)) }
+        ensures { option_map commands_view result ≡ stage_in edition (view value.now) }
     {
         let values = read_list(value)?;
-        Some(Commands { values })
+        Some(Commands { edition, values })
     }
 
     /// How many commands there are.
@@ -52,6 +54,6 @@ impl<'a> Commands<'a> {
         ensures { option_map command_view result ≡ slice_get (commands_view self.now) place }
     {
         let value = self.values.get(place)?;
-        Command::read(value)
+        Command::read(self.edition, value)
     }
 }

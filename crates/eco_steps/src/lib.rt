@@ -4,7 +4,6 @@
 mod action;
 mod actions;
 mod arguments;
-mod arity;
 mod command;
 mod commands;
 pub mod laws;
@@ -16,8 +15,9 @@ mod step;
 
 pub use action::Action;
 pub use actions::Actions;
-pub use arguments::{read_list, read_name, read_number, read_value, read_words};
-pub use arity::Arity;
+pub use arguments::{
+    read_arity, read_limit, read_list, read_name, read_number, read_value, read_version, read_words,
+};
 pub use command::Command;
 pub use commands::Commands;
 pub use phase::read_phase;

@@ -1,43 +1,47 @@
 //! Scripts: which script a JSON value is.
 
-ghost use Rattle.std.specs.Prelude.{◌≡◌, Some, None, IfOk, IsErrOf, map, option_map};
+ghost use Rattle.std.specs.Prelude.{◌≡◌, Some, None, All, IfOk, IsErrOf, map, option_map};
 ghost use Rattle.serde_json.specs.View.{view};
 ghost use Rattle.eco_steps.specs.Decode.{each_in, parts_in, step_in};
+ghost use Rattle.eco_steps.specs.Steps.{KeepsTo};
 ghost use Rattle.eco_steps.specs.Views.{step_view};
 
-use crate::arguments::{read_list, read_number};
+use crate::arguments::{read_limit, read_list, read_version};
 use crate::read_error::ReadError;
 use crate::step::Step;
+use eco_ids::Edition;
 use serde_json::Value;
 use std::alloc::Global;
 
-/// The limit of a world, 9 to 1,048,576, and the steps that are run on it.
+/// The edition and the limit of a world, and the steps that are run on it.
 #[derive(Drop)]
 pub struct Script<'a> {
+    pub edition: Edition,
     pub limit: u32,
     pub steps: Vec<Step<'a>>,
 }
 
-// The limit, and the list of the steps, of what has the three parts of a script.
-fn read_parts(value: &Value) -> Option<(u32, &[Value])>
-    ensures { option_map (λ p. (p.0, map view p.1.now)) result ≡ parts_in (view value.now) }
+// The edition, the limit, and the list of the steps, of what has the three parts of a script.
+fn read_parts(value: &Value) -> Option<(Edition, u32, &[Value])>
+    ensures { option_map (λ p. (p.0, p.1, map view p.2.now)) result ≡ parts_in (view value.now) }
 {
     let [version, limit, steps] = read_list(value)? else {
         return None;
     };
-    read_number(version, 1, 1)?;
-    Some((read_number(limit, 9, 1_048_576)?, read_list(steps)?))
+    let edition = read_version(version)?;
+    Some((edition, read_limit(edition, limit)?, read_list(steps)?))
 }
 
 // The steps of a list, if each item is one.
-fn read_steps(alloc: Global, values: &[Value]) -> Result<Vec<Step<'_>>, ReadError>
-    ensures ok { IfOk result (λ v. each_in step_in (map view values.now) ≡ Some (map step_view v.items)) }
+fn read_steps(alloc: Global, edition: Edition, values: &[Value]) -> Result<Vec<Step<'_>>, ReadError>
+    ensures ok { IfOk result (λ v.
+        each_in (step_in edition) (map view values.now) ≡ Some (map step_view v.items)) }
     ensures not_a_script { IsErrOf result ReadError.NotAScript
-        → each_in step_in (map view values.now) ≡ None }
+        → each_in (step_in edition) (map view values.now) ≡ None }
 {
     let mut steps = Vec::with_capacity(alloc, values.len())?;
     for value in values {
-        let Some(step) = Step::read(value) else {
+        let Some(step) = Step::read(edition, value) else {
             return Err(ReadError::NotAScript);
         };
         steps.push(step)?;
@@ -53,13 +57,19 @@ impl<'a> Script<'a> {
     /// The script that a value is. It is read whole before any step is run.
     pub fn read(alloc: Global, value: &'a Value) -> Result<Script<'a>, ReadError>
         ensures ok { IfOk result (λ s. IsScriptData (view value.now) (script_view s)) }
+        ensures keeps { IfOk result (λ s.
+            All (λ step. KeepsTo s.edition (step_view step)) s.steps.items) }
         ensures not_a_script { IsErrOf result ReadError.NotAScript
             → (s : spec.Script) → ¬ IsScriptData (view value.now) s }
     {
-        let Some((limit, items)) = read_parts(value) else {
+        let Some((edition, limit, items)) = read_parts(value) else {
             return Err(ReadError::NotAScript);
         };
-        let steps = read_steps(alloc, items)?;
-        Ok(Script { limit, steps })
+        let steps = read_steps(alloc, edition, items)?;
+        Ok(Script {
+            edition,
+            limit,
+            steps,
+        })
     }
 }

@@ -7,27 +7,29 @@ ghost use Rattle.eco_steps.specs.Decode.{each_in, stage_in, stages_in};
 
 use crate::arguments::read_list;
 use crate::commands::Commands;
+use eco_ids::Edition;
 use serde_json::Value;
 
 /// A list of stages, each a list of commands. It borrows them likewise.
 #[derive(Clone, Copy)]
 pub struct Stages<'a> {
+    edition: Edition,
     values: &'a [Value],
-    ghost are_stages: { IsSome (each_in stage_in (map view values.now)) },
+    ghost are_stages: { IsSome (each_in (stage_in edition) (map view values.now)) },
 }
 
 impl<'a> Stages<'a> {
     ghost use Rattle.eco_steps.specs.Views.{commands_view, stages_view};
 
-    /// The stages that a value lists, if it is a list of lists of commands.
-    pub(crate) fn read(value: &'a Value) -> Option<Stages<'a>>
-        ensures { option_map stages_view result ≡ stages_in (view value.now) }
+    /// The stages that a value lists in a script of an edition, if it is a list of lists of commands.
+    pub(crate) fn read(edition: Edition, value: &'a Value) -> Option<Stages<'a>>
+        ensures { option_map stages_view result ≡ stages_in edition (view value.now) }
     {
         let values = read_list(value)?;
         for item in values {
-            Commands::read(item)?;
+            Commands::read(edition, item)?;
         }
-        Some(Stages { values })
+        Some(Stages { edition, values })
     }
 
     /// How many stages there are.
@@ -42,6 +44,6 @@ impl<'a> Stages<'a> {
         ensures { option_map commands_view result ≡ slice_get (stages_view self.now) place }
     {
         let value = self.values.get(place)?;
-        Commands::read_again(value)
+        Commands::read_again(self.edition, value)
     }
 }

@@ -6,10 +6,10 @@ ghost use Rattle.eco_steps.specs.Decode.{alone_in, merge_of, step_in, step_of, s
 ghost use Rattle.eco_steps.specs.Decode.{step_of_text, step_of_texts, step_of_two, step_of_three, system_of, system_with};
 
 use crate::actions::Actions;
-use crate::arguments::{read_name, read_number, read_value, read_words};
-use crate::arity::Arity;
+use crate::arguments::{read_arity, read_name, read_number, read_value, read_words};
 use crate::phase::read_phase;
 use crate::stages::Stages;
+use eco_ids::Edition;
 use eco_systems::Phase;
 use serde_json::Value;
 
@@ -19,7 +19,7 @@ pub enum Step<'a> {
     Create(Option<&'a str>),
     Component {
         name: &'a str,
-        arity: Arity,
+        arity: u8,
     },
     Add {
         entity: &'a str,
@@ -145,13 +145,14 @@ impl<'a> Step<'a> {
     }
 
     // A step with a text and another argument.
-    fn of_two(word: &str, text: &'a str, argument: &'a Value) -> Option<Step<'a>>
-        ensures { option_map step_view result ≡ step_of_two word.now text.entry.now (view argument.now) }
+    fn of_two(edition: Edition, word: &str, text: &'a str, argument: &'a Value) -> Option<Step<'a>>
+        ensures { option_map step_view result
+            ≡ step_of_two edition word.now text.entry.now (view argument.now) }
     {
         match word {
             "component" => Some(Step::Component {
                 name: text,
-                arity: Arity::read(argument)?,
+                arity: read_arity(edition, argument)?,
             }),
             "rename" => Some(Step::Rename {
                 entity: text,
@@ -162,29 +163,36 @@ impl<'a> Step<'a> {
     }
 
     // A step with two texts and another argument.
-    fn of_three(word: &str, entity: &'a str, id: &'a str, argument: &'a Value) -> Option<Step<'a>>
+    fn of_three(
+        edition: Edition,
+        word: &str,
+        entity: &'a str,
+        id: &'a str,
+        argument: &'a Value,
+    ) -> Option<Step<'a>>
         ensures { option_map step_view result
-            ≡ step_of_three word.now entity.entry.now id.entry.now (view argument.now) }
+            ≡ step_of_three edition word.now entity.entry.now id.entry.now (view argument.now) }
     {
         match word {
             "set" => Some(Step::Set {
                 entity,
                 id,
-                value: read_value(argument)?,
+                value: read_value(edition, argument)?,
             }),
             _ => None,
         }
     }
 
     // A step with these arguments.
-    fn of(word: &str, arguments: &'a [Value]) -> Option<Step<'a>>
-        ensures { option_map step_view result ≡ step_of word.now (map view arguments.now) }
+    fn of(edition: Edition, word: &str, arguments: &'a [Value]) -> Option<Step<'a>>
+        ensures { option_map step_view result ≡ step_of edition word.now (map view arguments.now) }
     {
         match arguments {
             [] => Step::of_none(word),
             [argument] => Step::of_one(word, argument),
-            [text, argument] => Step::of_two(word, text.as_str()?, argument),
+            [text, argument] => Step::of_two(edition, word, text.as_str()?, argument),
             [entity, id, argument] => Step::of_three(
+                edition,
                 word,
                 entity.as_str()?,
                 id.as_str()?,
@@ -195,63 +203,64 @@ impl<'a> Step<'a> {
     }
 
     // A merge with these arguments.
-    fn merge(arguments: &'a [Value]) -> Option<Step<'a>>
-        ensures { option_map step_view result ≡ merge_of (map view arguments.now) }
+    fn merge(edition: Edition, arguments: &'a [Value]) -> Option<Step<'a>>
+        ensures { option_map step_view result ≡ merge_of edition (map view arguments.now) }
     {
         let [admitted, stages] = arguments else {
             return None;
         };
         Some(Step::Merge {
             admitted: read_number(admitted, 0, 1_048_576)?,
-            stages: Stages::read(stages)?,
+            stages: Stages::read(edition, stages)?,
         })
     }
 
     // A system with this name and these further arguments.
     fn system_with(
+        edition: Edition,
         name: &'a str,
         phase: &Value,
         query: &'a Value,
         actions: &'a Value,
     ) -> Option<Step<'a>>
         ensures { option_map step_view result
-            ≡ system_with name.entry.now (view phase.now) (view query.now) (view actions.now) }
+            ≡ system_with edition name.entry.now (view phase.now) (view query.now) (view actions.now) }
     {
         Some(Step::System {
             name,
             phase: read_phase(phase)?,
             query: query.as_str()?,
-            actions: Actions::read(actions)?,
+            actions: Actions::read(edition, actions)?,
         })
     }
 
     // A system with these arguments.
-    fn system(arguments: &'a [Value]) -> Option<Step<'a>>
-        ensures { option_map step_view result ≡ system_of (map view arguments.now) }
+    fn system(edition: Edition, arguments: &'a [Value]) -> Option<Step<'a>>
+        ensures { option_map step_view result ≡ system_of edition (map view arguments.now) }
     {
         let [name, phase, query, actions] = arguments else {
             return None;
         };
-        Step::system_with(name.as_str()?, phase, query, actions)
+        Step::system_with(edition, name.as_str()?, phase, query, actions)
     }
 
-    /// The step that a value is, if it is one that holds no other.
-    pub(crate) fn read_alone(value: &'a Value) -> Option<Step<'a>>
-        ensures { option_map step_view result ≡ alone_in (view value.now) }
+    /// The step that a value is in a script of an edition, if it is one that holds no other.
+    pub(crate) fn read_alone(edition: Edition, value: &'a Value) -> Option<Step<'a>>
+        ensures { option_map step_view result ≡ alone_in edition (view value.now) }
     {
         let (word, arguments) = read_words(value)?;
-        Step::of(word, arguments)
+        Step::of(edition, word, arguments)
     }
 
-    /// The step that a value is, if it is one.
-    pub fn read(value: &'a Value) -> Option<Step<'a>>
-        ensures { option_map step_view result ≡ step_in (view value.now) }
+    /// The step that a value is in a script of an edition, if it is one.
+    pub fn read(edition: Edition, value: &'a Value) -> Option<Step<'a>>
+        ensures { option_map step_view result ≡ step_in edition (view value.now) }
     {
         let (word, arguments) = read_words(value)?;
         match word {
-            "merge" => Step::merge(arguments),
-            "system" => Step::system(arguments),
-            _ => Step::of(word, arguments),
+            "merge" => Step::merge(edition, arguments),
+            "system" => Step::system(edition, arguments),
+            _ => Step::of(edition, word, arguments),
         }
     }
 }

@@ -6,4 +6,4 @@ use Rattle.eco_checker.proofs.search.steps_not_read.Given as goal
 
 -- the numbers so far are those of the values so far
 abbrev pub invariant-loop-number : goal.invariant-loop-number
-invariant-loop-number l = l.numbers.items ≡ numbers_without step_in 0 (map view (take l.number l.values))
+invariant-loop-number l = l.numbers.items ≡ numbers_without (step_in l.edition) 0 (map view (take l.number l.values))

@@ -1,17 +1,20 @@
-use Rattle.std.proofs.Common.{◌∙◌, ap, sym}
+use Rattle.std.proofs.Common.{◌∙◌, ap, sym, map}
 use Rattle.serde_json.specs.View.{view}
 use Rattle.eco_steps.specs.Decode.{step_in}
-use Rattle.eco_checker.specs.Faults.{numbers_without}
+use Rattle.eco_checker.specs.Faults.{edition_in, numbers_without}
 use Rattle.eco_checker.proofs.Scripts.{none_of_script, script_without}
 use Rattle.eco_checker.proofs.faults.Faults.find.Goals as goal
 
+pub returns-clause-steps : goal.returns-clause-steps
+returns-clause-steps c =
+    c.in_ok-steps.ensures ∙ ap (λ e. numbers_without (step_in e) 0 (map view c.step_items-items.result.now)) c.steps_edition-edition.ensures
+    ∙ ap (numbers_without (step_in (edition_in (view c.args.value.now))) 0) c.step_items-items.ensures
+
 pub returns-clause-script : goal.returns-clause-script
 returns-clause-script c = λ (head, none).
-    let listed = c.in_ok-steps.ensures ∙ ap (numbers_without step_in 0) c.step_items-items.ensures in
-    script_without (view c.args.value.now) (sym c.has_parts-has_head.ensures ∙ head) (sym listed ∙ none)
+    script_without (view c.args.value.now) (sym c.has_parts-has_head.ensures ∙ head) (sym (returns-clause-steps c) ∙ none)
 
 pub returns-clause-none : goal.returns-clause-none
 returns-clause-none c = λ s is.
-    let listed = c.in_ok-steps.ensures ∙ ap (numbers_without step_in 0) c.step_items-items.ensures in
     let (parts, none) = none_of_script (view c.args.value.now) s is in
-    (c.has_parts-has_head.ensures ∙ parts, listed ∙ none)
+    (c.has_parts-has_head.ensures ∙ parts, returns-clause-steps c ∙ none)

@@ -5,4 +5,4 @@ use Rattle.eco_steps.proofs.actions.Actions.read.Given as goal
 
 -- the values so far are actions
 abbrev pub invariant-loop-item : goal.invariant-loop-item
-invariant-loop-item l = FoundSoFar view action_in l.values l.item-index
+invariant-loop-item l = FoundSoFar view (action_in l.edition) l.values l.item-index

@@ -11,11 +11,12 @@ returns c =
     let values = c.args.self.now.values.now in
     let (there, is) = c.in_ok-value.ensures.lookup.3 in
     let at = slice_get_read values _ c.args.place c.in_ok-value.value.now refl there (is c.in_ok-value.value.now) in
-    c.read.ensures ∙ ap (option_and_then (λ v. command_in (view v))) (sym at) ∙ sym (kept_get view command_in values c.args.place c.args.self.now.are_commands)
+    c.read.ensures ∙ ap (option_and_then (λ v. command_in c.args.self.now.edition (view v))) (sym at)
+    ∙ sym (kept_get view (command_in c.args.self.now.edition) values c.args.place c.args.self.now.are_commands)
 
 pub returns-in_err-value : goal.returns-in_err-value
 returns-in_err-value c =
     let values = c.args.self.now.values.now in
     let none = slice_get_past values c.args.place (grind (arith, c.in_err-value.ensures.lookup.0)) in
-    ap (option_map command_view) c.from_residual.ensures ∙ ap (option_and_then (λ v. command_in (view v))) (sym none)
-    ∙ sym (kept_get view command_in values c.args.place c.args.self.now.are_commands)
+    ap (option_map command_view) c.from_residual.ensures ∙ ap (option_and_then (λ v. command_in c.args.self.now.edition (view v))) (sym none)
+    ∙ sym (kept_get view (command_in c.args.self.now.edition) values c.args.place c.args.self.now.are_commands)

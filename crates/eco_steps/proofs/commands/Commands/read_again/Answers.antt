@@ -5,10 +5,10 @@ use Rattle.eco_steps.proofs.commands.Commands.read_again.Goals as goal
 
 pub invariant_of-result : goal.invariant_of-result
 invariant_of-result c = record {
-  are_commands = some_found view command_in c.in_ok-values.values.now (view c.args.value.now) c.in_ok-values.ensures c.requires;
+  are_commands = some_found view (command_in c.args.edition) c.in_ok-values.values.now (view c.args.value.now) c.in_ok-values.ensures c.requires;
 }
 
 pub returns : goal.returns
 returns c =
-    kept_found view command_in c.in_ok-values.values.now (view c.args.value.now) c.in_ok-values.ensures
-    (some_found view command_in c.in_ok-values.values.now (view c.args.value.now) c.in_ok-values.ensures c.requires)
+    kept_found view (command_in c.args.edition) c.in_ok-values.values.now (view c.args.value.now) c.in_ok-values.ensures
+    (some_found view (command_in c.args.edition) c.in_ok-values.values.now (view c.args.value.now) c.in_ok-values.ensures c.requires)

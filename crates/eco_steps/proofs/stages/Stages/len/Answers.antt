@@ -5,4 +5,4 @@ use Rattle.eco_steps.proofs.Values.{kept_length}
 use Rattle.eco_steps.proofs.stages.Stages.len.Goals as goal
 
 pub returns : goal.returns
-returns c = sym (kept_length view stage_in c.args.self.now.values.now c.args.self.now.are_stages)
+returns c = sym (kept_length view (stage_in c.args.self.now.edition) c.args.self.now.values.now c.args.self.now.are_stages)

@@ -5,4 +5,4 @@ use Rattle.eco_steps.proofs.stages.Stages.read.Given as goal
 
 -- the values so far are stages
 abbrev pub invariant-loop-item : goal.invariant-loop-item
-invariant-loop-item l = FoundSoFar view stage_in l.values l.item-index
+invariant-loop-item l = FoundSoFar view (stage_in l.edition) l.values l.item-index

@@ -2,7 +2,7 @@ use Rattle.std.proofs.Common.{◌≡◌, ◌-◌, ◌++◌, pos, take, drop, rep
 use Rattle.serde_json.specs.View.{view}
 use Rattle.eco_ids.specs.declared.value.TheConstants.{FIELD_COUNT}
 use Rattle.eco_steps.specs.Decode.{each_in, integer_in}
-use Rattle.eco_steps.proofs.arguments.read_value.Given as goal
+use Rattle.eco_steps.proofs.arguments.read_fields.Given as goal
 
 -- the fields so far, and those of what is left, are all fields; behind them there are zeros
 abbrev pub invariant-loop-i : goal.invariant-loop-i

@@ -29,7 +29,7 @@ pub(crate) fn shown(world: &World, entity: Entity) -> &str {
 
 /// The ids of an entity of which the pairs are drawn: those of a named one that is not built in.
 pub(crate) fn drawn_ids(world: &World, entity: Entity) -> &[Id] {
-    if entity.is_among_first(BUILTIN_COUNT) || world.name_of(entity).is_none() {
+    if entity.is_among_first(world.edition().builtin_count()) || world.name_of(entity).is_none() {
         &[]
     } else {
         world.ids_of(entity)

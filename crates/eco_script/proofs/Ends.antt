@@ -14,9 +14,10 @@ use Rattle.eco_ids.specs.Delete.{DeletesOne, may_delete, DeletesWith, may_delete
 use Rattle.eco_ids.specs.Indices.{next_entity}
 use Rattle.eco_ids.specs.Indices as indexed
 use Rattle.eco_ids.specs.Losses.{without, nobody}
+use Rattle.eco_ids.specs.Mirrors.{goes_too}
 use Rattle.eco_ids.specs.Order.{entity_eq, id_eq}
 use Rattle.eco_ids.specs.Outcome.{first_refusal, is_out_of_memory, Refuses, Answers, Meets}
-use Rattle.eco_ids.specs.Step.{Adds, may_add, Sets, may_set, Removes, may_remove, Clears, may_clear, RemovesAll, may_remove_all, Renames, may_rename, unfit}
+use Rattle.eco_ids.specs.Step.{Adds, may_add, Sets, may_set, Removes, may_remove, Clears, may_clear, RemovesAll, may_remove_all, Renames, may_rename, is_reserved, unfit}
 use Rattle.eco_ids.specs.Step.{unfit_set, unfit_actor, unfit_rename, changed, with_value, with_name, own_name}
 use Rattle.eco_ids.specs.Builtin.{is_builtin, is_builtins}
 use Rattle.eco_ids.specs.Data.{arity, fits}
@@ -89,7 +90,7 @@ component_ends w name n =
 add_ends : (w : WorldState) (e : Entity) (i : Id) → Ends (Meets (Adds w e i) (may_add w e i) w)
 add_ends w e i =
     unless (Adds w e i) (may_add w e i) w (unfit w e i)
-    (plain_refusal ((not (is_alive w e), NotAlive) ∷ (is_builtin w e, Reserved) ∷ (not (names_living w i), DeadId) ∷ []) refl) (λ why eq. rw eq (refl, refl))
+    (plain_refusal ((not (is_alive w e), NotAlive) ∷ (is_reserved w e i, Reserved) ∷ (not (names_living w i), DeadId) ∷ []) refl) (λ why eq. rw eq (refl, refl))
     (λ fit. there (has w e i) refl fit) where
       there : (b : Bool) → has w e i ≡ b → unfit w e i ≡ None → Ends (Meets (Adds w e i) (may_add w e i) w)
       there true h fit = (Ok tt, w, rw (fit, h) (refl, refl))
@@ -98,7 +99,7 @@ add_ends w e i =
 set_ends : (w : WorldState) (e : Entity) (i : Id) (v : Value) → Ends (Meets (Sets w e i v) (may_set w e i v) w)
 set_ends w e i v =
     unless (Sets w e i v) (may_set w e i v) w (unfit_set w e i v)
-    (plain_refusal ((not (is_alive w e), NotAlive) ∷ (is_builtin w e, Reserved) ∷ (not (names_living w i), DeadId)
+    (plain_refusal ((not (is_alive w e), NotAlive) ∷ (is_reserved w e i, Reserved) ∷ (not (names_living w i), DeadId)
     ∷ (not (is_some (arity w i)), NotData) ∷ (not (fits w i v), TooWide) ∷ []) refl) (λ why eq. rw eq (refl, refl)) (λ fit. there (has w e i) refl fit) where
       there : (b : Bool) → has w e i ≡ b → unfit_set w e i v ≡ None → Ends (Meets (Sets w e i v) (may_set w e i v) w)
       there true h fit = (Ok tt, changed w e (with_value i v), rw (fit, h) (refl, refl))
@@ -108,19 +109,19 @@ remove_ends : (w : WorldState) (e : Entity) (i : Id) → Ends (Meets (Removes w 
 remove_ends w e i =
     unless (Removes w e i) (may_remove w e i) w (unfit_actor w e)
     (plain_refusal ((not (is_alive w e), NotAlive) ∷ (is_builtin w e, Reserved) ∷ []) refl) (λ why eq. rw eq (refl, refl))
-    (λ fit. (Ok tt, without w nobody (λ x j. entity_eq x e && id_eq j i), rw fit (refl, refl)))
+    (λ fit. (Ok tt, without w nobody (goes_too w (λ x j. entity_eq x e && id_eq j i)), rw fit (refl, refl)))
 
 clear_ends : (w : WorldState) (e : Entity) → Ends (Meets (Clears w e) (may_clear w e) w)
 clear_ends w e =
     unless (Clears w e) (may_clear w e) w (unfit_actor w e)
     (plain_refusal ((not (is_alive w e), NotAlive) ∷ (is_builtin w e, Reserved) ∷ []) refl) (λ why eq. rw eq (refl, refl))
-    (λ fit. (Ok tt, without w nobody (λ x j. entity_eq x e), rw fit (refl, refl)))
+    (λ fit. (Ok tt, without w nobody (goes_too w (λ x j. entity_eq x e)), rw fit (refl, refl)))
 
 remove_all_ends : (w : WorldState) (i : Id) → Ends (Meets (RemovesAll w i) (may_remove_all w i) w)
 remove_all_ends w i = which (is_builtins w i) refl where
   which : (b : Bool) → is_builtins w i ≡ b → Ends (Meets (RemovesAll w i) (may_remove_all w i) w)
   which true e = (Err Reserved, w, rw e (refl, refl))
-  which false e = (Ok tt, without w nobody (λ x j. id_eq j i), rw e (refl, refl))
+  which false e = (Ok tt, without w nobody (goes_too w (λ x j. id_eq j i)), rw e (refl, refl))
 
 delete_ends : (w : WorldState) (e : Entity) → Ends (Meets (DeletesOne w e) (may_delete w e) w)
 delete_ends w e =

@@ -5,12 +5,12 @@ use Rattle.std.proofs.KnownBytes.{Appends-trans}
 use Rattle.std.proofs.lemmas.List.{append-nil, take_all, take_more, map-append, take-append-drop}
 use Rattle.std.specs.Io.KnownBytes.{Appends, Consumes, IsAtEnd, Keeps}
 use Rattle.eco_ids.specs.World.{WorldState}
-use Rattle.eco_script.specs.Run.{IsTextOf, Ran, RanTo, WasNotRead}
+use Rattle.eco_script.specs.Run.{IsTextOf, Ran, RanTo, WasNotRead, beginning}
 use Rattle.std.specs.Prelude.{◌⊎◌}
 use Rattle.serde_json.specs.Data.{Data}
 use Rattle.serde_json.specs.Read.{read}
 use Rattle.eco_steps.specs.Script.{Script, IsScript, IsScriptData}
-use Rattle.eco_script.specs.States.{ScriptState, first_state}
+use Rattle.eco_script.specs.States.{ScriptState}
 use Rattle.eco_devices.specs.Beginning.{IsBeginning}
 use Rattle.eco_steps.specs.Steps.{Step}
 use Rattle.eco_script.specs.Text.{Does, Text}
@@ -101,16 +101,16 @@ Text-at w v e ss rs t p q h = rw (← p, ← q) h
 
 -- the text of a run is that of the script that was read
 text_of : (bytes : List ℕ) (script : Script) (w e : ScriptState) (ss : List Step) (t : List ℕ)
-    → IsScript bytes script → w ≡ first_state script.limit → ss ≡ script.steps
+    → IsScript bytes script → w ≡ beginning script → ss ≡ script.steps
     → Text w ss t e → IsTextOf bytes t
-text_of bytes script w e ss t is at_start are h = (script, e, is, Text-at w (first_state script.limit) e ss script.steps t at_start are h)
+text_of bytes script w e ss t is at_start are h = (script, e, is, Text-at w (beginning script) e ss script.steps t at_start are h)
 
 pub ran_bytes : (bytes : List ℕ) (script : Script) (w : ScriptState) (ss : List Step) (world : WorldState) (a b : Option (List ℕ))
-    → IsScript bytes script → w ≡ first_state script.limit → ss ≡ script.steps
+    → IsScript bytes script → w ≡ beginning script → ss ≡ script.steps
     → ((t : List ℕ) × (e : ScriptState) × Text w ss t e × (e.world ≡ world) × Appends a b t)
     → RanTo (Some bytes) a b world
 ran_bytes bytes script w ss world a b is at_start are (t, e, h, ends, k) =
-    (t, (script, e, is, Text-at w (first_state script.limit) e ss script.steps t at_start are h, ends), k)
+    (t, (script, e, is, Text-at w (beginning script) e ss script.steps t at_start are h, ends), k)
 
 -- a run to a world is a run
 pub ran_some : (left : Option (List ℕ)) (a b : Option (List ℕ)) (end : Option WorldState) → IsSomeAnd end (RanTo left a b) → Ran left a b
@@ -119,7 +119,7 @@ ran_some (Some bytes) a b None h = absurd h
 ran_some (Some bytes) a b (Some world) (t, (script, e, is, text, ends), k) = (t, (script, e, is, text), k)
 
 pub stopped_bytes : (bytes : List ℕ) (script : Script) (w : ScriptState) (ss : List Step) (a b : Option (List ℕ))
-    → IsScript bytes script → w ≡ first_state script.limit → ss ≡ script.steps
+    → IsScript bytes script → w ≡ beginning script → ss ≡ script.steps
     → ((part : List ℕ) × (text : List ℕ) × (end : ScriptState) × Text w ss text end × IsBeginning part text × Appends a b part)
     → Keeps a b ⊎ ((part : List ℕ) × (text : List ℕ) × IsTextOf bytes text × IsBeginning part text × Appends a b part)
 stopped_bytes bytes script w ss a b is at_start are (part, text, e, h, begin, k) =

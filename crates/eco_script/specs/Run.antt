@@ -7,14 +7,18 @@ use Rattle.eco_steps.specs.Script.{Script, IsScript}
 use Rattle.eco_script.specs.States.{ScriptState, first_state}
 use Rattle.eco_script.specs.Text.{Text}
 
--- the bytes are a script, and the text is that of a run of it on a new world, without systems
+-- where the run of a script begins: a new world of its edition and its limit, without systems
+abbrev pub beginning : Script → ScriptState
+beginning script = first_state script.edition script.limit
+
+-- the bytes are a script, and the text is that of a run of it
 abbrev pub IsTextOf : List ℕ → List ℕ → Type 0
-IsTextOf bytes text = (script : Script) × (end : ScriptState) × IsScript bytes script × Text (first_state script.limit) script.steps text end
+IsTextOf bytes text = (script : Script) × (end : ScriptState) × IsScript bytes script × Text (beginning script) script.steps text end
 
 -- likewise, and the run ends with this world
 abbrev pub IsRunOf : List ℕ → List ℕ → WorldState → Type 0
 IsRunOf bytes text world =
-    (script : Script) × (end : ScriptState) × IsScript bytes script × Text (first_state script.limit) script.steps text end × (end.world ≡ world)
+    (script : Script) × (end : ScriptState) × IsScript bytes script × Text (beginning script) script.steps text end × (end.world ≡ world)
 
 -- Each of these is said of the bytes that the reader had, and of those that the writer held before and after. Of a device
 -- that tells no bytes nothing is said.

@@ -1,11 +1,12 @@
 -- What a script has reached: a world, and the systems that it has declared.
 use Rattle.std.specs.Prelude.{ℕ, Bool, not, List, [], ◌∷◌, Option}
 use Rattle.std.specs.List.{list_any}
+use Rattle.eco_ids.specs.declared.edition.Edition.{Edition}
 use Rattle.eco_ids.specs.declared.refusal.Refusal.{Refusal}
 use Rattle.eco_ids.specs.declared.refusal.Refusal.TheVariants.{BadName, SystemNameTaken}
 use Rattle.eco_ids.specs.Names.{is_name, is_text}
 use Rattle.eco_ids.specs.Outcome.{first_refusal}
-use Rattle.eco_ids.specs.World.{WorldState, first_world}
+use Rattle.eco_ids.specs.World.{WorldState, world_of_edition}
 use Rattle.eco_query.specs.Queries.{QuerySlot}
 use Rattle.eco_systems.specs.declared.phase.Phase.{Phase}
 use Rattle.eco_systems.specs.Systems.{SystemModel}
@@ -24,9 +25,9 @@ pub record ScriptState : Type 0 where
   pub world : WorldState
   pub systems : List NamedSystem
 
--- a new world of a limit, and no system
-abbrev pub first_state : ℕ → ScriptState
-first_state limit = record { world = first_world limit; systems = [] }
+-- a new world of an edition and a limit, and no system
+abbrev pub first_state : Edition → ℕ → ScriptState
+first_state edition limit = record { world = world_of_edition edition limit; systems = [] }
 
 -- one of the systems has the name
 abbrev pub is_declared : List NamedSystem → List ℕ → Bool

@@ -1,11 +1,12 @@
 //! Runs one step of a script.
 
-ghost use Rattle.std.specs.Prelude.{◌≤◌, IsFalse, option_map};
+ghost use Rattle.std.specs.Prelude.{◌≡◌, ◌≤◌, IsFalse, option_map};
 ghost use Rattle.eco_ids.specs.Outcome.{is_out_of_memory};
 ghost use Rattle.eco_script.specs.Answers.{answer_view};
 ghost use Rattle.eco_script.specs.Replies.{Declares, Replies, StepReplies};
 ghost use Rattle.eco_script.specs.Systems.{reached, ReadsBody};
 ghost use Rattle.eco_steps.specs.Steps as steps;
+ghost use Rattle.eco_steps.specs.Steps.{KeepsTo};
 ghost use Rattle.eco_steps.specs.Views.{actions_view, stages_view, step_view};
 
 use crate::recording::{read_actions, record_stages};
@@ -15,7 +16,7 @@ use crate::shown_value::ShownValue;
 use eco_bodies::{Script, Systems};
 use eco_frame::run_frame;
 use eco_ids::{Refusal, Value};
-use eco_steps::{Actions, Arity, Stages, Step};
+use eco_steps::{Actions, Stages, Step};
 use eco_systems::Phase;
 use eco_world::{Query, QueryId, World};
 use std::alloc::Global;
@@ -28,10 +29,11 @@ fn create(world: &mut World, name: Option<&str>) -> Result<Reply, Refusal>
     Ok(Reply::Made(world.create(name)?))
 }
 
-fn component(world: &mut World, name: &str, arity: Arity) -> Result<Reply, Refusal>
-    ensures { Replies world.old (steps.component name.now arity.fields) (answer_view result) world.new }
+fn component(world: &mut World, name: &str, arity: u8) -> Result<Reply, Refusal>
+    requires { KeepsTo world.old.edition (steps.component name.now arity) }
+    ensures { Replies world.old (steps.component name.now arity) (answer_view result) world.new }
 {
-    Ok(Reply::Made(world.component(Some(name), arity.fields)?))
+    Ok(Reply::Made(world.component(Some(name), arity)?))
 }
 
 fn add(world: &mut World, entity: &str, id: &str) -> Result<Reply, Refusal>
@@ -220,9 +222,8 @@ fn frame<R: Threads + Sync>(
     }
 }
 
-/// Runs a step on a world, with the systems declared so far; a frame of them has so many workers, 1 to 64. What is recorded for a
-/// merge, and what is kept of a system, take their memory from `alloc`.
-pub fn perform<R: Threads + Sync>(
+// Runs a step, whichever it is.
+fn answer<R: Threads + Sync>(
     rt: &R,
     alloc: Global,
     world: &mut World,
@@ -230,7 +231,8 @@ pub fn perform<R: Threads + Sync>(
     workers: u32,
     step: &Step<'_>,
 ) -> Result<Reply, Refusal>
-    requires { (1 ≤ workers) × (workers ≤ 64) }
+    requires workers { (1 ≤ workers) × (workers ≤ 64) }
+    requires keeps { KeepsTo world.old.edition (step_view step.now) }
     ensures { StepReplies (reached world.old systems.old) (step_view step.now)
         (answer_view result) (reached world.new systems.new) }
 {
@@ -261,4 +263,23 @@ pub fn perform<R: Threads + Sync>(
         } => system(alloc, world, systems, name, phase, query, actions),
         Step::Frame => Ok(frame(rt, alloc, world, systems, workers)),
     }
+}
+
+/// Runs a step on a world of its script's edition, with the systems declared so far; a frame of them has so many
+/// workers, 1 to 64. What is recorded for a merge, and what is kept of a system, take their memory from `alloc`.
+pub fn perform<R: Threads + Sync>(
+    rt: &R,
+    alloc: Global,
+    world: &mut World,
+    systems: &mut Systems<Script>,
+    workers: u32,
+    step: &Step<'_>,
+) -> Result<Reply, Refusal>
+    requires workers { (1 ≤ workers) × (workers ≤ 64) }
+    requires keeps { KeepsTo world.old.edition (step_view step.now) }
+    ensures replies { StepReplies (reached world.old systems.old) (step_view step.now)
+        (answer_view result) (reached world.new systems.new) }
+    ensures edition { world.new.edition ≡ world.old.edition }
+{
+    answer(rt, alloc, world, systems, workers, step)
 }

@@ -1,12 +1,13 @@
 //! Runs of scripts.
 
-ghost use Rattle.std.specs.Prelude.{◌≡◌, ◌≢◌, ℕ, ◌+◌, ◌^◌, ◌<◌, ◌≤◌, List, [], ◌++◌, Some, IfOk, OnOk, OnErr, IsErrOf, IsNone, IsSomeAnd, map, string_bytes};
+ghost use Rattle.std.specs.Prelude.{◌≡◌, ◌≢◌, ℕ, ◌+◌, ◌^◌, ◌<◌, ◌≤◌, List, [], ◌++◌, All, Some, IfOk, OnOk, OnErr, IsErrOf, IsNone, IsSomeAnd, map, string_bytes};
 ghost use Rattle.std.specs.Io.KnownBytes.{Appends};
 ghost use Rattle.eco_devices.specs.Beginning.{IsBeginning};
 ghost use Rattle.eco_script.specs.Run.{Ran, RanTo, WasNotRead, WasStopped};
 ghost use Rattle.eco_script.specs.States.{ScriptState};
 ghost use Rattle.eco_script.specs.Systems.{reached};
 ghost use Rattle.eco_script.specs.Text.{Does, Text};
+ghost use Rattle.eco_steps.specs.Steps.{KeepsTo};
 ghost use Rattle.eco_steps.specs.Views.{step_view};
 
 use crate::fault::Fault;
@@ -33,10 +34,12 @@ fn run_step<R: Threads + Sync>(
     step: &Step<'_>,
     text: &mut String,
 ) -> Result<(), AllocError>
-    requires { (1 ≤ workers) × (workers ≤ 64) }
-    ensures { OnOk result ((lines : List ℕ)
+    requires workers { (1 ≤ workers) × (workers ≤ 64) }
+    requires keeps { KeepsTo world.old.edition (step_view step.now) }
+    ensures lines { OnOk result ((lines : List ℕ)
         × Does (reached world.old systems.old) (step_view step.now) lines (reached world.new systems.new)
         × (string_bytes text.new ≡ string_bytes text.old ++ lines)) }
+    ensures edition { world.new.edition ≡ world.old.edition }
 {
     let answer = perform::perform(rt, alloc, world, systems, workers, step);
     reply::push_step_lines(text, world, &answer)
@@ -69,6 +72,7 @@ fn run_steps<R: Threads + Sync, W: ScriptWriter>(
     writer: &mut W,
 ) -> Result<(), Fault>
     requires workers { (1 ≤ workers) × (workers ≤ 64) }
+    requires keeps { All (λ step. KeepsTo world.old.edition (step_view step)) steps.now }
     requires countable { W.failures writer.old + 1 < 2 ^ 64 }
     ensures ok { OnOk result ((text : List ℕ) × (end : ScriptState)
         × Text (reached world.old []) (map step_view steps.now) text end × (end.world ≡ world.new)
@@ -122,7 +126,7 @@ fn run_bytes<R: Threads + Sync, W: ScriptWriter>(
         Err(ReadError::NotAScript) => return Err(Fault::NotRead),
         Err(ReadError::OutOfMemory) => return Err(Fault::Memory),
     };
-    let Ok(mut world) = World::new(alloc, script.limit) else {
+    let Ok(mut world) = World::of_edition(alloc, script.edition, script.limit) else {
         return Err(Fault::Memory);
     };
     run_steps(

@@ -1,8 +1,10 @@
-use Rattle.std.proofs.Common.{refl}
+use Rattle.eco_steps.specs.Views.{step_view}
+use Rattle.eco_script.specs.Answers.{answer_view}
+use Rattle.eco_script.specs.Systems.{reached}
+use Rattle.eco_script.proofs.Editions.{step_keeps}
 use Rattle.eco_script.proofs.perform.perform.Goals as goal
 
-pub returns-in-Rename : goal.returns-in-Rename
-returns-in-Rename g c = rw c.in-Rename.is (c.rename.ensures, refl)
-
-pub returns-in-Merge : goal.returns-in-Merge
-returns-in-Merge g c = rw c.in-Merge.is (c.merge.ensures, refl)
+pub returns-clause-edition : goal.returns-clause-edition
+returns-clause-edition g c =
+    step_keeps (step_view c.args.step.now) (reached c.args.world.now c.args.systems.now) (answer_view c.answer.result)
+    (reached c.answer.new.world c.answer.new.systems) c.answer.ensures

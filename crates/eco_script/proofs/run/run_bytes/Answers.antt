@@ -7,10 +7,14 @@ use Rattle.eco_script.specs.Systems.{reached}
 use Rattle.eco_script.proofs.Runs.{no_script_bytes, ran_bytes, stopped_bytes}
 use Rattle.eco_script.proofs.run.run_bytes.Goals as goal
 
-pub new-requires : goal.new-requires
-new-requires g c =
+pub of_edition-requires : goal.of_edition-requires
+of_edition-requires g c =
     let is = c.in-Ok-read.ensures.ok in
     record { at_least = is.at_least; at_most = is.at_most }
+
+pub run_steps-requires-clause-keeps : goal.run_steps-requires-clause-keeps
+run_steps-requires-clause-keeps g c = λ κs lives.
+    rw (c.as_slice.ensures.value, c.in-Ok-of_edition.ensures.ok) c.in-Ok-read.ensures.keeps
 
 pub returns-in-Err-NotAScript-clause-not_read : goal.returns-in-Err-NotAScript-clause-not_read
 returns-in-Err-NotAScript-clause-not_read g c = λ _. (
@@ -27,7 +31,7 @@ returns-clause-ok g c =
       c.in-Ok.ensures.ok.1,
       c.in-Ok-read.ensures.ok,
     )
-    (ap (λ w. reached w []) c.in-Ok-new.ensures.ok) (ap (λ ss. map step_view ss) c.as_slice.ensures.value)
+    (ap (λ w. reached w []) c.in-Ok-of_edition.ensures.ok) (ap (λ ss. map step_view ss) c.as_slice.ensures.value)
     c.in_ok-run_steps.ensures.ok
 
 pub returns-in_err-run_steps-clause-err : goal.returns-in_err-run_steps-clause-err
@@ -39,5 +43,5 @@ returns-in_err-run_steps-clause-err g c =
       c.in-Ok.ensures.ok.1,
       c.in-Ok-read.ensures.ok,
     )
-    (ap (λ w. reached w []) c.in-Ok-new.ensures.ok) (ap (λ ss. map step_view ss) c.as_slice.ensures.value)
+    (ap (λ w. reached w []) c.in-Ok-of_edition.ensures.ok) (ap (λ ss. map step_view ss) c.as_slice.ensures.value)
     c.in_err-run_steps.ensures.err)

@@ -1,5 +1,7 @@
 use Rattle.std.proofs.Common.{[], refl, ap, ◌+◌, ◌∙◌}
 use Rattle.std.proofs.KnownBytes.{Appends-nil}
+use Rattle.std.proofs.lemmas.List.Elements.{All-get_or}
+use Rattle.eco_steps.specs.Steps.{KeepsTo}
 use Rattle.eco_steps.specs.Views.{step_view}
 use Rattle.eco_script.specs.Systems.{reached}
 use Rattle.eco_script.proofs.Runs.{stopped_between, stopped_within, gathered_all, gathered_more, gathered_less}
@@ -8,8 +10,15 @@ use Rattle.eco_script.proofs.run.run_steps.Goals as goal
 pub loop-step-init : goal.loop-step-init
 loop-step-init g c = record {
   ran = ([], (c.new-text.ensures.bytes, ap (reached c.args.world.now) c.new-systems.ensures), Appends-nil _);
+  edition = refl;
   counted = refl;
 }
+
+pub run_step-requires-clause-keeps : goal.run_step-requires-clause-keeps
+run_step-requires-clause-keeps g c = λ κs lives.
+    let here = All-get_or (λ step. KeepsTo c.args.world.now.edition (step_view step)) c.args.steps.now c.loop-step.step-index c.step-item.result
+    c.loop-step-test.true c.requires.keeps in
+    rw (c.loop-step.invariant.edition, c.step-item.is) here
 
 pub returns-in_default-clause-err : goal.returns-in_default-clause-err
 returns-in_default-clause-err g c =
@@ -19,7 +28,7 @@ returns-in_default-clause-err g c =
 
 pub returns-in_default-write_many-clause-err : goal.returns-in_default-write_many-clause-err
 returns-in_default-write_many-clause-err g c =
-    let (lines, does, is) = c.in-Ok.ensures in
+    let (lines, does, is) = c.in-Ok.ensures.lines in
     let more = gathered_more step_view c.args.steps.now c.loop-step.step-index c.step-item.result _ _ _ _ _ _ _ lines c.loop-step-test.true
     c.step-item.is c.loop-step.invariant.ran does is in
     stopped_within step_view c.args.steps.now
@@ -29,12 +38,13 @@ returns-in_default-write_many-clause-err g c =
 
 pub loop-step-preserved : goal.loop-step-preserved
 loop-step-preserved g c =
-    let (lines, does, is) = c.in-Ok.ensures in
+    let (lines, does, is) = c.in-Ok.ensures.lines in
     let more = gathered_more step_view c.args.steps.now c.loop-step.step-index c.step-item.result _ _ _ _ _ _ _ lines c.loop-step-test.true
     c.step-item.is c.loop-step.invariant.ran does is in
     let (part, parts, wrote) = c.in-Ok-write_many.ensures.ok in
     record {
       ran = gathered_less step_view c.args.steps.now (c.loop-step.step-index + 1) _ _ _ _ _ _ part _ parts more wrote;
+      edition = c.in-Ok.ensures.edition ∙ c.loop-step.invariant.edition;
       counted = c.in-Ok-write_many.ensures.counts_none ∙ c.loop-step.invariant.counted;
     }
 

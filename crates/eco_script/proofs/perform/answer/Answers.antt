@@ -1,0 +1,13 @@
+use Rattle.std.proofs.Common.{refl, subst}
+use Rattle.eco_steps.specs.Steps.{KeepsTo}
+use Rattle.eco_steps.specs.Views.{step_view}
+use Rattle.eco_script.proofs.perform.answer.Goals as goal
+
+pub component-requires : goal.component-requires
+component-requires g c = subst (λ s. KeepsTo c.args.world.now.edition (step_view s)) c.in-Component.is c.requires.keeps
+
+pub returns-in-Rename : goal.returns-in-Rename
+returns-in-Rename g c = rw c.in-Rename.is (c.rename.ensures, refl)
+
+pub returns-in-Merge : goal.returns-in-Merge
+returns-in-Merge g c = rw c.in-Merge.is (c.merge.ensures, refl)

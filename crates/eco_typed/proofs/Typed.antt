@@ -1,6 +1,6 @@
 -- Values of ids that have as many fields as a type.
 use Rattle.eco_ids.proofs.Common.{◌≡◌, ◌==◌, ◌&&◌, ◌∷◌, [], ℕ, Bool, false, not, length, is_some, Option, Some, None, option_map, unwrap_or, if◌then◌else◌}
-use Rattle.eco_ids.proofs.Common.{IsTrue, refl, sym, ap, ◌∙◌, subst, none-some, find, id_cmp, first_refusal, is_builtin, arity, is_zero_past, IsLawful, unfit}
+use Rattle.eco_ids.proofs.Common.{IsTrue, refl, sym, ap, ◌∙◌, subst, none-some, find, id_cmp, first_refusal, is_reserved, arity, is_zero_past, IsLawful, unfit}
 use Rattle.eco_ids.proofs.Common.{unfit_set, WorldState, Record, held_by, is_alive, names_living, record_of}
 use Rattle.eco_ids.specs.declared.entity.Entity.{Entity}
 use Rattle.eco_ids.specs.declared.id.Id.{Id}
@@ -26,10 +26,10 @@ module _ (w : WorldState) (e : Entity) (i : Id) (n : ℕ) (typed : arity w i ≡
   set_fits v narrow =
       ap
       (λ (a : Option ℕ). first_refusal
-      ((not (is_alive w e), NotAlive) ∷ (is_builtin w e, Reserved) ∷ (not (names_living w i), DeadId)
+      ((not (is_alive w e), NotAlive) ∷ (is_reserved w e i, Reserved) ∷ (not (names_living w i), DeadId)
       ∷ (not (is_some a), NotData) ∷ (not ((length v.0 == FIELD_COUNT) && is_zero_past (unwrap_or a 0) v), TooWide) ∷ []))
       typed
       ∙ ap
       (λ (b : Bool). first_refusal
-      ((not (is_alive w e), NotAlive) ∷ (is_builtin w e, Reserved) ∷ (not (names_living w i), DeadId) ∷ (false, NotData) ∷ (not b, TooWide) ∷ []))
+      ((not (is_alive w e), NotAlive) ∷ (is_reserved w e i, Reserved) ∷ (not (names_living w i), DeadId) ∷ (false, NotData) ∷ (not b, TooWide) ∷ []))
       narrow

@@ -1,11 +1,10 @@
 //! A column of a table as values of a Rust type.
-ghost use Rattle.std.specs.Prelude.{◌≡◌, ◌≤◌, ◌∷◌, [], map, MatchOption};
+ghost use Rattle.std.specs.Prelude.{◌≡◌, ◌∷◌, [], map, MatchOption};
 ghost use Rattle.std.specs.Iterator.{YieldsFirst, item_count};
-ghost use Rattle.eco_tables.specs.Column.{widened};
 ghost use Rattle.eco_tables.specs.Values.{shown};
 
 use crate::component::Component;
-use eco_ids::{FIELD_COUNT, Value};
+use eco_ids::Value;
 use eco_world::Values;
 use std::marker::PhantomData;
 
@@ -16,15 +15,12 @@ pub struct Column<'a, C> {
     of: PhantomData<C>,
 }
 
-// The value of these fields.
-#[inline(always)]
-fn widened<const N: usize>(fields: &[i64; N]) -> Value
-    requires { N ≤ FIELD_COUNT }
-    ensures { result ≡ widened fields.now }
-{
-    let mut all = [0; FIELD_COUNT];
-    all[..N].copy_from_slice(fields);
-    Value(all)
+// The first of these rows, and those behind it as values of the same width.
+macro_rules! first_and_rest {
+    ($rows:expr, $width:ident) => {{
+        let (first, rest) = $rows.split_first()?;
+        Some((Value::of(*first), Values::$width(rest)))
+    }};
 }
 
 // The first of them, and those behind it.
@@ -34,22 +30,14 @@ fn split_first(values: Values<'_>) -> Option<(Value, Values<'_>)>
         (λ first. shown values.entry ≡ first.0 ∷ shown first.1) }
 {
     match values {
-        Values::One(rows) => {
-            let (first, rest) = rows.split_first()?;
-            Some((widened(first), Values::One(rest)))
-        }
-        Values::Two(rows) => {
-            let (first, rest) = rows.split_first()?;
-            Some((widened(first), Values::Two(rest)))
-        }
-        Values::Three(rows) => {
-            let (first, rest) = rows.split_first()?;
-            Some((widened(first), Values::Three(rest)))
-        }
-        Values::Four(rows) => {
-            let (first, rest) = rows.split_first()?;
-            Some((widened(first), Values::Four(rest)))
-        }
+        Values::One(rows) => first_and_rest!(rows, One),
+        Values::Two(rows) => first_and_rest!(rows, Two),
+        Values::Three(rows) => first_and_rest!(rows, Three),
+        Values::Four(rows) => first_and_rest!(rows, Four),
+        Values::Five(rows) => first_and_rest!(rows, Five),
+        Values::Six(rows) => first_and_rest!(rows, Six),
+        Values::Seven(rows) => first_and_rest!(rows, Seven),
+        Values::Eight(rows) => first_and_rest!(rows, Eight),
     }
 }
 

@@ -19,7 +19,8 @@ pub trait Component {
     // The value of the type, whatever the fields past the arity.
     ghost from: { ValueData → Self };
 
-    /// How many fields the values have: 1 to [`LARGEST_ARITY`](eco_ids::value::LARGEST_ARITY).
+    /// How many fields the values have: 1 to [`LARGEST_ARITY`](eco_ids::value::LARGEST_ARITY). More than four have those of
+    /// components in worlds of the second edition alone.
     const ARITY: u8;
 
     /// The component's value: the fields, and 0 past them.

@@ -1,11 +1,13 @@
 //! Ids whose values are those of a Rust type.
-ghost use Rattle.std.specs.Prelude.{◌≡◌, ◌≢◌, IfSome, is_some, MatchOption, option_map, Result, Some};
+ghost use Rattle.std.specs.Prelude.{◌≡◌, ◌≢◌, ◌||◌, IfSome, IsTrue, is_some, MatchOption, nat_le, option_map, Result, Some};
 ghost use Rattle.std.specs.Option.{option_copied};
+ghost use Rattle.eco_ids.specs.declared.edition.Edition.TheVariants.{First};
 ghost use Rattle.eco_ids.specs.declared.entity.Entity.{Entity as EntityData};
 ghost use Rattle.eco_ids.specs.declared.id.Id.TheVariants.{One};
 ghost use Rattle.eco_ids.specs.declared.refusal.Refusal.{Refusal as Refusals};
 ghost use Rattle.eco_ids.specs.Births.{MakesComponent, may_make_component};
 ghost use Rattle.eco_ids.specs.Data.{arity, value_of};
+ghost use Rattle.eco_ids.specs.Edition.{largest_arity};
 ghost use Rattle.eco_ids.specs.Outcome.{Meets};
 ghost use Rattle.eco_ids.specs.Run.{Set};
 ghost use Rattle.eco_ids.specs.Step.{Sets, may_set, unfit, unfit_set};
@@ -32,10 +34,13 @@ pub struct TypedId<C> {
 }
 
 impl<C: Component> TypedId<C> {
-    /// Makes a component whose values are those of the type, with this name or none.
+    /// Makes a component whose values are those of the type, with this name or none. A type of more than four fields is a
+    /// component in worlds of the second edition alone.
     ///
     /// Refused as [`World::component`] is.
     pub fn create(world: &mut World, name: Option<&str>) -> Result<TypedId<C>, Refusal>
+        requires { IsTrue (nat_le C.ARITY (largest_arity First)
+            || nat_le C.ARITY (largest_arity world.old.edition)) }
         ensures { (made : Result EntityData Refusals)
             × Meets (MakesComponent world.old (option_copied name.entry) C.ARITY)
             (may_make_component world.old (option_copied name.entry)) world.old made world.new

@@ -1,8 +1,9 @@
-//! A ship's position is set and read by its type.
+//! A ship's position and its bounds are set and read by their types.
 ghost use Rattle.std.specs.Prelude.{◌≡◌};
 
+use crate::bounds::Bounds;
 use crate::position::Position;
-use eco_ids::Refusal;
+use eco_ids::{Edition, Refusal};
 use eco_typed::TypedId;
 use eco_world::World;
 use std::alloc::Global;
@@ -20,6 +21,29 @@ fn placed(alloc: Global) -> Result<[i64; 4], Refusal> {
     };
     let fields = value.0;
     Ok([at.east, at.north, fields[0], fields[1]])
+}
+
+const BOUNDS: Bounds = Bounds {
+    west: 1,
+    east: -2,
+    south: 3,
+    north: -4,
+    low: 5,
+    high: -6,
+};
+
+// The bounds of a ship that they were set for, in a world whose components have so many fields.
+fn bounded(alloc: Global) -> Result<Option<Bounds>, Refusal> {
+    let mut world = World::of_edition(alloc, Edition::Second, 64)?;
+    let bounds = TypedId::<Bounds>::create(&mut world, Some("Bounds"))?;
+    let ship = world.create(None)?;
+    bounds.set(&mut world, ship, &BOUNDS)?;
+    Ok(bounds.get(&world, ship))
+}
+
+#[test]
+fn a_ship_has_six_bounds(rt: HostRuntime) {
+    assert!(rt; bounded(rt.alloc()) == Ok(Some(BOUNDS)));
 }
 
 #[test]

@@ -53,9 +53,9 @@ fn launch(world: &mut World, terms: Terms) -> Result<Fleet, Refusal> {
     let teal = world.create(Some("Teal"))?;
     world.add(heron, Id::One(terms.ship))?;
     world.add(teal, Id::One(terms.ship))?;
-    world.set(heron, Id::One(terms.position), Value([3, -4, 0, 0]))?;
-    world.set(teal, Id::One(terms.position), Value([5, 6, 0, 0]))?;
-    world.set(heron, Id::One(terms.velocity), Value([1, 2, 0, 0]))?;
+    world.set(heron, Id::One(terms.position), Value::of([3, -4]))?;
+    world.set(teal, Id::One(terms.position), Value::of([5, 6]))?;
+    world.set(heron, Id::One(terms.velocity), Value::of([1, 2]))?;
     world.add(teal, Id::Two(terms.moored_at, terms.quay))?;
     world.add(teal, Id::Two(terms.moored_at, terms.buoy))?;
     Ok(Fleet { heron, teal })

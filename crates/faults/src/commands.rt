@@ -33,12 +33,12 @@ fn early(alloc: Global, number: usize) -> Result<Command, AllocError> {
     Ok(match number {
         0 => Command::Create(first(14)),
         1 => Command::Add(first(14), tag),
-        2 => Command::Set(first(14), own, Value([1, 2, 0, 0])),
+        2 => Command::Set(first(14), own, Value::of([1, 2])),
         3 => return rename(alloc, first(14), "x"),
         4 => Command::Create(first(15)),
         5 => Command::Add(first(15), Id::Two(CHILD_OF, first(14))),
         6 => Command::Add(first(12), tag),
-        7 => Command::Set(first(12), own, Value([3, 4, 0, 0])),
+        7 => Command::Set(first(12), own, Value::of([3, 4])),
         8 => Command::Remove(first(13), tag),
         _ => Command::Add(first(13), Id::Two(likes, first(12))),
     })

@@ -1,6 +1,6 @@
 //! Worlds as texts: all that a world tells.
 use crate::answer::push_rows;
-use eco_ids::{Entity, Refusal, Value};
+use eco_ids::{Entity, FIELD_COUNT, Refusal, Value};
 use eco_world::{QueryId, TableRows, World};
 use std::alloc::{AllocError, Global};
 
@@ -14,7 +14,7 @@ fn push_entity(text: &mut String, world: &World, entity: Entity) -> Result<(), A
     write!(text, "{entity} {name} {arity}")?;
     for id in world.ids_of(entity) {
         let value = world.get(entity, *id).unwrap_or(Value::ZERO);
-        let fields = value.fields(4);
+        let fields = value.fields(FIELD_COUNT);
         write!(text, " {id}={fields}")?;
     }
     text.push_str("\n")

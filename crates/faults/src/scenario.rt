@@ -12,6 +12,8 @@ pub enum Scenario {
     Turn,
     /// A set of a pair that isn't there.
     Set,
+    /// The same of a symmetric relationship, so that its target gets the mirror.
+    SetMirrored,
     /// A create with a name.
     Create,
     /// A rename.
@@ -41,11 +43,12 @@ pub enum Scenario {
 }
 
 /// All of them, in the order of their lines.
-pub const SCENARIOS: [Scenario; 17] = [
+pub const SCENARIOS: [Scenario; 18] = [
     Scenario::Add,
     Scenario::Step,
     Scenario::Turn,
     Scenario::Set,
+    Scenario::SetMirrored,
     Scenario::Create,
     Scenario::Rename,
     Scenario::AddQuery,
@@ -69,6 +72,7 @@ impl Scenario {
             Scenario::Step => "step",
             Scenario::Turn => "turn",
             Scenario::Set => "set",
+            Scenario::SetMirrored => "set_mirrored",
             Scenario::Create => "create",
             Scenario::Rename => "rename",
             Scenario::AddQuery => "add_query",

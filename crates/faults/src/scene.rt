@@ -7,7 +7,7 @@ use crate::worlds::{self, Subject};
 use eco_bodies::{Action, Script, Systems};
 use eco_frame::{FrameReport, FrameStop, Pipeline, run_frame};
 use eco_ids::entity::{ON_DELETE, REMOVE};
-use eco_ids::{Id, Refusal, Value};
+use eco_ids::{Edition, Id, Refusal, Value};
 use eco_systems::Phase;
 use eco_world::{Command, Query, Report, Stage, World};
 use std::alloc::{AllocError, Global};
@@ -56,6 +56,14 @@ impl Drop for Scene {
     }
 }
 
+// A world without more than what lives from the start. Relationships are symmetric in the second edition alone.
+fn first_world(alloc: Global, scenario: Scenario) -> Result<World, Refusal> {
+    match scenario {
+        Scenario::SetMirrored => World::of_edition(alloc, Edition::Second, LIMIT),
+        _ => World::new(alloc, LIMIT),
+    }
+}
+
 // The world of a scenario.
 fn make(world: &mut World, scenario: Scenario) -> Result<Subject, Refusal> {
     match scenario {
@@ -63,6 +71,7 @@ fn make(world: &mut World, scenario: Scenario) -> Result<Subject, Refusal> {
         Scenario::Step => worlds::with_company(world),
         Scenario::Turn | Scenario::Create | Scenario::Rename => worlds::with_tag(world),
         Scenario::Set => worlds::with_pair(world),
+        Scenario::SetMirrored => worlds::with_symmetric_pair(world),
         Scenario::AddQuery => worlds::with_tables(world),
         Scenario::Delete => worlds::with_chain(world),
         Scenario::DeleteWith => worlds::with_holders(world),
@@ -101,7 +110,7 @@ const WATCH: (&str, &str, Action) = (
     "[in] Position, [inout] Mass",
     Action::Put {
         slot: 1,
-        value: Value([5, 0, 0, 0]),
+        value: Value([5, 0, 0, 0, 0, 0, 0, 0]),
     },
 );
 
@@ -128,7 +137,7 @@ fn answer_of(outcome: Result<FrameReport, FrameStop>) -> Answer {
 impl Scene {
     /// The world of a scenario, and nothing besides.
     pub fn new(alloc: Global, scenario: Scenario) -> Result<Scene, Refusal> {
-        let mut world = World::new(alloc, LIMIT)?;
+        let mut world = first_world(alloc, scenario)?;
         let subject = make(&mut world, scenario)?;
         Ok(Scene::of(alloc, scenario, world, subject))
     }
@@ -192,7 +201,7 @@ impl Scene {
         let Subject { entity, id } = self.subject;
         match self.scenario {
             Scenario::Add | Scenario::Step | Scenario::Turn => self.world.add(entity, id)?,
-            Scenario::Set => self.world.set(entity, id, Value([5, 0, 0, 0]))?,
+            Scenario::Set | Scenario::SetMirrored => { self.world.set(entity, id, Value::of([5]))? }
             Scenario::Rename => self.world.rename(entity, Some(ANOTHER))?,
             Scenario::Delete => self.world.delete(entity)?,
             Scenario::DeleteWith => self.world.delete_with(id)?,
@@ -232,7 +241,8 @@ impl Scene {
     /// Makes a table that no kept query asks for, where no entity or handle is made and nobody's death is another. What a
     /// refused call left behind of a table that it was to make is met by this one.
     pub fn disturb(&mut self) {
-        let _done_or_refused = self.world.add(first(9), Id::Two(ON_DELETE, REMOVE));
+        let made_first = first(self.world.edition().builtin_count());
+        let _done_or_refused = self.world.add(made_first, Id::Two(ON_DELETE, REMOVE));
     }
 
     // The merge is to do only what found memory.

@@ -1,5 +1,5 @@
 //! The worlds on which the calls are made.
-use eco_ids::entity::{CHILD_OF, WITH};
+use eco_ids::entity::{CHILD_OF, SYMMETRIC, WITH};
 use eco_ids::{Entity, Id, Refusal, Value};
 use eco_world::World;
 
@@ -31,8 +31,8 @@ pub fn with_implied(world: &mut World) -> Result<Subject, Refusal> {
     let entity = world.create(Some("e"))?;
     let other = world.create(None)?;
     world.add(tag, Id::Two(WITH, implied))?;
-    world.set(entity, Id::One(own), Value([7, 0, 0, 0]))?;
-    world.set(other, Id::One(own), Value([8, 0, 0, 0]))?;
+    world.set(entity, Id::One(own), Value::of([7]))?;
+    world.set(other, Id::One(own), Value::of([8]))?;
     keep(world, "T, V")?;
     keep(world, "U, !With")?;
     Ok(Subject {
@@ -46,7 +46,7 @@ pub fn with_tag(world: &mut World) -> Result<Subject, Refusal> {
     let tag = world.create(Some("T"))?;
     let own = world.component(Some("V"), 1)?;
     let entity = world.create(None)?;
-    world.set(entity, Id::One(own), Value([7, 0, 0, 0]))?;
+    world.set(entity, Id::One(own), Value::of([7]))?;
     keep(world, "T, V")?;
     keep(world, "V, !T")?;
     Ok(Subject {
@@ -59,7 +59,7 @@ pub fn with_tag(world: &mut World) -> Result<Subject, Refusal> {
 pub fn with_company(world: &mut World) -> Result<Subject, Refusal> {
     let subject = with_tag(world)?;
     let other = world.create(None)?;
-    world.set(other, Id::One(SECOND), Value([8, 0, 0, 0]))?;
+    world.set(other, Id::One(SECOND), Value::of([8]))?;
     Ok(subject)
 }
 
@@ -72,6 +72,24 @@ pub fn with_pair(world: &mut World) -> Result<Subject, Refusal> {
     Ok(Subject {
         entity,
         id: Id::Two(likes, gold),
+    })
+}
+
+/// `Near` is symmetric, and its pairs are data. `e`, which has a value besides, lacks the pair with `f`, and both stand alone in
+/// their tables.
+pub fn with_symmetric_pair(world: &mut World) -> Result<Subject, Refusal> {
+    let own = world.component(Some("V"), 1)?;
+    let near = world.component(Some("Near"), 1)?;
+    let entity = world.create(Some("e"))?;
+    let target = world.create(Some("f"))?;
+    world.add(near, Id::One(SYMMETRIC))?;
+    world.set(entity, Id::One(own), Value::of([7]))?;
+    world.add(target, Id::One(entity))?;
+    keep(world, "(Near, *)")?;
+    keep(world, "V, !(Near, _)")?;
+    Ok(Subject {
+        entity,
+        id: Id::Two(near, target),
     })
 }
 
@@ -115,7 +133,7 @@ pub fn with_holders(world: &mut World) -> Result<Subject, Refusal> {
         let holder = world.create(None)?;
         let survivor = world.create(None)?;
         world.add(holder, Id::One(tag))?;
-        world.set(survivor, Id::One(own), Value([number, 0, 0, 0]))?;
+        world.set(survivor, Id::One(own), Value::of([number]))?;
         world.add(survivor, Id::Two(likes, holder))?;
     }
     keep(world, "(Likes, *)")?;
@@ -155,7 +173,7 @@ pub fn with_two(world: &mut World) -> Result<Subject, Refusal> {
     let entity = world.create(Some("e"))?;
     let other = world.create(Some("f"))?;
     world.add(other, Id::One(tag))?;
-    world.set(other, Id::One(own), Value([7, 0, 0, 0]))?;
+    world.set(other, Id::One(own), Value::of([7]))?;
     keep(world, "T || U")?;
     keep(world, "(*, _)")?;
     Ok(Subject {
@@ -170,8 +188,8 @@ pub fn with_mover(world: &mut World) -> Result<Subject, Refusal> {
     let velocity = world.component(Some("Velocity"), 2)?;
     let mass = world.component(Some("Mass"), 1)?;
     let entity = world.create(Some("e"))?;
-    world.set(entity, Id::One(position), Value([1, 1, 0, 0]))?;
-    world.set(entity, Id::One(velocity), Value([2, 3, 0, 0]))?;
+    world.set(entity, Id::One(position), Value::of([1, 1]))?;
+    world.set(entity, Id::One(velocity), Value::of([2, 3]))?;
     world.set(entity, Id::One(mass), Value::ZERO)?;
     keep(world, "Position, Mass")?;
     Ok(Subject {

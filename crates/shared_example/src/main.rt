@@ -31,7 +31,7 @@ impl Ship {
     fn launch(world: &mut World) -> Result<Ship, Refusal> {
         let position = world.component(Some("Position"), 2)?;
         let heron = world.create(Some("Heron"))?;
-        world.set(heron, Id::One(position), Value([0, 0, 0, 0]))?;
+        world.set(heron, Id::One(position), Value::ZERO)?;
         Ok(Ship { heron, position })
     }
 
@@ -46,7 +46,7 @@ impl Ship {
     // A frame: the ship is so far east.
     fn frame(self, alloc: Global, east: i64) -> Result<Stage, Refusal> {
         let mut stage = Stage::new(alloc);
-        let sail = Command::Set(self.heron, Id::One(self.position), Value([east, 0, 0, 0]));
+        let sail = Command::Set(self.heron, Id::One(self.position), Value::of([east]));
         stage.record(sail).map_err(|_| Refusal::OutOfMemory)?;
         Ok(stage)
     }

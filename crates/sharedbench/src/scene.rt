@@ -25,7 +25,7 @@ pub fn opening(alloc: Global, count: u32) -> Result<World, Refusal> {
     for k in 0..count {
         let entity = world.create(None)?;
         let side = if k % 2 == 0 { left } else { right };
-        world.set(entity, Id::One(place), Value([i64::from(k), 1, 0, 0]))?;
+        world.set(entity, Id::One(place), Value::of([i64::from(k), 1]))?;
         world.add(entity, Id::Two(group, side))?;
     }
     Ok(world)
@@ -39,7 +39,7 @@ pub fn stage_of(alloc: Global, count: u32, turn: u32) -> Result<Stage, Refusal> 
             index: FIRST + (turn % 1024 * 977 + k * 131) % count.clamp(1, 1_000_000),
             generation: 0,
         };
-        let value = Value([i64::from(turn), i64::from(k), 0, 0]);
+        let value = Value::of([i64::from(turn), i64::from(k)]);
         let command = Command::Set(entity, Id::One(PLACE), value);
         stage.record(command).map_err(|_| Refusal::OutOfMemory)?;
     }

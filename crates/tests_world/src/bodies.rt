@@ -36,10 +36,11 @@ fn script(alloc: Global) -> Result<Script, Refusal> {
 
 // Records it for a row of `#13.0`.
 fn record(script: &Script, stage: &mut Stage) -> Result<(), Refusal> {
+    let values = [Some(Value::of([3, -4])), Some(Value::of([4, 4]))];
     let row = LentRow {
         entity: at(13),
         entries: &[Some(Id::One(at(9))), Some(Id::One(at(10)))],
-        values: &[Some(Value([3, -4, 0, 0])), Some(Value([4, 4, 0, 0]))],
+        values: &values,
     };
     script.record(&row, &mut Dry(false), stage)
 }
@@ -47,7 +48,7 @@ fn record(script: &Script, stage: &mut Stage) -> Result<(), Refusal> {
 // Whether the stage has the set of that row alone.
 fn has_set(stage: &Stage) -> bool {
     match stage.commands() {
-        [Command::Set(entity, _, value)] => { entity.is(at(13)) && *value == Value([7, 0, 0, 0]) }
+        [Command::Set(entity, _, value)] => { entity.is(at(13)) && *value == Value::of([7]) }
         _ => false,
     }
 }

@@ -30,7 +30,7 @@ fn lends(world: &World, table: &TableRows<'_>, id: Id) -> bool {
         Some(Values::Two(rows)) => {
             rows.len() == table.entities.len()
                 && table.entities.iter().zip(rows).all(|(entity, row)| {
-                    world.get(*entity, id) == Some(Value([row[0], row[1], 0, 0]))
+                    world.get(*entity, id) == Some(Value::of(*row))
                 })
         }
         Some(_) => false,

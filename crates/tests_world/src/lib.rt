@@ -32,7 +32,11 @@ mod long_frames;
 #[cfg(test)]
 mod long_run;
 #[cfg(test)]
+mod mirrors;
+#[cfg(test)]
 mod one_by_one;
+#[cfg(test)]
+mod plain;
 #[cfg(test)]
 mod plans;
 #[cfg(test)]
@@ -45,5 +49,7 @@ mod steps;
 mod store;
 #[cfg(test)]
 mod sweeps;
+#[cfg(test)]
+mod symmetric;
 #[cfg(test)]
 mod twins;

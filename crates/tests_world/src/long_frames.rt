@@ -22,7 +22,7 @@ fn make_one(world: &mut World, draws: &mut Draws) -> Result<(), Refusal> {
         let _may_be_refused = world.add(entity, draw_id(draws));
     }
     let field = i64::from(draws.below(1_000));
-    world.set(entity, Id::One(at(9)), Value([field, 2, 0, 0]))
+    world.set(entity, Id::One(at(9)), Value::of([field, 2]))
 }
 
 /// Some three hundred entities live besides those with names: more die, and as many as lack are made.

@@ -1,7 +1,7 @@
 //! Systems run one by one, plainly: each asks the world as the one before it left it, records row by row, and is merged.
 use crate::plans::{Deeds, Plan};
 use eco_bodies::Action;
-use eco_ids::{Entity, Id, Refusal, Value};
+use eco_ids::{Entity, FIELD_COUNT, Id, Refusal, Value};
 use eco_systems::PHASES;
 use eco_world::{Command, Report, Row, Stage, World};
 use std::alloc::{AllocError, Global};
@@ -30,7 +30,7 @@ fn entry_at(row: &Row, slot: usize) -> Option<Id> {
 // Field by field, within the bounds of a field.
 fn sum_of(one: Value, other: Value) -> Value {
     let mut sum = one;
-    for place in 0..4 {
+    for place in 0..FIELD_COUNT {
         sum.0[place] = one.0[place].saturating_add(other.0[place]);
     }
     sum

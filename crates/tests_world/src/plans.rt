@@ -79,7 +79,7 @@ fn draw_action(draws: &mut Draws) -> Action {
         4..=5 => Action::RemoveId(draw_id(draws)),
         6..=7 => Action::Put {
             slot,
-            value: Value([i64::from(draws.below(9)), 0, 0, 0]),
+            value: Value::of([i64::from(draws.below(9))]),
         },
         8..=10 => Action::Sum {
             into: slot,

@@ -53,7 +53,7 @@ fn draw_command(draws: &mut Draws, living: &[Entity]) -> Command {
     let id = draw_id(draws, living);
     match draws.below(20) {
         0..=8 => Command::Add(entity, id),
-        9..=10 => Command::Set(entity, id, Value([i64::from(entity.index), 7, 0, 0])),
+        9..=10 => Command::Set(entity, id, Value::of([i64::from(entity.index), 7])),
         11..=14 => Command::Remove(entity, id),
         15 => Command::Clear(entity),
         16 => Command::RemoveAll(id),

@@ -96,7 +96,7 @@ fn prepare(world: &mut World) -> Result<Entity, Refusal> {
     let twin = world.component(Some("Twin"), 1)?;
     for k in 0..ROWS {
         let entity = world.create(None)?;
-        world.set(entity, number, Value([i64::from(k), 0, 0, 0]))?;
+        world.set(entity, number, Value::of([i64::from(k)]))?;
     }
     Ok(twin)
 }

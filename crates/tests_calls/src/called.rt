@@ -72,6 +72,8 @@ fn lead(alloc: Global) -> Result<Target, Refusal> {
     let resp = world.create(Some("Resp"))?;
     let entity = world.create(Some("e"))?;
     world.add(power, Id::Two(WITH, resp))?;
+    // Of a world of any edition it is asked that it is in order.
+    world.is_lawful();
     if world.is_alive(entity) {
         return target_type(alloc, &world, entity, Id::One(power));
     }

@@ -15,7 +15,7 @@ const LAST: Entity = Entity {
     generation: 65_535,
 };
 
-const WIDE: Value = Value([3, -4, i64::MAX, i64::MIN]);
+const WIDE: Value = Value([3, -4, i64::MAX, i64::MIN, 0, 6, -7, 8]);
 
 // The items as they print, each on a line of its own.
 fn lines<T: Display>(alloc: Global, items: &[T]) -> Result<String, AllocError> {
@@ -60,8 +60,14 @@ fn values(rt: HostRuntime) {
     prints(
         &rt,
         rt.alloc(),
-        &[WIDE.fields(1), WIDE.fields(2), WIDE.fields(9)],
-        "3\n3 -4\n3 -4 9223372036854775807 -9223372036854775808\n",
+        &[
+            WIDE.fields(1),
+            WIDE.fields(2),
+            WIDE.fields(4),
+            WIDE.fields(9),
+        ],
+        "3\n3 -4\n3 -4 9223372036854775807 -9223372036854775808\n\
+         3 -4 9223372036854775807 -9223372036854775808 0 6 -7 8\n",
     );
 }
 
@@ -97,10 +103,11 @@ fn refusals(rt: HostRuntime) {
             Refusal::Undeclared,
             Refusal::BadTerm,
             Refusal::SystemNameTaken,
+            Refusal::TraitClash,
         ],
         "1 NotAlive\n2 DeadId\n3 Reserved\n4 NotAPolicy\n5 InUse\n6 Cycle #9.0\n7 Panic #4294967295.65535 #9.0\n\
          8 NotData\n9 TooWide\n10 NameTaken\n11 BadName\n12 NoMoreIds\n13 Taken\n14 OutOfMemory\n20 Syntax 9\n\
          21 UnknownName 10\n22 WildcardHere\n23 TooManyTerms\n24 NoPositive\n25 NoSuchQuery\n30 Undeclared\n31 BadTerm\n\
-         32 SystemNameTaken\n",
+         32 SystemNameTaken\n33 TraitClash\n",
     );
 }

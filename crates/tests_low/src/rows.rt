@@ -20,7 +20,7 @@ const POSITION: Id = Id::One(Entity {
     generation: 0,
 });
 
-const WRITTEN: Value = Value([1, 2, 0, 0]);
+const WRITTEN: Value = Value([1, 2, 0, 0, 0, 0, 0, 0]);
 
 // The type of who has a position.
 fn positioned(alloc: Global) -> Result<TypeList, AllocError>

@@ -1,6 +1,7 @@
 -- The number that a row of the heavy case is set to.
 use Rattle.std.specs.Prelude.{ℕ, ◌+◌, ◌*◌, ◌%◌, ◌/◌, ◌^◌, zero, suc, pos, [], ◌∷◌}
 use Rattle.eco_ids.specs.declared.value.Value.{Value}
+use Rattle.eco_ids.specs.World.{padded}
 
 -- after so many steps
 abbrev pub mixed : ℕ → ℕ → ℕ
@@ -9,4 +10,4 @@ mixed (suc k) n = ((mixed k n * mixed k n) % 2 ^ 64 + 1442695040888963407) % 2 ^
 
 -- the half of it, which a field can hold
 abbrev pub value_of : ℕ → ℕ → Value
-value_of k n = record { 0 = pos (mixed k n / 2) ∷ pos 0 ∷ pos 0 ∷ pos 0 ∷ [] }
+value_of k n = padded (pos (mixed k n / 2) ∷ [])

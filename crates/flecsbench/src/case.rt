@@ -56,6 +56,14 @@ pub const CASES: &[Case] = &[
     Case("rel_add/100", PAIRS, 100, Start::LackPair, Calls::Add),
     Case("rel_add/10000", PAIRS, 10_000, Start::LackPair, Calls::Add),
     Case("rel_add/own", PAIRS, 1, Start::LackOwnPair, Calls::Add),
+    Case("sym_add", PAIRS, 100, Start::LackSymmetricPair, Calls::Add),
+    Case(
+        "sym_remove",
+        PAIRS,
+        100,
+        Start::HaveSymmetricPair,
+        Calls::Remove,
+    ),
     Case("child_move/2", PAIRS, 2, Start::NextParent, Calls::Add),
     Case("child_move/100", PAIRS, 100, Start::NextParent, Calls::Add),
     Case(
@@ -229,7 +237,7 @@ impl Case {
 
     // How long the measured part of one run took.
     fn time<C: Clock>(&self, clock: &C, alloc: Global, size: u32) -> Result<Duration, Fault> {
-        let mut scene = Scene::new(alloc)?;
+        let mut scene = Scene::of(alloc, self.3.world(alloc)?);
         self.measure(clock, &mut scene, size)
     }
 

@@ -51,7 +51,7 @@ fn mixed(rounds: u32, seed: u32) -> u64
 fn value_of(rounds: u32, index: u32) -> Value
     ensures { result ≡ spec.value_of rounds index }
 {
-    Value([(mixed(rounds, index) / 2) as i64, 0, 0, 0])
+    Value::of([(mixed(rounds, index) / 2) as i64])
 }
 
 impl SystemBody for Heavy {

@@ -8,9 +8,6 @@ use eco_world::{Command, Query, QueryId, Results, Stage, Values, World};
 use std::alloc::Global;
 use std::collections::HashMap;
 
-// All indices of a world lie below it.
-const LIMIT: u32 = 1_048_576;
-
 /// A world, and the entities and ids that a case is about, in the order of its calls, or the query that it asks.
 pub struct Scene {
     world: World,
@@ -121,7 +118,7 @@ fn sum_first(rows: &[[i64; 2]]) -> i64 {
 
 // A fresh entity lives, gets the tag and a value of the component, and dies.
 fn record_life(stage: &mut Stage, entity: Entity, tag: Id, component: Id) -> Result<(), Refusal> {
-    let value = Value([1, 2, 0, 0]);
+    let value = Value::of([1, 2]);
     record_command(stage, Command::Create(entity))?;
     record_command(stage, Command::Add(entity, tag))?;
     record_command(stage, Command::Set(entity, component, value))?;
@@ -147,10 +144,9 @@ fn record_all(stage: &mut Stage, work: &Work, value: Option<Value>) -> Result<()
 }
 
 impl Scene {
-    /// Nothing but what lives from the start.
-    pub fn new(alloc: Global) -> Result<Scene, Refusal> {
-        let world = World::new(alloc, LIMIT)?;
-        Ok(Scene {
+    /// A world, and nothing besides.
+    pub fn of(alloc: Global, world: World) -> Scene {
+        Scene {
             world,
             alloc,
             groups: Vec::new(alloc),
@@ -164,7 +160,7 @@ impl Scene {
             stages: [Stage::new(alloc)],
             admitted: 0,
             copy: None,
-        })
+        }
     }
 
     /// Makes the calls, and answers whether they found what was put in.
@@ -187,7 +183,7 @@ impl Scene {
             Calls::Add => self.add()?,
             Calls::Remove => self.remove()?,
             Calls::Toggle => self.toggle(size / 2)?,
-            Calls::Set => self.set(Value([5, 6, 0, 0]))?,
+            Calls::Set => self.set(Value::of([5, 6]))?,
             Calls::RemoveAll => self.remove_from_all()?,
             Calls::Delete => self.delete()?,
             Calls::DeleteWith => self.delete_with()?,

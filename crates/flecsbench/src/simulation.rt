@@ -145,10 +145,7 @@ impl Simulation<Script> {
         let velocity = self.world.component(Some("V"), 2)?;
         self.make_entities(
             size,
-            &[
-                (position, Value([1, 2, 0, 0])),
-                (velocity, Value([3, 4, 0, 0])),
-            ],
+            &[(position, Value::of([1, 2])), (velocity, Value::of([3, 4]))],
         )?;
         self.add_system(
             alloc,
@@ -162,7 +159,7 @@ impl Simulation<Script> {
     pub fn make_many(&mut self, alloc: Global, size: u32) -> Result<(), Refusal> {
         for number in 0..size / 100 {
             let component = self.world.component(None, 1)?;
-            self.make_entities(1, &[(component, Value([1, 0, 0, 0]))])?;
+            self.make_entities(1, &[(component, Value::of([1]))])?;
             let text = format!(in alloc; "{component}")?;
             self.add_system(alloc, number, &text, Action::Sum { into: 0, from: 0 })?;
         }
@@ -199,7 +196,7 @@ impl Simulation<Heavy> {
     /// So many entities have a value of one field, and a system sets each to a number that takes long to find.
     pub fn make_heavy(&mut self, size: u32) -> Result<(), Refusal> {
         let component = self.world.component(Some("P"), 1)?;
-        self.make_entities(size, &[(component, Value([1, 0, 0, 0]))])?;
+        self.make_entities(size, &[(component, Value::of([1]))])?;
         let query = self.world.read_query("P")?;
         let body = Heavy::new(component);
         match self.systems.add("mix", Phase::OnUpdate, query, body) {

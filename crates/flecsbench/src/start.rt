@@ -1,8 +1,13 @@
 //! What the measured part of a case begins with: steps that make it in a new world.
 use crate::group::Group;
 use crate::scene::Scene;
-use eco_ids::entity::{CHILD_OF, EXCLUSIVE, WITH};
-use eco_ids::{Entity, Refusal, Value};
+use eco_ids::entity::{CHILD_OF, EXCLUSIVE, SYMMETRIC, WITH};
+use eco_ids::{Edition, Entity, Refusal, Value};
+use eco_world::World;
+use std::alloc::Global;
+
+// All indices of a world lie below it.
+const LIMIT: u32 = 1_048_576;
 
 /// How many there are, where the size of the case is N.
 pub enum Count {
@@ -67,14 +72,14 @@ pub enum Step {
     Reverse,
     /// Each planned id is added to its entity.
     Add,
-    /// Each planned id of its entity is set.
-    Set(Value),
+    /// Each planned id of its entity is set to these fields.
+    Set([i64; 2]),
     /// Each planned entity is deleted.
     Delete,
     /// The stage adds each planned id to its entity.
     RecordAdds,
-    /// The stage sets each planned id of its entity.
-    RecordSets(Value),
+    /// The stage sets each planned id of its entity to these fields.
+    RecordSets([i64; 2]),
     /// The stage makes so many entities, and gives each the tag and a value of the component before it deletes it.
     RecordSpawns(Count, Pick, Pick),
     /// The calls are to be about this query.
@@ -101,10 +106,10 @@ impl Step {
             }
             Step::Reverse => scene.reverse(),
             Step::Add => scene.add(),
-            Step::Set(value) => scene.set(*value),
+            Step::Set(fields) => scene.set(Value::of(*fields)),
             Step::Delete => scene.delete(),
             Step::RecordAdds => scene.record(None),
-            Step::RecordSets(value) => scene.record(Some(*value)),
+            Step::RecordSets(fields) => scene.record(Some(Value::of(*fields))),
             Step::RecordSpawns(count, tag, component) => {
                 scene.record_spawns(count.of(size, parts), tag, component)
             }
@@ -170,6 +175,10 @@ pub enum Start {
     NobodyHas,
     /// N entities each lack a pair of one plain relationship; so many targets as the case has parts take turns.
     LackPair,
+    /// N entities each lack a pair of one symmetric relationship; so many targets as the case has parts take turns.
+    LackSymmetricPair,
+    /// The same, and the entities have the pairs.
+    HaveSymmetricPair,
     /// N entities each lack a pair of one plain relationship with a target of its own.
     LackOwnPair,
     /// N entities each have a pair of one plain relationship with a target of its own.
@@ -270,9 +279,9 @@ const HAVE_VALUES: &[Step] = &[
     Step::Make(Count::One),
     Step::Make(Count::Each),
     Step::PlanOnes(Count::Each, Pick::Made(3), Pick::Made(0)),
-    Step::Set(Value([1, 2, 0, 0])),
+    Step::Set([1, 2]),
     Step::PlanOnes(Count::Each, Pick::Made(3), Pick::Made(1)),
-    Step::Set(Value([3, 4, 0, 0])),
+    Step::Set([3, 4]),
     Step::PlanOnes(Count::Each, Pick::Made(3), Pick::Made(2)),
 ];
 
@@ -291,6 +300,15 @@ const NOBODY_HAS: &[Step] = &[
 
 const LACK_PAIR: &[Step] = &[
     Step::Make(Count::One),
+    Step::Make(Count::Parts),
+    Step::Make(Count::Each),
+    Step::PlanTwos(Count::Each, Pick::Made(2), Pick::Made(0), Pick::Made(1)),
+];
+
+const SYMMETRIC_PAIR: &[Step] = &[
+    Step::Make(Count::One),
+    Step::PlanOnes(Count::One, Pick::Made(0), Pick::BuiltIn(SYMMETRIC)),
+    Step::Add,
     Step::Make(Count::Parts),
     Step::Make(Count::Each),
     Step::PlanTwos(Count::Each, Pick::Made(2), Pick::Made(0), Pick::Made(1)),
@@ -387,6 +405,16 @@ const TARGET: &[Step] = &[
 ];
 
 impl Start {
+    /// A world for it, with nothing but what lives from the start. Relationships are symmetric in the second edition alone.
+    pub fn world(&self, alloc: Global) -> Result<World, Refusal> {
+        match self {
+            Start::LackSymmetricPair | Start::HaveSymmetricPair => {
+                World::of_edition(alloc, Edition::Second, LIMIT)
+            }
+            _ => World::new(alloc, LIMIT),
+        }
+    }
+
     // What is made first, which some of them have in common.
     fn first(&self) -> &'static [Step] {
         match self {
@@ -408,6 +436,7 @@ impl Start {
             Start::Rows => ROWS,
             Start::NobodyHas => NOBODY_HAS,
             Start::LackPair => LACK_PAIR,
+            Start::LackSymmetricPair | Start::HaveSymmetricPair => SYMMETRIC_PAIR,
             Start::OneLacksPairs | Start::OneHasPairs | Start::Targets => ONE_LACKS_PAIRS,
             Start::LackWith => LACK_WITH,
             Start::OneLacksTags => ONE_LACKS_TAGS,
@@ -425,22 +454,15 @@ impl Start {
             Start::HaveTag => &[Step::Add],
             Start::Freed => &[Step::Delete],
             Start::RecordedAdds => &[Step::RecordAdds],
-            Start::HaveValue => &[Step::Set(Value([1, 2, 0, 0]))],
-            Start::RecordedSets => &[
-                Step::Set(Value([1, 2, 0, 0])),
-                Step::RecordSets(Value([1, 2, 0, 0])),
-            ],
+            Start::HaveValue => &[Step::Set([1, 2])],
+            Start::RecordedSets => &[Step::Set([1, 2]), Step::RecordSets([1, 2])],
             Start::AskOne => &[Step::Ask("P")],
             Start::AskTwo => &[Step::Ask("P, Q")],
             Start::AskWild => &[Step::Ask("(Group, *)")],
             Start::AskNot => &[Step::Ask("P, !(Group, ChildOf)")],
             Start::Kept => &[Step::Ask("P, (Group, *)"), Step::Keep("P, (Group, *)")],
-            Start::Columns => &[
-                Step::Ask("P"),
-                Step::Set(Value([1, 2, 0, 0])),
-                Step::ReadColumns,
-            ],
-            Start::HaveOwnPair => &[Step::Add],
+            Start::Columns => &[Step::Ask("P"), Step::Set([1, 2]), Step::ReadColumns],
+            Start::HaveOwnPair | Start::HaveSymmetricPair => &[Step::Add],
             Start::OneHasPairs => &[Step::Add, Step::Ask("(_, *)")],
             Start::Targets => &[
                 Step::Add,

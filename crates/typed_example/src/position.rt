@@ -36,7 +36,7 @@ impl Component for Position {
     ghost from = { position_of };
 
     fn to_value(&self) -> Value {
-        Value([self.east, self.north, 0, 0])
+        Value::of([self.east, self.north])
     }
 
     fn from_value(value: Value) -> Position {

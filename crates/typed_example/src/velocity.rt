@@ -23,7 +23,7 @@ impl Component for Velocity {
     ghost from = { velocity_of };
 
     fn to_value(&self) -> Value {
-        Value([self.east, self.north, 0, 0])
+        Value::of([self.east, self.north])
     }
 
     fn from_value(value: Value) -> Velocity {

@@ -7,7 +7,10 @@ mod pictures;
 mod stopped;
 mod view;
 
-ghost use Rattle.std.specs.Prelude.{◌≤◌};
+ghost use Rattle.std.specs.Prelude.{◌≤◌, All};
+ghost use Rattle.eco_ids.specs.Edition.{builtin_count};
+ghost use Rattle.eco_steps.specs.Steps.{KeepsTo};
+ghost use Rattle.eco_steps.specs.Views.{step_view};
 
 use arguments::Request;
 use eco_bodies::Systems;
@@ -72,10 +75,11 @@ fn view_script<T: Threads + Sync>(
     script: &Script<'_>,
     values: &[Value],
 ) -> Result<u8, Stopped>
-    requires at_least { 9 ≤ script.now.limit }
+    requires at_least { builtin_count script.now.edition ≤ script.now.limit }
     requires at_most { script.now.limit ≤ 1048576 }
+    requires keeps { All (λ step. KeepsTo script.now.edition (step_view step)) script.now.steps.items }
 {
-    let Ok(mut world) = World::new(rt.alloc(), script.limit) else {
+    let Ok(mut world) = World::of_edition(rt.alloc(), script.edition, script.limit) else {
         return Err(Stopped);
     };
     let mut systems = Systems::new(rt.alloc());

@@ -1,5 +1,9 @@
 //! Steps beside their lines.
 
+ghost use Rattle.std.specs.Prelude.{◌≡◌, All};
+ghost use Rattle.eco_steps.specs.Steps.{KeepsTo};
+ghost use Rattle.eco_steps.specs.Views.{step_view};
+
 use crate::named::push_named;
 use crate::stopped::Stopped;
 use eco_bodies::Systems;
@@ -65,7 +69,10 @@ fn view_step<T: Threads + Sync>(
     step: &Step<'_>,
     text: &mut String,
     has_names: bool,
-) -> Result<(), AllocError> {
+) -> Result<(), AllocError>
+    requires { KeepsTo world.old.edition (step_view step.now) }
+    ensures { world.new.edition ≡ world.old.edition }
+{
     let answer = perform(threads, alloc, world, systems, 1, step);
     let mut lines = String::new(alloc);
     push_step_lines(&mut lines, world, &answer)?;
@@ -76,7 +83,7 @@ fn view_step<T: Threads + Sync>(
     }
 }
 
-/// Runs the steps on a world, one by one, and shows each with its lines. A frame has one worker.
+/// Runs the steps on a world of their edition, one by one, and shows each with its lines. A frame has one worker.
 pub fn view_steps<T: Threads + Sync>(
     rt: &HostRuntime,
     threads: &T,
@@ -85,10 +92,14 @@ pub fn view_steps<T: Threads + Sync>(
     steps: &[Step<'_>],
     values: &[Value],
     has_names: bool,
-) -> Result<(), Stopped> {
+) -> Result<(), Stopped>
+    requires { All (λ step. KeepsTo world.old.edition (step_view step)) steps.now }
+{
     let mut text = String::new(rt.alloc());
-    for (number, (step, value)) in steps.iter().zip(values).enumerate() {
-        push_step(rt.alloc(), &mut text, number, value)?;
+    for (number, step) in steps.iter().enumerate() {
+        if let Some(value) = values.get(number) {
+            push_step(rt.alloc(), &mut text, number, value)?;
+        }
         view_step(
             threads,
             rt.alloc(),

@@ -1,6 +1,7 @@
 //! The cases that are measured.
+use crate::calls::Calls;
 use crate::fault::Fault;
-use crate::scene::{Calls, Scene};
+use crate::scene::Scene;
 use crate::start::Start;
 use std::alloc::Global;
 use std::rt::Clock;

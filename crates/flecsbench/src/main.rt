@@ -2,6 +2,7 @@
 #![tactic(auto)]
 
 mod arguments;
+mod calls;
 mod case;
 mod fault;
 mod frames;

@@ -2,7 +2,7 @@
 ghost use Rattle.std.specs.Prelude.{◌≤◌};
 
 use crate::listings::are_same;
-use crate::one_by_one::{number_of, run_one_by_one};
+use crate::one_by_one::{Done, number_of, run_one_by_one};
 use crate::plans::Plan;
 use eco_bodies::{SystemBody, Systems};
 use eco_frame::{FrameReport, run_frame, sync_points};
@@ -34,8 +34,11 @@ impl Totals {
     }
 
     // One frame more.
-    fn count(&mut self, systems: usize, report: &FrameReport, outcomes: &[u8]) {
-        let refused = outcomes.iter().filter(|number| **number != 0).count();
+    fn count(&mut self, systems: usize, report: &FrameReport, done: &[Done]) {
+        let refused = done
+            .iter()
+            .filter(|command| command.outcome.is_err())
+            .count();
         self.systems = self.systems.saturating_add(systems);
         self.batches = self.batches.saturating_add(report.batches());
         self.commands = self.commands.saturating_add(report.commands());
@@ -45,12 +48,14 @@ impl Totals {
 }
 
 // Whether a frame's commands have these outcomes.
-fn has_outcomes(report: &FrameReport, outcomes: &[u8]) -> bool {
-    let mut rest = outcomes;
+fn has_outcomes(report: &FrameReport, done: &[Done]) -> bool {
+    let mut rest = done;
     for part in report.reports() {
         for outcome in part.iter() {
             match rest {
-                [first, others @ ..] if *first == number_of(outcome) => rest = others,
+                [first, others @ ..] if number_of(first.outcome) == number_of(outcome) => {
+                    rest = others;
+                }
                 _ => return false,
             }
         }
@@ -58,12 +63,12 @@ fn has_outcomes(report: &FrameReport, outcomes: &[u8]) -> bool {
     rest.is_empty()
 }
 
-// A copy of the world after the systems of the plans one by one, and the outcomes of their commands.
-fn expect(alloc: Global, world: &World, plans: &[Plan]) -> Result<(World, Vec<u8>), Refusal> {
+/// A copy of the world after the systems of the plans one by one, and what became of their commands.
+pub fn expect(alloc: Global, world: &World, plans: &[Plan]) -> Result<(World, Vec<Done>), Refusal> {
     let mut copy = world.try_copy()?;
-    let mut outcomes = Vec::new(alloc);
-    run_one_by_one(alloc, &mut copy, plans, &mut outcomes)?;
-    Ok((copy, outcomes))
+    let mut done = Vec::new(alloc);
+    run_one_by_one(alloc, world, &mut copy, plans, &mut done)?;
+    Ok((copy, done))
 }
 
 /// Runs a frame of the systems, and tells whether it is the run of their plans one by one on a copy of the world, but for which
@@ -81,13 +86,13 @@ pub fn frame_agrees<R: Threads + Sync, B: SystemBody + Sync + Drop>(
 {
     let known = if workers == 1 { u32::MAX } else { world.high() };
     let batches = sync_points(alloc, world, systems)?.len();
-    let (copy, outcomes) = expect(alloc, world, plans)?;
+    let (copy, done) = expect(alloc, world, plans)?;
     match run_frame(rt, alloc, world, systems, workers) {
         Ok(report) => {
-            totals.count(plans.len(), &report, &outcomes);
+            totals.count(plans.len(), &report, &done);
             Ok(
                 report.batches() == batches
-                    && has_outcomes(&report, &outcomes)
+                    && has_outcomes(&report, &done)
                     && are_same(alloc, world, &copy, known),
             )
         }

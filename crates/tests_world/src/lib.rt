@@ -14,6 +14,8 @@ mod draws;
 #[cfg(test)]
 mod filter;
 #[cfg(test)]
+mod following;
+#[cfg(test)]
 mod frame_runs;
 #[cfg(test)]
 mod frames;
@@ -31,6 +33,10 @@ mod listings;
 mod long_frames;
 #[cfg(test)]
 mod long_run;
+#[cfg(test)]
+mod mirror_deeds;
+#[cfg(test)]
+mod mirror_frames;
 #[cfg(test)]
 mod mirrors;
 #[cfg(test)]

@@ -5,7 +5,7 @@ ghost use Rattle.std.specs.Prelude.{◌≤◌};
 use crate::draws::Draws;
 use crate::frame_runs::{Totals, frame_agrees};
 use crate::handles::at;
-use crate::plans::{draw_id, draw_systems, prepare};
+use crate::plans::{declare_all, draw_id, draw_plans, prepare};
 use eco_bodies::{Script, Systems};
 use eco_ids::{Id, Refusal, Value};
 use eco_world::World;
@@ -51,7 +51,7 @@ fn run_one<R: Threads + Sync>(
 {
     mend(world, draws)?;
     let mut systems: Systems<Script> = Systems::new(alloc);
-    let plans = draw_systems(alloc, world, draws, &mut systems)?;
+    let plans = declare_all(alloc, world, &draw_plans(alloc, draws)?, &mut systems)?;
     frame_agrees(rt, alloc, world, &systems, &plans, workers, totals)
 }
 

@@ -1,10 +1,18 @@
 //! Systems run one by one, plainly: each asks the world as the one before it left it, records row by row, and is merged.
+use crate::plain::Deed;
 use crate::plans::{Deeds, Plan};
 use eco_bodies::Action;
 use eco_ids::{Entity, FIELD_COUNT, Id, Refusal, Value};
 use eco_systems::PHASES;
 use eco_world::{Command, Report, Row, Stage, World};
 use std::alloc::{AllocError, Global};
+
+/// A command that was merged: what it does, if that is a deed, and whether it was done.
+#[derive(Clone, Copy)]
+pub struct Done {
+    pub deed: Option<Deed>,
+    pub outcome: Result<(), Refusal>,
+}
 
 // What a system records on a world, and how many fresh indices it draws.
 struct Recording {
@@ -93,15 +101,20 @@ impl Recording {
     }
 }
 
-// Who answers the query of a text.
-fn rows_of(world: &World, text: &str) -> Result<Vec<Row>, Refusal> {
-    let query = world.read_query(text)?;
+// Who answers the query of a text, whose names are those of the first world.
+fn rows_of(first: &World, world: &World, text: &str) -> Result<Vec<Row>, Refusal> {
+    let query = first.read_query(text)?;
     world.query(&query)
 }
 
 // What a system records on the world.
-fn record_one(alloc: Global, world: &World, plan: &Plan) -> Result<Recording, Refusal> {
-    let rows = rows_of(world, plan.text)?;
+fn record_one(
+    alloc: Global,
+    first: &World,
+    world: &World,
+    plan: &Plan,
+) -> Result<Recording, Refusal> {
+    let rows = rows_of(first, world, plan.text)?;
     let mut recording = Recording {
         stages: [Stage::new(alloc)],
         drawn: 0,
@@ -120,32 +133,40 @@ pub fn number_of(outcome: Result<(), Refusal>) -> u8 {
     }
 }
 
-// Puts the outcomes of a report behind others.
-fn add_outcomes(outcomes: &mut Vec<u8>, report: &Report) -> Result<(), AllocError> {
+// Puts what was recorded behind others, with the outcomes of its report.
+fn add_done(
+    done: &mut Vec<Done>,
+    recording: &Recording,
+    report: &Report,
+) -> Result<(), AllocError> {
+    let mut commands = recording.stages[0].commands().iter();
     for outcome in report.iter() {
-        outcomes.push(number_of(outcome))?;
+        let deed = commands.next().and_then(|command| Deed::of(command));
+        done.push(Done { deed, outcome })?;
     }
     Ok(())
 }
 
 // Merges what was recorded.
-fn merge(world: &mut World, recording: &Recording, outcomes: &mut Vec<u8>) -> Result<(), Refusal> {
+fn merge(world: &mut World, recording: &Recording, done: &mut Vec<Done>) -> Result<(), Refusal> {
     let report = world.merge(recording.drawn, &recording.stages)?;
-    add_outcomes(outcomes, &report)?;
+    add_done(done, recording, &report)?;
     Ok(())
 }
 
-/// Runs the systems, phase by phase and as they were declared, and answers the outcome of each command.
+/// Runs the systems, which were declared on the first world, phase by phase and in their order, on a copy of it. Answers what became
+/// of each command.
 pub fn run_one_by_one(
     alloc: Global,
+    first: &World,
     world: &mut World,
     plans: &[Plan],
-    outcomes: &mut Vec<u8>,
+    done: &mut Vec<Done>,
 ) -> Result<(), Refusal> {
     for phase in PHASES {
         for plan in plans.iter().filter(|plan| plan.phase == phase) {
-            let recording = record_one(alloc, world, plan)?;
-            merge(world, &recording, outcomes)?;
+            let recording = record_one(alloc, first, world, plan)?;
+            merge(world, &recording, done)?;
         }
     }
     Ok(())

@@ -1,13 +1,13 @@
 //! Who has which id, as a plain list, and what is done to it. Those who live from the start are not in it, and it refuses nothing.
 use eco_ids::entity::{ACYCLIC, EXCLUSIVE, SYMMETRIC, WITH};
 use eco_ids::{Entity, Id, Refusal, Value};
-use eco_world::World;
+use eco_world::{Command, World};
 use std::alloc::{AllocError, Global};
 
 // How many live from the start in a world of the second edition.
 const BUILT_IN: usize = 10;
 
-// No chain of With is longer: so many entities a world has.
+// No chain of With is longer.
 const LONGEST: u32 = 64;
 
 /// Somebody has an id.
@@ -21,6 +21,22 @@ impl Had {
     fn is(self, other: Had) -> bool {
         self.holder.is(other.holder) && self.id.is(other.id)
     }
+
+    // Whether it goes with the entity.
+    fn is_about(self, entity: Entity) -> bool {
+        self.holder.is(entity) || self.id.names(entity)
+    }
+
+    // What the target has if this is a pair of a symmetric relationship.
+    fn mirror(self) -> Option<Had> {
+        match self.id {
+            Id::Two(relationship, target) => Some(Had {
+                holder: target,
+                id: Id::Two(relationship, self.holder),
+            }),
+            Id::One(_) => None,
+        }
+    }
 }
 
 /// What may be done to a world, and to such a list.
@@ -32,9 +48,33 @@ pub enum Deed {
     Clear(Entity),
     RemoveAll(Id),
     Delete(Entity),
+    DeleteWith(Id),
 }
 
 impl Deed {
+    /// What a command does, if that is any of these.
+    pub fn of(command: &Command) -> Option<Deed> {
+        match command {
+            Command::Add(holder, id) => Some(Deed::Add(Had {
+                holder: *holder,
+                id: *id,
+            })),
+            Command::Set(holder, id, _) => Some(Deed::Set(Had {
+                holder: *holder,
+                id: *id,
+            })),
+            Command::Remove(holder, id) => Some(Deed::Remove(Had {
+                holder: *holder,
+                id: *id,
+            })),
+            Command::Clear(entity) => Some(Deed::Clear(*entity)),
+            Command::RemoveAll(id) => Some(Deed::RemoveAll(*id)),
+            Command::Delete(entity) => Some(Deed::Delete(*entity)),
+            Command::DeleteWith(id) => Some(Deed::DeleteWith(*id)),
+            Command::Create(_) | Command::Rename(_, _) => None,
+        }
+    }
+
     /// Does it to a world.
     pub fn apply(self, world: &mut World) -> Result<(), Refusal> {
         match self {
@@ -44,17 +84,21 @@ impl Deed {
             Deed::Clear(entity) => world.clear(entity),
             Deed::RemoveAll(id) => world.remove_all(id),
             Deed::Delete(entity) => world.delete(entity),
+            Deed::DeleteWith(id) => world.delete_with(id),
         }
     }
 
-    // Whether it takes this, mirrors left aside. Nobody has a policy by whose delete others would die.
-    fn takes(self, own: Had) -> bool {
+    // Whether it takes this from the list, mirrors left aside. Nobody has a policy by whose delete others would die.
+    fn takes(self, list: &[Had], own: Had) -> bool {
         match self {
             Deed::Add(_) | Deed::Set(_) => false,
             Deed::Remove(old) => own.is(old),
             Deed::Clear(entity) => own.holder.is(entity),
             Deed::RemoveAll(id) => own.id.is(id),
-            Deed::Delete(entity) => own.holder.is(entity) || own.id.names(entity),
+            Deed::Delete(entity) => own.is_about(entity),
+            Deed::DeleteWith(id) => list
+                .iter()
+                .any(|other| { other.id.is(id) && own.is_about(other.holder) }),
         }
     }
 }
@@ -64,14 +108,11 @@ fn has(list: &[Had], holder: Entity, id: Id) -> bool {
     list.iter().any(|own| own.is(Had { holder, id }))
 }
 
-// What the target of a symmetric pair has.
-fn mirror_of(list: &[Had], own: Had) -> Option<Had> {
-    match own.id {
-        Id::Two(relationship, target) if has(list, relationship, Id::One(SYMMETRIC)) => Some(Had {
-            holder: target,
-            id: Id::Two(relationship, own.holder),
-        }),
-        _ => None,
+// Whether it is a pair of a symmetric relationship.
+fn is_symmetric(list: &[Had], id: Id) -> bool {
+    match id {
+        Id::Two(relationship, _) => has(list, relationship, Id::One(SYMMETRIC)),
+        Id::One(_) => false,
     }
 }
 
@@ -121,7 +162,11 @@ fn spread(list: &[Had], ids: &mut Vec<Id>) -> Result<(), AllocError> {
 fn closure(alloc: Global, list: &[Had], id: Id) -> Result<Vec<Id>, AllocError> {
     let mut ids = Vec::from_slice(alloc, &[id])?;
     for _ in 0..LONGEST {
+        let count = ids.len();
         spread(list, &mut ids)?;
+        if ids.len() == count {
+            break;
+        }
     }
     Ok(ids)
 }
@@ -165,7 +210,7 @@ fn list_with(alloc: Global, list: &[Had], new: Had) -> Result<Vec<Had>, AllocErr
     let coming = closure(alloc, list, new.id)?;
     let mut after = Vec::new(alloc);
     gain(list, &mut after, new.holder, &coming)?;
-    if let Some(mirror) = mirror_of(list, new) {
+    if let Some(mirror) = new.mirror().filter(|_| is_symmetric(list, new.id)) {
         put(&mut after, mirror)?;
     }
     Ok(after)
@@ -175,8 +220,8 @@ fn list_with(alloc: Global, list: &[Had], new: Had) -> Result<Vec<Had>, AllocErr
 fn list_without(alloc: Global, list: &[Had], deed: Deed) -> Result<Vec<Had>, AllocError> {
     let mut after = Vec::new(alloc);
     for own in list {
-        let mirror_goes = mirror_of(list, *own).is_some_and(|mirror| deed.takes(mirror));
-        if !mirror_goes && !deed.takes(*own) {
+        let other_goes = own.mirror().is_some_and(|mirror| deed.takes(list, mirror));
+        if !deed.takes(list, *own) && !(other_goes && is_symmetric(list, own.id)) {
             after.push(*own)?;
         }
     }

@@ -6,7 +6,7 @@ use eco_ids::entity::{CHILD_OF, EXCLUSIVE, WITH};
 use eco_ids::{Id, Refusal, Value};
 use eco_systems::{PHASES, Phase};
 use eco_world::{Query, World};
-use std::alloc::Global;
+use std::alloc::{AllocError, Global};
 
 /// What a system does with each row.
 #[derive(Clone, Copy)]
@@ -144,19 +144,27 @@ fn declare(
     }
 }
 
-/// Draws up to eight plans, and declares the systems of those that are allowed.
-pub fn draw_systems(
+/// Declares the systems of the first eight of these plans, those that are allowed, and answers these plans.
+pub fn declare_all(
     alloc: Global,
     world: &World,
-    draws: &mut Draws,
+    drawn: &[Plan],
     systems: &mut Systems<Script>,
 ) -> Result<Vec<Plan>, Refusal> {
     let mut plans = Vec::new(alloc);
-    for name in NAMES {
-        let plan = draw_plan(draws);
-        if declare(alloc, world, systems, name, &plan)? {
-            plans.push(plan)?;
+    for (name, plan) in NAMES.iter().zip(drawn) {
+        if declare(alloc, world, systems, name, plan)? {
+            plans.push(*plan)?;
         }
+    }
+    Ok(plans)
+}
+
+/// Eight plans, whose queries may not allow their actions.
+pub fn draw_plans(alloc: Global, draws: &mut Draws) -> Result<Vec<Plan>, AllocError> {
+    let mut plans = Vec::new(alloc);
+    for _ in 0..8 {
+        plans.push(draw_plan(draws))?;
     }
     Ok(plans)
 }

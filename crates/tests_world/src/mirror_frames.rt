@@ -1,0 +1,197 @@
+//! Frames of systems that look random and write symmetric pairs, in a run that a plain list follows.
+use crate::draws::Draws;
+use crate::following::{Met, follow};
+use crate::frame_runs::{expect, frame_agrees};
+use crate::mirror_deeds::{FIRST, draw_id, draw_trait};
+use crate::one_by_one::Done;
+use crate::plain::{Deed, Had};
+use crate::plans::{Deeds, Plan, declare_all};
+use eco_bodies::{Action, Script, Systems};
+use eco_ids::{Entity, Refusal, Value};
+use eco_systems::PHASES;
+use eco_world::World;
+use std::alloc::{AllocError, Global};
+use std::thread::Threads;
+
+// Who stands at the first places behind the built-ins has these names in a frame, the four that serve as relationships first.
+const NAMES: [&str; 12] = ["R", "S", "X", "Y", "a", "b", "c", "d", "e", "f", "g", "h"];
+
+// Of these the frame's queries tell.
+const TEXTS: [&str; 16] = [
+    "(R, *)",
+    "(S, *)",
+    "(X, *)",
+    "(Y, _)",
+    "[inout] (R, *), [in] ?(R, a)",
+    "[inout] (R, *), [inout] (R, *)",
+    "[out] (R, _), (S, _)",
+    "(R, _), !(S, _)",
+    "(S, _), !(R, _)",
+    "(R, a), ?(S, b)",
+    "(R, b) || (S, b) || (X, b)",
+    "(*, a), !(X, a)",
+    "(_, b)",
+    "(R, R) || (S, S)",
+    "a || b || c",
+    "[none] (S, *), [in] (R, *)",
+];
+
+// How many live at most when a frame begins, besides the built-ins.
+const MOST: usize = 20;
+
+// So many live that each name has somebody.
+fn populate(world: &mut World) -> Result<(), Refusal> {
+    let count = world.living()?.len();
+    for _ in count..NAMES.len() + FIRST as usize {
+        world.create(None)?;
+    }
+    Ok(())
+}
+
+// Whoever is one too many dies, in the list too. Tells whether that was right.
+fn thin(
+    alloc: Global,
+    world: &mut World,
+    list: &mut Vec<Had>,
+    met: &mut Met,
+) -> Result<bool, Refusal> {
+    let mut is_right = true;
+    for entity in world.living()?.iter().skip(MOST + FIRST as usize) {
+        let deed = Deed::Delete(*entity);
+        let outcome = deed.apply(world);
+        is_right = follow(alloc, list, deed, outcome, met)? && is_right;
+    }
+    Ok(is_right)
+}
+
+// Takes the names of all of these off.
+fn unname(world: &mut World, living: &[Entity]) -> Result<(), Refusal> {
+    for entity in living {
+        world.rename(*entity, None)?;
+    }
+    Ok(())
+}
+
+// Gives the first of these their names.
+fn name(world: &mut World, living: &[Entity]) -> Result<(), Refusal> {
+    for (entity, name) in living.iter().zip(NAMES) {
+        world.rename(*entity, Some(name))?;
+    }
+    Ok(())
+}
+
+// Names those at the first places behind the built-ins, and nobody else.
+fn name_all(world: &mut World) -> Result<(), Refusal> {
+    let living = world.living()?;
+    let made = living.get(FIRST as usize..).unwrap_or(&[]);
+    unname(world, made)?;
+    name(world, made)
+}
+
+// What a system may do with a row, if its query allows it.
+fn draw_action(draws: &mut Draws, living: &[Entity]) -> Action {
+    let slot = draws.below(2) as usize;
+    match draws.below(40) {
+        0..=15 => Action::AddId(draw_id(draws, living)),
+        16..=24 => Action::RemoveId(draw_id(draws, living)),
+        25..=30 => Action::Put {
+            slot,
+            value: Value::of([i64::from(draws.below(9))]),
+        },
+        31..=35 => Action::Sum {
+            into: slot,
+            from: draws.below(2) as usize,
+        },
+        36 => Action::AddId(draw_trait(draws, living)),
+        37 => Action::RemoveId(draw_trait(draws, living)),
+        _ => Action::Spawn(Some(draw_id(draws, living))),
+    }
+}
+
+// A system whose actions its query may not allow: now and then one that kills.
+fn draw_plan(draws: &mut Draws, living: &[Entity]) -> Plan {
+    let phase = PHASES[draws.below(8) as usize];
+    let action = draw_action(draws, living);
+    let (text, other) = match draws.below(16) {
+        0 => ("(R, c), (S, *)", Action::Kill),
+        _ => (TEXTS[draws.below(16) as usize], draw_action(draws, living)),
+    };
+    Plan {
+        phase,
+        text,
+        deeds: Deeds::Script([action, other]),
+    }
+}
+
+// Up to eight plans.
+fn draw_plans(
+    alloc: Global,
+    draws: &mut Draws,
+    living: &[Entity],
+) -> Result<Vec<Plan>, AllocError> {
+    let mut plans = Vec::new(alloc);
+    for _ in 0..2 + draws.below(7) {
+        plans.push(draw_plan(draws, living))?;
+    }
+    Ok(plans)
+}
+
+// Does to the list what these did, in their order. Tells whether clashes were refused as they should be.
+fn follow_all(
+    alloc: Global,
+    list: &mut Vec<Had>,
+    all: &[Done],
+    met: &mut Met,
+) -> Result<bool, AllocError> {
+    let mut is_right = true;
+    for done in all {
+        if let Some(deed) = done.deed {
+            is_right = follow(alloc, list, deed, done.outcome, met)? && is_right;
+        }
+    }
+    Ok(is_right)
+}
+
+// Does to the list what the systems of the plans do one by one.
+fn follow_plans(
+    alloc: Global,
+    world: &World,
+    list: &mut Vec<Had>,
+    plans: &[Plan],
+    met: &mut Met,
+) -> Result<bool, Refusal> {
+    let (_copy, all) = expect(alloc, world, plans)?;
+    Ok(follow_all(alloc, list, &all, met)?)
+}
+
+// Declares those of the drawn plans that are allowed, lets the list follow them, and runs a frame.
+fn run_drawn<R: Threads + Sync>(
+    rt: &R,
+    alloc: Global,
+    world: &mut World,
+    list: &mut Vec<Had>,
+    drawn: &[Plan],
+    met: &mut Met,
+) -> Result<bool, Refusal> {
+    let mut systems: Systems<Script> = Systems::new(alloc);
+    let plans = declare_all(alloc, world, drawn, &mut systems)?;
+    let is_followed = follow_plans(alloc, world, list, &plans, met)?;
+    let agrees = frame_agrees(rt, alloc, world, &systems, &plans, 1, &mut met.frames)?;
+    Ok(is_followed && agrees)
+}
+
+/// Runs a frame by one worker, and tells whether it is the run of its systems one by one. The list does what that run does.
+pub fn run_mirrored<R: Threads + Sync>(
+    rt: &R,
+    alloc: Global,
+    world: &mut World,
+    list: &mut Vec<Had>,
+    draws: &mut Draws,
+    met: &mut Met,
+) -> Result<bool, Refusal> {
+    populate(world)?;
+    let is_thinned = thin(alloc, world, list, met)?;
+    name_all(world)?;
+    let drawn = draw_plans(alloc, draws, &world.living()?)?;
+    Ok(run_drawn(rt, alloc, world, list, &drawn, met)? && is_thinned)
+}

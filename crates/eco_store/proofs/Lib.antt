@@ -28,3 +28,4 @@ pub mod Clearing
 pub mod Thinning
 pub mod IndexWalk
 pub mod Placed
+pub mod Coupled

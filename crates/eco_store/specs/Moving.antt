@@ -1,6 +1,7 @@
 -- Single entities get other types, all or none.
 use Rattle.std.specs.Prelude.{ℕ, ◌+◌, ◌≤◌, ◌==◌, ◌≡◌, IsTrue, List, [], ◌∷◌, fold, map, nat_eq, Option, Some, if◌then◌else◌}
 use Rattle.std.specs.List.{list_any}
+use Rattle.eco_ids.specs.declared.id.Id.{Id}
 use Rattle.eco_ids.specs.World.{Record}
 use Rattle.eco_ids.specs.Indices.{changed, Indexed}
 use Rattle.eco_tables.specs.Table.{TableState}
@@ -37,3 +38,8 @@ HasRoomFor slots to = (n : ℕ) → arriving to n ≤ (table_in slots n).room
 pub record Admits (old new : List (Option TableState)) (slots : List ℕ) (to : ℕ) : Type 0 where
   pub types : (n : ℕ) → IsTrue (list_any (nat_eq n) slots) → type_at new n ≡ type_at old n
   pub room : (n : ℕ) → IsTrue (list_any (nat_eq n) slots) → (table_in old n).room ≤ (table_in new n).room + arriving (to ∷ []) n
+
+-- the table in a slot keeps its type, and its room but for one row
+pub record LeavesRoom (old new : List (Option TableState)) (n : ℕ) : Type 0 where
+  pub types : (ids : List Id) → type_at old n ≡ Some ids → type_at new n ≡ Some ids
+  pub room : (table_in old n).room ≤ (table_in new n).room + 1

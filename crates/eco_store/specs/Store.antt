@@ -11,7 +11,7 @@ use Rattle.eco_ids.specs.declared.value.TheConstants.{FIELD_COUNT}
 use Rattle.eco_ids.specs.Data.{is_zero_past}
 use Rattle.eco_ids.specs.declared.refusal.Refusal.{Refusal}
 use Rattle.eco_ids.specs.Births.{Makes, may_make, Admits, may_admit, MakesAliveWith}
-use Rattle.eco_ids.specs.Indices.{is_free_at, Indexed, IndexState, Retired, Free, Living, record_of, map_state}
+use Rattle.eco_ids.specs.Indices.{changed, is_free_at, Indexed, IndexState, Retired, Free, Living, record_of, map_state}
 use Rattle.eco_ids.specs.Order.{id_cmp}
 use Rattle.eco_ids.specs.Outcome.{Meets}
 use Rattle.eco_ids.specs.Renaming.{RenamesWith, may_rename}
@@ -71,6 +71,10 @@ with_type ids r = record r { held = retyped ids r.held }
 -- the id comes, with zeros, where it isn't there, and goes where it is; the other values stay
 abbrev pub with_toggled : Id → Record → Record
 with_toggled i r = with_type (toggled (record_ids r) i) r
+
+-- the store after the id beside an entity came to it, with zeros, or went
+abbrev pub stepped : Indexed Record → Entity × Id → Indexed Record
+stepped w s = changed w s.0 (with_toggled s.1)
 
 -- the second id comes, with zeros, in the place of the first; the other values stay
 abbrev pub with_exchanged : Id → Id → Record → Record

@@ -10,6 +10,7 @@
 //! where they are not known yet; whether an id is data is not known here.
 #![tactic(auto)]
 
+mod coupling;
 mod deaths;
 mod layout;
 mod moving;

@@ -5,9 +5,10 @@ ghost use Rattle.eco_tables.specs.Tables.{slot_of, table_in};
 ghost use Rattle.eco_archetypes.specs.Archetypes.{type_at, RowlessIn, SameRows, SameTypes};
 ghost use Rattle.eco_archetypes.specs.Widths.{Covers, KeepsWidths};
 ghost use Rattle.eco_entities.specs.Needs.{need};
-ghost use Rattle.eco_store.specs.Moving.{after_move, after_moves, AreTyped, HasRoomFor, Admits};
+ghost use Rattle.eco_ids.specs.Indices.{changed};
+ghost use Rattle.eco_store.specs.Moving.{after_moves, AreTyped, HasRoomFor, Admits};
 ghost use Rattle.eco_store.specs.Staying.{all_staying};
-ghost use Rattle.eco_store.specs.Store.{IsStore, read};
+ghost use Rattle.eco_store.specs.Store.{IsStore, read, with_type};
 
 use crate::layout::moves::shift;
 use crate::placing::fix_place;
@@ -41,21 +42,22 @@ pub(crate) fn take_places(archetypes: &mut Archetypes, slots: &[usize]) -> Resul
     Ok(())
 }
 
-// The entity, if it lives, goes to the table in this slot, unless it stands there. It takes no memory.
-fn make_move(
+/// The entity, if it lives, goes to the table in this slot, unless it stands there. It takes no memory.
+pub(crate) fn go_to(
     entities: &mut EntityIndex,
     archetypes: &mut Archetypes,
     staying: &mut Staying,
-    next: &Move,
+    e: Entity,
     to: usize,
 )
     requires store { IsStore entities.old archetypes.old }
     requires tidy { RowlessIn archetypes.old (all_staying staying.old) }
-    requires typed { type_at archetypes.old to ≡ Some next.now.type_list }
+    requires there { IsSome (slot_of archetypes.old to) }
     requires room { 0 < (table_in archetypes.old to).room }
     ensures store { IsStore entities.new archetypes.new }
     ensures covers { Covers (need entities.old) archetypes.old → Covers (need entities.new) archetypes.new }
-    ensures read { read entities.new archetypes.new ≡ after_move (read entities.old archetypes.old) next.now }
+    ensures read { read entities.new archetypes.new
+        ≡ changed (read entities.old archetypes.old) e (with_type (table_in archetypes.old to).ids) }
     ensures tidy { RowlessIn archetypes.new (all_staying staying.new) }
     ensures same { staying.new ≡ record staying.old { idle = staying.new.idle } }
     ensures admits { Admits archetypes.old archetypes.new staying.old.targets to }
@@ -63,19 +65,20 @@ fn make_move(
     // A place's row fits, as a table has no more rows than there are indices.
     entities.rules();
     needs_never_grow();
-    // Under its own type an entity holds what it held, since the ids of its row ascend.
-    archetypes.tables().rows_have_ids();
-    let _ids = next.type_list.as_slice();
-    let Some(place) = entities.place_of(next.entity) else {
+    let Some(place) = entities.place_of(e) else {
         return;
     };
     if place.table == to {
+        // Under its own type an entity holds what it held, since the ids of its row ascend.
+        let tables = archetypes.tables();
+        tables.rows_have_ids();
+        let _ids = tables.get(to).unwrap().type_list().as_slice();
         return;
     }
     let moved = shift(archetypes, place, to);
     staying.release(archetypes, place.table);
     fix_place(entities, moved.filler, place);
-    entities.set_place(next.entity, moved.place);
+    entities.set_place(e, moved.place);
 }
 
 /// Each entity goes to the table in the slot at the same place, one after another. It takes no memory.
@@ -97,6 +100,7 @@ pub(crate) fn make_moves(
     ensures tidy { RowlessIn archetypes.new (all_staying staying.new) }
 {
     for place in 0..moves.len() {
-        make_move(entities, archetypes, staying, &moves[place], slots[place]);
+        let to = slots[place];
+        go_to(entities, archetypes, staying, moves[place].entity, to);
     }
 }

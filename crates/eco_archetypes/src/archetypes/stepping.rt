@@ -1,9 +1,9 @@
 //! The step from a type to the one that has an id more, or less.
-ghost use Rattle.std.specs.Prelude.{◌≡◌, ◌≢◌, ◌<◌, Some, IsSome, IsTrue, IfOk, IfSome};
+ghost use Rattle.std.specs.Prelude.{◌≡◌, ◌≢◌, ◌≤◌, Some, IsSome, IsTrue, IfOk, IfSome, OnOk};
 ghost use Rattle.eco_ids.specs.Order.{id_cmp, is_ascending};
 ghost use Rattle.eco_tables.specs.Tables.{slot_of, table_in};
 ghost use Rattle.eco_index.specs.Edges.{toggled};
-ghost use Rattle.eco_archetypes.specs.Archetypes.{type_at, RowlessBut, SameRows};
+ghost use Rattle.eco_archetypes.specs.Archetypes.{type_at, KeepsRoom, KeepsTypes, RowlessBut, SameRows};
 ghost use Rattle.eco_archetypes.specs.Widths.{StillCover};
 
 use crate::archetypes::Archetypes;
@@ -25,24 +25,33 @@ pub(super) fn toggled(type_list: &TypeList, id: Id) -> Result<TypeList, AllocErr
 
 impl Archetypes {
     /// The slot of the table that an id leads to: its type has the id where that of the table in this slot lacks it, and
-    /// lacks it where that has it. The table has room for one more row, and where there was none it is made. An `Err` comes
-    /// where memory is refused, and then no table was made. No row changes.
-    pub fn step(&mut self, entities: &EntityIndex, slot: usize, id: Id) -> Result<usize, AllocError>
+    /// lacks it where that has it. The table has room for so many more rows, and where there was none it is made. An `Err`
+    /// comes where memory is refused, and then no table was made. No row changes.
+    #[inline(always)]
+    pub fn step(
+        &mut self,
+        entities: &EntityIndex,
+        slot: usize,
+        id: Id,
+        more: usize,
+    ) -> Result<usize, AllocError>
         requires { IsSome (slot_of self.old slot) }
         ensures typed { IfOk result
             (λ n. type_at self.new n ≡ Some (toggled (table_in self.old slot).ids id)) }
         ensures apart { IfOk result (λ n. slot ≢ n) }
-        ensures room { IfOk result (λ n. 0 < (table_in self.new n).room) }
+        ensures room { IfOk result (λ n. more ≤ (table_in self.new n).room) }
+        ensures kept { OnOk result (KeepsRoom self.old self.new) }
         ensures rowless { RowlessBut self.old self.new result }
         ensures rows { SameRows self.old self.new }
+        ensures types { KeepsTypes self.old self.new }
         ensures widths { StillCover entities.now self.old self.new }
     {
         match self.lead(slot, id) {
             Some(to) => {
-                self.reserve_rows(to, 1)?;
+                self.reserve_rows(to, more)?;
                 Ok(to)
             }
-            None => self.step_anew(entities, slot, id),
+            None => self.step_anew(entities, slot, id, more),
         }
     }
 
@@ -66,23 +75,26 @@ impl Archetypes {
         entities: &EntityIndex,
         slot: usize,
         id: Id,
+        more: usize,
     ) -> Result<usize, AllocError>
         requires { IsSome (slot_of self.old slot) }
         ensures typed { IfOk result
             (λ n. type_at self.new n ≡ Some (toggled (table_in self.old slot).ids id)) }
         ensures apart { IfOk result (λ n. slot ≢ n) }
-        ensures room { IfOk result (λ n. 0 < (table_in self.new n).room) }
+        ensures room { IfOk result (λ n. more ≤ (table_in self.new n).room) }
+        ensures kept { OnOk result (KeepsRoom self.old self.new) }
         ensures rowless { RowlessBut self.old self.new result }
         ensures rows { SameRows self.old self.new }
+        ensures types { KeepsTypes self.old self.new }
         ensures widths { StillCover entities.now self.old self.new }
     {
         let type_list = toggled(self.tables.get(slot).unwrap().type_list(), id)?;
         let Some(to) = self.find(&type_list) else {
-            let made = self.make_with_room(entities, type_list, 1)?;
+            let made = self.make_with_room(entities, type_list, more)?;
             return Ok(made);
         };
         self.link(slot, id, to);
-        self.reserve_rows(to, 1)?;
+        self.reserve_rows(to, more)?;
         Ok(to)
     }
 

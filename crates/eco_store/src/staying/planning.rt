@@ -1,8 +1,9 @@
 //! The tables and the room of a call that changes many entities.
-ghost use Rattle.std.specs.Prelude.{◌≡◌, ◌≤◌, ◌∷◌, [], ℕ, Some, nat_eq, IsOk, IsTrue, IfOk, OnOk};
+ghost use Rattle.std.specs.Prelude.{◌≡◌, ◌≤◌, ◌∷◌, [], ℕ, Some, nat_eq, IsOk, IsSome, IsTrue, IfOk, OnOk};
 ghost use Rattle.std.specs.List.{All, list_any};
-ghost use Rattle.eco_tables.specs.Tables.{table_in};
-ghost use Rattle.eco_archetypes.specs.Archetypes.{type_at, KeepsTypes, RowlessIn, SameRows};
+ghost use Rattle.eco_tables.specs.Tables.{slot_of, table_in};
+ghost use Rattle.eco_index.specs.Edges.{toggled};
+ghost use Rattle.eco_archetypes.specs.Archetypes.{type_at, KeepsRoom, KeepsTypes, RowlessIn, SameRows};
 ghost use Rattle.eco_store.specs.Layout.{IsLaid};
 ghost use Rattle.eco_store.specs.Moving.{AreTyped, HasRoomFor};
 ghost use Rattle.eco_store.specs.Staying.{all_staying, SameIn};
@@ -15,7 +16,7 @@ use crate::transfer::{Transfer, take_room};
 use crate::type_change::TypeChange;
 use eco_archetypes::Archetypes;
 use eco_entities::EntityIndex;
-use eco_ids::TypeList;
+use eco_ids::{Id, TypeList};
 use eco_tables::Tables;
 use std::alloc::AllocError;
 
@@ -187,6 +188,37 @@ impl Staying {
             transfers.push(Transfer { from, to })?;
         }
         Ok(transfers)
+    }
+
+    /// The slot of the table that an id leads to from the table in a slot, as [`Archetypes::step`] says, which is a target from
+    /// then on, with room for two more rows. An `Err` comes where memory is refused. No row changes.
+    pub fn step_target(
+        &mut self,
+        entities: &EntityIndex,
+        archetypes: &mut Archetypes,
+        slot: usize,
+        id: Id,
+    ) -> Result<usize, AllocError>
+        requires slot { IsSome (slot_of archetypes.old slot) }
+        requires tidy { RowlessIn archetypes.old (all_staying self.old) }
+        ensures typed { IfOk result (λ n.
+            type_at archetypes.new n ≡ Some (toggled (table_in archetypes.old slot).ids id)) }
+        ensures room { IfOk result (λ n. 2 ≤ (table_in archetypes.new n).room) }
+        ensures named { IfOk result (λ n. IsTrue (list_any (nat_eq n) self.new.targets)) }
+        ensures kept { OnOk result (KeepsRoom archetypes.old archetypes.new) }
+        ensures types { OnOk result (KeepsTypes archetypes.old archetypes.new) }
+        ensures grown { (n : ℕ) → IsTrue (list_any (nat_eq n) self.old.targets) →
+            IsTrue (list_any (nat_eq n) self.new.targets) }
+        ensures tidy { RowlessIn archetypes.new (all_staying self.new) }
+        ensures rows { SameRows archetypes.old archetypes.new }
+        ensures widths { StillCover entities.now archetypes.old archetypes.new }
+    {
+        let to = archetypes.step(entities, slot, id, 2)?;
+        if let Err(refused) = self.add_target(to) {
+            archetypes.drop_empty(to);
+            return Err(refused);
+        }
+        Ok(to)
     }
 
     // The slot of the table with a type, which is a target from then on. What room earlier calls promised in it serves this one.

@@ -1,7 +1,8 @@
-//! An entity gets an id, or loses one that it has.
-ghost use Rattle.std.specs.Prelude.{◌≡◌, IsTrue, OnOk, OnErr};
+//! An entity gets an id, or loses one that it has, or two entities do.
+ghost use Rattle.std.specs.Prelude.{◌≡◌, false, IsTrue, OnOk, OnErr};
 ghost use Rattle.eco_ids.specs.Indices.{changed, is_alive};
-ghost use Rattle.eco_store.specs.Store.{with_toggled};
+ghost use Rattle.eco_ids.specs.Order.{entity_eq};
+ghost use Rattle.eco_store.specs.Store.{stepped, with_toggled};
 
 use crate::placing::fix_place;
 use crate::store::Store;
@@ -29,5 +30,19 @@ impl Store {
             None => {}
         }
         Ok(())
+    }
+
+    /// Gives each of two entities the id beside it, with zeros, or takes that away where it has it, as [`step`](Store::step)
+    /// does: both or neither. Where one of them stands alone in its table, no other table is made for it, however many ids it has.
+    /// An `Err` comes where memory is refused, and then no entity has changed.
+    pub fn step_both(&mut self, first: (Entity, Id), second: (Entity, Id)) -> Result<(), AllocError>
+        requires first { IsTrue (is_alive self.old.entities first.0) }
+        requires second { IsTrue (is_alive self.old.entities second.0) }
+        requires apart { entity_eq second.0 first.0 ≡ false }
+        ensures ok { OnOk result
+            (self.new.entities ≡ stepped (stepped self.old.entities first) second) }
+        ensures err { OnErr result (self.new.entities ≡ self.old.entities) }
+    {
+        self.layout.step_both(&mut self.entities, first, second)
     }
 }

@@ -4,11 +4,14 @@ use Rattle.std.proofs.Math.Seq.{drop-cons}
 use Rattle.std.proofs.lemmas.List.{take_all, take_more}
 use Rattle.std.proofs.lemmas.List.Elements.{All-drop}
 use Rattle.std.proofs.lemmas.List.Sums.{fold-append}
+use Rattle.eco_tables.specs.Tables.{table_in}
 use Rattle.eco_archetypes.specs.Archetypes.{type_at}
+use Rattle.eco_archetypes.proofs.ArchetypeLemmas.{there_as_typed, typed_table}
+use Rattle.eco_ids.specs.Indices.{changed}
 use Rattle.eco_store.specs.declared.moving.Move.{Move}
 use Rattle.eco_store.specs.Moving.{after_move, after_moves, HasRoomFor}
 use Rattle.eco_store.specs.Staying.{StayingState}
-use Rattle.eco_store.specs.Store.{read}
+use Rattle.eco_store.specs.Store.{read, with_type}
 use Rattle.eco_store.proofs.Coming.{as_many, first_place, rest_places, typed_alike, typed_at}
 use Rattle.eco_store.proofs.moving.make_moves.Goals as goal
 
@@ -26,15 +29,15 @@ loop-place-init c = record {
   read = refl;
 }
 
-pub make_move-requires-clause-typed : goal.make_move-requires-clause-typed
-make_move-requires-clause-typed c =
-    let i = c.loop-place.place in
+pub go_to-requires-clause-there : goal.go_to-requires-clause-there
+go_to-requires-clause-there c =
     let m = c.index-moves-place.result in
-    subst (λ (x : Move). type_at c.loop-place.archetypes (get_or c.args.slots.now i 0) ≡ Some x.type_list) (sym c.index-moves-place.is)
-    (typed_at c.loop-place.archetypes c.args.moves.now c.args.slots.now i 0 _ c.loop-place.invariant.typed c.loop-place-test.true)
+    there_as_typed c.loop-place.archetypes (get_or c.args.slots.now c.loop-place.place 0) m.type_list
+    (subst (λ (x : Move). type_at c.loop-place.archetypes (get_or c.args.slots.now c.loop-place.place 0) ≡ Some x.type_list) (sym c.index-moves-place.is)
+    (typed_at c.loop-place.archetypes c.args.moves.now c.args.slots.now c.loop-place.place 0 _ c.loop-place.invariant.typed c.loop-place-test.true))
 
-pub make_move-requires-clause-room : goal.make_move-requires-clause-room
-make_move-requires-clause-room c =
+pub go_to-requires-clause-room : goal.go_to-requires-clause-room
+go_to-requires-clause-room c =
     let i = c.loop-place.place in
     let s = c.loop-place.archetypes in
     let ns = c.args.slots.now in
@@ -47,7 +50,7 @@ pub loop-place-preserved : goal.loop-place-preserved
 loop-place-preserved c =
     let i = c.loop-place.place in
     let s = c.loop-place.archetypes in
-    let s' = c.make_move.new.archetypes in
+    let s' = c.go_to.new.archetypes in
     let ms = c.args.moves.now in
     let ns = c.args.slots.now in
     let m = c.index-moves-place.result in
@@ -57,19 +60,23 @@ loop-place-preserved c =
     let many = as_many s ms ns was.typed in
     let below = c.loop-place-test.true in
     let within : i < length ns = omega (arith, many, below) in
-    let same : c.make_move.new.staying.targets ≡ targets = ap (λ (p : StayingState). p.targets) c.make_move.ensures.same in
+    let same : c.go_to.new.staying.targets ≡ targets = ap (λ (p : StayingState). p.targets) c.go_to.ensures.same in
+    let typed = subst (λ (x : Move). type_at s (get_or ns i 0) ≡ Some x.type_list) (sym c.index-moves-place.is) (typed_at s ms ns i 0 _ was.typed below) in
     let more : take (i + 1) ms ≡ take i ms ++ m ∷ [] = take_more ms i m below ∙ ap (λ x. take i ms ++ x ∷ []) (sym c.index-moves-place.is) in
     record {
-      store = c.make_move.ensures.store;
-      covers = λ kept. c.make_move.ensures.covers (was.covers kept);
-      tidy = c.make_move.ensures.tidy;
+      store = c.go_to.ensures.store;
+      covers = λ kept. c.go_to.ensures.covers (was.covers kept);
+      tidy = c.go_to.ensures.tidy;
       named = subst (λ slots. All (λ n. IsTrue (list_any (nat_eq n) slots)) ns) (sym same) was.named;
-      typed = typed_alike s s' ms ns (λ k d inside. c.make_move.ensures.admits.types _ (was.named k d inside)) was.typed;
+      typed = typed_alike s s' ms ns (λ k d inside. c.go_to.ensures.admits.types _ (was.named k d inside)) was.typed;
       room =
           rest_places s s' targets (get_or ns i 0) (drop (i + 1) ns) (All-drop (λ n. IsTrue (list_any (nat_eq n) targets)) (i + 1) ns was.named)
-          c.make_move.ensures.admits (subst (HasRoomFor s) (from_there ns i within) was.room);
+          c.go_to.ensures.admits (subst (HasRoomFor s) (from_there ns i within) was.room);
       read =
-          c.make_move.ensures.read ∙ ap (λ w. after_move w m) was.read ∙ sym (fold-append after_move w0 (take i ms) (m ∷ []))
+          c.go_to.ensures.read
+          ∙ ap (λ (x : Move). changed (read c.loop-place.entities s) x.entity (with_type (table_in s (get_or ns i 0)).ids)) (sym c.index-moves-place.is)
+          ∙ ap (λ ids. changed (read c.loop-place.entities s) m.entity (with_type ids)) (typed_table s (get_or ns i 0) m.type_list typed)
+          ∙ ap (λ w. after_move w m) was.read ∙ sym (fold-append after_move w0 (take i ms) (m ∷ []))
           ∙ sym (ap (after_moves w0) more);
     }
 

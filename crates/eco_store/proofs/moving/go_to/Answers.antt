@@ -1,7 +1,8 @@
-use Rattle.std.proofs.Common.{sym, ap, subst, ◌∙◌}
-use Rattle.eco_tables.specs.Tables.{table_in, no_row, AllHaveIds}
-use Rattle.eco_archetypes.proofs.ArchetypeLemmas.{there_as_typed, there_by_row, typed_table}
-use Rattle.eco_ids.specs.Indices.{changed}
+use Rattle.std.proofs.Common.{◌≡◌, unwrap_or, IsTrue, Some, sym, ap, subst, ◌∙◌}
+use Rattle.std.specs.Option.{option_copied}
+use Rattle.eco_ids.specs.Order.{id_cmp, is_ascending}
+use Rattle.eco_tables.specs.Tables.{slot_of, table_in, no_row, no_table, AllHaveIds}
+use Rattle.eco_archetypes.proofs.ArchetypeLemmas.{there_by_row}
 use Rattle.eco_store.specs.Layout.{rows_in, MovesRow}
 use Rattle.eco_store.specs.Staying.{all_staying}
 use Rattle.eco_store.specs.Store.{read, with_type}
@@ -13,15 +14,15 @@ use Rattle.eco_store.proofs.RowCounts.{own_fits, end_fits}
 use Rattle.eco_store.proofs.Rowless.{rowless_beside, rowless_moved}
 use Rattle.eco_store.proofs.StoreChanges as changes
 use Rattle.eco_store.proofs.Values.{alive_same}
-use Rattle.eco_store.proofs.moving.make_move.Goals as goal
+use Rattle.eco_store.proofs.moving.go_to.Goals as goal
 
 -- who does not live stays so
 pub returns-in_default-clause-read : goal.returns-in_default-clause-read
 returns-in_default-clause-read c =
     let w = c.args.entities.now in
     let s = c.args.archetypes.now in
-    let e = c.args.next.now.entity in
-    sym (changed_dead (read w s) e (with_type c.args.next.now.type_list)
+    let e = c.args.e in
+    sym (changed_dead (read w s) e (with_type (table_in s c.args.to).ids)
     (alive_same w s e ∙ unplaced_dead w s e c.requires.store (sym c.place_of.ensures ∙ c.in_default.is)))
 
 pub returns-in_default-clause-admits : goal.returns-in_default-clause-admits
@@ -34,10 +35,13 @@ returns-then-place-to-clause-read c =
     let s = c.args.archetypes.now in
     let p = c.in-Some.place in
     let own = sym c.place_of.ensures ∙ c.in-Some.is in
-    let there = changes.row_within w s c.args.next.now.entity p c.requires.store own in
-    let had = subst AllHaveIds c.tables.ensures.same c.rows_have_ids.ensures in
-    let is = had p.table p.row no_row there ∙ ap (λ n. (table_in s n).ids) c.if-place-to.true ∙ typed_table s c.args.to _ c.requires.typed in
-    changes.same_type w s c.args.next.now.entity p c.args.next.now.type_list c.requires.store own is c.as_slice-ids.ensures.ascending
+    let there = changes.row_within w s c.args.e p c.requires.store own in
+    let had = subst AllHaveIds c.tables-tables.ensures.same c.rows_have_ids.ensures in
+    let is = had p.table p.row no_row there ∙ ap (λ n. (table_in s n).ids) c.if-place-to.true in
+    let at = subst (λ x. slot_of x c.args.to ≡ Some c.unwrap.result.now) c.tables-tables.ensures.same (sym c.get.ensures ∙ ap option_copied c.unwrap.ensures) in
+    let ids = c.type_list.ensures.ids ∙ sym (ap (λ o. (unwrap_or o no_table).ids) at) in
+    changes.same_type w s c.args.e p (table_in s c.args.to).ids c.requires.store own is
+    (subst (λ xs. IsTrue (is_ascending id_cmp xs)) ids c.as_slice-ids.ensures.ascending)
 
 pub returns-then-place-to-clause-admits : goal.returns-then-place-to-clause-admits
 returns-then-place-to-clause-admits c = admits_none c.args.archetypes.now c.args.staying.now.targets c.args.to
@@ -45,7 +49,7 @@ returns-then-place-to-clause-admits c = admits_none c.args.archetypes.now c.args
 -- the row goes
 pub shift-moved-requires-clause-row : goal.shift-moved-requires-clause-row
 shift-moved-requires-clause-row c =
-    changes.row_within c.args.entities.now _ c.args.next.now.entity c.in-Some.place c.requires.store (sym c.place_of.ensures ∙ c.in-Some.is)
+    changes.row_within c.args.entities.now _ c.args.e c.in-Some.place c.requires.store (sym c.place_of.ensures ∙ c.in-Some.is)
 
 pub release-requires : goal.release-requires
 release-requires c =
@@ -58,19 +62,19 @@ pub fix_place-requires-clause-living : goal.fix_place-requires-clause-living
 fix_place-requires-clause-living c =
     let moves = subst (λ R. MovesRow (rows_in c.args.archetypes.now) R c.in-Some.place c.shift-moved.result.place (table_in c.args.archetypes.now c.args.to).ids
     c.shift-moved.result.filler) (sym (rows_alike _ _ c.release.ensures.rows)) c.shift-moved.ensures.row in
-    changes.to_movers_live c.args.entities.now _ c.release.new.archetypes c.args.next.now.entity c.in-Some.place c.shift-moved.result.place _ _ c.requires.store
+    changes.to_movers_live c.args.entities.now _ c.release.new.archetypes c.args.e c.in-Some.place c.shift-moved.result.place _ _ c.requires.store
     (sym c.place_of.ensures ∙ c.in-Some.is) moves
 
 pub fix_place-requires-clause-fits : goal.fix_place-requires-clause-fits
 fix_place-requires-clause-fits c =
-    own_fits c.args.entities.now _ c.args.next.now.entity c.in-Some.place c.rules.ensures c.requires.store (sym c.place_of.ensures ∙ c.in-Some.is)
+    own_fits c.args.entities.now _ c.args.e c.in-Some.place c.rules.ensures c.requires.store (sym c.place_of.ensures ∙ c.in-Some.is)
 
 pub set_place-requires-clause-alive : goal.set_place-requires-clause-alive
 set_place-requires-clause-alive c =
     let moves = subst (λ R. MovesRow (rows_in c.args.archetypes.now) R c.in-Some.place c.shift-moved.result.place (table_in c.args.archetypes.now c.args.to).ids
     c.shift-moved.result.filler) (sym (rows_alike _ _ c.release.ensures.rows)) c.shift-moved.ensures.row in
     rw c.fix_place.ensures
-    (changes.to_alive c.args.entities.now _ c.release.new.archetypes c.args.next.now.entity c.in-Some.place c.shift-moved.result.place _ _ c.requires.store
+    (changes.to_alive c.args.entities.now _ c.release.new.archetypes c.args.e c.in-Some.place c.shift-moved.result.place _ _ c.requires.store
     (sym c.place_of.ensures ∙ c.in-Some.is) moves)
 
 pub set_place-requires-clause-fits : goal.set_place-requires-clause-fits
@@ -82,12 +86,12 @@ returns-clause-store c =
     let moves = subst (λ R. MovesRow (rows_in c.args.archetypes.now) R c.in-Some.place c.shift-moved.result.place (table_in c.args.archetypes.now c.args.to).ids
     c.shift-moved.result.filler) (sym (rows_alike _ _ c.release.ensures.rows)) c.shift-moved.ensures.row in
     rw (c.set_place.ensures, c.fix_place.ensures)
-    (changes.to_store c.args.entities.now _ c.release.new.archetypes c.args.next.now.entity c.in-Some.place c.shift-moved.result.place _ _ c.requires.store
+    (changes.to_store c.args.entities.now _ c.release.new.archetypes c.args.e c.in-Some.place c.shift-moved.result.place _ _ c.requires.store
     (sym c.place_of.ensures ∙ c.in-Some.is) moves)
 
 pub returns-clause-covers : goal.returns-clause-covers
 returns-clause-covers c = λ was.
-    placed_covers c.needs_never_grow.ensures _ _ _ c.args.next.now.entity c.shift-moved.result.place c.set_place.ensures
+    placed_covers c.needs_never_grow.ensures _ _ _ c.args.e c.shift-moved.result.place c.set_place.ensures
     (fixed_covers c.needs_never_grow.ensures c.args.entities.now c.fix_place.new.entities _ c.shift-moved.result.filler
     c.in-Some.place c.fix_place.ensures (c.release.ensures.widths _ (c.shift-moved.ensures.widths _ was)))
 
@@ -96,15 +100,13 @@ returns-clause-read c =
     let moves = subst (λ R. MovesRow (rows_in c.args.archetypes.now) R c.in-Some.place c.shift-moved.result.place (table_in c.args.archetypes.now c.args.to).ids
     c.shift-moved.result.filler) (sym (rows_alike _ _ c.release.ensures.rows)) c.shift-moved.ensures.row in
     rw (c.set_place.ensures, c.fix_place.ensures)
-    (changes.to_read c.args.entities.now _ c.release.new.archetypes c.args.next.now.entity c.in-Some.place c.shift-moved.result.place _ _ c.requires.store
-    (sym c.place_of.ensures ∙ c.in-Some.is) moves
-    ∙ ap (λ is. changed (read c.args.entities.now c.args.archetypes.now) c.args.next.now.entity (with_type is))
-    (typed_table c.args.archetypes.now c.args.to _ c.requires.typed))
+    (changes.to_read c.args.entities.now _ c.release.new.archetypes c.args.e c.in-Some.place c.shift-moved.result.place _ _ c.requires.store
+    (sym c.place_of.ensures ∙ c.in-Some.is) moves)
 
 pub returns-clause-admits : goal.returns-clause-admits
 returns-clause-admits c =
     let s = c.args.archetypes.now in
     let p = c.in-Some.place in
-    let there = changes.row_within c.args.entities.now s c.args.next.now.entity p c.requires.store (sym c.place_of.ensures ∙ c.in-Some.is) in
+    let there = changes.row_within c.args.entities.now s c.args.e p c.requires.store (sym c.place_of.ensures ∙ c.in-Some.is) in
     admits_row s c.shift-moved.new.archetypes c.release.new.archetypes p.table p.row c.args.to c.args.staying.now.targets
-    (there_by_row s p.table p.row there) (there_as_typed s c.args.to _ c.requires.typed) c.shift-moved.ensures.moves c.release.ensures.targets
+    (there_by_row s p.table p.row there) c.requires.there c.shift-moved.ensures.moves c.release.ensures.targets

@@ -62,13 +62,14 @@ crates_below() {
 }
 
 # Whether the program $2 of the crate $1 is built, and newer than these folders of all crates that it stands on.
+# A line of crates.txt that comes or goes changes no program by itself, so that its time counts for nothing.
 is_fresh() (
     crate=$1 program=$2
     shift 2
     [ -x "$program" ] || exit 1
     cd "$top/crates"
     kinds=$*
-    set -- ../crates.txt
+    set --
     for name in $(crates_below "$crate"); do
         for kind in $kinds; do
             [ ! -d "$name/$kind" ] || set -- "$@" "$name/$kind"

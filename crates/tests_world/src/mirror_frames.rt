@@ -16,24 +16,25 @@ use std::thread::Threads;
 // Who stands at the first places behind the built-ins has these names in a frame, the four that serve as relationships first.
 const NAMES: [&str; 12] = ["R", "S", "X", "Y", "a", "b", "c", "d", "e", "f", "g", "h"];
 
-// Of these the frame's queries tell.
+// Of these the frame's queries tell. Those of single pairs share a batch with whoever writes another relationship, and must not
+// with whoever writes another pair of theirs, whose mirror may be the pair that they ask for.
 const TEXTS: [&str; 16] = [
     "(R, *)",
     "(S, *)",
-    "(X, *)",
-    "(Y, _)",
-    "[inout] (R, *), [in] ?(R, a)",
-    "[inout] (R, *), [inout] (R, *)",
-    "[out] (R, _), (S, _)",
-    "(R, _), !(S, _)",
-    "(S, _), !(R, _)",
-    "(R, a), ?(S, b)",
-    "(R, b) || (S, b) || (X, b)",
-    "(*, a), !(X, a)",
-    "(_, b)",
-    "(R, R) || (S, S)",
+    "(X, _)",
+    "(R, a)",
+    "(R, b)",
+    "(S, a)",
+    "(S, c)",
+    "(R, b), !(S, b)",
+    "(R, c) || (S, b) || (X, b)",
     "a || b || c",
+    "[inout] (R, *), [in] ?(R, a)",
+    "[out] (R, _), (S, _)",
     "[none] (S, *), [in] (R, *)",
+    "(S, _), !(R, _)",
+    "(*, a), !(X, a)",
+    "(R, R) || (S, S)",
 ];
 
 // How many live at most when a frame begins, besides the built-ins.

@@ -78,7 +78,8 @@ module _ (w : Indexed Registration) (s : List (Option TableState)) where
     turns s1 i takes alone =
         let row = row_within w s e p store own in
         let ids = toggled (ids_at s p) i in
-        let retypes = subst (RetypesRow (rows_in s) (rows_in s1) p) (ap (λ xs. toggled xs i) (sym (had p.table p.row no_row row))) (takes_row s s1 p _ takes alone row) in (
+        let retypes = subst (RetypesRow (rows_in s) (rows_in s1) p) (ap (λ xs. toggled xs i) (sym (had p.table p.row no_row row)))
+        (takes_row s s1 p _ takes alone row) in (
           written_store w s s1 e p (retyped ids) store own retypes,
           written_read w s s1 e p (retyped ids) store own retypes ∙ toggled_as w s e p i store own,
         )

@@ -73,7 +73,8 @@ fn step_over(
     requires kept { IsTrue (list_any (nat_eq kept) staying.old.targets) }
     ensures store { IsStore entities.new archetypes.new }
     ensures covers { Covers (need entities.old) archetypes.old → Covers (need entities.new) archetypes.new }
-    ensures ok { OnOk result (read entities.new archetypes.new ≡ stepped (read entities.old archetypes.old) step) }
+    ensures ok { OnOk result
+        (read entities.new archetypes.new ≡ stepped (read entities.old archetypes.old) step) }
     ensures err { OnErr result (read entities.new archetypes.new ≡ read entities.old archetypes.old) }
     ensures tidy { RowlessIn archetypes.new (all_staying staying.new) }
     ensures kept { OnOk result (LeavesRoom archetypes.old archetypes.new kept) }
@@ -100,7 +101,8 @@ fn step_beside(
     requires kept { IsTrue (list_any (nat_eq kept) staying.old.targets) }
     ensures store { IsStore entities.new archetypes.new }
     ensures covers { Covers (need entities.old) archetypes.old → Covers (need entities.new) archetypes.new }
-    ensures ok { OnOk result (read entities.new archetypes.new ≡ stepped (read entities.old archetypes.old) step) }
+    ensures ok { OnOk result
+        (read entities.new archetypes.new ≡ stepped (read entities.old archetypes.old) step) }
     ensures err { OnErr result (read entities.new archetypes.new ≡ read entities.old archetypes.old) }
     ensures tidy { RowlessIn archetypes.new (all_staying staying.new) }
     ensures kept { OnOk result (LeavesRoom archetypes.old archetypes.new kept) }

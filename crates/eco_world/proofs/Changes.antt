@@ -61,7 +61,7 @@ module _ (w : WorldState) (e : Entity) where
       by d at j there true is = absurd (not_both (subst (λ k. IsTrue (is_some (find id_cmp k d.held))) (id_eq_is j i is) there) (has_at i d at ∙ absent))
       by d at j there false is = refl
 
-  lists_at : (i : Id) (d : Record) → record_of w e ≡ Some d → has_item id_cmp (record_ids d) i ≡ has w e i
+  pub lists_at : (i : Id) (d : Record) → record_of w e ≡ Some d → has_item id_cmp (record_ids d) i ≡ has w e i
   lists_at i d at = sym (keys_find d.held i) ∙ has_at i d at
 
   -- an id that isn't there comes

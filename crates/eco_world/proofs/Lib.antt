@@ -12,6 +12,7 @@ pub mod Layouts
 pub mod Lending
 pub mod Losing
 pub mod Merging
+pub mod MirrorSteps
 pub mod Mirroring
 pub mod Queried
 pub mod Removals

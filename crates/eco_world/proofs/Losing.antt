@@ -24,8 +24,8 @@ use Rattle.eco_ids.proofs.LossMoves.{clear_moves, remove_all_moves, remove_moves
 use Rattle.eco_ids.proofs.Mirrors.{mirror_is, mirror_parts, mirrored_of}
 use Rattle.eco_ids.proofs.Overlaps.{entity_eq_is, entity_eq_itself}
 use Rattle.eco_store.specs.Store.{with_type}
-use Rattle.eco_world.specs.declared.loss.Loss.TheVariants.{One, All, Everywhere}
-use Rattle.eco_world.specs.Losses.{IsAlone, mirror_holders, one_by_one, symmetric_target, takes, with_holder}
+use Rattle.eco_world.specs.declared.loss.Loss.TheVariants.{All, Everywhere}
+use Rattle.eco_world.specs.Losses.{IsAlone, mirror_holders, one_by_one, symmetric_target, takes, takes_id, with_holder}
 use Rattle.eco_world.specs.Types.{type_of}
 use Rattle.eco_world.proofs.Changes.{changed_alike, held_at}
 use Rattle.eco_world.proofs.Held.{Held, keys}
@@ -48,15 +48,15 @@ module _ (w : WorldState) (goes : Entity → Id → Bool) (x : Entity) (j : Id) 
           ∙ absorbed (goes m.0 m.1) (goes x j) (λ h. mirror p.0 p.1 p.2 p.3 (subst (λ (y : Entity × Id). IsTrue (goes y.0 y.1)) p.4 h))
 
 -- whoever has a pair of a symmetric relationship stands in the mirror's
-mirrored : (w : WorldState) → IsLawful w → (r a b : Entity) → IsTrue (is_symmetric w r) → IsTrue (has w a (ids.Two r b)) → IsTrue (has w b (ids.Two r a))
+pub mirrored : (w : WorldState) → IsLawful w → (r a b : Entity) → IsTrue (is_symmetric w r) → IsTrue (has w a (ids.Two r b)) → IsTrue (has w b (ids.Two r a))
 mirrored w lawful r a b symmetric there = (mirrored_of w lawful (first (has_symmetric w.edition) _ symmetric)).mirrors r a b symmetric there
 
 -- ---- one id of one entity
 
 module _ (w : WorldState) (e : Entity) (i : Id) where
   -- where nobody else has the mirror
-  pub alone_taken : IsAlone w e i → without w nobody (goes_too w (takes (One e i))) ≡ without w nobody (takes (One e i))
-  alone_taken alone = without_alike w (goes_too w (takes (One e i))) (takes (One e i)) (λ x j there. no_more w (takes (One e i)) x j (λ r t is symmetric goes.
+  pub alone_taken : IsAlone w e i → without w nobody (goes_too w (takes_id e i)) ≡ without w nobody (takes_id e i)
+  alone_taken alone = without_alike w (goes_too w (takes_id e i)) (takes_id e i) (λ x j there. no_more w (takes_id e i) x j (λ r t is symmetric goes.
       let at : t ≡ e = entity_eq_is t e (first (entity_eq t e) _ goes) in
       let same : ids.Two r x ≡ i = id_eq_is (ids.Two r x) i (second (entity_eq t e) _ goes) in
       let mirror : mirror_of w e i ≡ Some (x, ids.Two r e) = ap (mirror_of w e) (sym same) ∙ mirror_is w e r x symmetric in
@@ -65,9 +65,9 @@ module _ (w : WorldState) (e : Entity) (i : Id) where
       (subst (λ k. IsTrue (id_eq k i)) (sym (is ∙ ap (ids.Two r) (at ∙ sym itself) ∙ same)) (id_eq_itself i))))
 
   -- where the entity doesn't have it
-  pub absent_taken : IsLawful w → has w e i ≡ false → without w nobody (goes_too w (takes (One e i))) ≡ without w nobody (takes (One e i))
-  absent_taken lawful absent = without_alike w (goes_too w (takes (One e i))) (takes (One e i))
-      (λ x j there. no_more w (takes (One e i)) x j (λ r t is symmetric goes.
+  pub absent_taken : IsLawful w → has w e i ≡ false → without w nobody (goes_too w (takes_id e i)) ≡ without w nobody (takes_id e i)
+  absent_taken lawful absent = without_alike w (goes_too w (takes_id e i)) (takes_id e i)
+      (λ x j there. no_more w (takes_id e i) x j (λ r t is symmetric goes.
       let at : t ≡ e = entity_eq_is t e (first (entity_eq t e) _ goes) in
       let same : ids.Two r x ≡ i = id_eq_is (ids.Two r x) i (second (entity_eq t e) _ goes) in
       let pair : IsTrue (has w x (ids.Two r e)) = subst (λ y. IsTrue (has w x (ids.Two r y))) at (subst (λ k. IsTrue (has w x k)) is there) in
@@ -75,8 +75,8 @@ module _ (w : WorldState) (e : Entity) (i : Id) where
 
   -- where another has the mirror
   pub both_taken : (m : Entity × Id) → mirror_of w e i ≡ Some m →
-      without w nobody (goes_too w (takes (One e i))) ≡ one_by_one (goes_too w (takes (One e i))) w (e ∷ m.0 ∷ [])
-  both_taken m is = remove_moves w e i ∙ ap (λ o. one_by_one (goes_too w (takes (One e i))) w (e ∷ with_holder o [])) is
+      without w nobody (goes_too w (takes_id e i)) ≡ one_by_one (goes_too w (takes_id e i)) w (e ∷ m.0 ∷ [])
+  both_taken m is = remove_moves w e i ∙ ap (λ o. one_by_one (goes_too w (takes_id e i)) w (e ∷ with_holder o [])) is
 
 -- ---- all ids of an entity
 

@@ -48,8 +48,12 @@ Sought w e i o = MatchOption o (IsAlone w e i) (λ m. (mirror_of w e i ≡ Some 
 pub lone : (w : WorldState) (e : Entity) (i : Id) (o : Option (Entity × Id)) → o ≡ None → Sought w e i o → IsAlone w e i
 lone w e i o none = subst (Sought w e i) none
 
+pub another : (w : WorldState) (e : Entity) (i : Id) (o : Option (Entity × Id)) (m : Entity × Id) → o ≡ Some m → Sought w e i o
+    → (mirror_of w e i ≡ Some m) × (entity_eq m.0 e ≡ false)
+another w e i o m some = subst (Sought w e i) some
+
 pub other : (w : WorldState) (e : Entity) (i : Id) (o : Option (Entity × Id)) (m : Entity × Id) → o ≡ Some m → Sought w e i o → mirror_of w e i ≡ Some m
-other w e i o m some sought = (subst (Sought w e i) some sought).0
+other w e i o m some sought = (another w e i o m some sought).0
 
 keys_retyped : (ids : List Id) (held : Held) → keys (retyped ids held) ≡ ids
 keys_retyped [] held = refl

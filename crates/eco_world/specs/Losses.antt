@@ -9,11 +9,14 @@ use Rattle.eco_ids.specs.Order.{entity_eq, id_eq}
 use Rattle.eco_ids.specs.Step.{changed}
 use Rattle.eco_ids.specs.World.{WorldState, is_symmetric}
 use Rattle.eco_world.specs.declared.loss.Loss.{Loss}
-use Rattle.eco_world.specs.declared.loss.Loss.TheVariants.{One, All, Everywhere}
+use Rattle.eco_world.specs.declared.loss.Loss.TheVariants.{All, Everywhere}
+
+-- an id of one entity goes, mirrors not counted
+abbrev pub takes_id : Entity → Id → Entity → Id → Bool
+takes_id e i x j = entity_eq x e && id_eq j i
 
 -- what goes by itself, mirrors not counted
 abbrev pub takes : Loss → Entity → Id → Bool
-takes (One e i) x j = entity_eq x e && id_eq j i
 takes (All e) x j = entity_eq x e
 takes (Everywhere i) x j = id_eq j i
 

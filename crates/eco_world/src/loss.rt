@@ -7,8 +7,6 @@ use eco_ids::{Entity, Id};
 /// What a call takes away by itself: mirrors of these ids go too.
 #[derive(Clone, Copy)]
 pub enum Loss {
-    /// An id of one entity.
-    One(Entity, Id),
     /// All ids of an entity.
     All(Entity),
     /// An id of all entities.
@@ -21,7 +19,6 @@ impl Loss {
         ensures { result ≡ takes self entity id }
     {
         match self {
-            Loss::One(loser, lost) => entity.is(loser) && id.is(lost),
             Loss::All(loser) => entity.is(loser),
             Loss::Everywhere(lost) => id.is(lost),
         }

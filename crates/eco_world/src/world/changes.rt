@@ -16,32 +16,40 @@ ghost use Rattle.eco_ids.specs.Outcome.{Meets};
 ghost use Rattle.eco_ids.specs.Step.{Adds, may_add, Clears, may_clear, Extends, Removes, may_remove, Renames, may_rename, Sets, may_set, changed, is_reserved, unchanged, with_value};
 ghost use Rattle.eco_ids.specs.World.{has, names_living, is_alive, record_of};
 ghost use Rattle.eco_world.specs.Actor.{IsUnfit, MaySet, MayNotSet};
-ghost use Rattle.eco_world.specs.declared.loss.Loss.TheVariants.{One};
-ghost use Rattle.eco_world.specs.Losses.{takes};
+ghost use Rattle.eco_world.specs.Losses.{takes_id};
 ghost use Rattle.eco_store.specs.Store.{record_ids, with_exchanged, with_toggled, with_type};
 
-use crate::loss::Loss;
 use crate::world::World;
 use eco_ids::entity::{ON_DELETE, PANIC};
-use eco_ids::value::FIELD_COUNT;
 use eco_ids::{Entity, Id, Refusal, TypeList, Value};
 use eco_traits::{Prospect, Target, foresee, open_target};
 use std::alloc::{AllocError, Global};
 
 // Whether all these fields are 0.
+#[inline(always)]
 fn are_zero(fields: &[i64]) -> bool
     ensures { result ≡ list_all (λ x. int_eq x (pos 0)) fields.now }
 {
     fields.iter().all(|field| *field == 0)
 }
 
-// Whether the fields past the first `arity` are 0.
+// Whether the fields past the first `arity` are 0. Each place is written out: were it reckoned, the value would be copied first to
+// where it can be indexed, which costs more than the test.
 #[inline(always)]
 pub(crate) fn is_zero_past(value: Value, arity: u8) -> bool
     ensures { result ≡ is_zero_past arity value }
 {
-    let past = arity as usize;
-    past >= FIELD_COUNT || are_zero(&value.0[past..])
+    match arity {
+        0 => are_zero(&value.0),
+        1 => are_zero(&value.0[1..]),
+        2 => are_zero(&value.0[2..]),
+        3 => are_zero(&value.0[3..]),
+        4 => are_zero(&value.0[4..]),
+        5 => are_zero(&value.0[5..]),
+        6 => are_zero(&value.0[6..]),
+        7 => are_zero(&value.0[7..]),
+        _ => true,
+    }
 }
 
 // What each component has from the start: it can't be deleted while it is in use. So few ids take no memory.
@@ -299,13 +307,13 @@ impl World {
         requires ordinary { is_builtin self.old entity ≡ false }
         requires there { has self.old entity id ≡ true }
         ensures ok { OnOk result
-            (self.new ≡ without self.old nobody (goes_too self.old (takes (One entity id)))) }
+            (self.new ≡ without self.old nobody (goes_too self.old (takes_id entity id))) }
         ensures err { OnErr result (self.new ≡ self.old) }
     {
         eco_ids::laws::steps_keep_lawful();
         self.is_lawful();
         if let Some(mirror) = self.other_mirror(entity, id) {
-            return self.lose(Loss::One(entity, id), &[entity, mirror.0]);
+            return self.step_both(entity, id, mirror);
         }
         self.step(entity, id)
     }

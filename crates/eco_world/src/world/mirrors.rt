@@ -8,7 +8,7 @@ ghost use Rattle.eco_ids.specs.Mirrors.{goes_too, mirror_of};
 ghost use Rattle.eco_ids.specs.Order.{entity_eq};
 ghost use Rattle.eco_ids.specs.Step.{changed, has_ids, is_held, is_reserved, with_mirror};
 ghost use Rattle.eco_ids.specs.World.{has, is_alive, is_symmetric};
-ghost use Rattle.eco_store.specs.Store.{with_type};
+ghost use Rattle.eco_store.specs.Store.{with_toggled, with_type};
 ghost use Rattle.eco_traits.specs.Target.{TakesOwn, type_meant};
 ghost use Rattle.eco_world.specs.declared.loss.Loss.TheVariants.{All, Everywhere};
 ghost use Rattle.eco_world.specs.Losses as losses;
@@ -83,8 +83,54 @@ impl World {
         }
     }
 
+    // The entity gets an id that it lacks, or loses one that it has, and so does another entity with its mirror. An `Err` leaves
+    // everything.
+    pub(crate) fn step_both(
+        &mut self,
+        entity: Entity,
+        id: Id,
+        mirror: (Entity, Id),
+    ) -> Result<(), AllocError>
+        requires alive { is_alive self.old entity ≡ true }
+        requires other { entity_eq mirror.0 entity ≡ false }
+        requires holder { is_alive self.old mirror.0 ≡ true }
+        requires lawful { IsLawful
+            (changed (changed self.old entity (with_toggled id)) mirror.0 (with_toggled mirror.1)) }
+        ensures ok { OnOk result (self.new
+            ≡ changed (changed self.old entity (with_toggled id)) mirror.0 (with_toggled mirror.1)) }
+        ensures err { OnErr result (self.new ≡ self.old) }
+    {
+        self.store.step_both((entity, id), mirror)
+    }
+
     // The entity gets what an add leads to, and another entity the mirror. An `Err` leaves everything.
     pub(crate) fn gain_both(
+        &mut self,
+        entity: Entity,
+        id: Id,
+        target: Target,
+        mirror: (Entity, Id),
+    ) -> Result<(), AllocError>
+        requires alive { is_alive self.old entity ≡ true }
+        requires absent { has self.old entity id ≡ false }
+        requires mirror { mirror_of self.old entity id ≡ Some mirror }
+        requires other { entity_eq mirror.0 entity ≡ false }
+        requires holder { is_alive self.old mirror.0 ≡ true }
+        requires lawful { IsLawful (with_mirror
+            (changed self.old entity (with_type (type_meant (type_of self.old entity) id target))) (Some mirror)) }
+        ensures ok { OnOk result (self.new ≡ with_mirror
+            (changed self.old entity (with_type (type_meant (type_of self.old entity) id target))) (Some mirror)) }
+        ensures err { OnErr result (self.new ≡ self.old) }
+    {
+        self.is_lawful();
+        match target {
+            Target::With => self.step_both(entity, id, mirror),
+            _ => self.retype_both(entity, id, target, mirror),
+        }
+    }
+
+    // What `gain_both` does where the entity gets more than the id, or loses another for it.
+    fn retype_both(
         &mut self,
         entity: Entity,
         id: Id,

@@ -29,7 +29,8 @@ returns-in-Err-clause-widths c = λ was. c.drop_empty.ensures.widths _ (c.step.e
 
 pub returns-clause-tidy : goal.returns-clause-tidy
 returns-clause-tidy c =
-    rw c.in_default.ensures.ok (rowless_targeted c.step.new.self c.args.self.now c.in_ok-to.to (c.in_ok-to.ensures.rowless (all_staying c.args.self.now) c.requires.tidy))
+    rw c.in_default.ensures.ok
+    (rowless_targeted c.step.new.self c.args.self.now c.in_ok-to.to (c.in_ok-to.ensures.rowless (all_staying c.args.self.now) c.requires.tidy))
 
 pub returns-clause-named : goal.returns-clause-named
 returns-clause-named c = rw c.in_default.ensures.ok (is_targeted c.args.self.now c.in_ok-to.to)

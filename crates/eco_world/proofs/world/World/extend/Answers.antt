@@ -95,3 +95,6 @@ returns-in-Some c =
     (found_mirrored c.args.self.now c.args.entity c.args.id c.in_ok-target.target _ c.requires.alive c.requires.free c.is_lawful.ensures
     (c.steps_keep_lawful.ensures.add c.args.entity c.args.id) c.add_leaves_exactly.ensures c.in_ok-target.ensures.target c.requires.absent
     (other c.args.self.now c.args.entity c.args.id _ _ c.in-Some.is c.other_mirror.ensures)).adds
+
+pub gain_both-requires-clause-mirror : goal.gain_both-requires-clause-mirror
+gain_both-requires-clause-mirror c = other c.args.self.now c.args.entity c.args.id _ _ c.in-Some.is c.other_mirror.ensures

@@ -7,7 +7,7 @@ use Rattle.eco_world.specs.Types.{type_of}
 use Rattle.eco_world.specs.Worlds.{asked_by, world_with}
 use Rattle.eco_world.proofs.Changes.{by_result}
 use Rattle.eco_world.proofs.Mirroring.{both_moved, apart, made}
-use Rattle.eco_world.proofs.world.World.gain_both.Goals as goal
+use Rattle.eco_world.proofs.world.World.retype_both.Goals as goal
 
 pub invariant_of-self : goal.invariant_of-self
 invariant_of-self c =

@@ -12,3 +12,9 @@ pub mod Renaming
 pub mod Shown
 pub mod States
 pub mod Texts
+pub mod Seats
+pub mod PageChanges
+pub mod PageLists
+pub mod PageNames
+pub mod Trees
+pub mod Results

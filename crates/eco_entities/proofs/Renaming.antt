@@ -1,7 +1,7 @@
 -- What a rename answers.
 use Rattle.std.proofs.lemmas.Grind.{common_steps}
 use Rattle.std.proofs.Common.{arith}
-use Rattle.std.proofs.Common.{◌≡◌, ℕ, Bool, true, false, not, ◌&&◌, List, [], ◌∷◌, refl, sym, ap, ◌∙◌, Option, Some, None, is_some, Result, Ok, Err}
+use Rattle.std.proofs.Common.{◌≡◌, ℕ, Bool, true, false, ◌&&◌, List, [], ◌∷◌, refl, sym, ap, ◌∙◌, inl, inr, Option, Some, None, Result, Ok, Err}
 use Rattle.std.proofs.Common.{MatchOption, eqb, eqb-true, eq-eqb}
 use Rattle.std.proofs.lemmas.Bool.{cases_Bool, false≢true, and_parts, and_from}
 use Rattle.std.proofs.lemmas.Option.{none-some, same_Some}
@@ -75,12 +75,13 @@ pub other_entity : (a b : Entity) → false ≡ (eqb a.index b.index && eqb a.ge
 other_entity a b h e =
     false≢true (h ∙ and_from _ _ (eq-eqb _ _ (ap (λ (x : Entity). x.index) e)) (eq-eqb _ _ (ap (λ (x : Entity). x.generation) e)))
 
--- a fit name is one, and nobody has it
-fit_parts : (good : Bool) (o : Option Entity) → first_refusal ((not good, BadName) ∷ (is_some o, NameTaken) ∷ []) ≡ None → (good ≡ true) × (o ≡ None)
-fit_parts true None h = (refl, refl)
-fit_parts true (Some e) h = absurd (none-some NameTaken (sym h))
-fit_parts false o h = absurd (none-some BadName (sym h))
+-- a name that nobody has is fit
+pub fit_free : (w : Indexed Registration) (name : List ℕ) → is_name name ≡ true → named_entity name_of w name ≡ None → unfit_name name_of w (Some name) ≡ None
+fit_free w name good free = rw (good, free) refl
 
-pub name_fit : (w : Indexed Registration) (name : List ℕ) → unfit_name name_of w (Some name) ≡ None → (is_name name ≡ true)
-    × (named_entity name_of w name ≡ None)
-name_fit w name h = fit_parts (is_name name) (named_entity name_of w name) h
+pub rename_free : (w : Indexed Registration) (e : Entity) (name : List ℕ) → is_alive w e ≡ true → is_name name ≡ true
+    → named_entity name_of w name ≡ None → RenamesWith name_of renamed w e false (Some name) (Ok tt) (changed w e (renamed (Some name)))
+rename_free w e name alive good free = elim (cases_Bool (is_called name (own_name name_of w e))) [
+  | inl t ↦ rw (alive, good, t) (refl, refl)
+  | inr f ↦ rw (alive, good, f, free) (refl, refl)
+]

@@ -1,34 +1,19 @@
 -- Look-ups by text in the trees of names.
 use Rattle.std.proofs.lemmas.Grind.{common_steps}
-use Rattle.std.proofs.Common.{◌≡◌, ℕ, Bool, true, false, cond, List, [], sym, ap, ◌∙◌, Option, arith}
+use Rattle.std.proofs.Common.{◌≡◌, ℕ, Bool, true, false, cond, List, ap, ◌∙◌, Option, arith}
 use Rattle.std.specs.Prelude.{String}
-use Rattle.std.specs.BTreeMap.{BTreeMap, UpdatesBy, get_by_text}
+use Rattle.std.specs.BTreeMap.{BTreeMap, get_by_text}
 use Rattle.std.specs.Map.{update}
-use Rattle.std.specs.Ordering.{nat_cmp}
-use Rattle.std.specs.Cmp.Lexicographic.{slice_cmp}
 use Rattle.std.specs.Str.{bytes_eq}
 use Rattle.std.proofs.lemmas.Bool.{cond-true, cond-false, false_from_ne_true}
-use Rattle.std.proofs.lemmas.Map.Text.{is_eq-slice_cmp}
 use Rattle.std.proofs.lemmas.Slice.Eq.{bytes_eq-Decides}
-use Rattle.arrayvec.specs.ArrayString.{ArrayString}
 use Rattle.eco_ids.specs.declared.entity.Entity.{Entity}
 use Rattle.eco_entities.specs.Changes.{ChangesAt}
-use Rattle.eco_entities.specs.Registry.{short_entity_of}
 
 -- a change under one key, seen by bytes
 pub changes_text : {Y X : Type 0} (bs : List ℕ) (m n : BTreeMap (String Y) X) (w : Option X)
     → ((cs : List ℕ) → get_by_text n cs ≡ update bytes_eq (get_by_text m) bs w cs) → ChangesAt (get_by_text m) (get_by_text n) bs w
 changes_text bs m n w u = grind (arith, common_steps, cond-true, bytes_eq-Decides, cond-false, false_from_ne_true)
-
--- the same where the keys are short
-pub changes_short : (bs : List ℕ) (m n : BTreeMap ArrayString Entity) (w : Option Entity)
-    → UpdatesBy (λ s t. slice_cmp nat_cmp s.bytes t.bytes) (λ key. slice_cmp nat_cmp bs key.bytes) m n w
-    → ChangesAt (short_entity_of m) (short_entity_of n) bs w
-changes_short bs m n w u = record {
-  here = u.1;
-  others = λ j apart. u.2 (record { bytes = j; spare = [] })
-      (is_eq-slice_cmp bs j ∙ false_from_ne_true (bytes_eq bs j) (λ same. apart (sym ((bytes_eq-Decides bs j).0 same))));
-}
 
 -- a change in one of two trees
 module _ (is_left : List ℕ → Bool) (left left' right right' : List ℕ → Option Entity) (k : List ℕ) (v : Option Entity) where

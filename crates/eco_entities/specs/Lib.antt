@@ -1,10 +1,14 @@
 pub mod Changes
 pub mod FreeBits
+pub mod Keys
+pub mod Label
 pub mod Labels
 pub mod Needs
+pub mod Pages
 pub mod Registration
 pub mod Registry
 pub mod Rules
 pub mod Runs
 pub mod Slots
+pub mod Taken
 pub mod Words

@@ -2,7 +2,7 @@
 //!
 //! An entity is named by a handle: an index, and how often that index was used before. A handle that outlives its entity
 //! is never taken for the one who lives at its index now (Flecs manual, Entities and Components).
-ghost use Rattle.std.specs.Prelude.{◌≡◌, ◌↔◌, ◌≤◌, ◌<◌, ◌&&◌, nat_lt, true, [], length, Option, Some, None, IsTrue, IfOk, IfSome, IfNone, OnOk, OnErr, MatchOption};
+ghost use Rattle.std.specs.Prelude.{◌≡◌, ◌↔◌, ◌≤◌, ◌<◌, ◌&&◌, nat_lt, true, false, [], length, Option, Some, None, IsTrue, IfOk, IfSome, IfNone, OnOk, OnErr, MatchBool, MatchOption};
 ghost use Rattle.std.specs.Option.{option_copied};
 ghost use Rattle.eco_ids.specs.Births.{Admits, may_admit, Makes, MakesAliveWith, unfit_name};
 ghost use Rattle.eco_ids.specs.declared.entity.Entity.{Entity};
@@ -10,10 +10,11 @@ ghost use Rattle.eco_ids.specs.declared.value.TheConstants.{FIELD_COUNT};
 ghost use Rattle.eco_ids.specs.Indices.{changed, is_alive, is_free_at, next_entity, with_new, with_death};
 ghost use Rattle.eco_ids.specs.Names.{named_entity, is_name};
 ghost use Rattle.eco_ids.specs.Outcome.{Meets};
-ghost use Rattle.eco_ids.specs.Renaming.{own_name};
+ghost use Rattle.eco_ids.specs.Renaming.{own_name, may_rename, RenamesWith};
 ghost use Rattle.eco_entities.specs.Needs.{need};
 ghost use Rattle.eco_entities.specs.Registration.{Creates, Renames, newcomer, name_of, own_arity, own_place, entity_at, placed, renamed};
 ghost use Rattle.eco_entities.specs.Rules.{IsRuled};
+ghost use Rattle.eco_entities.specs.Taken.{IsTaken};
 
 use crate::names::Names;
 use crate::place::Place;
@@ -208,10 +209,16 @@ impl EntityIndex {
         requires { next_entity self.old ≡ Some entity }
         ensures { Creates self.old (option_copied name.entry) arity result self.new }
     {
-        if name.is_some() {
-            self.check_name(name)?;
+        let Some(text) = name else {
+            self.settle_nameless(entity, arity)?;
+            return Ok(entity);
+        };
+        if !is_name(text) {
+            return Err(Refusal::BadName);
         }
-        self.settle(entity, name, arity)?;
+        if !self.settle_named(entity, text, arity)? {
+            return Err(Refusal::NameTaken);
+        }
         Ok(entity)
     }
 
@@ -249,28 +256,19 @@ impl EntityIndex {
         Ok(())
     }
 
-    // The next entity lives, with this arity and a name that nobody has, or none. An `Err` leaves everything.
+    // The next entity lives, with this arity and no name. An `Err` leaves everything.
     #[inline]
-    fn settle(
-        &mut self,
-        entity: Entity,
-        name: Option<&str>,
-        arity: Option<u8>,
-    ) -> Result<(), AllocError>
-        requires next { next_entity self.old ≡ Some entity }
-        requires fit { unfit_name name_of self.old (option_copied name) ≡ None }
-        ensures ok { OnOk result (self.new ≡ with_new self.old entity
-            (newcomer (option_copied name.entry) arity)) }
+    fn settle_nameless(&mut self, entity: Entity, arity: Option<u8>) -> Result<(), AllocError>
+        requires { next_entity self.old ≡ Some entity }
+        ensures ok { OnOk result (self.new ≡ with_new self.old entity (newcomer None arity)) }
         ensures err { OnErr result (self.new ≡ self.old) }
     {
-        let Some(text) = name else {
-            self.slots.settle_nameless(entity, arity)?;
-            return Ok(());
-        };
-        self.settle_named(entity, text, arity)
+        self.slots.settle_nameless(entity, arity)?;
+        Ok(())
     }
 
-    // The next entity lives, with this arity and a name that nobody has. An `Err` leaves everything.
+    // The next entity lives, with this arity and this name, where nobody has it; the answer says whether it is so. An `Err`
+    // leaves everything.
     #[cold]
     #[inline(never)]
     fn settle_named(
@@ -278,15 +276,21 @@ impl EntityIndex {
         entity: Entity,
         text: &str,
         arity: Option<u8>,
-    ) -> Result<(), AllocError>
+    ) -> Result<bool, AllocError>
         requires next { next_entity self.old ≡ Some entity }
-        requires fit { unfit_name name_of self.old (Some text.now) ≡ None }
-        ensures ok { OnOk result (self.new ≡ with_new self.old entity (newcomer (Some text.now) arity)) }
-        ensures err { OnErr result (self.new ≡ self.old) }
+        requires proper { IsTrue (is_name text.now) }
+        ensures ok { IfOk result (λ done. MatchBool done
+            ((unfit_name name_of self.old (Some text.now) ≡ None)
+            × (self.new ≡ with_new self.old entity (newcomer (Some text.now) arity)))
+            (IsTaken self.old text.now self.new)) }
+        ensures err { OnErr result
+            ((unfit_name name_of self.old (Some text.now) ≡ None) × (self.new ≡ self.old)) }
     {
-        let own = self.names.insert(text, entity)?;
+        let Some(own) = self.names.claim(text, entity)? else {
+            return Ok(false);
+        };
         match self.slots.settle_named(entity, own, arity) {
-            Ok(()) => Ok(()),
+            Ok(()) => Ok(true),
             Err(refused) => {
                 self.names.remove(text);
                 Err(refused)
@@ -356,28 +360,35 @@ impl EntityIndex {
         if !is_name(text) {
             return Err(Refusal::BadName);
         }
+        if self.give_name(entity, text)? {
+            return Ok(());
+        }
         match self.lookup(text) {
-            Some(named_entity) if named_entity == entity => Ok(()),
-            Some(_) => Err(Refusal::NameTaken),
-            None => Ok(self.give_name(entity, text)?),
+            Some(bearer) if bearer == entity => Ok(()),
+            _ => Err(Refusal::NameTaken),
         }
     }
 
-    // The living entity has this name, which nobody has, in place of its old one. An `Err` leaves everything.
-    fn give_name(&mut self, entity: Entity, name: &str) -> Result<(), AllocError>
+    // The living entity has this name in place of its old one, where nobody has it; the answer says whether it is so. An `Err`
+    // leaves everything.
+    fn give_name(&mut self, entity: Entity, name: &str) -> Result<bool, AllocError>
         requires alive { IsTrue (is_alive self.old entity) }
         requires proper { IsTrue (is_name name.now) }
-        requires free { named_entity name_of self.old name.now ≡ None }
-        ensures ok { OnOk result (self.new ≡ changed self.old entity (renamed (Some name.now))) }
-        ensures err { OnErr result (self.new ≡ self.old) }
+        ensures ok { IfOk result (λ done. MatchBool done
+            (RenamesWith name_of renamed self.old entity false (Some name.now) (Ok tt) self.new)
+            (IsTaken self.old name.now self.new)) }
+        ensures err { OnErr result
+            (IsTrue (may_rename name_of self.old entity false (Some name.now)) × (self.new ≡ self.old)) }
     {
-        let own = self.names.insert(name, entity)?;
+        let Some(own) = self.names.claim(name, entity)? else {
+            return Ok(false);
+        };
         match self.slots.give_name(entity, own) {
             Ok(Some(old)) => {
                 self.names.remove(old.as_str());
-                Ok(())
+                Ok(true)
             }
-            Ok(None) => Ok(()),
+            Ok(None) => Ok(true),
             Err(refused) => {
                 self.names.remove(name);
                 Err(refused)

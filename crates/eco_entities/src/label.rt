@@ -1,6 +1,6 @@
 //! A name as it is kept.
 ghost use Rattle.std.specs.Prelude.{◌≡◌, false, true, length, nat_le, MatchOption};
-ghost use Rattle.eco_entities.specs.Labels.{label_text};
+ghost use Rattle.eco_entities.specs.Label.{label_text};
 
 use arrayvec::ArrayString;
 use std::alloc::AllocError;

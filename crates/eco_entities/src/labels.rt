@@ -1,27 +1,42 @@
 //! The names of entities by their indices.
-ghost use Rattle.std.specs.Prelude.{◌≡◌, None, Some, OnOk, OnErr, IfOk, option_map};
+ghost use Rattle.std.specs.Prelude.{◌≡◌, ◌/◌, ◌≤◌, length, None, Some, OnOk, OnErr, IfOk, option_map};
 ghost use Rattle.std.specs.Option.{option_copied};
+ghost use Rattle.eco_entities.specs.Changes.{Keeps};
+ghost use Rattle.eco_entities.specs.Pages.{name_at};
 
 use crate::label::Label;
+use crate::page::Page;
 use std::alloc::{AllocError, Global};
-use std::collections::BTreeMap;
 
-/// An index without a name costs nothing here.
+/// The names stand in pages of so many indices. A page has entries only for those that have a name, and there are pages
+/// only up to the highest index that had one.
 #[derive(Drop)]
 pub(crate) struct Labels {
-    names: BTreeMap<u32, Label>,
+    pages: Vec<Page>,
+}
+
+// How many indices a page is for: few, since a search in it may go through all.
+const PAGE_LEN: u32 = 64;
+
+// The page of the index.
+#[inline]
+fn page_of(index: u32) -> usize
+    ensures { result ≡ index / 64 }
+{
+    (index / PAGE_LEN) as usize
 }
 
 impl Labels {
     ghost use Rattle.eco_entities.specs.Changes.{ChangesAt, Keeps};
-    ghost use Rattle.eco_entities.specs.Labels.{label_of, label_text};
+    ghost use Rattle.eco_entities.specs.Label.{label_text};
+    ghost use Rattle.eco_entities.specs.Labels.{label_of};
 
     /// No index has a name.
     pub(crate) fn new(alloc: Global) -> Labels
         ensures { Keeps (λ _. None) (label_of result) }
     {
         Labels {
-            names: BTreeMap::new(alloc),
+            pages: Vec::new(alloc),
         }
     }
 
@@ -29,16 +44,19 @@ impl Labels {
     pub(crate) fn try_copy(&self) -> Result<Labels, AllocError>
         ensures { IfOk result (λ l. Keeps (label_of self.now) (label_of l)) }
     {
-        let names = self.names.clone()?;
-        Ok(Labels { names })
+        let pages = self.pages.clone()?;
+        Ok(Labels { pages })
     }
 
     /// The name at the index.
     pub(crate) fn get(&self, index: u32) -> Option<&str>
         ensures { option_copied result ≡ label_of self.now index }
     {
-        match self.names.get(&index) {
-            Some(name) => Some(name.as_str()),
+        match self.pages.get(page_of(index)) {
+            Some(page) => match page.get(index) {
+                Some(name) => Some(name.as_str()),
+                None => None,
+            },
             None => None,
         }
     }
@@ -51,7 +69,9 @@ impl Labels {
         ensures was { IfOk result (λ was. option_map label_text was ≡ label_of self.old index) }
         ensures err { OnErr result (Keeps (label_of self.old) (label_of self.new)) }
     {
-        Ok(self.names.insert(index, name)?)
+        let place = page_of(index);
+        cover(&mut self.pages, place + 1)?;
+        self.pages[place].insert(index, name)
     }
 
     /// The index has no name. The answer is the one that it had.
@@ -59,6 +79,23 @@ impl Labels {
         ensures removed { ChangesAt (label_of self.old) (label_of self.new) index None }
         ensures was { option_map label_text result ≡ label_of self.old index }
     {
-        self.names.remove(&index)
+        let place = page_of(index);
+        if place < self.pages.len() {
+            self.pages[place].remove(index)
+        } else {
+            None
+        }
     }
+}
+
+// So many pages at least. An `Err` comes where a growth was refused, and may leave some of them.
+fn cover(pages: &mut Vec<Page>, len: usize) -> Result<(), AllocError>
+    ensures same { Keeps (name_at pages.old.items) (name_at pages.new.items) }
+    ensures enough { OnOk result (len ≤ length pages.new.items) }
+{
+    while pages.len() < len {
+        let page = Page::new(*pages.allocator());
+        pages.push(page)?;
+    }
+    Ok(())
 }

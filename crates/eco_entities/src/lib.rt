@@ -3,12 +3,15 @@
 
 mod entity_index;
 mod free_set;
+mod key;
 mod label;
 mod labels;
 pub mod laws;
 mod level;
 mod names;
+mod page;
 mod place;
+mod short_names;
 mod slot;
 mod slots;
 

@@ -1,30 +1,32 @@
 //! The names in use, each with the living entity that bears it.
-ghost use Rattle.std.specs.Prelude.{◌≡◌, Some, None, OnOk, OnErr, IfOk};
+ghost use Rattle.std.specs.Prelude.{◌≡◌, false, length, nat_le, None, OnErr, IfOk, MatchOption};
 
-use crate::label::{Label, Short, short};
+use crate::label::{Label, short};
+use crate::short_names::ShortNames;
 use eco_ids::Entity;
 use std::alloc::{AllocError, Global};
 use std::collections::BTreeMap;
 
+/// All are in ordered trees, so that no choice of names makes a look-up slow, as it would where the names of a hash map
+/// collide.
 #[derive(Drop)]
 pub(crate) struct Names {
-    // Ordered trees, so that no choice of names makes a look-up slow, as it would where the names of a hash map collide.
-    short: BTreeMap<Short, Entity>,
+    short: ShortNames,
     long: BTreeMap<String, Entity>,
     alloc: Global,
 }
 
 impl Names {
     ghost use Rattle.eco_entities.specs.Changes.{ChangesAt, Keeps};
-    ghost use Rattle.eco_entities.specs.Labels.{label_text};
-    ghost use Rattle.eco_entities.specs.Registry.{entity_of};
+    ghost use Rattle.eco_entities.specs.Label.{label_text};
+    ghost use Rattle.eco_entities.specs.Registry.{entity_of, Claims, IsBorne, IsFree};
 
     /// No name is in use.
     pub(crate) fn new(alloc: Global) -> Names
         ensures { Keeps (λ _. None) (entity_of result) }
     {
         Names {
-            short: BTreeMap::new(alloc),
+            short: ShortNames::new(alloc),
             long: BTreeMap::new(alloc),
             alloc,
         }
@@ -34,7 +36,7 @@ impl Names {
     pub(crate) fn try_copy(&self) -> Result<Names, AllocError>
         ensures { IfOk result (λ n. Keeps (entity_of self.now) (entity_of n)) }
     {
-        let short = self.short.clone()?;
+        let short = self.short.try_copy()?;
         let long = self.long.clone()?;
         Ok(Names {
             short,
@@ -48,27 +50,50 @@ impl Names {
         ensures { result ≡ entity_of self.now name.now }
     {
         match short(name) {
-            Some(short) => self.short.get(&short).copied(),
+            Some(short) => self.short.get(short),
             None => self.long.get(name).copied(),
         }
     }
 
-    /// The entity bears this name, which nobody bears. The answer is a copy of the name. An `Err` comes where a growth was
+    /// The entity bears this name, where nobody does; the answer is then a copy of the name. An `Err` comes where a growth was
     /// refused, and changes nothing.
-    pub(crate) fn insert(&mut self, name: &str, entity: Entity) -> Result<Label, AllocError>
-        ensures ok { OnOk result
-            (ChangesAt (entity_of self.old) (entity_of self.new) name.now (Some entity)) }
-        ensures own { IfOk result (λ own. label_text own ≡ name.now) }
-        ensures err { OnErr result (Keeps (entity_of self.old) (entity_of self.new)) }
+    pub(crate) fn claim(&mut self, name: &str, entity: Entity) -> Result<Option<Label>, AllocError>
+        ensures ok { IfOk result (λ own. MatchOption own
+            (IsBorne (entity_of self.old) (entity_of self.new) name.now)
+            (λ label. (label_text label ≡ name.now)
+            × Claims (entity_of self.old) (entity_of self.new) name.now entity)) }
+        ensures err { OnErr result (IsFree (entity_of self.old) (entity_of self.new) name.now) }
     {
-        if let Some(short) = short(name) {
-            self.short.insert(short, entity)?;
-            return Ok(Label::Short(short));
+        match short(name) {
+            Some(short) => {
+                if self.short.claim(short, entity)? {
+                    Ok(Some(Label::Short(short)))
+                } else {
+                    Ok(None)
+                }
+            }
+            None => self.claim_long(name, entity),
+        }
+    }
+
+    // What `claim` does with a long name.
+    #[cold]
+    #[inline(never)]
+    fn claim_long(&mut self, name: &str, entity: Entity) -> Result<Option<Label>, AllocError>
+        requires { nat_le (length name.now) 24 ≡ false }
+        ensures ok { IfOk result (λ own. MatchOption own
+            (IsBorne (entity_of self.old) (entity_of self.new) name.now)
+            (λ label. (label_text label ≡ name.now)
+            × Claims (entity_of self.old) (entity_of self.new) name.now entity)) }
+        ensures err { OnErr result (IsFree (entity_of self.old) (entity_of self.new) name.now) }
+    {
+        if self.long.get(name).is_some() {
+            return Ok(None);
         }
         let own = String::from_str(self.alloc, name)?;
         let listed = String::from_str(self.alloc, name)?;
         self.long.insert(listed, entity)?;
-        Ok(Label::Long(own))
+        Ok(Some(Label::Long(own)))
     }
 
     /// Nobody bears the name.
@@ -76,9 +101,7 @@ impl Names {
         ensures { ChangesAt (entity_of self.old) (entity_of self.new) name.now None }
     {
         match short(name) {
-            Some(short) => {
-                let _ = self.short.remove(&short);
-            }
+            Some(short) => self.short.remove(short),
             None => {
                 let _ = self.long.remove(name);
             }

@@ -5,7 +5,7 @@ ghost use Rattle.eco_ids.specs.Indices.{changed, record_of, is_alive, is_free_at
 ghost use Rattle.eco_ids.specs.Outcome.{Meets};
 ghost use Rattle.std.specs.Option.{option_copied};
 ghost use Rattle.eco_ids.specs.Renaming.{own_name};
-ghost use Rattle.eco_entities.specs.Labels.{label_text};
+ghost use Rattle.eco_entities.specs.Label.{label_text};
 ghost use Rattle.eco_entities.specs.Needs.{need_of};
 ghost use Rattle.eco_entities.specs.Registration.{name_of, newcomer, own_arity, own_place, entity_at, placed, renamed};
 ghost use Rattle.eco_entities.specs.Slots.{living_slot, next_generation, put_at, Fits, IsNextSlot};

@@ -1,13 +1,16 @@
-use Rattle.std.proofs.Common.{◌≡◌, ◌∙◌, refl, ap, sym, true, None, Some, option_map}
-use Rattle.eco_ids.specs.Indices.{Indexed, is_alive}
+use Rattle.std.proofs.Common.{◌≡◌, ◌∙◌, refl, ap, sym, subst, true, false, Some, is_some, option_map, Ok, rules}
+use Rattle.std.proofs.lemmas.Option.{none-some}
+use Rattle.eco_ids.specs.Indices.{Indexed, changed, is_alive}
 use Rattle.eco_ids.specs.Names.{named_entity}
-use Rattle.eco_ids.specs.Renaming.{own_name}
-use Rattle.eco_entities.specs.Labels.{label_text}
-use Rattle.eco_entities.specs.Registration.{Registration, name_of}
+use Rattle.eco_ids.specs.Renaming.{own_name, RenamesWith}
+use Rattle.eco_entities.specs.Label.{label_text}
+use Rattle.eco_entities.specs.Registration.{Registration, name_of, renamed}
 use Rattle.eco_entities.specs.Registry.{entity_of}
 use Rattle.eco_entities.proofs.NamedEntities.{registry_named_entity}
 use Rattle.eco_entities.proofs.Owners.{own-renamed}
 use Rattle.eco_entities.proofs.Registers.{keeps_undone, registry_exchange, registry_gain, registry_same}
+use Rattle.eco_entities.proofs.Renaming.{rename_free, rename_may, uncalled}
+use Rattle.eco_entities.proofs.Results.{at_err}
 use Rattle.eco_entities.proofs.entity_index.EntityIndex.give_name.Goals as goal
 
 pub invariant_of-self-in-Ok-Some : goal.invariant_of-self-in-Ok-Some
@@ -15,13 +18,12 @@ invariant_of-self-in-Ok-Some c =
     let e = c.args.entity in
     let name = c.args.name.now in
     let w = c.self.inside.slots in
-    let free : entity_of c.self.inside.names name ≡ None = registry_named_entity (entity_of c.self.inside.names) w name c.self.invariant
-    ∙ (ap (λ (v : Indexed Registration). named_entity name_of v name) c.self.view_is ∙ c.requires.free) in
+    let own = rw c.in-Some.is at c.in_ok-own.ensures.ok in
     let alive : is_alive w e ≡ true = rw c.self.view_is c.requires.alive in
     let named : own_name name_of w e ≡ Some c.as_str.result.now = sym c.in-Ok-Some.ensures.was
     ∙ (ap (option_map label_text) c.in-Ok-Some.field-0-is ∙ ap Some (sym c.as_str.ensures)) in
-    rw (c.in-Ok-Some.ensures.ok, c.in_ok-own.ensures.own)
-    (registry_exchange c.as_str.result.now name e c.self.invariant named free c.requires.proper c.in_ok-own.ensures.ok c.remove.ensures
+    rw (c.in-Ok-Some.ensures.ok, own.0)
+    (registry_exchange c.as_str.result.now name e c.self.invariant named own.1.free c.requires.proper own.1.claimed c.remove.ensures
     (own-renamed w e (Some name) alive))
 
 pub invariant_of-self-in-Ok-Some-2 : goal.invariant_of-self-in-Ok-Some-2
@@ -29,13 +31,12 @@ invariant_of-self-in-Ok-Some-2 c =
     let e = c.args.entity in
     let name = c.args.name.now in
     let w = c.self.inside.slots in
-    let free : entity_of c.self.inside.names name ≡ None = registry_named_entity (entity_of c.self.inside.names) w name c.self.invariant
-    ∙ (ap (λ (v : Indexed Registration). named_entity name_of v name) c.self.view_is ∙ c.requires.free) in
+    let own = rw c.in-Some.is at c.in_ok-own.ensures.ok in
     let alive : is_alive w e ≡ true = rw c.self.view_is c.requires.alive in
     let named : own_name name_of w e ≡ Some c.as_str.result.now = sym c.in-Ok-Some.ensures.was
     ∙ (ap (option_map label_text) c.in-Ok-Some.field-0-is ∙ ap Some (sym c.as_str.ensures)) in
-    rw (c.in-Ok-Some.ensures.ok, c.in_ok-own.ensures.own)
-    (registry_exchange c.as_str.result.now name e c.self.invariant named free c.requires.proper c.in_ok-own.ensures.ok c.remove.ensures
+    rw (c.in-Ok-Some.ensures.ok, own.0)
+    (registry_exchange c.as_str.result.now name e c.self.invariant named own.1.free c.requires.proper own.1.claimed c.remove.ensures
     (own-renamed w e (Some name) alive))
 
 pub invariant_of-self-in-Ok-None : goal.invariant_of-self-in-Ok-None
@@ -43,18 +44,74 @@ invariant_of-self-in-Ok-None c =
     let e = c.args.entity in
     let name = c.args.name.now in
     let w = c.self.inside.slots in
-    let free : entity_of c.self.inside.names name ≡ None = registry_named_entity (entity_of c.self.inside.names) w name c.self.invariant
-    ∙ (ap (λ (v : Indexed Registration). named_entity name_of v name) c.self.view_is ∙ c.requires.free) in
+    let own = rw c.in-Some.is at c.in_ok-own.ensures.ok in
     let alive : is_alive w e ≡ true = rw c.self.view_is c.requires.alive in
-    rw (c.in-Ok-None.ensures.ok, c.in_ok-own.ensures.own)
+    rw (c.in-Ok-None.ensures.ok, own.0)
     (registry_gain name e c.self.invariant (sym c.in-Ok-None.ensures.was
-    ∙ ap (option_map label_text) c.in-Ok-None.field-0-is) free c.requires.proper c.in_ok-own.ensures.ok (own-renamed w e (Some name) alive))
+    ∙ ap (option_map label_text) c.in-Ok-None.field-0-is) own.1.free c.requires.proper own.1.claimed (own-renamed w e (Some name) alive))
 
 pub invariant_of-self-in-Err : goal.invariant_of-self-in-Err
 invariant_of-self-in-Err c =
+    let own = rw c.in-Some.is at c.in_ok-own.ensures.ok in
+    rw c.in-Err.ensures.err
+    (registry_same c.self.invariant (keeps_undone c.args.name.now c.args.entity own.1.free own.1.claimed c.remove-in-Err.ensures) (record { all = λ k. refl }))
+
+pub returns-in_err-own-clause-err : goal.returns-in_err-own-clause-err
+returns-in_err-own-clause-err c =
+    let e = c.args.entity in
     let name = c.args.name.now in
     let w = c.self.inside.slots in
-    let free : entity_of c.self.inside.names name ≡ None = registry_named_entity (entity_of c.self.inside.names) w name c.self.invariant
-    ∙ (ap (λ (v : Indexed Registration). named_entity name_of v name) c.self.view_is ∙ c.requires.free) in
-    rw c.in-Err.ensures.err
-    (registry_same c.self.invariant (keeps_undone name c.args.entity free c.in_ok-own.ensures.ok c.remove-in-Err.ensures) (record { all = λ k. refl }))
+    let alive : is_alive w e ≡ true = rw c.self.view_is c.requires.alive in
+    let free = c.in_err-own.ensures.err.free in
+    let found = registry_named_entity (entity_of c.self.inside.names) w name c.self.invariant in
+    let other = uncalled w e name (λ h. none-some e (sym free ∙ c.self.invariant.listed name e h)) in
+    at_err c.from_residual.result (rw (← c.self.view_is) (rename_may w e name alive c.requires.proper other (sym found ∙ free)), c.self.view_is)
+
+pub returns-in_default-clause-ok : goal.returns-in_default-clause-ok
+returns-in_default-clause-ok c =
+    let name = c.args.name.now in
+    let found : entity_of c.self.inside.names name ≡ named_entity name_of c.args.self.now name =
+    registry_named_entity (entity_of c.self.inside.names) c.self.inside.slots name c.self.invariant
+    ∙ ap (λ (v : Indexed Registration). named_entity name_of v name) c.self.view_is in
+    let taken = rw c.in_default.is at c.in_ok-own.ensures.ok in
+    record { borne = ap is_some (sym found) ∙ taken.borne; same = c.self.view_is }
+
+pub returns-in-Ok-Some-clause-ok : goal.returns-in-Ok-Some-clause-ok
+returns-in-Ok-Some-clause-ok c =
+    let e = c.args.entity in
+    let name = c.args.name.now in
+    let v = c.args.self.now in
+    let own = rw c.in-Some.is at c.in_ok-own.ensures.ok in
+    let found : entity_of c.self.inside.names name ≡ named_entity name_of v name =
+    registry_named_entity (entity_of c.self.inside.names) c.self.inside.slots name c.self.invariant
+    ∙ ap (λ (w : Indexed Registration). named_entity name_of w name) c.self.view_is in
+    let new = c.in-Ok-Some.ensures.ok ∙ (ap (λ n. changed c.self.inside.slots e (renamed (Some n))) own.0
+    ∙ ap (λ (w : Indexed Registration). changed w e (renamed (Some name))) c.self.view_is) in
+    let done = rename_free v e name c.requires.alive c.requires.proper (sym found ∙ own.1.free) in
+    let same : c.match-old.self ≡ changed v e (renamed (Some name)) = search (rules, new) in
+    subst (RenamesWith name_of renamed v e false (Some name) (Ok tt)) (sym same) done
+
+pub returns-in-Ok-None-clause-ok : goal.returns-in-Ok-None-clause-ok
+returns-in-Ok-None-clause-ok c =
+    let e = c.args.entity in
+    let name = c.args.name.now in
+    let w = c.self.inside.slots in
+    let own = rw c.in-Some.is at c.in_ok-own.ensures.ok in
+    let found : entity_of c.self.inside.names name ≡ named_entity name_of c.args.self.now name =
+    registry_named_entity (entity_of c.self.inside.names) c.self.inside.slots name c.self.invariant
+    ∙ ap (λ (v : Indexed Registration). named_entity name_of v name) c.self.view_is in
+    let new = c.in-Ok-None.ensures.ok ∙ (ap (λ n. changed w e (renamed (Some n))) own.0
+    ∙ ap (λ (v : Indexed Registration). changed v e (renamed (Some name))) c.self.view_is) in
+    rw new (rename_free c.args.self.now e name c.requires.alive c.requires.proper (sym found ∙ own.1.free))
+
+pub returns-in-Err-clause-err : goal.returns-in-Err-clause-err
+returns-in-Err-clause-err c =
+    let e = c.args.entity in
+    let name = c.args.name.now in
+    let w = c.self.inside.slots in
+    let alive : is_alive w e ≡ true = rw c.self.view_is c.requires.alive in
+    let own = rw c.in-Some.is at c.in_ok-own.ensures.ok in
+    let free = own.1.free in
+    let found = registry_named_entity (entity_of c.self.inside.names) w name c.self.invariant in
+    let other = uncalled w e name (λ h. none-some e (sym free ∙ c.self.invariant.listed name e h)) in
+    (rw (← c.self.view_is) (rename_may w e name alive c.requires.proper other (sym found ∙ free)), c.in-Err.ensures.err ∙ c.self.view_is)

@@ -2,16 +2,14 @@ use Rattle.std.proofs.Common.{length, nat_le, None}
 use Rattle.std.proofs.lemmas.Map.Text.{btree_map_updates_text}
 use Rattle.std.specs.BTreeMap.{get_by_text}
 use Rattle.eco_entities.specs.Registry.{short_entity_of}
-use Rattle.eco_entities.proofs.Texts.{changes_text, changes_short, left_changes, right_changes}
+use Rattle.eco_entities.proofs.Texts.{changes_text, left_changes, right_changes}
 use Rattle.eco_entities.proofs.names.Names.remove.Goals as goal
 
 pub returns-in-Some : goal.returns-in-Some
 returns-in-Some c =
-    let m = c.args.self.now.short in
-    let n = c.remove.new.self in
     let long = get_by_text c.args.self.now.long in
-    left_changes (λ k. nat_le (length k) 24) (short_entity_of m) (short_entity_of n) long long c.args.name.now None c.in-Some.ensures.1
-    (rw c.in-Some.ensures.0 at (changes_short c.in-Some.short.bytes m n None c.remove.ensures.updates))
+    left_changes (λ k. nat_le (length k) 24) (short_entity_of c.args.self.now.short) (short_entity_of c.remove.new.self) long long c.args.name.now None
+    c.in-Some.ensures.1 (rw c.in-Some.ensures.0 at c.remove.ensures)
 
 pub returns-in-None : goal.returns-in-None
 returns-in-None c =

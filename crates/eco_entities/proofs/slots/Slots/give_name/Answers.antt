@@ -1,7 +1,8 @@
 use Rattle.std.proofs.lemmas.Grind.{common_steps}
 use Rattle.std.proofs.Common.{◌<◌, cond, length, ap, ◌∙◌, Some, None, option_map, arith}
 use Rattle.eco_ids.specs.Indices.{map_state}
-use Rattle.eco_entities.specs.Labels.{label_of, label_text}
+use Rattle.eco_entities.specs.Label.{label_text}
+use Rattle.eco_entities.specs.Labels.{label_of}
 use Rattle.eco_entities.specs.Registration.{renamed}
 use Rattle.eco_entities.specs.Slots.{state_of}
 use Rattle.eco_entities.proofs.Marks.{alive_within, slot_changed}

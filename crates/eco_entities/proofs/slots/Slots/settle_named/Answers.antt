@@ -1,7 +1,8 @@
 use Rattle.std.proofs.lemmas.Grind.{common_steps}
 use Rattle.std.proofs.Common.{ap, ◌∙◌, Some, arith}
 use Rattle.eco_ids.specs.Indices.{Living}
-use Rattle.eco_entities.specs.Labels.{label_of, label_text}
+use Rattle.eco_entities.specs.Label.{label_text}
+use Rattle.eco_entities.specs.Labels.{label_of}
 use Rattle.eco_entities.specs.Registration.{newcomer}
 use Rattle.eco_entities.proofs.Marks.{next_slot, next_unlabelled, slot_settled}
 use Rattle.eco_entities.proofs.slots.Slots.settle_named.Goals as goal

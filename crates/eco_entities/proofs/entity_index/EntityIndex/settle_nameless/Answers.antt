@@ -2,12 +2,12 @@ use Rattle.std.proofs.Common.{◌≡◌, ◌∙◌, ap, refl, None, Some}
 use Rattle.eco_ids.specs.Indices.{next_entity}
 use Rattle.eco_entities.proofs.Owners.{own-new, own_of_next}
 use Rattle.eco_entities.proofs.Registers.{registry_nameless}
-use Rattle.eco_entities.proofs.entity_index.EntityIndex.settle.Goals as goal
+use Rattle.eco_entities.proofs.entity_index.EntityIndex.settle_nameless.Goals as goal
 
-pub invariant_of-self-in_default : goal.invariant_of-self-in_default
-invariant_of-self-in_default c =
+pub invariant_of-self-2 : goal.invariant_of-self-2
+invariant_of-self-2 c =
     let e = c.args.entity in
     let w = c.self.inside.slots in
-    let next : next_entity w ≡ Some e = ap next_entity c.self.view_is ∙ c.requires.next in
+    let next : next_entity w ≡ Some e = ap next_entity c.self.view_is ∙ c.requires in
     rw c.in_ok-settle_nameless.ensures.ok
     (registry_nameless e c.self.invariant (own_of_next w e next) (record { all = λ k. refl }) (own-new w e None c.args.arity next))

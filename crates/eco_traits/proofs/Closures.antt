@@ -39,7 +39,7 @@ head_of_item i (y ∷ ys) j h =
 
 -- ---- the closure
 
-own_head : (i : Id) → with_head i (head_of i) ≡ i
+pub own_head : (i : Id) → with_head i (head_of i) ≡ i
 own_head (One e) = refl
 own_head (Two r t) = refl
 

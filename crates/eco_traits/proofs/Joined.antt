@@ -14,9 +14,14 @@ use Rattle.eco_ids.specs.Order.{id_cmp, id_eq, has_item, is_ascending, with_item
 use Rattle.eco_ids.specs.Step.{IsClosure, Judges, grown, is_replaced, with_closure}
 use Rattle.eco_ids.specs.World.{WorldState, Record, has, names_living, record_of}
 use Rattle.std.proofs.lemmas.Bool.{and_right, or_left}
+use Rattle.std.proofs.Math.Bool.{or_comm}
+use Rattle.eco_ids.proofs.Ascending.{ascending_with}
 use Rattle.eco_ids.proofs.Entries.{sorted_is}
 use Rattle.eco_ids.proofs.Exact.{id_eq_sym, keys_kept, keys_zeros}
 use Rattle.eco_ids.proofs.Facts.{to_T, or_right, id_eq_is, id_eq_itself}
+use Rattle.eco_ids.proofs.IdOrder.{id_cmp_total, same_id}
+use Rattle.eco_ids.proofs.Members.{same_members}
+use Rattle.eco_ids.proofs.SetLaws.{joins_with}
 use Rattle.eco_traits.specs.Target.{ExtendsTo, LeadsTo, type_of_record}
 
 -- ---- the ids of what is held
@@ -28,6 +33,29 @@ type_with w s d up =
     let stays : Id → Bool = λ i. not (is_replaced w s i) in
     let sorted = is_sorted-where_key id_cmp stays d.held (to_T _ (sorted_is d.held ∙ up)) in
     sym (keys_zeros s (where_key id_cmp stays d.held) sorted ∙ ap (λ ks. fold (with_item id_cmp) ks s) (keys_kept stays d.held))
+
+-- ---- putting in one after the other
+
+all_ascend : (xs ys : List Id) → IsTrue (is_ascending id_cmp xs) → IsTrue (is_ascending id_cmp (fold (with_item id_cmp) xs ys))
+all_ascend xs [] up = up
+all_ascend xs (y ∷ ys) up = all_ascend (with_item id_cmp xs y) ys (ascending_with id_cmp_total xs y up)
+
+all_join : (xs ys : List Id) (j : Id) → has_item id_cmp (fold (with_item id_cmp) xs ys) j ≡ (has_item id_cmp ys j || has_item id_cmp xs j)
+all_join xs [] j = refl
+all_join xs (y ∷ ys) j = all_join (with_item id_cmp xs y) ys j ∙ ap (λ b. has_item id_cmp ys j || b) (joins_with id_cmp_total xs y j)
+    ∙ regroup (has_item id_cmp ys j) (id_eq y j) (has_item id_cmp xs j)
+  where
+    regroup : (a b c : Bool) → (a || (b || c)) ≡ ((b || a) || c)
+    regroup true b c = sym (ap (λ d. d || c) (or_comm b true))
+    regroup false true c = refl
+    regroup false false c = refl
+
+-- two ascending lists, whichever is put into the other
+pub either_way : (xs ys : List Id) → IsTrue (is_ascending id_cmp xs) → IsTrue (is_ascending id_cmp ys)
+    → fold (with_item id_cmp) xs ys ≡ fold (with_item id_cmp) ys xs
+either_way xs ys up vp =
+    same_members id_cmp_total same_id _ _ (all_ascend xs ys up) (all_ascend ys xs vp)
+    (λ j. let same = all_join xs ys j ∙ or_comm (has_item id_cmp ys j) (has_item id_cmp xs j) ∙ sym (all_join ys xs j) in (λ h. sym same ∙ h, λ h. same ∙ h))
 
 -- ---- taking out one after the other
 

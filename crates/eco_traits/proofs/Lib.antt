@@ -1,4 +1,5 @@
 pub mod Closures
+pub mod Flat
 pub mod Joined
 pub mod Known
 pub mod Members

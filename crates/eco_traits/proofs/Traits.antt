@@ -15,7 +15,7 @@ use Rattle.eco_traits.specs.Prospect.{is_trait, is_with}
 use Rattle.eco_traits.specs.Target.{LacksTraits}
 
 -- what a member passes, one of them passes
-member : (p : Id → Bool) (ids : List Id) (j : Id) → IsTrue (has_item id_cmp ids j) → IsTrue (p j) → IsTrue (list_any p ids)
+pub member : (p : Id → Bool) (ids : List Id) (j : Id) → IsTrue (has_item id_cmp ids j) → IsTrue (p j) → IsTrue (list_any p ids)
 member p ids j h is = let m = any_is (λ y. id_eq y j) ids h in m.2 p (subst (λ z. IsTrue (p z)) (sym (id_eq_is m.0 j m.1)) is)
 
 pub not_so : (b : Bool) → (IsTrue b → ⊥) → b ≡ false

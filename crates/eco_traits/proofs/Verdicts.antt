@@ -1,7 +1,7 @@
 -- What stands against a closure.
 use Rattle.std.proofs.lemmas.Grind.{common_steps}
 use Rattle.std.proofs.Common.{◌≡◌, ℕ, zero, suc, ◌+◌, ◌<◌, false, ◌||◌, ◌⊎◌, inl, inr, List, [], ◌∷◌, length, take, get_or, refl, sym, ap, ◌∙◌, subst}
-use Rattle.std.proofs.Common.{true≢false, IsTrue, ◌↔◌, map, unwrap_or, Ok, Bool, true, cond, MatchBool, Option, Some, None, option_map, is_lt, arith}
+use Rattle.std.proofs.Common.{true≢false, IsTrue, ◌↔◌, map, unwrap_or, Ok, Err, Bool, true, cond, MatchBool, Option, Some, None, option_map, is_lt, arith}
 use Rattle.std.specs.Option.{option_or}
 use Rattle.std.proofs.lemmas.List.{take_more}
 use Rattle.std.specs.Cmp.{tied_itself}
@@ -14,8 +14,9 @@ use Rattle.eco_ids.specs.declared.refusal.Refusal.{Refusal}
 use Rattle.eco_ids.specs.declared.refusal.Refusal.TheVariants.{Cycle, InUse, NotAPolicy, TraitClash}
 use Rattle.eco_ids.specs.Edition.{late_traits}
 use Rattle.eco_ids.specs.Mirrors.{has_clash, is_with, would_clash}
+use Rattle.eco_ids.specs.Outcome.{is_out_of_memory}
 use Rattle.eco_ids.specs.Order.{id_cmp, id_eq, entity_cmp, has_item, is_ascending}
-use Rattle.eco_ids.specs.Step.{IsClosure, IsFirstCycle, Judges, grown, is_late, is_wrong_policy}
+use Rattle.eco_ids.specs.Step.{IsClosure, IsFirstCycle, Judges, grown, is_late, is_used, is_wrong_policy}
 use Rattle.eco_ids.specs.declared.value.Value.{Value}
 use Rattle.eco_ids.specs.declared.entity.TheConstants.{WITH}
 use Rattle.eco_ids.specs.World.{WorldState, Record, has, held_by, is_alive, living, names_living, record_of}
@@ -30,8 +31,8 @@ use Rattle.eco_ids.proofs.Ascending.{first, second}
 use Rattle.eco_ids.proofs.Facts.{or_parts, or_right, id_eq_is}
 use Rattle.eco_ids.proofs.IdOrder.{entity_cmp_total}
 use Rattle.eco_traits.proofs.Members.{only, has_get, has_append, same_truth}
-use Rattle.eco_traits.specs.Target.{ClosesBy, IsClosedBy, IsSound, LeadsTo, extended_by, left_by, type_of_record}
-use Rattle.eco_traits.proofs.Joined.{leads_to, some_record}
+use Rattle.eco_traits.specs.Target.{ClosesBy, FindsType, IsClosedBy, IsSound, LeadsTo, extended_by, left_by, type_of_record}
+use Rattle.eco_traits.proofs.Joined.{lacked, leads_to, some_record}
 
 -- ---- ascending ids
 
@@ -56,6 +57,13 @@ before_or_above (x ∷ xs) (suc k) d y up l h = elim (or_parts (id_eq x y) (has_
 
 below_by_relationship : (r q t u : Entity) → IsTrue (is_lt (id_cmp (Two r t) (Two q u))) → IsTrue (is_le (entity_cmp r q))
 below_by_relationship r q t u = grind (arith, common_steps, is_lt)
+
+-- ---- traits that come too late
+
+-- where no pairs of the entity are about, none does
+pub none_late : (w : WorldState) (e : Entity) (s : List Id) (traits : List Entity) → is_used w e ≡ false → false ≡ list_any (is_late w e s) traits
+none_late w e s [] unused = refl
+none_late w e s (trait ∷ traits) unused = grind (arith, common_steps, none_late w e s traits)
 
 -- ---- cycles
 
@@ -157,6 +165,15 @@ target_any w e b exact = same_truth b (list_any (λ p. has w p.0 (Two WITH e)) (
     let d = entry_of (record_of w x.0) (Two WITH e) x.1 in
     some_living (λ p. has w p.0 (Two WITH e)) w x.0 d.0 d.2 x.1)
     (λ h. let x = living_some (λ p. has w p.0 (Two WITH e)) w h in exact.1 (x.0, x.3))
+
+-- what stands against the closure is the answer
+pub judged_refuses : (w : WorldState) (e : Entity) (i : Id) (s : List Id) (why : Refusal) → names_living w i ≡ true → has w e i ≡ false → IsClosure w i s
+    → Judges w e s (grown w e i s) (Some why) → FindsType w e i (Err why)
+judged_refuses w e i s why lives absent closure judges =
+    elim (is_out_of_memory {A = List Id} (Err why)) as (λ b. MatchBool b (IsTrue (names_living w i)) (LeadsTo w e i (Err why))) [
+      | true ↦ lives
+      | false ↦ lacked w e i (Err why) lives absent (s, closure, Some why, judges, refl)
+    ]
 
 -- a closure that nothing stands against leads to the type that has it
 pub judged_leads : (w : WorldState) (e : Entity) (i : Id) (s own all : List Id) (verdict : Option Refusal) → names_living w i ≡ true → has w e i ≡ false →

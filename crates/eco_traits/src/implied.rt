@@ -1,5 +1,5 @@
 //! What an added id brings with it.
-ghost use Rattle.std.specs.Prelude.{◌≡◌, ◌↔◌, IfOk, IsFalse, IsOk, IsTrue};
+ghost use Rattle.std.specs.Prelude.{◌≡◌, ◌↔◌, IfOk, IsFalse, IsOk, IsTrue, Some};
 ghost use Rattle.eco_ids.specs.declared.entity.Entity.{Entity as EntityData};
 ghost use Rattle.eco_ids.specs.declared.entity.TheConstants.{WITH as WITH_DATA};
 ghost use Rattle.eco_ids.specs.declared.id.Id.{Id as IdData};
@@ -10,9 +10,10 @@ ghost use Rattle.eco_ids.specs.World.{has};
 ghost use Rattle.std.specs.List.{list_any};
 ghost use Rattle.eco_traits.specs.Closure as spec;
 ghost use Rattle.eco_traits.specs.Prospect.{is_with};
+ghost use Rattle.eco_traits.specs.Target.{type_of_entity};
 
 use crate::holdings::Holdings;
-use crate::walk::reached;
+use crate::walk::{reached, target_by};
 use eco_ids::entity::WITH;
 use eco_ids::{Entity, Id, TypeList};
 use std::alloc::{AllocError, Global};
@@ -27,12 +28,54 @@ pub fn closure<H: Holdings>(alloc: Global, holdings: &H, id: Id) -> Result<TypeL
     ensures exact { IfOk result (λ ids. IsClosure (H.world holdings.now) id ids) }
     ensures alone { spec.LacksWith (H.world holdings.now) (spec.head_of id) → IsOk result }
 {
-    let head = head_of(id);
-    if !has_with(holdings, head) {
-        return TypeList::empty(alloc).with(id);
+    match holdings.type_of(head_of(id)) {
+        Some(traits) => closure_by(alloc, holdings, id, traits.as_slice()),
+        None => TypeList::empty(alloc).with(id),
     }
-    let heads = reached(alloc, holdings, WITH, head)?;
-    with_heads(alloc, id, heads.as_slice())
+}
+
+/// The closure of an id, where these are the ids of the entity that says what it brings. What it brings mostly brings
+/// nothing more, and then nothing has to be searched.
+pub(crate) fn closure_by<H: Holdings>(
+    alloc: Global,
+    holdings: &H,
+    id: Id,
+    traits: &[Id],
+) -> Result<TypeList, AllocError>
+    requires { Some traits.now ≡ type_of_entity (H.world holdings.now) (spec.head_of id) }
+    ensures exact { IfOk result (λ ids. IsClosure (H.world holdings.now) id ids) }
+    ensures alone { spec.LacksWith (H.world holdings.now) (spec.head_of id) → IsOk result }
+{
+    if bring_more(holdings, traits) {
+        let heads = reached(alloc, holdings, WITH, head_of(id))?;
+        return with_heads(alloc, id, heads.as_slice());
+    }
+    with_targets(alloc, id, traits)
+}
+
+// Whether the target of a pair of With among the ids has such a pair itself.
+fn bring_more<H: Holdings>(holdings: &H, ids: &[Id]) -> bool
+    ensures exact { IsFalse result → spec.BringNoMore (H.world holdings.now) ids.now }
+    ensures some { IsTrue result → IsTrue (list_any is_with ids.now) }
+{
+    for id in ids {
+        if brings_more(holdings, *id) {
+            return true;
+        }
+    }
+    false
+}
+
+// The same of one id.
+fn brings_more<H: Holdings>(holdings: &H, id: Id) -> bool
+    ensures exact { IsFalse result → (x : EntityData) → id ≡ Two WITH_DATA x
+        → spec.LacksWith (H.world holdings.now) x }
+    ensures some { IsTrue result → IsTrue (is_with id) }
+{
+    match target_by(id, WITH) {
+        Some(target) => has_with(holdings, target),
+        None => false,
+    }
 }
 
 /// The entity whose ids say how the id behaves, and what it brings: its own, or a pair's relationship.
@@ -97,6 +140,23 @@ fn with_heads(alloc: Global, id: Id, heads: &[Entity]) -> Result<TypeList, Alloc
     let mut ids = TypeList::empty(alloc);
     for head in heads {
         ids.insert(with_head(id, *head))?;
+    }
+    Ok(ids)
+}
+
+// The id, and what it is with the target of each pair of With among these as its head.
+fn with_targets(alloc: Global, id: Id, traits: &[Id]) -> Result<TypeList, AllocError>
+    ensures members { IfOk result (λ ids. spec.HasGiven ids id traits.now) }
+    ensures ascending { IfOk result (λ ids. IsTrue (is_ascending id_cmp ids)) }
+    ensures alone { IsFalse (list_any is_with traits.now) → IsOk result }
+{
+    eco_ids::order::items_join_and_leave();
+    let mut ids = TypeList::empty(alloc);
+    ids.insert(id)?;
+    for own in traits {
+        if let Some(target) = target_by(*own, WITH) {
+            ids.insert(with_head(id, target))?;
+        }
     }
     Ok(ids)
 }

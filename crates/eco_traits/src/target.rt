@@ -1,5 +1,5 @@
 //! The type that an add leads to.
-ghost use Rattle.std.specs.Prelude.{◌≡◌, ◌↔◌, ◌&&◌, false, IfOk, IfSome, IsFalse, IsTrue, Some, filter, find, fold, is_some, not, option_map, true, unwrap_or};
+ghost use Rattle.std.specs.Prelude.{◌≡◌, ◌↔◌, ◌&&◌, false, IfOk, IfSome, IsFalse, IsTrue, Some, filter, find, fold, is_some, not, OnOk, option_map, true, unwrap_or};
 ghost use Rattle.std.specs.List.{list_any};
 ghost use Rattle.eco_ids.specs.Outcome.{is_out_of_memory};
 ghost use Rattle.eco_ids.specs.World.{has, is_alive as lives, record_of};
@@ -13,7 +13,7 @@ ghost use Rattle.eco_ids.specs.Traits.{Reaches};
 ghost use Rattle.eco_traits.specs.Target.{FindsTarget, FindsType, is_own, IsAmong, IsSound, TakesOwn, Replaces, extended_by, left_by, spared, type_of_entity};
 
 use crate::holdings::Holdings;
-use crate::implied::{brings_any, closure, head_of};
+use crate::implied::{brings_any, closure_by, head_of};
 use crate::prospect::{Prospect, foresee};
 use crate::verdict::{is_among, is_wrong_policy, verdict};
 use crate::walk::{has, has_pair_of, is_pair_of, may_reach};
@@ -275,31 +275,8 @@ fn closed_type<H: Holdings>(
     requires traits { Some traits.now ≡ type_of_entity (H.world holdings.now) (head_of added) }
     ensures { FindsType (H.world holdings.now) entity added result }
 {
-    if brings_any(traits) {
-        let coming = closure(alloc, holdings, added)?;
-        judged_type(alloc, holdings, entity, own, added, coming.as_slice())
-    } else {
-        judged_type(alloc, holdings, entity, own, added, &[added])
-    }
-}
-
-// The type that the entity has once the closure of the id came to it, or what stands against that.
-fn judged_type<H: Holdings>(
-    alloc: Global,
-    holdings: &H,
-    entity: Entity,
-    own: &TypeList,
-    added: Id,
-    coming: &[Id],
-) -> Result<TypeList, Refusal>
-    requires lives { IsTrue (world.names_living (H.world holdings.now) added) }
-    requires absent { IsFalse (world.has (H.world holdings.now) entity added) }
-    requires sound { IsSound (H.world holdings.now) }
-    requires own { Some own.now ≡ type_of_entity (H.world holdings.now) entity }
-    requires closure { step.IsClosure (H.world holdings.now) added coming.now }
-    ensures { FindsType (H.world holdings.now) entity added result }
-{
-    if let Some(refusal) = verdict(alloc, holdings, entity, added, coming)? {
+    let coming = closure_by(alloc, holdings, added, traits.as_slice())?;
+    if let Some(refusal) = verdict(alloc, holdings, entity, added, coming.as_slice())? {
         return Err(refusal);
     }
     Ok(extended(holdings, own, coming)?)
@@ -309,12 +286,12 @@ fn judged_type<H: Holdings>(
 fn extended<H: Holdings>(
     holdings: &H,
     own: &TypeList,
-    coming: &[Id],
+    coming: TypeList,
 ) -> Result<TypeList, AllocError>
-    ensures ids { IfOk result (λ ids. ids ≡ extended_by (H.world holdings.now) coming.now own.now) }
+    ensures ids { IfOk result (λ ids. ids ≡ extended_by (H.world holdings.now) coming own.now) }
     ensures ascending { IsTrue (is_ascending id_cmp own.now) }
 {
-    let kept = kept(holdings, own, coming)?;
+    let kept = kept(holdings, own, coming.as_slice())?;
     joined(kept.as_ref().unwrap_or(own), coming)
 }
 
@@ -349,13 +326,27 @@ fn is_replaced<H: Holdings>(holdings: &H, coming: &[Id], id: Id) -> bool
         && has(holdings, relationship, Id::One(EXCLUSIVE))
 }
 
-// The ids, and those that come.
-fn joined(ids: &TypeList, coming: &[Id]) -> Result<TypeList, AllocError>
-    ensures { IfOk result (λ all. all ≡ fold (with_item id_cmp) ids.now coming.now) }
+// The ids, and those that come. Either way it is the same list, so the fewer are put among the others.
+fn joined(ids: &TypeList, coming: TypeList) -> Result<TypeList, AllocError>
+    ensures { IfOk result (λ all. all ≡ fold (with_item id_cmp) ids.now coming) }
 {
-    let mut all = ids.try_copy()?;
-    for id in coming {
-        all.insert(*id)?;
+    let own = ids.as_slice();
+    if own.len() < coming.as_slice().len() {
+        let mut all = coming;
+        insert_all(&mut all, own)?;
+        return Ok(all);
     }
+    let mut all = ids.try_copy()?;
+    insert_all(&mut all, coming.as_slice())?;
     Ok(all)
+}
+
+// Each of the ids joins the list in its place.
+fn insert_all(list: &mut TypeList, ids: &[Id]) -> Result<(), AllocError>
+    ensures { OnOk result (list.new ≡ fold (with_item id_cmp) list.old ids.now) }
+{
+    for id in ids {
+        list.insert(*id)?;
+    }
+    Ok(())
 }

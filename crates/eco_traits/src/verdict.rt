@@ -54,6 +54,9 @@ fn any_late<H: Holdings>(holdings: &H, entity: Entity, coming: &[Id]) -> bool
     ensures { result ≡ list_any (step.is_late (H.world holdings.now) entity coming.now)
         (late_traits (H.world holdings.now).edition) }
 {
+    if !holdings.is_used(entity) {
+        return false;
+    }
     match holdings.edition() {
         Edition::First => {
             is_late(holdings, entity, coming, EXCLUSIVE)

@@ -62,8 +62,8 @@ fn append_targets(
     Ok(())
 }
 
-// The target of a pair of the relationship.
-fn target_by(id: Id, relationship: Entity) -> Option<Entity>
+/// The target of a pair of the relationship.
+pub(crate) fn target_by(id: Id, relationship: Entity) -> Option<Entity>
     ensures { result ≡ target_by_pair relationship id }
 {
     match id {

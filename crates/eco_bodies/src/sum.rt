@@ -24,6 +24,7 @@ fn sum_at(a: &Value, b: &Value, k: usize) -> i64
 }
 
 /// The sum of two values, field by field. Each sum stops at the bounds of a field's range.
+#[inline(always)]
 pub(crate) fn sum_of(a: Value, b: Value) -> Value
     ensures { result ≡ sum_of a b }
 {

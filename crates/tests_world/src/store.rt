@@ -71,16 +71,24 @@ fn found(store: &Store) -> Result<[usize; 4], AllocError> {
     ])
 }
 
-// What is made of a new store, and what is found in it.
-fn used(alloc: Global, store: &mut Store) -> Result<([usize; 2], [usize; 4]), Refusal> {
+// What is found once the holder has lost the tag, and the tag's own entity has got it.
+fn handed_over(store: &mut Store) -> Result<[usize; 4], AllocError> {
+    if store.is_alive(HOLDER) && store.is_alive(TAG) {
+        store.step_both((HOLDER, Id::One(TAG)), (TAG, Id::One(TAG)))?;
+    }
+    found(store)
+}
+
+// What is made of a new store, and what is found in it before and after the tag is handed over.
+fn used(alloc: Global, store: &mut Store) -> Result<([usize; 2], [usize; 4], [usize; 4]), Refusal> {
     fill(store, &TypeList::empty(alloc))?;
     let tables = moved(store, tagged(alloc)?)?;
-    Ok((tables, found(store)?))
+    Ok((tables, found(store)?, handed_over(store)?))
 }
 
 // Whether all is made and found in a new store.
 fn is_used(alloc: Global) -> bool {
-    used(alloc, &mut Store::new(alloc, 16)) == Ok(([1, 2], [1, 1, 1, 1]))
+    used(alloc, &mut Store::new(alloc, 16)) == Ok(([1, 2], [1, 1, 1, 1], [1, 1, 1, 0]))
 }
 
 #[test]

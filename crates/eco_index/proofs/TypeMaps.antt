@@ -1,9 +1,15 @@
 -- The map from types to slots after a table was put in or taken out.
 use Rattle.std.proofs.Common.{◌≡◌, ◌≢◌, ℕ, ◌==◌, Bool, true, false, cond, List, Option, Some, None, IsTrue, refl, ap, ◌∙◌, sym}
-use Rattle.std.specs.HashMap.{HashMap, get}
+use Rattle.std.proofs.Common.{IfSome, option_map, slice_get}
+use Rattle.std.specs.Cmp.{IsEquivalence}
+use Rattle.std.specs.Cmp.Lexicographic.{lists_equiv}
+use Rattle.std.specs.HashMap.{HashMap, IsUnique, Updates, get, values}
+use Rattle.std.proofs.lemmas.Map.Entries.{hash_map_get_place}
+use Rattle.std.proofs.lemmas.Option.{slice_get-map}
+use Rattle.eco_ids.specs.contracts.id.IdEq.TheImpl.Laws as id_laws
 use Rattle.std.proofs.lemmas.Bool.Decides.{Decides-eqb}
 use Rattle.eco_ids.specs.declared.id.Id.{Id}
-use Rattle.eco_index.specs.TypeMap.{same_ids, IsTypeMap}
+use Rattle.eco_index.specs.TypeMap.{LeadsAlone, same_ids, IsTypeMap}
 use Rattle.eco_ids.proofs.SameIds.{same_ids-Decides}
 
 -- the two ways of a test
@@ -24,6 +30,10 @@ type_decided o own asked a b r at is_a is_b is = (
   where
     one : Some own ≡ Some asked → own ≡ asked
     one e = cc
+
+-- `==` of types is an equivalence
+same_ids-equivalence : IsEquivalence same_ids
+same_ids-equivalence = lists_equiv id_laws.laws-law
 
 module _ {S : Type 0} (types types' : ℕ → Option (List Id)) (m m' : HashMap (List Id) ℕ S) (t : List Id) (n : ℕ)
     (others : (k : ℕ) → k ≢ n → types' k ≡ types k) where
@@ -89,3 +99,15 @@ module _ {S : Type 0} (types types' : ℕ → Option (List Id)) (m m' : HashMap 
         absurd (apart (let r : k ≡ n = cc in r)))
         (λ differ. gets q ∙ ap (λ b. cond b None (get same_ids m q)) differ ∙ indexed.there q k was));
   }
+
+-- what stands at a place has another type
+pub type_map-rename : {S : Type 0} (m m1 m' : HashMap (List Id) ℕ S) (place n : ℕ) (new : List Id) (gone : Option (List Id × ℕ)) → IsUnique same_ids m
+    → slice_get (values m) place ≡ Some n → gone ≡ slice_get m.entries place → IfSome gone (λ p. Updates same_ids m m1 p.0 None)
+    → Updates same_ids m1 m' new (Some n) → (old : List Id) → LeadsAlone m old n → (q : List Id)
+    → get same_ids m' q ≡ cond (same_ids new q) (Some n) (cond (same_ids old q) None (get same_ids m q))
+type_map-rename m m1 m' place n new None unique there at removed put old alone q =
+    absurd (let bad : ◌≡◌ {A = Option ℕ} None (Some n) = ap (option_map (λ p. p.1)) at ∙ sym (slice_get-map (λ p. p.1) m.entries place) ∙ there in cc)
+type_map-rename m m1 m' place n new (Some p) unique there at removed put old alone q =
+    let leads : Some p.1 ≡ Some n = ap (option_map (λ p. p.1)) at ∙ sym (slice_get-map (λ p. p.1) m.entries place) ∙ there in
+    let own : p.0 ≡ old = alone p.0 (hash_map_get_place same_ids-equivalence m place p.0 p.1 unique (sym at) ∙ leads) in
+    put.0 q ∙ ap (cond (same_ids new q) (Some n)) (removed.0 q ∙ ap (λ t. cond (same_ids t q) None (get same_ids m q)) own)

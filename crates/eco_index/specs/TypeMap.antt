@@ -13,3 +13,7 @@ same_ids = pointwise (id_impl.eq-value).it
 pub record IsTypeMap {S : Type 0} (types : ℕ → Option (List Id)) (slots : HashMap (List Id) ℕ S) : Type 0 where
   pub found : (t : List Id) (n : ℕ) → get same_ids slots t ≡ Some n → types n ≡ Some t
   pub there : (t : List Id) (n : ℕ) → types n ≡ Some t → get same_ids slots t ≡ Some n
+
+-- no other type leads to the slot
+abbrev pub LeadsAlone : {S : Type 0} → HashMap (List Id) ℕ S → List Id → ℕ → Type 0
+LeadsAlone slots old n = (t : List Id) → get same_ids slots t ≡ Some n → t ≡ old

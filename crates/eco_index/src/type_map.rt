@@ -1,9 +1,9 @@
 //! Which slot has the table of a type.
-ghost use Rattle.std.specs.Prelude.{◌≡◌, ◌<◌, cond, List, Some, None, OnOk, IfOk};
-ghost use Rattle.std.specs.HashMap.{IsEmpty, IsUnchanged, Updates, get, spare};
+ghost use Rattle.std.specs.Prelude.{◌≡◌, ◌<◌, cond, List, Some, None, OnOk, IfOk, slice_get};
+ghost use Rattle.std.specs.HashMap.{IsEmpty, IsUnchanged, Updates, get, spare, values};
 ghost use Rattle.eco_ids.specs.declared.id.Id.{Id as Ids};
 ghost use Rattle.eco_index.specs.Sweeping.{has_table, kept_if};
-ghost use Rattle.eco_index.specs.TypeMap.{same_ids};
+ghost use Rattle.eco_index.specs.TypeMap.{LeadsAlone, same_ids};
 
 use eco_ids::TypeList;
 use eco_tables::Tables;
@@ -14,6 +14,8 @@ use std::alloc::{AllocError, Global};
 #[derive(Drop)]
 pub struct TypeMap {
     slots: IndexMap<TypeList, usize>,
+    // Where the type stands that was renamed last, unless it has moved since.
+    renamed: usize,
 }
 
 impl TypeMap {
@@ -25,6 +27,7 @@ impl TypeMap {
     {
         TypeMap {
             slots: IndexMap::new(alloc),
+            renamed: 0,
         }
     }
 
@@ -34,6 +37,7 @@ impl TypeMap {
     {
         Ok(TypeMap {
             slots: IndexMap::with_capacity(alloc, count)?,
+            renamed: 0,
         })
     }
 
@@ -78,14 +82,30 @@ impl TypeMap {
         let _ = self.slots.swap_remove(type_list);
     }
 
-    /// The slot of one type has another from now on. It takes no memory.
-    pub fn rename(&mut self, old: &TypeList, new: TypeList, slot: usize)
-        requires { 0 < spare (slots_by_type self.old) }
-        ensures { (t : List Ids) → get same_ids (slots_by_type self.new) t
-            ≡ cond (same_ids new t) (Some slot)
-            (cond (same_ids old.now t) None (get same_ids (slots_by_type self.old) t)) }
+    /// Where a type stands that leads to the slot, as this one does. Where that is what was renamed last, no types are
+    /// compared, since a table of one row mostly takes type after type.
+    pub fn place_of(&self, type_list: &TypeList, slot: usize) -> usize
+        requires { get same_ids (slots_by_type self.now) type_list.now ≡ Some slot }
+        ensures { slice_get (values (slots_by_type self.now)) result ≡ Some slot }
     {
-        let _ = self.slots.swap_remove(old);
-        let _ = self.slots.insert(new, slot).unwrap();
+        match self.slots.get_index(self.renamed) {
+            Some((_, last)) if *last == slot => self.renamed,
+            _ => self.slots.get_index_of(type_list).unwrap(),
+        }
+    }
+
+    /// The slot of the type at a place has another type from now on. It takes no memory.
+    pub fn rename_at(&mut self, place: usize, new: TypeList, slot: usize)
+        requires room { 0 < spare (slots_by_type self.old) }
+        requires there { slice_get (values (slots_by_type self.old)) place ≡ Some slot }
+        ensures { (old : List Ids) → LeadsAlone (slots_by_type self.old) old slot → (t : List Ids)
+            → get same_ids (slots_by_type self.new) t ≡ cond (same_ids new t) (Some slot)
+            (cond (same_ids old t) None (get same_ids (slots_by_type self.old) t)) }
+    {
+        // No two types are equal, as the length says. One goes and one comes, last.
+        let count = self.slots.len();
+        let _ = self.slots.swap_remove_index(place);
+        self.insert_reserved(new, slot);
+        self.renamed = count.saturating_sub(1);
     }
 }

@@ -82,12 +82,13 @@ impl Archetypes {
         ensures widths { StillCover entities.now self.old self.new }
     {
         let width = self.width_of(entities, id);
-        let old = self.tables.get(slot).unwrap().type_list().try_copy()?;
         reserve_one(&mut self.by_type, &mut self.caches)?;
+        let old = self.tables.get(slot).unwrap().type_list();
+        let place = self.by_type.place_of(old, slot);
         let tables = &mut self.tables;
         toggle(tables, &mut self.by_id, self.alloc, slot, id, width)?;
         self.caches.tell(slot, &type_list);
-        self.by_type.rename(&old, type_list, slot);
+        self.by_type.rename_at(place, type_list, slot);
         self.edges.cut(slot);
         Ok(())
     }

@@ -5,27 +5,36 @@ use Rattle.eco_tables.specs.Table.{TableState}
 use Rattle.eco_tables.specs.Tables.{slot_of}
 use Rattle.eco_entities.specs.Needs.{need}
 use Rattle.eco_index.specs.IdIndex.{lists_of}
-use Rattle.eco_index.specs.TypeMap.{same_ids}
+use Rattle.eco_index.specs.TypeMap.{LeadsAlone, same_ids}
 use Rattle.eco_index.proofs.Caching.{exact_types, then_told}
 use Rattle.eco_archetypes.specs.Archetypes.{TakesType, type_at}
 use Rattle.eco_archetypes.proofs.ArchetypeLemmas.{found_kept}
-use Rattle.eco_archetypes.proofs.Turnings.{found_turned}
+use Rattle.eco_archetypes.proofs.Turnings.{found_turned, one}
 use Rattle.eco_archetypes.proofs.archetypes.Archetypes.turn.Goals as goal
+
+pub place_of-place-requires : goal.place_of-place-requires
+place_of-place-requires c =
+    let old = c.type_list-old.result.now in
+    let there : slot_of c.self.inside.tables c.args.slot ≡ Some c.unwrap.result.now = sym c.get.ensures ∙ ap option_copied c.unwrap.ensures in
+    let had : type_at c.self.inside.tables c.args.slot ≡ Some old =
+    ap (option_map (λ (t : TableState). t.ids)) there ∙ ap Some (sym c.type_list-old.ensures.ids) in
+    ap (lookup (same_ids old)) c.reserve_one.ensures.same ∙ c.self.invariant.types.there old c.args.slot had
 
 pub invariant_of-self-2 : goal.invariant_of-self-2
 invariant_of-self-2 c =
     let s = c.self.inside.tables in
     let s1 = c.toggle.new.tables in
-    let old = c.in_ok-old.old in
+    let old = c.type_list-old.result.now in
     let there : slot_of s c.args.slot ≡ Some c.unwrap.result.now = sym c.get.ensures ∙ ap option_copied c.unwrap.ensures in
-    let had : type_at s c.args.slot ≡ Some old =
-    ap (option_map (λ (t : TableState). t.ids)) there ∙ ap Some (sym c.type_list.ensures.ids ∙ sym c.in_ok-old.ensures.is) in
+    let had : type_at s c.args.slot ≡ Some old = ap (option_map (λ (t : TableState). t.ids)) there ∙ ap Some (sym c.type_list-old.ensures.ids) in
     let takes : TakesType s s1 c.args.slot c.args.type_list =
     subst (TakesType s s1 c.args.slot) (sym (rw (← c.self.view_is) at c.requires.typed)) c.in_ok-toggle.ensures.ok in
-    found_turned s s1 c.self.inside.by_type.slots c.rename.new.self.slots (lists_of c.self.inside.by_id.slots) (lists_of c.toggle.new.by_id.slots)
+    let alone : LeadsAlone c.reserve_one.new.by_type.slots old c.args.slot =
+    λ t e. one t old (sym (c.self.invariant.types.found t c.args.slot (ap (lookup (same_ids t)) (sym c.reserve_one.ensures.same) ∙ e)) ∙ had) in
+    found_turned s s1 c.self.inside.by_type.slots c.rename_at.new.self.slots (lists_of c.self.inside.by_id.slots) (lists_of c.toggle.new.by_id.slots)
     c.self.inside.edges.lists.items c.cut.new.self.lists.items c.args.slot old c.args.type_list c.self.invariant had takes
     (rw (← c.self.view_is) at c.requires.absent)
-    (λ q. c.rename.ensures q
+    (λ q. c.rename_at.ensures old alone q
     ∙ ap (λ es. cond (same_ids c.args.type_list q) (Some c.args.slot) (cond (same_ids old q) None (lookup (same_ids q) es))) c.reserve_one.ensures.same)
     c.toggle.ensures.index c.cut.ensures c.toggle.ensures.agreed (then_told _ _ _ _ _ c.reserve_one.ensures.exact c.tell.ensures.told)
 

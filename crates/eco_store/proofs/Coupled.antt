@@ -15,13 +15,12 @@ use Rattle.eco_tables.specs.Column.{retyped}
 use Rattle.eco_tables.specs.Table.{TableState}
 use Rattle.eco_tables.specs.Tables.{table_in, no_row, no_table, AllHaveIds}
 use Rattle.eco_index.specs.Edges.{toggled}
-use Rattle.eco_archetypes.specs.Archetypes.{type_at, KeepsRoom, KeepsTypes, SameRows, SameSlots, TakesType}
-use Rattle.eco_archetypes.proofs.ArchetypeLemmas.{typed_table}
+use Rattle.eco_archetypes.specs.Archetypes.{KeepsRoom, KeepsTypes, SameSlots, TakesType}
 use Rattle.eco_store.specs.Layout.{ids_at, rows_in, RetypesRow}
 use Rattle.eco_store.specs.Moving.{arriving, Admits, LeavesRoom}
 use Rattle.eco_store.specs.Store.{IsStore, read, record_ids, stepped, type_of, with_toggled, with_type}
 use Rattle.eco_store.proofs.Stepping.{toggled_as, toggled_typed, type_there}
-use Rattle.eco_store.proofs.StoreChanges.{row_within, same_read}
+use Rattle.eco_store.proofs.StoreChanges.{row_within}
 use Rattle.eco_store.proofs.Taking.{takes_row}
 use Rattle.eco_store.proofs.Values.{alive_same, written_read, written_store}
 use Rattle.eco_store.proofs.Views.{alive_record}
@@ -85,10 +84,9 @@ module _ (w : Indexed Registration) (s : List (Option TableState)) where
         )
 
     -- who goes to a table of its next type steps
-    pub goes_over : (s1 : List (Option TableState)) (i : Id) (to : ℕ) → SameRows s s1 → type_at s1 to ≡ Some (toggled (table_in s p.table).ids i)
-        → changed (read w s1) e (with_type (table_in s1 to).ids) ≡ stepped (read w s) (e, i)
-    goes_over s1 i to same typed =
-        (λ t. changed (same_read w s s1 same t) e (with_type (typed_table s1 to _ typed t))) ∙ toggled_typed (read w s) e _ i type_kept
+    pub goes_over : (v : Indexed Record) (ids : List Id) (i : Id) → v ≡ read w s → ids ≡ toggled (table_in s p.table).ids i
+        → changed v e (with_type ids) ≡ stepped (read w s) (e, i)
+    goes_over v ids i is typed = (λ t. changed (is t) e (with_type (typed t))) ∙ toggled_typed (read w s) e _ i type_kept
 
     -- and so does who goes there once another stepped
     pub goes_after : (first : Entity × Id) (i : Id) (v : Indexed Record) (ids : List Id) → IsTrue (is_alive w first.0) → IsTrue (is_alive w e) → first.0 ≢ e

@@ -1,5 +1,5 @@
 -- One id in the place of another.
-use Rattle.std.proofs.Common.{◌≡◌, List, Option, map, subst, get_or, [], Some, is_some, option_map, unwrap_or, sym, ap, ◌∙◌}
+use Rattle.std.proofs.Common.{◌≡◌, List, Option, map, [], Some, is_some, option_map, unwrap_or, sym, ap, ◌∙◌}
 use Rattle.std.proofs.lemmas.Option.{get_or_from_slice_get}
 use Rattle.eco_ids.specs.declared.id.Id.{Id}
 use Rattle.eco_ids.specs.declared.entity.Entity.{Entity}
@@ -11,20 +11,13 @@ use Rattle.eco_entities.specs.Registration.{Registration, own_place}
 use Rattle.eco_tables.specs.Table.{TableState, Row}
 use Rattle.eco_tables.specs.Tables.{no_row}
 use Rattle.eco_index.specs.Edges.{exchanged}
-use Rattle.eco_store.specs.declared.layout.moves.Moved.{Moved}
-use Rattle.eco_store.specs.Layout.{rows_in, ExchangesRow, MovesRow, ids_at}
+use Rattle.eco_store.specs.Layout.{rows_in, ids_at}
 use Rattle.eco_store.specs.Seats.{seat_of, held_of}
 use Rattle.eco_archetypes.specs.Archetypes.{row_at}
 use Rattle.eco_store.specs.Store.{IsStore, read, record_for, record_ids, has, held_at, with_exchanged, with_type}
 use Rattle.std.specs.FinMap.Entries.{find}
 use Rattle.eco_ids.proofs.Exact.{keys_find}
 use Rattle.eco_store.proofs.StoreChanges.{placed_record, read_record, seat_there}
-
--- an exchange from where the rows were the same
-pub exchanges_from : (s s0 s1 : List (Option TableState)) (p : Place) (i j : Id) → rows_in s0 ≡ rows_in s → (m : Moved)
-    → ExchangesRow s0 s1 p i j m → ExchangesRow s s1 p i j m
-exchanges_from s s0 s1 p i j same m moves =
-    subst (λ R. MovesRow R (rows_in s1) p m.place (exchanged (map (λ x. x.0) (get_or (R p.table) p.row no_row).held) i j) m.filler) same moves
 
 module _ (w : Indexed Registration) (s : List (Option TableState)) (e : Entity) (p : Place) (store : IsStore w s) (own : own_place w e ≡ Some p) where
   of : (r : Registration) × (record_of w e ≡ Some r) × (r.place ≡ Some p)

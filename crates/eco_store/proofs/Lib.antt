@@ -13,6 +13,7 @@ pub mod Pouring
 pub mod Coming
 pub mod Targets
 pub mod LaidRows
+pub mod Laid
 pub mod RowCounts
 pub mod Rowless
 pub mod FoundTypes

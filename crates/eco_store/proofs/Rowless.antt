@@ -1,6 +1,6 @@
 -- Which tables are without rows, after rows came and went.
 use Rattle.std.proofs.Common.{◌≡◌, ◌≢◌, ℕ, Bool, true, false, true≢false, ◌||◌, IsTrue, List, [], ◌∷◌, ◌++◌, length, Option, Some, None, unwrap_or, IsSome}
-use Rattle.std.proofs.Common.{zero, suc, is_some, nat_eq, get_or, slice_get, slice_set, refl, sym, ap, subst, ◌∙◌, arith, inl, inr}
+use Rattle.std.proofs.Common.{zero, suc, is_some, nat_eq, slice_get, slice_set, refl, sym, ap, subst, ◌∙◌, arith, inl, inr}
 use Rattle.std.specs.List.{list_any}
 use Rattle.std.proofs.lemmas.Bool.{cases_eq}
 use Rattle.std.proofs.lemmas.Bool.Decides.{Decides-eqb}
@@ -10,7 +10,7 @@ use Rattle.eco_tables.specs.Tables.{slot_of, table_in, no_table, rowless, rowles
 use Rattle.eco_ids.proofs.Lists.{not_equal}
 use Rattle.eco_archetypes.specs.Archetypes.{is_rowless, RowlessIn, SameRows, SameTypes}
 use Rattle.eco_store.specs.declared.transfer.Transfer.{Transfer}
-use Rattle.eco_store.specs.Transfers.{AreNamed, Pours}
+use Rattle.eco_store.specs.Transfers.{IsNamed, Pours}
 use Rattle.eco_store.specs.Staying.{StayingState, all_staying, with_gathered, with_target}
 use Rattle.eco_ids.proofs.Facts.{or_right}
 use Rattle.eco_archetypes.proofs.ArchetypeLemmas.{type_there, there_as_typed}
@@ -168,10 +168,9 @@ rowless_but s n slots has_rows was m empty =
     let other : m ≢ n = λ here. true≢false (sym empty ∙ ap (is_rowless s) here ∙ has_rows) in
     sym (ap (λ b. b || list_any (nat_eq m) slots) (not_equal m n other)) ∙ was m empty
 
--- the tables of the transfers are targets, and so they stay
-pub named_stay : (p : StayingState) (ts : List Transfer) → AreNamed p.targets ts → AreNamed (all_staying p) ts
-named_stay p ts named k d within =
-    let both = named k d within in (stays (get_or ts k d).from both.0, stays (get_or ts k d).to both.1)
+-- the tables of a transfer are targets, and so they stay
+pub named_stays : (p : StayingState) (t : Transfer) → IsNamed p.targets t → IsNamed (all_staying p) t
+named_stays p t named = (stays t.from named.0, stays t.to named.1)
   where
     stays : (m : ℕ) → IsTrue (list_any (nat_eq m) p.targets) → IsTrue (list_any (nat_eq m) (all_staying p))
     stays m there = among_more (p.gathered ++ p.targets) p.idle m (among_last p.gathered p.targets m there)

@@ -7,10 +7,8 @@ use Rattle.eco_tables.specs.Table.{Row, TableState, retyped_row}
 use Rattle.eco_tables.specs.Tables.{no_table, no_row, slot_of, table_in, rowless, rowless_type}
 use Rattle.eco_ids.specs.declared.id.Id.{Id}
 use Rattle.eco_entities.specs.declared.place.Place.{Place}
-use Rattle.eco_index.specs.Edges.{toggled}
-use Rattle.eco_store.specs.Layout.{rows_in, RetypesRow, MovesRow, SetsRows, StepsRow}
+use Rattle.eco_store.specs.Layout.{rows_in, RetypesRow}
 use Rattle.eco_archetypes.specs.Archetypes.{TakesType, RowlessIn, is_rowless, SameSlots}
-use Rattle.eco_store.specs.declared.layout.moves.Moved.{Moved}
 
 pub retypes_one : (xs : List Row) (row : ℕ) (f : Row → Row) (d : Row) → length xs ≡ 1 → row < length xs → map f xs ≡ set xs row (f (get_or xs row d))
 retypes_one [] row f d alone within = absurd (omega (arith, within))
@@ -45,12 +43,3 @@ takes_rowless s s' n ids takes alone slots none k h = elim (cases_eq k n) [
 
 pub rowless_slots : (s s' : List (Option TableState)) (xs : List ℕ) → SameSlots s s' → RowlessIn s xs → RowlessIn s' xs
 rowless_slots s s' xs same none k h = none k (subst (λ o. IsTrue (is_some (rowless_type o))) (same k) h)
-
--- a step from where the rows were the same
-pub steps_from : (s s0 s1 : List (Option TableState)) (p : Place) (i : Id) → rows_in s0 ≡ rows_in s → (m : Option Moved)
-    → StepsRow s0 s1 p i m → StepsRow s s1 p i m
-steps_from s s0 s1 p i same None steps =
-    subst (λ R. SetsRows R (rows_in s1) p.table
-    (set (R p.table) p.row (retyped_row (toggled (map (λ x. x.0) (get_or (R p.table) p.row no_row).held) i) (get_or (R p.table) p.row no_row)))) same steps
-steps_from s s0 s1 p i same (Some m) steps =
-    subst (λ R. MovesRow R (rows_in s1) p m.place (toggled (map (λ x. x.0) (get_or (R p.table) p.row no_row).held) i) m.filler) same steps

@@ -1,22 +1,90 @@
--- The tables of a store, and how their rows change.
-use Rattle.std.specs.Prelude.{◌≡◌, ◌≢◌, ℕ, List, [], ◌∷◌, ◌++◌, length, map, slice_get, slice_index_or, slice_set}
-use Rattle.std.specs.Prelude.{Option, None, Some}
-use Rattle.std.specs.List.{swap_remove}
+-- The entities of a store in their tables, and how these change.
+use Rattle.std.specs.Prelude.{◌≡◌, ◌≢◌, ℕ, IsTrue, List, [], ◌∷◌, ◌++◌, length, map, nat_eq, slice_get, slice_index_or, slice_set}
+use Rattle.std.specs.Prelude.{Option, OnErr, OnOk, Result}
+use Rattle.std.specs.List.{list_any, swap_remove}
 use Rattle.eco_ids.specs.declared.entity.Entity.{Entity}
 use Rattle.eco_ids.specs.declared.id.Id.{Id}
 use Rattle.eco_ids.specs.declared.value.Value.{Value}
-use Rattle.eco_tables.specs.Table.{TableState, Row, HasIds, retyped_row, entities_of}
+use Rattle.eco_tables.specs.Table.{Row, TableState, retyped_row, entities_of}
 use Rattle.eco_tables.specs.Tables.{table_in, row_in, no_row, new_row, row_with}
 use Rattle.eco_entities.specs.declared.place.Place.{Place}
-use Rattle.eco_index.specs.Edges.{exchanged, toggled}
-use Rattle.eco_store.specs.declared.layout.moves.Moved.{Moved}
-use Rattle.eco_archetypes.specs.Archetypes.{RowlessIn}
-use Rattle.eco_store.specs.Staying.{StayingState, only_idle, all_staying}
+use Rattle.eco_entities.specs.Needs.{need}
+use Rattle.eco_ids.specs.Indices.{Indexed}
+use Rattle.eco_ids.specs.World.{Record}
+use Rattle.eco_archetypes.specs.Archetypes.{RowlessIn, SameRows}
+use Rattle.eco_archetypes.specs.Widths.{Covers}
+use Rattle.eco_store.specs.declared.layout.Layout.{Layout}
+use Rattle.eco_store.specs.Moving.{Admits}
+use Rattle.eco_store.specs.Staying.{only_idle, all_staying, SameIn}
+use Rattle.eco_store.specs.Store.{IsStore, read}
+use Rattle.eco_store.specs.Transfers.{Pours, Thins}
 
--- tidy: no table is without rows but the idle ones; done: no call is under way
-pub record IsLaid (slots : List (Option TableState)) (p : StayingState) : Type 0 where
-  pub tidy : RowlessIn slots (all_staying p)
-  pub done : p ≡ only_idle p.idle
+-- what is seen of a layout: the record of each living entity
+abbrev pub seen : Layout → Indexed Record
+seen l = read l.entities l.archetypes
+
+-- store: entities and rows agree; covers: tables keep as many fields as values may need; tidy: each table without rows is in
+-- one of these slots
+pub record IsLaidBut (l : Layout) (slots : List ℕ) : Type 0 where
+  pub store : IsStore l.entities l.archetypes
+  pub covers : Covers (need l.entities) l.archetypes
+  pub tidy : RowlessIn l.archetypes slots
+
+-- the parts agree, and no table is without rows but those that stay
+abbrev pub IsLaid : Layout → Type 0
+IsLaid l = IsLaidBut l (all_staying l.staying)
+
+-- or the one in this slot
+abbrev pub IsLaidBeside : Layout → ℕ → Type 0
+IsLaidBeside l n = IsLaidBut l (n ∷ all_staying l.staying)
+
+-- and no call is under way
+pub record IsSettled (l : Layout) : Type 0 where
+  pub laid : IsLaid l
+  pub done : l.staying ≡ only_idle l.staying.idle
+
+-- ---- what calls leave
+
+-- all is seen to be so, or, where memory is refused, as it was
+pub record Attempts {A E : Type 0} (old new : Layout) (w : Indexed Record) (r : Result A E) : Type 0 where
+  pub laid : IsLaid new
+  pub ok : OnOk r (seen new ≡ w)
+  pub err : OnErr r (seen new ≡ seen old)
+
+-- tables without rows may have gone, but for targets, and others are idle
+pub record Releases (old new : Layout) : Type 0 where
+  pub laid : IsLaid new
+  pub entities : new.entities ≡ old.entities
+  pub rows : SameRows old.archetypes new.archetypes
+  pub staying : new.staying ≡ record old.staying { idle = new.staying.idle }
+  pub targets : SameIn old.archetypes new.archetypes old.staying.targets
+
+-- tables may have come, and targets: no row has changed
+pub record Plans (old new : Layout) : Type 0 where
+  pub laid : IsLaid new
+  pub entities : new.entities ≡ old.entities
+  pub rows : SameRows old.archetypes new.archetypes
+  pub targets : (n : ℕ) → IsTrue (list_any (nat_eq n) old.staying.targets) → IsTrue (list_any (nat_eq n) new.staying.targets)
+
+-- a row may have gone to the table in a slot
+pub record Carries (old new : Layout) (to : ℕ) : Type 0 where
+  pub laid : IsLaid new
+  pub staying : new.staying ≡ record old.staying { idle = new.staying.idle }
+  pub admits : Admits old.archetypes new.archetypes old.staying.targets to
+
+-- all rows of one table went to another, both of them targets
+pub record Empties (old new : Layout) (from to : ℕ) : Type 0 where
+  pub laid : IsLaid new
+  pub staying : new.staying ≡ old.staying
+  pub pours : Pours old.archetypes new.archetypes from to
+
+-- rows may have gone
+pub record Loses (old new : Layout) : Type 0 where
+  pub laid : IsLaid new
+  pub targets : new.staying.targets ≡ old.staying.targets
+  pub thins : Thins old.archetypes new.archetypes old.staying.targets
+
+-- ---- rows
 
 -- the rows of the table in a slot; none, where it is empty
 abbrev pub rows_in : List (Option TableState) → ℕ → List Row
@@ -62,17 +130,3 @@ pub record MovesRow (old new : ℕ → List Row) (from to : Place) (ids : List I
 abbrev pub RetypesRow : (ℕ → List Row) → (ℕ → List Row) → Place → List Id → Type 0
 RetypesRow old new p ids =
     SetsRows old new p.table (slice_set (old p.table) p.row (retyped_row ids (slice_index_or (old p.table) p.row no_row)))
-
--- the row went to a table of the type that has the id more, or less, or has that type where it stands
-abbrev pub StepsRow : List (Option TableState) → List (Option TableState) → Place → Id → Option Moved → Type 0
-StepsRow old new p i None = RetypesRow (rows_in old) (rows_in new) p (toggled (ids_at old p) i)
-StepsRow old new p i (Some m) = MovesRow (rows_in old) (rows_in new) p m.place (toggled (ids_at old p) i) m.filler
-
--- the row went to a table of the type that has the second id in the place of the first
-abbrev pub ExchangesRow : List (Option TableState) → List (Option TableState) → Place → Id → Id → Moved → Type 0
-ExchangesRow old new p i j m = MovesRow (rows_in old) (rows_in new) p m.place (exchanged (ids_at old p) i j) m.filler
-
--- where the row stands now, and who fills its old place; none where it had the type
-abbrev pub IsMoved : (ℕ → List Row) → (ℕ → List Row) → Place → List Id → Option Moved → Type 0
-IsMoved old new p ids None = (new ≡ old) × HasIds ids (slice_index_or (old p.table) p.row no_row)
-IsMoved old new p ids (Some m) = MovesRow old new p m.place ids m.filler

@@ -20,13 +20,11 @@ use Rattle.eco_ids.specs.World.{Record, zeros}
 use Rattle.eco_tables.specs.Column.{retyped, with_held}
 use Rattle.eco_tables.specs.Table.{TableState, Row, RowsHaveIds}
 use Rattle.eco_entities.specs.declared.place.Place.{Place}
-use Rattle.eco_entities.specs.Needs.{need}
 use Rattle.eco_entities.specs.Registration.{Registration}
 use Rattle.eco_tables.specs.Tables.{table_in}
 use Rattle.eco_index.specs.Edges.{exchanged, toggled}
 use Rattle.eco_store.specs.Seats.{Seat, IsSeated, held_of}
 use Rattle.eco_archetypes.specs.Archetypes.{row_at}
-use Rattle.eco_archetypes.specs.Widths.{Covers}
 
 -- a store: a record of each living entity by its index
 pub record StoreState : Type 0 where
@@ -152,11 +150,6 @@ HasPlace (Some (Living g r)) = IsSome r.place
 pub record IsStore (w : Indexed Registration) (slots : List (Option TableState)) : Type 0 where
   pub seated : IsSeated (seat_at w) (row_at slots)
   pub placed : (i : ℕ) → HasPlace (slice_get w.indices i)
-
--- likewise, and tables keep as many fields as values may need
-pub record IsKept (w : Indexed Registration) (slots : List (Option TableState)) : Type 0 where
-  pub store : IsStore w slots
-  pub covers : Covers (need w) slots
 
 -- ---- what is seen of the tables
 

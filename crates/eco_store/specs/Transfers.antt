@@ -14,9 +14,13 @@ use Rattle.eco_archetypes.specs.Archetypes.{type_at, SameTypes}
 abbrev pub change_of : List (Option TableState) → Transfer → TypeChange
 change_of slots t = record { from = (table_in slots t.from).ids; to = (table_in slots t.to).ids }
 
--- both tables of each transfer are in these slots
+-- both tables of the transfer are in these slots
+abbrev pub IsNamed : List ℕ → Transfer → Type 0
+IsNamed slots t = IsTrue (list_any (nat_eq t.from) slots) × IsTrue (list_any (nat_eq t.to) slots)
+
+-- likewise of each transfer
 abbrev pub AreNamed : List ℕ → List Transfer → Type 0
-AreNamed slots ts = All (λ t. IsTrue (list_any (nat_eq t.from) slots) × IsTrue (list_any (nat_eq t.to) slots)) ts
+AreNamed slots ts = All (λ t. IsNamed slots t) ts
 
 -- the tables of each transfer are there, and the changes of type are these
 pub record IsPlan (slots : List (Option TableState)) (transfers : List Transfer) (changes : List TypeChange) : Type 0 where

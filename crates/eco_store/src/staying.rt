@@ -7,9 +7,6 @@ use indexmap::IndexSet;
 use std::alloc::{AllocError, Global};
 use std::marker::Model;
 
-mod leaving;
-mod planning;
-
 // How many tables that lost their last row stay. An entity that gets some ids one by one goes through as many tables, and where
 // it is alone in them, each loses its last row.
 const IDLE_COUNT: usize = 8;

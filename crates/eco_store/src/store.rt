@@ -15,8 +15,10 @@ ghost use Rattle.eco_store.specs.Store.{Admission, Creates, Renames, MakesAlive,
 ghost use Rattle.eco_store.specs.Lent.{KeepData, KeepsData};
 
 use crate::layout::Layout;
-use eco_entities::EntityIndex;
+use crate::staying::Staying;
+use eco_archetypes::Archetypes;
 use eco_entities::laws::needs_never_grow;
+use eco_entities::{EntityIndex, Place};
 use eco_ids::{Entity, Id, Refusal, TypeList, Value};
 use eco_tables::{Table, Tables};
 use std::alloc::Global;
@@ -36,18 +38,18 @@ mod viewing;
 /// seen.
 pub struct Store {
     alloc: Global,
-    entities: EntityIndex,
     layout: Layout,
 }
 
 impl Model for Store {
-    ghost use Rattle.eco_store.specs.Store.{StoreState, IsKept, read};
+    ghost use Rattle.eco_store.specs.Layout.{seen, IsSettled};
+    ghost use Rattle.eco_store.specs.Store.{StoreState};
 
     ghost Value = { StoreState };
 
-    ghost view = { λ s. record { entities = read s.entities s.layout } };
+    ghost view = { λ s. record { entities = seen s.layout } };
 
-    ghost invariant = { λ s. IsKept s.entities s.layout };
+    ghost invariant = { λ s. IsSettled s.layout };
 }
 
 // By hand, so that dropping it is one call: a derived drop is proved anew at each early return of whoever holds it.
@@ -55,7 +57,6 @@ impl Drop for Store {
     fn drop(self) {
         let Store {
             alloc: _,
-            entities: _,
             layout: _,
         } = self;
     }
@@ -81,8 +82,11 @@ impl Store {
     {
         Store {
             alloc,
-            entities: EntityIndex::new(alloc, limit),
-            layout: Layout::new(alloc),
+            layout: Layout {
+                entities: EntityIndex::new(alloc, limit),
+                archetypes: Archetypes::new(alloc),
+                staying: Staying::new(alloc),
+            },
         }
     }
 
@@ -90,7 +94,7 @@ impl Store {
     pub fn limit(&self) -> u32
         ensures { result ≡ self.now.entities.limit }
     {
-        self.entities.limit()
+        self.layout.entities.limit()
     }
 
     /// How many indices are known: living, free or retired.
@@ -99,28 +103,28 @@ impl Store {
         ensures within { length self.now.entities.indices ≤ self.now.entities.limit }
         ensures limited { self.now.entities.limit ≤ 1048576 }
     {
-        self.entities.high()
+        self.layout.entities.high()
     }
 
     /// Whether the entity lives.
     pub fn is_alive(&self, e: Entity) -> bool
         ensures { result ≡ is_alive self.now.entities e }
     {
-        self.entities.is_alive(e)
+        self.layout.entities.is_alive(e)
     }
 
     /// The living entity at an index.
     pub fn entity_at(&self, index: u32) -> Option<Entity>
         ensures { result ≡ entity_at self.now.entities index }
     {
-        self.entities.entity_at(index)
+        self.layout.entities.entity_at(index)
     }
 
     /// The name of a living entity, if it has one.
     pub fn name(&self, e: Entity) -> Option<&str>
         ensures { option_copied result ≡ own_name record_name self.now.entities e }
     {
-        self.entities.name(e)
+        self.layout.entities.name(e)
     }
 
     /// The arity of a living entity, if it has one.
@@ -128,14 +132,14 @@ impl Store {
     pub fn arity_of(&self, e: Entity) -> Option<u8>
         ensures { result ≡ own_arity self.now.entities e }
     {
-        self.entities.arity_of(e)
+        self.layout.entities.arity_of(e)
     }
 
     /// The living entity of this name.
     pub fn lookup(&self, name: &str) -> Option<Entity>
         ensures { result ≡ named_entity record_name self.now.entities name.now }
     {
-        self.entities.lookup(name)
+        self.layout.entities.lookup(name)
     }
 
     /// The table in which a living entity stands, and its row.
@@ -145,8 +149,8 @@ impl Store {
             (λ x. Stands (record_of self.now.entities e) x.0.now x.1) }
         ensures kept { IfSome result (λ x. KeepsData self.now.entities x.0.now) }
     {
-        let place = self.entities.place_of(e)?;
-        let table = self.layout.tables().get(place.table).unwrap();
+        let place = self.layout.entities.place_of(e)?;
+        let table = self.layout.archetypes.tables().get(place.table).unwrap();
         Some((table, place.row))
     }
 
@@ -185,7 +189,7 @@ impl Store {
         ensures kinds { (n m : ℕ) (ids : List Ids) →
             type_at result.now n ≡ Some ids → type_at result.now m ≡ Some ids → n ≡ m }
     {
-        let tables = self.layout.tables();
+        let tables = self.layout.archetypes.tables();
         tables.rows_have_ids();
         tables
     }
@@ -196,7 +200,7 @@ impl Store {
         ensures { Opposes (unfit_name record_name self.now.entities (option_copied name.entry))
             (next_entity self.now.entities) result }
     {
-        check_new(&self.entities, name)
+        check_new(&self.layout.entities, name)
     }
 
     /// Makes an entity with these ids, all with zeros, at the lowest free index, else at the first unknown one. It has this
@@ -232,11 +236,14 @@ impl Store {
         ensures none { IfNone result (self.new ≡ self.old) }
     {
         // A place's row fits, as a table has no more rows than there are indices.
-        self.entities.rules();
+        self.layout.entities.rules();
         needs_never_grow();
-        let place = self.layout.next_place(type_list)?;
-        let entity = self.entities.create_in_room(arity, place)?;
-        self.layout.fill_place(entity, place);
+        let (table, row) = self.layout.archetypes.last_with_room(type_list)?;
+        let entity = self
+            .layout
+            .entities
+            .create_in_room(arity, Place { table, row })?;
+        self.layout.archetypes.push_row(table, entity);
         Some(entity)
     }
 
@@ -252,27 +259,35 @@ impl Store {
             result self.new.entities }
     {
         // A place's row fits, as a table has no more rows than there are indices.
-        self.entities.rules();
+        self.layout.entities.rules();
         needs_never_grow();
-        let Some(entity) = self.entities.next() else {
-            self.entities.check_name(name)?;
+        let Some(entity) = self.layout.entities.next() else {
+            self.layout.entities.check_name(name)?;
             return Err(Refusal::NoMoreIds);
         };
-        let place = match self.layout.push_row(&self.entities, type_list, entity) {
-            Ok(place) => place,
+        let table = match self
+            .layout
+            .archetypes
+            .room_for(&self.layout.entities, type_list, 1)
+        {
+            Ok(table) => table,
             Err(refused) => {
                 // What stands against the entity is told before the want of memory.
-                check_new(&self.entities, name)?;
+                check_new(&self.layout.entities, name)?;
                 return Err(Refusal::from(refused));
             }
         };
-        match self.entities.create_next(entity, name, arity) {
+        match self.layout.entities.create_next(entity, name, arity) {
             Ok(created) => {
-                self.entities.set_place(created, place);
+                let row = self.layout.archetypes.tables().row_count(table);
+                self.layout.archetypes.push_row(table, created);
+                self.layout
+                    .entities
+                    .set_place(created, Place { table, row });
                 Ok(created)
             }
             Err(refused) => {
-                self.layout.take_row(place);
+                self.layout.release(table);
                 Err(refused)
             }
         }
@@ -285,7 +300,7 @@ impl Store {
         ensures step { Admission self.old.entities count result self.new.entities }
     {
         needs_never_grow();
-        self.entities.admit(count)
+        self.layout.entities.admit(count)
     }
 
     /// This very handle lives from now on, without name, arity and ids.
@@ -295,16 +310,20 @@ impl Store {
     pub fn make_alive(&mut self, e: Entity) -> Result<(), Refusal>
         ensures step { MakesAlive self.old.entities e result self.new.entities }
     {
-        self.entities.rules();
+        self.layout.entities.rules();
         needs_never_grow();
-        if !self.entities.is_free_at(e) {
+        if !self.layout.entities.is_free_at(e) {
             return Err(Refusal::Taken);
         }
-        let place = self
+        let type_list = TypeList::empty(self.alloc);
+        let table = self
             .layout
-            .push_row(&self.entities, &TypeList::empty(self.alloc), e)?;
-        self.entities.make_alive(e)?;
-        self.entities.set_place(e, place);
+            .archetypes
+            .room_for(&self.layout.entities, &type_list, 1)?;
+        let row = self.layout.archetypes.tables().row_count(table);
+        self.layout.archetypes.push_row(table, e);
+        self.layout.entities.make_alive(e)?;
+        self.layout.entities.set_place(e, Place { table, row });
         Ok(())
     }
 
@@ -316,7 +335,7 @@ impl Store {
         ensures step { Renames self.old.entities e (option_copied name.entry) result self.new.entities }
     {
         needs_never_grow();
-        self.entities.rename(e, name)
+        self.layout.entities.rename(e, name)
     }
 
     /// Writes the value of an id that a living entity has, and takes no memory: fields past the id's arity are 0, since tables
@@ -328,7 +347,9 @@ impl Store {
         ensures written { self.new.entities ≡ changed self.old.entities e (with_written id value) }
         ensures had { result ≡ is_some (find id_cmp id (held_by self.old.entities e)) }
     {
-        let place = self.entities.place_of(e).unwrap();
-        self.layout.set_value(place, id, value)
+        let place = self.layout.entities.place_of(e).unwrap();
+        self.layout
+            .archetypes
+            .set_value(place.table, place.row, id, value)
     }
 }

@@ -1,15 +1,14 @@
 //! All rows of a table go to another, and their entities with them.
-ghost use Rattle.std.specs.Prelude.{◌≡◌, ◌≢◌, ◌≤◌, List, ℕ, length, map, IsSome, OnOk};
+ghost use Rattle.std.specs.Prelude.{◌≡◌, ◌≢◌, ◌≤◌, length, map, IsSome, OnOk};
 ghost use Rattle.std.specs.List.{All};
 ghost use Rattle.eco_tables.specs.Tables.{slot_of, table_in};
-ghost use Rattle.eco_archetypes.specs.Archetypes.{RowlessIn, SameTypes, SameRows};
+ghost use Rattle.eco_archetypes.specs.Archetypes.{SameTypes};
+ghost use Rattle.eco_store.specs.Layout.{seen, Empties, IsLaid, Plans};
 ghost use Rattle.eco_store.specs.Retyping.{after_change, after_changes, IsOneWay};
-ghost use Rattle.eco_store.specs.Store.{IsStore, read};
-ghost use Rattle.eco_entities.specs.Needs.{need};
-ghost use Rattle.eco_archetypes.specs.Widths.{Covers, KeepsWidths};
-ghost use Rattle.eco_store.specs.Transfers.{change_of, with_places, IsPlan, HasRoom, Pours, AreNamed};
+ghost use Rattle.eco_store.specs.Store.{IsStore};
+ghost use Rattle.eco_store.specs.Transfers.{change_of, with_places, AreNamed, HasRoom, IsNamed, IsPlan};
 
-use eco_archetypes::Archetypes;
+use crate::layout::Layout;
 use eco_entities::{EntityIndex, Place};
 use eco_tables::Tables;
 use std::alloc::AllocError;
@@ -44,59 +43,56 @@ impl Transfer {
             );
         }
     }
+}
 
-    // All rows go to the end of the other table, in their order. It takes no memory.
-    fn move_rows(self, entities: &mut EntityIndex, archetypes: &mut Archetypes)
-        requires store { IsStore entities.old archetypes.old }
-        requires apart { self.from ≢ self.to }
-        requires source { IsSome (slot_of archetypes.old self.from) }
-        requires target { IsSome (slot_of archetypes.old self.to) }
-        requires room { length (table_in archetypes.old self.from).rows
-            ≤ (table_in archetypes.old self.to).room }
-        ensures store { IsStore entities.new archetypes.new }
-        ensures covers { Covers (need entities.old) archetypes.old →
-            Covers (need entities.new) archetypes.new }
-        ensures pours { Pours archetypes.old archetypes.new self.from self.to }
-        ensures read { read entities.new archetypes.new
-            ≡ after_change (read entities.old archetypes.old) (change_of archetypes.old self) }
+impl Layout {
+    /// Room for all that the transfers bring.
+    pub(crate) fn take_room(&mut self, transfers: &[Transfer]) -> Result<(), AllocError>
+        requires laid { IsLaid self.old }
+        requires there { All (λ transfer. IsSome (slot_of self.old.archetypes transfer.to)) transfers.now }
+        ensures plans { Plans self.old self.new }
+        ensures types { SameTypes self.old.archetypes self.new.archetypes }
+        ensures room { OnOk result (HasRoom self.new.archetypes transfers.now) }
     {
-        let tables = archetypes.tables();
+        for transfer in transfers {
+            let rows = self.archetypes.tables().row_count(transfer.from);
+            self.archetypes.reserve_more(transfer.to, rows)?;
+        }
+        Ok(())
+    }
+
+    /// Carries the transfers out, one after another. It takes no memory.
+    pub(crate) fn move_all(&mut self, transfers: &[Transfer])
+        requires laid { IsLaid self.old }
+        requires named { AreNamed self.old.staying.targets transfers.now }
+        requires plan { IsPlan self.old.archetypes transfers.now
+            (map (change_of self.old.archetypes) transfers.now) }
+        requires one_way { IsOneWay (map (change_of self.old.archetypes) transfers.now) }
+        requires room { HasRoom self.old.archetypes transfers.now }
+        ensures laid { IsLaid self.new }
+        ensures seen { seen self.new
+            ≡ after_changes (seen self.old) (map (change_of self.old.archetypes) transfers.now) }
+    {
+        for transfer in transfers {
+            self.move_rows(*transfer);
+        }
+    }
+
+    // All rows of a table go to the end of the other one, in their order. It takes no memory.
+    fn move_rows(&mut self, transfer: Transfer)
+        requires laid { IsLaid self.old }
+        requires named { IsNamed self.old.staying.targets transfer }
+        requires apart { transfer.from ≢ transfer.to }
+        requires source { IsSome (slot_of self.old.archetypes transfer.from) }
+        requires target { IsSome (slot_of self.old.archetypes transfer.to) }
+        requires room { length (table_in self.old.archetypes transfer.from).rows
+            ≤ (table_in self.old.archetypes transfer.to).room }
+        ensures empties { Empties self.old self.new transfer.from transfer.to }
+        ensures seen { seen self.new ≡ after_change (seen self.old) (change_of self.old.archetypes transfer) }
+    {
+        let tables = self.archetypes.tables();
         tables.rows_have_ids();
-        self.place_rows(entities, tables);
-        archetypes.move_rows(self.from, self.to);
+        transfer.place_rows(&mut self.entities, tables);
+        self.archetypes.move_rows(transfer.from, transfer.to);
     }
-}
-
-/// Carries the transfers out, one after another. Each table that this leaves without rows is one of theirs. It takes no memory.
-pub fn move_all(entities: &mut EntityIndex, archetypes: &mut Archetypes, transfers: &[Transfer])
-    requires store { IsStore entities.old archetypes.old }
-    requires plan { IsPlan archetypes.old transfers.now (map (change_of archetypes.old) transfers.now) }
-    requires one_way { IsOneWay (map (change_of archetypes.old) transfers.now) }
-    requires room { HasRoom archetypes.old transfers.now }
-    ensures store { IsStore entities.new archetypes.new }
-    ensures covers { Covers (need entities.old) archetypes.old → Covers (need entities.new) archetypes.new }
-    ensures read { read entities.new archetypes.new
-        ≡ after_changes (read entities.old archetypes.old) (map (change_of archetypes.old) transfers.now) }
-    ensures rowless { (slots : List ℕ) → AreNamed slots transfers.now →
-        RowlessIn archetypes.old slots → RowlessIn archetypes.new slots }
-{
-    for transfer in transfers {
-        transfer.move_rows(entities, archetypes);
-    }
-}
-
-/// Room for all that the transfers bring.
-pub fn take_room(archetypes: &mut Archetypes, transfers: &[Transfer]) -> Result<(), AllocError>
-    requires { All (λ transfer. IsSome (slot_of archetypes.old transfer.to)) transfers.now }
-    ensures room { OnOk result (HasRoom archetypes.new transfers.now) }
-    ensures types { SameTypes archetypes.old archetypes.new }
-    ensures rowless { (slots : List ℕ) → RowlessIn archetypes.old slots → RowlessIn archetypes.new slots }
-    ensures rows { SameRows archetypes.old archetypes.new }
-    ensures widths { KeepsWidths archetypes.old archetypes.new }
-{
-    for transfer in transfers {
-        let rows = archetypes.tables().row_count(transfer.from);
-        archetypes.reserve_more(transfer.to, rows)?;
-    }
-    Ok(())
 }

@@ -12,6 +12,6 @@ impl Store {
     pub fn keep(&mut self, query: Query) -> Result<usize, AllocError>
         ensures same { self.new ≡ self.old }
     {
-        self.layout.keep(query)
+        self.layout.archetypes.keep(query)
     }
 }

@@ -1,6 +1,7 @@
 //! The store once more.
 ghost use Rattle.std.specs.Prelude.{◌≡◌, IfOk};
 
+use crate::layout::Layout;
 use crate::store::Store;
 use std::alloc::AllocError;
 
@@ -10,12 +11,15 @@ impl Store {
     pub fn try_copy(&self) -> Result<Store, AllocError>
         ensures { IfOk result (λ s. s ≡ self.now) }
     {
-        let entities = self.entities.try_copy()?;
-        let layout = self.layout.try_copy()?;
+        let entities = self.layout.entities.try_copy()?;
+        let archetypes = self.layout.archetypes.try_copy()?;
         Ok(Store {
             alloc: self.alloc,
-            entities,
-            layout,
+            layout: Layout {
+                entities,
+                archetypes,
+                staying: self.layout.staying.emptied(),
+            },
         })
     }
 }

@@ -17,7 +17,7 @@ impl Store {
         requires { IsTrue (is_alive self.old.entities e) }
         ensures entities { self.new.entities ≡ with_death self.old.entities e }
     {
-        self.layout.kill(&mut self.entities, e);
+        self.layout.kill(e);
     }
 
     /// Each of these entities that lives dies, as in [`take_out`](Store::take_out), and then all entities of a type get
@@ -32,6 +32,14 @@ impl Store {
             ≡ after_changes (after_deaths self.old.entities (has_item entity_cmp dead.now)) changes.now) }
         ensures err { OnErr result (self.new.entities ≡ self.old.entities) }
     {
-        self.layout.delete_all(&mut self.entities, dead, changes)
+        let planned = self.layout.plan_changes(self.alloc, changes);
+        if let Ok(transfers) = &planned {
+            let tables = self.layout.archetypes.tables().len();
+            self.layout.staying.expect(dead.len().min(tables));
+            // The tables of the transfers stay, though the deaths may leave them without rows.
+            self.layout.carry_out(dead, transfers);
+        }
+        self.layout.forget();
+        planned.map(|_| ())
     }
 }

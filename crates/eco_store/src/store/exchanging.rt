@@ -3,9 +3,7 @@ ghost use Rattle.std.specs.Prelude.{◌≡◌, true, false, IsTrue, OnOk, OnErr}
 ghost use Rattle.eco_ids.specs.Indices.{changed, is_alive};
 ghost use Rattle.eco_store.specs.Store.{has, with_exchanged};
 
-use crate::placing::fix_place;
 use crate::store::Store;
-use eco_entities::laws::needs_never_grow;
 use eco_ids::{Entity, Id};
 use std::alloc::AllocError;
 
@@ -20,15 +18,14 @@ impl Store {
             (self.new.entities ≡ changed self.old.entities e (with_exchanged leaving coming)) }
         ensures err { OnErr result (self.new.entities ≡ self.old.entities) }
     {
-        // A place's row fits, as a table has no more rows than there are indices.
-        self.entities.rules();
-        needs_never_grow();
-        let place = self.entities.place_of(e).unwrap();
-        let moved = self
+        // The type that the row leaves is that of its own ids, since each row has a value for each id of its table.
+        self.layout.archetypes.tables().rows_have_ids();
+        let place = self.layout.entities.place_of(e).unwrap();
+        let to = self
             .layout
-            .exchange_row(&self.entities, place, leaving, coming)?;
-        fix_place(&mut self.entities, moved.filler, place);
-        self.entities.set_place(e, moved.place);
+            .archetypes
+            .exchange(&self.layout.entities, place.table, leaving, coming)?;
+        self.layout.carry(e, place, to);
         Ok(())
     }
 }

@@ -5,9 +5,7 @@ ghost use Rattle.eco_store.specs.Moving.{after_moves};
 ghost use Rattle.eco_store.specs.Store.{type_of, with_type};
 
 use crate::moving::Move;
-use crate::placing::fix_place;
 use crate::store::Store;
-use eco_entities::laws::needs_never_grow;
 use eco_ids::{Entity, TypeList};
 use std::alloc::AllocError;
 
@@ -20,19 +18,19 @@ impl Store {
         ensures err { OnErr result (self.new.entities ≡ self.old.entities) }
         ensures own { type_of self.old.entities e ≡ Some type_list.now → IsOk result }
     {
-        // A place's row fits, as a table has no more rows than there are indices.
-        self.entities.rules();
-        needs_never_grow();
+        let tables = self.layout.archetypes.tables();
+        tables.rows_have_ids();
+        let place = self.layout.entities.place_of(e).unwrap();
+        let table = tables.get(place.table).unwrap();
         // Under its own type an entity holds what it held, since the ids of its row ascend.
-        let _ids = type_list.as_slice();
-        let place = self.entities.place_of(e).unwrap();
-        match self.layout.move_row(&self.entities, place, type_list)? {
-            Some(moved) => {
-                fix_place(&mut self.entities, moved.filler, place);
-                self.entities.set_place(e, moved.place);
-            }
-            None => {}
+        if table.type_list().as_slice() == type_list.as_slice() {
+            return Ok(());
         }
+        let to = self
+            .layout
+            .archetypes
+            .room_for(&self.layout.entities, type_list, 1)?;
+        self.layout.carry(e, place, to);
         Ok(())
     }
 
@@ -46,6 +44,11 @@ impl Store {
         ensures err { OnErr result (self.new.entities ≡ self.old.entities) }
         ensures nothing { moves.now ≡ [] → IsOk result }
     {
-        self.layout.retype_all(&mut self.entities, moves)
+        let planned = self.layout.plan_moves(self.alloc, moves);
+        if let Ok(slots) = &planned {
+            self.layout.make_moves(moves, slots);
+        }
+        self.layout.forget();
+        planned.map(|_| ())
     }
 }

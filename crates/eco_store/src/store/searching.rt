@@ -45,9 +45,9 @@ impl Store {
         ensures kinds { IfOk result (λ f. (n m : ℕ) (ids : List Ids) →
             type_at f.tables.now n ≡ Some ids → type_at f.tables.now m ≡ Some ids → n ≡ m) }
     {
-        let tables = self.layout.tables();
+        let tables = self.layout.archetypes.tables();
         tables.rows_have_ids();
-        let slots = self.layout.archetypes().tables_by(test)?;
+        let slots = self.layout.archetypes.tables_by(test)?;
         Ok(Found { tables, slots })
     }
 
@@ -71,8 +71,8 @@ impl Store {
     pub fn is_held_by<T: TypeTest>(&self, test: &T) -> bool
         ensures { result ≡ list_any (λ p. passes (T.test test.now) p.1) (living self.now.entities) }
     {
-        self.layout.tables().rows_have_ids();
-        self.layout.archetypes().finds(test)
+        self.layout.archetypes.tables().rows_have_ids();
+        self.layout.archetypes.finds(test)
     }
 
     /// Whether some living entity has an id that names this one. Where none has, mostly the marks of the index tell so, and no
@@ -80,8 +80,8 @@ impl Store {
     pub fn is_named(&self, entity: Entity) -> bool
         ensures { result ≡ list_any (λ p. is_holder entity p.1) (living self.now.entities) }
     {
-        self.layout.tables().rows_have_ids();
-        let archetypes = self.layout.archetypes();
+        self.layout.archetypes.tables().rows_have_ids();
+        let archetypes = &self.layout.archetypes;
         archetypes.is_named(entity) && archetypes.finds(&Naming { entity })
     }
 

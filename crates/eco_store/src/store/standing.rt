@@ -65,12 +65,12 @@ impl Store {
         ensures some { OnErr result
             (IsTrue (list_any (λ p. passes (T.test test.now) p.1) (living self.now.entities))) }
     {
-        let tables = self.layout.tables();
+        let tables = self.layout.archetypes.tables();
         tables.rows_have_ids();
-        let slots = self.layout.archetypes().tables_by(test)?;
-        let list = standing_in(self.alloc, &self.entities, tables, &slots)?;
+        let slots = self.layout.archetypes.tables_by(test)?;
+        let list = standing_in(self.alloc, &self.layout.entities, tables, &slots)?;
         Ok(Standings {
-            tables: self.layout.archetypes(),
+            tables: &self.layout.archetypes,
             slots,
             list,
         })

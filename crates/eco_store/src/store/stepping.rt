@@ -4,9 +4,7 @@ ghost use Rattle.eco_ids.specs.Indices.{changed, is_alive};
 ghost use Rattle.eco_ids.specs.Order.{entity_eq};
 ghost use Rattle.eco_store.specs.Store.{stepped, with_toggled};
 
-use crate::placing::fix_place;
 use crate::store::Store;
-use eco_entities::laws::needs_never_grow;
 use eco_ids::{Entity, Id};
 use std::alloc::AllocError;
 
@@ -18,17 +16,21 @@ impl Store {
         ensures ok { OnOk result (self.new.entities ≡ changed self.old.entities e (with_toggled id)) }
         ensures err { OnErr result (self.new.entities ≡ self.old.entities) }
     {
-        // A place's row fits, as a table has no more rows than there are indices.
-        self.entities.rules();
-        needs_never_grow();
-        let place = self.entities.place_of(e).unwrap();
-        match self.layout.step_row(&self.entities, place, id)? {
-            Some(moved) => {
-                fix_place(&mut self.entities, moved.filler, place);
-                self.entities.set_place(e, moved.place);
-            }
-            None => {}
+        // The type that the row leaves is that of its own ids, since each row has a value for each id of its table.
+        self.layout.archetypes.tables().rows_have_ids();
+        let place = self.layout.entities.place_of(e).unwrap();
+        let turned = self
+            .layout
+            .archetypes
+            .step_alone(&self.layout.entities, place.table, id)?;
+        if turned {
+            return Ok(());
         }
+        let to = self
+            .layout
+            .archetypes
+            .step(&self.layout.entities, place.table, id, 1)?;
+        self.layout.carry(e, place, to);
         Ok(())
     }
 
@@ -43,6 +45,8 @@ impl Store {
             (self.new.entities ≡ stepped (stepped self.old.entities first) second) }
         ensures err { OnErr result (self.new.entities ≡ self.old.entities) }
     {
-        self.layout.step_both(&mut self.entities, first, second)
+        let stepped = self.layout.step_both(first, second);
+        self.layout.forget();
+        stepped
     }
 }

@@ -10,7 +10,7 @@ impl Store {
     pub fn archetypes(&self) -> &Archetypes
         ensures { IsShown self.now.entities result.now }
     {
-        let archetypes = self.layout.archetypes();
+        let archetypes = &self.layout.archetypes;
         archetypes.tables().rows_have_ids();
         archetypes
     }
@@ -19,8 +19,8 @@ impl Store {
     pub fn places(&self) -> Places<'_>
         ensures { IsShown self.now.entities result }
     {
-        let archetypes = self.layout.archetypes();
+        let archetypes = &self.layout.archetypes;
         archetypes.tables().rows_have_ids();
-        Places::new(&self.entities, archetypes)
+        Places::new(&self.layout.entities, archetypes)
     }
 }

@@ -1,11 +1,22 @@
-use Rattle.std.proofs.Common.{subst, sym, ◌≡◌, OnOk}
-use Rattle.eco_store.specs.Store.{read, stepped}
-use Rattle.eco_store.proofs.StoreChanges.{same_read}
+use Rattle.std.proofs.Common.{subst, sym, ◌≡◌, IsTrue, OnOk}
+use Rattle.eco_ids.specs.Order.{entity_eq}
+use Rattle.eco_ids.proofs.Facts.{not_both}
+use Rattle.eco_ids.proofs.Overlaps.{entity_eq_itself}
+use Rattle.eco_store.specs.Layout.{seen}
+use Rattle.eco_store.proofs.Coupled.{steps_other_way}
 use Rattle.eco_store.proofs.layout.Layout.step_both.Goals as goal
 
-pub returns-clause-ok : goal.returns-clause-ok
-returns-clause-ok c =
-    let called = c.step_both-stepped in
-    rw (← c.self.view_is)
-    (subst (λ v. OnOk called.result (v ≡ stepped (stepped (read c.args.entities.now c.self.inside.archetypes) c.args.first) c.args.second))
-    (sym (same_read called.new.entities called.new.archetypes _ c.forget.ensures.rows)) called.ensures.ok)
+pub returns-else-is_dearer : goal.returns-else-is_dearer
+returns-else-is_dearer c =
+    let l = c.args.self.now in
+    let a = c.args.first in
+    let b = c.args.second in
+    let called = c.step_in_turn-else-is_dearer in
+    record {
+      laid = called.ensures.laid;
+      ok =
+          subst (λ v. OnOk called.result (seen called.new.self ≡ v))
+          (steps_other_way l.entities l.archetypes b a c.requires.second c.requires.first
+          (λ same. not_both (subst (λ x. IsTrue (entity_eq x a.0)) (sym same) (entity_eq_itself a.0)) c.requires.apart)) called.ensures.ok;
+      err = called.ensures.err;
+    }

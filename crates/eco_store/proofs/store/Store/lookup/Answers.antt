@@ -9,4 +9,4 @@ pub returns : goal.returns
 returns c =
     rw (← c.self.view_is)
     (c.lookup.ensures.named_entity
-    ∙ sym (named_entity-map (record_for (row_at c.self.inside.layout)) name_of record_name (λ a. refl) c.self.inside.entities c.args.name.now))
+    ∙ sym (named_entity-map (record_for (row_at c.self.inside.layout.archetypes)) name_of record_name (λ a. refl) c.self.inside.layout.entities c.args.name.now))

@@ -1,77 +1,105 @@
-use Rattle.std.proofs.Common.{slice_get, sym, ap, subst, ◌∙◌}
-use Rattle.eco_store.specs.Layout.{IsMoved}
-use Rattle.eco_store.proofs.RowCounts.{own_fits, end_fits}
-use Rattle.eco_store.proofs.StoreChanges as changes
-use Rattle.eco_store.proofs.Needing.{fixed_covers, placed_covers}
+use Rattle.std.proofs.Common.{true≢false, sym, ap, ◌∙◌, subst, option_map, unwrap_or}
+use Rattle.std.specs.Option.{option_copied}
+use Rattle.std.proofs.lemmas.Result.{err_from_is_err_and}
+use Rattle.eco_ids.specs.Indices.{changed}
+use Rattle.eco_ids.proofs.Results.{err_says}
+use Rattle.eco_ids.proofs.SameIds.{same_ids-Decides}
+use Rattle.eco_tables.specs.Table.{TableState}
+use Rattle.eco_tables.specs.Tables.{slot_of, no_row, no_table, AllHaveIds}
+use Rattle.eco_archetypes.proofs.ArchetypeLemmas.{there_by_row, typed_table}
+use Rattle.eco_store.specs.Staying.{all_staying}
+use Rattle.eco_store.specs.Store.{with_type}
+use Rattle.eco_store.proofs.Laid.{laid_alike, still_settled}
+use Rattle.eco_store.proofs.StoreChanges.{ids_there, other_slot, row_within, same_read, same_type, some_from_copied}
 use Rattle.eco_store.proofs.store.Store.retype.Goals as goal
 
-pub move_row-requires : goal.move_row-requires
-move_row-requires c = changes.row_within c.self.inside.entities _ c.args.e _ c.self.invariant.store (sym c.place_of.ensures ∙ c.unwrap-place.ensures)
+pub unwrap-table-requires : goal.unwrap-table-requires
+unwrap-table-requires c =
+    let l = c.self.inside.layout in
+    let p = c.unwrap-place.result in
+    some_from_copied c.get.result (slot_of l.archetypes p.table) (c.get.ensures ∙ ap (λ s. slot_of s p.table) c.tables-tables.ensures.same)
+    (there_by_row l.archetypes p.table p.row
+    (row_within l.entities l.archetypes c.args.e p c.self.invariant.laid.store (sym c.place_of.ensures ∙ c.unwrap-place.ensures)))
 
-pub returns-in_err-moved-clause-own : goal.returns-in_err-moved-clause-own
-returns-in_err-moved-clause-own c =
-    rw (← c.self.view_is) (λ own.
-    let bad =
-    c.in_err-moved.ensures.own
-    (changes.ids_there c.self.inside.entities _ c.args.e _ _ c.self.invariant.store (sym c.place_of.ensures ∙ c.unwrap-place.ensures) own) in
-    absurd (cc))
+-- the type is its own
+pub returns-then-eq-clause-ok : goal.returns-then-eq-clause-ok
+returns-then-eq-clause-ok c =
+    let l = c.self.inside.layout in
+    let s = l.archetypes in
+    let p = c.unwrap-place.result in
+    let n = p.table in
+    let own = sym c.place_of.ensures ∙ c.unwrap-place.ensures in
+    let there = row_within l.entities s c.args.e p c.self.invariant.laid.store own in
+    let slot = sym (c.get.ensures ∙ ap (λ s. slot_of s n) c.tables-tables.ensures.same) ∙ ap option_copied c.unwrap-table.ensures in
+    let had = subst AllHaveIds c.tables-tables.ensures.same c.rows_have_ids.ensures in
+    let equal = sym (c.as_slice.ensures.ids ∙ c.type_list.ensures.ids) ∙ (same_ids-Decides _ _).0 (sym c.eq.ensures ∙ c.if-eq.true)
+    ∙ c.as_slice-2.ensures.ids in
+    let is = had n p.row no_row there ∙ ap (λ o. (unwrap_or o no_table).ids) slot ∙ equal in
+    rw (← c.self.view_is)
+    (same_type l.entities s c.args.e p c.args.type_list.now c.self.invariant.laid.store own is c.as_slice-2.ensures.ascending)
 
-pub fix_place-requires-clause-living : goal.fix_place-requires-clause-living
-fix_place-requires-clause-living c =
-    changes.to_movers_live c.self.inside.entities _ _ c.args.e c.unwrap-place.result c.in-Some.moved.place _ _ c.self.invariant.store
-    (sym c.place_of.ensures ∙ c.unwrap-place.ensures)
-    (subst (IsMoved _ _ c.unwrap-place.result c.args.type_list.now) c.in-Some.is c.in_ok-moved.ensures.ok)
-
-pub set_place-requires-clause-alive : goal.set_place-requires-clause-alive
-set_place-requires-clause-alive c =
-    rw c.fix_place.ensures
-    (changes.to_alive c.self.inside.entities _ _ c.args.e c.unwrap-place.result c.in-Some.moved.place _ _ c.self.invariant.store
-    (sym c.place_of.ensures ∙ c.unwrap-place.ensures)
-    (subst (IsMoved _ _ c.unwrap-place.result c.args.type_list.now) c.in-Some.is c.in_ok-moved.ensures.ok))
-
-pub invariant_of-self-in-Some : goal.invariant_of-self-in-Some
-invariant_of-self-in-Some c = record {
-  store =
-      rw (c.set_place.ensures, c.fix_place.ensures)
-      (changes.to_store c.self.inside.entities _ _ c.args.e c.unwrap-place.result c.in-Some.moved.place _ _ c.self.invariant.store
-      (sym c.place_of.ensures ∙ c.unwrap-place.ensures)
-      (subst (IsMoved _ _ c.unwrap-place.result c.args.type_list.now) c.in-Some.is c.in_ok-moved.ensures.ok));
-  covers =
-      placed_covers c.needs_never_grow.ensures _ _ _ c.args.e c.in-Some.moved.place c.set_place.ensures
-      (fixed_covers c.needs_never_grow.ensures c.self.inside.entities c.fix_place.new.entities _ c.in-Some.moved.filler
-      c.unwrap-place.result c.fix_place.ensures (c.move_row.ensures.widths c.self.invariant.covers));
-}
-
-pub returns-in-Some-clause-ok : goal.returns-in-Some-clause-ok
-returns-in-Some-clause-ok c =
-    rw (← c.self.view_is, c.set_place.ensures, c.fix_place.ensures)
-    (changes.to_read c.self.inside.entities _ _ c.args.e c.unwrap-place.result c.in-Some.moved.place _ _ c.self.invariant.store
-    (sym c.place_of.ensures ∙ c.unwrap-place.ensures)
-    (subst (IsMoved _ _ c.unwrap-place.result c.args.type_list.now) c.in-Some.is c.in_ok-moved.ensures.ok))
-
-pub invariant_of-self-in-None : goal.invariant_of-self-in-None
-invariant_of-self-in-None c =
-    let stays = subst (IsMoved _ _ c.unwrap-place.result c.args.type_list.now) c.in-None.is c.in_ok-moved.ensures.ok in
+-- no room is had
+pub invariant_of-self : goal.invariant_of-self
+invariant_of-self c =
+    let l = c.self.inside.layout in
     record {
-      store =
-          changes.same_store c.self.inside.entities _ _ (λ n k. ap (λ R. slice_get (R n) k) stays.0) c.self.invariant.store;
-      covers =
-          c.move_row.ensures.widths c.self.invariant.covers;
+      laid =
+          laid_alike l _ l.staying _ _ c.self.invariant.laid c.room_for.ensures.rows c.room_for.ensures.widths
+          (c.in_err-to.ensures.rowless (all_staying l.staying) c.self.invariant.laid.tidy);
+      done = c.self.invariant.done;
     }
 
-pub returns-in-None-clause-ok : goal.returns-in-None-clause-ok
-returns-in-None-clause-ok c =
+pub returns-in_err-to-clause-ok : goal.returns-in_err-to-clause-ok
+returns-in_err-to-clause-ok c = let p = err_from_is_err_and c.from_residual.result c.from_residual.ensures.1 in rw p.1 tt
+
+pub returns-in_err-to-clause-err : goal.returns-in_err-to-clause-err
+returns-in_err-to-clause-err c =
+    let l = c.self.inside.layout in
+    rw (← c.self.view_is) (err_says c.from_residual.result (same_read l.entities l.archetypes _ c.room_for.ensures.rows))
+
+pub returns-in_err-to-clause-own : goal.returns-in_err-to-clause-own
+returns-in_err-to-clause-own c =
+    let l = c.self.inside.layout in
+    let s = l.archetypes in
+    let p = c.unwrap-place.result in
+    let n = p.table in
     let own = sym c.place_of.ensures ∙ c.unwrap-place.ensures in
-    let stays = subst (IsMoved _ _ c.unwrap-place.result c.args.type_list.now) c.in-None.is c.in_ok-moved.ensures.ok in
+    let there = row_within l.entities s c.args.e p c.self.invariant.laid.store own in
+    let slot = sym (c.get.ensures ∙ ap (λ s. slot_of s n) c.tables-tables.ensures.same) ∙ ap option_copied c.unwrap-table.ensures in
+    let had = subst AllHaveIds c.tables-tables.ensures.same c.rows_have_ids.ensures in
+    let differ = rw (c.as_slice.ensures.ids ∙ c.type_list.ensures.ids, c.as_slice-2.ensures.ids) at (sym c.eq.ensures ∙ c.if-eq.false) in
+    rw (← c.self.view_is) (λ typed.
+    let has = ids_there l.entities s c.args.e p c.args.type_list.now c.self.invariant.laid.store own typed in
+    let same = sym (had n p.row no_row there ∙ ap (λ o. (unwrap_or o no_table).ids) slot) ∙ has in
+    absurd (true≢false (sym ((same_ids-Decides _ _).1 same) ∙ differ)))
+
+-- the row goes
+pub carry-requires-clause-laid : goal.carry-requires-clause-laid
+carry-requires-clause-laid c =
+    let l = c.self.inside.layout in
+    laid_alike l _ l.staying _ _ c.self.invariant.laid c.room_for.ensures.rows c.room_for.ensures.widths
+    (c.in_ok-to.ensures.rowless (all_staying l.staying) c.self.invariant.laid.tidy)
+
+pub carry-requires-clause-own : goal.carry-requires-clause-own
+carry-requires-clause-own c = sym c.place_of.ensures ∙ c.unwrap-place.ensures
+
+pub carry-requires-clause-apart : goal.carry-requires-clause-apart
+carry-requires-clause-apart c =
+    let n = c.unwrap-place.result.table in
+    let slot = sym (c.get.ensures ∙ ap (λ s. slot_of s n) c.tables-tables.ensures.same) ∙ ap option_copied c.unwrap-table.ensures in
+    other_slot _ _ n c.in_ok-to.to c.unwrap-table.result.now.ids c.args.type_list.now (ap (option_map (λ (t : TableState). t.ids)) slot)
+    c.room_for.ensures.types c.in_ok-to.ensures.typed
+    (rw (c.as_slice.ensures.ids ∙ c.type_list.ensures.ids, c.as_slice-2.ensures.ids) at (sym c.eq.ensures ∙ c.if-eq.false))
+
+pub invariant_of-self-2 : goal.invariant_of-self-2
+invariant_of-self-2 c =
+    still_settled c.self.inside.layout c.carry.new.self c.carry.ensures.carries.staying c.self.invariant c.carry.ensures.carries.laid
+
+pub returns-clause-ok : goal.returns-clause-ok
+returns-clause-ok c =
+    let l = c.self.inside.layout in
+    let s1 = c.room_for.new.self in
+    let typed = typed_table s1 c.in_ok-to.to _ c.in_ok-to.ensures.typed in
     rw (← c.self.view_is)
-    (changes.same_read c.self.inside.entities _ _ (λ n k. ap (λ R. slice_get (R n) k) stays.0)
-    ∙ changes.same_type c.self.inside.entities _ c.args.e c.unwrap-place.result _ c.self.invariant.store own stays.1 c.as_slice-ids.ensures.ascending)
-
-pub fix_place-requires-clause-fits : goal.fix_place-requires-clause-fits
-fix_place-requires-clause-fits c =
-    own_fits c.self.inside.entities _ c.args.e c.unwrap-place.result c.rules.ensures c.self.invariant.store (sym c.place_of.ensures ∙ c.unwrap-place.ensures)
-
-pub set_place-requires-clause-fits : goal.set_place-requires-clause-fits
-set_place-requires-clause-fits c =
-    let moves = subst (IsMoved _ _ c.unwrap-place.result c.args.type_list.now) c.in-Some.is c.in_ok-moved.ensures.ok in
-    end_fits c.self.inside.entities _ c.in-Some.moved.place.table _ c.rules.ensures c.self.invariant.store moves.end
+    (c.carry.ensures.seen
+    ∙ (λ t. changed (same_read l.entities l.archetypes s1 c.room_for.ensures.rows t) c.args.e (with_type (typed t))))

@@ -1,39 +1,63 @@
-use Rattle.std.proofs.Common.{is_some, sym, ap, ◌∙◌}
+use Rattle.std.proofs.Common.{is_some, length, unwrap_or, sym, ap, ◌∙◌}
+use Rattle.std.proofs.lemmas.List.{length-set}
 use Rattle.std.specs.FinMap.Entries.{find}
 use Rattle.eco_ids.specs.Order.{id_cmp}
 use Rattle.eco_tables.specs.Column.{with_held}
+use Rattle.eco_tables.specs.Tables.{no_table}
+use Rattle.eco_archetypes.proofs.ArchetypeLemmas.{there_by_row}
+use Rattle.eco_store.specs.Staying.{all_staying}
+use Rattle.eco_store.proofs.LaidRows.{sets_rows}
+use Rattle.eco_store.proofs.Needing.{fits_in}
+use Rattle.eco_store.proofs.Rowless.{rowless_rewritten}
 use Rattle.eco_store.proofs.StoreChanges.{row_within}
 use Rattle.eco_store.proofs.Values.{held_read, written_store, written_read}
-use Rattle.eco_store.proofs.Needing.{fits_in}
 use Rattle.eco_store.proofs.store.Store.set_value.Goals as goal
 
 pub set_value-requires-clause-row : goal.set_value-requires-clause-row
 set_value-requires-clause-row c =
-    row_within c.self.inside.entities _ c.args.e c.unwrap-place.result c.self.invariant.store (sym c.place_of.ensures ∙ c.unwrap-place.ensures)
+    let l = c.self.inside.layout in
+    row_within l.entities l.archetypes c.args.e c.unwrap-place.result c.self.invariant.laid.store (sym c.place_of.ensures ∙ c.unwrap-place.ensures)
 
 pub set_value-requires-clause-fits : goal.set_value-requires-clause-fits
 set_value-requires-clause-fits c =
-    fits_in c.self.inside.entities c.self.inside.layout c.args.id c.args.value c.self.invariant.covers (rw (← c.self.view_is) at c.requires.fits)
+    let l = c.self.inside.layout in
+    fits_in l.entities l.archetypes c.args.id c.args.value c.self.invariant.laid.covers (rw (← c.self.view_is) at c.requires.fits)
 
 pub invariant_of-self : goal.invariant_of-self
-invariant_of-self c = record {
-  store =
-      written_store c.self.inside.entities _ _ c.args.e c.unwrap-place.result (λ held. with_held held c.args.id c.args.value) c.self.invariant.store
-      (sym c.place_of.ensures ∙ c.unwrap-place.ensures) c.set_value.ensures.written;
-  covers =
-      c.set_value.ensures.widths _ c.self.invariant.covers;
-}
+invariant_of-self c =
+    let l = c.self.inside.layout in
+    let s = l.archetypes in
+    let p = c.unwrap-place.result in
+    let own = sym c.place_of.ensures ∙ c.unwrap-place.ensures in
+    let sets = c.set_value.ensures.written in
+    record {
+      laid = record {
+        store =
+            written_store l.entities s _ c.args.e p (λ held. with_held held c.args.id c.args.value) c.self.invariant.laid.store own
+            (sets_rows s _ p.table _ sets);
+        covers = c.set_value.ensures.widths _ c.self.invariant.laid.covers;
+        tidy =
+            rowless_rewritten s c.set_value.new.self p.table (all_staying l.staying) _ sets
+            (ap (λ o. length (unwrap_or o no_table).rows) sets.changed ∙ length-set _ _ _)
+            (there_by_row s p.table p.row (row_within l.entities s c.args.e p c.self.invariant.laid.store own)) c.self.invariant.laid.tidy;
+      };
+      done = c.self.invariant.done;
+    }
 
 pub returns-clause-written : goal.returns-clause-written
 returns-clause-written c =
+    let l = c.self.inside.layout in
+    let p = c.unwrap-place.result in
     rw (← c.self.view_is)
-    (written_read c.self.inside.entities _ _ c.args.e c.unwrap-place.result (λ held. with_held held c.args.id c.args.value) c.self.invariant.store
-    (sym c.place_of.ensures ∙ c.unwrap-place.ensures) c.set_value.ensures.written)
+    (written_read l.entities l.archetypes _ c.args.e p (λ held. with_held held c.args.id c.args.value) c.self.invariant.laid.store
+    (sym c.place_of.ensures ∙ c.unwrap-place.ensures) (sets_rows l.archetypes _ p.table _ c.set_value.ensures.written))
 
 pub returns-clause-had : goal.returns-clause-had
 returns-clause-had c =
+    let l = c.self.inside.layout in
+    let p = c.unwrap-place.result in
     rw (← c.self.view_is)
     (c.set_value.ensures.had
     ∙ sym (ap (λ held. is_some (find id_cmp c.args.id held))
-    (held_read c.self.inside.entities _ _ c.args.e c.unwrap-place.result (λ held. with_held held c.args.id c.args.value) c.self.invariant.store
-    (sym c.place_of.ensures ∙ c.unwrap-place.ensures) c.set_value.ensures.written)))
+    (held_read l.entities l.archetypes _ c.args.e p (λ held. with_held held c.args.id c.args.value) c.self.invariant.laid.store
+    (sym c.place_of.ensures ∙ c.unwrap-place.ensures) (sets_rows l.archetypes _ p.table _ c.set_value.ensures.written))))

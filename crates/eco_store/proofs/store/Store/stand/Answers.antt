@@ -9,21 +9,21 @@ use Rattle.eco_store.proofs.store.Store.stand.Goals as goal
 
 pub unwrap-table-requires : goal.unwrap-table-requires
 unwrap-table-requires c =
-    some_from_copied c.get.result (slot_of c.self.inside.layout c.in_ok-place.place.table)
+    some_from_copied c.get.result (slot_of c.self.inside.layout.archetypes c.in_ok-place.place.table)
     (c.get.ensures ∙ ap (λ s. slot_of s c.in_ok-place.place.table) c.tables.ensures.same)
-    (there_by_row c.self.inside.layout c.in_ok-place.place.table c.in_ok-place.place.row
-    (row_within c.self.inside.entities c.self.inside.layout c.args.e c.in_ok-place.place c.self.invariant.store
+    (there_by_row c.self.inside.layout.archetypes c.in_ok-place.place.table c.in_ok-place.place.row
+    (row_within c.self.inside.layout.entities c.self.inside.layout.archetypes c.args.e c.in_ok-place.place c.self.invariant.laid.store
     (sym c.place_of.ensures ∙ c.in_ok-place.was)))
 
 pub returns-clause-stands : goal.returns-clause-stands
 returns-clause-stands c =
     rw (← c.self.view_is)
-    (stands_there c.self.inside.entities c.self.inside.layout c.args.e c.in_ok-place.place c.unwrap-table.result.now c.self.invariant.store
+    (stands_there c.self.inside.layout.entities c.self.inside.layout.archetypes c.args.e c.in_ok-place.place c.unwrap-table.result.now c.self.invariant.laid.store
     (sym c.place_of.ensures ∙ c.in_ok-place.was)
     (sym (c.get.ensures ∙ ap (λ s. slot_of s c.in_ok-place.place.table) c.tables.ensures.same) ∙ ap option_copied c.unwrap-table.ensures))
 
 pub returns-clause-kept : goal.returns-clause-kept
 returns-clause-kept c =
     rw (← c.self.view_is)
-    (kept_there c.self.inside.entities c.self.inside.layout c.in_ok-place.place.table c.unwrap-table.result.now c.self.invariant.covers
+    (kept_there c.self.inside.layout.entities c.self.inside.layout.archetypes c.in_ok-place.place.table c.unwrap-table.result.now c.self.invariant.laid.covers
     (sym (c.get.ensures ∙ ap (λ s. slot_of s c.in_ok-place.place.table) c.tables.ensures.same) ∙ ap option_copied c.unwrap-table.ensures))

@@ -6,19 +6,19 @@ use Rattle.eco_store.proofs.store.Store.standing_by.Goals as goal
 
 pub returns-in_err-slots-clause-some : goal.returns-in_err-slots-clause-some
 returns-in_err-slots-clause-some g c =
-    let s = c.self.inside.layout in
+    let s = c.self.inside.layout.archetypes in
     rw (← c.self.view_is)
     (err_says c.from_residual.result
-    (some_held (read c.self.inside.entities s) s (g.T.TypeTest.test c.args.test.now)
-    (shows c.self.inside.entities s c.self.invariant.store (rw c.tables-tables.ensures.same at c.rows_have_ids.ensures))
-    (rw c.archetypes.ensures at c.in_err-slots.ensures.some)))
+    (some_held (read c.self.inside.layout.entities s) s (g.T.TypeTest.test c.args.test.now)
+    (shows c.self.inside.layout.entities s c.self.invariant.laid.store (rw c.tables-tables.ensures.same at c.rows_have_ids.ensures))
+    c.in_err-slots.ensures.some))
 
 pub returns-in_err-list-clause-some : goal.returns-in_err-list-clause-some
 returns-in_err-list-clause-some g c =
-    let s = c.self.inside.layout in
-    let all = rw c.archetypes.ensures at c.in_ok-slots.ensures.all in
+    let s = c.self.inside.layout.archetypes in
+    let all = c.in_ok-slots.ensures.all in
     rw (← c.self.view_is)
     (err_says c.from_residual-in_err-list.result
-    (some_listed (read c.self.inside.entities s) s (g.T.TypeTest.test c.args.test.now)
-    (shows c.self.inside.entities s c.self.invariant.store (rw c.tables-tables.ensures.same at c.rows_have_ids.ensures))
+    (some_listed (read c.self.inside.layout.entities s) s (g.T.TypeTest.test c.args.test.now)
+    (shows c.self.inside.layout.entities s c.self.invariant.laid.store (rw c.tables-tables.ensures.same at c.rows_have_ids.ensures))
     c.in_ok-slots.slots.items all.listed (rw c.deref.ensures.value at c.in_err-list.ensures.some)))

@@ -7,17 +7,17 @@ use Rattle.eco_store.proofs.store.Store.tables_by.Goals as goal
 
 pub returns-clause-shown : goal.returns-clause-shown
 returns-clause-shown g c = rw (← c.self.view_is, c.tables-tables.ensures.same)
-    (shows c.self.inside.entities c.self.inside.layout c.self.invariant.store (rw c.tables-tables.ensures.same at c.rows_have_ids.ensures))
+    (shows c.self.inside.layout.entities c.self.inside.layout.archetypes c.self.invariant.laid.store (rw c.tables-tables.ensures.same at c.rows_have_ids.ensures))
 
 pub returns-clause-kept : goal.returns-clause-kept
 returns-clause-kept g c = rw (← c.self.view_is, c.tables-tables.ensures.same)
-    (kept_data c.self.inside.entities c.self.inside.layout c.self.invariant.covers)
+    (kept_data c.self.inside.layout.entities c.self.inside.layout.archetypes c.self.invariant.laid.covers)
 
 pub returns-in_err-slots-clause-some : goal.returns-in_err-slots-clause-some
 returns-in_err-slots-clause-some g c =
-    let s = c.self.inside.layout in
+    let s = c.self.inside.layout.archetypes in
     rw (← c.self.view_is)
     (err_says c.from_residual.result
-    (some_held (read c.self.inside.entities s) s (g.T.TypeTest.test c.args.test.now)
-    (shows c.self.inside.entities s c.self.invariant.store (rw c.tables-tables.ensures.same at c.rows_have_ids.ensures))
-    (rw c.archetypes.ensures at c.in_err-slots.ensures.some)))
+    (some_held (read c.self.inside.layout.entities s) s (g.T.TypeTest.test c.args.test.now)
+    (shows c.self.inside.layout.entities s c.self.invariant.laid.store (rw c.tables-tables.ensures.same at c.rows_have_ids.ensures))
+    c.in_err-slots.ensures.some))

@@ -1,17 +1,33 @@
-use Rattle.std.proofs.Common.{ap, ◌∙◌}
+use Rattle.std.proofs.Common.{subst, ap, ◌∙◌}
+use Rattle.eco_archetypes.specs.Archetypes.{RowlessIn}
+use Rattle.eco_archetypes.proofs.Copying.{copied_kept, copied_rows, copied_rowless}
+use Rattle.eco_archetypes.proofs.Widths.{kept_widths}
+use Rattle.eco_store.specs.Staying.{all_staying}
 use Rattle.eco_store.specs.Store.{read}
-use Rattle.eco_store.proofs.StoreChanges.{same_read, same_store}
+use Rattle.eco_store.proofs.Laid.{done_idle, laid_alike, only_idle_stay}
+use Rattle.eco_store.proofs.StoreChanges.{same_read}
 use Rattle.eco_store.proofs.store.Store.try_copy.Goals as goal
 
 pub invariant_of-result : goal.invariant_of-result
 invariant_of-result c =
+    let l = c.self.inside.layout in
+    let s = c.in_ok-archetypes.archetypes in
+    let q = c.emptied.result in
+    let copies = c.in_ok-archetypes.ensures in
+    let idle = l.staying.idle in
     rw c.in_ok-entities.ensures (record {
-      store = same_store _ _ _ c.in_ok-layout.ensures.rows c.self.invariant.store;
-      covers = c.in_ok-layout.ensures.widths _ c.self.invariant.covers;
+      laid =
+          laid_alike l s q _ _ c.self.invariant.laid (copied_rows l.archetypes s copies)
+          (λ covers. kept_widths l.archetypes s (copied_kept l.archetypes s copies) _ covers)
+          (only_idle_stay s q idle c.emptied.ensures
+          (subst (λ p. RowlessIn s (all_staying p)) c.self.invariant.done
+          (copied_rowless l.archetypes s copies (all_staying l.staying) c.self.invariant.laid.tidy)));
+      done = done_idle q idle c.emptied.ensures;
     })
 
 pub returns : goal.returns
 returns c =
-    let s = c.in_ok-layout.layout in
-    let same = ap (λ w. read w s) c.in_ok-entities.ensures ∙ same_read c.self.inside.entities _ s c.in_ok-layout.ensures.rows in
+    let l = c.self.inside.layout in
+    let s = c.in_ok-archetypes.archetypes in
+    let same = ap (λ w. read w s) c.in_ok-entities.ensures ∙ same_read l.entities l.archetypes s (copied_rows l.archetypes s c.in_ok-archetypes.ensures) in
     rw (← c.self.view_is) (λ t. record { entities = same t })

@@ -1,0 +1,98 @@
+-- The parts of a layout agree after a step of a call, and what is seen of it.
+use Rattle.std.proofs.Common.{◌≡◌, ℕ, List, [], ◌∷◌, IsTrue, Option, None, is_some, unwrap_or, nat_eq, slice_get, refl, sym, ap, subst, ◌∙◌, true≢false}
+use Rattle.std.proofs.lemmas.Option.{none-some}
+use Rattle.std.specs.List.{list_any}
+use Rattle.eco_ids.specs.Indices.{Indexed}
+use Rattle.eco_tables.specs.Table.{TableState, width_in}
+use Rattle.eco_tables.specs.Tables.{no_table, rowless_type, slot_of}
+use Rattle.eco_entities.specs.Registration.{Registration}
+use Rattle.eco_archetypes.specs.Archetypes.{RowlessIn, SameRows}
+use Rattle.eco_archetypes.specs.Widths.{StillCover}
+use Rattle.eco_archetypes.proofs.ArchetypeLemmas.{then_rows}
+use Rattle.eco_store.specs.declared.layout.Layout.{Layout}
+use Rattle.eco_store.specs.Layout.{seen, Carries, IsLaid, IsLaidBut, IsSettled, Plans}
+use Rattle.eco_store.specs.Staying.{StayingState, all_staying, only_idle, with_target}
+use Rattle.eco_store.specs.Store.{HasPlace, read, seat_in}
+use Rattle.eco_store.proofs.Coming.{admits_none}
+use Rattle.eco_store.proofs.Rowless.{rowless_targeted}
+use Rattle.eco_store.proofs.StoreChanges.{same_read, same_store}
+use Rattle.eco_store.proofs.Targets.{still_targeted}
+
+-- the same entities stand in the same rows
+pub seen_alike : (w : Indexed Registration) (s : List (Option TableState)) (l : Layout) → l.entities ≡ w → SameRows s l.archetypes → seen l ≡ read w s
+seen_alike w s l same rows = ap (λ v. read v l.archetypes) same ∙ same_read w s l.archetypes rows
+
+pub laid_alike : (l : Layout) (s : List (Option TableState)) (q : StayingState) (xs ys : List ℕ) → IsLaidBut l xs → SameRows l.archetypes s
+    → StillCover l.entities l.archetypes s → RowlessIn s ys → IsLaidBut (record { entities = l.entities; archetypes = s; staying = q }) ys
+laid_alike l s q xs ys laid rows widths tidy = record {
+  store = same_store l.entities l.archetypes s rows laid.store;
+  covers = widths laid.covers;
+  tidy = tidy;
+}
+
+-- nobody lives, and there is no table
+pub laid_empty : (w : Indexed Registration) (s : List (Option TableState)) (p : StayingState) → w.indices ≡ [] → ((n : ℕ) → slot_of s n ≡ None)
+    → IsLaid (record { entities = w; archetypes = s; staying = p })
+laid_empty w s p nobody nothing = record {
+  store = record {
+    seated = record {
+      there = λ i x is. absurd (none-some x (sym (ap (λ xs. seat_in (slice_get xs i)) nobody) ∙ is));
+      back = λ n row r is. absurd (none-some r (sym (ap (λ o. slice_get (unwrap_or o no_table).rows row) (nothing n)) ∙ is));
+    };
+    placed = λ i. subst (λ xs. HasPlace (slice_get xs i)) (sym nobody) tt;
+  };
+  covers = record { each = λ n i k is. absurd (none-some k (sym (ap (λ o. width_in (unwrap_or o no_table) i) (nothing n)) ∙ is)) };
+  tidy = λ n there. absurd (true≢false (sym there ∙ ap (λ o. is_some (rowless_type o)) (nothing n)));
+}
+
+-- ---- no call is under way
+
+pub only_idle_stay : (s : List (Option TableState)) (p : StayingState) (idle : List ℕ) → p ≡ only_idle idle → RowlessIn s idle → RowlessIn s (all_staying p)
+only_idle_stay s p idle nothing few = subst (λ (q : StayingState). RowlessIn s (all_staying q)) (sym nothing) few
+
+pub done_idle : (p : StayingState) (idle : List ℕ) → p ≡ only_idle idle → p ≡ only_idle p.idle
+done_idle p idle nothing = nothing ∙ ap only_idle (sym (ap (λ (q : StayingState). q.idle) nothing))
+
+-- other tables are the idle ones
+pub still_settled : (l m : Layout) → m.staying ≡ record l.staying { idle = m.staying.idle } → IsSettled l → IsLaid m → IsSettled m
+still_settled l m same settled laid = record { laid = laid; done = same ∙ (λ t. record (settled.done t) { idle = m.staying.idle }) }
+
+-- ---- plans
+
+module _ (l : Layout) (laid : IsLaid l) where
+  pub plans_none : Plans l l
+  plans_none = record { laid = laid; entities = refl; rows = λ n k. refl; targets = λ n was. was }
+
+  pub carries_none : (to : ℕ) → Carries l l to
+  carries_none to = record { laid = laid; staying = refl; admits = admits_none l.archetypes l.staying.targets to }
+
+  module _ (s : List (Option TableState)) (q : StayingState) (rows : SameRows l.archetypes s) (widths : StillCover l.entities l.archetypes s) where
+    -- no target came
+    pub plans_same : RowlessIn s (all_staying l.staying) → q ≡ l.staying → Plans l (record { entities = l.entities; archetypes = s; staying = q })
+    plans_same tidy same = record {
+      laid = laid_alike l s q _ _ laid rows widths (subst (λ p. RowlessIn s (all_staying p)) (sym same) tidy);
+      entities = refl;
+      rows = rows;
+      targets = λ n was. subst (λ (p : StayingState). IsTrue (list_any (nat_eq n) p.targets)) (sym same) was;
+    }
+
+    -- one did
+    pub plans_target : (n : ℕ) → RowlessIn s (n ∷ all_staying l.staying) → q ≡ with_target l.staying n
+        → Plans l (record { entities = l.entities; archetypes = s; staying = q })
+    plans_target n tidy more = record {
+      laid = laid_alike l s q _ _ laid rows widths (subst (λ p. RowlessIn s (all_staying p)) (sym more) (rowless_targeted s l.staying n tidy));
+      entities = refl;
+      rows = rows;
+      targets = λ m was. subst (λ (p : StayingState). IsTrue (list_any (nat_eq m) p.targets)) (sym more) (still_targeted l.staying n m was);
+    }
+
+pub plans_then : (l m n : Layout) → Plans l m → Plans m n → Plans l n
+plans_then l m n a b = record {
+  laid = b.laid;
+  entities = b.entities ∙ a.entities;
+  rows = then_rows l.archetypes m.archetypes n.archetypes a.rows b.rows;
+  targets = λ k was. b.targets k (a.targets k was);
+}
+
+pub plans_seen : (l m : Layout) → Plans l m → seen m ≡ seen l
+plans_seen l m plans = seen_alike l.entities l.archetypes m plans.entities plans.rows

@@ -1,0 +1,103 @@
+use Rattle.std.proofs.Common.{length, refl, ap, ◌∙◌}
+use Rattle.eco_ids.specs.Indices.{changed}
+use Rattle.eco_entities.specs.declared.place.Place.{Place}
+use Rattle.eco_entities.specs.Registration.{placed}
+use Rattle.eco_archetypes.proofs.ArchetypeLemmas.{there_by_room, there_by_row}
+use Rattle.eco_store.specs.Layout.{rows_in}
+use Rattle.eco_store.specs.Staying.{all_staying}
+use Rattle.eco_store.specs.Store.{read}
+use Rattle.eco_store.proofs.Coming.{admits_row}
+use Rattle.eco_store.proofs.Laid.{seen_alike}
+use Rattle.eco_store.proofs.LaidRows.{row_moves}
+use Rattle.eco_store.proofs.Needing.{fixed_covers, placed_covers}
+use Rattle.eco_store.proofs.RowCounts.{own_fits, end_fits}
+use Rattle.eco_store.proofs.Rowless.{rowless_moved}
+use Rattle.eco_store.proofs.StoreChanges as changes
+use Rattle.eco_store.proofs.layout.Layout.carry.Goals as goal
+
+pub move_row-filler-requires-clause-row : goal.move_row-filler-requires-clause-row
+move_row-filler-requires-clause-row c =
+    changes.row_within c.args.self.now.entities c.args.self.now.archetypes c.args.e c.args.place c.requires.laid.store c.requires.own
+
+pub fix_place-requires-clause-living : goal.fix_place-requires-clause-living
+fix_place-requires-clause-living c =
+    let l = c.args.self.now in
+    let n = c.args.to in
+    let to : Place = record { table = n; row = c.row_count-row.result } in
+    let end = c.row_count-row.ensures ∙ ap (λ s. length (rows_in s n)) c.tables.ensures.same in
+    let moves =
+    row_moves l.archetypes _ c.args.place to n _ _ c.requires.apart refl (λ t. record { table = n; row = end t }) c.move_row-filler.ensures.moves
+    c.move_row-filler.ensures.moved in
+    changes.to_movers_live l.entities l.archetypes _ c.args.e c.args.place to _ _ c.requires.laid.store c.requires.own moves
+
+pub fix_place-requires-clause-fits : goal.fix_place-requires-clause-fits
+fix_place-requires-clause-fits c =
+    own_fits c.args.self.now.entities c.args.self.now.archetypes c.args.e c.args.place c.rules.ensures c.requires.laid.store c.requires.own
+
+pub set_place-requires-clause-alive : goal.set_place-requires-clause-alive
+set_place-requires-clause-alive c =
+    let l = c.args.self.now in
+    let n = c.args.to in
+    let to : Place = record { table = n; row = c.row_count-row.result } in
+    let end = c.row_count-row.ensures ∙ ap (λ s. length (rows_in s n)) c.tables.ensures.same in
+    let moves =
+    row_moves l.archetypes _ c.args.place to n _ _ c.requires.apart refl (λ t. record { table = n; row = end t }) c.move_row-filler.ensures.moves
+    c.move_row-filler.ensures.moved in
+    rw c.fix_place.ensures
+    (changes.to_alive l.entities l.archetypes _ c.args.e c.args.place to _ _ c.requires.laid.store c.requires.own moves)
+
+pub set_place-requires-clause-fits : goal.set_place-requires-clause-fits
+set_place-requires-clause-fits c =
+    end_fits c.args.self.now.entities c.args.self.now.archetypes c.args.to _ c.rules.ensures c.requires.laid.store
+    (c.row_count-row.ensures ∙ ap (λ s. length (rows_in s c.args.to)) c.tables.ensures.same)
+
+pub release-requires : goal.release-requires
+release-requires c =
+    let l = c.args.self.now in
+    let n = c.args.to in
+    let p = c.args.place in
+    let to : Place = record { table = n; row = c.row_count-row.result } in
+    let end = c.row_count-row.ensures ∙ ap (λ s. length (rows_in s n)) c.tables.ensures.same in
+    let moves =
+    row_moves l.archetypes _ p to n _ _ c.requires.apart refl (λ t. record { table = n; row = end t }) c.move_row-filler.ensures.moves
+    c.move_row-filler.ensures.moved in
+    record {
+      store =
+          rw (c.set_place.ensures, c.fix_place.ensures)
+          (changes.to_store l.entities l.archetypes _ c.args.e p to _ _ c.requires.laid.store c.requires.own moves);
+      covers =
+          placed_covers c.needs_never_grow.ensures _ _ _ c.args.e to c.set_place.ensures
+          (fixed_covers c.needs_never_grow.ensures l.entities c.fix_place.new.entities _ c.move_row-filler.result p c.fix_place.ensures
+          (c.move_row-filler.ensures.widths _ c.requires.laid.covers));
+      tidy = rowless_moved l.archetypes _ p.table p.row n (all_staying l.staying) c.move_row-filler.ensures.moves c.requires.laid.tidy;
+    }
+
+pub returns-clause-carries : goal.returns-clause-carries
+returns-clause-carries c =
+    let l = c.args.self.now in
+    let s = l.archetypes in
+    let p = c.args.place in
+    let there = changes.row_within l.entities s c.args.e p c.requires.laid.store c.requires.own in
+    record {
+      laid = c.release.ensures.laid;
+      staying = c.release.ensures.staying;
+      admits =
+          admits_row s c.move_row-filler.new.self c.release.new.self.archetypes p.table p.row c.args.to l.staying.targets
+          (there_by_row s p.table p.row there) (there_by_room s c.args.to c.requires.room) c.move_row-filler.ensures.moves
+          c.release.ensures.targets;
+    }
+
+pub returns-clause-seen : goal.returns-clause-seen
+returns-clause-seen c =
+    let l = c.args.self.now in
+    let n = c.args.to in
+    let p = c.args.place in
+    let s1 = c.move_row-filler.new.self in
+    let to : Place = record { table = n; row = c.row_count-row.result } in
+    let end = c.row_count-row.ensures ∙ ap (λ s. length (rows_in s n)) c.tables.ensures.same in
+    let moves =
+    row_moves l.archetypes s1 p to n _ _ c.requires.apart refl (λ t. record { table = n; row = end t }) c.move_row-filler.ensures.moves
+    c.move_row-filler.ensures.moved in
+    seen_alike c.set_place.new.self s1 c.release.new.self c.release.ensures.entities c.release.ensures.rows
+    ∙ ap (λ v. read v s1) (c.set_place.ensures ∙ ap (λ v. changed v c.args.e (placed to)) c.fix_place.ensures)
+    ∙ changes.to_read l.entities l.archetypes s1 c.args.e p to _ _ c.requires.laid.store c.requires.own moves

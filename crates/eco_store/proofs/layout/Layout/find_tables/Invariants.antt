@@ -1,0 +1,12 @@
+use Rattle.std.proofs.Common.{take, IsTrue, nat_eq}
+use Rattle.std.specs.List.{All, list_any}
+use Rattle.eco_store.specs.Layout.{Plans}
+use Rattle.eco_store.specs.Moving.{AreTyped}
+use Rattle.eco_store.proofs.layout.Layout.find_tables.Given as goal
+
+abbrev pub invariant-loop-next : goal.invariant-loop-next
+invariant-loop-next l = record {
+  plans : Plans l.initial.self l.self;
+  typed : AreTyped l.self.archetypes (take l.next-index l.moves) l.slots.items;
+  named : All (λ n. IsTrue (list_any (nat_eq n) l.self.staying.targets)) l.slots.items;
+}

@@ -1,0 +1,53 @@
+use Rattle.std.proofs.Common.{◌≡◌, unwrap_or, IsTrue, Some, refl, sym, ap, subst, ◌∙◌}
+use Rattle.std.specs.Option.{option_copied}
+use Rattle.eco_ids.specs.Order.{id_cmp, is_ascending}
+use Rattle.eco_tables.specs.Tables.{slot_of, table_in, no_row, no_table, AllHaveIds}
+use Rattle.eco_store.specs.Staying.{all_staying}
+use Rattle.eco_store.specs.Store.{read, with_type}
+use Rattle.eco_store.proofs.Clearing.{unplaced_dead}
+use Rattle.eco_store.proofs.Coming.{changed_dead}
+use Rattle.eco_store.proofs.Laid.{carries_none, laid_alike}
+use Rattle.eco_store.proofs.Rowless.{rowless_beside}
+use Rattle.eco_store.proofs.StoreChanges as changes
+use Rattle.eco_store.proofs.Values.{alive_same}
+use Rattle.eco_store.proofs.layout.Layout.go_to.Goals as goal
+
+-- who does not live stays so
+pub returns-in_default-clause-seen : goal.returns-in_default-clause-seen
+returns-in_default-clause-seen c =
+    let w = c.args.self.now.entities in
+    let s = c.args.self.now.archetypes in
+    let e = c.args.e in
+    sym (changed_dead (read w s) e (with_type (table_in s c.args.to).ids)
+    (alive_same w s e ∙ unplaced_dead w s e c.requires.laid.store (sym c.place_of.ensures ∙ c.in_default.is)))
+
+pub returns-in_default-clause-carries : goal.returns-in_default-clause-carries
+returns-in_default-clause-carries c = carries_none c.args.self.now c.requires.laid c.args.to
+
+-- who stands there holds what it held
+pub returns-then-place-to-clause-seen : goal.returns-then-place-to-clause-seen
+returns-then-place-to-clause-seen c =
+    let w = c.args.self.now.entities in
+    let s = c.args.self.now.archetypes in
+    let p = c.in-Some.place in
+    let own = sym c.place_of.ensures ∙ c.in-Some.is in
+    let there = changes.row_within w s c.args.e p c.requires.laid.store own in
+    let had = subst AllHaveIds c.tables-tables.ensures.same c.rows_have_ids.ensures in
+    let is = had p.table p.row no_row there ∙ ap (λ n. (table_in s n).ids) c.if-place-to.true in
+    let at = subst (λ x. slot_of x c.args.to ≡ Some c.unwrap.result.now) c.tables-tables.ensures.same (sym c.get.ensures ∙ ap option_copied c.unwrap.ensures) in
+    let ids = c.type_list.ensures.ids ∙ sym (ap (λ o. (unwrap_or o no_table).ids) at) in
+    changes.same_type w s c.args.e p (table_in s c.args.to).ids c.requires.laid.store own is
+    (subst (λ xs. IsTrue (is_ascending id_cmp xs)) ids c.as_slice-ids.ensures.ascending)
+
+pub returns-then-place-to-clause-carries : goal.returns-then-place-to-clause-carries
+returns-then-place-to-clause-carries c = carries_none c.args.self.now c.requires.laid c.args.to
+
+-- the row goes
+pub carry-requires-clause-laid : goal.carry-requires-clause-laid
+carry-requires-clause-laid c =
+    let l = c.args.self.now in
+    laid_alike l l.archetypes l.staying _ _ c.requires.laid (λ n k. refl) (λ was. was)
+    (rowless_beside l.archetypes c.args.to (all_staying l.staying) c.requires.laid.tidy)
+
+pub carry-requires-clause-own : goal.carry-requires-clause-own
+carry-requires-clause-own c = sym c.place_of.ensures ∙ c.in-Some.is

@@ -1,0 +1,36 @@
+//! An entity goes to another table.
+ghost use Rattle.std.specs.Prelude.{◌≡◌, ◌≢◌, ◌<◌, Some};
+ghost use Rattle.eco_entities.specs.Registration.{own_place};
+ghost use Rattle.eco_ids.specs.Indices.{changed};
+ghost use Rattle.eco_store.specs.Layout.{seen, Carries, IsLaidBeside};
+ghost use Rattle.eco_store.specs.Store.{with_type};
+ghost use Rattle.eco_tables.specs.Tables.{table_in};
+
+use crate::layout::Layout;
+use crate::placing::fix_place;
+use eco_entities::Place;
+use eco_entities::laws::needs_never_grow;
+use eco_ids::Entity;
+
+impl Layout {
+    /// The entity goes from its place to the end of the table in this slot, where its room was taken. It takes no memory.
+    #[inline]
+    pub(crate) fn carry(&mut self, e: Entity, place: Place, to: usize)
+        requires laid { IsLaidBeside self.old to }
+        requires own { own_place self.old.entities e ≡ Some place }
+        requires apart { place.table ≢ to }
+        requires room { 0 < (table_in self.old.archetypes to).room }
+        ensures carries { Carries self.old self.new to }
+        ensures seen { seen self.new
+            ≡ changed (seen self.old) e (with_type (table_in self.old.archetypes to).ids) }
+    {
+        // A place's row fits, as a table has no more rows than there are indices.
+        self.entities.rules();
+        needs_never_grow();
+        let row = self.archetypes.tables().row_count(to);
+        let filler = self.archetypes.move_row(place.table, place.row, to);
+        fix_place(&mut self.entities, filler, place);
+        self.entities.set_place(e, Place { table: to, row });
+        self.release(place.table);
+    }
+}

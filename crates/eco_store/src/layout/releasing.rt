@@ -1,0 +1,74 @@
+//! Tables that lost their last row stay, or go.
+ghost use Rattle.std.specs.Prelude.{◌≡◌, ◌≤◌, IsTrue};
+ghost use Rattle.eco_store.specs.Layout.{seen, IsLaid, IsLaidBeside, IsSettled, Releases};
+ghost use Rattle.eco_tables.specs.Tables.{table_in};
+
+use crate::layout::Layout;
+use eco_tables::Tables;
+
+// So much room is worth more than the table costs to be made again, once as many rows have come.
+const MUCH_ROOM: usize = 1024;
+
+// Whether the table in a slot has much room.
+fn is_large(tables: &Tables, slot: usize) -> bool
+    ensures { IsTrue result → MUCH_ROOM ≤ (table_in tables.now slot).room }
+{
+    match tables.get(slot) {
+        Some(table) => table.room() >= MUCH_ROOM,
+        None => false,
+    }
+}
+
+impl Layout {
+    /// The call ends: of the targets, and of those that were gathered, the tables without rows go. It takes no memory.
+    pub(crate) fn forget(&mut self)
+        requires { IsLaid self.old }
+        ensures settled { IsSettled self.new }
+        ensures same { seen self.new ≡ seen self.old }
+    {
+        self.archetypes.drop_each(self.staying.gathered());
+        self.archetypes.drop_each(self.staying.targets());
+        self.staying.clear();
+    }
+
+    /// A row left the table in this slot. If it was the last one, the table stays as an idle one, and the one whose place it
+    /// takes is dropped if it has no rows; a table with much room is dropped itself. A target stays in any case. It takes no
+    /// memory.
+    #[inline]
+    pub(crate) fn release(&mut self, slot: usize)
+        requires { IsLaidBeside self.old slot }
+        ensures { Releases self.old self.new }
+    {
+        if self.archetypes.tables().is_rowless(slot)
+            && (is_large(self.archetypes.tables(), slot) || !self.staying.is_resting(slot))
+        {
+            self.leave(slot);
+        }
+    }
+
+    // The table in this slot goes where it has much room, unless it is a target, else it is an idle one. Apart, as a row mostly
+    // leaves others behind, or comes back to where it was.
+    #[cold]
+    #[inline(never)]
+    fn leave(&mut self, slot: usize)
+        requires { IsLaidBeside self.old slot }
+        ensures { Releases self.old self.new }
+    {
+        if is_large(self.archetypes.tables(), slot) && !self.staying.is_target(slot) {
+            self.archetypes.drop_empty(slot);
+            return;
+        }
+        self.rest(slot);
+    }
+
+    // The table in this slot is an idle one from then on, and the one whose place it takes goes.
+    fn rest(&mut self, slot: usize)
+        requires { IsLaidBeside self.old slot }
+        ensures { Releases self.old self.new }
+    {
+        let before = self.staying.set_idle(slot);
+        if !self.staying.is_target(before) {
+            self.archetypes.drop_empty(before);
+        }
+    }
+}

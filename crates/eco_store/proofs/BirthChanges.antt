@@ -26,7 +26,7 @@ use Rattle.eco_store.proofs.Moves.{push_seated, push_others_seen, push_held}
 use Rattle.eco_ids.proofs.Lists.{slice_get-set_there, slice_get-set_other, map-replicate}
 use Rattle.eco_ids.proofs.States.{record_at}
 use Rattle.eco_store.proofs.Views.{ext_slice_get, bare, seen_alike}
-use Rattle.eco_store.proofs.Newborn.{unfit_name-map, next_entity-map, opposed, refused, Vacant, born_here, born_other, born_limit, next_is}
+use Rattle.eco_store.proofs.Newborn.{opposed, refused, Vacant, born_here, born_other, born_limit, next_is}
 
 no_seat : (o : Option (IndexState Registration)) → Vacant o → seat_in o ≡ None
 no_seat None v = refl
@@ -306,13 +306,6 @@ admit_lifts w w1 s n some r h = by (is_out_of_memory r) h
     by false q =
         let e = ends (nat_le (length w.indices + n) w.limit) q in
         (e.0, subst (λ b. MatchBool b (Answers tt (admitted n (read w s)) r (read w1 s)) (Refuses NoMoreIds (read w s) r (read w1 s))) (sym fits) e.1)
-
--- what stands against a new entity is seen of the store
-pub opposes_seen : (w : Indexed Registration) (s : List (Option TableState)) (name : Option (List ℕ)) (r : Result (Unit {0}) Refusal)
-    → Opposes (unfit_name name_of w name) (next_entity w) r → Opposes (unfit_name record_name (read w s) name) (next_entity (read w s)) r
-opposes_seen w s name r h =
-    subst (λ u. Opposes u (next_entity (read w s)) r) (sym (unfit_name-map (record_for (row_at s)) name_of record_name (λ a. refl) w name))
-    (subst (λ n. Opposes (unfit_name name_of w name) n r) (sym (next_entity-map (record_for (row_at s)) name_of record_name (λ a. refl) w)) h)
 
 -- who is refused leaves what was seen
 pub still_refused : (old seen new : Indexed Record) (name : Option (List ℕ)) (arity : Option ℕ) (ids : List Id) (r : Result Entity Refusal) → old ≡ seen

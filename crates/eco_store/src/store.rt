@@ -1,11 +1,11 @@
 //! The store of a world: each living entity with its name, its ids and their values.
-ghost use Rattle.std.specs.Prelude.{◌≡◌, ◌≤◌, List, ℕ, [], length, None, Some, Ok, is_some, IfSome, IfNone, IsTrue, MatchOption, map};
+ghost use Rattle.std.specs.Prelude.{◌≡◌, ◌≤◌, List, ℕ, [], length, None, Some, Ok, is_some, IfSome, IfNone, IsTrue, MatchOption};
 ghost use Rattle.std.specs.Option.{option_copied};
 ghost use Rattle.std.specs.FinMap.Entries.{find};
 ghost use Rattle.eco_ids.specs.Births.{unfit_name, Makes};
 ghost use Rattle.eco_ids.specs.Indices.{changed, is_alive, next_entity, record_of};
 ghost use Rattle.eco_ids.specs.Names.{named_entity};
-ghost use Rattle.eco_ids.specs.Order.{id_cmp, is_ascending};
+ghost use Rattle.eco_ids.specs.Order.{id_cmp};
 ghost use Rattle.eco_ids.specs.Renaming.{own_name};
 ghost use Rattle.eco_archetypes.specs.Archetypes.{type_at};
 ghost use Rattle.eco_ids.specs.declared.id.Id.{Id as Ids};
@@ -162,25 +162,6 @@ impl Store {
         Some(table.type_list())
     }
 
-    /// The ids of an entity, ascending; none where it isn't living.
-    pub fn ids_of(&self, e: Entity) -> &[Id]
-        ensures ids { result.now ≡ map (λ p. p.0) (held_by self.now.entities e) }
-        ensures ascending { IsTrue (is_ascending id_cmp result.now) }
-    {
-        match self.type_of(e) {
-            Some(type_list) => type_list.as_slice(),
-            None => &[],
-        }
-    }
-
-    /// The value of an id that a living entity has.
-    pub fn value(&self, e: Entity, id: Id) -> Option<Value>
-        ensures { result ≡ find id_cmp id (held_by self.now.entities e) }
-    {
-        let (table, row) = self.stand(e)?;
-        table.find_value(row, id)
-    }
-
     /// The tables, to read. Each living entity stands in one row, in the table of its own ids, and no two tables have the
     /// same type. They keep fields of each id that is data.
     pub fn tables(&self) -> &Tables
@@ -192,15 +173,6 @@ impl Store {
         let tables = self.layout.archetypes.tables();
         tables.rows_have_ids();
         tables
-    }
-
-    /// What stands against a new entity of this name, or none: `BadName` where it is no name, `NameTaken` where a living
-    /// entity has it, and `NoMoreIds` where every index below the limit is in use or retired, in this order.
-    pub fn check_new(&self, name: Option<&str>) -> Result<(), Refusal>
-        ensures { Opposes (unfit_name record_name self.now.entities (option_copied name.entry))
-            (next_entity self.now.entities) result }
-    {
-        check_new(&self.layout.entities, name)
     }
 
     /// Makes an entity with these ids, all with zeros, at the lowest free index, else at the first unknown one. It has this

@@ -96,16 +96,6 @@ fn leads_to_both(alloc: Global) -> bool {
     }
 }
 
-// Two entities of a store, of which the second has the first as a tag; and how many hold the first, and the second.
-fn holders(alloc: Global) -> Result<[usize; 2], Refusal> {
-    let mut store = Store::new(alloc, 16);
-    let nothing = TypeList::empty(alloc);
-    let tag = store.create(None, None, &nothing)?;
-    let tagged = nothing.with(Id::One(tag))?;
-    let holder = store.create(None, None, &tagged)?;
-    Ok([store.holders(tag)?.len(), store.holders(holder)?.len()])
-}
-
 #[test]
 fn queries_are_shown_as_canonical_texts(rt: HostRuntime) {
     assert!(rt; are_shown(rt.alloc()));
@@ -122,9 +112,4 @@ fn tables_with_an_id_are_listed(rt: HostRuntime) {
 #[test]
 fn an_add_leads_to_what_with_brings_along(rt: HostRuntime) {
     assert!(rt; leads_to_both(rt.alloc()));
-}
-
-#[test]
-fn who_has_a_tag_holds_it(rt: HostRuntime) {
-    assert!(rt; holders(rt.alloc()) == Ok([1, 0]));
 }

@@ -56,7 +56,7 @@ fn moved(store: &mut Store, tagged: TypeList) -> Result<[usize; 2], AllocError> 
     Ok([before, store.tables().len()])
 }
 
-// How many tables, entities and types have the tag, and how many entities have both ids.
+// How many tables, entities and types have the tag, and how many tables have both ids.
 fn found(store: &Store) -> Result<[usize; 4], AllocError> {
     let pattern = Pattern::One(TAG);
     let both = AllOf {
@@ -64,10 +64,10 @@ fn found(store: &Store) -> Result<[usize; 4], AllocError> {
         others: &[Pattern::One(HOLDER)],
     };
     Ok([
-        store.tables_with(pattern)?.slots.len(),
+        store.tables_by(&pattern)?.slots.len(),
         store.entities_with(pattern)?.len(),
         store.types_with(pattern)?.len(),
-        store.entities_by(&both)?.len(),
+        store.tables_by(&both)?.slots.len(),
     ])
 }
 

@@ -4,9 +4,9 @@ ghost use Rattle.std.specs.List.{All, AllPairs, Contains, list_any, IsDistinct};
 ghost use Rattle.eco_ids.specs.Indices.{living};
 ghost use Rattle.eco_ids.specs.declared.id.Id.{Id as Ids};
 ghost use Rattle.eco_tables.specs.Tables.{slot_of, table_in};
-ghost use Rattle.eco_archetypes.specs.Archetypes.{type_at, is_found, is_found_by};
-ghost use Rattle.eco_store.specs.Holders.{passes, has_match, entities_whose, entities_with, is_holder, holders};
-ghost use Rattle.eco_store.specs.Retyping.{IsTypeBy, IsTypeWith};
+ghost use Rattle.eco_archetypes.specs.Archetypes.{type_at, is_found_by};
+ghost use Rattle.eco_store.specs.Holders.{passes, has_match, entities_with, is_holder};
+ghost use Rattle.eco_store.specs.Retyping.{IsTypeWith};
 ghost use Rattle.eco_store.specs.Lent.{KeepData};
 ghost use Rattle.eco_store.specs.Store.{IsShown};
 
@@ -51,30 +51,6 @@ impl Store {
         Ok(Found { tables, slots })
     }
 
-    /// The tables that have rows and a type with an id that the pattern matches. An `Err` comes where memory is refused, and
-    /// never where no living entity has such an id.
-    pub fn tables_with(&self, pattern: Pattern) -> Result<Found<'_>, AllocError>
-        ensures shown { IfOk result (λ f. IsShown self.now.entities f.tables.now) }
-        ensures listed { IfOk result (λ f. (n : ℕ) →
-            list_any (nat_eq n) f.slots.items ≡ is_found pattern (slot_of f.tables.now n)) }
-        ensures distinct { IfOk result (λ f. IsDistinct nat_eq f.slots.items) }
-        ensures some { OnErr result
-            (IsTrue (list_any (λ p. has_match pattern p.1) (living self.now.entities))) }
-        ensures kinds { IfOk result (λ f. (n m : ℕ) (ids : List Ids) →
-            type_at f.tables.now n ≡ Some ids → type_at f.tables.now m ≡ Some ids → n ≡ m) }
-    {
-        self.tables_by(&pattern)
-    }
-
-    /// Whether the type of some living entity passes the test. It looks at tables that the shortest group of the test's
-    /// patterns finds, up to the first that has rows and passes. It takes no memory.
-    pub fn is_held_by<T: TypeTest>(&self, test: &T) -> bool
-        ensures { result ≡ list_any (λ p. passes (T.test test.now) p.1) (living self.now.entities) }
-    {
-        self.layout.archetypes.tables().rows_have_ids();
-        self.layout.archetypes.finds(test)
-    }
-
     /// Whether some living entity has an id that names this one. Where none has, mostly the marks of the index tell so, and no
     /// table is looked at. It takes no memory.
     pub fn is_named(&self, entity: Entity) -> bool
@@ -90,21 +66,8 @@ impl Store {
     pub fn is_held(&self, pattern: Pattern) -> bool
         ensures { result ≡ list_any (λ p. has_match pattern p.1) (living self.now.entities) }
     {
-        self.is_held_by(&pattern)
-    }
-
-    /// The living entities whose types pass the test, ascending. Its time grows with how many they are, and with the tables
-    /// that the shortest group of the test's patterns finds. An `Err` comes where memory is refused, and never where nobody
-    /// passes.
-    pub fn entities_by<T: TypeTest>(&self, test: &T) -> Result<Vec<Entity>, AllocError>
-        ensures all { IfOk result (λ v. v.items ≡ entities_whose self.now.entities (T.test test.now)) }
-        ensures some { OnErr result
-            (IsTrue (list_any (λ p. passes (T.test test.now) p.1) (living self.now.entities))) }
-    {
-        eco_ids::order::handles_are_ordered();
-        eco_ids::order::ascending_lists_are_sets();
-        let found = self.tables_by(test)?;
-        entities_in(self.alloc, found.tables, &found.slots)
+        self.layout.archetypes.tables().rows_have_ids();
+        self.layout.archetypes.finds(&pattern)
     }
 
     /// The living entities that have an id which the pattern matches, ascending. Its time grows with how many they are,
@@ -115,29 +78,10 @@ impl Store {
         ensures some { OnErr result
             (IsTrue (list_any (λ p. has_match pattern p.1) (living self.now.entities))) }
     {
-        self.entities_by(&pattern)
-    }
-
-    /// The living entities that have an id which names this one, ascending. Its time grows with how many they are, and with
-    /// the tables whose types name it. An `Err` comes where memory is refused, and never where nobody has such an id.
-    pub fn holders(&self, e: Entity) -> Result<Vec<Entity>, AllocError>
-        ensures all { IfOk result (λ v. v.items ≡ holders self.now.entities e) }
-        ensures some { OnErr result (IsTrue (list_any (λ p. is_holder e p.1) (living self.now.entities))) }
-    {
-        self.entities_by(&Naming { entity: e })
-    }
-
-    /// The types of living entities that pass the test, each once, in any order. An `Err` comes where memory is refused, and
-    /// never where nobody passes.
-    pub fn types_by<T: TypeTest>(&self, test: &T) -> Result<Vec<TypeList>, AllocError>
-        ensures listed { IfOk result (λ types. (ids : List Ids) →
-            Contains types.items ids ↔ IsTypeBy self.now.entities (T.test test.now) ids) }
-        ensures distinct { IfOk result (λ types. AllPairs (λ one other. one ≢ other) types.items) }
-        ensures some { OnErr result
-            (IsTrue (list_any (λ p. passes (T.test test.now) p.1) (living self.now.entities))) }
-    {
-        let found = self.tables_by(test)?;
-        types_in(self.alloc, found.tables, &found.slots)
+        eco_ids::order::handles_are_ordered();
+        eco_ids::order::ascending_lists_are_sets();
+        let found = self.tables_by(&pattern)?;
+        entities_in(self.alloc, found.tables, &found.slots)
     }
 
     /// The types of living entities with an id that the pattern matches, each once, in any order. An `Err` comes where
@@ -149,6 +93,7 @@ impl Store {
         ensures some { OnErr result
             (IsTrue (list_any (λ p. has_match pattern p.1) (living self.now.entities))) }
     {
-        self.types_by(&pattern)
+        let found = self.tables_by(&pattern)?;
+        types_in(self.alloc, found.tables, &found.slots)
     }
 }

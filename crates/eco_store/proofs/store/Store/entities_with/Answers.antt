@@ -1,14 +1,16 @@
 use Rattle.std.proofs.Common.{sym, ◌∙◌}
+use Rattle.std.specs.List.{list_any}
+use Rattle.eco_ids.specs.Matching.{pattern_matches}
 use Rattle.eco_tables.specs.Tables.{slot_of}
 use Rattle.eco_store.proofs.Holders.{found_matches, some_listed, standing_apart, standing_whose, whose_ascend}
 use Rattle.eco_ids.proofs.Results.{on_err}
 use Rattle.eco_store.proofs.Sorting.{both_ok, sorted_is}
-use Rattle.eco_store.proofs.store.Store.entities_by.Goals as goal
+use Rattle.eco_store.proofs.store.Store.entities_with.Goals as goal
 
 pub returns-clause-all : goal.returns-clause-all
-returns-clause-all g c =
+returns-clause-all c =
     let found = c.in_ok-found.found in
-    let test = g.T.TypeTest.test c.args.test.now in
+    let test = list_any (pattern_matches c.args.pattern) in
     let shown = c.in_ok-found.ensures.shown in
     let listed = c.in_ok-found.ensures.listed in
     both_ok _ _ _
@@ -21,9 +23,9 @@ returns-clause-all g c =
     c.entities_in.result (rw c.deref.ensures.value at c.entities_in.ensures.all) c.entities_in.ensures.sorted
 
 pub returns-clause-some : goal.returns-clause-some
-returns-clause-some g c =
+returns-clause-some c =
     let found = c.in_ok-found.found in
     on_err c.entities_in.result
-    (some_listed c.args.self.now.entities found.tables.now (g.T.TypeTest.test c.args.test.now) c.in_ok-found.ensures.shown found.slots.items
+    (some_listed c.args.self.now.entities found.tables.now (list_any (pattern_matches c.args.pattern)) c.in_ok-found.ensures.shown found.slots.items
     c.in_ok-found.ensures.listed)
     (rw c.deref.ensures.value at c.entities_in.ensures.some)

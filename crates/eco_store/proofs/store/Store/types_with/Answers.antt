@@ -1,33 +1,34 @@
 use Rattle.std.proofs.Common.{◌≢◌, ◌↔◌, sym, subst}
-use Rattle.std.specs.List.{AllPairs, Contains}
+use Rattle.eco_ids.specs.Matching.{pattern_matches}
+use Rattle.std.specs.List.{list_any, AllPairs, Contains}
 use Rattle.std.proofs.lemmas.Result.{IfOk-weaker}
 use Rattle.eco_store.specs.Retyping.{IsTypeBy}
 use Rattle.eco_ids.proofs.Results.{on_err}
 use Rattle.eco_store.proofs.Holders.{some_listed}
 use Rattle.eco_store.proofs.FoundTypes.{tables_there, types_apart, types_listed}
-use Rattle.eco_store.proofs.store.Store.types_by.Goals as goal
+use Rattle.eco_store.proofs.store.Store.types_with.Goals as goal
 
 pub types_in-requires : goal.types_in-requires
-types_in-requires g c =
+types_in-requires c =
     let found = c.in_ok-found.found in
     rw c.deref.ensures.value
-    (tables_there c.args.self.now.entities found.tables.now (g.T.TypeTest.test c.args.test.now) found.slots.items c.in_ok-found.ensures.shown
+    (tables_there c.args.self.now.entities found.tables.now (list_any (pattern_matches c.args.pattern)) found.slots.items c.in_ok-found.ensures.shown
     c.in_ok-found.ensures.listed)
 
 pub returns-clause-listed : goal.returns-clause-listed
-returns-clause-listed g c =
+returns-clause-listed c =
     let found = c.in_ok-found.found in
     let w = c.args.self.now.entities in
-    let test = g.T.TypeTest.test c.args.test.now in
+    let test = list_any (pattern_matches c.args.pattern) in
     IfOk-weaker c.types_in.result _ _
     (λ types is ids. subst (λ xs. Contains xs ids ↔ IsTypeBy w test ids) (sym is)
     (types_listed w found.tables.now test found.slots.items c.in_ok-found.ensures.shown c.in_ok-found.ensures.listed ids))
     (rw c.deref.ensures.value at c.types_in.ensures.all)
 
 pub returns-clause-distinct : goal.returns-clause-distinct
-returns-clause-distinct g c =
+returns-clause-distinct c =
     let found = c.in_ok-found.found in
-    let test = g.T.TypeTest.test c.args.test.now in
+    let test = list_any (pattern_matches c.args.pattern) in
     IfOk-weaker c.types_in.result _ _
     (λ types is. subst (AllPairs (λ one other. one ≢ other)) (sym is)
     (types_apart c.args.self.now.entities found.tables.now test found.slots.items c.in_ok-found.ensures.shown c.in_ok-found.ensures.listed
@@ -35,9 +36,9 @@ returns-clause-distinct g c =
     (rw c.deref.ensures.value at c.types_in.ensures.all)
 
 pub returns-clause-some : goal.returns-clause-some
-returns-clause-some g c =
+returns-clause-some c =
     let found = c.in_ok-found.found in
     on_err c.types_in.result
-    (some_listed c.args.self.now.entities found.tables.now (g.T.TypeTest.test c.args.test.now) c.in_ok-found.ensures.shown found.slots.items
+    (some_listed c.args.self.now.entities found.tables.now (list_any (pattern_matches c.args.pattern)) c.in_ok-found.ensures.shown found.slots.items
     c.in_ok-found.ensures.listed)
     (rw c.deref.ensures.value at c.types_in.ensures.some)

@@ -18,14 +18,14 @@ use Rattle.eco_traits.specs.Closure.{head_of}
 use Rattle.eco_ids.specs.declared.edition.Edition.{Edition}
 use Rattle.eco_ids.specs.declared.edition.Edition.TheVariants.{First, Second}
 use Rattle.eco_ids.specs.Edition.{has_symmetric, late_traits}
-use Rattle.eco_ids.specs.Mirrors.{mirror_of, mirrored_pair}
+use Rattle.eco_ids.specs.Mirrors.{has_clash, mirror_of, mirrored_pair, would_be_barred}
 use Rattle.eco_ids.proofs.Ascending.{both, first, second}
-use Rattle.eco_ids.proofs.Clashes.{IsQuiet, quiet_grows}
+use Rattle.eco_ids.proofs.Clashes.{IsQuiet, clash_is_local, quiet_grows}
 use Rattle.eco_ids.proofs.Facts.{or_parts}
 use Rattle.eco_ids.proofs.Overlaps.{entity_eq_is, entity_eq_itself}
 use Rattle.eco_traits.proofs.Members.{only}
 use Rattle.eco_traits.proofs.Traits.{not_so}
-use Rattle.eco_traits.specs.Target.{BringsNone, IsPlain, IsSound, LeadsTo, type_of_record}
+use Rattle.eco_traits.specs.Target.{BringsNone, IsPlain, IsSound, LeadsTo, ties, type_of_record}
 use Rattle.eco_traits.proofs.Closures.{closure_alone}
 use Rattle.eco_traits.proofs.Joined.{leads_to, some_record}
 use Rattle.eco_traits.proofs.Verdicts.{judged_cycle}
@@ -65,11 +65,9 @@ keeps_all w i none [] = refl
 keeps_all w i none (x ∷ xs) = grind (arith, common_steps, keeps_all w i none xs)
 
 -- nothing stands against it
-pub alone_judged : (w : WorldState) (e : Entity) (i : Id) (d : Record) → record_of w e ≡ Some d → IsClosure w i (i ∷ []) → names_living w i ≡ true → IsSound w →
-    list_any is_wrong_policy (i ∷ []) ≡ false → list_any (is_late w e (i ∷ [])) (late_traits w.edition) ≡ false →
-    ((r : Entity) → ClosesCycle w e (i ∷ []) r → ⊥) → (IsTrue (has_symmetric w.edition) → IsQuiet (i ∷ [])) → Judges w e (i ∷ []) (grown w e i (i ∷ [])) None
-alone_judged w e i d at closure lives sound policy late open_end quiet =
-    judged_cycle w e (i ∷ []) (grown w e i (i ∷ [])) None false None policy late open_end (quiet_grows w e i (i ∷ []) d at closure lives sound quiet) refl
+pub alone_judged : (w : WorldState) (e : Entity) (i : Id) → list_any is_wrong_policy (i ∷ []) ≡ false
+    → list_any (is_late w e (i ∷ [])) (late_traits w.edition) ≡ false → ((r : Entity) → ClosesCycle w e (i ∷ []) r → ⊥) → has_clash (grown w e i (i ∷ [])) ≡ false → Judges w e (i ∷ []) (grown w e i (i ∷ [])) None
+alone_judged w e i policy late open_end calm = judged_cycle w e (i ∷ []) (grown w e i (i ∷ [])) None false None policy late open_end calm refl
 
 -- no trait comes too late where none comes
 pub pair_late : (w : WorldState) (e r t : Entity) → list_any (is_late w e (Two r t ∷ [])) (late_traits w.edition) ≡ false
@@ -80,7 +78,7 @@ pair_late w e r t = by w.edition
     by Second = refl
 
 -- a pair of another relationship than With is quiet
-pub pair_quiet : (w : WorldState) (r t : Entity) → (has_symmetric w.edition && entity_eq r WITH) ≡ false → IsTrue (has_symmetric w.edition) → IsQuiet (Two r t ∷ [])
+pair_quiet : (w : WorldState) (r t : Entity) → (has_symmetric w.edition && entity_eq r WITH) ≡ false → IsTrue (has_symmetric w.edition) → IsQuiet (Two r t ∷ [])
 pair_quiet w r t apart has_it = record {
   exclusive = refl;
   acyclic = refl;
@@ -89,6 +87,29 @@ pair_quiet w r t apart has_it = record {
       let is : r ≡ WITH = same_relationship (only same_id (Two r t) (Two WITH x) h) in
       true≢false (sym (both (has_symmetric w.edition) _ has_it (subst (λ y. IsTrue (entity_eq y WITH)) (sym is) (entity_eq_itself WITH))) ∙ apart));
 }
+
+-- a pair that ties no symmetric relationship to another makes nothing clash
+pub pair_calm : (w : WorldState) (e r t : Entity) (own : List Id) → Some own ≡ option_map type_of_record (record_of w e) → IsClosure w (Two r t) (Two r t ∷ [])
+    → names_living w (Two r t) ≡ true → IsSound w → ties w own r t ≡ false → has_clash (grown w e (Two r t) (Two r t ∷ [])) ≡ false
+pair_calm w e r t own owns closure lives sound free = by (has_symmetric w.edition && entity_eq r WITH) refl
+  where
+    -- neither is symmetric
+    neither : (has_it holder barred with target : Bool) → (holder || target) ≡ false →
+        (has_it && (((holder || false) && barred) || ((with && (has_it && target)) || false))) ≡ false
+    neither has_it true barred with target h = absurd (true≢false h)
+    neither has_it false barred with true h = absurd (true≢false h)
+    neither false false barred with false h = refl
+    neither true false barred true false h = refl
+    neither true false barred false false h = refl
+
+    by : (b : Bool) → (has_symmetric w.edition && entity_eq r WITH) ≡ b → has_clash (grown w e (Two r t) (Two r t ∷ [])) ≡ false
+    by false h = let d = some_record (record_of w e) own owns in quiet_grows w e (Two r t) (Two r t ∷ []) d.0 d.1 closure lives sound (pair_quiet w r t h)
+    by true h =
+        let d = some_record (record_of w e) own owns in
+        clash_is_local w e (Two r t) (Two r t ∷ []) d.0 d.1 closure lives sound
+        ∙ neither (has_symmetric w.edition) (has w e (One SYMMETRIC)) (would_be_barred w e (Two r t ∷ [])) (entity_eq WITH r) (has w t (One SYMMETRIC))
+        (ap (λ a. a || has w t (One SYMMETRIC)) (has_listed w e (One SYMMETRIC) own owns)
+        ∙ sym (ap (λ c. c && (has_item id_cmp own (One SYMMETRIC) || has w t (One SYMMETRIC))) h) ∙ free)
 
 module _ (w : WorldState) (e c : Entity) (excl : entity_eq c EXCLUSIVE ≡ false) (acyc : entity_eq c ACYCLIC ≡ false)
     (symm : (has_symmetric w.edition && entity_eq c SYMMETRIC) ≡ false) where
@@ -122,14 +143,14 @@ plain_alone w (Two r t) ids own plain = comes_alone w (Two r t) ids own plain.1.
 unopposed : (w : WorldState) (e : Entity) (i : Id) (ids : List Id) (d : Record) → record_of w e ≡ Some d → names_living w i ≡ true → IsSound w →
     AreTraitsOf w i ids → IsPlain w.edition i ids → Judges w e (i ∷ []) (grown w e i (i ∷ [])) None
 unopposed w e (One c) ids d at lives sound own plain =
-    alone_judged w e (One c) d at (plain_alone w (One c) ids own plain) lives sound refl (single_late w e c plain.0.0 plain.0.1 plain.0.2)
-    (λ r closes. true≢false (sym closes.2)) (single_quiet w e c plain.0.0 plain.0.1 plain.0.2)
+    alone_judged w e (One c) refl (single_late w e c plain.0.0 plain.0.1 plain.0.2) (λ r closes. true≢false (sym closes.2))
+    (quiet_grows w e (One c) (One c ∷ []) d at (plain_alone w (One c) ids own plain) lives sound (single_quiet w e c plain.0.0 plain.0.1 plain.0.2))
 unopposed w e (Two r t) ids d at lives sound own plain =
-    alone_judged w e (Two r t) d at (plain_alone w (Two r t) ids own plain) lives sound (ap (λ b. b || false) plain.0) (pair_late w e r t)
+    alone_judged w e (Two r t) (ap (λ b. b || false) plain.0) (pair_late w e r t)
     (λ q closes.
     let same : r ≡ q = same_relationship (only same_id (Two r t) (Two q closes.1) closes.2) in
     true≢false (sym (subst (λ y. IsTrue (is_acyclic w y)) (sym same) closes.0) ∙ has_listed w r (One ACYCLIC) ids own ∙ plain.1.1))
-    (pair_quiet w r t plain.2)
+    (quiet_grows w e (Two r t) (Two r t ∷ []) d at (plain_alone w (Two r t) ids own plain) lives sound (pair_quiet w r t plain.2))
 
 -- it goes to its place
 pub plain_leads_to : (w : WorldState) (e : Entity) (i : Id) (ids own all : List Id) → names_living w i ≡ true → has w e i ≡ false → IsSound w → AreTraitsOf w i ids

@@ -4,10 +4,9 @@ use Rattle.std.proofs.Common.{find, refl, sym, ap, ◌∙◌, subst, true≢fals
 use Rattle.std.specs.List.{list_any}
 use Rattle.std.proofs.lemmas.Bool.{and_right, or_left, or_parts, or_right}
 use Rattle.eco_ids.specs.declared.entity.Entity.{Entity}
-use Rattle.eco_ids.specs.declared.entity.TheConstants.{ACYCLIC, EXCLUSIVE, WITH}
+use Rattle.eco_ids.specs.declared.entity.TheConstants.{ACYCLIC, EXCLUSIVE}
 use Rattle.eco_ids.specs.declared.id.Id.{Id}
 use Rattle.eco_ids.specs.declared.id.Id.TheVariants.{One, Two}
-use Rattle.eco_ids.specs.Edition.{has_symmetric}
 use Rattle.eco_ids.specs.Order.{id_cmp, id_eq, entity_eq, has_item, is_ascending, with_item, without_item}
 use Rattle.eco_ids.specs.Step.{is_pair_of, is_replaced, is_wrong_policy}
 use Rattle.eco_ids.specs.Traits.{Reaches}
@@ -18,10 +17,10 @@ use Rattle.eco_ids.proofs.Facts.{id_eq_is, id_eq_itself, same_or_apart}
 use Rattle.eco_ids.proofs.Gains.{same_relationship}
 use Rattle.eco_ids.proofs.IdOrder.{same_id}
 use Rattle.eco_ids.proofs.Overlaps.{entity_eq_is, entity_eq_itself}
-use Rattle.eco_traits.specs.Target.{BringsNone, IsSound, Replaces, spared, type_of_record}
-use Rattle.eco_traits.proofs.Joined.{leads_to, some_record}
+use Rattle.eco_traits.specs.Target.{BringsNone, IsSound, Replaces, spared, ties, type_of_record}
+use Rattle.eco_traits.proofs.Joined.{leads_to}
 use Rattle.eco_traits.proofs.Members.{only, same_truth}
-use Rattle.eco_traits.proofs.Plain.{alone_judged, comes_alone, pair_late, pair_quiet}
+use Rattle.eco_traits.proofs.Plain.{alone_judged, comes_alone, pair_calm, pair_late}
 use Rattle.eco_traits.proofs.Walks.{has_listed, some_is}
 
 -- ---- the only one of its kind
@@ -141,21 +140,20 @@ module _ (w : WorldState) (r t : Entity) (traits : List Id) (are : Some traits �
 
   pub replaces : (e : Entity) (own : List Id) (replaced : Option Id) → names_living w (Two r t) ≡ true → has w e (Two r t) ≡ false
       → Some own ≡ option_map type_of_record (record_of w e) → IsTrue (is_ascending id_cmp own)
-      → IsSound w → (has_symmetric w.edition && entity_eq r WITH) ≡ false
+      → IsSound w → ties w own r t ≡ false
       → is_wrong_policy (Two r t) ≡ false → BringsNone traits → (IsTrue (has_item id_cmp traits (One ACYCLIC)) → Reaches w r t e → ⊥)
       → spared replaced own ≡ filter (λ i. not (exclusive && is_pair_of r i)) own
       → Replaces w e (Two r t) own replaced
   replaces e own replaced lives absent owns up sound free policy brings no_walk left =
-      let d = some_record (record_of w e) own owns in
       let closure = comes_alone w (Two r t) traits are brings in
       leads_to w e (Two r t) (Two r t ∷ []) own (spared replaced own) (with_item id_cmp (spared replaced own) (Two r t)) None lives absent closure
-      (alone_judged w e (Two r t) d.0 d.1 closure lives sound (ap (λ b. b || false) policy) (pair_late w e r t)
+      (alone_judged w e (Two r t) (ap (λ b. b || false) policy) (pair_late w e r t)
       (λ q closes.
       let pair = only same_id (Two r t) (Two q closes.1) closes.2 in
       let same : r ≡ q = same_relationship pair in
       no_walk (sym (has_listed w r (One ACYCLIC) traits are) ∙ ap (is_acyclic w) same ∙ closes.0)
       (subst (λ x. Reaches w r x e) (sym (same_target pair)) (subst (λ x. Reaches w x closes.1 e) (sym same) closes.3)))
-      (pair_quiet w r t free))
+      (pair_calm w e r t own owns closure lives sound free))
       refl owns up (left ∙ left_is own (sym (has_listed w e (Two r t) own owns) ∙ absent)) refl
     where
       target_in : Id → Entity

@@ -79,6 +79,10 @@ IsPlain edition (One c) ids = IsNoTrait edition c × BringsNone ids
 IsPlain edition (Two r t) ids =
     (is_wrong_policy (Two r t) ≡ false) × LacksTraits edition ids × ((has_symmetric edition && entity_eq r WITH) ≡ false)
 
+-- a pair (r, t) ties a symmetric relationship to another: it is one of With, and who gets it, with these ids, or t is symmetric
+abbrev pub ties : WorldState → List Id → Entity → Entity → Bool
+ties w own r t = (has_symmetric w.edition && entity_eq r WITH) && (has_item id_cmp own (One SYMMETRIC) || has w t (One SYMMETRIC))
+
 -- what is asked of a world: where relationships may be symmetric, that it is in order
 abbrev pub IsSound : WorldState → Type 0
 IsSound w = IsTrue (has_symmetric w.edition) → IsLawful w

@@ -4,20 +4,19 @@ ghost use Rattle.std.specs.List.{list_any};
 ghost use Rattle.eco_ids.specs.Outcome.{is_out_of_memory};
 ghost use Rattle.eco_ids.specs.World.{has, is_alive as lives, record_of};
 ghost use Rattle.eco_ids.specs.declared.id.Id.TheVariants.{One, Two};
-ghost use Rattle.eco_ids.specs.Edition.{has_symmetric};
-ghost use Rattle.eco_ids.specs.Order.{entity_eq, has_item, id_cmp, id_eq, is_ascending, with_item};
+ghost use Rattle.eco_ids.specs.Order.{has_item, id_cmp, id_eq, is_ascending, with_item};
 ghost use Rattle.eco_ids.specs.Step as step;
 ghost use Rattle.eco_ids.specs.World as world;
 ghost use Rattle.eco_traits.specs.Closure.{head_of};
 ghost use Rattle.eco_ids.specs.Traits.{Reaches};
-ghost use Rattle.eco_traits.specs.Target.{FindsTarget, FindsType, is_own, IsAmong, IsSound, TakesOwn, Replaces, extended_by, left_by, spared, type_of_entity};
+ghost use Rattle.eco_traits.specs.Target.{FindsTarget, FindsType, is_own, IsAmong, IsSound, TakesOwn, Replaces, extended_by, left_by, spared, ties, type_of_entity};
 
 use crate::holdings::Holdings;
 use crate::implied::{brings_any, closure_by, head_of};
 use crate::prospect::{Prospect, foresee};
 use crate::verdict::{is_among, is_wrong_policy, verdict};
 use crate::walk::{has, has_pair_of, is_pair_of, may_reach};
-use eco_ids::entity::{ACYCLIC, EXCLUSIVE, WITH};
+use eco_ids::entity::{ACYCLIC, EXCLUSIVE, SYMMETRIC, WITH};
 use eco_ids::{Entity, Id, Refusal, TypeList};
 use std::alloc::{AllocError, Global};
 
@@ -125,7 +124,7 @@ fn new_target<H: Holdings>(
 
 // The pair that a new pair replaces, or none, where that is all that the new one does, and nothing stands against it. No
 // answer where that takes more than a look at the pair's entities: the pair brings others along, replaces several, names
-// no action, or may close a cycle.
+// no action, ties a symmetric relationship to another, or may close a cycle.
 fn short_way<H: Holdings>(
     holdings: &H,
     entity: Entity,
@@ -176,7 +175,7 @@ fn short_pair<H: Holdings>(
     if is_wrong_policy(Id::Two(relationship, target)) {
         return None;
     }
-    if may_tie(holdings, relationship) {
+    if ties_symmetric(holdings, own, relationship, target) {
         return None;
     }
     if brings_any(traits) {
@@ -189,11 +188,18 @@ fn short_pair<H: Holdings>(
     Some(replaced)
 }
 
-// Whether a pair may tie a symmetric relationship to another.
-fn may_tie<H: Holdings>(holdings: &H, relationship: Entity) -> bool
-    ensures { result ≡ (has_symmetric (H.world holdings.now).edition && entity_eq relationship WITH) }
+// Whether a pair ties a symmetric relationship to another by With.
+fn ties_symmetric<H: Holdings>(
+    holdings: &H,
+    own: &TypeList,
+    relationship: Entity,
+    target: Entity,
+) -> bool
+    ensures { result ≡ ties (H.world holdings.now) own.now relationship target }
 {
-    holdings.edition().has_symmetric() && relationship.is(WITH)
+    holdings.edition().has_symmetric()
+        && relationship.is(WITH)
+        && (own.has(Id::One(SYMMETRIC)) || has(holdings, target, Id::One(SYMMETRIC)))
 }
 
 // Whether a pair may close a cycle at the entity, as far as that is known without a walk.

@@ -73,6 +73,11 @@ chunks_append (suc n) m w xs ys e =
 pub chunk_alone : {X : Type 0} (w : ℕ) (xs : List X) → length xs ≡ w → chunks 1 w xs ≡ xs ∷ []
 chunk_alone w xs e = ap (λ k. take k xs ∷ []) (sym e) ∙ ap (λ ys. ys ∷ []) (take-length xs)
 
+-- each item alone
+pub chunks_alone : {X : Type 0} (xs : List X) → chunks (length xs) 1 xs ≡ map (λ x. x ∷ []) xs
+chunks_alone [] = refl
+chunks_alone (x ∷ xs) = ap (λ zs. (x ∷ []) ∷ zs) (chunks_alone xs)
+
 pub chunks_even : {X : Type 0} (n w : ℕ) (xs : List X) → length xs ≡ n * w → IsEven w (chunks n w xs)
 chunks_even zero w xs e = tt
 chunks_even (suc n) w xs e =

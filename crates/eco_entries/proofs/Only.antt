@@ -2,7 +2,7 @@
 use Rattle.std.proofs.Common.{◌≡◌, ℕ, suc, ◌+◌, ◌<◌, List, [], ◌∷◌, ◌++◌, length, drop, map, get_or, Option, refl, sym, ap, ◌∙◌}
 use Rattle.std.proofs.Common.{arith, add-one, append-nil, drop-cons, append_assoc, length-append}
 use Rattle.std.specs.Prelude.{flat_map}
-use Rattle.std.proofs.lemmas.List.{map-id}
+use Rattle.std.proofs.lemmas.List.{length-drop, map-id, nil_from_length}
 use Rattle.eco_ids.specs.Answer.{choices, entries_of}
 use Rattle.eco_ids.specs.declared.id.Id.{Id}
 use Rattle.eco_query.specs.Queries.{term_view}
@@ -64,3 +64,17 @@ pub only_is : {X : Type 0} (old new : List X) (lists : List (List X)) → map (�
 only_is old new [] e = absurd (omega (arith, ap length e))
 only_is old new (c ∷ []) e = (c, (refl, sym (ap (λ xs. get_or xs 0 new) e)))
 only_is old new (c ∷ d ∷ lists) e = absurd (omega (arith, ap length e))
+
+each_alone : {X : Type 0} (es : List X) → map (λ e. e ∷ []) es ≡ flat_map (λ e. map (λ rest. e ∷ rest) ([] ∷ [])) es
+each_alone [] = refl
+each_alone (e ∷ es) = ap (λ zs. (e ∷ []) ∷ zs) (each_alone es)
+
+-- the entries of the last slot, each alone, are its choices
+pub last_choices : (ids : List Id) (slots : List Slot) (k : ℕ) (s : Slot) (es : List (Option Id)) → k + 1 ≡ length slots → get_or slots k s ≡ s
+    → es ≡ entries_of ids (term_view s.term) → map (λ e. e ∷ []) es ≡ choices ids (asks (drop k slots))
+last_choices ids slots k s es last at are =
+    ap (map (λ e. e ∷ [])) are
+    ∙ each_alone (entries_of ids (term_view s.term))
+    ∙ ap (λ rest. choices ids (asks (s ∷ rest))) (sym (nil_from_length (drop (suc k) slots) (let cut = length-drop (suc k) slots in omega (arith, cut, last))))
+    ∙ ap (λ z. choices ids (asks (z ∷ drop (suc k) slots))) (sym at)
+    ∙ ap (λ zs. choices ids (asks zs)) (sym (drop-cons slots k s (omega (arith, last))))

@@ -5,7 +5,6 @@ use Rattle.std.specs.Prelude.{IsTrue}
 use Rattle.std.specs.Ordering.{ordering_then, ordering_reverse}
 use Rattle.std.specs.Cmp.{tied_itself}
 use Rattle.std.specs.List.{list_any, list_all}
-use Rattle.std.specs.BTreeSet.{BTreeSet, contains}
 use Rattle.std.proofs.lemmas.List.Folds.{list_any_more}
 use Rattle.eco_ids.specs.Answer.{is_least_match, same_filling}
 use Rattle.eco_ids.specs.Matching.{pattern_matches}
@@ -21,6 +20,8 @@ use Rattle.eco_ids.proofs.Ascending.{first, second, less, all_at}
 use Rattle.eco_ids.proofs.IdOrder.{id_cmp_total}
 use Rattle.eco_entries.specs.Answers.{parts_alike}
 use Rattle.eco_entries.specs.Fillings.{asked_for, filling, fills, HasSeen, SeesMore}
+use Rattle.eco_entries.specs.Seen.{is_seen}
+use Rattle.eco_entries.specs.declared.seen.Seen.{Seen}
 
 not_below : (x y : Id) → IsTrue (is_lt (id_cmp x y)) → is_lt (id_cmp y x) ≡ false
 not_below x y h = ap is_lt (id_cmp_total.antisymm y x ∙ ap ordering_reverse (less _ h))
@@ -31,7 +32,7 @@ none_below t x [] h = refl
 none_below t x (y ∷ ys) h = ap (λ b. (b && t y) || list_any (λ j. is_lt (id_cmp j x) && t j) ys) (not_below x y (first _ _ h)) ∙ none_below t x ys (second _ _ h)
 
 -- those below an id of an ascending list are those before it
-below_before : (t : Id → Bool) (ids : List Id) (k : ℕ) (d : Id) → IsTrue (is_ascending id_cmp ids) → k < length ids
+pub below_before : (t : Id → Bool) (ids : List Id) (k : ℕ) (d : Id) → IsTrue (is_ascending id_cmp ids) → k < length ids
     → list_any (λ j. is_lt (id_cmp j (get_or ids k d)) && t j) ids ≡ list_any t (take k ids)
 below_before t [] k d up here = absurd (omega arith)
 below_before t (x ∷ xs) zero d up here =
@@ -68,15 +69,15 @@ any_same f g h [] = refl
 any_same f g h (x ∷ xs) = ap (λ b. b || list_any f xs) (h x) ∙ ap (λ b. g x || b) (any_same f g h xs)
 
 module _ (p : Pattern) (ids : List Id) (k : ℕ) (d : Id) (here : k < length ids) where
-  pub least_is_first : (seen : BTreeSet Id) → IsTrue (is_ascending id_cmp ids) → HasSeen p (take k ids) seen
-      → is_least_match p ids (get_or ids k d) ≡ (pattern_matches p (get_or ids k d) && not (contains id_cmp seen (filling p (get_or ids k d))))
+  pub least_is_first : (seen : Seen) → IsTrue (is_ascending id_cmp ids) → HasSeen p (take k ids) seen
+      → is_least_match p ids (get_or ids k d) ≡ (pattern_matches p (get_or ids k d) && not (is_seen seen (filling p (get_or ids k d))))
   least_is_first seen up has = by (pattern_matches p (get_or ids k d)) refl
     where
       less_here : Bool
       less_here = list_any (λ j. is_lt (id_cmp j (get_or ids k d)) && (pattern_matches p j && same_filling p j (get_or ids k d))) ids
 
       by : (b : Bool) → pattern_matches p (get_or ids k d) ≡ b
-          → (b && not less_here) ≡ (b && not (contains id_cmp seen (filling p (get_or ids k d))))
+          → (b && not less_here) ≡ (b && not (is_seen seen (filling p (get_or ids k d))))
       by false e = refl
       by true e =
           ap not
@@ -84,6 +85,6 @@ module _ (p : Pattern) (ids : List Id) (k : ℕ) (d : Id) (here : k < length ids
           ∙ any_same _ _ (λ j. same_fills p (get_or ids k d) j e) (take k ids)
           ∙ sym (has (filling p (get_or ids k d))))
 
-  pub seen_more : (old new : BTreeSet Id) → HasSeen p (take k ids) old → SeesMore p (get_or ids k d) old new → HasSeen p (take (k + 1) ids) new
+  pub seen_more : (old new : Seen) → HasSeen p (take k ids) old → SeesMore p (get_or ids k d) old new → HasSeen p (take (k + 1) ids) new
   seen_more old new has more = λ x.
       more x ∙ ap (λ b. b || fills p x (get_or ids k d)) (has x) ∙ sym (list_any_more (fills p x) ids k d here)

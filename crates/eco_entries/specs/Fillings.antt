@@ -1,7 +1,6 @@
 -- What ids fill the `*` parts of a pattern with.
 use Rattle.std.specs.Prelude.{◌≡◌, Bool, ◌&&◌, ◌||◌, List}
 use Rattle.std.specs.List.{list_any}
-use Rattle.std.specs.BTreeSet.{BTreeSet, contains}
 use Rattle.eco_ids.specs.declared.entity.Entity.{Entity}
 use Rattle.eco_ids.specs.declared.id.Id.{Id}
 use Rattle.eco_ids.specs.declared.id.Id.TheVariants as id
@@ -10,7 +9,9 @@ use Rattle.eco_ids.specs.declared.pattern.Part.TheVariants.{Is, Each, Any}
 use Rattle.eco_ids.specs.declared.pattern.Pattern.{Pattern}
 use Rattle.eco_ids.specs.declared.pattern.Pattern.TheVariants.{One, Two}
 use Rattle.eco_ids.specs.Matching.{pattern_matches}
-use Rattle.eco_ids.specs.Order.{id_cmp, id_eq}
+use Rattle.eco_ids.specs.Order.{id_eq}
+use Rattle.eco_entries.specs.Seen.{is_seen}
+use Rattle.eco_entries.specs.declared.seen.Seen.{Seen}
 
 -- stands for an entity that no `*` asks for
 abbrev nobody : Entity
@@ -33,9 +34,9 @@ abbrev pub fills : Pattern → Id → Id → Bool
 fills p x i = pattern_matches p i && id_eq (filling p i) x
 
 -- the fillings of the ids that match have been seen, and no others
-abbrev pub HasSeen : Pattern → List Id → BTreeSet Id → Type 0
-HasSeen p ids seen = (x : Id) → contains id_cmp seen x ≡ list_any (fills p x) ids
+abbrev pub HasSeen : Pattern → List Id → Seen → Type 0
+HasSeen p ids seen = (x : Id) → is_seen seen x ≡ list_any (fills p x) ids
 
 -- the id's filling is seen besides, where it matches
-abbrev pub SeesMore : Pattern → Id → BTreeSet Id → BTreeSet Id → Type 0
-SeesMore p i old new = (x : Id) → contains id_cmp new x ≡ (contains id_cmp old x || fills p x i)
+abbrev pub SeesMore : Pattern → Id → Seen → Seen → Type 0
+SeesMore p i old new = (x : Id) → is_seen new x ≡ (is_seen old x || fills p x i)

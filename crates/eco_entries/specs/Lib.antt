@@ -1,3 +1,5 @@
 pub mod Answers
 pub mod Fillings
+pub mod First
 pub mod Flat
+pub mod Seen

@@ -64,6 +64,17 @@ impl Choices {
         }
     }
 
+    /// Each of some entries alone.
+    pub(crate) fn each(entries: Vec<Option<Id>>) -> Choices
+        ensures { result ≡ record { width = 1; all = map (λ e. e ∷ []) entries.items } }
+    {
+        Choices {
+            width: 1,
+            count: entries.len(),
+            entries,
+        }
+    }
+
     /// No choice, each to be of this width.
     pub fn none(alloc: Global, width: usize) -> Choices
         ensures { result ≡ record { width = width; all = [] } }

@@ -17,7 +17,7 @@ use std::alloc::AllocError;
 const FEW_IDS: usize = 12;
 
 // Whether two ids that match fill the `*` parts alike.
-fn fills_alike(pattern: Pattern, id: Id, other: Id) -> bool
+pub(crate) fn fills_alike(pattern: Pattern, id: Id, other: Id) -> bool
     ensures { result ≡ same_filling pattern id other }
 {
     match (pattern, id, other) {
@@ -63,7 +63,7 @@ fn is_less(pattern: Pattern, id: Id, other: Id) -> bool
 
 // Puts one more behind others. There is room for it mostly.
 #[inline]
-fn put(entry: Option<Id>, entries: &mut Vec<Option<Id>>) -> Result<(), AllocError>
+pub(crate) fn put(entry: Option<Id>, entries: &mut Vec<Option<Id>>) -> Result<(), AllocError>
     ensures { OnOk result (entries.new.items ≡ entries.old.items ++ entry ∷ []) }
 {
     if entries.len() == entries.capacity() {
@@ -197,7 +197,7 @@ pub fn add_entries(
 
 // Whether one of the ids matches.
 #[inline(never)]
-fn has_match(ids: &[Id], pattern: Pattern) -> bool
+pub(crate) fn has_match(ids: &[Id], pattern: Pattern) -> bool
     ensures { result ≡ list_any (pattern_matches pattern) ids.now }
 {
     ids.iter().any(|id| pattern.matches(*id))
@@ -220,7 +220,7 @@ fn add_first(
 }
 
 // The first of the alternatives that the type has.
-fn first_of(ids: &TypeList, alternatives: &[Id]) -> Option<Id>
+pub(crate) fn first_of(ids: &TypeList, alternatives: &[Id]) -> Option<Id>
     ensures { result ≡ find (has_item id_cmp ids.now) alternatives.now }
 {
     alternatives.iter().copied().find(|id| ids.has(*id))

@@ -1,14 +1,15 @@
 //! The least match of each filling, among many ids.
 ghost use Rattle.std.specs.Prelude.{◌≡◌, ◌++◌, map, filter, not, ◌&&◌, Some, IfOk, OnOk, IsTrue};
-ghost use Rattle.std.specs.BTreeSet.{contains};
 ghost use Rattle.eco_ids.specs.Answer.{is_least_match};
 ghost use Rattle.eco_ids.specs.Matching.{pattern_matches};
 ghost use Rattle.eco_ids.specs.Order.{id_cmp, is_ascending};
 ghost use Rattle.eco_entries.specs.Fillings as spec;
+ghost use Rattle.eco_entries.specs.Seen.{is_seen, AreApart};
 
+use crate::entries::put;
+use crate::seen::Seen;
 use eco_ids::{Entity, Id, Part, Pattern};
 use std::alloc::AllocError;
-use std::collections::BTreeSet;
 
 // Stands for an entity that no `*` asks for.
 const NOBODY: Entity = Entity {
@@ -39,19 +40,22 @@ fn filling(pattern: Pattern, id: Id) -> Id
 }
 
 // Whether the id matches, and no filling seen before is its own, which is seen from then on.
-fn is_first(pattern: Pattern, id: Id, seen: &mut BTreeSet<Id>) -> Result<bool, AllocError>
+#[inline(always)]
+fn is_first(pattern: Pattern, id: Id, seen: &mut Seen) -> Result<bool, AllocError>
+    requires { AreApart seen.old }
     ensures is { IfOk result (λ is. is
-        ≡ (pattern_matches pattern id && not (contains id_cmp seen.old (spec.filling pattern id)))) }
+        ≡ (pattern_matches pattern id && not (is_seen seen.old (spec.filling pattern id)))) }
     ensures seen { OnOk result (spec.SeesMore pattern id seen.old seen.new) }
+    ensures apart { OnOk result (AreApart seen.new) }
 {
     if !pattern.matches(id) {
         return Ok(false);
     }
-    Ok(seen.insert(filling(pattern, id))?)
+    seen.insert(filling(pattern, id))
 }
 
 /// Puts the least match of each filling behind other entries. The ids ascend, so that it is the first: each is looked at
-/// once, and the fillings seen stand in an ordered set.
+/// once, beside the fillings seen, which mostly ascend too.
 #[inline(never)]
 pub(crate) fn add_first_of_each(
     pattern: Pattern,
@@ -62,10 +66,10 @@ pub(crate) fn add_first_of_each(
     ensures { OnOk result (entries.new.items
         ≡ entries.old.items ++ map Some (filter (is_least_match pattern ids.now) ids.now)) }
 {
-    let mut seen = BTreeSet::new(*entries.allocator());
+    let mut seen = Seen::none(*entries.allocator());
     for id in ids {
         if is_first(pattern, *id, &mut seen)? {
-            entries.push(Some(*id))?;
+            put(Some(*id), entries)?;
         }
     }
     Ok(())

@@ -5,7 +5,9 @@
 mod choices;
 mod entries;
 mod fillings;
+mod only_entry;
 mod product;
+mod seen;
 mod single;
 
 pub use choices::Choices;

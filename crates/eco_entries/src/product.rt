@@ -1,13 +1,24 @@
 //! All choices of entries that a query has on the entities of one type.
 ghost use Rattle.std.specs.Prelude.{◌≡◌, ◌∷◌, [], length, IfOk, IsTrue};
 ghost use Rattle.eco_ids.specs.Answer as definitions;
+ghost use Rattle.eco_query.specs.Queries.{term_view};
 ghost use Rattle.eco_entries.specs.Answers.{asks};
 
 use crate::choices::Choices;
 use crate::entries::add_entries;
+use crate::single::add_only;
 use eco_ids::{Id, TypeList};
 use eco_query::Slot;
 use std::alloc::{AllocError, Global};
+
+// The entries that the slot may have.
+fn own_entries(alloc: Global, slot: &Slot, ids: &TypeList) -> Result<Vec<Option<Id>>, AllocError>
+    ensures { IfOk result (λ own. own.items ≡ definitions.entries_of ids.now (term_view slot.now.term)) }
+{
+    let mut own = Vec::new(alloc);
+    add_entries(slot, ids, &mut own)?;
+    Ok(own)
+}
 
 /// Each choice of one entry for each slot, in the order of the slots. They are made from the last slot to the first, so
 /// that none is made twice. Where all slots hold, no list on the way is longer than what is answered.
@@ -15,12 +26,14 @@ pub fn choices_of(alloc: Global, slots: &[Slot], ids: &TypeList) -> Result<Choic
     ensures { IfOk result (λ c.
         c ≡ record { width = length slots.now; all = definitions.choices ids.now (asks slots.now) }) }
 {
-    let mut choices = Choices::one(alloc);
-    let mut left = slots.len();
+    if slots.is_empty() {
+        return Ok(Choices::one(alloc));
+    }
+    let mut left = slots.len() - 1;
+    let mut choices = Choices::each(own_entries(alloc, &slots[left], ids)?);
     while left > 0 {
         left -= 1;
-        let mut own = Vec::new(alloc);
-        add_entries(&slots[left], ids, &mut own)?;
+        let own = own_entries(alloc, &slots[left], ids)?;
         choices = choices.led_by(alloc, &own, slots.len() - left)?;
     }
     Ok(choices)
@@ -38,11 +51,5 @@ pub fn find_only(
     ensures long { IfOk result (λ is. IsTrue is → length buffer.new.items ≡ length slots.now) }
 {
     buffer.clear();
-    for place in 0..slots.len() {
-        add_entries(&slots[place], ids, buffer)?;
-        if buffer.len() != place + 1 {
-            return Ok(false);
-        }
-    }
-    Ok(true)
+    add_only(slots, ids, buffer)
 }

@@ -3,7 +3,8 @@ ghost use Rattle.std.specs.Prelude.{◌≡◌, ◌∷◌, ◌++◌, ◌+◌, [],
 ghost use Rattle.eco_ids.specs.Answer as definitions;
 ghost use Rattle.eco_entries.specs.Answers.{asks};
 
-use crate::entries::add_entries;
+use crate::entries::put;
+use crate::only_entry::only_entry;
 use eco_ids::{Id, TypeList};
 use eco_query::Slot;
 use std::alloc::AllocError;
@@ -22,11 +23,10 @@ pub fn add_only(
         length entries.new.items ≡ length entries.old.items + length slots.now) }
 {
     for place in 0..slots.len() {
-        let before = entries.len();
-        add_entries(&slots[place], ids, entries)?;
-        if entries.len() - before != 1 {
+        let Some(entry) = only_entry(&slots[place], ids) else {
             return Ok(false);
-        }
+        };
+        put(entry, entries)?;
     }
     Ok(true)
 }

@@ -3,21 +3,24 @@ use Rattle.eco_ids.specs.Answer.{is_least_match}
 use Rattle.eco_entries.proofs.Filtered.{filtered_in, filtered_out}
 use Rattle.eco_entries.proofs.Unseen.{least_is_first, seen_more}
 use Rattle.eco_entries.proofs.fillings.add_first_of_each.Goals as goal
-use Rattle.eco_entries.proofs.fillings.add_first_of_each.Goals.{then-branch+in_ok-push, else-branch}
+use Rattle.eco_entries.proofs.fillings.add_first_of_each.Goals.{then-branch+in_ok-put, else-branch}
 
 pub loop-id-preserved : goal.loop-id-preserved
 loop-id-preserved c =
     let p = c.args.pattern in
     let ids = c.args.ids.now in
     let k = c.loop-id.id-index in
-    let is_least = least_is_first p ids k _ c.loop-id-test.true c.loop-id.seen c.requires c.loop-id.invariant.1 ∙ sym c.in_ok-is_first.ensures.is in (
+    let is_least = least_is_first p ids k _ c.loop-id-test.true c.loop-id.seen c.requires c.loop-id.invariant.1.0 ∙ sym c.in_ok-is_first.ensures.is in (
       elim c.if-branch.branch [
-        | then-branch+in_ok-push w ↦
+        | then-branch+in_ok-put w ↦
             filtered_in (is_least_match p ids) ids k _ c.args.entries.now.items c.loop-id.entries.items c.if-branch.entries.items
-            c.loop-id-test.true c.loop-id.invariant.0 (is_least ∙ w.if-branch.true) (ap (λ v. v.items) w.entries-is ∙ w.in_ok-push.ensures.items)
+            c.loop-id-test.true c.loop-id.invariant.0 (is_least ∙ w.if-branch.true) (ap (λ v. v.items) w.entries-is ∙ w.in_ok-put.ensures)
         | else-branch w ↦
             filtered_out (is_least_match p ids) ids k _ c.args.entries.now.items c.loop-id.entries.items c.if-branch.entries.items
             c.loop-id-test.true c.loop-id.invariant.0 (is_least ∙ w.if-branch.false) (ap (λ v. v.items) w.entries-is)
       ],
-      seen_more p ids k _ c.loop-id-test.true c.loop-id.seen c.is_first.new.seen c.loop-id.invariant.1 c.in_ok-is_first.ensures.seen,
+      (
+        seen_more p ids k _ c.loop-id-test.true c.loop-id.seen c.is_first.new.seen c.loop-id.invariant.1.0 c.in_ok-is_first.ensures.seen,
+        c.in_ok-is_first.ensures.apart,
+      ),
     )

@@ -1,4 +1,4 @@
-use Rattle.std.proofs.Common.{◌≡◌, ◌+◌, ◌++◌, length, map, sym, arith, rules}
+use Rattle.std.proofs.Common.{◌≡◌, ◌+◌, ◌++◌, ◌∷◌, [], ap, length, length-append, map, sym, ◌∙◌, arith}
 use Rattle.eco_ids.specs.Answer.{choices}
 use Rattle.eco_entries.specs.Answers.{asks}
 use Rattle.eco_entries.proofs.Only.{only_step}
@@ -6,11 +6,14 @@ use Rattle.eco_entries.proofs.single.add_only.Goals as goal
 
 pub loop-place-preserved : goal.loop-place-preserved
 loop-place-preserved c =
-    let more : length c.add_entries.new.entries.items ≡ length c.loop-place.entries.items + 1 = search (rules, arith) in
+    let added = length-append c.loop-place.entries.items (c.in-Some.entry ∷ []) in
+    let put = ap length c.in_ok-put.ensures in
+    let more : length c.put.new.entries.items ≡ length c.loop-place.entries.items + 1 = omega (arith, added, put) in
     let was = c.loop-place.invariant.long in record {
       long = omega (arith, more, was);
       made =
           only_step c.args.ids.now c.args.slots.now c.loop-place.place c.index-slots-place.result c.loop-place.entries.items
-          c.add_entries.new.entries.items (map (λ own. c.args.entries.now.items ++ own) (choices c.args.ids.now (asks c.args.slots.now)))
-          c.loop-place-test.true more (sym c.index-slots-place.is) c.in_ok-add_entries.ensures c.loop-place.invariant.made;
+          c.put.new.entries.items (map (λ own. c.args.entries.now.items ++ own) (choices c.args.ids.now (asks c.args.slots.now)))
+          c.loop-place-test.true more (sym c.index-slots-place.is)
+          (c.in_ok-put.ensures ∙ ap (λ es. c.loop-place.entries.items ++ es) (sym c.in-Some.ensures)) c.loop-place.invariant.made;
     }

@@ -4,7 +4,10 @@ use Rattle.eco_ids.proofs.Common.{length}
 use Rattle.eco_ids.proofs.Common.{slice_get, Option, Some, option_map, unwrap_or, refl, sym, ap, ◌∙◌, arith, length-append, length-map, list_any}
 use Rattle.eco_ids.proofs.Common.{All, AllByRecursion}
 use Rattle.std.proofs.lemmas.List.{nil_from_length}
-use Rattle.std.proofs.lemmas.List.Elements.{recursion_from_All}
+use Rattle.std.proofs.Common.{get_or, drop}
+use Rattle.std.specs.Prelude.{IsTrue}
+use Rattle.std.specs.List.{slice_index_or}
+use Rattle.std.proofs.lemmas.List.Elements.{All-from_recursion, recursion_from_All}
 use Rattle.eco_ids.specs.Answer as answers
 use Rattle.eco_ids.specs.Answer.{answer, choices, entries_of}
 use Rattle.eco_ids.specs.Terms.{QueryTerm}
@@ -16,12 +19,14 @@ use Rattle.eco_ids.proofs.States.{record_at}
 use Rattle.eco_query.specs.declared.slot.Slot.{Slot}
 use Rattle.eco_query.specs.Queries.{QuerySlot, has_any, holds, matches_type, slot_view, term_view}
 use Rattle.eco_tables.specs.Table.{TableState}
+use Rattle.eco_tables.specs.Tables.{table_in}
 use Rattle.eco_store.specs.Holders.{entities_whose, passes}
 use Rattle.eco_store.specs.Ranking.{StandsIn}
 use Rattle.eco_store.specs.Store.{record_ids, type_of}
 use Rattle.eco_store.specs.declared.standing.Standing.{Standing}
 use Rattle.eco_answers.specs.Answers.{asked, asks}
 use Rattle.eco_answers.specs.Blocks.{results, results_at}
+use Rattle.eco_answers.specs.Fixed.{Fits}
 use Rattle.eco_store.specs.Worlds.{world_of}
 
 -- ---- which ids have a choice
@@ -172,6 +177,37 @@ standings_answer w tables ns q ss are right =
     ∙ ap (flat_map (λ e. results e (own_ids w e) (asked q))) are
     ∙ of_kept w (asked q) (filter (passing q) (living w)) (all_filtered (λ (p : Kept). record_of w p.0 ≡ Some p.1) (passing q) (living w) (all_kept w))
     ∙ answer_passing q (living w)
+
+-- ---- whose types fulfil the query
+
+filtered_pass : (t : Kept → Bool) (ps : List Kept) → AllByRecursion (λ (p : Kept). IsTrue (t p)) (filter t ps)
+filtered_pass t [] = tt
+filtered_pass t (p ∷ ps) = by (t p) refl (filtered_pass t ps)
+  where
+    by : (b : Bool) → t p ≡ b → AllByRecursion (λ (x : Kept). IsTrue (t x)) (filter t ps)
+        → AllByRecursion (λ (x : Kept). IsTrue (t x)) (cond b (p ∷ filter t ps) (filter t ps))
+    by true e rest = (e, rest)
+    by false e rest = rest
+
+each_fits : (w : Indexed Record) (tables : List (Option TableState)) (ns : List ℕ) (q : List QuerySlot) (ss : List Standing) (ps : List Kept)
+    → map (λ (s : Standing). s.entity) ss ≡ map (λ (p : Kept). p.0) ps → AllByRecursion (StandsIn w tables ns) ss
+    → AllByRecursion (λ (p : Kept). record_of w p.0 ≡ Some p.1) ps → AllByRecursion (λ (p : Kept). IsTrue (passing q p)) ps
+    → AllByRecursion (Fits tables ns q) ss
+each_fits w tables ns q [] ps same right kept pass = tt
+each_fits w tables ns q (s ∷ ss) [] same right kept pass = absurd (omega (arith, ap length same))
+each_fits w tables ns q (s ∷ ss) (p ∷ ps) same right kept pass =
+    let own : s.entity ≡ p.0 = ap (λ es. get_or es 0 p.0) same in
+    let ids : (table_in tables (slice_index_or ns s.place 0)).ids ≡ record_ids p.1 =
+    ap (λ o. unwrap_or o []) (sym right.0.1 ∙ ap (type_of w) own ∙ ap (option_map record_ids) kept.0) in
+    (ap (λ is. matches_type is q) ids ∙ pass.0, each_fits w tables ns q ss ps (ap (drop 1) same) right.1 kept.1 pass.1)
+
+-- all who pass stand in tables whose types fulfil the query
+pub all_fit : (w : Indexed Record) (tables : List (Option TableState)) (ns : List ℕ) (q : List QuerySlot) (ss : List Standing)
+    → map (λ (s : Standing). s.entity) ss ≡ entities_whose w (λ ids. matches_type ids q) → All (StandsIn w tables ns) ss → All (Fits tables ns q) ss
+all_fit w tables ns q ss are right =
+    All-from_recursion (Fits tables ns q) ss
+    (each_fits w tables ns q ss (filter (passing q) (living w)) are (recursion_from_All (StandsIn w tables ns) ss right)
+    (all_filtered (λ (p : Kept). record_of w p.0 ≡ Some p.1) (passing q) (living w) (all_kept w)) (filtered_pass (passing q) (living w)))
 
 -- what the slots ask is what the query asks
 pub asks_asked : (slots : List Slot) (q : List QuerySlot) → map slot_view slots ≡ q → asks slots ≡ asked q

@@ -1,3 +1,4 @@
 pub mod Answers
 pub mod Blocks
+pub mod Fixed
 pub mod Groups

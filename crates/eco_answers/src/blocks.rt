@@ -1,5 +1,5 @@
 //! The choices of several tables, one table's behind another's.
-ghost use Rattle.std.specs.Prelude.{◌≡◌, ◌<◌, ◌++◌, length, IfOk, IsSome, OnOk, OnErr};
+ghost use Rattle.std.specs.Prelude.{◌≡◌, ◌<◌, ◌++◌, ◌∷◌, [], length, IfOk, IsSome, OnOk, OnErr};
 ghost use Rattle.std.specs.List.{All};
 ghost use Rattle.eco_ids.specs.Answer as answers;
 ghost use Rattle.eco_tables.specs.Tables.{slot_of};
@@ -98,7 +98,20 @@ fn add_rows(rows: &mut Vec<Standing>, entity: Entity, block: Block) -> Result<()
     ensures { OnOk result (rows.new.items ≡ rows.old.items ++ rows_in block entity) }
 {
     for place in block.first..block.end {
-        rows.push(Standing { entity, place })?;
+        put(Standing { entity, place }, rows, block.end - place)?;
     }
+    Ok(())
+}
+
+// Puts a row behind others. Where there is no room, room for so many is asked for at once.
+#[inline(always)]
+fn put(row: Standing, rows: &mut Vec<Standing>, left: usize) -> Result<(), AllocError>
+    requires { 0 < left }
+    ensures { OnOk result (rows.new.items ≡ rows.old.items ++ row ∷ []) }
+{
+    if rows.len() == rows.capacity() {
+        rows.reserve(left)?;
+    }
+    rows.push_reserved(row);
     Ok(())
 }

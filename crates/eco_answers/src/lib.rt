@@ -3,6 +3,7 @@
 
 mod asking;
 mod blocks;
+mod fixed;
 mod iter;
 mod results;
 

@@ -1,15 +1,17 @@
 //! The results of a query.
-ghost use Rattle.std.specs.Prelude.{◌≡◌, ◌==◌, ◌<◌, length, map, slice_get, IfOk, IsSome, OnErr, Some};
+ghost use Rattle.std.specs.Prelude.{◌≡◌, ◌==◌, ◌<◌, length, map, slice_get, IfOk, IfSome, IsSome, OnErr, Some};
 ghost use Rattle.std.specs.List.{All};
 ghost use Rattle.eco_ids.specs.Answer as answers;
 ghost use Rattle.eco_ids.specs.Answer.{answer, Row as Rows};
 ghost use Rattle.eco_tables.specs.Tables.{slot_of};
 ghost use Rattle.eco_answers.specs.Answers.{asked, asks};
 ghost use Rattle.eco_answers.specs.Blocks.{results_at, shown};
+ghost use Rattle.eco_answers.specs.Fixed.{AreFixed, Fits};
 ghost use Rattle.eco_store.specs.Worlds.{world_of};
 
 use crate::asking::Asking;
 use crate::blocks::{Blocks, blocks_of, rows_of};
+use crate::fixed::{fixed_choice, once_each};
 use crate::iter::Iter;
 use eco_entries::Choices;
 use eco_ids::{Entity, Id};
@@ -117,6 +119,45 @@ fn results_in(
 ) -> Result<Results, AllocError>
     requires there { All (λ n. IsSome (slot_of found.tables.now n)) found.slots.items }
     requires places { All (λ s. s.place < length found.slots.items) found.list }
+    requires fit { All (Fits found.tables.now found.slots.items query.now) found.list }
+    ensures { IfOk result (λ r. r
+        ≡ results_at found.entry.tables.now found.entry.slots.items (asked query.now) found.entry.list) }
+{
+    query.is_positive();
+    match fixed_for(alloc, query.slots(), cache)? {
+        Some(choice) => fixed_in(alloc, found, query, &choice),
+        None => own_in(alloc, found, query, cache),
+    }
+}
+
+// The same, where all types on which the slots hold have just these entries.
+fn fixed_in(
+    alloc: Global,
+    found: Standings<'_>,
+    query: &Query,
+    choice: &[Option<Id>],
+) -> Result<Results, AllocError>
+    requires some { 0 < length choice.now }
+    requires fixed { AreFixed (asked query.now) choice.now }
+    requires there { All (λ n. IsSome (slot_of found.tables.now n)) found.slots.items }
+    requires places { All (λ s. s.place < length found.slots.items) found.list }
+    requires fit { All (Fits found.tables.now found.slots.items query.now) found.list }
+    ensures { IfOk result (λ r. r
+        ≡ results_at found.entry.tables.now found.entry.slots.items (asked query.now) found.entry.list) }
+{
+    let choices = once_each(alloc, found.tables.tables(), &found.slots, choice)?;
+    Ok(alone_in(found, choices))
+}
+
+// The same, where each type may have entries of its own.
+fn own_in(
+    alloc: Global,
+    found: Standings<'_>,
+    query: &Query,
+    cache: Option<usize>,
+) -> Result<Results, AllocError>
+    requires there { All (λ n. IsSome (slot_of found.tables.now n)) found.slots.items }
+    requires places { All (λ s. s.place < length found.slots.items) found.list }
     ensures { IfOk result (λ r. r
         ≡ results_at found.entry.tables.now found.entry.slots.items (asked query.now) found.entry.list) }
 {
@@ -125,6 +166,21 @@ fn results_in(
         // Each who stands somewhere is its own one row.
         Some(choices) => Ok(alone_in(found, choices)),
         None => expanded_in(alloc, found, query.slots()),
+    }
+}
+
+// The entries that the slots have on each type on which they hold, where they are the same on all, and the store keeps no
+// choices of theirs.
+fn fixed_for(
+    alloc: Global,
+    slots: &[Slot],
+    cache: Option<usize>,
+) -> Result<Option<Vec<Option<Id>>>, AllocError>
+    ensures { IfOk result (λ o. IfSome o (λ c. AreFixed (asks slots.now) c.items)) }
+{
+    match cache {
+        Some(_) => Ok(None),
+        None => fixed_choice(alloc, slots),
     }
 }
 

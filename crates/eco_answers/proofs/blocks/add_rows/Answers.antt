@@ -13,8 +13,8 @@ loop-place-init c =
 
 pub loop-place-preserved : goal.loop-place-preserved
 loop-place-preserved c = record {
-  made = rows_step c.args.entity c.args.block.first c.loop-place.place c.args.rows.now.items c.loop-place.rows.items c.push.new.self.items
-      c.loop-place.auto.place c.loop-place.invariant.made c.in_ok-push.ensures.items;
+  made = rows_step c.args.entity c.args.block.first c.loop-place.place c.args.rows.now.items c.loop-place.rows.items c.put.new.rows.items
+      c.loop-place.auto.place c.loop-place.invariant.made c.in_ok-put.ensures;
   within = omega (arith, c.loop-place.auto.place, c.loop-place-test.true);
 }
 

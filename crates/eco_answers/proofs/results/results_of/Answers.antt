@@ -1,7 +1,7 @@
 use Rattle.std.proofs.Common.{◌<◌, ◌∙◌, length, arith, rules}
 use Rattle.std.proofs.lemmas.Result.{IfOk-weaker}
 use Rattle.eco_ids.proofs.Results.{err_says}
-use Rattle.eco_answers.proofs.Answered.{held_answers, none_answers, some_answers, standings_answer}
+use Rattle.eco_answers.proofs.Answered.{all_fit, held_answers, none_answers, some_answers, standings_answer}
 use Rattle.eco_answers.proofs.results.results_of.Goals as goal
 
 pub returns-in_err-found-clause-some : goal.returns-in_err-found-clause-some
@@ -28,3 +28,8 @@ returns-clause-some c =
     let found = c.in_ok-found.found in
     let some : 0 < length found.list = search (rules, arith) in
     err_says c.results_in.result (some_answers c.args.store.now.entities c.args.query.now found.list c.in_ok-found.ensures.all some)
+
+pub results_in-requires-clause-fit : goal.results_in-requires-clause-fit
+results_in-requires-clause-fit c =
+    let found = c.in_ok-found.found in
+    all_fit c.args.store.now.entities found.tables.now found.slots.items c.args.query.now found.list c.in_ok-found.ensures.all c.in_ok-found.ensures.placed

@@ -1,0 +1,7 @@
+use Rattle.std.proofs.Common.{take}
+use Rattle.eco_answers.specs.Answers.{asks}
+use Rattle.eco_answers.specs.Fixed.{AreFixed}
+use Rattle.eco_answers.proofs.fixed.fixed_choice.Given as goal
+
+abbrev pub invariant-loop-slot : goal.invariant-loop-slot
+invariant-loop-slot l = AreFixed (asks (take l.slot-index l.slots)) l.choice.items

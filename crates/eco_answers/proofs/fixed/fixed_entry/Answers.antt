@@ -1,0 +1,11 @@
+use Rattle.std.proofs.Common.{◌≡◌, Some, rules, subst, sym}
+use Rattle.eco_query.specs.Queries.{term_view}
+use Rattle.eco_query.specs.declared.term.Term.TheVariants.{And}
+use Rattle.eco_answers.specs.Fixed.{IsFixed}
+use Rattle.eco_answers.proofs.FixedEntries.{exact_fixed}
+use Rattle.eco_answers.proofs.fixed.fixed_entry.Goals as goal
+
+pub returns-in-Some : goal.returns-in-Some
+returns-in-Some c =
+    let same : c.args.slot.now.term ≡ And c.in-And.pattern = search rules in
+    subst (λ t. IsFixed (term_view t) (Some c.in-Some.id)) (sym same) (exact_fixed c.in-And.pattern c.in-Some.id c.in-Some.ensures)

@@ -1,0 +1,76 @@
+//! The one choice of entries that some slots have wherever they hold, where it is the same everywhere.
+ghost use Rattle.std.specs.Prelude.{◌≡◌, ◌<◌, length, replicate, IfOk, IfSome, IsSome};
+ghost use Rattle.std.specs.List.{All};
+ghost use Rattle.eco_tables.specs.Tables.{slot_of};
+ghost use Rattle.eco_answers.specs.Answers.{asks};
+ghost use Rattle.eco_answers.specs.Fixed.{AreFixed, Ascends, IsFixed};
+ghost use Rattle.eco_query.specs.Queries.{exactly, term_view};
+
+use eco_entries::Choices;
+use eco_ids::{Id, Part, Pattern};
+use eco_query::{Slot, Term};
+use eco_store::Tables;
+use std::alloc::{AllocError, Global};
+
+// The only id that a pattern matches: none, where it may match several.
+fn exact_id(pattern: Pattern) -> Option<Id>
+    ensures { IfSome result (λ i. pattern ≡ exactly i) }
+{
+    match pattern {
+        Pattern::One(entity) => Some(Id::One(entity)),
+        Pattern::Two(Part::Is(relationship), Part::Is(target)) => {
+            Some(Id::Two(relationship, target))
+        }
+        Pattern::Two(..) => None,
+    }
+}
+
+// The entry that a slot has on each type on which it holds, where it is the same on all.
+#[tactic(auto, using(crate::proofs::FixedEntries::not_fixed))]
+fn fixed_entry(slot: &Slot) -> Option<Option<Id>>
+    ensures { IfSome result (IsFixed (term_view slot.now.term)) }
+{
+    match &slot.term {
+        Term::And(pattern) => match exact_id(*pattern) {
+            Some(id) => Some(Some(id)),
+            None => None,
+        },
+        Term::Not(_) => Some(None),
+        Term::Optional(_) | Term::Or(_) => None,
+    }
+}
+
+/// The entries that the slots have on each type on which they hold, where they are the same on all.
+pub fn fixed_choice(alloc: Global, slots: &[Slot]) -> Result<Option<Vec<Option<Id>>>, AllocError>
+    ensures { IfOk result (λ o. IfSome o (λ c. AreFixed (asks slots.now) c.items)) }
+{
+    let mut choice = Vec::with_capacity(alloc, slots.len())?;
+    for slot in slots {
+        let Some(entry) = fixed_entry(slot) else {
+            return Ok(None);
+        };
+        choice.push(entry)?;
+    }
+    Ok(Some(choice))
+}
+
+/// A choice once for each of the tables in these slots.
+pub fn once_each(
+    alloc: Global,
+    tables: &Tables,
+    slots: &[usize],
+    choice: &[Option<Id>],
+) -> Result<Choices, AllocError>
+    requires some { 0 < length choice.now }
+    requires there { All (λ n. IsSome (slot_of tables.now n)) slots.now }
+    ensures each { IfOk result (λ c. c.all ≡ replicate (length slots.now) choice.now) }
+    ensures ascending { IfOk result (λ c. All (Ascends tables.now) slots.now) }
+{
+    let mut choices = Choices::with_room(alloc, choice.len(), slots.len())?;
+    for slot in slots {
+        // Each type ascends.
+        let _ids = tables.get(*slot).unwrap().type_list().as_slice();
+        choices.push(choice)?;
+    }
+    Ok(choices)
+}

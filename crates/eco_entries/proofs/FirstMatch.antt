@@ -75,14 +75,14 @@ module _ (p : Pattern) (ids : List Id) (k : ℕ) (d : Id) (here : k < length ids
   met one None new was is =
       subst (IsFirst p ids (take (k + 1) ids)) (sym is) (
         more [] (get_or ids k d ∷ []) true was.0
-        (ap (λ b. b && not alike_before) one ∙ ap not (none_both (pattern_matches p) (λ j. same_filling p j (get_or ids k d)) (take k ids) was.1)) refl,
+            (ap (λ b. b && not alike_before) one ∙ ap not (none_both (pattern_matches p) (λ j. same_filling p j (get_or ids k d)) (take k ids) was.1)) refl,
         (one, among_last),
       )
   met one (Some i) new was is =
       subst (IsFirst p ids (take (k + 1) ids)) (sym is.1) (
         more (i ∷ []) (i ∷ []) false was.0
-        (ap (λ b. b && not alike_before) one
-        ∙ ap not (was.1.1 (λ j. pattern_matches p j && same_filling p j (get_or ids k d)) (ap (λ b. b && same_filling p i (get_or ids k d)) was.1.0 ∙ is.0))) refl,
+            (ap (λ b. b && not alike_before) one
+            ∙ ap not (was.1.1 (λ j. pattern_matches p j && same_filling p j (get_or ids k d)) (ap (λ b. b && same_filling p i (get_or ids k d)) was.1.0 ∙ is.0))) refl,
         (was.1.0, among_more i was.1.1),
       )
 

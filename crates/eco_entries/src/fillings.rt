@@ -54,14 +54,30 @@ fn is_first(pattern: Pattern, id: Id, seen: &mut Seen) -> Result<bool, AllocErro
     seen.insert(filling(pattern, id))
 }
 
-/// Puts the least match of each filling behind other entries. The ids ascend, so that it is the first: each is looked at
-/// once, beside the fillings seen, which mostly ascend too.
+/// Puts the least match of each filling behind other entries. The targets of any relationship have a loop of their own, which
+/// the compiler makes for their pattern alone.
 #[inline(never)]
 pub(crate) fn add_first_of_each(
     pattern: Pattern,
     ids: &[Id],
     entries: &mut Vec<Option<Id>>,
 ) -> Result<(), AllocError>
+    requires { IsTrue (is_ascending id_cmp ids.now) }
+    ensures { OnOk result (entries.new.items
+        ≡ entries.old.items ++ map Some (filter (is_least_match pattern ids.now) ids.now)) }
+{
+    match pattern {
+        Pattern::Two(Part::Any, Part::Each) => {
+            add_first(Pattern::Two(Part::Any, Part::Each), ids, entries)
+        }
+        _ => add_first(pattern, ids, entries),
+    }
+}
+
+// Puts the least match of each filling behind other entries. The ids ascend, so that it is the first: each is looked at
+// once, beside the fillings seen, which mostly ascend too.
+#[inline(always)]
+fn add_first(pattern: Pattern, ids: &[Id], entries: &mut Vec<Option<Id>>) -> Result<(), AllocError>
     requires { IsTrue (is_ascending id_cmp ids.now) }
     ensures { OnOk result (entries.new.items
         ≡ entries.old.items ++ map Some (filter (is_least_match pattern ids.now) ids.now)) }

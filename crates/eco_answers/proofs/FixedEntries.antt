@@ -71,7 +71,8 @@ not_fixed p ids up h = by (list_any (pattern_matches p) ids) h
 
 -- ---- those of some slots
 
-more_fixed : (ts : List QueryTerm) (es : List (Option Id)) (t : QueryTerm) (e : Option Id) → AreFixed ts es → IsFixed t e → AreFixed (ts ++ t ∷ []) (es ++ e ∷ [])
+more_fixed : (ts : List QueryTerm) (es : List (Option Id)) (t : QueryTerm) (e : Option Id) → AreFixed ts es → IsFixed t e
+    → AreFixed (ts ++ t ∷ []) (es ++ e ∷ [])
 more_fixed [] [] t e all one = (one, tt)
 more_fixed [] (x ∷ es) t e all one = absurd all
 more_fixed (x ∷ ts) [] t e all one = absurd all
@@ -122,6 +123,10 @@ pub copy_more : {X : Type 0} (n : ℕ) (x : X) → replicate n x ++ x ∷ [] ≡
 copy_more zero x = refl
 copy_more (suc n) x = let e : suc (n + 1) ≡ suc n + 1 = omega arith in ap (λ xs. x ∷ xs) (copy_more n x) ∙ ap (λ k. replicate k x) e
 
+-- the rows of an entity with these entries, before others
+abbrev rows_before : Standing → List answers.Row → List (List (Option Id)) → List answers.Row
+rows_before s rest cs = map (λ xs. let r : answers.Row = record { entity = s.entity; entries = xs } in r) cs ++ rest
+
 -- all who stand where the query holds are the rows
 pub fixed_shown : (tables : List (Option TableState)) (ns : List ℕ) (q : List QuerySlot) (es : List (Option Id)) → AreFixed (asked q) es
     → All (Ascends tables) ns → (ss : List Standing) → All (λ (s : Standing). s.place < length ns) ss → All (Fits tables ns q) ss
@@ -134,7 +139,6 @@ fixed_shown tables ns q es fixed up ss within fit =
     go [] within fit = refl
     go (s ∷ ss) within fit =
         ap (λ zs. shown (replicate (length ns) es) s ∷ zs) (go ss within.1 fit.1)
-        ∙ ap (λ xs. let r : answers.Row = record { entity = s.entity; entries = xs } in r ∷ results_at tables ns (asked q) ss)
-        (copy_at (length ns) s.place es [] within.0)
-        ∙ ap (λ (cs : List (List (Option Id))). map (λ xs. let r : answers.Row = record { entity = s.entity; entries = xs } in r) cs ++ results_at tables ns (asked q) ss)
+        ∙ ap (λ xs. rows_before s (results_at tables ns (asked q) ss) (xs ∷ [])) (copy_at (length ns) s.place es [] within.0)
+        ∙ ap (rows_before s (results_at tables ns (asked q) ss))
         (sym (fixed_choices (table_in tables (slice_index_or ns s.place 0)).ids q es fixed (up s.place 0 within.0) fit.0))

@@ -82,7 +82,8 @@ module _ (p : Pattern) (ids : List Id) (k : ℕ) (d : Id) (here : k < length ids
       subst (IsFirst p ids (take (k + 1) ids)) (sym is.1) (
         more (i ∷ []) (i ∷ []) false was.0
             (ap (λ b. b && not alike_before) one
-            ∙ ap not (was.1.1 (λ j. pattern_matches p j && same_filling p j (get_or ids k d)) (ap (λ b. b && same_filling p i (get_or ids k d)) was.1.0 ∙ is.0))) refl,
+            ∙ ap not (was.1.1 (λ j. pattern_matches p j && same_filling p j (get_or ids k d))
+            (ap (λ b. b && same_filling p i (get_or ids k d)) was.1.0 ∙ is.0))) refl,
         (was.1.0, among_more i was.1.1),
       )
 

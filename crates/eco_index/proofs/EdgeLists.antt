@@ -151,13 +151,26 @@ module _ {S : Type 0} where
       by true false p q = let r = leads_there m (edge lists n j) (twofold m n j (leads_is n (edge lists m j) p)) in cc
       by false true p q = let r = leads_there n (edge lists m j) (twofold n m j (leads_is m (edge lists n j) q)) in cc
 
-  pub cut_past : (lists : List (HashMap Id ℕ S)) (slot : ℕ) → IsTwofold lists → length lists ≤ slot → Cuts lists lists slot
-  cut_past lists slot twofold past n j =
-      let none : edge lists slot j ≡ None = ap (λ o. edge_of o j) (slice_get_past lists slot past) in
-      let back : leads_to slot (edge lists n j) ≡ false = sym (both_ways lists twofold n slot j) ∙ ap (leads_to n) none in
+  -- what has no edges is cut off already
+  pub cut_none : (lists : List (HashMap Id ℕ S)) (slot : ℕ) → IsTwofold lists → ((j : Id) → edge lists slot j ≡ None) → Cuts lists lists slot
+  cut_none lists slot twofold none n j =
+      let back : leads_to slot (edge lists n j) ≡ false = sym (both_ways lists twofold n slot j) ∙ ap (leads_to n) (none j) in
       way (nat_eq n slot) (edge lists n j ≡ cond (nat_eq n slot || leads_to slot (edge lists n j)) None (edge lists n j))
-      (λ same. ap (λ k. edge lists k j) (same_slot n slot same) ∙ none ∙ ap (λ b. cond (b || leads_to slot (edge lists n j)) None (edge lists n j)) (sym same))
+      (λ same.
+      ap (λ k. edge lists k j) (same_slot n slot same) ∙ none j ∙ ap (λ b. cond (b || leads_to slot (edge lists n j)) None (edge lists n j)) (sym same))
       (λ other. ap (λ b. cond b None (edge lists n j)) (sym (ap (λ b. b || leads_to slot (edge lists n j)) other ∙ back)))
+
+  pub cut_past : (lists : List (HashMap Id ℕ S)) (slot : ℕ) → IsTwofold lists → length lists ≤ slot → Cuts lists lists slot
+  cut_past lists slot twofold past = cut_none lists slot twofold (λ j. ap (λ o. edge_of o j) (slice_get_past lists slot past))
+
+  pub cut_empty : (lists : List (HashMap Id ℕ S)) (slot : ℕ) (own : HashMap Id ℕ S) → IsTwofold lists → slot < length lists → own ≡ get_or lists slot own
+      → length own.entries ≡ 0 → Cuts lists lists slot
+  cut_empty lists slot own twofold within is none =
+      cut_none lists slot twofold (λ j. sym (at_slot lists slot own within is j) ∙ ap (lookup (same_id j)) (no_entry own.entries none))
+    where
+      no_entry : (es : List (Id × ℕ)) → length es ≡ 0 → es ≡ []
+      no_entry [] e = refl
+      no_entry (x ∷ xs) e = cc
 
   pub cut_edges : (old new : List (HashMap Id ℕ S)) (slot : ℕ) (own m' : HashMap Id ℕ S) → IsTwofold old → slot < length old
       → own ≡ get_or old slot own → m'.entries ≡ []

@@ -1,8 +1,11 @@
 -- A slot comes to the lists of one id, or goes from those that no other id of the type needs.
-use Rattle.std.proofs.Common.{◌≡◌, ℕ, ◌+◌, ◌<◌, length, take, get_or, Bool, true, false, cond, not, ◌&&◌, ◌||◌, List, [], ◌∷◌, nat_eq, refl, sym, ap, ◌∙◌}
+use Rattle.std.proofs.Common.{◌≡◌, ℕ, ◌+◌, ◌<◌, length, take, get_or, Bool, true, false, cond, not, ◌&&◌, ◌||◌, List, [], ◌∷◌, nat_eq, refl, sym, ap, ◌∙◌, true≢false}
 use Rattle.std.specs.List.{list_any}
 use Rattle.std.proofs.lemmas.Bool.Decides.{Decides-eqb}
+use Rattle.eco_ids.specs.declared.entity.Entity.{Entity}
 use Rattle.eco_ids.specs.declared.id.Id.{Id}
+use Rattle.eco_ids.specs.declared.id.Id.TheVariants.{One, Two}
+use Rattle.eco_ids.specs.Order.{entity_eq}
 use Rattle.eco_ids.specs.declared.pattern.Pattern.{Pattern}
 use Rattle.eco_index.specs.declared.id_index.key.Key.{Key}
 use Rattle.eco_index.specs.declared.id_index.key.Key.TheVariants.{Single, Pair, Relationship, Target, AnyPair}
@@ -80,16 +83,15 @@ pub listed_as : {S : Type 0} (m : HashMap Key Slots S) (k : Key) (slot : ℕ) (b
     → (p : Pattern) → has_key k p ≡ true → lists_of m p slot ≡ b
 listed_as m k slot b is p h = ap (λ q. is_listed m q slot) (sym (keys_same k (key_of p) h)) ∙ is
 
--- one key more, under which the slot is listed already
-pub turns_listed : (k : Key) (ks : List Key) (l l' : Lists) (slot : ℕ) → ((p : Pattern) → has_key k p ≡ true → l p slot ≡ true)
-    → Turns true (has_one ks) l l' slot → Turns true (has_one (k ∷ ks)) l l' slot
-turns_listed k ks l l' slot was turns p n = turns p n ∙ by (has_key k p) refl (has_one ks p) (nat_eq slot n) refl
+-- under a key that lists the slot already nothing turns
+pub turned_none : (k : Key) (l l' : Lists) (slot : ℕ) → ((p : Pattern) → has_key k p ≡ true → l p slot ≡ true) → Turns true (has_key k) l l' slot
+    → (p : Pattern) (n : ℕ) → l' p n ≡ l p n
+turned_none k l l' slot was turns p n = turns p n ∙ by (has_key k p) refl (nat_eq slot n) refl
   where
-    by : (a : Bool) → has_key k p ≡ a → (b : Bool) → (c : Bool) → nat_eq slot n ≡ c → cond (b && c) true (l p n) ≡ cond ((a || b) && c) true (l p n)
-    by false e b c h = refl
-    by true e true c h = refl
-    by true e false false h = refl
-    by true e false true h = ap (l p) (sym ((Decides-eqb slot n).0 h)) ∙ was p e
+    by : (a : Bool) → has_key k p ≡ a → (b : Bool) → nat_eq slot n ≡ b → cond (a && b) true (l p n) ≡ l p n
+    by false e b h = refl
+    by true e false h = refl
+    by true e true h = sym (ap (l p) (sym ((Decides-eqb slot n).0 h)) ∙ was p e)
 
 -- one key more, and then the others
 pub turns_both : (v : Bool) (k : Key) (ks : List Key) (l l1 l2 : Lists) (slot : ℕ) → Turns v (has_key k) l l1 slot → Turns v (has_one ks) l1 l2 slot
@@ -108,3 +110,27 @@ own_more keys others i d slot l0 l l' within before now =
     (turned_more (λ k p. has_key k p && not (any_matches others p)) l0 l l' keys i d slot within false
     (turns_as false (has_own (take i keys) others) (λ p. list_any (λ k. has_key k p && not (any_matches others p)) (take i keys)) l0 l slot
     (λ p. sym (own_keys (take i keys) others p)) before) now)
+
+-- one key more, which no other id has, and then the others
+pub own_both : (k : Key) (ks : List Key) (others : List Id) (l l1 l2 : Lists) (slot : ℕ) → any_matches others (pattern_of k) ≡ false
+    → Turns false (has_key k) l l1 slot → Turns false (has_own ks others) l1 l2 slot → Turns false (has_own (k ∷ ks) others) l l2 slot
+own_both k ks others l l1 l2 slot unmatched one rest p n =
+    rest p n ∙ ap (cond (has_own ks others p && nat_eq slot n) false) (one p n)
+    ∙ turned_twice (has_key k p) (has_own ks others p) (nat_eq slot n) false (l p n)
+    ∙ ap (λ b. cond (b && nat_eq slot n) false (l p n)) (by (has_key k p) (has_one ks p) (not (any_matches others p)) (own_key k others unmatched p))
+  where
+    by : (a b c : Bool) → a ≡ (a && c) → (a || (b && c)) ≡ ((a || b) && c)
+    by true b c e = e
+    by false b c e = refl
+
+-- where no pair has the target, none is a pair with it
+pub no_pair : (r t : Entity) (ids : List Id) → any_matches ids (pattern_of (Target t)) ≡ false → any_matches ids (pattern_of (Pair r t)) ≡ false
+no_pair r t [] none = refl
+no_pair r t (One e ∷ ids) none = no_pair r t ids none
+no_pair r t (Two q u ∷ ids) none = by (entity_eq r q) (entity_eq t u) none (no_pair r t ids)
+  where
+    by : (a b : Bool) {c d : Bool} → (b || c) ≡ false → (c ≡ false → d ≡ false) → ((a && b) || d) ≡ false
+    by true true bad rest = absurd (true≢false bad)
+    by true false none rest = rest none
+    by false true bad rest = absurd (true≢false bad)
+    by false false none rest = rest none

@@ -1,5 +1,5 @@
 -- The map from types to slots after a table was put in or taken out.
-use Rattle.std.proofs.Common.{◌≡◌, ◌≢◌, ℕ, ◌==◌, Bool, true, false, cond, List, Option, Some, None, IsTrue, refl, ap, ◌∙◌, sym}
+use Rattle.std.proofs.Common.{◌≡◌, ◌≢◌, ℕ, ◌==◌, Bool, true, false, cond, List, Option, Some, None, IsSome, IsTrue, is_some, refl, ap, ◌∙◌, sym, true≢false}
 use Rattle.std.proofs.Common.{IfSome, option_map, slice_get}
 use Rattle.std.specs.Cmp.{IsEquivalence}
 use Rattle.std.specs.Cmp.Lexicographic.{lists_equiv}
@@ -9,7 +9,9 @@ use Rattle.std.proofs.lemmas.Option.{slice_get-map}
 use Rattle.eco_ids.specs.contracts.id.IdEq.TheImpl.Laws as id_laws
 use Rattle.std.proofs.lemmas.Bool.Decides.{Decides-eqb}
 use Rattle.eco_ids.specs.declared.id.Id.{Id}
-use Rattle.eco_index.specs.TypeMap.{LeadsAlone, same_ids, IsTypeMap}
+use Rattle.eco_ids.specs.Order.{id_cmp, has_item, with_item}
+use Rattle.eco_index.specs.TypeMap.{LeadAlike, LeadsAlone, same_ids, IsTypeMap}
+use Rattle.eco_index.proofs.Toggles.{grown_other}
 use Rattle.eco_ids.proofs.SameIds.{same_ids-Decides}
 
 -- the two ways of a test
@@ -100,6 +102,40 @@ module _ {S : Type 0} (types types' : ℕ → Option (List Id)) (m m' : HashMap 
         (λ differ. gets q ∙ ap (λ b. cond b None (get same_ids m q)) differ ∙ indexed.there q k was));
   }
 
+-- what stands at a place leads to the slot that is there
+pub led_at : {S : Type 0} (m : HashMap (List Id) ℕ S) (place n : ℕ) (p : List Id × ℕ) → IsUnique same_ids m → slice_get (values m) place ≡ Some n
+    → Some p ≡ slice_get m.entries place → get same_ids m p.0 ≡ Some n
+led_at m place n p unique there at =
+    hash_map_get_place same_ids-equivalence m place p.0 p.1 unique (sym at)
+    ∙ ap (option_map (λ q. q.1)) at ∙ sym (slice_get-map (λ q. q.1) m.entries place) ∙ there
+
+module _ {S : Type 0} (m m1 : HashMap (List Id) ℕ S) (t : List Id) where
+  -- a type that was taken out and came back
+  pub put_back : (m2 : HashMap (List Id) ℕ S) (n : ℕ) → get same_ids m t ≡ Some n → Updates same_ids m m1 t None → Updates same_ids m1 m2 t (Some n)
+      → LeadAlike m m2
+  put_back m2 n led taken put q = put.0 q ∙ ap (cond (same_ids t q) (Some n)) (taken.0 q) ∙ by (same_ids t q) refl
+    where
+      by : (b : Bool) → same_ids t q ≡ b → cond b (Some n) (cond b None (get same_ids m q)) ≡ get same_ids m q
+      by true e = sym led ∙ ap (get same_ids m) ((same_ids-Decides t q).0 e)
+      by false e = refl
+
+  module _ (grown : List Id) (i : Id) (taken : Updates same_ids m m1 t None) (is : grown ≡ with_item id_cmp t i) where
+    -- a type that is there while another is out was there before
+    pub grown_there : is_some (get same_ids m1 grown) ≡ true → IsSome (get same_ids m (with_item id_cmp t i))
+    grown_there there = by (same_ids t grown) (ap is_some (sym (taken.0 grown)) ∙ there)
+      where
+        by : (b : Bool) → is_some (cond b None (get same_ids m grown)) ≡ true → IsSome (get same_ids m (with_item id_cmp t i))
+        by true bad = absurd (true≢false (sym bad))
+        by false e = ap (λ u. is_some (get same_ids m u)) (sym is) ∙ e
+
+    pub grown_absent : has_item id_cmp t i ≡ false → is_some (get same_ids m1 grown) ≡ false → get same_ids m grown ≡ None
+    grown_absent lacks none = by (same_ids t grown) refl (get same_ids m grown) (ap is_some (sym (taken.0 grown)) ∙ none)
+      where
+        by : (b : Bool) → same_ids t grown ≡ b → (o : Option ℕ) → is_some (cond b None o) ≡ false → o ≡ None
+        by true e o none = absurd (grown_other t i lacks (sym is ∙ sym ((same_ids-Decides t grown).0 e)))
+        by false e None none = refl
+        by false e (Some k) none = absurd (true≢false none)
+
 -- what stands at a place has another type
 pub type_map-rename : {S : Type 0} (m m1 m' : HashMap (List Id) ℕ S) (place n : ℕ) (new : List Id) (gone : Option (List Id × ℕ)) → IsUnique same_ids m
     → slice_get (values m) place ≡ Some n → gone ≡ slice_get m.entries place → IfSome gone (λ p. Updates same_ids m m1 p.0 None)
@@ -108,6 +144,5 @@ pub type_map-rename : {S : Type 0} (m m1 m' : HashMap (List Id) ℕ S) (place n 
 type_map-rename m m1 m' place n new None unique there at removed put old alone q =
     absurd (let bad : ◌≡◌ {A = Option ℕ} None (Some n) = ap (option_map (λ p. p.1)) at ∙ sym (slice_get-map (λ p. p.1) m.entries place) ∙ there in cc)
 type_map-rename m m1 m' place n new (Some p) unique there at removed put old alone q =
-    let leads : Some p.1 ≡ Some n = ap (option_map (λ p. p.1)) at ∙ sym (slice_get-map (λ p. p.1) m.entries place) ∙ there in
-    let own : p.0 ≡ old = alone p.0 (hash_map_get_place same_ids-equivalence m place p.0 p.1 unique (sym at) ∙ leads) in
-    put.0 q ∙ ap (cond (same_ids new q) (Some n)) (removed.0 q ∙ ap (λ t. cond (same_ids t q) None (get same_ids m q)) own)
+    put.0 q ∙ ap (cond (same_ids new q) (Some n)) (removed.0 q
+    ∙ ap (λ t. cond (same_ids t q) None (get same_ids m q)) (alone p.0 (led_at m place n p unique there at)))

@@ -172,6 +172,10 @@ fn cut_all(alloc: Global, lists: &mut Vec<IndexMap<Id, usize>>, slot: usize)
     ensures { Cuts lists.old.items lists.new.items slot }
 {
     if slot < lists.len() {
+        if lists[slot].is_empty() {
+            // Each edge leads back, so none leads here either.
+            return;
+        }
         let mut own = mem::replace(&mut lists[slot], IndexMap::new(alloc));
         take_back(lists, &mut own);
         // Its room serves the edges of the next table in the slot.

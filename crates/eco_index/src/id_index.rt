@@ -1,5 +1,5 @@
 //! For each pattern, the slots of the tables whose types have an id that it matches.
-ghost use Rattle.std.specs.Prelude.{◌≡◌, ◌<◌, ◌≤◌, ℕ, Some, None, true, false, nat_eq, slice_get, take, OnOk, OnErr, IfSome, IfNone};
+ghost use Rattle.std.specs.Prelude.{◌≡◌, ◌<◌, ◌≤◌, ℕ, Some, None, true, false, nat_eq, not, slice_get, take, IfOk, OnOk, OnErr, IfSome, IfNone};
 ghost use Rattle.std.specs.Option.{option_copied, option_map};
 ghost use Rattle.std.specs.HashMap.{get, Updates};
 ghost use Rattle.indexmap.specs.IndexMap.{index_map_len};
@@ -9,7 +9,7 @@ ghost use Rattle.eco_ids.specs.declared.pattern.Pattern.{Pattern as Patterns};
 ghost use Rattle.eco_ids.specs.declared.id.Id.TheVariants.{Two};
 ghost use Rattle.eco_index.specs.Marks.{AreMarked};
 ghost use Rattle.eco_index.specs.IdIndex.{KeepsNoEmpty, same_key, ListsNone, ListsSame, Turns, HasTurned, KeepsRest, own_count};
-ghost use Rattle.eco_index.specs.IdIndex.{has_key, has_one, keys_of, matches_id, any_matches, exactly};
+ghost use Rattle.eco_index.specs.IdIndex.{has_key, has_one, is_listed, keys_of, matches_id, any_matches, exactly};
 
 use crate::id_index::key::Key;
 use crate::id_index::marks::Marks;
@@ -128,14 +128,16 @@ impl IdIndex {
         Some((place, slots))
     }
 
-    // Lists the slot under the key. An `Err` changes nothing that is listed.
-    fn add(&mut self, alloc: Global, key: Key, slot: usize) -> Result<(), AllocError>
+    // Lists the slot under the key; the answer is whether it was not listed there. An `Err` changes nothing that is listed.
+    fn add(&mut self, alloc: Global, key: Key, slot: usize) -> Result<bool, AllocError>
         ensures ok { OnOk result
             (Turns true (has_key key) (lists_in self.old) (lists_in self.new) slot) }
+        ensures is_new { IfOk result (λ came. came ≡ not (is_listed self.old.slots key slot)) }
         ensures err { OnErr result (ListsSame (lists_in self.old) (lists_in self.new)) }
     {
         let Some((place, _)) = self.find(key) else {
-            return self.add_key(key, slot);
+            self.add_key(key, slot)?;
+            return Ok(true);
         };
         let (_, own) = self.slots.pair_mut(place);
         own.add(alloc, slot)

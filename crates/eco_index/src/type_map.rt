@@ -1,11 +1,12 @@
 //! Which slot has the table of a type.
-ghost use Rattle.std.specs.Prelude.{◌≡◌, ◌<◌, cond, List, Some, None, OnOk, IfOk, slice_get};
+ghost use Rattle.std.specs.Prelude.{◌≡◌, ◌<◌, ◌≤◌, cond, false, List, Some, None, OnOk, OnErr, IfOk, IfSome, IfNone, slice_get};
 ghost use Rattle.std.specs.HashMap.{IsEmpty, IsUnchanged, Updates, get, spare, values};
 ghost use Rattle.eco_ids.specs.declared.id.Id.{Id as Ids};
 ghost use Rattle.eco_index.specs.Sweeping.{has_table, kept_if};
-ghost use Rattle.eco_index.specs.TypeMap.{LeadsAlone, same_ids};
+ghost use Rattle.eco_ids.specs.Order.{id_cmp, has_item};
+ghost use Rattle.eco_index.specs.TypeMap.{LeadAlike, LeadsAlone, LeadsGrown, TakesGrown, same_ids};
 
-use eco_ids::TypeList;
+use eco_ids::{Id, TypeList};
 use eco_tables::Tables;
 use indexmap::IndexMap;
 use std::alloc::{AllocError, Global};
@@ -14,8 +15,8 @@ use std::alloc::{AllocError, Global};
 #[derive(Drop)]
 pub struct TypeMap {
     slots: IndexMap<TypeList, usize>,
-    // Where the type stands that was renamed last, unless it has moved since.
-    renamed: usize,
+    // Where the type of each slot may stand that was to change. A wrong place costs a search, and never an answer.
+    places: Vec<usize>,
 }
 
 impl TypeMap {
@@ -27,7 +28,7 @@ impl TypeMap {
     {
         TypeMap {
             slots: IndexMap::new(alloc),
-            renamed: 0,
+            places: Vec::new(alloc),
         }
     }
 
@@ -37,7 +38,7 @@ impl TypeMap {
     {
         Ok(TypeMap {
             slots: IndexMap::with_capacity(alloc, count)?,
-            renamed: 0,
+            places: Vec::new(alloc),
         })
     }
 
@@ -62,7 +63,9 @@ impl TypeMap {
         requires { 0 < spare (slots_by_type self.old) }
         ensures { Updates same_ids (slots_by_type self.old) (slots_by_type self.new) type_list (Some slot) }
     {
+        let place = self.slots.len();
         let _ = self.slots.insert(type_list, slot).unwrap();
+        self.note(slot, place);
     }
 
     /// The types whose slots have no table go. It takes no memory.
@@ -82,16 +85,96 @@ impl TypeMap {
         let _ = self.slots.swap_remove(type_list);
     }
 
-    /// Where a type stands that leads to the slot, as this one does. Where that is what was renamed last, no types are
-    /// compared, since a table of one row mostly takes type after type.
+    /// The places of this slot's types are noted from now on. No type's slot changes, whether it succeeds or not.
+    pub fn note_places(&mut self, slot: usize) -> Result<(), AllocError>
+        ensures { slots_by_type self.new ≡ slots_by_type self.old }
+    {
+        if slot >= self.places.len() {
+            self.places.resize(slot.saturating_add(1), 0)?;
+        }
+        Ok(())
+    }
+
+    // The type of the slot stands at this place.
+    #[inline(always)]
+    fn note(&mut self, slot: usize, place: usize)
+        ensures { slots_by_type self.new ≡ slots_by_type self.old }
+    {
+        if slot < self.places.len() {
+            self.places[slot] = place;
+        }
+    }
+
+    /// Where a type stands that leads to the slot, as this one does. Where that is noted, no types are compared, since a table
+    /// of one row mostly takes type after type.
     pub fn place_of(&self, type_list: &TypeList, slot: usize) -> usize
         requires { get same_ids (slots_by_type self.now) type_list.now ≡ Some slot }
         ensures { slice_get (values (slots_by_type self.now)) result ≡ Some slot }
     {
-        match self.slots.get_index(self.renamed) {
-            Some((_, last)) if *last == slot => self.renamed,
-            _ => self.slots.get_index_of(type_list).unwrap(),
+        match self.noted(slot) {
+            Some(place) => place,
+            None => self.slots.get_index_of(type_list).unwrap(),
         }
+    }
+
+    // The place that is noted of the slot's type, if it stands there.
+    #[inline(always)]
+    fn noted(&self, slot: usize) -> Option<usize>
+        ensures { IfSome result (λ place. slice_get (values (slots_by_type self.now)) place ≡ Some slot) }
+    {
+        let place = *self.places.get(slot)?;
+        match self.slots.get_index(place) {
+            Some((_, own)) if *own == slot => Some(place),
+            _ => None,
+        }
+    }
+
+    // Takes the type at a place out. The last one comes in its place.
+    fn take_at(&mut self, place: usize) -> Option<(TypeList, usize)>
+        ensures entry { result ≡ slice_get (slots_by_type self.old).entries place }
+        ensures taken { IfSome result (λ p. Updates same_ids (slots_by_type self.old) (slots_by_type self.new) p.0 None) }
+        ensures room { spare (slots_by_type self.old) ≤ spare (slots_by_type self.new) }
+    {
+        let taken = self.slots.swap_remove_index(place);
+        if let Some((_, moved)) = self.slots.get_index(place) {
+            let slot = *moved;
+            self.note(slot, place);
+        }
+        taken
+    }
+
+    /// Takes the type at a place, which leads to the slot, out of the map, and puts an id to it that it lacks. None where another
+    /// type has just these ids. Then, and on an `Err`, which comes where memory is refused, each type leads where it led.
+    pub fn take_with(
+        &mut self,
+        place: usize,
+        id: Id,
+        slot: usize,
+    ) -> Result<Option<TypeList>, AllocError>
+        requires room { 0 < spare (slots_by_type self.old) }
+        requires there { slice_get (values (slots_by_type self.old)) place ≡ Some slot }
+        requires lacks { (t : List Ids) → get same_ids (slots_by_type self.old) t ≡ Some slot
+            → has_item id_cmp t id ≡ false }
+        ensures taken { IfOk result (λ o. IfSome o
+            (TakesGrown (slots_by_type self.old) (slots_by_type self.new) slot id)) }
+        ensures none { IfOk result (λ o. IfNone o (LeadsGrown (slots_by_type self.old) slot id)) }
+        ensures alike { IfOk result (λ o. IfNone o (LeadAlike (slots_by_type self.old) (slots_by_type self.new))) }
+        ensures err { OnErr result (LeadAlike (slots_by_type self.old) (slots_by_type self.new)) }
+    {
+        // No two types are equal, as the length says.
+        let _count = self.slots.len();
+        let (mut type_list, _) = self.take_at(place).unwrap();
+        let _ids = type_list.as_slice();
+        if let Err(refused) = type_list.insert(id) {
+            self.insert_reserved(type_list, slot);
+            return Err(refused);
+        }
+        if self.slots.contains_key(&type_list) {
+            type_list.remove(id);
+            self.insert_reserved(type_list, slot);
+            return Ok(None);
+        }
+        Ok(Some(type_list))
     }
 
     /// The slot of the type at a place has another type from now on. It takes no memory.
@@ -102,10 +185,9 @@ impl TypeMap {
             → get same_ids (slots_by_type self.new) t ≡ cond (same_ids new t) (Some slot)
             (cond (same_ids old t) None (get same_ids (slots_by_type self.old) t)) }
     {
-        // No two types are equal, as the length says. One goes and one comes, last.
-        let count = self.slots.len();
-        let _ = self.slots.swap_remove_index(place);
+        // No two types are equal, as the length says.
+        let _count = self.slots.len();
+        let _ = self.take_at(place);
         self.insert_reserved(new, slot);
-        self.renamed = count.saturating_sub(1);
     }
 }

@@ -1,5 +1,5 @@
 //! The slots of the tables that one key finds.
-ghost use Rattle.std.specs.Prelude.{◌≡◌, ◌≢◌, ◌∷◌, ◌&&◌, ℕ, [], nat_eq, true, false, Some, IfOk, OnOk, OnErr};
+ghost use Rattle.std.specs.Prelude.{◌≡◌, ◌≢◌, ◌∷◌, ◌&&◌, ℕ, [], nat_eq, not, true, false, Some, IfOk, OnOk, OnErr};
 ghost use Rattle.std.specs.List.{list_any, IsDistinct};
 ghost use Rattle.eco_index.specs.Sweeping.{has_table};
 ghost use Rattle.eco_index.specs.IdIndex.{slots_of, is_empty, is_only, SameSlotsOf, TurnsSlot};
@@ -40,23 +40,23 @@ impl Slots {
         }
     }
 
-    /// Puts the slot to the others. An `Err` changes nothing.
-    pub fn add(&mut self, alloc: Global, slot: usize) -> Result<(), AllocError>
+    /// Puts the slot to the others; the answer is whether it came now. An `Err` changes nothing.
+    pub fn add(&mut self, alloc: Global, slot: usize) -> Result<bool, AllocError>
         ensures ok { OnOk result (TurnsSlot true (slots_of self.old) (slots_of self.new) slot) }
+        ensures is_new { IfOk result (λ came. came ≡ not (list_any (nat_eq slot) (slots_of self.old))) }
         ensures err { OnErr result (SameSlotsOf (slots_of self.old) (slots_of self.new)) }
         ensures full { is_empty (Some self.old) ≡ false → is_empty (Some self.new) ≡ false }
     {
         match self {
             Slots::One(own) => {
-                if *own != slot {
+                let is_new = *own != slot;
+                if is_new {
                     *self = Slots::Many(Box::new(alloc, set_of_two(alloc, *own, slot)?)?);
                 }
+                Ok(is_new)
             }
-            Slots::Many(slots) => {
-                slots.insert(slot)?;
-            }
+            Slots::Many(slots) => Ok(slots.insert(slot)?),
         }
-        Ok(())
     }
 
     /// Whether the slot is there, and alone.

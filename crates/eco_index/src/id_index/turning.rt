@@ -1,10 +1,12 @@
 //! A table's slot comes to the lists of an id that its type gains, or goes from those of one that it loses.
 ghost use Rattle.std.specs.Prelude.{◌≡◌, true, false, OnOk, OnErr};
-ghost use Rattle.eco_index.specs.IdIndex.{is_listed, ListsSame, Turns, has_one, matches_id, any_matches, is_own, has_own};
+ghost use Rattle.eco_ids.specs.declared.id.Id.TheVariants.{Two};
+ghost use Rattle.eco_index.specs.declared.id_index.key.Key.TheVariants.{Target};
+ghost use Rattle.eco_index.specs.IdIndex.{ListsSame, Turns, any_matches, has_one, has_own, is_own, keys_of, matches_id, pattern_of};
 
 use crate::id_index::key::Key;
 use crate::id_index::{IdIndex, keys_of_pair};
-use eco_ids::{Id, Pattern};
+use eco_ids::{Entity, Id, Pattern};
 use std::alloc::{AllocError, Global};
 
 impl IdIndex {
@@ -33,25 +35,14 @@ impl IdIndex {
         let Some((key, others)) = keys.split_first() else {
             return Ok(());
         };
-        if self.has(*key, slot) {
-            return self.join_keys(alloc, others, slot);
-        }
-        self.add(alloc, *key, slot)?;
+        let is_new = self.add(alloc, *key, slot)?;
         if let Err(refused) = self.join_keys(alloc, others, slot) {
-            self.take(*key, slot);
+            if is_new {
+                self.take(*key, slot);
+            }
             return Err(refused);
         }
         Ok(())
-    }
-
-    // Whether the slot is listed under the key.
-    fn has(&self, key: Key, slot: usize) -> bool
-        ensures { result ≡ is_listed self.now.slots key slot }
-    {
-        match self.kept(key) {
-            Some(slots) => slots.has(slot),
-            None => false,
-        }
     }
 
     /// Takes a table's slot off the lists of all patterns that match the id and none of these others, which its type keeps.
@@ -63,9 +54,28 @@ impl IdIndex {
         match id {
             Id::One(entity) => self.leave_keys(&[Key::Single(entity)], others, slot),
             Id::Two(relationship, target) => {
-                self.leave_keys(&keys_of_pair(relationship, target), others, slot);
+                self.leave_pair(relationship, target, others, slot);
             }
         }
+    }
+
+    // Takes the slot off the lists of a pair. Where no other pair has its target, none is the pair, so mostly the others are gone
+    // over once for both.
+    fn leave_pair(&mut self, relationship: Entity, target: Entity, others: &[Id], slot: usize)
+        ensures { Turns false (has_own (keys_of (Two relationship target)) others.now)
+            (lists_in self.old) (lists_in self.new) slot }
+    {
+        if has_target(others, target) {
+            self.leave_keys(&keys_of_pair(relationship, target), others, slot);
+            return;
+        }
+        self.take(Key::Pair(relationship, target), slot);
+        self.take(Key::Target(target), slot);
+        self.leave_keys(
+            &[Key::Relationship(relationship), Key::AnyPair],
+            others,
+            slot,
+        );
     }
 
     fn leave_keys(&mut self, keys: &[Key], others: &[Id], slot: usize)
@@ -85,4 +95,22 @@ fn is_matched(ids: &[Id], pattern: Pattern) -> bool
     ensures { result ≡ any_matches ids.now pattern }
 {
     ids.iter().any(|id| pattern.matches(*id))
+}
+
+// Whether one of the ids is a pair with this target.
+fn has_target(ids: &[Id], target: Entity) -> bool
+    ensures { result ≡ any_matches ids.now (pattern_of (Target target)) }
+{
+    ids.iter().any(|id| is_pair_with(*id, target))
+}
+
+// Whether the id is a pair with this target.
+#[inline(always)]
+fn is_pair_with(id: Id, target: Entity) -> bool
+    ensures { result ≡ matches_id id (pattern_of (Target target)) }
+{
+    match id {
+        Id::One(_) => false,
+        Id::Two(_, own) => target.is(own),
+    }
 }

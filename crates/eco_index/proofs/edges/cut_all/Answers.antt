@@ -2,11 +2,15 @@ use Rattle.std.proofs.lemmas.List.{length-set}
 use Rattle.std.proofs.Common.{arith, ap, sym, ◌∙◌, cond, None, get_or, set}
 use Rattle.std.specs.HashMap.{get}
 use Rattle.eco_index.specs.Edges.{edge, same_id, leads_to}
-use Rattle.eco_index.proofs.EdgeLists.{cut_bare, cut_edges, cut_past, emptied_edges}
+use Rattle.eco_index.proofs.EdgeLists.{cut_bare, cut_edges, cut_empty, cut_past, emptied_edges}
 use Rattle.eco_index.proofs.edges.cut_all.Goals as goal
 
-pub returns-then-slot-len : goal.returns-then-slot-len
-returns-then-slot-len c =
+pub returns-then-is_empty : goal.returns-then-is_empty
+returns-then-is_empty c =
+    cut_empty c.args.lists.now.items c.args.slot c.index.result.now c.requires (omega arith) c.index.ensures (c.is_empty.ensures.0 c.if-is_empty.true)
+
+pub returns-else-is_empty : goal.returns-else-is_empty
+returns-else-is_empty c =
     let old = c.args.lists.now.items in
     let slot = c.args.slot in
     let now = c.take_back.new.lists.items in

@@ -15,4 +15,4 @@ pub returns-in-Two : goal.returns-in-Two
 returns-in-Two c =
     let i = Two c.in-Two.relationship c.in-Two.target in
     rw c.in-Two.is (turns_as false (has_own (keys_of i) c.args.others.now) (is_own i c.args.others.now) (lists_of c.args.self.now.slots)
-    (lists_of c.leave_keys-in-Two.new.self.slots) c.args.slot (own_id i c.args.others.now) (rw c.keys_of_pair.ensures at c.leave_keys-in-Two.ensures))
+    (lists_of c.leave_pair.new.self.slots) c.args.slot (own_id i c.args.others.now) c.leave_pair.ensures)

@@ -1,0 +1,19 @@
+use Rattle.std.proofs.Common.{◌≡◌, [], ◌∷◌, false, sym, ◌∙◌}
+use Rattle.eco_index.specs.IdIndex.{any_matches, lists_of, pattern_of}
+use Rattle.eco_index.specs.declared.id_index.key.Key.TheVariants.{Pair, Target, Relationship, AnyPair}
+use Rattle.eco_index.proofs.Joinings.{no_pair, own_both}
+use Rattle.eco_index.proofs.id_index.IdIndex.leave_pair.Goals as goal
+
+pub returns : goal.returns
+returns c =
+    let own = lists_of c.args.self.now.slots in
+    let first = lists_of c.take.new.self.slots in
+    let second = lists_of c.take-2.new.self.slots in
+    let last = lists_of c.leave_keys-2.new.self.slots in
+    let source = c.args.relationship in
+    let target = c.args.target in
+    let others = c.args.others.now in
+    let none : any_matches others (pattern_of (Target target)) ≡ false = sym c.has_target.ensures ∙ c.if-has_target.false in
+    own_both (Pair source target) (Target target ∷ Relationship source ∷ AnyPair ∷ []) others own first last c.args.slot
+    (no_pair source target others none) c.take.ensures
+    (own_both (Target target) (Relationship source ∷ AnyPair ∷ []) others first second last c.args.slot none c.take-2.ensures c.leave_keys-2.ensures)

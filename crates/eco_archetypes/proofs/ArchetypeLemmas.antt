@@ -9,7 +9,7 @@ use Rattle.eco_ids.specs.declared.pattern.Pattern.{Pattern}
 use Rattle.eco_ids.specs.declared.id.Id.{Id}
 use Rattle.eco_tables.specs.Table.{TableState, Row}
 use Rattle.eco_tables.specs.Tables.{slot_of, table_in, no_table, Sets, Moves, MovesAll, rowless, rowless_type}
-use Rattle.eco_index.specs.TypeMap.{IsTypeMap, same_ids}
+use Rattle.eco_index.specs.TypeMap.{LeadAlike, IsTypeMap, same_ids}
 use Rattle.eco_index.specs.IdIndex.{Lists, any_matches, Turns}
 use Rattle.eco_index.specs.Edges.{toggled, Cuts, Links, SameEdges}
 use Rattle.eco_index.specs.Caching.{AreExact, AreTold, ChangesType}
@@ -123,19 +123,24 @@ module _ {S E : Type 0} {ks : List Cache} (s s' : List (Option TableState)) (m m
     cached = exact_types (type_at s) (type_at s') ks same found.cached;
   }
 
-  -- the same types are found by maps that were made ready for more
-  pub found_kept : {ks' : List Cache} → IsArchetypes s m l g ks → ((k : ℕ) → type_at s' k ≡ type_at s k) → m'.entries ≡ m.entries → IsIdIndex (type_at s') l'
+  -- the same types are found by a map in which each leads where it led
+  pub found_alike : {ks' : List Cache} → IsArchetypes s m l g ks → ((k : ℕ) → type_at s' k ≡ type_at s k) → LeadAlike m m' → IsIdIndex (type_at s') l'
       → AreAgreed s' → AreExact (type_at s') ks' → IsArchetypes s' m' l' g ks'
-  found_kept found same ready matches agreed cached = record {
+  found_alike found same alike matches agreed cached = record {
     types = record {
-      found = λ t n e. same n ∙ found.types.found t n (sym (ap (lookup (same_ids t)) ready) ∙ e);
-      there = λ t n e. ap (lookup (same_ids t)) ready ∙ found.types.there t n (sym (same n) ∙ e);
+      found = λ t n e. same n ∙ found.types.found t n (sym (alike t) ∙ e);
+      there = λ t n e. alike t ∙ found.types.there t n (sym (same n) ∙ e);
     };
     matches = matches;
     graph = λ n k i e. let was = found.graph n k i e in (was.0, same n ∙ was.1, same k ∙ was.2);
     agreed = agreed;
     cached = cached;
   }
+
+  -- the same types are found by maps that were made ready for more
+  pub found_kept : {ks' : List Cache} → IsArchetypes s m l g ks → ((k : ℕ) → type_at s' k ≡ type_at s k) → m'.entries ≡ m.entries → IsIdIndex (type_at s') l'
+      → AreAgreed s' → AreExact (type_at s') ks' → IsArchetypes s' m' l' g ks'
+  found_kept found same ready = found_alike found same (λ t. ap (lookup (same_ids t)) ready)
 
   -- two tables are joined by an id, of whose types one has it alone besides what the other has
   pub found_linked : (a b : ℕ) (i : Id) (ids : List Id) → IsArchetypes s m l g ks → Links g g' a i b → type_at s a ≡ Some ids →

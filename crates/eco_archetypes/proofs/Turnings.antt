@@ -2,14 +2,15 @@
 use Rattle.std.proofs.Common.{◌≡◌, ◌≢◌, ℕ, ◌==◌, Bool, true, false, true≢false, cond, not, ◌&&◌, ◌||◌, if◌then◌else◌, List, [], ◌∷◌, map, Option, Some, None}
 use Rattle.std.proofs.Common.{option_map, unwrap_or, IsSome, IsTrue, Result, Ok, Err, IfOk}
 use Rattle.std.proofs.Common.{nat_eq, Less, Equal, Greater, refl, sym, ap, ◌∙◌, ◌≤◌, ◌⊎◌, inl, inr}
-use Rattle.std.specs.HashMap.{HashMap, get}
+use Rattle.std.specs.HashMap.{HashMap, Updates, get}
+use Rattle.std.specs.Map.{lookup}
 use Rattle.std.specs.FinMap.Entries.{find, by_order}
 use Rattle.std.proofs.lemmas.Bool.{cases_eq}
 use Rattle.std.proofs.lemmas.Option.{same_Some}
 use Rattle.std.proofs.lemmas.Bool.Decides.{Decides-eqb}
 use Rattle.eco_ids.specs.declared.id.Id.{Id}
 use Rattle.eco_ids.specs.declared.pattern.Pattern.{Pattern}
-use Rattle.eco_ids.specs.Order.{id_cmp, id_eq, has_item, with_item, without_item}
+use Rattle.eco_ids.specs.Order.{id_cmp, id_eq, has_item, is_ascending, with_item, without_item}
 use Rattle.eco_ids.proofs.Exact.{id_eq_sym}
 use Rattle.eco_ids.proofs.Facts.{equal_tie}
 use Rattle.eco_ids.proofs.IdOrder.{id_cmp_total, same_id}
@@ -22,7 +23,8 @@ use Rattle.eco_index.specs.Edges.{toggled, Cuts}
 use Rattle.eco_index.specs.IdIndex.{Lists, any_matches, matches_id, is_own, Turns, ListsSame}
 use Rattle.eco_index.specs.Caching.{AreTold}
 use Rattle.eco_index.specs.declared.cache.Cache.{Cache}
-use Rattle.eco_index.specs.TypeMap.{same_ids, IsTypeMap}
+use Rattle.eco_index.specs.TypeMap.{same_ids, IsTypeMap, LeadAlike, TakesGrown}
+use Rattle.eco_index.proofs.Toggles.{lost_again}
 use Rattle.eco_index.proofs.Graphs.{graph_cut}
 use Rattle.eco_archetypes.specs.Archetypes.{type_at, type_matches, IsArchetypes, IsIdIndex, TakesType, SameSlots}
 use Rattle.eco_archetypes.specs.Widths.{AreAgreed, Covers, KeepsWidths}
@@ -336,6 +338,43 @@ module _ {S E : Type 0} {ks : List Cache} (s s' : List (Option TableState)) (m m
     agreed = agreed;
     cached = told (type_at s) (type_at s') (record { there = takes.typed; others = others_typed }) found.cached;
   }
+
+pub same_entries : {S : Type 0} {h h' : HashMap (List Id) ℕ S} → h ≡ h' → h.entries ≡ h'.entries
+same_entries = ap (λ h. h.entries)
+
+-- a type that came out of the map, and has the id now
+module _ {S : Type 0} (s : List (Option TableState)) (m ready taken : HashMap (List Id) ℕ S) (n : ℕ) (i : Id) (ids grown : List Id)
+    (types : IsTypeMap (type_at s) m) (same : ready.entries ≡ m.entries) (had : type_at s n ≡ Some ids) where
+  pub led_type : (t : List Id) → get same_ids ready t ≡ Some n → t ≡ ids
+  led_type t led = one t ids (sym (types.found t n (ap (lookup (same_ids t)) (sym same) ∙ led)) ∙ had)
+
+  module _ (takes : TakesGrown ready taken n i grown) where
+    pub grown_is : grown ≡ with_item id_cmp ids i
+    grown_is = takes.is ∙ ap (λ t. with_item id_cmp t i) (led_type takes.type takes.led)
+
+    pub grown_new : (k : ℕ) → type_at s k ≢ Some grown
+    grown_new k at =
+        let bad : ◌≡◌ {A = Option ℕ} None (Some k) = sym takes.absent ∙ ap (lookup (same_ids grown)) same ∙ types.there grown k at in cc
+
+    out : (q : List Id) → get same_ids taken q ≡ cond (same_ids ids q) None (get same_ids m q)
+    out q =
+        takes.taken.0 q ∙ ap (λ t. cond (same_ids t q) None (get same_ids ready q)) (led_type takes.type takes.led)
+        ∙ ap (λ es. cond (same_ids ids q) None (lookup (same_ids q) es)) same
+
+    pub grown_in : (m' : HashMap (List Id) ℕ S) → Updates same_ids taken m' grown (Some n) → (q : List Id)
+        → get same_ids m' q ≡ cond (same_ids grown q) (Some n) (cond (same_ids ids q) None (get same_ids m q))
+    grown_in m' puts q = puts.0 q ∙ ap (cond (same_ids grown q) (Some n)) (out q)
+
+    pub grown_back : (m' : HashMap (List Id) ℕ S) (t : List Id) → t ≡ without_item id_cmp grown i → has_item id_cmp ids i ≡ false
+        → IsTrue (is_ascending id_cmp ids) → Updates same_ids taken m' t (Some n) → LeadAlike m m'
+    grown_back m' t is lacks up puts q =
+        let back : t ≡ ids = is ∙ ap (λ u. without_item id_cmp u i) grown_is ∙ lost_again ids i lacks up in
+        puts.0 q ∙ ap (λ u. cond (same_ids u q) (Some n) (get same_ids taken q)) back ∙ ap (cond (same_ids ids q) (Some n)) (out q)
+        ∙ by q (same_ids ids q) refl
+      where
+        by : (q : List Id) (b : Bool) → same_ids ids q ≡ b → cond b (Some n) (cond b None (get same_ids m q)) ≡ get same_ids m q
+        by q true e = sym (types.there ids n had) ∙ ap (get same_ids m) ((same_ids-Decides ids q).0 e)
+        by q false e = refl
 
 pub if_ok : {T E : Type 0} (P Q : T → Type 0) (r : Result T E) → ((x : T) → P x → Q x) → IfOk r P → IfOk r Q
 if_ok P Q (Ok x) f h = f x h

@@ -2,14 +2,13 @@
 //! would cost as much as the type has ids.
 ghost use Rattle.std.specs.Prelude.{◌≡◌, ◌≢◌, ◌≤◌, ℕ, length, Some, IsSome, true, false, IfOk, OnOk, OnErr};
 ghost use Rattle.eco_ids.specs.declared.value.TheConstants.{FIELD_COUNT};
-ghost use Rattle.eco_ids.specs.Order.{id_cmp, has_item};
+ghost use Rattle.eco_ids.specs.Order.{id_cmp, has_item, with_item, without_item};
 ghost use Rattle.eco_tables.specs.Tables.{slot_of, table_in};
 ghost use Rattle.eco_index.specs.Edges.{toggled};
 ghost use Rattle.eco_index.specs.Contents.{lists_in};
 ghost use Rattle.eco_archetypes.specs.Archetypes.{type_at, IsIdIndex, TakesType, MayTakeType, SameSlots};
 ghost use Rattle.eco_archetypes.specs.Widths.{AreAgreed, KeepsWidths, LetsGrow, StillCover, FitsAll};
 
-use crate::archetypes::stepping::toggled;
 use crate::archetypes::{Archetypes, reserve_one};
 use eco_entities::EntityIndex;
 use eco_ids::{Id, TypeList};
@@ -58,68 +57,87 @@ impl Archetypes {
         if self.edges.get(slot, id).is_some() {
             return Ok(false);
         }
-        let type_list = toggled(self.tables.get(slot).unwrap().type_list(), id)?;
-        if self.find(&type_list).is_some() {
-            return Ok(false);
+        if self.tables.get(slot).unwrap().type_list().has(id) {
+            self.lose_alone(slot, id)
+        } else {
+            self.gain_alone(entities, slot, id)
         }
-        self.turn(entities, slot, id, type_list)?;
-        Ok(true)
     }
 
-    // The table takes the type that has the id more, or less, which is this, and which no table has.
-    fn turn(
+    // What `step_only_row` does where the type lacks the id. The type comes out of the map, gets the id and goes back, and so it is
+    // not copied.
+    fn gain_alone(
         &mut self,
         entities: &EntityIndex,
         slot: usize,
         id: Id,
-        type_list: TypeList,
-    ) -> Result<(), AllocError>
+    ) -> Result<bool, AllocError>
         requires there { IsSome (slot_of self.old slot) }
-        requires typed { type_list ≡ toggled (table_in self.old slot).ids id }
-        requires absent { (n : ℕ) → type_at self.old n ≢ Some type_list }
-        ensures ok { OnOk result (TakesType self.old self.new slot type_list) }
+        requires alone { length (table_in self.old slot).rows ≡ 1 }
+        requires lacks { has_item id_cmp (table_in self.old slot).ids id ≡ false }
+        ensures ok { IfOk result
+            (MayTakeType self.old self.new slot (with_item id_cmp (table_in self.old slot).ids id)) }
         ensures err { OnErr result (SameSlots self.old self.new) }
         ensures widths { StillCover entities.now self.old self.new }
     {
         let width = self.width_of(entities, id);
+        self.by_type.note_places(slot)?;
+        reserve_one(&mut self.by_type, &mut self.caches)?;
+        let old = self.tables.get(slot).unwrap().type_list();
+        let _ids = old.as_slice();
+        let place = self.by_type.place_of(old, slot);
+        let Some(mut type_list) = self.by_type.take_with(place, id, slot)? else {
+            return Ok(false);
+        };
+        let tables = &mut self.tables;
+        if let Err(refused) = gain(tables, &mut self.by_id, self.alloc, slot, id, width) {
+            type_list.remove(id);
+            self.by_type.insert_reserved(type_list, slot);
+            return Err(refused);
+        }
+        self.caches.tell(slot, &type_list);
+        self.by_type.insert_reserved(type_list, slot);
+        self.edges.cut(slot);
+        Ok(true)
+    }
+
+    // What `step_only_row` does where the type has the id.
+    fn lose_alone(&mut self, slot: usize, id: Id) -> Result<bool, AllocError>
+        requires there { IsSome (slot_of self.old slot) }
+        requires alone { length (table_in self.old slot).rows ≡ 1 }
+        requires has { has_item id_cmp (table_in self.old slot).ids id ≡ true }
+        ensures ok { IfOk result
+            (MayTakeType self.old self.new slot (without_item id_cmp (table_in self.old slot).ids id)) }
+        ensures err { OnErr result (SameSlots self.old self.new) }
+        ensures widths { KeepsWidths self.old self.new }
+    {
+        let type_list = self.tables.get(slot).unwrap().type_list().without(id)?;
+        if self.find(&type_list).is_some() {
+            return Ok(false);
+        }
+        self.turn(slot, id, type_list)?;
+        Ok(true)
+    }
+
+    // The table takes the type that has the id less, which is this, and which no table has.
+    fn turn(&mut self, slot: usize, id: Id, type_list: TypeList) -> Result<(), AllocError>
+        requires there { IsSome (slot_of self.old slot) }
+        requires has { has_item id_cmp (table_in self.old slot).ids id ≡ true }
+        requires typed { type_list ≡ without_item id_cmp (table_in self.old slot).ids id }
+        requires absent { (n : ℕ) → type_at self.old n ≢ Some type_list }
+        ensures ok { OnOk result (TakesType self.old self.new slot type_list) }
+        ensures err { OnErr result (SameSlots self.old self.new) }
+        ensures widths { KeepsWidths self.old self.new }
+    {
+        self.by_type.note_places(slot)?;
         reserve_one(&mut self.by_type, &mut self.caches)?;
         let old = self.tables.get(slot).unwrap().type_list();
         let place = self.by_type.place_of(old, slot);
-        let tables = &mut self.tables;
-        toggle(tables, &mut self.by_id, self.alloc, slot, id, width)?;
+        lose(&mut self.tables, &mut self.by_id, slot, id);
         self.caches.tell(slot, &type_list);
         self.by_type.rename_at(place, type_list, slot);
         self.edges.cut(slot);
         Ok(())
-    }
-}
-
-// The type of a table has the id more, or less, and so has the index.
-fn toggle(
-    tables: &mut Tables,
-    by_id: &mut IdIndex,
-    alloc: Global,
-    slot: usize,
-    id: Id,
-    width: u8,
-) -> Result<(), AllocError>
-    requires there { IsSome (slot_of tables.old slot) }
-    requires index { IsIdIndex (type_at tables.old) (lists_in by_id.old) }
-    requires agreed { AreAgreed tables.old }
-    requires few { width ≤ FIELD_COUNT }
-    requires width { FitsAll tables.old id width }
-    ensures ok { OnOk result
-        (TakesType tables.old tables.new slot (toggled (table_in tables.old slot).ids id)) }
-    ensures err { OnErr result (SameSlots tables.old tables.new) }
-    ensures index { IsIdIndex (type_at tables.new) (lists_in by_id.new) }
-    ensures agreed { AreAgreed tables.new }
-    ensures widths { LetsGrow tables.old tables.new id width }
-{
-    if tables.get(slot).unwrap().type_list().has(id) {
-        lose(tables, by_id, slot, id);
-        Ok(())
-    } else {
-        gain(tables, by_id, alloc, slot, id, width)
     }
 }
 
@@ -138,7 +156,7 @@ fn gain(
     requires few { width ≤ FIELD_COUNT }
     requires width { FitsAll tables.old id width }
     ensures ok { OnOk result
-        (TakesType tables.old tables.new slot (toggled (table_in tables.old slot).ids id)) }
+        (TakesType tables.old tables.new slot (with_item id_cmp (table_in tables.old slot).ids id)) }
     ensures err { OnErr result (SameSlots tables.old tables.new) }
     ensures index { IsIdIndex (type_at tables.new) (lists_in by_id.new) }
     ensures agreed { AreAgreed tables.new }
@@ -158,7 +176,8 @@ fn lose(tables: &mut Tables, by_id: &mut IdIndex, slot: usize, id: Id)
     requires has { has_item id_cmp (table_in tables.old slot).ids id ≡ true }
     requires index { IsIdIndex (type_at tables.old) (lists_in by_id.old) }
     requires agreed { AreAgreed tables.old }
-    ensures turned { TakesType tables.old tables.new slot (toggled (table_in tables.old slot).ids id) }
+    ensures turned { TakesType tables.old tables.new slot
+        (without_item id_cmp (table_in tables.old slot).ids id) }
     ensures index { IsIdIndex (type_at tables.new) (lists_in by_id.new) }
     ensures agreed { AreAgreed tables.new }
     ensures widths { KeepsWidths tables.old tables.new }

@@ -1,0 +1,107 @@
+use Rattle.std.proofs.Common.{◌≡◌, ℕ, Some, IfNone, IfSome, IsTrue, option_map, refl, ap, sym, subst, ◌∙◌}
+use Rattle.std.specs.Map.{lookup}
+use Rattle.std.specs.Option.{option_copied}
+use Rattle.eco_ids.specs.Order.{id_cmp, has_item, is_ascending}
+use Rattle.eco_tables.specs.Table.{TableState}
+use Rattle.eco_tables.specs.Tables.{slot_of, table_in}
+use Rattle.eco_index.specs.IdIndex.{lists_of}
+use Rattle.eco_index.specs.TypeMap.{LeadAlike, TakesGrown, same_ids}
+use Rattle.eco_index.proofs.Caching.{exact_types, then_told}
+use Rattle.eco_archetypes.specs.Archetypes.{TakesType, type_at}
+use Rattle.eco_archetypes.proofs.ArchetypeLemmas.{found_alike, found_kept, type_there}
+use Rattle.eco_archetypes.proofs.Turnings.{found_turned, grown_back, grown_in, grown_is, grown_new, led_type, one, same_entries}
+use Rattle.eco_archetypes.proofs.archetypes.Archetypes.gain_alone.Goals as goal
+
+pub invariant_of-self-in_err-reserve_one : goal.invariant_of-self-in_err-reserve_one
+invariant_of-self-in_err-reserve_one c =
+    let ready : c.reserve_one.new.by_type.slots.entries ≡ c.self.inside.by_type.slots.entries =
+    c.reserve_one.ensures.same ∙ same_entries c.note_places.ensures in
+    let l = lists_of c.self.inside.by_id.slots in
+    let g = c.self.inside.edges.lists.items in
+    found_kept _ _ c.self.inside.by_type.slots _ l l g g c.self.invariant (λ k. refl) ready c.self.invariant.matches c.self.invariant.agreed
+    (c.reserve_one.ensures.exact (type_at c.self.inside.tables) c.self.invariant.cached)
+
+pub place_of-place-requires : goal.place_of-place-requires
+place_of-place-requires c =
+    let ready : c.reserve_one.new.by_type.slots.entries ≡ c.self.inside.by_type.slots.entries =
+    c.reserve_one.ensures.same ∙ same_entries c.note_places.ensures in
+    let old = c.type_list-old.result.now in
+    let there : slot_of c.self.inside.tables c.args.slot ≡ Some c.unwrap.result.now = sym c.get.ensures ∙ ap option_copied c.unwrap.ensures in
+    let had : type_at c.self.inside.tables c.args.slot ≡ Some old =
+    ap (option_map (λ (t : TableState). t.ids)) there ∙ ap Some (sym c.type_list-old.ensures.ids) in
+    ap (lookup (same_ids old)) ready ∙ c.self.invariant.types.there old c.args.slot had
+
+pub take_with-requires-clause-lacks : goal.take_with-requires-clause-lacks
+take_with-requires-clause-lacks c = λ t led.
+    let ready : c.reserve_one.new.by_type.slots.entries ≡ c.self.inside.by_type.slots.entries =
+    c.reserve_one.ensures.same ∙ same_entries c.note_places.ensures in
+    let had = type_there c.self.inside.tables c.args.slot (rw (← c.self.view_is) at c.requires.there) in
+    ap (λ xs. has_item id_cmp xs c.args.id)
+    (led_type c.self.inside.tables c.self.inside.by_type.slots c.reserve_one.new.by_type.slots c.self.inside.by_type.slots c.args.slot c.args.id _ t
+    c.self.invariant.types ready had t led)
+    ∙ (rw (← c.self.view_is) at c.requires.lacks)
+
+pub invariant_of-self-in_err-type_list : goal.invariant_of-self-in_err-type_list
+invariant_of-self-in_err-type_list c =
+    let ready : c.reserve_one.new.by_type.slots.entries ≡ c.self.inside.by_type.slots.entries =
+    c.reserve_one.ensures.same ∙ same_entries c.note_places.ensures in
+    let l = lists_of c.self.inside.by_id.slots in
+    let g = c.self.inside.edges.lists.items in
+    found_alike _ _ c.self.inside.by_type.slots _ l l g g c.self.invariant (λ k. refl)
+    (λ t. c.in_err-type_list.ensures.err t ∙ ap (lookup (same_ids t)) ready) c.self.invariant.matches c.self.invariant.agreed
+    (c.reserve_one.ensures.exact (type_at c.self.inside.tables) c.self.invariant.cached)
+
+pub invariant_of-self-in_default : goal.invariant_of-self-in_default
+invariant_of-self-in_default c =
+    let ready : c.reserve_one.new.by_type.slots.entries ≡ c.self.inside.by_type.slots.entries =
+    c.reserve_one.ensures.same ∙ same_entries c.note_places.ensures in
+    let l = lists_of c.self.inside.by_id.slots in
+    let g = c.self.inside.edges.lists.items in
+    let alike : LeadAlike c.reserve_one.new.by_type.slots c.take_with.new.self.slots =
+    subst (λ o. IfNone o (LeadAlike c.reserve_one.new.by_type.slots c.take_with.new.self.slots)) c.in_default.is c.in_ok-type_list.ensures.alike in
+    found_alike _ _ c.self.inside.by_type.slots _ l l g g c.self.invariant (λ k. refl) (λ t. alike t ∙ ap (lookup (same_ids t)) ready)
+    c.self.invariant.matches c.self.invariant.agreed (c.reserve_one.ensures.exact (type_at c.self.inside.tables) c.self.invariant.cached)
+
+pub invariant_of-self-in-Err : goal.invariant_of-self-in-Err
+invariant_of-self-in-Err c =
+    let ready : c.reserve_one.new.by_type.slots.entries ≡ c.self.inside.by_type.slots.entries =
+    c.reserve_one.ensures.same ∙ same_entries c.note_places.ensures in
+    let had = type_there c.self.inside.tables c.args.slot (rw (← c.self.view_is) at c.requires.there) in
+    let s = c.self.inside.tables in
+    let m = c.self.inside.by_type.slots in
+    let ids = (table_in s c.args.slot).ids in
+    let there : slot_of s c.args.slot ≡ Some c.unwrap.result.now = sym c.get.ensures ∙ ap option_copied c.unwrap.ensures in
+    let old : c.type_list-old.result.now ≡ ids = c.type_list-old.ensures.ids ∙ one _ _ (sym (ap (option_map (λ (t : TableState). t.ids)) there) ∙ had) in
+    let takes : TakesGrown c.reserve_one.new.by_type.slots c.take_with.new.self.slots c.args.slot c.args.id c.in-Some.type_list =
+    subst (λ o. IfSome o (TakesGrown c.reserve_one.new.by_type.slots c.take_with.new.self.slots c.args.slot c.args.id)) c.in-Some.is
+    c.in_ok-type_list.ensures.taken in
+    let types : (k : ℕ) → type_at c.gain.new.tables k ≡ type_at s k = λ k. ap (option_map (λ (t : TableState). t.ids)) (c.in-Err.ensures.err k) in
+    found_alike s c.gain.new.tables m c.insert_reserved.new.self.slots (lists_of c.self.inside.by_id.slots) (lists_of c.gain.new.by_id.slots)
+    c.self.inside.edges.lists.items c.self.inside.edges.lists.items c.self.invariant types
+    (grown_back s m c.reserve_one.new.by_type.slots c.take_with.new.self.slots c.args.slot c.args.id ids c.in-Some.type_list c.self.invariant.types ready
+    had takes c.insert_reserved.new.self.slots c.remove.new.self c.remove.ensures.is (rw (← c.self.view_is) at c.requires.lacks)
+    (subst (λ xs. IsTrue (is_ascending id_cmp xs)) old c.as_slice-ids.ensures.ascending) c.insert_reserved.ensures)
+    c.gain.ensures.index c.gain.ensures.agreed (exact_types _ _ _ types (c.reserve_one.ensures.exact (type_at s) c.self.invariant.cached))
+
+pub invariant_of-self-2 : goal.invariant_of-self-2
+invariant_of-self-2 c =
+    let ready : c.reserve_one.new.by_type.slots.entries ≡ c.self.inside.by_type.slots.entries =
+    c.reserve_one.ensures.same ∙ same_entries c.note_places.ensures in
+    let had = type_there c.self.inside.tables c.args.slot (rw (← c.self.view_is) at c.requires.there) in
+    let s = c.self.inside.tables in
+    let m = c.self.inside.by_type.slots in
+    let ready_map = c.reserve_one.new.by_type.slots in
+    let left = c.take_with.new.self.slots in
+    let ids = (table_in s c.args.slot).ids in
+    let grown = c.in-Some.type_list in
+    let types = c.self.invariant.types in
+    let takes : TakesGrown ready_map left c.args.slot c.args.id grown =
+    subst (λ o. IfSome o (TakesGrown ready_map left c.args.slot c.args.id)) c.in-Some.is c.in_ok-type_list.ensures.taken in
+    let turns : TakesType s c.gain.new.tables c.args.slot grown =
+    subst (TakesType s c.gain.new.tables c.args.slot)
+    (sym (grown_is s m ready_map left c.args.slot c.args.id ids grown types ready had takes)) c.in_default-gain.ensures.ok in
+    found_turned s c.gain.new.tables m c.insert_reserved-2.new.self.slots (lists_of c.self.inside.by_id.slots) (lists_of c.gain.new.by_id.slots)
+    c.self.inside.edges.lists.items c.cut.new.self.lists.items c.args.slot ids grown c.self.invariant had turns
+    (grown_new s m ready_map left c.args.slot c.args.id ids grown types ready had takes)
+    (grown_in s m ready_map left c.args.slot c.args.id ids grown types ready had takes c.insert_reserved-2.new.self.slots c.insert_reserved-2.ensures)
+    c.gain.ensures.index c.cut.ensures c.gain.ensures.agreed (then_told _ _ _ _ _ c.reserve_one.ensures.exact c.tell.ensures.told)

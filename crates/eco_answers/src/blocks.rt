@@ -46,23 +46,11 @@ fn add_block(
     if find_only(terms, table.type_list(), buffer)? {
         choices.push(buffer)?;
     } else {
-        add_own(choices_of(alloc, terms, table.type_list())?, choices)?;
+        let own = choices_of(alloc, terms, table.type_list())?;
+        choices.append(&own)?;
     }
     let end = choices.count();
     Ok(Block { first, end })
-}
-
-// Puts choices behind others of the same width. Where there are no others, they stay where they are.
-fn add_own(own: Choices, choices: &mut Choices) -> Result<(), AllocError>
-    requires some { 0 < choices.old.width }
-    requires even { own.width ≡ choices.old.width }
-    ensures { OnOk result (choices.new ≡ record choices.old { all = choices.old.all ++ own.all }) }
-{
-    if choices.count() == 0 {
-        *choices = own;
-        return Ok(());
-    }
-    choices.append(&own)
 }
 
 /// The choices of the tables in these slots, each of which has one.

@@ -14,7 +14,7 @@ use eco_ids::Entity;
 
 impl Layout {
     /// The entity goes from its place to the end of the table in this slot, where its room was taken. It takes no memory.
-    #[inline]
+    #[inline(always)]
     pub(crate) fn carry(&mut self, e: Entity, place: Place, to: usize)
         requires laid { IsLaidBeside self.old to }
         requires own { own_place self.old.entities e ≡ Some place }

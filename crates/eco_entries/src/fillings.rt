@@ -51,7 +51,7 @@ fn is_first(pattern: Pattern, id: Id, seen: &mut Seen) -> Result<bool, AllocErro
     if !pattern.matches(id) {
         return Ok(false);
     }
-    seen.insert(filling(pattern, id))
+    seen.see(filling(pattern, id))
 }
 
 /// Puts the least match of each filling behind other entries. The targets of any relationship have a loop of their own, which
@@ -68,16 +68,16 @@ pub(crate) fn add_first_of_each(
 {
     match pattern {
         Pattern::Two(Part::Any, Part::Each) => {
-            add_first(Pattern::Two(Part::Any, Part::Each), ids, entries)
+            add_new(Pattern::Two(Part::Any, Part::Each), ids, entries)
         }
-        _ => add_first(pattern, ids, entries),
+        _ => add_new(pattern, ids, entries),
     }
 }
 
 // Puts the least match of each filling behind other entries. The ids ascend, so that it is the first: each is looked at
 // once, beside the fillings seen, which mostly ascend too.
 #[inline(always)]
-fn add_first(pattern: Pattern, ids: &[Id], entries: &mut Vec<Option<Id>>) -> Result<(), AllocError>
+fn add_new(pattern: Pattern, ids: &[Id], entries: &mut Vec<Option<Id>>) -> Result<(), AllocError>
     requires { IsTrue (is_ascending id_cmp ids.now) }
     ensures { OnOk result (entries.new.items
         ≡ entries.old.items ++ map Some (filter (is_least_match pattern ids.now) ids.now)) }

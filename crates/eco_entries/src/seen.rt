@@ -36,7 +36,7 @@ impl Seen {
 
     /// Whether the id is new. It is seen from then on. An `Err` comes where memory is refused.
     #[inline(always)]
-    pub(crate) fn insert(&mut self, id: Id) -> Result<bool, AllocError>
+    pub(crate) fn see(&mut self, id: Id) -> Result<bool, AllocError>
         requires { AreApart self.old }
         ensures is { IfOk result (λ is. is ≡ not (is_seen self.old id)) }
         ensures seen { OnOk result (SeesToo id self.old self.new) }
@@ -46,7 +46,7 @@ impl Seen {
             self.run.push(id)?;
             return Ok(true);
         }
-        if has(&self.run, id) {
+        if is_among(&self.run, id) {
             return Ok(false);
         }
         Ok(self.rest.insert(id)?)
@@ -67,7 +67,7 @@ fn is_above(run: &[Id], id: Id) -> bool
 
 // Whether the id is among some that ascend.
 #[inline(never)]
-fn has(run: &[Id], id: Id) -> bool
+fn is_among(run: &[Id], id: Id) -> bool
     requires { IsTrue (is_ascending id_cmp run.now) }
     ensures { result ≡ has_item id_cmp run.now id }
 {

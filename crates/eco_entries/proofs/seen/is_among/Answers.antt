@@ -1,7 +1,7 @@
 use Rattle.std.proofs.Common.{◌∙◌}
 use Rattle.eco_ids.proofs.IdOrder.{ids_search_says}
 use Rattle.eco_entries.proofs.SeenIds.{found_says}
-use Rattle.eco_entries.proofs.seen.has.Goals as goal
+use Rattle.eco_entries.proofs.seen.is_among.Goals as goal
 
 pub returns : goal.returns
 returns c =

@@ -3,7 +3,7 @@ use Rattle.std.specs.Prelude.{filter}
 use Rattle.eco_ids.specs.Answer.{is_least_match}
 use Rattle.eco_entries.specs.Fillings.{HasSeen}
 use Rattle.eco_entries.specs.Seen.{AreApart}
-use Rattle.eco_entries.proofs.fillings.add_first.Given as goal
+use Rattle.eco_entries.proofs.fillings.add_new.Given as goal
 
 abbrev pub invariant-loop-id : goal.invariant-loop-id
 invariant-loop-id l =

@@ -4,7 +4,7 @@ use Rattle.std.specs.BTreeSet.{contains}
 use Rattle.eco_ids.specs.Order.{has_item, id_cmp}
 use Rattle.eco_entries.specs.Seen.{is_above}
 use Rattle.eco_entries.proofs.SeenIds.{above_absent, above_front, ascends_more, seen_behind}
-use Rattle.eco_entries.proofs.seen.Seen.insert.Goals as goal
+use Rattle.eco_entries.proofs.seen.Seen.see.Goals as goal
 
 pub returns-then-is_above-clause-is : goal.returns-then-is_above-clause-is
 returns-then-is_above-clause-is c =

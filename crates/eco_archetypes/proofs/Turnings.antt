@@ -19,7 +19,7 @@ use Rattle.eco_ids.proofs.SameIds.{id_eq-Decides, same_ids-Decides}
 use Rattle.eco_ids.proofs.SetLaws.{joins_with, leaves_without}
 use Rattle.eco_tables.specs.Table.{TableState, paired, width_in}
 use Rattle.eco_tables.specs.Tables.{slot_of, table_in, no_table, turned, Sets}
-use Rattle.eco_index.specs.Edges.{toggled, Cuts}
+use Rattle.eco_index.specs.Edges.{Cuts}
 use Rattle.eco_index.specs.IdIndex.{Lists, any_matches, matches_id, is_own, Turns, ListsSame}
 use Rattle.eco_index.specs.Caching.{AreTold}
 use Rattle.eco_index.specs.declared.cache.Cache.{Cache}
@@ -257,15 +257,6 @@ covers_slots s s' same = kept_widths s s' (same_kept s s' same)
 pub agreed_slots : (s s' : List (Option TableState)) → SameSlots s s' → AreAgreed s → AreAgreed s'
 agreed_slots s s' same = kept_agreed s s' (same_kept s s' same)
 
--- ---- the table with its rows
-pub takes_type : (s s' : List (Option TableState)) (n : ℕ) (ids : List Id) (i : Id) (w : ℕ) → Sets s s' n (Some (turned (table_in s n) ids i w))
-    → TakesType s s' n ids
-takes_type s s' n ids i w sets = record {
-  typed = ap (option_map (λ (t : TableState). t.ids)) sets.changed;
-  rows = ap (λ o. (unwrap_or o no_table).rows) sets.changed;
-  others = sets.others;
-}
-
 pub kept_slots : (s s' : List (Option TableState)) (n : ℕ) → Sets s s' n (slot_of s n) → SameSlots s s'
 kept_slots s s' n sets m = elim (cases_eq m n) [
   | inl here ↦ ap (slot_of s') here ∙ sets.changed ∙ ap (slot_of s) (sym here)
@@ -275,12 +266,6 @@ kept_slots s s' n sets m = elim (cases_eq m n) [
 pub index_slots : (s s' : List (Option TableState)) (l l' : Lists) → IsIdIndex (type_at s) l → SameSlots s s' → ListsSame l l' → IsIdIndex (type_at s') l'
 index_slots s s' l l' index same lists p n =
     lists p n ∙ index p n ∙ ap (λ o. type_matches (option_map (λ (t : TableState). t.ids) o) p) (sym (same n))
-
-pub toggled_more : (ids : List Id) (i : Id) → has_item id_cmp ids i ≡ false → with_item id_cmp ids i ≡ toggled ids i
-toggled_more ids i lacks = sym (ap (λ b. cond b (without_item id_cmp ids i) (with_item id_cmp ids i)) lacks)
-
-pub toggled_less : (ids : List Id) (i : Id) → has_item id_cmp ids i ≡ true → without_item id_cmp ids i ≡ toggled ids i
-toggled_less ids i has = sym (ap (λ b. cond b (without_item id_cmp ids i) (with_item id_cmp ids i)) has)
 
 -- ---- all that finds the table
 not_same : (t q : List Id) → same_ids t q ≡ false → t ≢ q

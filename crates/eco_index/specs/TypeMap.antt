@@ -29,7 +29,8 @@ LeadsGrown slots n i =
     (t : List Id) × (get same_ids slots t ≡ Some n) × IsSome (get same_ids slots (with_item id_cmp t i))
 
 -- a type that led to the slot is out of the map, and has the id now; no type of the map had just these ids
-pub record TakesGrown {S : Type 0} (old new : HashMap (List Id) ℕ S) (n : ℕ) (i : Id) (grown : List Id) : Type 0 where
+pub record TakesGrown {S : Type 0} (old new : HashMap (List Id) ℕ S) (n : ℕ) (i : Id) (grown : List Id)
+    : Type 0 where
   pub type : List Id
   pub led : get same_ids old type ≡ Some n
   pub taken : Updates same_ids old new type None

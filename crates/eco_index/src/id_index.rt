@@ -1,5 +1,6 @@
 //! For each pattern, the slots of the tables whose types have an id that it matches.
-ghost use Rattle.std.specs.Prelude.{◌≡◌, ◌<◌, ◌≤◌, ℕ, Some, None, true, false, nat_eq, not, slice_get, take, IfOk, OnOk, OnErr, IfSome, IfNone};
+ghost use Rattle.std.specs.Prelude.{◌≡◌, ◌<◌, ◌≤◌, ℕ, Some, None, true, false, nat_eq};
+ghost use Rattle.std.specs.Prelude.{not, slice_get, take, IfOk, OnOk, OnErr, IfSome, IfNone};
 ghost use Rattle.std.specs.Option.{option_copied, option_map};
 ghost use Rattle.std.specs.HashMap.{get, Updates};
 ghost use Rattle.indexmap.specs.IndexMap.{index_map_len};

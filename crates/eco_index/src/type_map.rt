@@ -132,7 +132,8 @@ impl TypeMap {
     // Takes the type at a place out. The last one comes in its place.
     fn take_at(&mut self, place: usize) -> Option<(TypeList, usize)>
         ensures entry { result ≡ slice_get (slots_by_type self.old).entries place }
-        ensures taken { IfSome result (λ p. Updates same_ids (slots_by_type self.old) (slots_by_type self.new) p.0 None) }
+        ensures taken { IfSome result
+            (λ p. Updates same_ids (slots_by_type self.old) (slots_by_type self.new) p.0 None) }
         ensures room { spare (slots_by_type self.old) ≤ spare (slots_by_type self.new) }
     {
         let taken = self.slots.swap_remove_index(place);
@@ -143,8 +144,9 @@ impl TypeMap {
         taken
     }
 
-    /// Takes the type at a place, which leads to the slot, out of the map, and puts an id to it that it lacks. None where another
-    /// type has just these ids. Then, and on an `Err`, which comes where memory is refused, each type leads where it led.
+    /// Takes the type at a place, which leads to the slot, out of the map, and puts an id to it that it lacks. None where
+    /// another type has just these ids. Then, and on an `Err`, which comes where memory is refused, each type leads where it
+    /// led.
     pub fn take_with(
         &mut self,
         place: usize,
@@ -158,7 +160,8 @@ impl TypeMap {
         ensures taken { IfOk result (λ o. IfSome o
             (TakesGrown (slots_by_type self.old) (slots_by_type self.new) slot id)) }
         ensures none { IfOk result (λ o. IfNone o (LeadsGrown (slots_by_type self.old) slot id)) }
-        ensures alike { IfOk result (λ o. IfNone o (LeadAlike (slots_by_type self.old) (slots_by_type self.new))) }
+        ensures alike { IfOk result
+            (λ o. IfNone o (LeadAlike (slots_by_type self.old) (slots_by_type self.new))) }
         ensures err { OnErr result (LeadAlike (slots_by_type self.old) (slots_by_type self.new)) }
     {
         // No two types are equal, as the length says.

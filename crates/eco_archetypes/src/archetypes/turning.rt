@@ -64,8 +64,8 @@ impl Archetypes {
         }
     }
 
-    // What `step_only_row` does where the type lacks the id. The type comes out of the map, gets the id and goes back, and so it is
-    // not copied.
+    // What `step_only_row` does where the type lacks the id. The type comes out of the map, gets the id and goes back, and so
+    // it is not copied.
     fn gain_alone(
         &mut self,
         entities: &EntityIndex,

@@ -2,7 +2,8 @@
 ghost use Rattle.std.specs.Prelude.{◌≡◌, true, false, OnOk, OnErr};
 ghost use Rattle.eco_ids.specs.declared.id.Id.TheVariants.{Two};
 ghost use Rattle.eco_index.specs.declared.id_index.key.Key.TheVariants.{Target};
-ghost use Rattle.eco_index.specs.IdIndex.{ListsSame, Turns, any_matches, has_one, has_own, is_own, keys_of, matches_id, pattern_of};
+ghost use Rattle.eco_index.specs.IdIndex.{ListsSame, Turns, has_one, has_own, is_own};
+ghost use Rattle.eco_index.specs.IdIndex.{any_matches, keys_of, matches_id, pattern_of};
 
 use crate::id_index::key::Key;
 use crate::id_index::{IdIndex, keys_of_pair};
@@ -59,8 +60,8 @@ impl IdIndex {
         }
     }
 
-    // Takes the slot off the lists of a pair. Where no other pair has its target, none is the pair, so mostly the others are gone
-    // over once for both.
+    // Takes the slot off the lists of a pair. Where no other pair has its target, none is the pair, so mostly the others are
+    // gone over once for both.
     fn leave_pair(&mut self, relationship: Entity, target: Entity, others: &[Id], slot: usize)
         ensures { Turns false (has_own (keys_of (Two relationship target)) others.now)
             (lists_in self.old) (lists_in self.new) slot }

@@ -14,7 +14,8 @@ returns-in-Err-clause-err c =
     led_at m c.args.place c.args.slot p c.len-count.ensures.unique c.requires.there (sym c.unwrap-type_list.ensures ∙ c.take_at.ensures.entry) in
     let taken = subst (λ o. IfSome o (λ q. Updates same_ids m c.take_at.new.self.slots q.0 None)) c.unwrap-type_list.ensures c.take_at.ensures.taken in
     put_back m c.take_at.new.self.slots p.0 c.insert_reserved.new.self.slots c.args.slot led taken
-    (subst (λ t. Updates same_ids c.take_at.new.self.slots c.insert_reserved.new.self.slots t (Some c.args.slot)) c.in-Err.ensures.err c.insert_reserved.ensures)
+    (subst (λ t. Updates same_ids c.take_at.new.self.slots c.insert_reserved.new.self.slots t (Some c.args.slot))
+    c.in-Err.ensures.err c.insert_reserved.ensures)
 
 pub returns-then-contains_key-clause-none : goal.returns-then-contains_key-clause-none
 returns-then-contains_key-clause-none c =

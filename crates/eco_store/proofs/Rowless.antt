@@ -208,7 +208,8 @@ rowless_targeted s p n =
     still_there false false false c kept h = h
 
 -- a slot is gathered
-pub rowless_gathered : (s : List (Option TableState)) (p : StayingState) (n : ℕ) → RowlessIn s (n ∷ all_staying p) → RowlessIn s (all_staying (with_gathered p n))
+pub rowless_gathered : (s : List (Option TableState)) (p : StayingState) (n : ℕ) → RowlessIn s (n ∷ all_staying p)
+    → RowlessIn s (all_staying (with_gathered p n))
 rowless_gathered s p n =
     rowless_more s (n ∷ all_staying p) (all_staying (with_gathered p n)) (λ m there.
     rw (among_staying (with_gathered p n) m)

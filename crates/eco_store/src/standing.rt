@@ -20,8 +20,8 @@ pub struct Standing {
     pub place: usize,
 }
 
-/// All tables of a store, with what finds them, the slots of those that a test finds, each once, and all who stand in these, ascending, each with
-/// the place of its table among the slots.
+/// All tables of a store, with what finds them, the slots of those that a test finds, each once, and all who stand in these,
+/// ascending, each with the place of its table among the slots.
 #[derive(Drop)]
 pub struct Standings<'a> {
     pub tables: &'a Archetypes,

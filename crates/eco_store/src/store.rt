@@ -199,8 +199,8 @@ impl Store {
         self.create_at_length(name, arity, type_list)
     }
 
-    // What `create` does without a name, where that wants no memory and the type is the one that was asked for last; the answer is
-    // the entity. Else nothing changes.
+    // What `create` does without a name, where that wants no memory and the type is the one that was asked for last; the answer
+    // is the entity. Else nothing changes.
     #[inline]
     fn create_in_room(&mut self, arity: Option<u8>, type_list: &TypeList) -> Option<Entity>
         ensures step { IfSome result (λ e.

@@ -112,7 +112,8 @@ impl Layout {
         Ok(to)
     }
 
-    // The slot of the table with a type, which is a target from then on. What room earlier calls promised in it serves this one.
+    // The slot of the table with a type, which is a target from then on. What room earlier calls promised in it serves this
+    // one.
     fn target(&mut self, type_list: &TypeList) -> Result<usize, AllocError>
         requires { IsLaid self.old }
         ensures plans { Plans self.old self.new }

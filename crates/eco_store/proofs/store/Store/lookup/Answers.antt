@@ -7,6 +7,7 @@ use Rattle.eco_store.proofs.store.Store.lookup.Goals as goal
 
 pub returns : goal.returns
 returns c =
+    let l = c.self.inside.layout in
     rw (← c.self.view_is)
     (c.lookup.ensures.named_entity
-    ∙ sym (named_entity-map (record_for (row_at c.self.inside.layout.archetypes)) name_of record_name (λ a. refl) c.self.inside.layout.entities c.args.name.now))
+    ∙ sym (named_entity-map (record_for (row_at l.archetypes)) name_of record_name (λ a. refl) l.entities c.args.name.now))

@@ -5,22 +5,23 @@ use Rattle.eco_store.proofs.Needing.{called}
 use Rattle.eco_store.proofs.store.Store.rename.Goals as goal
 
 pub invariant_of-self : goal.invariant_of-self
-invariant_of-self c = record {
-  laid = record {
-    store =
-        (rename_lifts c.self.inside.layout.entities c.self.inside.layout.archetypes c.args.e (option_copied c.args.name) c.rename.new.self c.rename.result c.rename.ensures).0
-        c.self.invariant.laid.store;
-    covers =
-        called c.needs_never_grow.ensures (Rename c.args.e (option_copied c.args.name)) _ _ _ (c.rename.result, c.rename.ensures)
-        c.self.invariant.laid.covers;
-    tidy = c.self.invariant.laid.tidy;
-  };
-  done = c.self.invariant.done;
-}
+invariant_of-self c =
+    let l = c.self.inside.layout in
+    let laid = c.self.invariant.laid in
+    record {
+      laid = record {
+        store =
+            (rename_lifts l.entities l.archetypes c.args.e (option_copied c.args.name) c.rename.new.self c.rename.result c.rename.ensures).0 laid.store;
+        covers = called c.needs_never_grow.ensures (Rename c.args.e (option_copied c.args.name)) _ _ _ (c.rename.result, c.rename.ensures) laid.covers;
+        tidy = laid.tidy;
+      };
+      done = c.self.invariant.done;
+    }
 
 pub returns : goal.returns
 returns c = record {
   step =
+      let l = c.self.inside.layout in
       rw (← c.self.view_is)
-      (rename_lifts c.self.inside.layout.entities c.self.inside.layout.archetypes c.args.e (option_copied c.args.name) c.rename.new.self c.rename.result c.rename.ensures).1;
+      (rename_lifts l.entities l.archetypes c.args.e (option_copied c.args.name) c.rename.new.self c.rename.result c.rename.ensures).1;
 }

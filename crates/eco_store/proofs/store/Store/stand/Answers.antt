@@ -17,13 +17,15 @@ unwrap-table-requires c =
 
 pub returns-clause-stands : goal.returns-clause-stands
 returns-clause-stands c =
+    let l = c.self.inside.layout in
     rw (← c.self.view_is)
-    (stands_there c.self.inside.layout.entities c.self.inside.layout.archetypes c.args.e c.in_ok-place.place c.unwrap-table.result.now c.self.invariant.laid.store
+    (stands_there l.entities l.archetypes c.args.e c.in_ok-place.place c.unwrap-table.result.now c.self.invariant.laid.store
     (sym c.place_of.ensures ∙ c.in_ok-place.was)
     (sym (c.get.ensures ∙ ap (λ s. slot_of s c.in_ok-place.place.table) c.tables.ensures.same) ∙ ap option_copied c.unwrap-table.ensures))
 
 pub returns-clause-kept : goal.returns-clause-kept
 returns-clause-kept c =
+    let l = c.self.inside.layout in
     rw (← c.self.view_is)
-    (kept_there c.self.inside.layout.entities c.self.inside.layout.archetypes c.in_ok-place.place.table c.unwrap-table.result.now c.self.invariant.laid.covers
+    (kept_there l.entities l.archetypes c.in_ok-place.place.table c.unwrap-table.result.now c.self.invariant.laid.covers
     (sym (c.get.ensures ∙ ap (λ s. slot_of s c.in_ok-place.place.table) c.tables.ensures.same) ∙ ap option_copied c.unwrap-table.ensures))

@@ -6,8 +6,10 @@ use Rattle.eco_store.proofs.Values.{shows}
 use Rattle.eco_store.proofs.store.Store.tables_by.Goals as goal
 
 pub returns-clause-shown : goal.returns-clause-shown
-returns-clause-shown g c = rw (← c.self.view_is, c.tables-tables.ensures.same)
-    (shows c.self.inside.layout.entities c.self.inside.layout.archetypes c.self.invariant.laid.store (rw c.tables-tables.ensures.same at c.rows_have_ids.ensures))
+returns-clause-shown g c =
+    let l = c.self.inside.layout in
+    rw (← c.self.view_is, c.tables-tables.ensures.same)
+    (shows l.entities l.archetypes c.self.invariant.laid.store (rw c.tables-tables.ensures.same at c.rows_have_ids.ensures))
 
 pub returns-clause-kept : goal.returns-clause-kept
 returns-clause-kept g c = rw (← c.self.view_is, c.tables-tables.ensures.same)

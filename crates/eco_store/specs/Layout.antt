@@ -4,9 +4,8 @@ use Rattle.std.specs.Prelude.{Option, OnErr, OnOk, Result}
 use Rattle.std.specs.List.{list_any, swap_remove}
 use Rattle.eco_ids.specs.declared.entity.Entity.{Entity}
 use Rattle.eco_ids.specs.declared.id.Id.{Id}
-use Rattle.eco_ids.specs.declared.value.Value.{Value}
 use Rattle.eco_tables.specs.Table.{Row, TableState, retyped_row, entities_of}
-use Rattle.eco_tables.specs.Tables.{table_in, row_in, no_row, new_row, row_with}
+use Rattle.eco_tables.specs.Tables.{table_in, row_in, no_row, new_row}
 use Rattle.eco_entities.specs.declared.place.Place.{Place}
 use Rattle.eco_entities.specs.Needs.{need}
 use Rattle.eco_ids.specs.Indices.{Indexed}
@@ -98,12 +97,6 @@ ids_at slots p = map (λ x. x.0) (row_in slots p.table p.row).held
 pub record SetsRows (old new : ℕ → List Row) (n : ℕ) (rows : List Row) : Type 0 where
   pub changed : new n ≡ rows
   pub others : (m : ℕ) → m ≢ n → new m ≡ old m
-
--- the row has this value at the id, where it has the id
-abbrev pub WritesRow : (ℕ → List Row) → (ℕ → List Row) → Place → Id → Value → Type 0
-WritesRow old new p i v =
-    SetsRows old new p.table
-    (slice_set (old p.table) p.row (row_with (slice_index_or (old p.table) p.row no_row) i v))
 
 -- the entity has a row of this type at the end of a table, with zeros
 pub record PutsRow (old new : ℕ → List Row) (p : Place) (e : Entity) (ids : List Id) : Type 0 where

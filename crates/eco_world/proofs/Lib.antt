@@ -16,6 +16,7 @@ pub mod MirrorSteps
 pub mod Mirroring
 pub mod Queried
 pub mod Removals
+pub mod Setting
 pub mod Starting
 pub mod Steps
 pub mod Tabled

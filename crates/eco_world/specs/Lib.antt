@@ -7,5 +7,6 @@ pub mod Losses
 pub mod Merging
 pub mod Queries
 pub mod Refs
+pub mod Setting
 pub mod Types
 pub mod Worlds

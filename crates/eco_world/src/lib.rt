@@ -8,6 +8,7 @@ pub mod laws;
 mod loss;
 mod query_id;
 mod row;
+mod settable;
 mod table_rows;
 mod type_order;
 mod world;

@@ -36,6 +36,7 @@ mod layout;
 mod merging;
 mod mirrors;
 mod queries;
+mod setting;
 
 /// Entities, each with a name or none and with the ids that were added to it, where an id that is data has a value
 /// (Flecs manual, Quickstart), and the queries that were added.

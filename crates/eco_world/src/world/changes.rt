@@ -15,7 +15,7 @@ ghost use Rattle.eco_ids.specs.Mirrors.{goes_too};
 ghost use Rattle.eco_ids.specs.Outcome.{Meets};
 ghost use Rattle.eco_ids.specs.Step.{Adds, may_add, Clears, may_clear, Extends, Removes, may_remove, Renames, may_rename, Sets, may_set, changed, is_reserved, unchanged, with_value};
 ghost use Rattle.eco_ids.specs.World.{has, names_living, is_alive, record_of};
-ghost use Rattle.eco_world.specs.Actor.{IsUnfit, MaySet, MayNotSet};
+ghost use Rattle.eco_world.specs.Actor.{IsUnfit, MaySet};
 ghost use Rattle.eco_world.specs.Losses.{takes_id};
 ghost use Rattle.eco_store.specs.Store.{record_ids, with_exchanged, with_toggled, with_type};
 
@@ -136,16 +136,7 @@ impl World {
         ensures { Meets (Sets self.old entity id value) (may_set self.old entity id value)
             self.old result self.new }
     {
-        eco_ids::laws::steps_keep_lawful();
-        eco_ids::laws::add_adds_once();
-        self.is_lawful();
-        self.check_set(entity, id, value)?;
-        if self.write(entity, id, value) {
-            return Ok(());
-        }
-        // Copies, since what is handed over stands in memory: so what is written where the id is there need not.
-        let (absent, first) = (id, value);
-        self.set_absent(entity, absent, first)
+        self.set_after(&mut None, entity, id, value)
     }
 
     /// The entity doesn't have the id any more (Flecs manual, Entities and Components). An absent id, a dead one
@@ -186,7 +177,7 @@ impl World {
 
     // What `set` does where the entity lacks the id, apart, so that a write of what is there needs no room for what this one keeps.
     #[inline(never)]
-    fn set_absent(&mut self, entity: Entity, id: Id, value: Value) -> Result<(), Refusal>
+    pub(crate) fn set_absent(&mut self, entity: Entity, id: Id, value: Value) -> Result<(), Refusal>
         requires may { MaySet self.old entity id value }
         requires absent { has self.old entity id ≡ false }
         ensures { Meets (Sets self.old entity id value) (may_set self.old entity id value)
@@ -202,7 +193,7 @@ impl World {
 
     // Whether each entity in the id lives.
     #[inline(always)]
-    fn names_living(&self, id: Id) -> bool
+    pub(crate) fn names_living(&self, id: Id) -> bool
         ensures { result ≡ names_living self.now id }
     {
         match id {
@@ -228,7 +219,7 @@ impl World {
 
     // Whether the id may come to the entity: it lives, and no built-in would be changed.
     #[inline(always)]
-    fn check_holder(&self, entity: Entity, id: Id) -> Result<(), Refusal>
+    pub(crate) fn check_holder(&self, entity: Entity, id: Id) -> Result<(), Refusal>
         ensures ok { OnOk result ((is_alive self.now entity ≡ true) × (is_reserved self.now entity id ≡ false)) }
         ensures err { IfErr result (IsUnfit self.now entity (is_reserved self.now entity id)) }
     {
@@ -239,23 +230,6 @@ impl World {
             return Err(Refusal::Reserved);
         }
         Ok(())
-    }
-
-    // Whether the entity may have this value at the id.
-    #[inline(always)]
-    fn check_set(&self, entity: Entity, id: Id, value: Value) -> Result<(), Refusal>
-        ensures ok { OnOk result (MaySet self.now entity id value) }
-        ensures err { IfErr result (MayNotSet self.now entity id value) }
-    {
-        self.check_holder(entity, id)?;
-        if !self.names_living(id) {
-            return Err(Refusal::DeadId);
-        }
-        match self.arity(id) {
-            None => Err(Refusal::NotData),
-            Some(arity) if is_zero_past(value, arity) => Ok(()),
-            Some(_) => Err(Refusal::TooWide),
-        }
     }
 
     // The entity has an id from now on, with its closure, unless something stands against that. An `Err` leaves
@@ -355,7 +329,7 @@ impl World {
     // Where the entity has the id it has this value there from now on, else nothing changes. The answer is whether it has
     // the id, so that a set looks for it once.
     #[inline(always)]
-    fn write(&mut self, entity: Entity, id: Id, value: Value) -> bool
+    pub(crate) fn write(&mut self, entity: Entity, id: Id, value: Value) -> bool
         requires alive { is_alive self.old entity ≡ true }
         requires fits { IsTrue (fits self.old id value) }
         requires lawful { has self.old entity id ≡ true

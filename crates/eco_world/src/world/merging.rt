@@ -1,5 +1,5 @@
 //! What stages recorded is done.
-ghost use Rattle.std.specs.Prelude.{◌≡◌, ◌+◌, ◌≤◌, ◌&&◌, [], nat_lt, length};
+ghost use Rattle.std.specs.Prelude.{◌≡◌, ◌+◌, ◌≤◌, ◌<◌, ◌&&◌, [], ◌∷◌, nat_lt, length, take};
 ghost use Rattle.std.specs.Prelude.{IfOk, IsTrue, OnErr};
 ghost use Rattle.eco_ids.specs.Births.{Admits, MakesAlive, may_admit, may_make_alive};
 ghost use Rattle.eco_ids.specs.Outcome.{Meets};
@@ -8,6 +8,7 @@ ghost use Rattle.eco_ids.specs.World.{entities, OnEntities};
 ghost use Rattle.eco_stages.specs.Commands.{command_of, commands_of};
 ghost use Rattle.eco_world.specs.Merging.{all_commands, has_commands, Appends, Merges, may_merge};
 
+use crate::settable::Settable;
 use crate::world::World;
 use eco_ids::{Entity, Refusal};
 use eco_stages::{Command, Outcomes, Report, Stage};
@@ -65,10 +66,70 @@ impl World {
         ensures room { outcomes.new.room ≡ outcomes.old.room }
     {
         eco_ids::laws::runs_keep_lawful();
-        for command in commands {
-            let outcome = self.apply(command);
-            outcomes.push(outcome);
+        let mut done = 0;
+        while done < commands.len() {
+            done += self.run_some(&commands[done..], outcomes);
         }
+    }
+
+    // The first commands are done, and their outcomes appended. The answer is how many those are.
+    #[inline(always)]
+    fn run_some(&mut self, commands: &[Command], outcomes: &mut Outcomes) -> usize
+        requires some { 0 < length commands.now }
+        requires room { length outcomes.old.outcomes + length commands.now ≤ outcomes.old.room }
+        ensures some { 0 < result }
+        ensures within { result ≤ length commands.now }
+        ensures ran { Appends self.old (commands_of (take result commands.now))
+            outcomes.old.outcomes outcomes.new.outcomes self.new }
+        ensures grown { length outcomes.new.outcomes ≡ length outcomes.old.outcomes + result }
+        ensures room { outcomes.new.room ≡ outcomes.old.room }
+    {
+        if let Command::Set(_, _, _) = &commands[0] {
+            return self.run_sets(commands, outcomes);
+        }
+        self.run_one(&commands[0], outcomes);
+        1
+    }
+
+    // The commands are done up to the first that is no set, and that too, and their outcomes appended. The answer is how
+    // many those are. Apart, so that what sets keep takes no room where others are done.
+    #[inline(never)]
+    fn run_sets(&mut self, commands: &[Command], outcomes: &mut Outcomes) -> usize
+        requires some { 0 < length commands.now }
+        requires room { length outcomes.old.outcomes + length commands.now ≤ outcomes.old.room }
+        ensures some { 0 < result }
+        ensures within { result ≤ length commands.now }
+        ensures ran { Appends self.old (commands_of (take result commands.now))
+            outcomes.old.outcomes outcomes.new.outcomes self.new }
+        ensures grown { length outcomes.new.outcomes ≡ length outcomes.old.outcomes + result }
+        ensures room { outcomes.new.room ≡ outcomes.old.room }
+    {
+        eco_ids::laws::runs_keep_lawful();
+        let mut known = None;
+        let mut count = 0;
+        while count < commands.len() {
+            let Command::Set(entity, id, value) = &commands[count] else {
+                self.run_one(&commands[count], outcomes);
+                return count + 1;
+            };
+            let outcome = self.set_after(&mut known, *entity, *id, *value);
+            outcomes.push(outcome);
+            count += 1;
+        }
+        count
+    }
+
+    // The command is done, and its outcome appended.
+    #[inline(always)]
+    fn run_one(&mut self, command: &Command, outcomes: &mut Outcomes)
+        requires { length outcomes.old.outcomes < outcomes.old.room }
+        ensures ran { Appends self.old (command_of command.now ∷ [])
+            outcomes.old.outcomes outcomes.new.outcomes self.new }
+        ensures grown { length outcomes.new.outcomes ≡ length outcomes.old.outcomes + 1 }
+        ensures room { outcomes.new.room ≡ outcomes.old.room }
+    {
+        let outcome = self.apply(command);
+        outcomes.push(outcome);
     }
 
     // The command is done.

@@ -3,6 +3,7 @@ use Rattle.eco_ids.specs.declared.refusal.Refusal.TheVariants.{DeadId, NotData, 
 use Rattle.eco_ids.specs.Data.{arity, fits}
 use Rattle.eco_ids.specs.World.{names_living}
 use Rattle.std.proofs.lemmas.Result.{err_from_is_err_and}
+use Rattle.eco_world.proofs.Setting.{unsettable}
 use Rattle.eco_world.proofs.world.World.check_set.Goals as goal
 
 pub returns-in_err-check_holder-clause-err : goal.returns-in_err-check_holder-clause-err
@@ -14,3 +15,10 @@ returns-in_err-check_holder-clause-err c =
           (not (fits c.args.self.now c.args.id c.args.value), TooWide) ∷ []);
       other = c.in_err-check_holder.ensures.err.other;
     })
+
+pub returns-in_err-arity-clause-err : goal.returns-in_err-arity-clause-err
+returns-in_err-arity-clause-err c =
+    let p = err_from_is_err_and c.from_residual-in_err-arity.result c.from_residual-in_err-arity.ensures.1 in
+    let may = c.in_ok-check_holder.ensures.ok in
+    rw (p.1, p.2)
+    (unsettable c.args.self.now c.args.entity c.args.id c.args.value may.0 may.1 c.in_err-arity.field-0.0 c.in_err-arity.ensures.err)

@@ -1,11 +1,15 @@
-use Rattle.std.proofs.Common.{◌≡◌, ◌+◌, length, take}
+use Rattle.std.proofs.Common.{◌≡◌, ◌+◌, ◌-◌, ◌≤◌, length, take}
 use Rattle.eco_stages.specs.Commands.{commands_of}
 use Rattle.eco_world.specs.Merging.{Appends}
 use Rattle.eco_world.proofs.world.World.run.Given as goal
 
-abbrev pub invariant-loop-command : goal.invariant-loop-command
-invariant-loop-command l = record {
-  ran : Appends l.initial.self (commands_of (take l.command-index l.commands)) l.initial.outcomes.outcomes l.outcomes.outcomes l.self;
-  grown : length l.outcomes.outcomes ≡ length l.initial.outcomes.outcomes + l.command-index;
+abbrev pub invariant-loop-done : goal.invariant-loop-done
+invariant-loop-done l = record {
+  within : l.done ≤ length l.commands;
+  ran : Appends l.initial.self (commands_of (take l.done l.commands)) l.initial.outcomes.outcomes l.outcomes.outcomes l.self;
+  grown : length l.outcomes.outcomes ≡ length l.initial.outcomes.outcomes + l.done;
   room : l.outcomes.room ≡ l.initial.outcomes.room;
 }
+
+abbrev pub decreases-loop-done : goal.decreases-loop-done
+decreases-loop-done l = length l.commands - l.done

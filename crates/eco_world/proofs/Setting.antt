@@ -1,0 +1,54 @@
+-- Ids that values may stand at, and what a write leaves of that.
+use Rattle.std.proofs.Common.{◌≡◌, ℕ, ◌&&◌, ◌∷◌, [], not, Option, None, Some, IfSome, is_some, option_and_then, true, false}
+use Rattle.std.proofs.Common.{refl, ◌∙◌, if◌then◌else◌}
+use Rattle.std.specs.Option.{option_or}
+use Rattle.eco_ids.specs.declared.entity.Entity.{Entity}
+use Rattle.eco_ids.specs.declared.id.Id.{Id}
+use Rattle.eco_ids.specs.declared.id.Id.TheVariants.{One, Two}
+use Rattle.eco_ids.specs.declared.refusal.Refusal.{Refusal}
+use Rattle.eco_ids.specs.declared.refusal.Refusal.TheVariants.{NotAlive, Reserved, DeadId, NotData, TooWide}
+use Rattle.eco_ids.specs.declared.value.Value.{Value}
+use Rattle.eco_ids.specs.Builtin.{is_builtin}
+use Rattle.eco_ids.specs.Data.{arity, arity_of, fits}
+use Rattle.eco_ids.specs.Outcome.{first_refusal}
+use Rattle.eco_ids.specs.Step.{changed, is_reserved, with_value}
+use Rattle.eco_ids.specs.World.{WorldState, Record, is_alive, names_living}
+use Rattle.eco_ids.proofs.Records.{changed_each}
+use Rattle.eco_world.specs.Actor.{MayNotSet}
+use Rattle.eco_world.specs.declared.settable.Settable.{Settable}
+use Rattle.eco_world.specs.Setting.{IsSettable, IsUnsettable}
+
+module _ (w : WorldState) (e : Entity) (i : Id) (v : Value) where
+  alive_alike : (x : Entity) → is_alive (changed w e (with_value i v)) x ≡ is_alive w x
+  alive_alike = changed_each w e (with_value i v) is_some (λ d at. refl)
+
+  arity_alike : (x : Entity) → arity_of (changed w e (with_value i v)) x ≡ arity_of w x
+  arity_alike = changed_each w e (with_value i v) (λ o. option_and_then (λ (r : Record). r.arity) o) (λ d at. refl)
+
+  living_alike : (j : Id) → names_living (changed w e (with_value i v)) j ≡ names_living w j
+  living_alike (One x) = alive_alike x
+  living_alike (Two r t) = λ k. alive_alike r k && alive_alike t k
+
+  fields_alike : (j : Id) → arity (changed w e (with_value i v)) j ≡ arity w j
+  fields_alike (One x) = arity_alike x
+  fields_alike (Two r t) = λ k. if is_builtin w r then None else option_or (arity_alike r k) (arity_alike t k)
+
+  -- who lives and what has how many fields stays so
+  settable_still : (j : Id) (fields : ℕ) → IsSettable w j fields → IsSettable (changed w e (with_value i v)) j fields
+  settable_still j fields is = record { living = living_alike j ∙ is.living; has_fields = fields_alike j ∙ is.has_fields }
+
+  -- what stands against an id stands against a set
+  pub unsettable : is_alive w e ≡ true → is_reserved w e i ≡ false → (why : Refusal) → IsUnsettable w i why → MayNotSet w e i v why
+  unsettable alive free why is = record {
+    first =
+        (λ k. first_refusal
+        ((not (alive k), NotAlive) ∷ (free k, Reserved) ∷ (not (names_living w i), DeadId) ∷ (not (is_some (arity w i)), NotData)
+        ∷ (not (fits w i v), TooWide) ∷ []))
+        ∙ is.first ((not (fits w i v), TooWide) ∷ []);
+    other = is.other;
+  }
+
+  pub known_still : (known : Option Settable) → IfSome known (λ s. IsSettable w s.id s.arity) →
+      IfSome known (λ s. IsSettable (changed w e (with_value i v)) s.id s.arity)
+  known_still None is = tt
+  known_still (Some s) is = settable_still s.id s.arity is

@@ -1,0 +1,94 @@
+//! Sets of values, also of many at one id.
+ghost use Rattle.std.specs.Prelude.{IfErr, IfOk, IfSome, OnOk};
+ghost use Rattle.eco_ids.specs.Outcome.{Meets};
+ghost use Rattle.eco_ids.specs.Step.{Sets, may_set};
+ghost use Rattle.eco_world.specs.Actor.{MaySet, MayNotSet};
+ghost use Rattle.eco_world.specs.Setting.{IsSettable, IsUnsettable};
+
+use crate::settable::Settable;
+use crate::world::World;
+use crate::world::changes::is_zero_past;
+use eco_ids::{Entity, Id, Refusal, Value};
+
+impl World {
+    // What `set` does. Of an id that is known nothing is asked. The id of a value that was written is known then.
+    #[inline(always)]
+    pub(crate) fn set_after(
+        &mut self,
+        known: &mut Option<Settable>,
+        entity: Entity,
+        id: Id,
+        value: Value,
+    ) -> Result<(), Refusal>
+        requires { IfSome known.old (λ s. IsSettable self.old s.id s.arity) }
+        ensures met { Meets (Sets self.old entity id value) (may_set self.old entity id value)
+            self.old result self.new }
+        ensures known { IfSome known.new (λ s. IsSettable self.new s.id s.arity) }
+    {
+        eco_ids::laws::steps_keep_lawful();
+        self.is_lawful();
+        self.check_set(known, entity, id, value)?;
+        if self.write(entity, id, value) {
+            return Ok(());
+        }
+        *known = None;
+        // Copies, since what is handed over stands in memory: so what is written where the id is there need not.
+        let (absent, first) = (id, value);
+        self.set_absent(entity, absent, first)
+    }
+
+    // Whether the entity may have this value at the id.
+    #[inline(always)]
+    fn check_set(
+        &self,
+        known: &mut Option<Settable>,
+        entity: Entity,
+        id: Id,
+        value: Value,
+    ) -> Result<(), Refusal>
+        requires { IfSome known.old (λ s. IsSettable self.now s.id s.arity) }
+        ensures ok { OnOk result (MaySet self.now entity id value) }
+        ensures err { IfErr result (MayNotSet self.now entity id value) }
+        ensures known { IfSome known.new (λ s. IsSettable self.now s.id s.arity) }
+    {
+        self.check_holder(entity, id)?;
+        let arity = self.arity_after(known, id)?;
+        if !is_zero_past(value, arity) {
+            return Err(Refusal::TooWide);
+        }
+        Ok(())
+    }
+
+    // How many fields the values of the id have. It is asked for only where it is not the one that is known.
+    #[inline(always)]
+    fn arity_after(&self, known: &mut Option<Settable>, id: Id) -> Result<u8, Refusal>
+        requires { IfSome known.old (λ s. IsSettable self.now s.id s.arity) }
+        ensures ok { IfOk result (IsSettable self.now id) }
+        ensures err { IfErr result (IsUnsettable self.now id) }
+        ensures known { IfSome known.new (λ s. IsSettable self.now s.id s.arity) }
+    {
+        match *known {
+            Some(settable) if settable.id.is(id) => Ok(settable.arity),
+            _ => {
+                let arity = self.settable(id)?;
+                *known = Some(Settable { id, arity });
+                Ok(arity)
+            }
+        }
+    }
+
+    // How many fields the values of the id have, where values may stand at it.
+    #[inline(always)]
+    fn settable(&self, id: Id) -> Result<u8, Refusal>
+        ensures ok { IfOk result (IsSettable self.now id) }
+        ensures err { IfErr result (IsUnsettable self.now id) }
+    {
+        if !self.names_living(id) {
+            return Err(Refusal::DeadId);
+        }
+        match self.arity(id) {
+            Some(arity) => Ok(arity),
+            None => Err(Refusal::NotData),
+        }
+    }
+}

@@ -1,14 +1,17 @@
 -- What is data has fields in each table whose type has it.
 use Rattle.std.proofs.Common.{◌≡◌, ◌≤◌, ℕ, List, Option, Some, arith, subst, unwrap_or}
+use Rattle.eco_ids.specs.declared.id.Id.{Id}
 use Rattle.eco_ids.specs.Indices.{Indexed}
 use Rattle.eco_entities.specs.Needs.{fields_for, need}
 use Rattle.eco_entities.specs.Registration.{Registration}
 use Rattle.eco_tables.specs.Table.{TableState}
-use Rattle.eco_tables.specs.Tables.{no_table, slot_of}
+use Rattle.eco_tables.specs.Tables.{AllHaveIds, no_table, slot_of}
+use Rattle.eco_archetypes.specs.Archetypes.{type_at}
 use Rattle.eco_archetypes.specs.Widths.{Covers}
-use Rattle.eco_store.specs.Lent.{KeepData, KeepsData}
-use Rattle.eco_store.specs.Store.{arity, read}
+use Rattle.eco_store.specs.Lent.{AreTablesOf, KeepData, KeepsData}
+use Rattle.eco_store.specs.Store.{arity, read, IsStore}
 use Rattle.eco_store.proofs.Needing.{needed}
+use Rattle.eco_store.proofs.Values.{shows}
 
 pub kept_data : (w : Indexed Registration) (s : List (Option TableState)) → Covers (need w) s → KeepData (read w s) s
 kept_data w s covers n i k at =
@@ -19,3 +22,8 @@ kept_data w s covers n i k at =
 pub kept_there : (w : Indexed Registration) (s : List (Option TableState)) (n : ℕ) (t : TableState) → Covers (need w) s → slot_of s n ≡ Some t
     → KeepsData (read w s) t
 kept_there w s n t covers at = subst (λ o. KeepsData (read w s) (unwrap_or o no_table)) at (kept_data w s covers n)
+
+-- the tables that a store lends are its own
+pub lent_tables : (w : Indexed Registration) (s : List (Option TableState)) → IsStore w s → Covers (need w) s → AllHaveIds s
+    → ((n m : ℕ) (ids : List Id) → type_at s n ≡ Some ids → type_at s m ≡ Some ids → n ≡ m) → AreTablesOf (read w s) s
+lent_tables w s store covers own kinds = record { shown = shows w s store own; kept = kept_data w s covers; kinds = kinds }

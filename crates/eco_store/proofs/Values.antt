@@ -3,6 +3,7 @@ use Rattle.std.proofs.Common.{◌≡◌, ◌≢◌, ℕ, zero, suc, ◌<◌, Boo
 use Rattle.std.proofs.Common.{option_map, option_and_then, unwrap_or, is_some, IsSome, IsTrue, if◌then◌else◌, ◌==◌, Result, MatchBool, MatchOption, refl, sym}
 use Rattle.std.proofs.Common.{ap, subst, ◌∙◌, inl, inr}
 use Rattle.std.specs.List.{All}
+use Rattle.std.specs.FinMap.Entries.{find}
 use Rattle.std.proofs.lemmas.Bool.{cases_eq}
 use Rattle.std.proofs.lemmas.Option.{slice_get_within, slice_get-get_or}
 use Rattle.eco_ids.specs.World.{Record}
@@ -13,6 +14,7 @@ use Rattle.eco_ids.specs.declared.refusal.Refusal.TheVariants.{NotAlive, Reserve
 use Rattle.eco_ids.specs.declared.value.Value.{Value}
 use Rattle.eco_ids.specs.Indices.{changed, change_kept, Indexed, IndexState, Retired, Free, Living, record_in, record_of, with_record, is_alive, map_state}
 use Rattle.eco_ids.specs.Names.{is_proper, is_same_name}
+use Rattle.eco_ids.specs.Order.{id_cmp}
 use Rattle.eco_ids.specs.Outcome.{Meets, is_out_of_memory, first_refusal, Answers, Refuses}
 use Rattle.eco_tables.specs.Table.{TableState, Row, HasIds}
 use Rattle.eco_tables.specs.Tables.{AllHaveIds, slot_of, table_in, row_in, no_row, no_table}
@@ -54,6 +56,13 @@ pub stands_type : (o : Option Record) (t : TableState) (row : ℕ) → Stands o 
 stands_type None t row h typed = absurd h
 stands_type (Some k) t row h typed =
     sym (ap Some (ap (λ xs. map (λ p. p.0) xs) (h.held no_row) ∙ typed row no_row h.within))
+
+-- what a search of an entity's row finds, the entity has
+pub value_found : (o : Option Record) (t : TableState) (row : ℕ) (i : Id) (v : Option Value) → Stands o t row
+    → ((r : Row) → v ≡ find id_cmp i (get_or t.rows row r).held)
+    → v ≡ find id_cmp i (unwrap_or (option_map (λ (k : Record). k.held) o) [])
+value_found None t row i v h is = absurd h
+value_found (Some k) t row i v h is = is no_row ∙ ap (find id_cmp i) (sym (h.held no_row))
 
 -- ---- an entity's row holds something else
 module _ (w : Indexed Registration) (s s1 : List (Option TableState)) (e : Entity) (p : Place) (f : List (Id × Value) → List (Id × Value))

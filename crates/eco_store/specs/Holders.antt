@@ -29,3 +29,7 @@ entities_with w p = entities_whose w (list_any (pattern_matches p))
 -- one of the ids names the entity
 abbrev pub is_holder : Entity → Record → Bool
 is_holder e = passes (λ ids. names_any ids e)
+
+-- the living entities that have an id which names this one, ascending
+abbrev pub holders : Indexed Record → Entity → List Entity
+holders w e = entities_whose w (λ ids. names_any ids e)

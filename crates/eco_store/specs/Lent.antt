@@ -1,4 +1,4 @@
--- What is data has fields in the tables.
+-- What a store lends: its tables, in which what is data has fields.
 use Rattle.std.specs.Prelude.{◌≡◌, ◌≤◌, ℕ, List, Option, Some}
 use Rattle.eco_ids.specs.declared.id.Id.{Id}
 use Rattle.eco_ids.specs.Indices.{Indexed}
@@ -6,7 +6,8 @@ use Rattle.eco_ids.specs.World.{Record}
 use Rattle.eco_entities.specs.Needs.{fields_for}
 use Rattle.eco_tables.specs.Table.{TableState, width_in}
 use Rattle.eco_tables.specs.Tables.{table_in}
-use Rattle.eco_store.specs.Store.{arity}
+use Rattle.eco_archetypes.specs.Archetypes.{type_at}
+use Rattle.eco_store.specs.Store.{arity, IsShown}
 
 -- the table keeps as many fields of each of its ids as the id's arity says: what is data has a column
 abbrev pub KeepsData : Indexed Record → TableState → Type 0
@@ -15,3 +16,10 @@ KeepsData w t = (i : Id) (n : ℕ) → width_in t i ≡ Some n → fields_for (a
 -- each of the tables does
 abbrev pub KeepData : Indexed Record → List (Option TableState) → Type 0
 KeepData w slots = (n : ℕ) → KeepsData w (table_in slots n)
+
+-- the tables of a store: each living entity stands in one row, no two tables have the same type, and what is data has
+-- a column
+pub record AreTablesOf (w : Indexed Record) (slots : List (Option TableState)) : Type 0 where
+  pub shown : IsShown w slots
+  pub kept : KeepData w slots
+  pub kinds : (n m : ℕ) (ids : List Id) → type_at slots n ≡ Some ids → type_at slots m ≡ Some ids → n ≡ m

@@ -1,18 +1,16 @@
 //! The store of a world: each living entity with its name, its ids and their values.
-ghost use Rattle.std.specs.Prelude.{◌≡◌, ◌≤◌, List, ℕ, [], length, None, Some, Ok, is_some, IfSome, IfNone, IsTrue, MatchOption};
+ghost use Rattle.std.specs.Prelude.{◌≡◌, ◌≤◌, List, ℕ, [], length, None, Some, Ok, is_some, IfSome, IfNone, IsTrue, MatchOption, map};
 ghost use Rattle.std.specs.Option.{option_copied};
 ghost use Rattle.std.specs.FinMap.Entries.{find};
 ghost use Rattle.eco_ids.specs.Births.{unfit_name, Makes};
 ghost use Rattle.eco_ids.specs.Indices.{changed, is_alive, next_entity, record_of};
 ghost use Rattle.eco_ids.specs.Names.{named_entity};
-ghost use Rattle.eco_ids.specs.Order.{id_cmp};
+ghost use Rattle.eco_ids.specs.Order.{id_cmp, is_ascending};
 ghost use Rattle.eco_ids.specs.Renaming.{own_name};
-ghost use Rattle.eco_archetypes.specs.Archetypes.{type_at};
-ghost use Rattle.eco_ids.specs.declared.id.Id.{Id as Ids};
 ghost use Rattle.eco_entities.specs.Registration.{entity_at, name_of};
 ghost use Rattle.eco_store.specs.Placing.{Opposes};
-ghost use Rattle.eco_store.specs.Store.{Admission, Creates, Renames, MakesAlive, held_by, own_arity, fits, record_name, type_of, with_written, Stands, IsShown};
-ghost use Rattle.eco_store.specs.Lent.{KeepData, KeepsData};
+ghost use Rattle.eco_store.specs.Store.{Admission, Creates, Renames, MakesAlive, held_by, own_arity, fits, record_name, type_of, with_written, Stands};
+ghost use Rattle.eco_store.specs.Lent.{AreTablesOf, KeepsData};
 
 use crate::layout::Layout;
 use crate::staying::Staying;
@@ -162,13 +160,29 @@ impl Store {
         Some(table.type_list())
     }
 
+    /// The ids of an entity, ascending; none where it isn't living.
+    pub fn ids_of(&self, e: Entity) -> &[Id]
+        ensures ids { result.now ≡ map (λ p. p.0) (held_by self.now.entities e) }
+        ensures ascending { IsTrue (is_ascending id_cmp result.now) }
+    {
+        match self.type_of(e) {
+            Some(type_list) => type_list.as_slice(),
+            None => &[],
+        }
+    }
+
+    /// The value of an id that a living entity has.
+    pub fn value(&self, e: Entity, id: Id) -> Option<Value>
+        ensures { result ≡ find id_cmp id (held_by self.now.entities e) }
+    {
+        let (table, row) = self.stand(e)?;
+        table.find_value(row, id)
+    }
+
     /// The tables, to read. Each living entity stands in one row, in the table of its own ids, and no two tables have the
     /// same type. They keep fields of each id that is data.
     pub fn tables(&self) -> &Tables
-        ensures shown { IsShown self.now.entities result.now }
-        ensures kept { KeepData self.now.entities result.now }
-        ensures kinds { (n m : ℕ) (ids : List Ids) →
-            type_at result.now n ≡ Some ids → type_at result.now m ≡ Some ids → n ≡ m }
+        ensures { AreTablesOf self.now.entities result.now }
     {
         let tables = self.layout.archetypes.tables();
         tables.rows_have_ids();
@@ -294,6 +308,7 @@ impl Store {
             .room_for(&self.layout.entities, &type_list, 1)?;
         let row = self.layout.archetypes.tables().row_count(table);
         self.layout.archetypes.push_row(table, e);
+        // The handle is free, as was asked above, so that this can't be refused, with the row already there.
         self.layout.entities.make_alive(e)?;
         self.layout.entities.set_place(e, Place { table, row });
         Ok(())

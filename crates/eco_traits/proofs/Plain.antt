@@ -66,7 +66,8 @@ keeps_all w i none (x ∷ xs) = grind (arith, common_steps, keeps_all w i none x
 
 -- nothing stands against it
 pub alone_judged : (w : WorldState) (e : Entity) (i : Id) → list_any is_wrong_policy (i ∷ []) ≡ false
-    → list_any (is_late w e (i ∷ [])) (late_traits w.edition) ≡ false → ((r : Entity) → ClosesCycle w e (i ∷ []) r → ⊥) → has_clash (grown w e i (i ∷ [])) ≡ false → Judges w e (i ∷ []) (grown w e i (i ∷ [])) None
+    → list_any (is_late w e (i ∷ [])) (late_traits w.edition) ≡ false → ((r : Entity) → ClosesCycle w e (i ∷ []) r → ⊥)
+    → has_clash (grown w e i (i ∷ [])) ≡ false → Judges w e (i ∷ []) (grown w e i (i ∷ [])) None
 alone_judged w e i policy late open_end calm = judged_cycle w e (i ∷ []) (grown w e i (i ∷ [])) None false None policy late open_end calm refl
 
 -- no trait comes too late where none comes

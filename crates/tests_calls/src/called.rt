@@ -96,6 +96,18 @@ fn leads_to_both(alloc: Global) -> bool {
     }
 }
 
+// Two entities of a store, of which the second has the first as a tag: whether it alone holds the first, and nobody the second.
+fn one_holds(alloc: Global) -> Result<bool, Refusal> {
+    let mut store = Store::new(alloc, 16);
+    let nothing = TypeList::empty(alloc);
+    let tag = store.create(None, None, &nothing)?;
+    let tagged = nothing.with(Id::One(tag))?;
+    let holder = store.create(None, None, &tagged)?;
+    let holders = store.holders(tag)?;
+    let alone = holders.len() == 1 && holders[0] == holder;
+    Ok(alone && store.holders(holder)?.is_empty())
+}
+
 #[test]
 fn queries_are_shown_as_canonical_texts(rt: HostRuntime) {
     assert!(rt; are_shown(rt.alloc()));
@@ -112,4 +124,9 @@ fn tables_with_an_id_are_listed(rt: HostRuntime) {
 #[test]
 fn an_add_leads_to_what_with_brings_along(rt: HostRuntime) {
     assert!(rt; leads_to_both(rt.alloc()));
+}
+
+#[test]
+fn who_has_a_tag_holds_it(rt: HostRuntime) {
+    assert!(rt; one_holds(rt.alloc()) == Ok(true));
 }

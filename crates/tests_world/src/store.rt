@@ -64,7 +64,7 @@ fn found(store: &Store) -> Result<[usize; 4], AllocError> {
         others: &[Pattern::One(HOLDER)],
     };
     Ok([
-        store.tables_by(&pattern)?.slots.len(),
+        store.tables_with(pattern)?.slots.len(),
         store.entities_with(pattern)?.len(),
         store.types_with(pattern)?.len(),
         store.tables_by(&both)?.slots.len(),

@@ -1,14 +1,14 @@
 //! Entities, their tables and their types are found by tests of their ids.
-ghost use Rattle.std.specs.Prelude.{◌≡◌, ◌≢◌, ◌<◌, ◌↔◌, nat_eq, List, ℕ, length, map, Some, IsSome, IsTrue, IfOk, OnErr};
-ghost use Rattle.std.specs.List.{All, AllPairs, Contains, list_any, IsDistinct};
+ghost use Rattle.std.specs.Prelude.{◌≡◌, ◌≢◌, ◌<◌, ◌↔◌, List, length, map, IsSome, IsTrue, IfOk, OnErr};
+ghost use Rattle.std.specs.List.{All, AllPairs, Contains, list_any};
 ghost use Rattle.eco_ids.specs.Indices.{living};
+ghost use Rattle.eco_ids.specs.Matching.{pattern_matches};
 ghost use Rattle.eco_ids.specs.declared.id.Id.{Id as Ids};
 ghost use Rattle.eco_tables.specs.Tables.{slot_of, table_in};
-ghost use Rattle.eco_archetypes.specs.Archetypes.{type_at, is_found_by};
-ghost use Rattle.eco_store.specs.Holders.{passes, has_match, entities_with, is_holder};
+ghost use Rattle.eco_archetypes.specs.Archetypes.{IsAllFound};
+ghost use Rattle.eco_store.specs.Holders.{passes, has_match, entities_whose, entities_with, is_holder, holders};
 ghost use Rattle.eco_store.specs.Retyping.{IsTypeWith};
-ghost use Rattle.eco_store.specs.Lent.{KeepData};
-ghost use Rattle.eco_store.specs.Store.{IsShown};
+ghost use Rattle.eco_store.specs.Lent.{AreTablesOf};
 
 use crate::store::Store;
 use eco_archetypes::{Found, Naming, TypeTest, entities_in};
@@ -35,20 +35,27 @@ impl Store {
     /// The tables that have rows and a type that passes the test. Its time grows with the tables that the shortest group of
     /// the test's patterns finds. An `Err` comes where memory is refused, and never where no living entity's type passes.
     pub fn tables_by<T: TypeTest>(&self, test: &T) -> Result<Found<'_>, AllocError>
-        ensures shown { IfOk result (λ f. IsShown self.now.entities f.tables.now) }
-        ensures kept { IfOk result (λ f. KeepData self.now.entities f.tables.now) }
-        ensures listed { IfOk result (λ f. (n : ℕ) →
-            list_any (nat_eq n) f.slots.items ≡ is_found_by (T.test test.now) (slot_of f.tables.now n)) }
-        ensures distinct { IfOk result (λ f. IsDistinct nat_eq f.slots.items) }
+        ensures lent { IfOk result (λ f. AreTablesOf self.now.entities f.tables.now) }
+        ensures found { IfOk result (λ f. IsAllFound (T.test test.now) f.tables.now f.slots.items) }
         ensures some { OnErr result
             (IsTrue (list_any (λ p. passes (T.test test.now) p.1) (living self.now.entities))) }
-        ensures kinds { IfOk result (λ f. (n m : ℕ) (ids : List Ids) →
-            type_at f.tables.now n ≡ Some ids → type_at f.tables.now m ≡ Some ids → n ≡ m) }
     {
         let tables = self.layout.archetypes.tables();
         tables.rows_have_ids();
         let slots = self.layout.archetypes.tables_by(test)?;
         Ok(Found { tables, slots })
+    }
+
+    /// The tables that have rows and a type with an id that the pattern matches. An `Err` comes where memory is refused, and
+    /// never where no living entity has such an id.
+    pub fn tables_with(&self, pattern: Pattern) -> Result<Found<'_>, AllocError>
+        ensures lent { IfOk result (λ f. AreTablesOf self.now.entities f.tables.now) }
+        ensures found { IfOk result
+            (λ f. IsAllFound (list_any (pattern_matches pattern)) f.tables.now f.slots.items) }
+        ensures some { OnErr result
+            (IsTrue (list_any (λ p. has_match pattern p.1) (living self.now.entities))) }
+    {
+        self.tables_by(&pattern)
     }
 
     /// Whether some living entity has an id that names this one. Where none has, mostly the marks of the index tell so, and no
@@ -78,9 +85,27 @@ impl Store {
         ensures some { OnErr result
             (IsTrue (list_any (λ p. has_match pattern p.1) (living self.now.entities))) }
     {
+        self.entities_by(&pattern)
+    }
+
+    /// The living entities that have an id which names this one, ascending. Its time grows with how many they are, and with
+    /// the tables whose types name it. An `Err` comes where memory is refused, and never where nobody has such an id.
+    pub fn holders(&self, e: Entity) -> Result<Vec<Entity>, AllocError>
+        ensures all { IfOk result (λ v. v.items ≡ holders self.now.entities e) }
+        ensures some { OnErr result (IsTrue (list_any (λ p. is_holder e p.1) (living self.now.entities))) }
+    {
+        self.entities_by(&Naming { entity: e })
+    }
+
+    // The living entities whose types pass the test, ascending.
+    fn entities_by<T: TypeTest>(&self, test: &T) -> Result<Vec<Entity>, AllocError>
+        ensures all { IfOk result (λ v. v.items ≡ entities_whose self.now.entities (T.test test.now)) }
+        ensures some { OnErr result
+            (IsTrue (list_any (λ p. passes (T.test test.now) p.1) (living self.now.entities))) }
+    {
         eco_ids::order::handles_are_ordered();
         eco_ids::order::ascending_lists_are_sets();
-        let found = self.tables_by(&pattern)?;
+        let found = self.tables_by(test)?;
         entities_in(self.alloc, found.tables, &found.slots)
     }
 

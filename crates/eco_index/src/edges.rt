@@ -39,16 +39,17 @@ impl Edges {
     }
 
     /// The slot to which the id leads.
-    #[inline]
+    #[inline(always)]
     pub fn get(&self, slot: usize, id: Id) -> Option<usize>
         ensures { result ≡ edge (edge_lists self.now) slot id }
     {
         let own = self.lists.get(slot)?;
         if own.len() <= FEW_EDGES {
-            lead_among(own.as_slice(), id)
-        } else {
-            own.get(&id).copied()
+            return lead_among(own.as_slice(), id);
         }
+        // A copy of its own, since what is handed over stands in memory: so an id that is looked for among a few need not.
+        let wanted = id;
+        find_edge(own, wanted)
     }
 
     /// The id leads from either slot to the other from now on. An `Err` comes where memory is refused, and then no edge has
@@ -78,7 +79,16 @@ impl Edges {
     }
 }
 
-// Where the id leads, of these edges.
+// Where the id leads, of many edges. Apart, so that a few cost no more than a look at each.
+#[inline(never)]
+fn find_edge(edges: &IndexMap<Id, usize, Seed>, id: Id) -> Option<usize>
+    ensures { result ≡ get same_id edges.now id }
+{
+    edges.get(&id).copied()
+}
+
+// Where the id leads, of a few edges.
+#[inline(always)]
 fn lead_among(edges: Slice<'_, Id, usize>, id: Id) -> Option<usize>
     ensures { result ≡ lookup (same_id id) edges.entry }
 {

@@ -41,12 +41,14 @@ impl Stage {
     }
 
     /// The command comes last. Where no memory is left for it, it is handed back and the stage is as it was.
+    #[inline(always)]
     pub fn record(&mut self, command: Command) -> Result<(), Command>
         ensures ok { OnOk result (self.new ≡ self.old ++ command_of command ∷ []) }
         ensures back { IfErr result (λ refused. refused ≡ command) }
         ensures err { OnErr result (self.new ≡ self.old) }
     {
-        if self.commands.reserve(1).is_err() {
+        // Room is asked for only where there is none: to ask is a call.
+        if self.commands.len() == self.commands.capacity() && self.commands.reserve(1).is_err() {
             return Err(command);
         }
         self.commands.push_reserved(command);

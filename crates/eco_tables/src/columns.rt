@@ -167,7 +167,19 @@ pub fn push_zeros(columns: &mut [Column])
 }
 
 /// The row's values go, and the last row's take their place.
+#[inline(always)]
 pub fn swap_out_row(columns: &mut [Column], row: usize)
+    requires { All (λ c. row < length c.values) columns.old }
+    ensures { columns.new ≡ map (λ c. with_removed c row) columns.old }
+{
+    if !columns.is_empty() {
+        swap_out_each(columns, row);
+    }
+}
+
+// What `swap_out_row` does where there are columns, apart, so that rows without values cost no more than a look at them.
+#[inline(never)]
+fn swap_out_each(columns: &mut [Column], row: usize)
     requires { All (λ c. row < length c.values) columns.old }
     ensures { columns.new ≡ map (λ c. with_removed c row) columns.old }
 {
@@ -186,9 +198,24 @@ pub fn clear(columns: &mut [Column])
 }
 
 /// A place for one more row in each, with the values of a row elsewhere: zeros for an id that has no column there.
-///
-/// Both lists ascend by their ids, so the next column is mostly found beside the last one.
+#[inline(always)]
 pub fn push_from(columns: &mut [Column], source: &[Column], row: usize)
+    requires room { All (λ c. 0 < c.room) columns.old }
+    requires ascending { IsTrue (is_ascending id_cmp (map (λ c. c.id) source.now)) }
+    requires row { All (λ c. row < length c.values) source.now }
+    requires widths { ColumnsAgree columns.old source.now }
+    ensures { columns.new ≡ map (λ c. pushed c (value_in (held_in source.now row) c.id)) columns.old }
+{
+    if !columns.is_empty() {
+        push_each_from(columns, source, row);
+    }
+}
+
+// What `push_from` does where there are columns, apart, so that rows without values cost no more than a look at them.
+//
+// Both lists ascend by their ids, so the next column is mostly found beside the last one.
+#[inline(never)]
+fn push_each_from(columns: &mut [Column], source: &[Column], row: usize)
     requires room { All (λ c. 0 < c.room) columns.old }
     requires ascending { IsTrue (is_ascending id_cmp (map (λ c. c.id) source.now)) }
     requires row { All (λ c. row < length c.values) source.now }

@@ -248,6 +248,7 @@ impl Table {
 
     /// A row for the entity, with the values of a row elsewhere: of ids that both types have, which are as wide in both; new
     /// ids hold zeros.
+    #[inline(always)]
     pub fn push_row_from(&mut self, source: &Table, row: usize)
         requires room { 0 < self.old.room }
         requires row { row < length source.now.rows }
@@ -343,6 +344,7 @@ impl Table {
 
     /// Takes a row out, into whose place the last row goes; the room of one row is won. The answer is the entity that
     /// stands in the row's place now: none where the row was the last.
+    #[inline(always)]
     pub fn swap_out(&mut self, row: usize) -> Option<Entity>
         requires { row < length self.old.rows }
         ensures rows { self.new ≡ without_row self.old row }

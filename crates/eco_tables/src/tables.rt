@@ -312,6 +312,7 @@ fn is_rowless(table: &Table) -> bool
 }
 
 // What `move_row` does to the slots.
+#[inline(always)]
 fn move_in(slots: &mut [Option<Table>], from: usize, row: usize, to: usize) -> Option<Entity>
     requires apart { from ≢ to }
     requires row { row < length (table_in slots.old from).rows }
@@ -331,6 +332,7 @@ fn move_in(slots: &mut [Option<Table>], from: usize, row: usize, to: usize) -> O
 }
 
 // A row goes from the table of one slot to that of another.
+#[inline(always)]
 fn move_between(
     source: &mut Option<Table>,
     row: usize,

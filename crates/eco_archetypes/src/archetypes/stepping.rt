@@ -56,6 +56,7 @@ impl Archetypes {
     }
 
     // The slot to which an edge leads, if one is stored.
+    #[inline(always)]
     pub(super) fn lead(&self, slot: usize, id: Id) -> Option<usize>
         ensures there { IfSome result (λ n. IsSome (slot_of self.now n)) }
         ensures apart { IfSome result (λ n. slot ≢ n) }

@@ -1,6 +1,6 @@
 use Rattle.std.proofs.Common.{◌≡◌, ◌++◌, map, take, drop}
 use Rattle.eco_tables.specs.Column.{pushed, value_in, held_in}
-use Rattle.eco_tables.proofs.columns.push_from.Given as goal
+use Rattle.eco_tables.proofs.columns.push_each_from.Given as goal
 
 abbrev pub invariant-loop-column : goal.invariant-loop-column
 invariant-loop-column l = l.columns ≡ map (λ c. pushed c (value_in (held_in l.source l.row) c.id))

@@ -2,8 +2,8 @@ use Rattle.std.proofs.Common.{◌<◌, arith, ap, sym, ◌∙◌, get_or, length
 use Rattle.eco_ids.specs.World.{zeros}
 use Rattle.eco_tables.specs.Column.{ColumnState, pushed, value_in, held_in}
 use Rattle.eco_tables.proofs.Held.{find-absent, found_at, mapped_all, mapped_more, not_yet, place_id, place_within}
-use Rattle.eco_tables.proofs.columns.push_from.Goals.{in-Some, in-None}
-use Rattle.eco_tables.proofs.columns.push_from.Goals as goal
+use Rattle.eco_tables.proofs.columns.push_each_from.Goals.{in-Some, in-None}
+use Rattle.eco_tables.proofs.columns.push_each_from.Goals as goal
 
 pub find_near-requires : goal.find_near-requires
 find_near-requires c = c.requires.ascending

@@ -1,7 +1,7 @@
 use Rattle.std.proofs.Common.{◌<◌, arith, get_or, length, refl}
 use Rattle.eco_tables.specs.Column.{ColumnState, with_removed}
 use Rattle.eco_tables.proofs.Held.{mapped_all, mapped_more, not_yet}
-use Rattle.eco_tables.proofs.columns.swap_out_row.Goals as goal
+use Rattle.eco_tables.proofs.columns.swap_out_each.Goals as goal
 
 pub swap_out-requires : goal.swap_out-requires
 swap_out-requires c =

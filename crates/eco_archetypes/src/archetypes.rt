@@ -17,7 +17,7 @@ ghost use Rattle.eco_archetypes.specs.Widths.{FitsIn, KeepsWidths, StillCover};
 
 use eco_entities::EntityIndex;
 use eco_ids::{Entity, Id, TypeList, Value};
-use eco_index::{Caches, Edges, IdIndex, TypeMap};
+use eco_index::{Caches, Edges, IdIndex, Seed, TypeMap};
 use eco_tables::Tables;
 use std::alloc::{AllocError, Global};
 use std::marker::Model;
@@ -35,6 +35,7 @@ mod widths;
 /// A contract sees the tables in their slots. No two tables have the same type.
 pub struct Archetypes {
     alloc: Global,
+    seed: Seed,
     tables: Tables,
     by_type: TypeMap,
     // The slot of the type that was asked for last.
@@ -49,6 +50,7 @@ impl Drop for Archetypes {
     fn drop(self) {
         let Archetypes {
             alloc: _,
+            seed: _,
             tables: _,
             by_type: _,
             last: _,
@@ -74,17 +76,18 @@ impl Model for Archetypes {
 }
 
 impl Archetypes {
-    /// No table.
-    pub fn new(alloc: Global) -> Archetypes
+    /// No table. What tables are found by is hashed with this seed.
+    pub fn new(alloc: Global, seed: Seed) -> Archetypes
         ensures { (n : ℕ) → slot_of result n ≡ None }
     {
         Archetypes {
             alloc,
+            seed,
             tables: Tables::new(alloc),
-            by_type: TypeMap::new(alloc),
+            by_type: TypeMap::new(alloc, seed),
             last: 0,
-            by_id: IdIndex::new(alloc),
-            edges: Edges::new(alloc),
+            by_id: IdIndex::new(alloc, seed),
+            edges: Edges::new(alloc, seed),
             caches: Caches::new(alloc),
         }
     }

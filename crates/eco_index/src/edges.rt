@@ -6,6 +6,7 @@ ghost use Rattle.eco_ids.specs.declared.id.Id.{Id as Ids};
 ghost use Rattle.eco_index.specs.Sweeping.{has_table, kept_if, KeepsEdges};
 ghost use Rattle.eco_index.specs.Edges.{edge, same_id, IsTwofold, SameEdges, Puts, Links, TakesBack, Cuts};
 
+use crate::seed::Seed;
 use eco_ids::Id;
 use eco_tables::Tables;
 use indexmap::IndexMap;
@@ -21,19 +22,21 @@ const FEW_EDGES: usize = 4;
 #[derive(Drop)]
 pub struct Edges {
     alloc: Global,
-    lists: Vec<IndexMap<Id, usize>>,
+    seed: Seed,
+    lists: Vec<IndexMap<Id, usize, Seed>>,
     ghost twofold: { IsTwofold lists.items },
 }
 
 impl Edges {
     ghost use Rattle.eco_index.specs.Contents.{edge_lists};
 
-    /// No edge.
-    pub fn new(alloc: Global) -> Edges
+    /// No edge. Ids are hashed with this seed.
+    pub fn new(alloc: Global, seed: Seed) -> Edges
         ensures { (n : ℕ) (j : Ids) → edge (edge_lists result) n j ≡ None }
     {
         Edges {
             alloc,
+            seed,
             lists: Vec::new(alloc),
         }
     }
@@ -61,7 +64,7 @@ impl Edges {
         ensures ok { OnOk result (Links (edge_lists self.old) (edge_lists self.new) from id to) }
         ensures err { OnErr result (SameEdges (edge_lists self.old) (edge_lists self.new)) }
     {
-        link_both(self.alloc, &mut self.lists, from, id, to)
+        link_both(self.alloc, self.seed, &mut self.lists, from, id, to)
     }
 
     /// The edges from slots without a table, and to such slots, go. It takes no memory.
@@ -75,7 +78,7 @@ impl Edges {
     pub fn cut(&mut self, slot: usize)
         ensures { Cuts (edge_lists self.old) (edge_lists self.new) slot }
     {
-        cut_all(self.alloc, &mut self.lists, slot);
+        cut_all(self.alloc, self.seed, &mut self.lists, slot);
     }
 }
 
@@ -102,20 +105,25 @@ fn lead_among(edges: Slice<'_, Id, usize>, id: Id) -> Option<usize>
 }
 
 // A list of edges for each slot below. An `Err` may leave some of them.
-fn cover(alloc: Global, lists: &mut Vec<IndexMap<Id, usize>>, len: usize) -> Result<(), AllocError>
+fn cover(
+    alloc: Global,
+    seed: Seed,
+    lists: &mut Vec<IndexMap<Id, usize, Seed>>,
+    len: usize,
+) -> Result<(), AllocError>
     ensures same { SameEdges lists.old.items lists.new.items }
     ensures enough { OnOk result (len ≤ length lists.new.items) }
     ensures kept { length lists.old.items ≤ length lists.new.items }
 {
     while lists.len() < len {
-        lists.push(IndexMap::new(alloc))?;
+        lists.push(IndexMap::with_hasher(alloc, seed))?;
     }
     Ok(())
 }
 
 // The id leads from the slot to another from now on.
 fn put(
-    lists: &mut Vec<IndexMap<Id, usize>>,
+    lists: &mut Vec<IndexMap<Id, usize, Seed>>,
     slot: usize,
     id: Id,
     to: usize,
@@ -130,7 +138,7 @@ fn put(
 }
 
 // The id leads nowhere from the slot. It takes no memory.
-fn take(lists: &mut Vec<IndexMap<Id, usize>>, slot: usize, id: Id)
+fn take(lists: &mut Vec<IndexMap<Id, usize, Seed>>, slot: usize, id: Id)
     ensures taken { Puts lists.old.items lists.new.items slot id None }
     ensures len { length lists.new.items ≡ length lists.old.items }
 {
@@ -142,7 +150,8 @@ fn take(lists: &mut Vec<IndexMap<Id, usize>>, slot: usize, id: Id)
 // The id leads from either slot to the other. An `Err` changes no edge.
 fn link_both(
     alloc: Global,
-    lists: &mut Vec<IndexMap<Id, usize>>,
+    seed: Seed,
+    lists: &mut Vec<IndexMap<Id, usize, Seed>>,
     from: usize,
     id: Id,
     to: usize,
@@ -154,7 +163,7 @@ fn link_both(
     let Some(len) = from.max(to).checked_add(1) else {
         return Err(AllocError);
     };
-    cover(alloc, lists, len)?;
+    cover(alloc, seed, lists, len)?;
     put(lists, from, id, to)?;
     match put(lists, to, id, from) {
         Ok(()) => Ok(()),
@@ -166,7 +175,7 @@ fn link_both(
 }
 
 // Each of these edges of a slot has no edge back any more. It takes no memory.
-fn take_back(lists: &mut Vec<IndexMap<Id, usize>>, own: &mut IndexMap<Id, usize>)
+fn take_back(lists: &mut Vec<IndexMap<Id, usize, Seed>>, own: &mut IndexMap<Id, usize, Seed>)
     ensures taken { TakesBack own.old lists.old.items lists.new.items }
     ensures len { length lists.new.items ≡ length lists.old.items }
     ensures none { own.new.entries ≡ [] }
@@ -177,7 +186,12 @@ fn take_back(lists: &mut Vec<IndexMap<Id, usize>>, own: &mut IndexMap<Id, usize>
 }
 
 // No edge leads from the slot or to it. It takes no memory.
-fn cut_all(alloc: Global, lists: &mut Vec<IndexMap<Id, usize>>, slot: usize)
+fn cut_all(
+    alloc: Global,
+    seed: Seed,
+    lists: &mut Vec<IndexMap<Id, usize, Seed>>,
+    slot: usize,
+)
     requires { IsTwofold lists.old.items }
     ensures { Cuts lists.old.items lists.new.items slot }
 {
@@ -186,7 +200,7 @@ fn cut_all(alloc: Global, lists: &mut Vec<IndexMap<Id, usize>>, slot: usize)
             // Each edge leads back, so none leads here either.
             return;
         }
-        let mut own = mem::replace(&mut lists[slot], IndexMap::new(alloc));
+        let mut own = mem::replace(&mut lists[slot], IndexMap::with_hasher(alloc, seed));
         take_back(lists, &mut own);
         // Its room serves the edges of the next table in the slot.
         lists[slot] = own;
@@ -194,7 +208,7 @@ fn cut_all(alloc: Global, lists: &mut Vec<IndexMap<Id, usize>>, slot: usize)
 }
 
 // Of each list the edges between slots that have tables stay.
-fn keep_in_each(lists: &mut Vec<IndexMap<Id, usize>>, tables: &Tables)
+fn keep_in_each(lists: &mut Vec<IndexMap<Id, usize, Seed>>, tables: &Tables)
     ensures { KeepsEdges (has_table tables.now) lists.old.items lists.new.items }
 {
     for slot in 0..lists.len() {
@@ -203,7 +217,7 @@ fn keep_in_each(lists: &mut Vec<IndexMap<Id, usize>>, tables: &Tables)
 }
 
 // Of the edges of a slot those stay that lead to a table, where the slot has one.
-fn keep_own(own: &mut IndexMap<Id, usize>, slot: usize, tables: &Tables)
+fn keep_own(own: &mut IndexMap<Id, usize, Seed>, slot: usize, tables: &Tables)
     ensures { (i : Ids) → get same_id own.new i
         ≡ cond (has_table tables.now slot) (kept_if (has_table tables.now) (get same_id own.old i)) None }
 {

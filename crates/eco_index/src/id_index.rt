@@ -15,6 +15,7 @@ ghost use Rattle.eco_index.specs.IdIndex.{has_key, has_one, is_listed, keys_of, 
 use crate::id_index::key::Key;
 use crate::id_index::marks::Marks;
 use crate::id_index::slots::Slots;
+use crate::seed::Seed;
 use eco_ids::{Entity, Id, Part, Pattern};
 use indexmap::IndexMap;
 use std::alloc::{AllocError, Global};
@@ -33,7 +34,7 @@ mod turning;
 /// grow with the ids that types had once.
 #[derive(Drop)]
 pub struct IdIndex {
-    slots: IndexMap<Key, Slots>,
+    slots: IndexMap<Key, Slots, Seed>,
     marks: Marks,
     ghost full: { KeepsNoEmpty slots },
     ghost marked: { AreMarked marks slots },
@@ -42,12 +43,12 @@ pub struct IdIndex {
 impl IdIndex {
     ghost use Rattle.eco_index.specs.Contents.{lists_in};
 
-    /// No slot is listed.
-    pub fn new(alloc: Global) -> IdIndex
+    /// No slot is listed. Keys are hashed with this seed.
+    pub fn new(alloc: Global, seed: Seed) -> IdIndex
         ensures { ListsNone (lists_in result) }
     {
         IdIndex {
-            slots: IndexMap::new(alloc),
+            slots: IndexMap::with_hasher(alloc, seed),
             marks: Marks::new(alloc),
         }
     }

@@ -11,11 +11,13 @@ mod cache;
 mod caches;
 mod edges;
 mod id_index;
+mod seed;
 mod type_map;
 mod type_test;
 
 pub use caches::Caches;
 pub use edges::Edges;
 pub use id_index::IdIndex;
+pub use seed::Seed;
 pub use type_map::TypeMap;
 pub use type_test::{AllOf, Naming, TypeTest};

@@ -6,6 +6,7 @@ ghost use Rattle.eco_index.specs.Sweeping.{has_table, kept_if};
 ghost use Rattle.eco_ids.specs.Order.{id_cmp, has_item};
 ghost use Rattle.eco_index.specs.TypeMap.{LeadAlike, LeadsAlone, LeadsGrown, TakesGrown, same_ids};
 
+use crate::seed::Seed;
 use eco_ids::{Id, TypeList};
 use eco_tables::Tables;
 use indexmap::IndexMap;
@@ -14,7 +15,7 @@ use std::alloc::{AllocError, Global};
 /// From a type to a slot. No model: contracts see the map, as `slots_by_type`.
 #[derive(Drop)]
 pub struct TypeMap {
-    slots: IndexMap<TypeList, usize>,
+    slots: IndexMap<TypeList, usize, Seed>,
     // Where the type of each slot may stand that was to change. A wrong place costs a search, and never an answer.
     places: Vec<usize>,
 }
@@ -22,22 +23,22 @@ pub struct TypeMap {
 impl TypeMap {
     ghost use Rattle.eco_index.specs.Contents.{slots_by_type};
 
-    /// No type.
-    pub fn new(alloc: Global) -> TypeMap
+    /// No type. Types are hashed with this seed.
+    pub fn new(alloc: Global, seed: Seed) -> TypeMap
         ensures { IsEmpty (slots_by_type result) }
     {
         TypeMap {
-            slots: IndexMap::new(alloc),
+            slots: IndexMap::with_hasher(alloc, seed),
             places: Vec::new(alloc),
         }
     }
 
-    /// No type, with room for so many.
-    pub fn with_capacity(alloc: Global, count: usize) -> Result<TypeMap, AllocError>
+    /// No type, with room for so many. Types are hashed with this seed.
+    pub fn with_capacity(alloc: Global, count: usize, seed: Seed) -> Result<TypeMap, AllocError>
         ensures { IfOk result (λ t. IsEmpty (slots_by_type t)) }
     {
         Ok(TypeMap {
-            slots: IndexMap::with_capacity(alloc, count)?,
+            slots: IndexMap::with_capacity_and_hasher(alloc, count, seed)?,
             places: Vec::new(alloc),
         })
     }

@@ -24,7 +24,7 @@ mod transfer;
 mod type_change;
 mod walking;
 
-pub use eco_archetypes::{AllOf, Archetypes, Found, Naming, TypeTest};
+pub use eco_archetypes::{AllOf, Archetypes, Found, Naming, Seed, TypeTest};
 pub use eco_tables::{Table, Tables};
 pub use moving::Move;
 pub use places::Places;

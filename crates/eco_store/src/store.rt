@@ -14,7 +14,7 @@ ghost use Rattle.eco_store.specs.Lent.{AreTablesOf, KeepsData};
 
 use crate::layout::Layout;
 use crate::staying::Staying;
-use eco_archetypes::Archetypes;
+use eco_archetypes::{Archetypes, Seed};
 use eco_entities::laws::needs_never_grow;
 use eco_entities::{EntityIndex, Place};
 use eco_ids::{Entity, Id, Refusal, TypeList, Value};
@@ -73,8 +73,8 @@ fn check_new(entities: &EntityIndex, name: Option<&str>) -> Result<(), Refusal>
 }
 
 impl Store {
-    /// No index is known. Indices lie below the limit.
-    pub fn new(alloc: Global, limit: u32) -> Store
+    /// No index is known. Indices lie below the limit. What tables are found by is hashed with the seed.
+    pub fn new(alloc: Global, limit: u32, seed: Seed) -> Store
         requires { limit ≤ 1048576 }
         ensures { result ≡ record { entities = record { limit = limit; indices = [] } } }
     {
@@ -82,7 +82,7 @@ impl Store {
             alloc,
             layout: Layout {
                 entities: EntityIndex::new(alloc, limit),
-                archetypes: Archetypes::new(alloc),
+                archetypes: Archetypes::new(alloc, seed),
                 staying: Staying::new(alloc),
             },
         }

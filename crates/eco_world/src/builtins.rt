@@ -7,7 +7,7 @@ ghost use Rattle.eco_world.specs.Builtins.{first_entities, builtin_name, builtin
 
 use eco_ids::entity::{ACYCLIC, DELETE, EXCLUSIVE, ON_DELETE_TARGET};
 use eco_ids::{Id, Refusal, TypeList};
-use eco_store::Store;
+use eco_store::{Seed, Store};
 use std::alloc::{AllocError, Global};
 
 // The name of the built-in at this index.
@@ -63,14 +63,19 @@ fn builtin_type(alloc: Global, number: u32) -> Result<TypeList, AllocError>
 }
 
 /// A store in which the first built-ins live with their names and ids, so many of them, and nobody else.
-pub(crate) fn builtin_store(alloc: Global, count: u32, limit: u32) -> Result<Store, Refusal>
+pub(crate) fn builtin_store(
+    alloc: Global,
+    count: u32,
+    limit: u32,
+    seed: Seed,
+) -> Result<Store, Refusal>
     requires few { count ≤ 10 }
     requires at_least { count ≤ limit }
     requires at_most { limit ≤ 1048576 }
     ensures ok { IfOk result (λ store. store.entities ≡ first_entities limit count) }
     ensures err { IfErr result (λ why. why ≡ OutOfMemory) }
 {
-    let mut store = Store::new(alloc, limit);
+    let mut store = Store::new(alloc, limit, seed);
     for number in 0..count {
         let type_list = builtin_type(alloc, number)?;
         store.create(Some(builtin_name(number)), None, &type_list)?;

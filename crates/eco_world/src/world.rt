@@ -22,7 +22,7 @@ use crate::kept_query::KeptQuery;
 use crate::world::changes::is_zero_past;
 use eco_grammar::Names;
 use eco_ids::{Edition, Entity, Id, Pattern, Refusal, TypeList, Value};
-use eco_store::{Store, Table};
+use eco_store::{Seed, Store, Table};
 use std::alloc::{AllocError, Global};
 use std::marker::Model;
 
@@ -103,8 +103,27 @@ impl World {
         ensures ok { IfOk result (λ world. world ≡ world_of_edition edition limit) }
         ensures err { IfErr result (λ why. why ≡ OutOfMemory) }
     {
+        World::seeded(alloc, edition, limit, 0)
+    }
+
+    /// A world of an edition, as [`of_edition`](World::of_edition) makes it. What tables are found by is hashed with the
+    /// seed, and no answer depends on it. Whoever lets others choose what to relate, as a server does, takes it from a source
+    /// that these don't know, such as the system's random bytes: then they can't choose pairs whose keys collide.
+    ///
+    /// Refused with `OutOfMemory` alone.
+    pub fn seeded(
+        alloc: Global,
+        edition: Edition,
+        limit: u32,
+        seed: u64,
+    ) -> Result<World, Refusal>
+        requires at_least { builtin_count edition ≤ limit }
+        requires at_most { limit ≤ 1048576 }
+        ensures ok { IfOk result (λ world. world ≡ world_of_edition edition limit) }
+        ensures err { IfErr result (λ why. why ≡ OutOfMemory) }
+    {
         eco_ids::laws::first_world_is_lawful();
-        let store = builtin_store(alloc, edition.builtin_count(), limit)?;
+        let store = builtin_store(alloc, edition.builtin_count(), limit, Seed::new(seed))?;
         Ok(World {
             alloc,
             edition,

@@ -1,7 +1,7 @@
 //! Calls that may want memory and that no step of a script makes: each answers what its row says, where there is enough.
 use eco_ids::entity::{EXCLUSIVE, PANIC, WITH};
 use eco_ids::{Entity, Id, Part, Pattern, Refusal, TypeList};
-use eco_store::Store;
+use eco_store::{Seed, Store};
 use eco_traits::{Target, target_type};
 use eco_world::World;
 use std::alloc::Global;
@@ -98,7 +98,7 @@ fn leads_to_both(alloc: Global) -> bool {
 
 // Two entities of a store, of which the second has the first as a tag: whether it alone holds the first, and nobody the second.
 fn one_holds(alloc: Global) -> Result<bool, Refusal> {
-    let mut store = Store::new(alloc, 16);
+    let mut store = Store::new(alloc, 16, Seed::new(0));
     let nothing = TypeList::empty(alloc);
     let tag = store.create(None, None, &nothing)?;
     let tagged = nothing.with(Id::One(tag))?;

@@ -1,6 +1,6 @@
 //! Each call of a store that may want memory and that a world does not make.
 use eco_ids::{Entity, Id, Pattern, Refusal, TypeList};
-use eco_store::{AllOf, Move, Store};
+use eco_store::{AllOf, Move, Seed, Store};
 use std::alloc::{AllocError, Global};
 
 const TAG: Entity = Entity {
@@ -88,7 +88,7 @@ fn used(alloc: Global, store: &mut Store) -> Result<([usize; 2], [usize; 4], [us
 
 // Whether all is made and found in a new store.
 fn is_used(alloc: Global) -> bool {
-    used(alloc, &mut Store::new(alloc, 16)) == Ok(([1, 2], [1, 1, 1, 1], [1, 1, 1, 0]))
+    used(alloc, &mut Store::new(alloc, 16, Seed::new(0))) == Ok(([1, 2], [1, 1, 1, 1], [1, 1, 1, 0]))
 }
 
 #[test]

@@ -21,17 +21,18 @@ impl Archetypes {
         ensures { IfOk result (λ a. AreCopies self.now a) }
     {
         let tables = self.tables.try_copy()?;
-        let mut by_type = TypeMap::with_capacity(self.alloc, tables.slot_count())?;
+        let mut by_type = TypeMap::with_capacity(self.alloc, tables.slot_count(), self.seed)?;
         list_all(&tables, &mut by_type)?;
         let by_id = self.by_id.try_copy(self.alloc)?;
         let caches = self.caches.try_copy(self.alloc)?;
         Ok(Archetypes {
             alloc: self.alloc,
+            seed: self.seed,
             tables,
             by_type,
             last: self.last,
             by_id,
-            edges: Edges::new(self.alloc),
+            edges: Edges::new(self.alloc, self.seed),
             caches,
         })
     }

@@ -7,6 +7,7 @@ use crate::id_index::IdIndex;
 use crate::id_index::key::Key;
 use crate::id_index::marks::Marks;
 use crate::id_index::slots::Slots;
+use crate::seed::Seed;
 use indexmap::IndexMap;
 use std::alloc::{AllocError, Global};
 
@@ -35,7 +36,7 @@ impl IdIndex {
 }
 
 // Marks for the keys that are kept, and not for those that went.
-fn marks_of(alloc: Global, slots: &IndexMap<Key, Slots>) -> Result<Marks, AllocError>
+fn marks_of(alloc: Global, slots: &IndexMap<Key, Slots, Seed>) -> Result<Marks, AllocError>
     ensures { IfOk result (λ marks. AreMarked marks slots.now) }
 {
     let mut marks = Marks::new(alloc);

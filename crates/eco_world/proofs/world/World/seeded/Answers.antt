@@ -3,7 +3,7 @@ use Rattle.eco_ids.specs.Lawful.{IsLawful}
 use Rattle.eco_world.specs.Builtins.{first_entities}
 use Rattle.eco_world.specs.Worlds.{asked_by, world_with}
 use Rattle.eco_world.proofs.Starting.{all_builtins}
-use Rattle.eco_world.proofs.world.World.of_edition.Goals as goal
+use Rattle.eco_world.proofs.world.World.seeded.Goals as goal
 
 pub invariant_of-result : goal.invariant_of-result
 invariant_of-result c =

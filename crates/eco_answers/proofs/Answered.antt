@@ -22,11 +22,11 @@ use Rattle.eco_tables.specs.Table.{TableState}
 use Rattle.eco_tables.specs.Tables.{table_in}
 use Rattle.eco_store.specs.Holders.{entities_whose, passes}
 use Rattle.eco_store.specs.Ranking.{StandsIn}
-use Rattle.eco_store.specs.Store.{record_ids, type_of}
+use Rattle.eco_store.specs.Store.{record_ids, type_in_store}
 use Rattle.eco_store.specs.declared.standing.Standing.{Standing}
 use Rattle.eco_answers.specs.Answers.{asked, asks}
 use Rattle.eco_answers.specs.Blocks.{results, results_at}
-use Rattle.eco_answers.specs.Fixed.{Fits}
+use Rattle.eco_answers.specs.Fixed.{FitsQuery}
 use Rattle.eco_store.specs.Worlds.{world_of}
 
 -- ---- which ids have a choice
@@ -120,7 +120,7 @@ listed_passes t (p ∷ ps) h = by (listed_passes t ps) (t p) h
 
 -- the ids of an entity; none, where it isn't living
 abbrev own_ids : Indexed Record → Entity → List Id
-own_ids w e = unwrap_or (type_of w e) []
+own_ids w e = unwrap_or (type_in_store w e) []
 
 by_entity : (w : Indexed Record) (tables : List (Option TableState)) (ns : List ℕ) (terms : List QueryTerm) (ss : List Standing)
     → AllByRecursion (StandsIn w tables ns) ss
@@ -192,20 +192,20 @@ filtered_pass t (p ∷ ps) = by (t p) refl (filtered_pass t ps)
 each_fits : (w : Indexed Record) (tables : List (Option TableState)) (ns : List ℕ) (q : List QuerySlot) (ss : List Standing) (ps : List Kept)
     → map (λ (s : Standing). s.entity) ss ≡ map (λ (p : Kept). p.0) ps → AllByRecursion (StandsIn w tables ns) ss
     → AllByRecursion (λ (p : Kept). record_of w p.0 ≡ Some p.1) ps → AllByRecursion (λ (p : Kept). IsTrue (passing q p)) ps
-    → AllByRecursion (Fits tables ns q) ss
+    → AllByRecursion (FitsQuery tables ns q) ss
 each_fits w tables ns q [] ps same right kept pass = tt
 each_fits w tables ns q (s ∷ ss) [] same right kept pass = absurd (omega (arith, ap length same))
 each_fits w tables ns q (s ∷ ss) (p ∷ ps) same right kept pass =
     let own : s.entity ≡ p.0 = ap (λ es. get_or es 0 p.0) same in
     let ids : (table_in tables (slice_index_or ns s.place 0)).ids ≡ record_ids p.1 =
-    ap (λ o. unwrap_or o []) (sym right.0.1 ∙ ap (type_of w) own ∙ ap (option_map record_ids) kept.0) in
+    ap (λ o. unwrap_or o []) (sym right.0.1 ∙ ap (type_in_store w) own ∙ ap (option_map record_ids) kept.0) in
     (ap (λ is. matches_type is q) ids ∙ pass.0, each_fits w tables ns q ss ps (ap (drop 1) same) right.1 kept.1 pass.1)
 
 -- all who pass stand in tables whose types fulfil the query
 pub all_fit : (w : Indexed Record) (tables : List (Option TableState)) (ns : List ℕ) (q : List QuerySlot) (ss : List Standing)
-    → map (λ (s : Standing). s.entity) ss ≡ entities_whose w (λ ids. matches_type ids q) → All (StandsIn w tables ns) ss → All (Fits tables ns q) ss
+    → map (λ (s : Standing). s.entity) ss ≡ entities_whose w (λ ids. matches_type ids q) → All (StandsIn w tables ns) ss → All (FitsQuery tables ns q) ss
 all_fit w tables ns q ss are right =
-    All-from_recursion (Fits tables ns q) ss
+    All-from_recursion (FitsQuery tables ns q) ss
     (each_fits w tables ns q ss (filter (passing q) (living w)) are (recursion_from_All (StandsIn w tables ns) ss right)
     (all_filtered (λ (p : Kept). record_of w p.0 ≡ Some p.1) (passing q) (living w) (all_kept w)) (filtered_pass (passing q) (living w)))
 

@@ -22,32 +22,32 @@ use Rattle.eco_store.specs.declared.standing.Standing.{Standing}
 use Rattle.eco_entries.specs.Flat.{IsEven}
 use Rattle.eco_answers.specs.declared.blocks.Block.{Block}
 use Rattle.eco_answers.specs.declared.blocks.Blocks.{Blocks}
-use Rattle.eco_answers.specs.Blocks.{AreBlocks, IsBlock, block_at, rows_in, rows_from, results, results_at, rows_of, shown}
+use Rattle.eco_answers.specs.Blocks.{AreBlocks, IsBlock, block_at, standings_in, standings_from, results, results_at, standings_of, shown}
 
-rows_more : (e : Entity) (first n : ℕ) → rows_from e first (suc n) ≡ rows_from e first n ++ record { entity = e; place = first + n } ∷ []
+rows_more : (e : Entity) (first n : ℕ) → standings_from e first (suc n) ≡ standings_from e first n ++ record { entity = e; place = first + n } ∷ []
 rows_more e first zero = let k : first ≡ first + 0 = omega arith in ap (λ j. record { entity = e; place = j } ∷ []) k
 rows_more e first (suc n) =
     let k : suc first + n ≡ first + suc n = omega arith in
     ap (λ zs. record { entity = e; place = first } ∷ zs) (rows_more e (suc first) n)
-    ∙ ap (λ j. record { entity = e; place = first } ∷ (rows_from e (suc first) n ++ record { entity = e; place = j } ∷ [])) k
+    ∙ ap (λ j. record { entity = e; place = first } ∷ (standings_from e (suc first) n ++ record { entity = e; place = j } ∷ [])) k
 
 -- one more choice has its row
-pub rows_step : (e : Entity) (first at : ℕ) (old rows more : List Standing) → first ≤ at → rows ≡ old ++ rows_from e first (at - first)
+pub rows_step : (e : Entity) (first at : ℕ) (old rows more : List Standing) → first ≤ at → rows ≡ old ++ standings_from e first (at - first)
     → more ≡ rows ++ record { entity = e; place = at } ∷ [] →
-    more ≡ old ++ rows_from e first (at + 1 - first)
+    more ≡ old ++ standings_from e first (at + 1 - first)
 rows_step e first at old rows more low so_far pushed =
     let n : ℕ = at - first in
     let k : first + n ≡ at = omega (arith, low) in
     let m : suc n ≡ at + 1 - first = omega (arith, low) in
     pushed ∙ ap (λ zs. zs ++ record { entity = e; place = at } ∷ []) so_far
-    ∙ append_assoc old (rows_from e first n) (record { entity = e; place = at } ∷ [])
-    ∙ ap (λ j. old ++ (rows_from e first n ++ record { entity = e; place = j } ∷ [])) (sym k)
+    ∙ append_assoc old (standings_from e first n) (record { entity = e; place = at } ∷ [])
+    ∙ ap (λ j. old ++ (standings_from e first n ++ record { entity = e; place = j } ∷ [])) (sym k)
     ∙ ap (λ zs. old ++ zs) (sym (rows_more e first n))
-    ∙ ap (λ j. old ++ rows_from e first j) m
+    ∙ ap (λ j. old ++ standings_from e first j) m
 
 -- the rows of a block show its choices
 pub rows_show : (all : List (List (Option Id))) (e : Entity) (first n : ℕ) → first + n ≤ length all →
-    map (shown all) (rows_from e first n) ≡ map (λ es. record { entity = e; entries = es }) (take n (drop first all))
+    map (shown all) (standings_from e first n) ≡ map (λ es. record { entity = e; entries = es }) (take n (drop first all))
 rows_show all e first zero within = refl
 rows_show all e first (suc n) within =
     ap (λ zs. shown all (record { entity = e; place = first }) ∷ zs) (rows_show all e (suc first) n (omega (arith, within)))
@@ -57,7 +57,7 @@ rows_show all e first (suc n) within =
 
 -- the rows of a block show the results of an entity with the ids whose choices it has
 block_shows : (all : List (List (Option Id))) (e : Entity) (b : Block) (ids : List Id) (terms : List QueryTerm) → IsBlock all (answers.choices ids terms) b →
-    map (shown all) (rows_in b e) ≡ results e ids terms
+    map (shown all) (standings_in b e) ≡ results e ids terms
 block_shows all e b ids terms is =
     rows_show all e b.first (b.end - b.first) (let r = is.rises in let w = is.within in omega (arith, r, w))
     ∙ ap (map (λ es. record { entity = e; entries = es })) is.are
@@ -65,13 +65,13 @@ block_shows all e b ids terms is =
 -- where all stand at places of blocks, the rows show the results
 pub rows_shown : (tables : List (Option TableState)) (ns : List ℕ) (terms : List QueryTerm) (b : Blocks) → AreBlocks tables ns terms b →
     (ss : List Standing) → AllByRecursion (λ (s : Standing). s.place < length ns) ss →
-    map (shown b.choices.all) (rows_of b.list.items ss) ≡ results_at tables ns terms ss
+    map (shown b.choices.all) (standings_of b.list.items ss) ≡ results_at tables ns terms ss
 rows_shown tables ns terms b are [] within = refl
 rows_shown tables ns terms b are (s ∷ ss) within =
     let all = b.choices.all in
     let block = block_at b.list.items s.place in
-    map-append (shown all) (rows_in block s.entity) (rows_of b.list.items ss)
-    ∙ ap (λ zs. zs ++ map (shown all) (rows_of b.list.items ss))
+    map-append (shown all) (standings_in block s.entity) (standings_of b.list.items ss)
+    ∙ ap (λ zs. zs ++ map (shown all) (standings_of b.list.items ss))
     (block_shows all s.entity block (table_in tables (slice_index_or ns s.place 0)).ids terms (are.each s.place within.0))
     ∙ ap (λ zs. results s.entity (table_in tables (slice_index_or ns s.place 0)).ids terms ++ zs) (rows_shown tables ns terms b are ss within.1)
 
@@ -166,7 +166,8 @@ only_shown tables ns terms all are ss within = go ss (recursion_from_All (λ (s 
 -- ---- the results
 
 pub all_shown : (tables : List (Option TableState)) (ns : List ℕ) (terms : List QueryTerm) (b : Blocks) → AreBlocks tables ns terms b →
-    (ss : List Standing) → All (λ (s : Standing). s.place < length ns) ss → map (shown b.choices.all) (rows_of b.list.items ss) ≡ results_at tables ns terms ss
+    (ss : List Standing) → All (λ (s : Standing). s.place < length ns) ss
+    → map (shown b.choices.all) (standings_of b.list.items ss) ≡ results_at tables ns terms ss
 all_shown tables ns terms b are ss within = rows_shown tables ns terms b are ss (recursion_from_All (λ (s : Standing). s.place < length ns) ss within)
 
 append_within : (n : ℕ) (xs ys : List Standing) → AllByRecursion (λ (s : Standing). s.place < n) xs → AllByRecursion (λ (s : Standing). s.place < n) ys
@@ -174,24 +175,25 @@ append_within : (n : ℕ) (xs ys : List Standing) → AllByRecursion (λ (s : St
 append_within n [] ys one two = two
 append_within n (x ∷ xs) ys one two = (one.0, append_within n xs ys one.1 two)
 
-from_within : (e : Entity) (first n high : ℕ) → first + n ≤ high → AllByRecursion (λ (s : Standing). s.place < high) (rows_from e first n)
+from_within : (e : Entity) (first n high : ℕ) → first + n ≤ high → AllByRecursion (λ (s : Standing). s.place < high) (standings_from e first n)
 from_within e first zero high le = tt
 from_within e first (suc n) high le = (omega (arith, le), from_within e (suc first) n high (omega (arith, le)))
 
 -- each row stands at the place of a choice
 pub rows_within : (tables : List (Option TableState)) (ns : List ℕ) (terms : List QueryTerm) (b : Blocks) → AreBlocks tables ns terms b →
-    (ss : List Standing) → All (λ (s : Standing). s.place < length ns) ss → All (λ (s : Standing). s.place < length b.choices.all) (rows_of b.list.items ss)
+    (ss : List Standing) → All (λ (s : Standing). s.place < length ns) ss
+    → All (λ (s : Standing). s.place < length b.choices.all) (standings_of b.list.items ss)
 rows_within tables ns terms b are ss within =
-    All-from_recursion (λ (s : Standing). s.place < length b.choices.all) (rows_of b.list.items ss)
+    All-from_recursion (λ (s : Standing). s.place < length b.choices.all) (standings_of b.list.items ss)
     (go ss (recursion_from_All (λ (s : Standing). s.place < length ns) ss within))
   where
     go : (ss : List Standing) → AllByRecursion (λ (s : Standing). s.place < length ns) ss
-        → AllByRecursion (λ (s : Standing). s.place < length b.choices.all) (rows_of b.list.items ss)
+        → AllByRecursion (λ (s : Standing). s.place < length b.choices.all) (standings_of b.list.items ss)
     go [] within = tt
     go (s ∷ ss) within =
         let block = block_at b.list.items s.place in
         let is = are.each s.place within.0 in
-        append_within (length b.choices.all) (rows_in block s.entity) (rows_of b.list.items ss)
+        append_within (length b.choices.all) (standings_in block s.entity) (standings_of b.list.items ss)
         (from_within s.entity block.first (block.end - block.first) (length b.choices.all) (let r = is.rises in let w = is.within in omega (arith, r, w)))
         (go ss within.1)
 

@@ -25,7 +25,7 @@ use Rattle.eco_tables.specs.Tables.{table_in}
 use Rattle.eco_store.specs.declared.standing.Standing.{Standing}
 use Rattle.eco_answers.specs.Answers.{asked, asks}
 use Rattle.eco_answers.specs.Blocks.{results_at, shown}
-use Rattle.eco_answers.specs.Fixed.{AreFixed, Ascends, Fits, IsFixed}
+use Rattle.eco_answers.specs.Fixed.{AreFixed, Ascends, FitsQuery, IsFixed}
 
 -- ---- the entry of a slot
 
@@ -129,12 +129,12 @@ rows_before s rest cs = map (λ xs. let r : answers.Row = record { entity = s.en
 
 -- all who stand where the query holds are the rows
 pub fixed_shown : (tables : List (Option TableState)) (ns : List ℕ) (q : List QuerySlot) (es : List (Option Id)) → AreFixed (asked q) es
-    → All (Ascends tables) ns → (ss : List Standing) → All (λ (s : Standing). s.place < length ns) ss → All (Fits tables ns q) ss
+    → All (Ascends tables) ns → (ss : List Standing) → All (λ (s : Standing). s.place < length ns) ss → All (FitsQuery tables ns q) ss
     → map (shown (replicate (length ns) es)) ss ≡ results_at tables ns (asked q) ss
 fixed_shown tables ns q es fixed up ss within fit =
-    go ss (recursion_from_All (λ (s : Standing). s.place < length ns) ss within) (recursion_from_All (Fits tables ns q) ss fit)
+    go ss (recursion_from_All (λ (s : Standing). s.place < length ns) ss within) (recursion_from_All (FitsQuery tables ns q) ss fit)
   where
-    go : (ss : List Standing) → AllByRecursion (λ (s : Standing). s.place < length ns) ss → AllByRecursion (Fits tables ns q) ss
+    go : (ss : List Standing) → AllByRecursion (λ (s : Standing). s.place < length ns) ss → AllByRecursion (FitsQuery tables ns q) ss
         → map (shown (replicate (length ns) es)) ss ≡ results_at tables ns (asked q) ss
     go [] within fit = refl
     go (s ∷ ss) within fit =

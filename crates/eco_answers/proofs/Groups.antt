@@ -20,7 +20,7 @@ use Rattle.eco_ids.proofs.Overlaps.{entity_eq_is, entity_eq_itself}
 use Rattle.eco_query.specs.declared.slot.Slot.{Slot}
 use Rattle.eco_query.specs.Queries.{QuerySlot, exactly, has_any, holds, is_positive, matches_type, patterns_of, slot_view, term_view}
 use Rattle.eco_index.specs.IdIndex.{any_matches}
-use Rattle.eco_index.specs.TypeTests.{AreNeeded, group_at, matches_one}
+use Rattle.eco_index.specs.TypeTests.{AreNeeded, group_at, type_matches_one}
 use Rattle.eco_answers.specs.Answers.{asked, asks}
 use Rattle.eco_answers.proofs.Answered.{asks_asked}
 use Rattle.eco_answers.specs.Groups.{groups_of, number_after, others_hold}
@@ -65,25 +65,25 @@ found_matches ids (i ∷ is) h = by (found_matches ids is) (has_item id_cmp ids 
         (rest (ap (λ c. has_any (map (λ (i : Id). Some i) (option_to_list (cond c (Some i) (find (has_item id_cmp ids) is))))) (sym e) ∙ h))
 
 -- where a slot that asks for something to be there holds, one of its patterns matches
-held_matches : (ids : List Id) (t : QueryTerm) → is_positive t ≡ true → holds ids t ≡ true → matches_one (patterns_of t) ids ≡ true
+held_matches : (ids : List Id) (t : QueryTerm) → is_positive t ≡ true → holds ids t ≡ true → type_matches_one (patterns_of t) ids ≡ true
 held_matches ids (And p) pos h = or_left (any_matches ids p) false (any_filtered (λ i. Some i) (pattern_matches p) _ ids h)
 held_matches ids (Not p) pos h = absurd (true≢false (sym pos))
 held_matches ids (Optional i) pos h = absurd (true≢false (sym pos))
 held_matches ids (Or is) pos h = found_matches ids is h
 
-needed_by : (ids : List Id) (q : List QuerySlot) → matches_type ids q ≡ true → AllByRecursion (λ ps. IsTrue (matches_one ps ids)) (groups_of q)
+needed_by : (ids : List Id) (q : List QuerySlot) → matches_type ids q ≡ true → AllByRecursion (λ ps. IsTrue (type_matches_one ps ids)) (groups_of q)
 needed_by ids [] h = tt
 needed_by ids (s ∷ q) h = by (needed_by ids q (second (holds ids s.term) (matches_type ids q) h)) (is_positive s.term) refl
   where
-    by : AllByRecursion (λ ps. IsTrue (matches_one ps ids)) (groups_of q) → (b : Bool) → is_positive s.term ≡ b
-        → AllByRecursion (λ ps. IsTrue (matches_one ps ids))
+    by : AllByRecursion (λ ps. IsTrue (type_matches_one ps ids)) (groups_of q) → (b : Bool) → is_positive s.term ≡ b
+        → AllByRecursion (λ ps. IsTrue (type_matches_one ps ids))
         (map (λ (s : QuerySlot). patterns_of s.term) (cond b (s ∷ filter (λ s. is_positive s.term) q) (filter (λ s. is_positive s.term) q)))
     by rest true e = (held_matches ids s.term e (first (holds ids s.term) (matches_type ids q) h), rest)
     by rest false e = rest
 
 -- each type that fulfils all slots has, for each group, an id that one of its patterns matches
 pub groups_needed : (q : List QuerySlot) → AreNeeded (λ ids. matches_type ids q) (groups_of q)
-groups_needed q = λ ids h. All-from_recursion (λ ps. IsTrue (matches_one ps ids)) (groups_of q) (needed_by ids q h)
+groups_needed q = λ ids h. All-from_recursion (λ ps. IsTrue (type_matches_one ps ids)) (groups_of q) (needed_by ids q h)
 
 -- ---- the groups of the code's own slots
 
@@ -194,7 +194,7 @@ one_holds ids (i ∷ is) h = by (one_holds ids is) (has_item id_cmp ids i) refl
     by rest true e = refl
     by rest false e = rest (other (any_matches ids (exactly i)) _ h (λ m. true≢false (sym (matched_has ids i m) ∙ e)))
 
-found_holds : (ids : List Id) (t : QueryTerm) → is_positive t ≡ true → matches_one (patterns_of t) ids ≡ true → holds ids t ≡ true
+found_holds : (ids : List Id) (t : QueryTerm) → is_positive t ≡ true → type_matches_one (patterns_of t) ids ≡ true → holds ids t ≡ true
 found_holds ids (And p) pos h = plain_holds ids p (alone (any_matches ids p) h)
   where
     alone : (b : Bool) → (b || false) ≡ true → b ≡ true
@@ -218,7 +218,7 @@ asked_behind ids (s ∷ q) n g lt =
     later true = omega (arith, lt)
     later false = lt
 
-others_found : (ids : List Id) (q : List QuerySlot) (n k : ℕ) → k < length (groups_of q) → matches_one (group_at (groups_of q) k) ids ≡ true
+others_found : (ids : List Id) (q : List QuerySlot) (n k : ℕ) → k < length (groups_of q) → type_matches_one (group_at (groups_of q) k) ids ≡ true
     → others_hold ids (asked q) n (n + k) ≡ matches_type ids q
 others_found ids [] n k there found = absurd (omega (arith, there))
 others_found ids (s ∷ q) n k there found = by (others_found ids q) k (is_positive s.term) refl there found
@@ -231,8 +231,9 @@ others_found ids (s ∷ q) n k there found = by (others_found ids q) k (is_posit
     neither true = refl
     neither false = refl
 
-    by : ((n k : ℕ) → k < length (groups_of q) → matches_one (group_at (groups_of q) k) ids ≡ true → others_hold ids (asked q) n (n + k) ≡ matches_type ids q)
-        → (k : ℕ) (b : Bool) → is_positive s.term ≡ b → k < length (groups b) → matches_one (group_at (groups b) k) ids ≡ true
+    by : ((n k : ℕ) → k < length (groups_of q) → type_matches_one (group_at (groups_of q) k) ids ≡ true
+        → others_hold ids (asked q) n (n + k) ≡ matches_type ids q)
+        → (k : ℕ) (b : Bool) → is_positive s.term ≡ b → k < length (groups b) → type_matches_one (group_at (groups b) k) ids ≡ true
         → (((nat_eq n (n + k) && b) || holds ids s.term) && others_hold ids (asked q) (cond b (n + 1) n) (n + k)) ≡ (holds ids s.term && matches_type ids q)
     by rest zero true e there found =
         let own : nat_eq n (n + 0) ≡ true = grind (arith, nat_tests) in
@@ -251,7 +252,7 @@ others_found ids (s ∷ q) n k there found = by (others_found ids q) k (is_posit
 
 -- a type that a pattern of a group has found is asked for what the other slots say
 pub others_suffice : (slots : List Slot) (q : List QuerySlot) → map slot_view slots ≡ q → (k : ℕ) (ids : List Id) → k < length (groups_of q)
-    → matches_one (group_at (groups_of q) k) ids ≡ true → others_hold ids (asks slots) 0 k ≡ matches_type ids q
+    → type_matches_one (group_at (groups_of q) k) ids ≡ true → others_hold ids (asks slots) 0 k ≡ matches_type ids q
 others_suffice slots q same k ids there found =
     let place : k ≡ 0 + k = omega arith in
     ap (λ ts. others_hold ids ts 0 k) (asks_asked slots q same) ∙ ap (others_hold ids (asked q) 0) place ∙ others_found ids q 0 k there found

@@ -22,17 +22,17 @@ abbrev pub block_at : List Block → ℕ → Block
 block_at blocks k = slice_index_or blocks k no_block
 
 -- rows of an entity, for so many choices from one on
-abbrev pub rows_from : Entity → ℕ → ℕ → List Standing
-rows_from e first zero = []
-rows_from e first (suc n) = record { entity = e; place = first } ∷ rows_from e (suc first) n
+abbrev pub standings_from : Entity → ℕ → ℕ → List Standing
+standings_from e first zero = []
+standings_from e first (suc n) = record { entity = e; place = first } ∷ standings_from e (suc first) n
 
 -- a row for each choice of a block
-abbrev pub rows_in : Block → Entity → List Standing
-rows_in b e = rows_from e b.first (b.end - b.first)
+abbrev pub standings_in : Block → Entity → List Standing
+standings_in b e = standings_from e b.first (b.end - b.first)
 
 -- the rows of all who stand, each for the block at its place
-abbrev pub rows_of : List Block → List Standing → List Standing
-rows_of blocks standings = flat_map (λ s. rows_in (block_at blocks s.place) s.entity) standings
+abbrev pub standings_of : List Block → List Standing → List Standing
+standings_of blocks standings = flat_map (λ s. standings_in (block_at blocks s.place) s.entity) standings
 
 -- these choices are the block's
 pub record IsBlock (all cs : List (List (Option Id))) (b : Block) : Type 0 where
@@ -51,8 +51,8 @@ abbrev pub shown : List (List (Option Id)) → Standing → answers.Row
 shown all r = record { entity = r.entity; entries = slice_index_or all r.place [] }
 
 -- a result as an iterator lends it
-abbrev pub lent : Entity × Bor (List (Option Id)) → answers.Row
-lent p = record { entity = p.0; entries = p.1.now }
+abbrev pub lent_result : Entity × Bor (List (Option Id)) → answers.Row
+lent_result p = record { entity = p.0; entries = p.1.now }
 
 -- the results of an entity with these ids
 abbrev pub results : Entity → List Id → List QueryTerm → List answers.Row

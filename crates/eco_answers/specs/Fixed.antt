@@ -26,5 +26,5 @@ abbrev pub Ascends : List (Option TableState) → ℕ → Type 0
 Ascends tables n = IsTrue (is_ascending id_cmp (table_in tables n).ids)
 
 -- the type of the table at the place fulfils the query
-abbrev pub Fits : List (Option TableState) → List ℕ → List QuerySlot → Standing → Type 0
-Fits tables slots q s = IsTrue (matches_type (table_in tables (slice_index_or slots s.place 0)).ids q)
+abbrev pub FitsQuery : List (Option TableState) → List ℕ → List QuerySlot → Standing → Type 0
+FitsQuery tables slots q s = IsTrue (matches_type (table_in tables (slice_index_or slots s.place 0)).ids q)

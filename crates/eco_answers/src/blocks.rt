@@ -4,7 +4,7 @@ ghost use Rattle.std.specs.List.{All};
 ghost use Rattle.eco_ids.specs.Answer as answers;
 ghost use Rattle.eco_tables.specs.Tables.{slot_of};
 ghost use Rattle.eco_answers.specs.Answers.{asks};
-ghost use Rattle.eco_answers.specs.Blocks.{AreBlocks, rows_in, rows_of};
+ghost use Rattle.eco_answers.specs.Blocks.{AreBlocks, standings_in, standings_of};
 
 use eco_entries::{Choices, choices_of, find_only};
 use eco_ids::{Entity, Id};
@@ -82,7 +82,7 @@ pub fn rows_of(
     standings: &Ranked,
     blocks: &[Block],
 ) -> Result<Vec<Standing>, AllocError>
-    ensures { IfOk result (λ rows. rows.items ≡ rows_of blocks.now standings.now) }
+    ensures { IfOk result (λ rows. rows.items ≡ standings_of blocks.now standings.now) }
 {
     let mut rows = Vec::with_capacity(alloc, standings.len())?;
     for stands in standings.iter() {
@@ -95,7 +95,7 @@ pub fn rows_of(
 
 // A row for each choice of a block.
 fn add_rows(rows: &mut Vec<Standing>, entity: Entity, block: Block) -> Result<(), AllocError>
-    ensures { OnOk result (rows.new.items ≡ rows.old.items ++ rows_in block entity) }
+    ensures { OnOk result (rows.new.items ≡ rows.old.items ++ standings_in block entity) }
 {
     for place in block.first..block.end {
         put(Standing { entity, place }, rows, block.end - place)?;

@@ -3,7 +3,7 @@ ghost use Rattle.std.specs.Prelude.{◌≡◌, ◌<◌, length, map};
 ghost use Rattle.std.specs.Iterator.{at_most};
 ghost use Rattle.std.specs.List.{All};
 ghost use Rattle.std.specs.Map.Iter.{TakesFirst};
-ghost use Rattle.eco_answers.specs.Blocks.{lent, shown};
+ghost use Rattle.eco_answers.specs.Blocks.{lent_result, shown};
 
 use eco_entries::Choices;
 use eco_ids::{Entity, Id};
@@ -46,7 +46,7 @@ impl<'a> Iter<'a> {
 impl<'a> Iterator for Iter<'a> {
     type Item = (Entity, &'a [Option<Id>]);
 
-    ghost next_gives = { TakesFirst lent };
+    ghost next_gives = { TakesFirst lent_result };
 
     ghost remaining = { λ s. at_most (length s) };
 

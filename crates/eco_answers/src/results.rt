@@ -6,7 +6,7 @@ ghost use Rattle.eco_ids.specs.Answer.{answer, Row as Rows};
 ghost use Rattle.eco_tables.specs.Tables.{slot_of};
 ghost use Rattle.eco_answers.specs.Answers.{asked, asks};
 ghost use Rattle.eco_answers.specs.Blocks.{results_at, shown};
-ghost use Rattle.eco_answers.specs.Fixed.{AreFixed, Fits};
+ghost use Rattle.eco_answers.specs.Fixed.{AreFixed, FitsQuery};
 ghost use Rattle.eco_store.specs.Worlds.{world_of};
 
 use crate::asking::Asking;
@@ -119,7 +119,7 @@ fn results_in(
 ) -> Result<Results, AllocError>
     requires there { All (λ n. IsSome (slot_of found.tables.now n)) found.slots.items }
     requires places { All (λ s. s.place < length found.slots.items) found.list }
-    requires fit { All (Fits found.tables.now found.slots.items query.now) found.list }
+    requires fit { All (FitsQuery found.tables.now found.slots.items query.now) found.list }
     ensures { IfOk result (λ r. r
         ≡ results_at found.entry.tables.now found.entry.slots.items (asked query.now) found.entry.list) }
 {
@@ -141,7 +141,7 @@ fn fixed_in(
     requires fixed { AreFixed (asked query.now) choice.now }
     requires there { All (λ n. IsSome (slot_of found.tables.now n)) found.slots.items }
     requires places { All (λ s. s.place < length found.slots.items) found.list }
-    requires fit { All (Fits found.tables.now found.slots.items query.now) found.list }
+    requires fit { All (FitsQuery found.tables.now found.slots.items query.now) found.list }
     ensures { IfOk result (λ r. r
         ≡ results_at found.entry.tables.now found.entry.slots.items (asked query.now) found.entry.list) }
 {

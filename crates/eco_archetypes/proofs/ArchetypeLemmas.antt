@@ -7,8 +7,8 @@ use Rattle.std.proofs.lemmas.Bool.{cases_eq}
 use Rattle.std.proofs.lemmas.Bool.Decides.{Decides-eqb}
 use Rattle.eco_ids.specs.declared.pattern.Pattern.{Pattern}
 use Rattle.eco_ids.specs.declared.id.Id.{Id}
-use Rattle.eco_tables.specs.Table.{TableState, Row}
-use Rattle.eco_tables.specs.Tables.{slot_of, table_in, no_table, Sets, Moves, MovesAll, rowless, rowless_type}
+use Rattle.eco_tables.specs.Table.{TableState, TableRow}
+use Rattle.eco_tables.specs.Tables.{slot_of, table_in, no_table, SetsSlot, Moves, MovesAll, rowless, rowless_type}
 use Rattle.eco_index.specs.TypeMap.{LeadAlike, IsTypeMap, same_ids}
 use Rattle.eco_index.specs.IdIndex.{Lists, any_matches, Turns}
 use Rattle.eco_index.specs.Edges.{toggled, Cuts, Links, SameEdges}
@@ -46,7 +46,7 @@ type_there s n = by (slot_of s n)
 
 module _ (s s' : List (Option TableState)) where
   -- where one table changes, and its type stays, no slot's type changes
-  pub sets_types : (n : ℕ) (t : TableState) → Sets s s' n (Some t) → IsSome (slot_of s n) → t.ids ≡ (table_in s n).ids
+  pub sets_types : (n : ℕ) (t : TableState) → SetsSlot s s' n (Some t) → IsSome (slot_of s n) → t.ids ≡ (table_in s n).ids
       → (k : ℕ) → type_at s' k ≡ type_at s k
   sets_types n t sets there same k =
       elim (cases_eq k n) [
@@ -102,7 +102,7 @@ index_made types types' l l' n ids others matches now vacant turns f k = turns f
         neither (any_matches ids f) (l f k) ∙ matches f k ∙ ap (λ o. type_matches o f) (sym (others k apart))
 
 -- one slot is set
-pub changes_type : (s s' : List (Option TableState)) (n : ℕ) (o : Option TableState) → Sets s s' n o
+pub changes_type : (s s' : List (Option TableState)) (n : ℕ) (o : Option TableState) → SetsSlot s s' n o
     → ChangesType (type_at s) (type_at s') n (option_map (λ (t : TableState). t.ids) o)
 changes_type s s' n o sets = record {
   there = ap (option_map (λ (t : TableState). t.ids)) sets.changed;
@@ -166,7 +166,7 @@ module _ {S E : Type 0} {ks : List Cache} (s s' : List (Option TableState)) (m m
   }
 
   -- a new table is found
-  pub found_made : {ks' : List Cache} → (n : ℕ) (t : TableState) → IsArchetypes s m l g ks → Sets s s' n (Some t) → slot_of s n ≡ None
+  pub found_made : {ks' : List Cache} → (n : ℕ) (t : TableState) → IsArchetypes s m l g ks → SetsSlot s s' n (Some t) → slot_of s n ≡ None
       → AreAgreed s' → ((k : ℕ) → type_at s k ≢ Some t.ids)
       → ((q : List Id) → get same_ids m' q ≡ cond (same_ids t.ids q) (Some n) (get same_ids m q))
       → Turns true (any_matches t.ids) l l' n
@@ -186,7 +186,7 @@ module _ {S E : Type 0} {ks : List Cache} (s s' : List (Option TableState)) (m m
   }
 
   -- a table that was dropped is found no more
-  pub found_dropped : {ks' : List Cache} → (n : ℕ) (ids : List Id) → IsArchetypes s m l g ks → Sets s s' n None → type_at s n ≡ Some ids
+  pub found_dropped : {ks' : List Cache} → (n : ℕ) (ids : List Id) → IsArchetypes s m l g ks → SetsSlot s s' n None → type_at s n ≡ Some ids
       → ((q : List Id) → get same_ids m' q ≡ cond (same_ids ids q) None (get same_ids m q))
       → Turns false (any_matches ids) l l' n
       → Cuts g g' n
@@ -225,7 +225,7 @@ module _ {S E : Type 0} {ks : List Cache} (s s' : List (Option TableState)) (m m
 pub rowless-type_at : (s : List (Option TableState)) (n : ℕ) (ids : List Id) → Some ids ≡ rowless_type (slot_of s n) → type_at s n ≡ Some ids
 rowless-type_at s n ids = by (slot_of s n)
   where
-    of_rows : (t : TableState) (rows : List Row) → Some ids ≡ rowless t rows → ◌≡◌ {A = Option (List Id)} (Some t.ids) (Some ids)
+    of_rows : (t : TableState) (rows : List TableRow) → Some ids ≡ rowless t rows → ◌≡◌ {A = Option (List Id)} (Some t.ids) (Some ids)
     of_rows t [] e = sym e
     of_rows t (r ∷ rest) e = absurd (cc)
 
@@ -234,7 +234,7 @@ rowless-type_at s n ids = by (slot_of s n)
     by (Some t) e = of_rows t t.rows e
 
 -- the rows stay where one table changes, and its rows don't
-pub same_rows : (s s' : List (Option TableState)) (n : ℕ) (slot : Option TableState) → Sets s s' n slot
+pub same_rows : (s s' : List (Option TableState)) (n : ℕ) (slot : Option TableState) → SetsSlot s s' n slot
     → (unwrap_or slot no_table).rows ≡ (table_in s n).rows → SameRows s s'
 same_rows s s' n slot sets same k row =
     elim (cases_eq k n) [
@@ -249,10 +249,11 @@ pub rows_from_slots : (s s' : List (Option TableState)) → SameSlots s s' → S
 rows_from_slots s s' same n row = ap (λ o. slice_get (unwrap_or o no_table).rows row) (same n)
 
 -- a table that was answered as without rows has none
-pub rowless-rows : (s : List (Option TableState)) (n : ℕ) (ids : List Id) → Some ids ≡ rowless_type (slot_of s n) → ◌≡◌ {A = List Row} [] (table_in s n).rows
+pub rowless-rows : (s : List (Option TableState)) (n : ℕ) (ids : List Id) → Some ids ≡ rowless_type (slot_of s n)
+    → ◌≡◌ {A = List TableRow} [] (table_in s n).rows
 rowless-rows s n ids = by (slot_of s n)
   where
-    of_rows : (t : TableState) (rows : List Row) → Some ids ≡ rowless t rows → [] ≡ rows
+    of_rows : (t : TableState) (rows : List TableRow) → Some ids ≡ rowless t rows → [] ≡ rows
     of_rows t [] e = refl
     of_rows t (r ∷ rest) e = absurd (cc)
 

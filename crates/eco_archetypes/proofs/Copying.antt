@@ -4,8 +4,8 @@ use Rattle.std.proofs.Common.{is_some, refl, sym, ap, ◌∙◌, arith, inl, inr
 use Rattle.std.specs.HashMap.{HashMap, get}
 use Rattle.std.proofs.lemmas.Bool.{cases_eq, cases_lt}
 use Rattle.eco_ids.specs.declared.id.Id.{Id}
-use Rattle.eco_tables.specs.Table.{TableState, Row}
-use Rattle.eco_tables.specs.Tables.{slot_of, no_table, with_room, without_room, rowless, rowless_type, Sets, AreCopies}
+use Rattle.eco_tables.specs.Table.{TableState, TableRow}
+use Rattle.eco_tables.specs.Tables.{slot_of, no_table, with_room, without_room, rowless, rowless_type, SetsSlot, AreCopies}
 use Rattle.eco_index.specs.IdIndex.{Lists, ListsSame}
 use Rattle.eco_index.specs.TypeMap.{same_ids, IsTypeMap}
 use Rattle.eco_index.proofs.TypeMaps.{type_map-insert}
@@ -28,7 +28,7 @@ taken_past (x ∷ s) (suc k) zero past = absurd (omega arith)
 taken_past (x ∷ s) (suc k) (suc n) past = taken_past s k n (omega arith)
 
 -- one slot more
-pub taken_more : (s : Slots) (k : ℕ) (o : Option TableState) → slot_of s k ≡ o → Sets (take k s) (take (k + 1) s) k o
+pub taken_more : (s : Slots) (k : ℕ) (o : Option TableState) → slot_of s k ≡ o → SetsSlot (take k s) (take (k + 1) s) k o
 taken_more s k o at = record {
   changed = taken_before s (k + 1) k (omega arith) ∙ at;
   others = λ n other. elim (cases_lt n k) [
@@ -116,7 +116,7 @@ module _ (s copies : Slots) (are : AreCopies s copies) where
   pub copied_rowless : (slots : List ℕ) → RowlessIn s slots → RowlessIn copies slots
   copied_rowless slots was n empty = was n (sym (ap (λ o. is_some (rowless_type o)) (are n) ∙ by (slot_of s n)) ∙ empty)
     where
-      by_rows : (t : TableState) (rows : List Row) → is_some (rowless (with_room t 0) rows) ≡ is_some (rowless t rows)
+      by_rows : (t : TableState) (rows : List TableRow) → is_some (rowless (with_room t 0) rows) ≡ is_some (rowless t rows)
       by_rows t [] = refl
       by_rows t (r ∷ rest) = refl
 

@@ -7,11 +7,11 @@ use Rattle.std.proofs.lemmas.Bool.Decides.{Decides-eqb}
 use Rattle.eco_ids.specs.declared.id.Id.{Id}
 use Rattle.eco_ids.proofs.Lists.{not_equal}
 use Rattle.eco_tables.specs.Table.{TableState, empty_table}
-use Rattle.eco_tables.specs.Tables.{slot_of, no_table, rowless_type, Sets, SetsRoom}
+use Rattle.eco_tables.specs.Tables.{slot_of, no_table, rowless_type, SetsSlot, SetsRoom}
 use Rattle.eco_archetypes.specs.Archetypes.{type_at, KeepsTypes, RowlessIn, SameRows, SameSlots}
 use Rattle.eco_archetypes.proofs.ArchetypeLemmas.{same_rows, sets_types}
 
-module _ (s s' : List (Option TableState)) (n : ℕ) (slots : List ℕ) (slot : Option TableState) (sets : Sets s s' n slot) where
+module _ (s s' : List (Option TableState)) (n : ℕ) (slots : List ℕ) (slot : Option TableState) (sets : SetsSlot s s' n slot) where
   -- a table that may be without rows now
   pub rowless_set : RowlessIn s slots → RowlessIn s' (n ∷ slots)
   rowless_set was m empty =
@@ -32,7 +32,7 @@ module _ (s s' : List (Option TableState)) (n : ℕ) (slots : List ℕ) (slot : 
 
 -- a table comes to a slot that was empty
 module _ (s s' : List (Option TableState)) (n : ℕ) (ids : List Id) (ws : List ℕ) (vacant : slot_of s n ≡ None)
-    (sets : Sets s s' n (Some (empty_table ids ws))) where
+    (sets : SetsSlot s s' n (Some (empty_table ids ws))) where
   pub made_there : IsSome (slot_of s' n)
   made_there = ap is_some sets.changed
 
@@ -55,16 +55,16 @@ module _ (s s' : List (Option TableState)) (n : ℕ) (ids : List Id) (ws : List 
     roomy_types k own had = room_types k ∙ made_types k own had
 
     -- and is dropped
-    pub dropped_types : (s3 : List (Option TableState)) (o : Option (List Id)) → OnSome o (Sets s2 s3 n None) → IfNone o (SameSlots s2 s3) → KeepsTypes s s3
+    pub dropped_types : (s3 : List (Option TableState)) (o : Option (List Id)) → OnSome o (SetsSlot s2 s3 n None) → IfNone o (SameSlots s2 s3) → KeepsTypes s s3
     dropped_types s3 None dropped kept k own had = ap (option_map (λ (t : TableState). t.ids)) (kept k) ∙ roomy_types k own had
     dropped_types s3 (Some gone) dropped kept k own had =
         ap (option_map (λ (t : TableState). t.ids)) (dropped.others k (apart_from_new k own had)) ∙ roomy_types k own had
 
 -- a table that was made is dropped again
-pub unmade : (s s1 s2 : List (Option TableState)) (n : ℕ) (ids : List Id) (ws : List ℕ) → slot_of s n ≡ None → Sets s s1 n (Some (empty_table ids ws))
-    → OnSome (rowless_type (slot_of s1 n)) (Sets s1 s2 n None) → SameSlots s s2
+pub unmade : (s s1 s2 : List (Option TableState)) (n : ℕ) (ids : List Id) (ws : List ℕ) → slot_of s n ≡ None → SetsSlot s s1 n (Some (empty_table ids ws))
+    → OnSome (rowless_type (slot_of s1 n)) (SetsSlot s1 s2 n None) → SameSlots s s2
 unmade s s1 s2 n ids ws vacant sets dropped k =
-    let gone : Sets s1 s2 n None = subst (λ o. OnSome (rowless_type o) (Sets s1 s2 n None)) sets.changed dropped in
+    let gone : SetsSlot s1 s2 n None = subst (λ o. OnSome (rowless_type o) (SetsSlot s1 s2 n None)) sets.changed dropped in
     elim (cases_eq k n) [
       | inl here ↦ ap (slot_of s2) here ∙ gone.changed ∙ sym (ap (slot_of s) here ∙ vacant)
       | inr other ↦ gone.others k other ∙ sets.others k other

@@ -11,7 +11,7 @@ use Rattle.eco_tables.specs.Table.{TableState}
 use Rattle.eco_tables.specs.Tables.{slot_of}
 use Rattle.eco_index.specs.IdIndex.{Lists}
 use Rattle.eco_index.specs.Naming.{ListsSome}
-use Rattle.eco_index.specs.TypeTests.{names_any, naming}
+use Rattle.eco_index.specs.TypeTests.{type_names, naming}
 use Rattle.eco_index.proofs.TypeTests.{names_match, same_truth}
 use Rattle.eco_archetypes.specs.Archetypes.{IsIdIndex, has_one_of, is_found_by, type_at}
 use Rattle.eco_archetypes.specs.Naming.{is_named_by_some, names_in}
@@ -52,13 +52,13 @@ listed_named slots now e index r is =
 
 -- no table is found by a name that no type has
 pub none_names : (slots : List (Option TableState)) (e : Entity) → is_named_by_some slots e ≡ false → (n : ℕ)
-    → is_found_by (λ ids. names_any ids e) (slot_of slots n) ≡ false
-none_names slots e none n = by (slot_of slots n) (is_found_by (λ ids. names_any ids e) (slot_of slots n)) refl refl
+    → is_found_by (λ ids. type_names ids e) (slot_of slots n) ≡ false
+none_names slots e none n = by (slot_of slots n) (is_found_by (λ ids. type_names ids e) (slot_of slots n)) refl refl
   where
-    by : (o : Option TableState) (b : Bool) → slot_of slots n ≡ o → is_found_by (λ ids. names_any ids e) (slot_of slots n) ≡ b
-        → is_found_by (λ ids. names_any ids e) (slot_of slots n) ≡ false
+    by : (o : Option TableState) (b : Bool) → slot_of slots n ≡ o → is_found_by (λ ids. type_names ids e) (slot_of slots n) ≡ b
+        → is_found_by (λ ids. type_names ids e) (slot_of slots n) ≡ false
     by o false at is = is
-    by None true at is = ap (is_found_by (λ ids. names_any ids e)) at
+    by None true at is = ap (is_found_by (λ ids. type_names ids e)) at
     by (Some t) true at is =
-        let found = second (nat_lt 0 (length t.rows)) (names_any t.ids e) (sym (ap (is_found_by (λ ids. names_any ids e)) at) ∙ is) in
+        let found = second (nat_lt 0 (length t.rows)) (type_names t.ids e) (sym (ap (is_found_by (λ ids. type_names ids e)) at) ∙ is) in
         absurd (true≢false (sym (at_slot e slots n (ap (names_in e) at ∙ found)) ∙ none))

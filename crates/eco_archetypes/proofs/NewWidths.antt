@@ -13,7 +13,8 @@ use Rattle.eco_ids.proofs.Facts.{or_right}
 use Rattle.eco_ids.proofs.Pairs.{parts_are_same}
 use Rattle.eco_tables.specs.Table.{TableState, paired, width_in}
 use Rattle.eco_tables.specs.Tables.{slot_of, table_in, no_table}
-use Rattle.eco_index.specs.IdIndex.{any_matches, exactly}
+use Rattle.eco_query.specs.Queries.{exactly}
+use Rattle.eco_index.specs.IdIndex.{any_matches}
 use Rattle.eco_archetypes.specs.Archetypes.{type_at, type_matches}
 use Rattle.eco_archetypes.specs.Widths.{AreAgreed, IsWidth}
 

@@ -13,7 +13,7 @@ use Rattle.eco_ids.proofs.Ascending.{both, first, second}
 use Rattle.eco_ids.proofs.Facts.{any_is, or_right}
 use Rattle.eco_tables.specs.Table.{TableState}
 use Rattle.eco_tables.specs.Tables.{slot_of}
-use Rattle.eco_index.specs.TypeTests.{AreNeeded, group_at, matches_one, passes_with, passes_without}
+use Rattle.eco_index.specs.TypeTests.{AreNeeded, group_at, type_matches_one, passes_with, passes_without}
 use Rattle.eco_index.specs.IdIndex.{any_matches}
 use Rattle.eco_index.proofs.Keys.{and_true, or_false}
 use Rattle.eco_index.proofs.TypeTests.{same_truth}
@@ -69,7 +69,7 @@ new_is test ps s n = by (slot_of s n)
     by : (o : Option TableState) → (not (has_one_of ps (own_type o)) && is_found_by test o)
         ≡ is_found_by (passes_without test ps) o
     by None = neither (not (has_one_of ps None))
-    by (Some t) = turned (not (matches_one ps t.ids)) (nat_lt 0 (length t.rows)) (test t.ids)
+    by (Some t) = turned (not (type_matches_one ps t.ids)) (nat_lt 0 (length t.rows)) (test t.ids)
 
 -- a stronger test finds no other tables
 weaker : (f g : List Id → Bool) → ((ids : List Id) → f ids ≡ true → g ids ≡ true) → (o : Option TableState) → is_found_by f o ≡ true → is_found_by g o ≡ true
@@ -79,7 +79,7 @@ weaker f g less (Some t) h = both _ _ (first (nat_lt 0 (length t.rows)) (f t.ids
 -- a new table that is found passes
 pub new_found : (test : List Id → Bool) (ps : List Pattern) (s : List (Option TableState)) (n : ℕ) → is_found_in (passes_without test ps) s n ≡ true
     → FindsSome test s
-new_found test ps s n h = (n, weaker (passes_without test ps) test (λ ids. second (not (matches_one ps ids)) (test ids)) (slot_of s n) h)
+new_found test ps s n h = (n, weaker (passes_without test ps) test (λ ids. second (not (type_matches_one ps ids)) (test ids)) (slot_of s n) h)
 
 -- tests that agree find the same tables
 found_as : (f g : List Id → Bool) → ((ids : List Id) → f ids ≡ g ids) → (o : Option TableState) → is_found_by f o ≡ is_found_by g o
@@ -107,8 +107,8 @@ needed_is : (test : List Id → Bool) (groups : List (List Pattern)) (k : ℕ) �
     → (ids : List Id) → passes_with test (group_at groups k) ids ≡ test ids
 needed_is test groups k needed within ids =
     same_truth (passes_with test (group_at groups k) ids) (test ids)
-    (λ h. second (matches_one (group_at groups k) ids) (test ids) h)
-    (λ h. both (matches_one (group_at groups k) ids) (test ids) (needed ids h k [] within) h)
+    (λ h. second (type_matches_one (group_at groups k) ids) (test ids) h)
+    (λ h. both (type_matches_one (group_at groups k) ids) (test ids) (needed ids h k [] within) h)
 
 whole_group : (test : List Id → Bool) (groups : List (List Pattern)) (k count : ℕ) → AreNeeded test groups → k < length groups
     → count ≡ length (group_at groups k) → (ids : List Id) → passes_with test (take count (group_at groups k)) ids ≡ test ids
@@ -170,7 +170,7 @@ module _ (s : List (Option TableState)) (test : List Id → Bool) (xs : List ℕ
               ≡ is_found_by (passes_with test (before ++ p ∷ [])) o
           by None = refl
           by (Some t) =
-              joined (nat_lt 0 (length t.rows)) (matches_one before t.ids) (any_matches t.ids p) (test t.ids)
+              joined (nat_lt 0 (length t.rows)) (type_matches_one before t.ids) (any_matches t.ids p) (test t.ids)
               ∙ ap (λ b. nat_lt 0 (length t.rows) && (b && test t.ids)) (sym (list_any-append (any_matches t.ids) before (p ∷ [])))
 
       distinct_more : IsDistinct nat_eq xs → IsDistinct nat_eq (found ++ filter new xs)
@@ -184,7 +184,7 @@ module _ (s : List (Option TableState)) (test : List Id → Bool) (xs : List ℕ
 
           by : (o : Option TableState) → is_found_by (passes_without test before) o ≡ true → is_found_by (passes_with test before) o ≡ false
           by None h = refl
-          by (Some t) h = apart (nat_lt 0 (length t.rows)) (matches_one before t.ids) (test t.ids) h
+          by (Some t) h = apart (nat_lt 0 (length t.rows)) (type_matches_one before t.ids) (test t.ids) h
 
       pub all_more : IsDistinct nat_eq xs
           → IsAllFound (passes_with test (take (place + 1) ps)) s (found ++ filter (is_found_in (passes_without test (take place ps)) s) xs)
@@ -210,7 +210,7 @@ module _ (s : List (Option TableState)) (test : List Id → Bool) (xs : List ℕ
         by None = refl
         by (Some t) =
             ap (λ b. nat_lt 0 (length t.rows) && (b && test t.ids)) (list_any-append (any_matches t.ids) before (p ∷ []))
-            ∙ parted (nat_lt 0 (length t.rows)) (matches_one before t.ids) (any_matches t.ids p) (test t.ids)
+            ∙ parted (nat_lt 0 (length t.rows)) (type_matches_one before t.ids) (any_matches t.ids p) (test t.ids)
 
         same_found : (m : ℕ) → is_found_in test s n ≡ true → nat_eq n m ≡ true → is_found_in test s m ≡ true
         same_found m h same = ap (is_found_in test s) (sym ((Decides-eqb n m).0 same)) ∙ h

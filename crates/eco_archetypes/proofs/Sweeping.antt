@@ -5,7 +5,7 @@ use Rattle.std.specs.HashMap.{HashMap, get}
 use Rattle.eco_ids.specs.declared.id.Id.{Id}
 use Rattle.eco_ids.specs.declared.pattern.Pattern.{Pattern}
 use Rattle.eco_tables.specs.Table.{TableState}
-use Rattle.eco_tables.specs.Tables.{slot_of, Sets}
+use Rattle.eco_tables.specs.Tables.{slot_of, SetsSlot}
 use Rattle.eco_index.specs.declared.cache.Cache.{Cache}
 use Rattle.eco_index.specs.Caching.{AreExact, ChangesType}
 use Rattle.eco_index.specs.Edges.{edge, toggled}
@@ -28,7 +28,7 @@ less_both s s1 s2 was next n = elim (next n) [
 ]
 
 -- a table was dropped, so its slot has no type
-pub dropped_type : (s s' : List (Option TableState)) (n : ℕ) (o : Option (List Id)) → is_some o ≡ true → OnSome o (Sets s s' n None)
+pub dropped_type : (s s' : List (Option TableState)) (n : ℕ) (o : Option (List Id)) → is_some o ≡ true → OnSome o (SetsSlot s s' n None)
     → ChangesType (type_at s) (type_at s') n None
 dropped_type s s' n None some sets = cc
 dropped_type s s' n (Some ids) some sets = changes_type s s' n None sets

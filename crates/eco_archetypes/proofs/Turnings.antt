@@ -18,7 +18,7 @@ use Rattle.eco_ids.specs.OrderLaws.{id_ties}
 use Rattle.eco_ids.proofs.SameIds.{id_eq-Decides, same_ids-Decides}
 use Rattle.eco_ids.proofs.SetLaws.{joins_with, leaves_without}
 use Rattle.eco_tables.specs.Table.{TableState, paired, width_in}
-use Rattle.eco_tables.specs.Tables.{slot_of, table_in, no_table, turned, Sets}
+use Rattle.eco_tables.specs.Tables.{slot_of, table_in, no_table, turned, SetsSlot}
 use Rattle.eco_index.specs.Edges.{Cuts}
 use Rattle.eco_index.specs.IdIndex.{Lists, any_matches, matches_id, is_own, Turns, ListsSame}
 use Rattle.eco_index.specs.Caching.{AreTold}
@@ -27,7 +27,7 @@ use Rattle.eco_index.specs.TypeMap.{same_ids, IsTypeMap, LeadAlike, TakesGrown}
 use Rattle.eco_index.proofs.Toggles.{lost_again}
 use Rattle.eco_index.proofs.Graphs.{graph_cut}
 use Rattle.eco_archetypes.specs.Archetypes.{type_at, type_matches, IsArchetypes, IsIdIndex, TakesType, SameSlots}
-use Rattle.eco_archetypes.specs.Widths.{AreAgreed, Covers, KeepsWidths}
+use Rattle.eco_archetypes.specs.Widths.{AreAgreed, MeetsNeeds, KeepsWidths}
 use Rattle.eco_archetypes.proofs.Widths.{kept_agreed, kept_widths, same_kept}
 
 way : (b : Bool) (P : Type 0) → (b ≡ true → P) → (b ≡ false → P) → P
@@ -182,7 +182,7 @@ found_width f (y ∷ ys) j k e = by (id_eq j y) refl e (found_width f ys j k)
         (sym (same_Some (f y) k h) ∙ ap f (sym (is_same j y is)), ap (λ b. b || has_item id_cmp ys j) (id_eq_sym y j ∙ is))
     by false is h rest = ((rest h).0, or_true (id_eq y j) (has_item id_cmp ys j) (rest h).1)
 
-module _ (s s' : List (Option TableState)) (n : ℕ) (ids : List Id) (i : Id) (w : ℕ) (sets : Sets s s' n (Some (turned (table_in s n) ids i w)))
+module _ (s s' : List (Option TableState)) (n : ℕ) (ids : List Id) (i : Id) (w : ℕ) (sets : SetsSlot s s' n (Some (turned (table_in s n) ids i w)))
     (wide : (j : Id) → has_item id_cmp ids j ≡ true → id_eq j i ≡ false → IsSome (width_in (table_in s n) j)) where
   -- who has an id had it so wide, or is the table that turned, with the id that it turned by
   turned_in : (m : ℕ) (j : Id) (k : ℕ) → width_in (table_in s' m) j ≡ Some k
@@ -217,7 +217,7 @@ module _ (s s' : List (Option TableState)) (n : ℕ) (ids : List Id) (i : Id) (w
       by (inr x) (inl y) = agrees a k (ap (width_in (table_in s a)) (sym y.0) ∙ x) ∙ sym y.1
       by (inr x) (inr y) = agreed a b j k l x y
 
-  pub gained_covers : (need : Id → ℕ) → need i ≤ w → Covers need s → Covers need s'
+  pub gained_covers : (need : Id → ℕ) → need i ≤ w → MeetsNeeds need s → MeetsNeeds need s'
   gained_covers need enough covers = record { each = λ m j k e. by m j k (turned_in m j k e) }
     where
       by : (m : ℕ) (j : Id) (k : ℕ) → ((j ≡ i) × (k ≡ w) × (has_item id_cmp ids i ≡ true)) ⊎ (width_in (table_in s m) j ≡ Some k) → need j ≤ k
@@ -257,7 +257,7 @@ covers_slots s s' same = kept_widths s s' (same_kept s s' same)
 pub agreed_slots : (s s' : List (Option TableState)) → SameSlots s s' → AreAgreed s → AreAgreed s'
 agreed_slots s s' same = kept_agreed s s' (same_kept s s' same)
 
-pub kept_slots : (s s' : List (Option TableState)) (n : ℕ) → Sets s s' n (slot_of s n) → SameSlots s s'
+pub kept_slots : (s s' : List (Option TableState)) (n : ℕ) → SetsSlot s s' n (slot_of s n) → SameSlots s s'
 kept_slots s s' n sets m = elim (cases_eq m n) [
   | inl here ↦ ap (slot_of s') here ∙ sets.changed ∙ ap (slot_of s) (sym here)
   | inr other ↦ sets.others m other

@@ -17,12 +17,12 @@ use Rattle.eco_ids.proofs.Ascending.{first, second}
 use Rattle.eco_ids.proofs.Facts.{equal_tie, id_eq_is}
 use Rattle.eco_tables.specs.Column.{Fits}
 use Rattle.eco_tables.specs.Table.{TableState, paired, FitsId, width_in, empty_table}
-use Rattle.eco_tables.specs.Tables.{slot_of, table_in, no_table, Sets, Moves, MovesAll}
+use Rattle.eco_tables.specs.Tables.{slot_of, table_in, no_table, SetsSlot, Moves, MovesAll}
 use Rattle.eco_entities.specs.Needs.{need}
 use Rattle.eco_entities.specs.Registration.{Registration}
 use Rattle.eco_ids.specs.Indices.{Indexed}
 use Rattle.eco_archetypes.specs.Archetypes.{SameSlots}
-use Rattle.eco_archetypes.specs.Widths.{AreAgreed, Covers, KeepsWidths, IsWidth, AreWidths, FitsIn}
+use Rattle.eco_archetypes.specs.Widths.{AreAgreed, MeetsNeeds, KeepsWidths, IsWidth, AreWidths, FitsIn}
 
 -- ---- tables that keep their widths
 
@@ -47,7 +47,7 @@ module _ (s s' : List (Option TableState)) where
   kept_widths kept need covers = record { each = λ n i k e. covers.each n i k (kept_in kept n i k e) }
 
   -- one table changes, or is dropped
-  pub sets_kept : (n : ℕ) (o : Option TableState) → Sets s s' n o → (kinds o ≡ kinds (slot_of s n)) ⊎ (kinds o ≡ []) → AreKept s s'
+  pub sets_kept : (n : ℕ) (o : Option TableState) → SetsSlot s s' n o → (kinds o ≡ kinds (slot_of s n)) ⊎ (kinds o ≡ []) → AreKept s s'
   sets_kept n o sets own = record {
     each = λ m. elim (cases_eq m n) [
       | inl here ↦ subst (λ k. (kinds (slot_of s' k) ≡ kinds (slot_of s k)) ⊎ (kinds (slot_of s' k) ≡ [])) (sym here)
@@ -80,7 +80,7 @@ module _ (s s' : List (Option TableState)) where
   same_kept same = record { each = λ n. inl (ap kinds (same n)) }
 
 -- a table was dropped, if it had no rows
-pub dropped_widths : (s s' : List (Option TableState)) (n : ℕ) (o : Option (List Id)) → OnSome o (Sets s s' n None) → IfNone o (SameSlots s s')
+pub dropped_widths : (s s' : List (Option TableState)) (n : ℕ) (o : Option (List Id)) → OnSome o (SetsSlot s s' n None) → IfNone o (SameSlots s s')
     → KeepsWidths s s'
 dropped_widths s s' n None dropped kept = kept_widths s s' (same_kept s s' kept)
 dropped_widths s s' n (Some ids) dropped kept = kept_widths s s' (sets_kept s s' n None dropped (inr refl))
@@ -127,7 +127,7 @@ width_found need s (j ∷ js) (w ∷ ws) i k ok e = by (id_eq i j) refl (width_f
         subst (λ x. IsWidth need s i x) is (subst (λ x. IsWidth need s x w) (sym (id_eq_is i j same)) ok.0)
     by false same rest h = rest h
 
-module _ (need : Id → ℕ) (s s' : List (Option TableState)) (n : ℕ) (ids : List Id) (ws : List ℕ) (sets : Sets s s' n (Some (empty_table ids ws)))
+module _ (need : Id → ℕ) (s s' : List (Option TableState)) (n : ℕ) (ids : List Id) (ws : List ℕ) (sets : SetsSlot s s' n (Some (empty_table ids ws)))
     (ok : AreWidths need s ids ws) where
   at_new : (m : ℕ) → m ≡ n → kinds (slot_of s' m) ≡ paired ids ws
   at_new m here = ap (λ k. kinds (slot_of s' k)) here ∙ ap kinds sets.changed
@@ -154,7 +154,7 @@ module _ (need : Id → ℕ) (s s' : List (Option TableState)) (n : ℕ) (ids : 
     ]
   ]
 
-  pub made_covers : Covers need s → Covers need s'
+  pub made_covers : MeetsNeeds need s → MeetsNeeds need s'
   made_covers covers = record {
     each = λ m i k e. elim (made_in m i k e) [
       | inl old ↦ covers.each m i k old
@@ -212,7 +212,7 @@ fits_each s n i v fit k at =
 
 -- ---- needs that fall
 
-pub lowered : (w w' : Indexed Registration) (s : List (Option TableState)) → ((i : Id) → need w' i ≤ need w i) → Covers (need w) s → Covers (need w') s
+pub lowered : (w w' : Indexed Registration) (s : List (Option TableState)) → ((i : Id) → need w' i ≤ need w i) → MeetsNeeds (need w) s → MeetsNeeds (need w') s
 lowered w w' s less covers = record {
   each = λ n i k e.
       let was = covers.each n i k e in

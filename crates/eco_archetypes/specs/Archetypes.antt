@@ -7,7 +7,7 @@ use Rattle.eco_ids.specs.declared.id.Id.{Id}
 use Rattle.eco_ids.specs.declared.pattern.Pattern.{Pattern}
 use Rattle.eco_ids.specs.Matching.{pattern_matches}
 use Rattle.eco_ids.specs.declared.entity.Entity.{Entity}
-use Rattle.eco_tables.specs.Table.{TableState, retyped_row, Row, entities_of}
+use Rattle.eco_tables.specs.Table.{TableState, retyped_row, TableRow, entities_of}
 use Rattle.eco_tables.specs.Tables.{slot_of, table_in, rowless_type}
 use Rattle.eco_index.specs.Edges.{IsGraph}
 use Rattle.eco_index.specs.TypeMap.{IsTypeMap}
@@ -104,7 +104,7 @@ abbrev pub is_found_in : (List Id → Bool) → List (Option TableState) → ℕ
 is_found_in test slots n = is_found_by test (slot_of slots n)
 
 -- the row of the table in a slot, if it is there
-abbrev pub row_at : List (Option TableState) → ℕ → ℕ → Option Row
+abbrev pub row_at : List (Option TableState) → ℕ → ℕ → Option TableRow
 row_at slots n row = slice_get (table_in slots n).rows row
 
 -- each row is what and where it was

@@ -15,16 +15,16 @@ abbrev pub AreAgreed : List (Option TableState) → Type 0
 AreAgreed slots = (n m : ℕ) → Agree (table_in slots n) (table_in slots m)
 
 -- each table keeps as many fields of an id as values of it may need
-pub record Covers (need : Id → ℕ) (slots : List (Option TableState)) : Type 0 where
+pub record MeetsNeeds (need : Id → ℕ) (slots : List (Option TableState)) : Type 0 where
   pub each : (n : ℕ) (i : Id) (k : ℕ) → width_in (table_in slots n) i ≡ Some k → need i ≤ k
 
 -- whatever values may need, the new tables keep it if the old ones did
 abbrev pub KeepsWidths : List (Option TableState) → List (Option TableState) → Type 0
-KeepsWidths old new = (need : Id → ℕ) → Covers need old → Covers need new
+KeepsWidths old new = (need : Id → ℕ) → MeetsNeeds need old → MeetsNeeds need new
 
 -- the new tables keep as many fields as values may need by this index, if the old ones did
 abbrev pub StillCover : Indexed Registration → List (Option TableState) → List (Option TableState) → Type 0
-StillCover w old new = Covers (need w) old → Covers (need w) new
+StillCover w old new = MeetsNeeds (need w) old → MeetsNeeds (need w) new
 
 -- each table that has the id keeps so many fields of it
 abbrev pub FitsAll : List (Option TableState) → Id → ℕ → Type 0
@@ -32,13 +32,13 @@ FitsAll slots i width = (n k : ℕ) → width_in (table_in slots n) i ≡ Some k
 
 -- the new tables keep as many fields as values may need, if the old ones did and one more of the id keeps enough
 abbrev pub LetsGrow : List (Option TableState) → List (Option TableState) → Id → ℕ → Type 0
-LetsGrow old new i width = (need : Id → ℕ) → need i ≤ width → Covers need old → Covers need new
+LetsGrow old new i width = (need : Id → ℕ) → need i ≤ width → MeetsNeeds need old → MeetsNeeds need new
 
 -- a new table may keep so many fields of an id: as many as those that have it, and as many as it may need if they do
 pub record IsWidth (need : Id → ℕ) (slots : List (Option TableState)) (i : Id) (width : ℕ) : Type 0 where
   pub few : width ≤ FIELD_COUNT
   pub agrees : FitsAll slots i width
-  pub covers : Covers need slots → need i ≤ width
+  pub covers : MeetsNeeds need slots → need i ≤ width
 
 -- one such width for each of the ids
 abbrev pub AreWidths : (Id → ℕ) → List (Option TableState) → List Id → List ℕ → Type 0
@@ -49,4 +49,4 @@ AreWidths need slots (i ∷ is) (w ∷ ws) = IsWidth need slots i w × AreWidths
 
 -- the value has all its fields, and those past what the tables keep of the id are 0
 abbrev pub FitsIn : List (Option TableState) → Id → Value → Type 0
-FitsIn slots i v = (need : Id → ℕ) × Covers need slots × IsTrue ((length v.0 == FIELD_COUNT) && is_zero_past (need i) v)
+FitsIn slots i v = (need : Id → ℕ) × MeetsNeeds need slots × IsTrue ((length v.0 == FIELD_COUNT) && is_zero_past (need i) v)

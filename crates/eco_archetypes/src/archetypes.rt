@@ -7,7 +7,7 @@ ghost use Rattle.std.specs.HashMap.{IsUnchanged, spare};
 ghost use Rattle.eco_ids.specs.declared.id.Id.{Id as Ids};
 ghost use Rattle.eco_ids.specs.Order.{id_cmp};
 ghost use Rattle.eco_tables.specs.Table.{TableState, entities_of, empty_table};
-ghost use Rattle.eco_tables.specs.Tables.{slot_of, table_in, row_in, Sets, SetsRoom, Moves, MovesAll};
+ghost use Rattle.eco_tables.specs.Tables.{slot_of, table_in, row_in, SetsSlot, SetsRoom, Moves, MovesAll};
 ghost use Rattle.eco_tables.specs.Tables.{cleared, new_row, with_row, with_written, without_row, rowless_type};
 ghost use Rattle.eco_index.specs.Caching.{HaveRoom, StayExact};
 ghost use Rattle.eco_index.specs.Contents.{cache_list, slots_by_type};
@@ -214,7 +214,7 @@ impl Archetypes {
     fn make(&mut self, entities: &EntityIndex, type_list: TypeList) -> Result<usize, AllocError>
         requires { (n : ℕ) → type_at self.old n ≢ Some type_list }
         ensures vacant { IfOk result (λ n. slot_of self.old n ≡ None) }
-        ensures makes { IfOk result (λ n. Sets self.old self.new n
+        ensures makes { IfOk result (λ n. SetsSlot self.old self.new n
             (Some (empty_table type_list (table_in self.new n).widths))) }
         ensures widths { OnOk result (StillCover entities.now self.old self.new) }
         ensures err { OnErr result (SameSlots self.old self.new) }
@@ -238,7 +238,8 @@ impl Archetypes {
 
     /// Drops the table in a slot if it has no rows: it is found no more. No row changes. It takes no memory.
     pub fn drop_empty(&mut self, slot: usize)
-        ensures dropped { OnSome (rowless_type (slot_of self.old slot)) (Sets self.old self.new slot None) }
+        ensures dropped { OnSome (rowless_type (slot_of self.old slot))
+            (SetsSlot self.old self.new slot None) }
         ensures kept { IfNone (rowless_type (slot_of self.old slot)) (SameSlots self.old self.new) }
         ensures rowless { (slots : List ℕ) → RowlessIn self.old (slot ∷ slots) → RowlessIn self.new slots }
         ensures rows { SameRows self.old self.new }
@@ -254,7 +255,8 @@ impl Archetypes {
     #[cold]
     #[inline(never)]
     fn forget(&mut self, slot: usize)
-        ensures dropped { OnSome (rowless_type (slot_of self.old slot)) (Sets self.old self.new slot None) }
+        ensures dropped { OnSome (rowless_type (slot_of self.old slot))
+            (SetsSlot self.old self.new slot None) }
         ensures kept { IfNone (rowless_type (slot_of self.old slot)) (SameSlots self.old self.new) }
         ensures rows { SameRows self.old self.new }
     {
@@ -284,7 +286,7 @@ impl Archetypes {
     pub fn set_value(&mut self, slot: usize, row: usize, id: Id, value: Value) -> bool
         requires row { row < length (table_in self.old slot).rows }
         requires fits { FitsIn self.old id value }
-        ensures written { Sets self.old self.new slot
+        ensures written { SetsSlot self.old self.new slot
             (Some (with_written (table_in self.old slot) row id value)) }
         ensures had { result ≡ is_some (find id_cmp id (row_in self.old slot row).held) }
         ensures widths { KeepsWidths self.old self.new }
@@ -296,7 +298,7 @@ impl Archetypes {
     #[inline]
     pub fn push_row(&mut self, slot: usize, entity: Entity)
         requires { 0 < (table_in self.old slot).room }
-        ensures row { Sets self.old self.new slot
+        ensures row { SetsSlot self.old self.new slot
             (Some (with_row (table_in self.old slot) (new_row entity))) }
         ensures widths { KeepsWidths self.old self.new }
     {
@@ -306,7 +308,7 @@ impl Archetypes {
     /// Takes a row out, and takes no memory. The answer is the entity that stands in its place now.
     pub fn swap_out(&mut self, slot: usize, row: usize) -> Option<Entity>
         requires { row < length (table_in self.old slot).rows }
-        ensures rows { Sets self.old self.new slot (Some (without_row (table_in self.old slot) row)) }
+        ensures rows { SetsSlot self.old self.new slot (Some (without_row (table_in self.old slot) row)) }
         ensures moved { result ≡ slice_get (entities_of (table_in self.new slot).rows) row }
         ensures widths { KeepsWidths self.old self.new }
     {
@@ -316,7 +318,7 @@ impl Archetypes {
     /// Takes all rows of a table out, and takes no memory. The table stays, and the room of its rows is won.
     pub fn clear(&mut self, slot: usize)
         requires { IsSome (slot_of self.old slot) }
-        ensures rows { Sets self.old self.new slot (Some (cleared (table_in self.old slot))) }
+        ensures rows { SetsSlot self.old self.new slot (Some (cleared (table_in self.old slot))) }
         ensures widths { KeepsWidths self.old self.new }
     {
         self.tables.clear(slot);

@@ -24,13 +24,13 @@ use Rattle.eco_ids.proofs.Exact.{keys, keys_find}
 use Rattle.eco_ids.proofs.Facts.{id_eq_is, id_eq_itself}
 use Rattle.eco_ids.proofs.Keeps.{has_in}
 use Rattle.eco_ids.proofs.Overlaps.{entity_eq_is, entity_eq_itself}
-use Rattle.eco_systems.specs.Closing.{head_of, with_head}
+use Rattle.eco_systems.specs.Closing.{pattern_head, pattern_with_head}
 use Rattle.eco_systems.specs.Writes.{BringsPattern, InClosedPatterns}
-use Rattle.eco_traits.specs.Prospect.{is_with}
+use Rattle.eco_traits.specs.Prospect.{is_pair_of_with}
 use Rattle.eco_traits.specs.Target.{type_of_record}
 use Rattle.eco_search.specs.Search.{Appends, Covers, IsInLeast, IsLeastSet, is_among}
 use Rattle.eco_batches.specs.Brought.{AreClosed, HasKnownTarget, below, brought, brought_by}
-use Rattle.eco_batches.specs.Brought.{ids_in, key_of, keys_by, known_keys, pattern_of, targets_below}
+use Rattle.eco_batches.specs.Brought.{ids_in, pattern_key, keys_by, known_keys, key_pattern, targets_below}
 use Rattle.eco_batches.specs.KeyLaws.{same_keys}
 use Rattle.eco_batches.specs.declared.key.Key.{Key}
 use Rattle.eco_batches.specs.contracts.key.KeyPartialEq.TheImpl as key_eq
@@ -51,14 +51,15 @@ item_is_member ids i = (
   λ m. passes (λ j. id_eq j i) ids m (id_eq_itself i),
 )
 
-one_brings : (w : WorldState) (p : Pattern) (h x : Entity) → head_of p ≡ Some h → IsTrue (has w h (id.Two WITH x)) → BringsPattern w p (with_head p x)
+one_brings : (w : WorldState) (p : Pattern) (h x : Entity) → pattern_head p ≡ Some h → IsTrue (has w h (id.Two WITH x))
+    → BringsPattern w p (pattern_with_head p x)
 one_brings w (One c) h x at t = subst (λ e. IsTrue (has w e (id.Two WITH x))) (sym (same_Some c h at)) t
 one_brings w (Two (Is r) q) h x at t = (subst (λ e. IsTrue (has w e (id.Two WITH x))) (sym (same_Some r h at)) t, refl)
 one_brings w (Two Each q) h x at t = absurd (none-some h at)
 one_brings w (Two Any q) h x at t = absurd (none-some h at)
 
-brought_one : (w : WorldState) (p q : Pattern) (h : Entity) → head_of p ≡ Some h → BringsPattern w p q
-    → (x : Entity) × IsTrue (has w h (id.Two WITH x)) × (with_head p x ≡ q)
+brought_one : (w : WorldState) (p q : Pattern) (h : Entity) → pattern_head p ≡ Some h → BringsPattern w p q
+    → (x : Entity) × IsTrue (has w h (id.Two WITH x)) × (pattern_with_head p x ≡ q)
 brought_one w (One c) (One x) h at b = (x, subst (λ e. IsTrue (has w e (id.Two WITH x))) (same_Some c h at) b, refl)
 brought_one w (One c) (Two p u) h at b = absurd b
 brought_one w (Two p u) (One x) h at b = absurd (no_single p b)
@@ -74,21 +75,21 @@ brought_one w (Two (Is r) q) (Two Any u) h at b = absurd b
 brought_one w (Two (Is r) q) (Two (Is x) u) h at b =
     (x, subst (λ e. IsTrue (has w e (id.Two WITH x))) (same_Some r h at) b.0, ap (Two (Is x)) (sym b.1))
 
-by_with : (p : Pattern) (x : Entity) → brought_by p (id.Two WITH x) ≡ Some (with_head p x)
-by_with p x = ap (λ b. if b then Some (with_head p x) else None) (entity_eq_itself WITH)
+by_with : (p : Pattern) (x : Entity) → brought_by p (id.Two WITH x) ≡ Some (pattern_with_head p x)
+by_with p x = ap (λ b. if b then Some (pattern_with_head p x) else None) (entity_eq_itself WITH)
 
-by_id : (p q : Pattern) (i : Id) → Member q (option_to_list (brought_by p i)) → (x : Entity) × (i ≡ id.Two WITH x) × (with_head p x ≡ q)
+by_id : (p q : Pattern) (i : Id) → Member q (option_to_list (brought_by p i)) → (x : Entity) × (i ≡ id.Two WITH x) × (pattern_with_head p x ≡ q)
 by_id p q (id.One e) m = absurd m
 by_id p q (id.Two r x) m = by (entity_eq r WITH) refl m
   where
-    by : (b : Bool) → entity_eq r WITH ≡ b → Member q (option_to_list (if b then Some (with_head p x) else None))
-        → (y : Entity) × (id.Two r x ≡ id.Two WITH y) × (with_head p y ≡ q)
+    by : (b : Bool) → entity_eq r WITH ≡ b → Member q (option_to_list (if b then Some (pattern_with_head p x) else None))
+        → (y : Entity) × (id.Two r x ≡ id.Two WITH y) × (pattern_with_head p y ≡ q)
     by true e (inl is) = (x, ap (λ s. id.Two s x) (entity_eq_is r WITH e), is)
     by true e (inr none) = absurd none
     by false e none = absurd none
 
 -- a pattern brings what the ids of its head say
-pub brought_by_ids : (w : WorldState) (p : Pattern) (h : Entity) (ids : List Id) → head_of p ≡ Some h
+pub brought_by_ids : (w : WorldState) (p : Pattern) (h : Entity) (ids : List Id) → pattern_head p ≡ Some h
     → ((x : Entity) → has w h (id.Two WITH x) ≡ has_item id_cmp ids (id.Two WITH x)) → (q : Pattern) → BringsPattern w p q ↔ Member q (brought p ids)
 brought_by_ids w p h ids at own q = (
   λ b. let one = brought_one w p q h at b in
@@ -110,41 +111,41 @@ pub has_shown : (w : WorldState) (e : Entity) (ids shown : List Id) → Some ids
 has_shown w e ids shown own is x = has_listed (record_of w e) (id.Two WITH x) ids own ∙ ap (λ xs. has_item id_cmp xs (id.Two WITH x)) (sym is)
 
 -- a pattern of whose head no id is a pair of With brings nothing
-none_brought : (p : Pattern) (ids : List Id) → list_any is_with ids ≡ false → brought p ids ≡ []
+none_brought : (p : Pattern) (ids : List Id) → list_any is_pair_of_with ids ≡ false → brought p ids ≡ []
 none_brought p [] h = refl
 none_brought p (id.One e ∷ ids) h = none_brought p ids h
 none_brought p (id.Two r x ∷ ids) h = by (none_brought p ids) (entity_eq r WITH) refl
   where
-    by : (list_any is_with ids ≡ false → brought p ids ≡ []) → (b : Bool) → entity_eq r WITH ≡ b → brought p (id.Two r x ∷ ids) ≡ []
-    by rest true e = absurd (true≢false (sym (ap (λ c. c || list_any is_with ids) e) ∙ h))
+    by : (list_any is_pair_of_with ids ≡ false → brought p ids ≡ []) → (b : Bool) → entity_eq r WITH ≡ b → brought p (id.Two r x ∷ ids) ≡ []
+    by rest true e = absurd (true≢false (sym (ap (λ c. c || list_any is_pair_of_with ids) e) ∙ h))
     by rest false e =
-        ap (λ c. option_to_list (if c then Some (with_head p x) else None) ++ brought p ids) e
-        ∙ rest (sym (ap (λ c. c || list_any is_with ids) e) ∙ h)
+        ap (λ c. option_to_list (if c then Some (pattern_with_head p x) else None) ++ brought p ids) e
+        ∙ rest (sym (ap (λ c. c || list_any is_pair_of_with ids) e) ∙ h)
 
-pub nothing_by : (w : WorldState) (p : Pattern) (ids : List Id) → list_any is_with ids ≡ false
+pub nothing_by : (w : WorldState) (p : Pattern) (ids : List Id) → list_any is_pair_of_with ids ≡ false
     → ((q : Pattern) → BringsPattern w p q ↔ Member q (brought p ids))
     → (q : Pattern) → BringsPattern w p q → ⊥
 nothing_by w p ids none exact q b = subst (Member q) (none_brought p ids none) ((exact q).0 b)
 
 -- one more id is looked at
 pub brought_more : (ids : List Id) (k : ℕ) (d : Id) (start now : List Key) (o : Option Pattern) (p : Pattern) → k < length ids
-    → o ≡ brought_by p (get_or ids k d) → now ≡ start ++ map key_of (brought p (take k ids))
-    → now ++ option_to_list (option_map key_of o) ≡ start ++ map key_of (brought p (take (k + 1) ids))
+    → o ≡ brought_by p (get_or ids k d) → now ≡ start ++ map pattern_key (brought p (take k ids))
+    → now ++ option_to_list (option_map pattern_key o) ≡ start ++ map pattern_key (brought p (take (k + 1) ids))
 brought_more ids k d start now o p there is before =
-    ap (λ l. l ++ option_to_list (option_map key_of o)) before
-    ∙ append_assoc start (map key_of (brought p (take k ids))) (option_to_list (option_map key_of o))
+    ap (λ l. l ++ option_to_list (option_map pattern_key o)) before
+    ∙ append_assoc start (map pattern_key (brought p (take k ids))) (option_to_list (option_map pattern_key o))
     ∙ ap (λ l. start ++ l) (sym more)
   where
-    listed : (o : Option Pattern) → map key_of (option_to_list o ++ []) ≡ option_to_list (option_map key_of o)
+    listed : (o : Option Pattern) → map pattern_key (option_to_list o ++ []) ≡ option_to_list (option_map pattern_key o)
     listed None = refl
     listed (Some q) = refl
 
-    more : map key_of (brought p (take (k + 1) ids)) ≡ map key_of (brought p (take k ids)) ++ option_to_list (option_map key_of o)
+    more : map pattern_key (brought p (take (k + 1) ids)) ≡ map pattern_key (brought p (take k ids)) ++ option_to_list (option_map pattern_key o)
     more =
-        ap (λ l. map key_of (brought p l)) (take_more ids k d there)
-        ∙ ap (map key_of) (flat_map-append (λ i. option_to_list (brought_by p i)) (take k ids) (get_or ids k d ∷ []))
-        ∙ map-append key_of (brought p (take k ids)) (option_to_list (brought_by p (get_or ids k d)) ++ [])
-        ∙ ap (λ l. map key_of (brought p (take k ids)) ++ l) (ap (λ r. map key_of (option_to_list r ++ [])) (sym is) ∙ listed o)
+        ap (λ l. map pattern_key (brought p l)) (take_more ids k d there)
+        ∙ ap (map pattern_key) (flat_map-append (λ i. option_to_list (brought_by p i)) (take k ids) (get_or ids k d ∷ []))
+        ∙ map-append pattern_key (brought p (take k ids)) (option_to_list (brought_by p (get_or ids k d)) ++ [])
+        ∙ ap (λ l. map pattern_key (brought p (take k ids)) ++ l) (ap (λ r. map pattern_key (option_to_list r ++ [])) (sym is) ∙ listed o)
 
 -- ---- an end to them
 
@@ -198,8 +199,8 @@ module _ (w : WorldState) where
       in_flat (keys_by targets) (id.Two WITH x) k (flat_map ids_in w.indices) (held_by w.indices e.index e.generation (id.Two WITH x) h) m
 
   known_below : (m n : ℕ) (p q : Pattern) → HasTargetBelow m n p → BringsPattern w p q
-      → Member (key_of q) (flat_map (keys_by (targets_below m n)) (flat_map ids_in w.indices))
-  known_below m n (One c) (One x) is b = known_by (targets_below m n) c x (key_of (One x)) b (inl refl)
+      → Member (pattern_key q) (flat_map (keys_by (targets_below m n)) (flat_map ids_in w.indices))
+  known_below m n (One c) (One x) is b = known_by (targets_below m n) c x (pattern_key (One x)) b (inl refl)
   known_below m n (One c) (Two p u) is b = absurd b
   known_below m n (Two (Is r) t) (One x) is b = absurd b
   known_below m n (Two Each t) (One x) is b = absurd b
@@ -209,8 +210,8 @@ module _ (w : WorldState) where
   known_below m n (Two (Is r) t) (Two Each u) is b = absurd b
   known_below m n (Two (Is r) t) (Two Any u) is b = absurd b
   known_below m n (Two (Is r) t) (Two (Is x) u) is b =
-      known_by (targets_below m n) r x (key_of (Two (Is x) u)) b.0
-      (inr (in_map (λ q. key_of (Two (Is x) q)) u (targets_below m n) (target_listed m n u (subst (IsBelow m n) (sym b.1) is))))
+      known_by (targets_below m n) r x (pattern_key (Two (Is x) u)) b.0
+      (inr (in_map (λ q. pattern_key (Two (Is x) q)) u (targets_below m n) (target_listed m n u (subst (IsBelow m n) (sym b.1) is))))
 
   among_is_member : (ks : List Key) (k : Key) → IsTrue (is_among same_key ks k) ↔ Member k ks
   among_is_member ks k = (
@@ -223,39 +224,40 @@ module _ (w : WorldState) where
 
   -- ---- closures
 
-  pub appended : (p : Key) (old new : List Key) (ids : List Id) → new ≡ old ++ map key_of (brought p.pattern ids)
+  pub appended : (p : Key) (old new : List Key) (ids : List Id) → new ≡ old ++ map pattern_key (brought p.pattern ids)
       → ((q : Pattern) → BringsPattern w p.pattern q ↔ Member q (brought p.pattern ids)) → Appends same_key (Brings w p) old new
   appended p old new ids more exact k = (
-    λ h. there (in_parts k old (map key_of (brought p.pattern ids)) (subst (Member k) more ((among_is_member new k).0 h))),
+    λ h. there (in_parts k old (map pattern_key (brought p.pattern ids)) (subst (Member k) more ((among_is_member new k).0 h))),
     λ s. (among_is_member new k).1 (subst (Member k) (sym more) (here s)),
   )
     where
-      there : Member k old ⊎ Member k (map key_of (brought p.pattern ids)) → IsTrue (is_among same_key old k) ⊎ Brings w p k
+      there : Member k old ⊎ Member k (map pattern_key (brought p.pattern ids)) → IsTrue (is_among same_key old k) ⊎ Brings w p k
       there (inl m) = inl ((among_is_member old k).1 m)
       there (inr m) =
-          let one = from_map key_of (brought p.pattern ids) m in
-          inr ((exact k.pattern).1 (subst (λ q. Member q (brought p.pattern ids)) (ap pattern_of one.2) one.1))
+          let one = from_map pattern_key (brought p.pattern ids) m in
+          inr ((exact k.pattern).1 (subst (λ q. Member q (brought p.pattern ids)) (ap key_pattern one.2) one.1))
 
-      here : IsTrue (is_among same_key old k) ⊎ Brings w p k → Member k (old ++ map key_of (brought p.pattern ids))
+      here : IsTrue (is_among same_key old k) ⊎ Brings w p k → Member k (old ++ map pattern_key (brought p.pattern ids))
       here (inl h) = in_left k old _ ((among_is_member old k).0 h)
-      here (inr b) = in_right k old _ (in_map key_of k.pattern (brought p.pattern ids) ((exact k.pattern).0 b))
+      here (inr b) = in_right k old _ (in_map pattern_key k.pattern (brought p.pattern ids) ((exact k.pattern).0 b))
 
   -- the least set of the keys is the closure
-  pub closed : (ps : List Pattern) (roots ks : List Key) → roots ≡ map key_of ps → IsLeastSet same_key (Brings w) roots ks → AreClosed w ps (map pattern_of ks)
+  pub closed : (ps : List Pattern) (roots ks : List Key) → roots ≡ map pattern_key ps → IsLeastSet same_key (Brings w) roots ks
+      → AreClosed w ps (map key_pattern ks)
   closed ps roots ks made least p = (
-    λ m. let one = from_map pattern_of ks m in
+    λ m. let one = from_map key_pattern ks m in
         subst (InClosedPatterns w ps) one.2 (there ((least one.0).0 ((among_is_member ks one.0).1 one.1))),
-    λ c. in_map pattern_of (key_of p) ks ((among_is_member ks (key_of p)).0 ((least (key_of p)).1 (here c))),
+    λ c. in_map key_pattern (pattern_key p) ks ((among_is_member ks (pattern_key p)).0 ((least (pattern_key p)).1 (here c))),
   )
     where
       there : {k : Key} → IsInLeast same_key (Brings w) roots k → InClosedPatterns w ps k.pattern
       there {k = k} (root h) =
-          let one = from_map key_of ps (subst (Member k) made ((among_is_member roots k).0 h)) in
-          root (subst (λ q. Member q ps) (ap pattern_of one.2) one.1)
+          let one = from_map pattern_key ps (subst (Member k) made ((among_is_member roots k).0 h)) in
+          root (subst (λ q. Member q ps) (ap key_pattern one.2) one.1)
       there (next m b) = next (there m) b
 
-      here : {q : Pattern} → InClosedPatterns w ps q → IsInLeast same_key (Brings w) roots (key_of q)
-      here {q = q} (root m) = root ((among_is_member roots (key_of q)).1 (subst (Member (key_of q)) (sym made) (in_map key_of q ps m)))
+      here : {q : Pattern} → InClosedPatterns w ps q → IsInLeast same_key (Brings w) roots (pattern_key q)
+      here {q = q} (root m) = root ((among_is_member roots (pattern_key q)).1 (subst (Member (pattern_key q)) (sym made) (in_map pattern_key q ps m)))
       here (next c b) = next (here c) b
 
   abbrev pub BringsNothing : Pattern → Type 0

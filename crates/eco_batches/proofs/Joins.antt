@@ -13,7 +13,7 @@ use Rattle.eco_query.specs.Queries.{has_any}
 use Rattle.eco_systems.specs.Joining.{batched}
 use Rattle.eco_systems.specs.Closing.{ListsClosed}
 use Rattle.eco_systems.specs.Writes.{writes_trait}
-use Rattle.eco_batches.specs.Brought.{same}
+use Rattle.eco_batches.specs.Brought.{same_pattern}
 use Rattle.eco_batches.specs.Open.{IsFresh, IsOpen, JoinsNext, JoinsOpen, stands_apart}
 use Rattle.eco_batches.specs.OutlineModels.{OutlineModel}
 use Rattle.eco_batches.specs.Outlines.{IsOutline, clash_at, clash_of, closed_in, disturbs, kills_in, kills_too, late_at, reads_in, traits_in}
@@ -173,7 +173,7 @@ join_end os ds items order k done done' batch last end total more is =
 -- one outline more
 pub outlined_more : (w : WorldState) (edition : Edition) → edition ≡ w.edition → (ds : List Declared) (k : ℕ) (d : Declared)
     → (old new : List OutlineModel) (closed shown : List Pattern) → k < length ds
-    → AllZip (IsOutline w) (take k ds) old → ListsClosed w (get_or ds k d).writes.now closed → IsDistinct same closed → shown ≡ closed
+    → AllZip (IsOutline w) (take k ds) old → ListsClosed w (get_or ds k d).writes.now closed → IsDistinct same_pattern closed → shown ≡ closed
     → new ≡ old ++ record { closed = shown; writes_traits = list_any (writes_trait edition) shown; kills = (get_or ds k d).kills } ∷ []
     → AllZip (IsOutline w) (take (k + 1) ds) new
 outlined_more w edition same_edition ds k d old new closed shown below all listed once is pushed =
@@ -183,6 +183,6 @@ outlined_more w edition same_edition ds k d old new closed shown below all liste
     (zip_push (IsOutline w) (take k ds) old (get_or ds k d) made all (record {
       kills = refl;
       closed = subst (ListsClosed w (get_or ds k d).writes.now) (sym is) listed;
-      once = subst (IsDistinct same) (sym is) once;
+      once = subst (IsDistinct same_pattern) (sym is) once;
       traits = ap (λ e. list_any (writes_trait e) shown) same_edition;
     })))

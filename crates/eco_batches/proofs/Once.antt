@@ -10,7 +10,7 @@ use Rattle.eco_ids.specs.declared.pattern.Pattern.{Pattern}
 use Rattle.eco_ids.specs.World.{WorldState}
 use Rattle.eco_systems.specs.Closing.{ListsClosed}
 use Rattle.eco_systems.specs.Writes.{widened}
-use Rattle.eco_batches.specs.Brought.{AreClosed, once, pattern_of, same}
+use Rattle.eco_batches.specs.Brought.{AreClosed, unrepeated, key_pattern, same_pattern}
 use Rattle.eco_batches.specs.declared.key.Key.{Key}
 use Rattle.eco_batches.specs.contracts.key.KeyPartialEq.TheImpl as key_eq
 use Rattle.eco_batches.proofs.Keyed.{or_joins, or_none}
@@ -23,12 +23,12 @@ insert_all_push eq ks (y ∷ ys) x = insert_all_push eq (insert_key eq ks y) ys 
 
 -- ---- a test finds the same
 
-one_more : (test : Pattern → Bool) (ks : List Pattern) (x : Pattern) → list_any test (insert_key same ks x) ≡ (list_any test ks || test x)
-one_more test ks x = by (list_any (same x) ks) refl
+one_more : (test : Pattern → Bool) (ks : List Pattern) (x : Pattern) → list_any test (insert_key same_pattern ks x) ≡ (list_any test ks || test x)
+one_more test ks x = by (list_any (same_pattern x) ks) refl
   where
-    by : (b : Bool) → list_any (same x) ks ≡ b → list_any test (if b then ks else ks ++ x ∷ []) ≡ (list_any test ks || test x)
+    by : (b : Bool) → list_any (same_pattern x) ks ≡ b → list_any test (if b then ks else ks ++ x ∷ []) ≡ (list_any test ks || test x)
     by true found =
-        let one = passing (same x) ks found in
+        let one = passing (same_pattern x) ks found in
         let is = (pattern_eq-Decides x one.0).0 one.2 in
         there (test x) refl (λ t. passes test ks one.1 (subst (λ p. IsTrue (test p)) is t))
       where
@@ -37,15 +37,15 @@ one_more test ks x = by (list_any (same x) ks) refl
         there false e f = sym (or_none (list_any test ks))
     by false found = list_any-append test ks (x ∷ []) ∙ ap (λ c. list_any test ks || c) (or_none (test x))
 
-all_more : (test : Pattern → Bool) (ks xs : List Pattern) → list_any test (insert_all same ks xs) ≡ (list_any test ks || list_any test xs)
+all_more : (test : Pattern → Bool) (ks xs : List Pattern) → list_any test (insert_all same_pattern ks xs) ≡ (list_any test ks || list_any test xs)
 all_more test ks [] = sym (or_none (list_any test ks))
 all_more test ks (x ∷ xs) =
-    all_more test (insert_key same ks x) xs
+    all_more test (insert_key same_pattern ks x) xs
     ∙ ap (λ c. c || list_any test xs) (one_more test ks x)
     ∙ sym (or_joins (list_any test ks) (test x) (list_any test xs))
 
 -- the closure, widened, lists the closed writes
-pub lists_closed : (w : WorldState) (writes members listed : List Pattern) → AreClosed w writes members → listed ≡ once (map (widened w) members)
+pub lists_closed : (w : WorldState) (writes members listed : List Pattern) → AreClosed w writes members → listed ≡ unrepeated (map (widened w) members)
     → ListsClosed w writes listed
 lists_closed w writes members listed closed made test = (
   λ h.
@@ -58,82 +58,85 @@ lists_closed w writes members listed closed made test = (
 
 -- ---- each once
 
-turned : (p q : Pattern) → same p q ≡ false → same q p ≡ false
-turned p q h = by (same q p) refl
+turned : (p q : Pattern) → same_pattern p q ≡ false → same_pattern q p ≡ false
+turned p q h = by (same_pattern q p) refl
   where
-    by : (b : Bool) → same q p ≡ b → same q p ≡ false
-    by true e = absurd (true≢false (sym ((pattern_eq-Decides p p).1 refl) ∙ subst (λ r. same p r ≡ false) ((pattern_eq-Decides q p).0 e) h))
+    by : (b : Bool) → same_pattern q p ≡ b → same_pattern q p ≡ false
+    by true e = absurd (true≢false (sym ((pattern_eq-Decides p p).1 refl) ∙ subst (λ r. same_pattern p r ≡ false) ((pattern_eq-Decides q p).0 e) h))
     by false e = e
 
-apart_from_all : (x : Pattern) (ks : List Pattern) → list_any (same x) ks ≡ false → AllByRecursion (λ y. same y x ≡ false) ks
+apart_from_all : (x : Pattern) (ks : List Pattern) → list_any (same_pattern x) ks ≡ false → AllByRecursion (λ y. same_pattern y x ≡ false) ks
 apart_from_all x [] h = tt
-apart_from_all x (k ∷ ks) h = by (apart_from_all x ks) (same x k) refl
+apart_from_all x (k ∷ ks) h = by (apart_from_all x ks) (same_pattern x k) refl
   where
-    by : (list_any (same x) ks ≡ false → AllByRecursion (λ y. same y x ≡ false) ks) → (b : Bool) → same x k ≡ b
-        → AllByRecursion (λ y. same y x ≡ false) (k ∷ ks)
-    by rest true e = absurd (true≢false (sym (ap (λ c. c || list_any (same x) ks) e) ∙ h))
-    by rest false e = (turned x k e, rest (sym (ap (λ c. c || list_any (same x) ks) e) ∙ h))
+    by : (list_any (same_pattern x) ks ≡ false → AllByRecursion (λ y. same_pattern y x ≡ false) ks) → (b : Bool) → same_pattern x k ≡ b
+        → AllByRecursion (λ y. same_pattern y x ≡ false) (k ∷ ks)
+    by rest true e = absurd (true≢false (sym (ap (λ c. c || list_any (same_pattern x) ks) e) ∙ h))
+    by rest false e = (turned x k e, rest (sym (ap (λ c. c || list_any (same_pattern x) ks) e) ∙ h))
 
-distinct_push : (ks : List Pattern) (x : Pattern) → IsDistinct same ks → AllByRecursion (λ y. same y x ≡ false) ks → IsDistinct same (ks ++ x ∷ [])
-distinct_push [] x d apart = IsDistinct-cons same x [] tt d
+distinct_push : (ks : List Pattern) (x : Pattern) → IsDistinct same_pattern ks → AllByRecursion (λ y. same_pattern y x ≡ false) ks
+    → IsDistinct same_pattern (ks ++ x ∷ [])
+distinct_push [] x d apart = IsDistinct-cons same_pattern x [] tt d
 distinct_push (k ∷ ks) x d apart =
-    IsDistinct-cons same k (ks ++ x ∷ []) (all_push (λ y. same k y ≡ false) ks x (IsDistinct-head same k ks d) apart.0)
-    (distinct_push ks x (IsDistinct-tail same k ks d) apart.1)
+    IsDistinct-cons same_pattern k (ks ++ x ∷ []) (all_push (λ y. same_pattern k y ≡ false) ks x (IsDistinct-head same_pattern k ks d) apart.0)
+    (distinct_push ks x (IsDistinct-tail same_pattern k ks d) apart.1)
 
-distinct : (ks xs : List Pattern) → IsDistinct same ks → IsDistinct same (insert_all same ks xs)
+distinct : (ks xs : List Pattern) → IsDistinct same_pattern ks → IsDistinct same_pattern (insert_all same_pattern ks xs)
 distinct ks [] d = d
-distinct ks (x ∷ xs) d = distinct (insert_key same ks x) xs (by (list_any (same x) ks) refl)
+distinct ks (x ∷ xs) d = distinct (insert_key same_pattern ks x) xs (by (list_any (same_pattern x) ks) refl)
   where
-    by : (b : Bool) → list_any (same x) ks ≡ b → IsDistinct same (if b then ks else ks ++ x ∷ [])
+    by : (b : Bool) → list_any (same_pattern x) ks ≡ b → IsDistinct same_pattern (if b then ks else ks ++ x ∷ [])
     by true e = d
     by false e = distinct_push ks x d (apart_from_all x ks e)
 
 -- ---- keys of patterns
 
-inserted : (ks : List Key) (k : Key) → map pattern_of (insert_key (key_eq.eq-value).it ks k) ≡ insert_key same (map pattern_of ks) k.pattern
+inserted : (ks : List Key) (k : Key) → map key_pattern (insert_key (key_eq.eq-value).it ks k) ≡ insert_key same_pattern (map key_pattern ks) k.pattern
 inserted ks k = by (list_any ((key_eq.eq-value).it k) ks) refl
   where
-    found : (ks : List Key) → list_any ((key_eq.eq-value).it k) ks ≡ list_any (same k.pattern) (map pattern_of ks)
+    found : (ks : List Key) → list_any ((key_eq.eq-value).it k) ks ≡ list_any (same_pattern k.pattern) (map key_pattern ks)
     found [] = refl
-    found (j ∷ js) = ap (λ c. same k.pattern j.pattern || c) (found js)
+    found (j ∷ js) = ap (λ c. same_pattern k.pattern j.pattern || c) (found js)
 
-    push : (ks : List Key) → map pattern_of (ks ++ k ∷ []) ≡ map pattern_of ks ++ k.pattern ∷ []
+    push : (ks : List Key) → map key_pattern (ks ++ k ∷ []) ≡ map key_pattern ks ++ k.pattern ∷ []
     push [] = refl
     push (j ∷ js) = ap (λ l. j.pattern ∷ l) (push js)
 
-    by : (b : Bool) → list_any ((key_eq.eq-value).it k) ks ≡ b → map pattern_of (if b then ks else ks ++ k ∷ []) ≡ insert_key same (map pattern_of ks) k.pattern
-    by true e = sym (ap (λ c. if c then map pattern_of ks else map pattern_of ks ++ k.pattern ∷ []) (sym (found ks) ∙ e))
-    by false e = push ks ∙ sym (ap (λ c. if c then map pattern_of ks else map pattern_of ks ++ k.pattern ∷ []) (sym (found ks) ∙ e))
+    by : (b : Bool) → list_any ((key_eq.eq-value).it k) ks ≡ b
+        → map key_pattern (if b then ks else ks ++ k ∷ []) ≡ insert_key same_pattern (map key_pattern ks) k.pattern
+    by true e = sym (ap (λ c. if c then map key_pattern ks else map key_pattern ks ++ k.pattern ∷ []) (sym (found ks) ∙ e))
+    by false e = push ks ∙ sym (ap (λ c. if c then map key_pattern ks else map key_pattern ks ++ k.pattern ∷ []) (sym (found ks) ∙ e))
 
 -- one more is widened
 module _ (f : Pattern → Pattern) where
   pub once_more : (xs : List Pattern) (k : ℕ) (d : Pattern) (start old new : List Pattern) (y : Pattern) → k < length xs
-      → old ≡ insert_all same start (map f (take k xs)) → y ≡ f (get_or xs k d) → new ≡ insert_key same old y
-      → new ≡ insert_all same start (map f (take (k + 1) xs))
+      → old ≡ insert_all same_pattern start (map f (take k xs)) → y ≡ f (get_or xs k d) → new ≡ insert_key same_pattern old y
+      → new ≡ insert_all same_pattern start (map f (take (k + 1) xs))
   once_more xs k d start old new y there before is made =
-      made ∙ (λ i. insert_key same (before i) (is i)) ∙ sym (insert_all_push same start (map f (take k xs)) (f (get_or xs k d)))
-      ∙ ap (insert_all same start) (sym (ap (map f) (take_more xs k d there) ∙ map_push f (take k xs) (get_or xs k d)))
+      made ∙ (λ i. insert_key same_pattern (before i) (is i)) ∙ sym (insert_all_push same_pattern start (map f (take k xs)) (f (get_or xs k d)))
+      ∙ ap (insert_all same_pattern start) (sym (ap (map f) (take_more xs k d there) ∙ map_push f (take k xs) (get_or xs k d)))
 
   pub keyed_more : (ks : List Key) (k : ℕ) (d : Key) (old new : List Key) (key : Key) → k < length ks
-      → map pattern_of old ≡ once (map f (map pattern_of (take k ks))) → key.pattern ≡ f (get_or ks k d).pattern
-      → new ≡ insert_key (key_eq.eq-value).it old key → map pattern_of new ≡ once (map f (map pattern_of (take (k + 1) ks)))
+      → map key_pattern old ≡ unrepeated (map f (map key_pattern (take k ks))) → key.pattern ≡ f (get_or ks k d).pattern
+      → new ≡ insert_key (key_eq.eq-value).it old key → map key_pattern new ≡ unrepeated (map f (map key_pattern (take (k + 1) ks)))
   keyed_more ks k d old new key there before is made =
-      ap (map pattern_of) made ∙ inserted old key ∙ (λ i. insert_key same (before i) (is i))
-      ∙ sym (insert_all_push same [] (map f (map pattern_of (take k ks))) (f (get_or ks k d).pattern))
-      ∙ ap once (sym (ap (λ l. map f (map pattern_of l)) (take_more ks k d there)
-      ∙ ap (map f) (map_push pattern_of (take k ks) (get_or ks k d)) ∙ map_push f (map pattern_of (take k ks)) (get_or ks k d).pattern))
+      ap (map key_pattern) made ∙ inserted old key ∙ (λ i. insert_key same_pattern (before i) (is i))
+      ∙ sym (insert_all_push same_pattern [] (map f (map key_pattern (take k ks))) (f (get_or ks k d).pattern))
+      ∙ ap unrepeated (sym (ap (λ l. map f (map key_pattern l)) (take_more ks k d there)
+      ∙ ap (map f) (map_push key_pattern (take k ks) (get_or ks k d)) ∙ map_push f (map key_pattern (take k ks)) (get_or ks k d).pattern))
 
-none_distinct : IsDistinct same []
+none_distinct : IsDistinct same_pattern []
 unfolding IsDistinct
 none_distinct = tt
 
-pub once_is_distinct : (listed ps : List Pattern) → listed ≡ once ps → IsDistinct same listed
-once_is_distinct listed ps made = subst (IsDistinct same) (sym made) (distinct [] ps none_distinct)
+pub once_is_distinct : (listed ps : List Pattern) → listed ≡ unrepeated ps → IsDistinct same_pattern listed
+once_is_distinct listed ps made = subst (IsDistinct same_pattern) (sym made) (distinct [] ps none_distinct)
 
 -- ---- one pattern more, where it is known whether it stands there
 
-pub stands : (ks : List Pattern) (k : Pattern) (b : Bool) → b ≡ list_any (same k) ks → b ≡ true → ks ≡ insert_key same ks k
+pub stands : (ks : List Pattern) (k : Pattern) (b : Bool) → b ≡ list_any (same_pattern k) ks → b ≡ true → ks ≡ insert_key same_pattern ks k
 stands ks k b is t = sym (ap (λ c. if c then ks else ks ++ k ∷ []) (sym is ∙ t))
 
-pub pushed_once : (ks new : List Pattern) (k : Pattern) (b : Bool) → b ≡ list_any (same k) ks → b ≡ false → new ≡ ks ++ k ∷ [] → new ≡ insert_key same ks k
+pub pushed_once : (ks new : List Pattern) (k : Pattern) (b : Bool) → b ≡ list_any (same_pattern k) ks → b ≡ false → new ≡ ks ++ k ∷ []
+    → new ≡ insert_key same_pattern ks k
 pushed_once ks new k b is f made = made ∙ sym (ap (λ c. if c then ks else ks ++ k ∷ []) (sym is ∙ f))

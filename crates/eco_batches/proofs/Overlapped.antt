@@ -14,7 +14,7 @@ use Rattle.eco_ids.specs.declared.pattern.Pattern.TheVariants.{One, Two}
 use Rattle.eco_ids.specs.Matching.{pattern_overlaps}
 use Rattle.eco_ids.specs.Order.{entity_cmp, entity_eq, has_item, id_cmp, id_eq}
 use Rattle.eco_query.specs.Queries.{has_any}
-use Rattle.eco_batches.specs.Keys.{named}
+use Rattle.eco_batches.specs.Keys.{part_entity}
 use Rattle.eco_batches.specs.Written.{overlaps, overlaps_pairs, HasAllPairs, HasPair, HasPairs, HasSingle, HasWild, IsNothing}
 use Rattle.eco_batches.specs.declared.written.Written.{Written}
 use Rattle.eco_batches.proofs.Keyed.{or_none, or_joins}
@@ -56,7 +56,7 @@ among patterns read = list_any (λ p. pattern_overlaps p read) patterns
 -- nothing overlaps where there are no keys
 pub nothing : (s : Written) → s.ids.keys ≡ [] → s.wide.keys ≡ [] → s.relationships.keys ≡ [] → s.targets.keys ≡ [] → s.wild.items ≡ [] → IsNothing s
 nothing s ids wide relationships targets wild (One e) = ap (λ k. has_item id_cmp k (id.One e)) ids
-nothing s ids wide relationships targets wild (Two p q) = λ i. pairs (named p) (named q) i || among (wild i) (Two p q)
+nothing s ids wide relationships targets wild (Two p q) = λ i. pairs (part_entity p) (part_entity q) i || among (wild i) (Two p q)
   where
     pairs : (a b : Option Entity) → overlaps_pairs s a b ≡ false
     pairs (Some r) (Some t) = λ i. has_item id_cmp (ids i) (id.Two r t) || has_item entity_cmp (wide i) r
@@ -75,16 +75,17 @@ module _ (s s' : Written) where
   pub single_more : (e : Entity) → HasSingle s e s' → (read : Pattern) → overlaps s' read ≡ (overlaps s read || pattern_overlaps (One e) read)
   single_more e h (One f) = h.ids.members (id.One f)
   single_more e h (Two p q) =
-      (λ i. same_pairs (λ r t. h.ids.members (id.Two r t) ∙ or_none _) h.wide h.relationships h.targets (named p) (named q) i || among (h.wild i) (Two p q))
+      (λ i. same_pairs (λ r t. h.ids.members (id.Two r t)
+      ∙ or_none _) h.wide h.relationships h.targets (part_entity p) (part_entity q) i || among (h.wild i) (Two p q))
       ∙ sym (or_none (overlaps s (Two p q)))
 
   pub wild_more : (p q : Part) → HasWild s (Two p q) s' → (read : Pattern) → overlaps s' read ≡ (overlaps s read || pattern_overlaps (Two p q) read)
   wild_more p q h (One f) = ap (λ k. has_item id_cmp k (id.One f)) h.ids ∙ sym (or_none (has_item id_cmp s.ids.keys (id.One f)))
   wild_more p q h (Two a b) =
-      (λ i. same_pairs (λ r t. ap (λ k. has_item id_cmp k (id.Two r t)) h.ids) h.wide h.relationships h.targets (named a) (named b) i
+      (λ i. same_pairs (λ r t. ap (λ k. has_item id_cmp k (id.Two r t)) h.ids) h.wide h.relationships h.targets (part_entity a) (part_entity b) i
       || (ap (λ k. among k (Two a b)) h.wild ∙ list_any-append (λ w. pattern_overlaps w (Two a b)) s.wild.items (Two p q ∷ [])
       ∙ ap (λ c. among s.wild.items (Two a b) || c) (or_none (pattern_overlaps (Two p q) (Two a b)))) i)
-      ∙ or_joins (overlaps_pairs s (named a) (named b)) (among s.wild.items (Two a b)) (pattern_overlaps (Two p q) (Two a b))
+      ∙ or_joins (overlaps_pairs s (part_entity a) (part_entity b)) (among s.wild.items (Two a b)) (pattern_overlaps (Two p q) (Two a b))
 
   -- one pair more
   module _ (r t : Entity) (h : HasPair s r t s') where
@@ -163,13 +164,13 @@ module _ (s s' : Written) where
     all_more (Two Any Any) = all_of_any (Two Any Any)
 
   -- pairs of one relationship, by the entities that the pattern names
-  pub pairs_more : (p q : Part) (r : Entity) (o : Option Entity) → Some r ≡ named p → o ≡ named q → HasPairs s r o s'
+  pub pairs_more : (p q : Part) (r : Entity) (o : Option Entity) → Some r ≡ part_entity p → o ≡ part_entity q → HasPairs s r o s'
       → (read : Pattern) → overlaps s' read ≡ (overlaps s read || pattern_overlaps (Two p q) read)
   pairs_more Each q r o at to h read = absurd (none-some r (sym at))
   pairs_more Any q r o at to h read = absurd (none-some r (sym at))
   pairs_more (Is e) q r (Some t) at to h read = by q to
     where
-      by : (q : Part) → Some t ≡ named q → overlaps s' read ≡ (overlaps s read || pattern_overlaps (Two (Is e) q) read)
+      by : (q : Part) → Some t ≡ part_entity q → overlaps s' read ≡ (overlaps s read || pattern_overlaps (Two (Is e) q) read)
       by (Is f) k = pair_more r t h read ∙ λ i. overlaps s read || pattern_overlaps (Two (Is (same_Some r e at i)) (Is (same_Some t f k i))) read
       by Each k = absurd (none-some t (sym k))
       by Any k = absurd (none-some t (sym k))
@@ -182,7 +183,7 @@ module _ (s s' : Written) where
       any_is_each (One f) = refl
       any_is_each (Two a b) = refl
 
-      by : (q : Part) → None ≡ named q → overlaps s' read ≡ (overlaps s read || pattern_overlaps (Two (Is e) q) read)
+      by : (q : Part) → None ≡ part_entity q → overlaps s' read ≡ (overlaps s read || pattern_overlaps (Two (Is e) q) read)
       by (Is f) k = absurd (none-some f k)
       by Each k = all_more r h read ∙ ap (λ b. overlaps s read || b) (wild Each)
       by Any k = all_more r h read ∙ ap (λ b. overlaps s read || b) (wild Any ∙ any_is_each read)

@@ -14,23 +14,23 @@ use Rattle.eco_ids.specs.Indices.{IndexState, Retired, Free, Living}
 use Rattle.eco_ids.specs.Order.{entity_eq}
 use Rattle.eco_ids.specs.World.{WorldState, Record}
 use Rattle.eco_query.specs.Queries.{IsPatternPart}
-use Rattle.eco_systems.specs.Closing.{with_head}
+use Rattle.eco_systems.specs.Closing.{pattern_with_head}
 use Rattle.eco_systems.specs.Writes.{SomeOf, InClosedPatterns}
 use Rattle.eco_batches.specs.declared.key.Key.{Key}
 
-abbrev pub key_of : Pattern → Key
-key_of p = record { pattern = p }
+abbrev pub pattern_key : Pattern → Key
+pattern_key p = record { pattern = p }
 
-abbrev pub pattern_of : Key → Pattern
-pattern_of k = k.pattern
+abbrev pub key_pattern : Key → Pattern
+key_pattern k = k.pattern
 
 -- the code's own test whether two patterns are the same
-abbrev pub same : Pattern → Pattern → Bool
-same = (pattern_eq.eq-value).it
+abbrev pub same_pattern : Pattern → Pattern → Bool
+same_pattern = (pattern_eq.eq-value).it
 
 -- the patterns, each once
-abbrev pub once : List Pattern → List Pattern
-once ps = insert_all same [] ps
+abbrev pub unrepeated : List Pattern → List Pattern
+unrepeated ps = insert_all same_pattern [] ps
 
 -- the members are the patterns closed
 abbrev pub AreClosed : WorldState → List Pattern → List Pattern → Type 0
@@ -39,7 +39,7 @@ AreClosed w patterns members = (p : Pattern) → SomeOf (λ q. q ≡ p) members 
 -- what a pattern brings by an id of its head
 abbrev pub brought_by : Pattern → Id → Option Pattern
 brought_by p (id.One e) = None
-brought_by p (id.Two r x) = if entity_eq r WITH then Some (with_head p x) else None
+brought_by p (id.Two r x) = if entity_eq r WITH then Some (pattern_with_head p x) else None
 
 -- what it brings by all of them
 abbrev pub brought : Pattern → List Id → List Pattern
@@ -65,7 +65,7 @@ targets_below indices generations =
 -- all patterns that an id may bring
 abbrev pub keys_by : List Part → Id → List Key
 keys_by targets (id.One e) = []
-keys_by targets (id.Two r x) = key_of (One x) ∷ map (λ q. key_of (Two (Is x) q)) targets
+keys_by targets (id.Two r x) = pattern_key (One x) ∷ map (λ q. pattern_key (Two (Is x) q)) targets
 
 -- the ids that somebody has at an index
 abbrev pub ids_in : IndexState Record → List Id

@@ -9,7 +9,7 @@ use Rattle.eco_ids.specs.contracts.pattern.PartPartialEq.TheImpl as part_eq
 use Rattle.eco_ids.specs.contracts.pattern.PatternPartialEq.TheImpl as pattern_eq
 use Rattle.eco_ids.proofs.Ascending.{first, second}
 use Rattle.eco_ids.proofs.SameIds.{entity_eq-Decides}
-use Rattle.eco_batches.specs.Brought.{key_of}
+use Rattle.eco_batches.specs.Brought.{pattern_key}
 use Rattle.eco_batches.specs.declared.key.Key.{Key}
 use Rattle.eco_batches.specs.contracts.key.KeyPartialEq.TheImpl as key_eq
 
@@ -31,4 +31,4 @@ same_patterns (Two r t) (One a) h = absurd (true≢false (sym h))
 same_patterns (Two r t) (Two s u) h = λ i. Two (same_parts r s (first _ _ h) i) (same_parts t u (second _ _ h) i)
 
 pub same_keys : (a b : Key) → (key_eq.eq-value).it a b ≡ true → a ≡ b
-same_keys a b h = ap key_of (same_patterns a.pattern b.pattern h)
+same_keys a b h = ap pattern_key (same_patterns a.pattern b.pattern h)

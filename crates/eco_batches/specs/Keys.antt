@@ -14,15 +14,15 @@ use Rattle.eco_ids.specs.Order.{has_item}
 use Rattle.eco_query.specs.Queries.{has_any}
 
 -- the entity of a part, which a wildcard has not
-abbrev pub named : Part → Option Entity
-named (Is e) = Some e
-named Each = None
-named Any = None
+abbrev pub part_entity : Part → Option Entity
+part_entity (Is e) = Some e
+part_entity Each = None
+part_entity Any = None
 
 -- an id that the pattern looks like: With stands for a wildcard
 abbrev pub looks_like : Pattern → Id
 looks_like (One e) = id.One e
-looks_like (Two p q) = id.Two (unwrap_or (named p) WITH) (unwrap_or (named q) WITH)
+looks_like (Two p q) = id.Two (unwrap_or (part_entity p) WITH) (unwrap_or (part_entity q) WITH)
 
 -- the new keys are the old ones and x
 pub record IsNoted {K : Type 0} (R : K → K → Ordering) (old : List K) (x : K) (new : List K) : Type 0 where

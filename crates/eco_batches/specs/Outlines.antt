@@ -3,7 +3,7 @@ use Rattle.std.specs.Prelude.{◌≡◌, ℕ, Bool, false, ◌||◌, List, [], �
 use Rattle.std.specs.List.{IsDistinct, list_any}
 use Rattle.eco_ids.specs.declared.pattern.Pattern.{Pattern}
 use Rattle.eco_ids.specs.Matching.{pattern_overlaps}
-use Rattle.eco_ids.specs.World as world
+use Rattle.eco_ids.specs.World.{WorldState}
 use Rattle.eco_systems.specs.Batches.{joined, AreBatches}
 use Rattle.eco_systems.specs.Closing.{ListsClosed}
 use Rattle.eco_systems.specs.Joining.{batched}
@@ -11,12 +11,9 @@ use Rattle.eco_systems.specs.Phases.{in_order, order_of}
 use Rattle.eco_systems.specs.Systems.{SystemModel}
 use Rattle.eco_systems.specs.Writes.{writes_trait}
 use Rattle.eco_systems.specs.declared.phase.Phase.TheVariants.{OnLoad}
-use Rattle.eco_batches.specs.Brought.{same}
+use Rattle.eco_batches.specs.Brought.{same_pattern}
 use Rattle.eco_batches.specs.declared.declaration.Declared.{Declared}
 use Rattle.eco_batches.specs.OutlineModels.{OutlineModel}
-
-abbrev pub WorldState : Type 0
-WorldState = world.WorldState
 
 -- all that it reads
 abbrev pub reads_of : Declared → List Pattern
@@ -54,7 +51,7 @@ systems_of ds = map system_of ds
 pub record IsOutline (w : WorldState) (d : Declared) (o : OutlineModel) : Type 0 where
   pub kills : o.kills ≡ d.kills
   pub closed : ListsClosed w d.writes.now o.closed
-  pub once : IsDistinct same o.closed
+  pub once : IsDistinct same_pattern o.closed
   pub traits : o.writes_traits ≡ list_any (writes_trait w.edition) o.closed
 
 -- the closed writes of a system

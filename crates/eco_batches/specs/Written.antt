@@ -8,7 +8,7 @@ use Rattle.eco_ids.specs.declared.pattern.Pattern.TheVariants.{One, Two}
 use Rattle.eco_ids.specs.Matching.{pattern_overlaps}
 use Rattle.eco_ids.specs.Order.{entity_cmp, has_item, id_cmp}
 use Rattle.eco_query.specs.Queries.{has_any}
-use Rattle.eco_batches.specs.Keys.{IsNoted, named}
+use Rattle.eco_batches.specs.Keys.{IsNoted, part_entity}
 use Rattle.eco_batches.specs.declared.written.Written.{Written}
 
 -- a read of pairs, by the entities that it names: one pair, the pairs of one relationship, those with one target, all pairs
@@ -20,7 +20,7 @@ overlaps_pairs s None None = has_any s.relationships.keys
 
 abbrev pub overlaps : Written → Pattern → Bool
 overlaps s (One e) = has_item id_cmp s.ids.keys (id.One e)
-overlaps s (Two p q) = overlaps_pairs s (named p) (named q) || list_any (λ w. pattern_overlaps w (Two p q)) s.wild.items
+overlaps s (Two p q) = overlaps_pairs s (part_entity p) (part_entity q) || list_any (λ w. pattern_overlaps w (Two p q)) s.wild.items
 
 -- nothing was put in
 abbrev pub IsNothing : Written → Type 0

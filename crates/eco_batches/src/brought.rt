@@ -2,11 +2,11 @@
 ghost use Rattle.std.specs.Prelude.{◌≡◌, ◌++◌, ◌↔◌, flat_map, map, option_to_list, IfOk, IsFalse, IsTrue, OnOk};
 ghost use Rattle.std.specs.List.{list_any};
 ghost use Rattle.eco_ids.specs.declared.pattern.Pattern.{Pattern as PatternData};
-ghost use Rattle.eco_systems.specs.Closing.{head_of, with_head};
+ghost use Rattle.eco_systems.specs.Closing.{pattern_head, pattern_with_head};
 ghost use Rattle.eco_systems.specs.Writes.{BringsPattern, SomeOf};
 ghost use Rattle.eco_traits.specs.Prospect as traits;
 ghost use Rattle.eco_batches.specs.Brought as spec;
-ghost use Rattle.eco_batches.specs.Brought.{AreClosed, HasKnownTarget, brought_by, key_of, known_keys, pattern_of};
+ghost use Rattle.eco_batches.specs.Brought.{AreClosed, HasKnownTarget, brought_by, pattern_key, known_keys, key_pattern};
 ghost use Rattle.eco_batches.specs.KeyLaws.{same_keys};
 
 use crate::key::Key;
@@ -52,7 +52,7 @@ fn target_is_known(pattern: Pattern)
 
 // The entity whose pairs of With say what the pattern brings. Pairs of any relationship have none.
 fn head_of(pattern: Pattern) -> Option<Entity>
-    ensures { result ≡ head_of pattern }
+    ensures { result ≡ pattern_head pattern }
 {
     match pattern {
         Pattern::One(head) | Pattern::Two(Part::Is(head), _) => Some(head),
@@ -62,7 +62,7 @@ fn head_of(pattern: Pattern) -> Option<Entity>
 
 // The pattern with another head: the single, or the relationship of the pairs.
 fn with_head(pattern: Pattern, head: Entity) -> Pattern
-    ensures { result ≡ with_head pattern head }
+    ensures { result ≡ pattern_with_head pattern head }
 {
     match pattern {
         Pattern::One(_) => Pattern::One(head),
@@ -97,7 +97,7 @@ fn brought_by(pattern: Pattern, id: Id) -> Option<Pattern>
 // Puts what the pattern brings by the ids of its head behind others.
 fn append_brought(pattern: Pattern, ids: &[Id], found: &mut Vec<Key>) -> Result<(), AllocError>
     ensures { OnOk result (found.new.items
-        ≡ found.old.items ++ map key_of (spec.brought pattern ids.now)) }
+        ≡ found.old.items ++ map pattern_key (spec.brought pattern ids.now)) }
 {
     for id in ids {
         if let Some(pattern) = brought_by(pattern, *id) {
@@ -109,7 +109,7 @@ fn append_brought(pattern: Pattern, ids: &[Id], found: &mut Vec<Key>) -> Result<
 
 // Whether the id is a pair of With.
 fn is_with(id: Id) -> bool
-    ensures { result ≡ traits.is_with id }
+    ensures { result ≡ traits.is_pair_of_with id }
 {
     match id {
         Id::One(_) => false,
@@ -118,7 +118,7 @@ fn is_with(id: Id) -> bool
 }
 
 fn any_with(ids: &[Id]) -> bool
-    ensures { result ≡ list_any traits.is_with ids.now }
+    ensures { result ≡ list_any traits.is_pair_of_with ids.now }
 {
     ids.iter().any(|id| is_with(*id))
 }
@@ -136,7 +136,7 @@ pub(crate) fn bring_nothing<H: Holdings>(holdings: &H, patterns: &[Pattern]) -> 
 }
 
 fn keys_of(alloc: Global, patterns: &[Pattern]) -> Result<Vec<Key>, AllocError>
-    ensures { IfOk result (λ keys. keys.items ≡ map key_of patterns.now) }
+    ensures { IfOk result (λ keys. keys.items ≡ map pattern_key patterns.now) }
 {
     let mut keys = Vec::with_capacity(alloc, patterns.len())?;
     for pattern in patterns {
@@ -151,7 +151,8 @@ pub(crate) fn closure<H: Holdings>(
     holdings: &H,
     patterns: &[Pattern],
 ) -> Result<IndexSet<Key>, AllocError>
-    ensures { IfOk result (λ keys. AreClosed (H.world holdings.now) patterns.now (map pattern_of keys.keys)) }
+    ensures { IfOk result (λ keys. AreClosed (H.world holdings.now) patterns.now
+        (map key_pattern keys.keys)) }
 {
     let written = keys_of(alloc, patterns)?;
     least_set(alloc, &Brought { holdings }, &written)

@@ -5,7 +5,7 @@ ghost use Rattle.indexmap.specs.IndexSet.{insert_all, insert_key};
 ghost use Rattle.eco_ids.specs.World.{is_widened};
 ghost use Rattle.eco_systems.specs.Closing.{ListsClosed};
 ghost use Rattle.eco_systems.specs.Writes as writes;
-ghost use Rattle.eco_batches.specs.Brought.{key_of, once, pattern_of, same};
+ghost use Rattle.eco_batches.specs.Brought.{pattern_key, unrepeated, key_pattern, same_pattern};
 
 use crate::brought::{bring_nothing, closure};
 use crate::key::Key;
@@ -39,14 +39,14 @@ fn widened<H: Holdings>(holdings: &H, pattern: Pattern) -> Pattern
 }
 
 fn stands_in(patterns: &[Pattern], pattern: Pattern) -> bool
-    ensures { result ≡ list_any (same pattern) patterns.now }
+    ensures { result ≡ list_any (same_pattern pattern) patterns.now }
 {
     patterns.iter().any(|other| pattern == *other)
 }
 
 // Puts a pattern behind others, unless it stands there.
 fn add_once(pattern: Pattern, closed: &mut Vec<Pattern>) -> Result<(), AllocError>
-    ensures { OnOk result (closed.new.items ≡ insert_key same closed.old.items pattern) }
+    ensures { OnOk result (closed.new.items ≡ insert_key same_pattern closed.old.items pattern) }
 {
     if stands_in(closed, pattern) {
         return Ok(());
@@ -62,7 +62,8 @@ fn add_few<H: Holdings>(
     closed: &mut Vec<Pattern>,
 ) -> Result<(), AllocError>
     ensures { OnOk result (closed.new.items
-        ≡ insert_all same closed.old.items (map (writes.widened (H.world holdings.now)) patterns.now)) }
+        ≡ insert_all same_pattern closed.old.items
+        (map (writes.widened (H.world holdings.now)) patterns.now)) }
 {
     for pattern in patterns {
         add_once(widened(holdings, *pattern), closed)?;
@@ -76,8 +77,8 @@ fn widened_once<H: Holdings>(
     holdings: &H,
     keys: &[Key],
 ) -> Result<IndexSet<Key>, AllocError>
-    ensures { IfOk result (λ all. map pattern_of all.keys
-        ≡ once (map (writes.widened (H.world holdings.now)) (map pattern_of keys.now))) }
+    ensures { IfOk result (λ all. map key_pattern all.keys
+        ≡ unrepeated (map (writes.widened (H.world holdings.now)) (map key_pattern keys.now))) }
 {
     let mut all = IndexSet::new(alloc);
     for key in keys {
@@ -90,7 +91,7 @@ fn widened_once<H: Holdings>(
 
 // Puts patterns behind others.
 fn append(keys: &[Key], closed: &mut Vec<Pattern>) -> Result<(), AllocError>
-    ensures { OnOk result (closed.new.items ≡ closed.old.items ++ map pattern_of keys.now) }
+    ensures { OnOk result (closed.new.items ≡ closed.old.items ++ map key_pattern keys.now) }
 {
     for key in keys {
         closed.push(key.pattern)?;
@@ -108,7 +109,7 @@ pub(crate) fn list_closed<H: Holdings>(
     closed: &mut Vec<Pattern>,
 ) -> Result<(), AllocError>
     ensures closed { OnOk result (ListsClosed (H.world holdings.now) writes.now closed.new.items) }
-    ensures once { OnOk result (IsDistinct same closed.new.items) }
+    ensures once { OnOk result (IsDistinct same_pattern closed.new.items) }
 {
     closed.clear();
     if writes.len() <= FEW && bring_nothing(holdings, writes) {

@@ -118,7 +118,7 @@ impl Outlines {
 
 // A built-in of the edition other than ChildOf.
 fn is_trait(edition: Edition, entity: Entity) -> bool
-    ensures { result ≡ writes.is_trait edition entity }
+    ensures { result ≡ writes.is_builtin_trait edition entity }
 {
     entity.is_among_first(edition.builtin_count()) && !entity.is(CHILD_OF)
 }

@@ -1,7 +1,7 @@
 //! Batches that are kept from frame to frame.
 ghost use Rattle.std.specs.Prelude.{◌≡◌, map, IfOk, OnOk};
 ghost use Rattle.eco_batches.specs.Outlines.{ArePlacedBatches};
-ghost use Rattle.eco_batches.specs.Plans.{IsPlan, batches_in};
+ghost use Rattle.eco_batches.specs.Plans.{IsBatchPlan, batches_in};
 
 use crate::declaration::Declared;
 use crate::order::running_order;
@@ -39,7 +39,7 @@ impl<'a> Plan<'a> {
         holdings: &H,
         systems: Vec<Declared<'a>>,
     ) -> Result<Plan<'a>, AllocError>
-        ensures plan { IfOk result IsPlan }
+        ensures plan { IfOk result IsBatchPlan }
         ensures systems { IfOk result (λ p. p.systems.items ≡ systems.entry.items) }
     {
         let order = running_order(alloc, &systems)?;
@@ -56,8 +56,8 @@ impl<'a> Plan<'a> {
     /// Makes the batches those of a world, with which a frame begins. They stay as they are where the systems write what they
     /// wrote before. `AllocError` comes where memory for what they write or for the batches is refused, and then they stay too.
     pub fn renew<H: Holdings>(&mut self, alloc: Global, holdings: &H) -> Result<(), AllocError>
-        requires { IsPlan self.old }
-        ensures plan { IsPlan self.new }
+        requires { IsBatchPlan self.old }
+        ensures plan { IsBatchPlan self.new }
         ensures systems { self.new.systems.items ≡ self.old.systems.items }
         ensures placed { OnOk result (ArePlacedBatches (H.world holdings.now) self.old.systems.items
             (batches_in self.new)) }

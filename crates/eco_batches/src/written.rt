@@ -45,7 +45,7 @@ impl Drop for Written {
 
 // The entity of a part, which a wildcard has not.
 pub(crate) fn named(part: Part) -> Option<Entity>
-    ensures { result ≡ keys.named part }
+    ensures { result ≡ keys.part_entity part }
 {
     match part {
         Part::Is(entity) => Some(entity),

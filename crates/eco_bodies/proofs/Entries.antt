@@ -18,7 +18,7 @@ use Rattle.eco_ids.proofs.Ascending.{first}
 use Rattle.eco_ids.proofs.Facts.{or_left, or_parts, or_right}
 use Rattle.eco_query.specs.Queries.{QuerySlot, exactly, patterns_of}
 use Rattle.eco_query.specs.declared.access.Access.{Access}
-use Rattle.eco_systems.specs.Rows.{ValuedRow, rows_of, valued}
+use Rattle.eco_systems.specs.Rows.{ValuedRow, valued_rows, valued}
 use Rattle.eco_systems.specs.Systems.{matches_one}
 use Rattle.eco_systems.proofs.Answers.{IsRead, asked, exact_match, found_item}
 use Rattle.eco_systems.proofs.Lists.{all_gathered, all_mapped, all_pass}
@@ -92,7 +92,7 @@ anything : {A : Type 0} (xs : List A) → AllByRecursion (λ x. Unit {0}) xs
 anything [] = tt
 anything (x ∷ xs) = (tt, anything xs)
 
-rows_fit : (w : WorldState) (slots : List QuerySlot) → AllByRecursion (λ (row : ValuedRow). AllFit slots row.entries) (rows_of w slots)
+rows_fit : (w : WorldState) (slots : List QuerySlot) → AllByRecursion (λ (row : ValuedRow). AllFit slots row.entries) (valued_rows w slots)
 rows_fit w slots =
     all_mapped (λ (r : Row). AllFit slots r.entries) (λ (row : ValuedRow). AllFit slots row.entries) (valued w slots) (λ r fits. fits) (answer w (asked slots))
     (all_gathered (λ (p : Entity × Record). Unit {0}) (λ (r : Row). AllFit slots r.entries)
@@ -147,5 +147,5 @@ writes_slot slots (a ∷ actions) n i h m =
 
 pub own_entries : OwnEntriesAreSet
 own_entries w slots actions row n i there sets at =
-    let fits = one_of (λ (r : ValuedRow). AllFit slots r.entries) (rows_of w slots) row (rows_fit w slots) there in
+    let fits = one_of (λ (r : ValuedRow). AllFit slots r.entries) (valued_rows w slots) row (rows_fit w slots) there in
     writes_slot slots actions n i sets (at_slot slots row.entries n i fits at)

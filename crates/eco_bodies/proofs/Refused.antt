@@ -5,7 +5,7 @@ use Rattle.std.proofs.lemmas.List.{drop_more}
 use Rattle.std.specs.Option.{option_or}
 use Rattle.eco_ids.specs.declared.refusal.Refusal.{Refusal}
 use Rattle.eco_query.specs.Queries.{QuerySlot}
-use Rattle.eco_bodies.specs.Actions.{action_refusal, first_refusal}
+use Rattle.eco_bodies.specs.Actions.{action_refusal, first_action_refusal}
 use Rattle.eco_bodies.specs.declared.action.Action.{Action}
 
 here : (r rest : Option Refusal) → is_some r ≡ true → option_or r rest ≡ r
@@ -17,18 +17,19 @@ later None rest h = refl
 later (Some why) rest h = absurd (true≢false h)
 
 module _ (slots : List QuerySlot) (actions : List Action) (k : ℕ) (d : Action) where
-  split : k < length actions → first_refusal slots actions ≡ first_refusal slots (drop k actions)
-      → first_refusal slots actions ≡ option_or (action_refusal slots (get_or actions k d)) (first_refusal slots (drop (k + 1) actions))
-  split h inv = inv ∙ ap (first_refusal slots) (drop_more actions k d h)
+  split : k < length actions → first_action_refusal slots actions ≡ first_action_refusal slots (drop k actions)
+      → first_action_refusal slots actions ≡ option_or (action_refusal slots (get_or actions k d)) (first_action_refusal slots (drop (k + 1) actions))
+  split h inv = inv ∙ ap (first_action_refusal slots) (drop_more actions k d h)
 
-  pub refused_here : (r : Option Refusal) → k < length actions → first_refusal slots actions ≡ first_refusal slots (drop k actions)
-      → r ≡ action_refusal slots (get_or actions k d) → is_some r ≡ true → r ≡ first_refusal slots actions
+  pub refused_here : (r : Option Refusal) → k < length actions → first_action_refusal slots actions ≡ first_action_refusal slots (drop k actions)
+      → r ≡ action_refusal slots (get_or actions k d) → is_some r ≡ true → r ≡ first_action_refusal slots actions
   refused_here r h inv is some =
-      sym (split h inv ∙ ap (λ o. option_or o (first_refusal slots (drop (k + 1) actions))) (sym is)
-      ∙ here r (first_refusal slots (drop (k + 1) actions)) some)
+      sym (split h inv ∙ ap (λ o. option_or o (first_action_refusal slots (drop (k + 1) actions))) (sym is)
+      ∙ here r (first_action_refusal slots (drop (k + 1) actions)) some)
 
-  pub refused_later : (r : Option Refusal) → k < length actions → first_refusal slots actions ≡ first_refusal slots (drop k actions)
-      → r ≡ action_refusal slots (get_or actions k d) → is_some r ≡ false → first_refusal slots actions ≡ first_refusal slots (drop (k + 1) actions)
+  pub refused_later : (r : Option Refusal) → k < length actions → first_action_refusal slots actions ≡ first_action_refusal slots (drop k actions)
+      → r ≡ action_refusal slots (get_or actions k d) → is_some r ≡ false
+      → first_action_refusal slots actions ≡ first_action_refusal slots (drop (k + 1) actions)
   refused_later r h inv is none =
-      split h inv ∙ ap (λ o. option_or o (first_refusal slots (drop (k + 1) actions))) (sym is)
-      ∙ later r (first_refusal slots (drop (k + 1) actions)) none
+      split h inv ∙ ap (λ o. option_or o (first_action_refusal slots (drop (k + 1) actions))) (sym is)
+      ∙ later r (first_action_refusal slots (drop (k + 1) actions)) none

@@ -5,7 +5,7 @@ use Rattle.std.proofs.lemmas.List.{append-nil, drop-drop, drop_at, take_more, dr
 use Rattle.std.proofs.lemmas.Option.{get_or_from_slice_get, slice_get_within}
 use Rattle.eco_ids.specs.declared.entity.Entity.{Entity}
 use Rattle.eco_ids.specs.Run.{Command}
-use Rattle.eco_bodies.specs.Taking.{AllTook, BreaksAll, TakesNext, Took, commands_of, taken_of}
+use Rattle.eco_bodies.specs.Taking.{AllTook, BreaksAll, TakesNext, OneTook, commands_in_turn, taken_of}
 
 module _ {X : Type 0} (commands : X → List Entity → List Command) (taken : X → List Entity → ℕ) where
   taken_append : (xs ys : List X) (draws : List Entity)
@@ -19,14 +19,14 @@ module _ {X : Type 0} (commands : X → List Entity → List Command) (taken : X
       omega arith
 
   commands_append : (xs ys : List X) (draws : List Entity)
-      → commands_of commands taken (xs ++ ys) draws ≡ commands_of commands taken xs draws
-      ++ commands_of commands taken ys (drop (taken_of taken xs draws) draws)
+      → commands_in_turn commands taken (xs ++ ys) draws ≡ commands_in_turn commands taken xs draws
+      ++ commands_in_turn commands taken ys (drop (taken_of taken xs draws) draws)
   commands_append [] ys draws = refl
   commands_append (x ∷ xs) ys draws =
       let k = taken x draws in
       let h = commands_append xs ys (drop k draws) in
-      let e = ap (λ (l : List Entity). commands_of commands taken ys l) (drop-drop (taken_of taken xs (drop k draws)) k draws) in
-      ap (λ l. commands x draws ++ l) (h ∙ ap (λ l. commands_of commands taken xs (drop k draws) ++ l) e) ∙ sym (append_assoc (commands x draws) _ _)
+      let e = ap (λ (l : List Entity). commands_in_turn commands taken ys l) (drop-drop (taken_of taken xs (drop k draws)) k draws) in
+      ap (λ l. commands x draws ++ l) (h ∙ ap (λ l. commands_in_turn commands taken xs (drop k draws) ++ l) e) ∙ sym (append_assoc (commands x draws) _ _)
 
   -- what is left behind those that took these handles
   left_behind : (xs : List X) (mine rest : List Entity) → taken_of taken xs (mine ++ rest) ≡ length mine
@@ -34,7 +34,7 @@ module _ {X : Type 0} (commands : X → List Entity → List Command) (taken : X
   left_behind xs mine rest just = ap (λ (n : ℕ). drop n (mine ++ rest)) just ∙ drop_at mine rest (length mine) refl
 
   took_push : (xs : List X) (x : X) (before between after : List Entity) (stage stage' stage'' : List Command)
-      → AllTook commands taken xs before between stage stage' → Took commands taken x between after stage' stage''
+      → AllTook commands taken xs before between stage stage' → OneTook commands taken x between after stage' stage''
       → AllTook commands taken (xs ++ x ∷ []) before after stage stage''
   took_push xs x before between after stage stage' stage'' h t =
       let draws = h.0 in
@@ -55,9 +55,9 @@ module _ {X : Type 0} (commands : X → List Entity → List Command) (taken : X
                   ∙ ap (λ l. l ++ commands x (mine ++ later)) so_far.1
                   ∙ append_assoc stage _ _
                   ∙ ap (λ l. stage ++ l)
-                  (ap (λ l. commands_of commands taken xs all ++ l) (ap (λ (l : List Entity). commands x l) (sym left) ∙ sym (append-nil _))
+                  (ap (λ l. commands_in_turn commands taken xs all ++ l) (ap (λ (l : List Entity). commands x l) (sym left) ∙ sym (append-nil _))
                   ∙ sym (commands_append xs (x ∷ []) all)
-                  ∙ ap (λ (l : List Entity). commands_of commands taken (xs ++ x ∷ []) l) (sym a)),
+                  ∙ ap (λ (l : List Entity). commands_in_turn commands taken (xs ++ x ∷ []) l) (sym a)),
             ),
       )
 

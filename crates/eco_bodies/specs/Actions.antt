@@ -62,9 +62,9 @@ action_refusal slots Kill = None
 action_refusal slots (Spawn i) = None
 
 -- that of the first action for which there is one
-abbrev pub first_refusal : List QuerySlot → List Action → Option Refusal
-first_refusal slots [] = None
-first_refusal slots (a ∷ actions) = option_or (action_refusal slots a) (first_refusal slots actions)
+abbrev pub first_action_refusal : List QuerySlot → List Action → Option Refusal
+first_action_refusal slots [] = None
+first_action_refusal slots (a ∷ actions) = option_or (action_refusal slots a) (first_action_refusal slots actions)
 
 -- the patterns of a slot
 abbrev pub patterns_at : Option QuerySlot → List Pattern

@@ -11,12 +11,12 @@ use Rattle.eco_bodies.specs.declared.systems.System.{System}
 
 module _ {B : Type 0} where
   -- one of the systems has the name
-  abbrev pub is_named : List (System B) → List ℕ → Bool
-  is_named systems name = list_any (λ s. is_text (string_bytes s.name) name) systems
+  abbrev pub has_system_named : List (System B) → List ℕ → Bool
+  has_system_named systems name = list_any (λ s. is_text (string_bytes s.name) name) systems
 
   -- why a system of the name can't be added
   abbrev pub add_refusal : List (System B) → List ℕ → Option Refusal
-  add_refusal systems name = first_refusal ((not (is_name name), BadName) ∷ (is_named systems name, SystemNameTaken) ∷ [])
+  add_refusal systems name = first_refusal ((not (is_name name), BadName) ∷ (has_system_named systems name, SystemNameTaken) ∷ [])
 
   -- a system of this name, phase, query and body stands behind the others
   abbrev pub IsAdded : List (System B) → List ℕ → Phase → List QuerySlot → B → List (System B) → Type 0

@@ -7,7 +7,7 @@ use Rattle.eco_query.specs.Queries.{QuerySlot}
 use Rattle.eco_systems.specs.declared.phase.Phase.{Phase}
 use Rattle.eco_systems.specs.Rows.{ValuedRow}
 use Rattle.eco_systems.specs.Systems.{SystemModel}
-use Rattle.eco_bodies.specs.Taking.{takes}
+use Rattle.eco_bodies.specs.Taking.{takes_just}
 
 -- the system of a body, which has these reads, writes and kills and records in this way
 abbrev pub system_with : Phase → List QuerySlot → List Pattern → List Pattern → Bool
@@ -18,6 +18,6 @@ system_with phase slots reads writes kills taken commands = record {
   body_reads = reads;
   writes = writes;
   kills = kills;
-  takes = takes taken;
+  takes = takes_just taken;
   records = commands;
 }

@@ -5,12 +5,12 @@ use Rattle.eco_ids.specs.declared.entity.Entity.{Entity}
 use Rattle.eco_ids.specs.declared.id.Id.{Id}
 use Rattle.eco_ids.specs.World.{WorldState}
 use Rattle.eco_query.specs.Queries.{QuerySlot}
-use Rattle.eco_systems.specs.Rows.{ValuedRow, rows_of}
+use Rattle.eco_systems.specs.Rows.{ValuedRow, valued_rows}
 use Rattle.eco_systems.specs.Systems.{matches_one}
 use Rattle.eco_bodies.specs.Actions.{script_writes}
 use Rattle.eco_bodies.specs.Lent.{item_at}
 use Rattle.eco_bodies.specs.Scripts.{script_taken}
-use Rattle.eco_bodies.specs.Taking.{takes}
+use Rattle.eco_bodies.specs.Taking.{takes_just}
 use Rattle.eco_bodies.specs.declared.action.Action.{Action}
 use Rattle.eco_bodies.specs.declared.action.Action.TheVariants.{AddId, RemoveId, Put, Sum, Kill, Spawn}
 
@@ -27,12 +27,12 @@ sets_slot n (Spawn i) = false
 abbrev pub OwnEntriesAreSet : Type 0
 OwnEntriesAreSet =
     (w : WorldState) (slots : List QuerySlot) (actions : List Action) (row : ValuedRow) (n : ℕ) (i : Id)
-    → Contains (rows_of w slots) row → IsTrue (list_any (sets_slot n) actions) → item_at row.entries n ≡ Some i
+    → Contains (valued_rows w slots) row → IsTrue (list_any (sets_slot n) actions) → item_at row.entries n ≡ Some i
     → IsTrue (matches_one (script_writes slots actions) i)
 
 -- of one list of draws a script takes one beginning at most
 abbrev pub ScriptsTakeOne : Type 0
 ScriptsTakeOne =
     (actions : List Action) (row : ValuedRow) (mine others rest later : List Entity)
-    → IsTrue (takes (script_taken actions) row mine) → IsTrue (takes (script_taken actions) row others)
+    → IsTrue (takes_just (script_taken actions) row mine) → IsTrue (takes_just (script_taken actions) row others)
     → mine ++ rest ≡ others ++ later → mine ≡ others

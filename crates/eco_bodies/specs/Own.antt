@@ -19,9 +19,9 @@ stands [] i after = or_left (pattern_matches (exactly i) i) _ (exactly_itself i)
 stands (p ∷ before) i after = or_right (pattern_matches p i) _ (stands before i after)
 
 -- the id's pattern stands among those written, behind some and before others
-pub is_among : (before : List Pattern) (i : Id) (after writes : List Pattern) → writes ≡ before ++ exactly i ∷ after → IsTrue (matches_one writes i)
-is_among before i after writes own = subst (λ ps. IsTrue (matches_one ps i)) (sym own) (stands before i after)
+pub is_among_written : (before : List Pattern) (i : Id) (after writes : List Pattern) → writes ≡ before ++ exactly i ∷ after → IsTrue (matches_one writes i)
+is_among_written before i after writes own = subst (λ ps. IsTrue (matches_one ps i)) (sym own) (stands before i after)
 
 -- it is the only one
-pub is_own : (i : Id) (writes : List Pattern) → writes ≡ exactly i ∷ [] → IsTrue (matches_one writes i)
-is_own i = is_among [] i []
+pub is_only_written : (i : Id) (writes : List Pattern) → writes ≡ exactly i ∷ [] → IsTrue (matches_one writes i)
+is_only_written i = is_among_written [] i []

@@ -9,7 +9,7 @@ use Rattle.eco_systems.specs.Rows.{ValuedRow}
 use Rattle.eco_systems.specs.Systems.{matches_one}
 use Rattle.eco_bodies.specs.Lent.{item_at}
 use Rattle.eco_bodies.specs.Sums.{sum_of}
-use Rattle.eco_bodies.specs.Taking.{commands_of, taken_of}
+use Rattle.eco_bodies.specs.Taking.{commands_in_turn, taken_of}
 use Rattle.eco_bodies.specs.declared.action.Action.{Action}
 use Rattle.eco_bodies.specs.declared.action.Action.TheVariants.{AddId, RemoveId, Put, Sum, Kill, Spawn}
 
@@ -29,13 +29,13 @@ set_of writes e (Some i) None = None
 set_of writes e (Some i) (Some v) = if matches_one writes i then Some (Set e i v) else None
 
 -- the change of the row's entity that an action records
-abbrev pub change_of : List Pattern → ValuedRow → Action → Option Command
-change_of writes row (AddId i) = Some (Add row.entity i)
-change_of writes row (RemoveId i) = Some (Remove row.entity i)
-change_of writes row (Put slot value) = set_of writes row.entity (item_at row.entries slot) (Some value)
-change_of writes row (Sum into from) = set_of writes row.entity (item_at row.entries into) (sum_at row into from)
-change_of writes row Kill = Some (Delete row.entity)
-change_of writes row (Spawn i) = None
+abbrev pub change_by_action : List Pattern → ValuedRow → Action → Option Command
+change_by_action writes row (AddId i) = Some (Add row.entity i)
+change_by_action writes row (RemoveId i) = Some (Remove row.entity i)
+change_by_action writes row (Put slot value) = set_of writes row.entity (item_at row.entries slot) (Some value)
+change_by_action writes row (Sum into from) = set_of writes row.entity (item_at row.entries into) (sum_at row into from)
+change_by_action writes row Kill = Some (Delete row.entity)
+change_by_action writes row (Spawn i) = None
 
 -- a handle that is drawn is made living, and gets the id
 abbrev pub spawned : Option Id → List Entity → List Command
@@ -59,14 +59,14 @@ takes_draws a draws = draws_of a
 abbrev pub action_commands : List Pattern → ValuedRow → Action → List Entity → List Command
 action_commands writes row (AddId i) draws = Add row.entity i ∷ []
 action_commands writes row (RemoveId i) draws = Remove row.entity i ∷ []
-action_commands writes row (Put slot value) draws = option_to_list (change_of writes row (Put slot value))
-action_commands writes row (Sum into from) draws = option_to_list (change_of writes row (Sum into from))
+action_commands writes row (Put slot value) draws = option_to_list (change_by_action writes row (Put slot value))
+action_commands writes row (Sum into from) draws = option_to_list (change_by_action writes row (Sum into from))
 action_commands writes row Kill draws = Delete row.entity ∷ []
 action_commands writes row (Spawn i) draws = spawned i draws
 
 -- what the actions record for a row, in their order
 abbrev pub script_commands : List Pattern → List Action → ValuedRow → List Entity → List Command
-script_commands writes actions row draws = commands_of (action_commands writes row) takes_draws actions draws
+script_commands writes actions row draws = commands_in_turn (action_commands writes row) takes_draws actions draws
 
 -- how many handles they take
 abbrev pub script_taken : List Action → ValuedRow → List Entity → ℕ

@@ -117,7 +117,7 @@ fn refusal_of(slots: &[Slot], action: Action) -> Option<Refusal>
 /// `BadTerm` where one of its slots is not there or is a `!` slot, else `Undeclared` where the access of one does not allow
 /// it.
 pub(crate) fn first_refusal(slots: &[Slot], actions: &[Action]) -> Option<Refusal>
-    ensures { result ≡ spec.first_refusal (map slot_view slots.now) actions.now }
+    ensures { result ≡ spec.first_action_refusal (map slot_view slots.now) actions.now }
 {
     for action in actions {
         let refusal = refusal_of(slots, *action);

@@ -6,7 +6,7 @@ ghost use Rattle.eco_ids.specs.declared.pattern.Pattern.{Pattern as PatternData}
 ghost use Rattle.eco_ids.specs.Run.{Command};
 ghost use Rattle.eco_systems.specs.Rows.{ValuedRow};
 ghost use Rattle.eco_systems.specs.Systems.{IsDeclared};
-ghost use Rattle.eco_bodies.specs.Taking.{Took, takes};
+ghost use Rattle.eco_bodies.specs.Taking.{OneTook, takes_just};
 ghost use Rattle.eco_stages.specs.Taking.{Broke, stopped_by};
 
 use crate::row::BodyRow;
@@ -62,7 +62,7 @@ pub trait SystemBody {
         requires { D.is_dry draws.old ≡ false }
         ensures rest { D.rest draws.new ≡ D.rest draws.old }
         ensures wet { IfOk result (λ _. D.is_dry draws.new ≡ false) }
-        ensures ok { IfOk result (λ _. Took (commands self.now) (taken self.now) (R.row_of row.now)
+        ensures ok { IfOk result (λ _. OneTook (commands self.now) (taken self.now) (R.row_of row.now)
             (D.so_far draws.old) (D.so_far draws.new) stage.old stage.new) }
         ensures why { IfErr result (λ why. why ≡ stopped_by (D.is_dry draws.new)) }
         ensures err { IfErr result (λ _. Broke (taken self.now (R.row_of row.now))
@@ -70,7 +70,7 @@ pub trait SystemBody {
 
     // It records what it declares.
     ghost declared: { (body : Self) (row : ValuedRow) (draws : List EntityData)
-        → IsTrue (takes (taken body) row draws)
+        → IsTrue (takes_just (taken body) row draws)
         → AllByRecursion (IsDeclared (writes_of body) (kills_of body)) (commands body row draws) };
 
     // It looks at no more of the handles than it takes.

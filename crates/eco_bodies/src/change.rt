@@ -4,16 +4,17 @@ ghost use Rattle.eco_ids.specs.declared.entity.Entity.{Entity as EntityData};
 ghost use Rattle.eco_ids.specs.declared.refusal.Refusal.TheVariants.{OutOfMemory};
 ghost use Rattle.eco_systems.specs.Systems.{matches_one};
 ghost use Rattle.eco_bodies.specs.Lent.{item_at};
-ghost use Rattle.eco_bodies.specs.Scripts.{action_commands, change_of, set_of, spawned, sum_at, takes_draws, value_at};
-ghost use Rattle.eco_bodies.specs.Taking.{Took};
+ghost use Rattle.eco_bodies.specs.Scripts.{action_commands, change_by_action, set_of, spawned, sum_at, takes_draws, value_at};
+ghost use Rattle.eco_bodies.specs.Taking.{OneTook};
 ghost use Rattle.eco_stages.specs.Taking.{Broke, stopped_by};
 
 use crate::action::Action;
-use crate::recording::record_command;
+use crate::recording::put_command;
 use crate::row::BodyRow;
 use crate::sum::sum_of;
 use eco_ids::{Entity, Id, Pattern, Refusal, Value};
 use eco_stages::{Command, Draws, Stage};
+use std::alloc::AllocError;
 
 // Whether one of some patterns matches.
 #[inline(always)]
@@ -64,10 +65,9 @@ fn set_entry(
     entry: Option<Id>,
     value: Value,
     stage: &mut Stage,
-) -> Result<(), Refusal>
+) -> Result<(), AllocError>
     ensures ok { OnOk result (stage.new
         ≡ stage.old ++ option_to_list (set_of writes.now entity entry (Some value))) }
-    ensures why { IfErr result (λ why. why ≡ OutOfMemory) }
 {
     let Some(id) = entry else {
         return Ok(());
@@ -75,7 +75,7 @@ fn set_entry(
     if !matches_one(writes, id) {
         return Ok(());
     }
-    record_command(stage, Command::Set(entity, id, value))
+    put_command(stage, Command::Set(entity, id, value))
 }
 
 // Records that the entry of a slot is set to the sum of its value and another's, where there are both.
@@ -86,11 +86,10 @@ fn add_up<R: BodyRow>(
     into: usize,
     from: usize,
     stage: &mut Stage,
-) -> Result<(), Refusal>
+) -> Result<(), AllocError>
     ensures ok { OnOk result (stage.new ≡ stage.old ++ option_to_list (set_of writes.now
         (R.row_of row.now).entity (item_at (R.row_of row.now).entries into)
         (sum_at (R.row_of row.now) into from))) }
-    ensures why { IfErr result (λ why. why ≡ OutOfMemory) }
 {
     match sum_at(row, into, from) {
         Some(value) => set_entry(writes, row.entity(), entry_at(row, into), value, stage),
@@ -105,19 +104,18 @@ fn record_change<R: BodyRow>(
     action: &Action,
     row: &R,
     stage: &mut Stage,
-) -> Result<(), Refusal>
+) -> Result<(), AllocError>
     ensures ok { OnOk result (stage.new
-        ≡ stage.old ++ option_to_list (change_of writes.now (R.row_of row.now) action.now)) }
-    ensures why { IfErr result (λ why. why ≡ OutOfMemory) }
+        ≡ stage.old ++ option_to_list (change_by_action writes.now (R.row_of row.now) action.now)) }
 {
     match *action {
-        Action::AddId(id) => record_command(stage, Command::Add(row.entity(), id)),
-        Action::RemoveId(id) => record_command(stage, Command::Remove(row.entity(), id)),
+        Action::AddId(id) => put_command(stage, Command::Add(row.entity(), id)),
+        Action::RemoveId(id) => put_command(stage, Command::Remove(row.entity(), id)),
         Action::Put { slot, value } => {
             set_entry(writes, row.entity(), entry_at(row, slot), value, stage)
         }
         Action::Sum { into, from } => add_up(writes, row, into, from, stage),
-        Action::Kill => record_command(stage, Command::Delete(row.entity())),
+        Action::Kill => put_command(stage, Command::Delete(row.entity())),
         Action::Spawn(_) => Ok(()),
     }
 }
@@ -135,9 +133,9 @@ fn spawn<D: Draws>(id: Option<Id>, draws: &mut D, stage: &mut Stage) -> Result<(
         (D.is_dry draws.new)) }
 {
     let entity = draws.draw()?;
-    record_command(stage, Command::Create(entity))?;
+    put_command(stage, Command::Create(entity))?;
     if let Some(id) = id {
-        record_command(stage, Command::Add(entity, id))?;
+        put_command(stage, Command::Add(entity, id))?;
     }
     Ok(())
 }
@@ -154,7 +152,8 @@ pub(crate) fn record_action<R: BodyRow, D: Draws>(
     requires { D.is_dry draws.old ≡ false }
     ensures rest { D.rest draws.new ≡ D.rest draws.old }
     ensures wet { IfOk result (λ _. D.is_dry draws.new ≡ false) }
-    ensures ok { IfOk result (λ _. Took (action_commands writes.now (R.row_of row.now)) takes_draws action.now
+    ensures ok { IfOk result (λ _. OneTook
+        (action_commands writes.now (R.row_of row.now)) takes_draws action.now
         (D.so_far draws.old) (D.so_far draws.new) stage.old stage.new) }
     ensures why { IfErr result (λ why. why ≡ stopped_by (D.is_dry draws.new)) }
     ensures err { IfErr result (λ _. Broke (takes_draws action.now) (D.so_far draws.old) (D.so_far draws.new)
@@ -162,6 +161,9 @@ pub(crate) fn record_action<R: BodyRow, D: Draws>(
 {
     match *action {
         Action::Spawn(id) => spawn(id, draws, stage),
-        _ => record_change(writes, action, row, stage),
+        _ => {
+            record_change(writes, action, row, stage)?;
+            Ok(())
+        }
     }
 }

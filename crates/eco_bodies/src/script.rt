@@ -6,7 +6,7 @@ ghost use Rattle.eco_query.specs.Queries.{slot_view};
 ghost use Rattle.eco_bodies.specs.Actions as spec;
 ghost use Rattle.eco_bodies.specs.Actions.{script_writes};
 ghost use Rattle.eco_bodies.specs.Scripts.{is_allowed, script_commands, script_taken};
-ghost use Rattle.eco_bodies.specs.Taking.{Took};
+ghost use Rattle.eco_bodies.specs.Taking.{OneTook};
 ghost use Rattle.eco_stages.specs.Taking.{Broke, stopped_by};
 ghost use Rattle.eco_bodies.specs.Allowing.{script_declared};
 ghost use Rattle.eco_bodies.specs.Settling.{script_settled};
@@ -54,7 +54,7 @@ fn record_actions<R: BodyRow, D: Draws>(
     requires { D.is_dry draws.old ≡ false }
     ensures rest { D.rest draws.new ≡ D.rest draws.old }
     ensures wet { IfOk result (λ _. D.is_dry draws.new ≡ false) }
-    ensures ok { IfOk result (λ _. Took (script_commands writes.now actions.now) (script_taken actions.now)
+    ensures ok { IfOk result (λ _. OneTook (script_commands writes.now actions.now) (script_taken actions.now)
         (R.row_of row.now) (D.so_far draws.old) (D.so_far draws.new) stage.old stage.new) }
     ensures why { IfErr result (λ why. why ≡ stopped_by (D.is_dry draws.new)) }
     ensures err { IfErr result (λ _. Broke (script_taken actions.now (R.row_of row.now))
@@ -71,7 +71,7 @@ impl Script {
     /// slot of it is not there or is a `!` slot, else with `Undeclared` where the access of a slot does not allow it. Then
     /// with `OutOfMemory`, where memory for what it writes is refused.
     pub fn new(alloc: Global, query: &Query, actions: Vec<Action>) -> Result<Script, Refusal>
-        ensures refused { MatchOption (spec.first_refusal query.now actions.items)
+        ensures refused { MatchOption (spec.first_action_refusal query.now actions.items)
             (IfErr result (λ why. why ≡ OutOfMemory)) (λ why. result ≡ Err why) }
         ensures actions { IfOk result (λ s. s.actions.items ≡ actions.items) }
         ensures writes { IfOk result (λ s. s.writes.items ≡ script_writes query.now actions.items) }

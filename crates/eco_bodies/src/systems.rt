@@ -114,18 +114,19 @@ fn add_name(alloc: Global, names: &mut BTreeSet<String>, name: &str) -> Result<(
 impl<B> Model for Systems<B> {
     ghost use Rattle.std.specs.Prelude.{◌≡◌, ℕ, List};
     ghost use Rattle.std.specs.BTreeSet.{contains_text};
-    ghost use Rattle.eco_bodies.specs.Added.{is_named};
+    ghost use Rattle.eco_bodies.specs.Added.{has_system_named};
     ghost use Rattle.eco_bodies.specs.declared.systems.System.{System};
 
     ghost Value = { List (System B) };
 
     ghost view = { λ s. s.list.items };
 
-    ghost invariant = { λ s. (name : List ℕ) → contains_text s.names name ≡ is_named s.list.items name };
+    ghost invariant = { λ s. (name : List ℕ)
+        → contains_text s.names name ≡ has_system_named s.list.items name };
 }
 
 impl<B: Drop> Systems<B> {
-    ghost use Rattle.eco_bodies.specs.Added.{IsAdded, add_refusal, is_named};
+    ghost use Rattle.eco_bodies.specs.Added.{IsAdded, add_refusal, has_system_named};
 
     /// No system. What is added takes its memory from `alloc`.
     pub fn new(alloc: Global) -> Systems<B>
@@ -147,7 +148,7 @@ impl<B: Drop> Systems<B> {
 
     // Whether one of them has the name.
     fn has_name(&self, name: &str) -> bool
-        ensures { result ≡ is_named self.now name.now }
+        ensures { result ≡ has_system_named self.now name.now }
     {
         self.names.contains(name)
     }

@@ -4,7 +4,7 @@ use Rattle.eco_checker.specs.declared.verdict.Verdict.{Verdict}
 use Rattle.eco_checker.specs.declared.verdict.Verdict.TheVariants.{Script, Stopped, NotAScript}
 
 -- the number of a verdict
-abbrev pub code_of : Verdict → ℕ
-code_of Script = 0
-code_of Stopped = 1
-code_of NotAScript = 2
+abbrev pub verdict_code : Verdict → ℕ
+verdict_code Script = 0
+verdict_code Stopped = 1
+verdict_code NotAScript = 2

@@ -1,7 +1,7 @@
 //! How a check ended.
 
 ghost use Rattle.std.specs.Prelude.{◌≡◌};
-ghost use Rattle.eco_checker.specs.Verdicts.{code_of};
+ghost use Rattle.eco_checker.specs.Verdicts.{verdict_code};
 
 /// How a check ended, and with it the number that the program ends with.
 #[derive(Clone, Copy, Debug, PartialEq, Eq)]
@@ -17,7 +17,7 @@ pub enum Verdict {
 impl Verdict {
     /// The number that the program ends with.
     pub fn code(self) -> u8
-        ensures { result ≡ code_of self }
+        ensures { result ≡ verdict_code self }
     {
         match self {
             Verdict::Script => 0,

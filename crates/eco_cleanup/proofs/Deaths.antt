@@ -14,12 +14,12 @@ use Rattle.eco_ids.specs.World.{Record, has}
 use Rattle.eco_ids.proofs.Ascending.{both, second}
 use Rattle.eco_ids.proofs.Facts.{any_is, or_left, or_parts, or_right}
 use Rattle.eco_ids.proofs.Overlaps.{entity_eq_is, entity_eq_itself}
-use Rattle.eco_tables.specs.Table.{Row, TableState, entities_of}
+use Rattle.eco_tables.specs.Table.{TableRow, TableState, entities_of}
 use Rattle.eco_tables.specs.Tables.{slot_of, table_in}
-use Rattle.eco_index.specs.TypeTests.{names_any}
+use Rattle.eco_index.specs.TypeTests.{type_names}
 use Rattle.eco_archetypes.specs.Archetypes.{row_at}
 use Rattle.eco_store.specs.Store.{IsShown}
-use Rattle.eco_cleanup.specs.Nodes.{AreStarts, IsSearch, falls, is_falling, is_named, is_one_of, is_root, leads, node_same, taken_among}
+use Rattle.eco_cleanup.specs.Nodes.{AreStarts, IsSearch, falls, is_falling, is_naming, is_one_of, is_root, leads, node_same, taken_among}
 use Rattle.eco_cleanup.specs.Nodes.{taken_by, touches}
 use Rattle.eco_cleanup.specs.Policies.{names_on}
 use Rattle.eco_store.specs.Worlds.{world_of}
@@ -63,8 +63,8 @@ module _ (slots : List (Option TableState)) where
       (one.0, one.2 ((node_impl.eq-value).it one.0) (node_itself one.0), one.1)
 
   -- who stands in one table alone dies as a root, or where that falls
-  pub dies_there : (nodes : List Node) (e : Entity) (n : ℕ) → (row : ℕ) × (r : Row) × (row_at slots n row ≡ Some r) × (r.entity ≡ e)
-      → ((m row : ℕ) (r : Row) → row_at slots m row ≡ Some r → r.entity ≡ e → m ≡ n)
+  pub dies_there : (nodes : List Node) (e : Entity) (n : ℕ) → (row : ℕ) × (r : TableRow) × (row_at slots n row ≡ Some r) × (r.entity ≡ e)
+      → ((m row : ℕ) (r : TableRow) → row_at slots m row ≡ Some r → r.entity ≡ e → m ≡ n)
       → (is_root nodes e || is_falling nodes n) ≡ has_item entity_cmp (taken_among slots nodes) e
   dies_there nodes e n row only = same_test _ _ (
     λ h. elim (or_parts (is_root nodes e) (is_falling nodes n) h) as (λ _. IsTrue (has_item entity_cmp (taken_among slots nodes) e)) [
@@ -83,7 +83,7 @@ module _ (slots : List (Option TableState)) where
       by (Named k) there takes = absurd (true≢false (sym takes))
 
   -- and who stands nowhere as a root
-  pub dies_nowhere : (nodes : List Node) (e : Entity) → ((m row : ℕ) (r : Row) → row_at slots m row ≡ Some r → r.entity ≢ e)
+  pub dies_nowhere : (nodes : List Node) (e : Entity) → ((m row : ℕ) (r : TableRow) → row_at slots m row ≡ Some r → r.entity ≢ e)
       → is_root nodes e ≡ has_item entity_cmp (taken_among slots nodes) e
   dies_nowhere nodes e nowhere =
       same_test _ _ (λ own. by_one nodes e (Root e) own (one_itself e), λ h. let one = by_which nodes e h in by one.0 one.1 one.2)
@@ -143,13 +143,13 @@ module _ (v : Indexed Record) (slots : List (Option TableState)) (shown : IsShow
 
   goes_on : (a b : Node) → Meant a → IsTrue (leads (world_of v) slots a b) → Meant b
   goes_on (Root m) (Root x) meant h = absurd (true≢false (sym h))
-  goes_on (Root m) (Falling n) meant h = λ e standing. falls_with n e m meant (second (is_named slots m n) (falls (world_of v) slots m n) h) standing
+  goes_on (Root m) (Falling n) meant h = λ e standing. falls_with n e m meant (second (is_naming slots m n) (falls (world_of v) slots m n) h) standing
   goes_on (Root m) (Named n) meant h = tt
   goes_on (Falling n) (Root x) meant h =
       let m = some_entity (λ e. touches (world_of v) slots e (Root x)) (entities_of (table_in slots n).rows) h in absurd (true≢false (sym m.2))
   goes_on (Falling n) (Falling k) meant h = λ e standing.
       let m = some_entity (λ x. touches (world_of v) slots x (Falling k)) (entities_of (table_in slots n).rows) h in
-      falls_with k e m.0 (meant m.0 m.1) (second (is_named slots m.0 k) (falls (world_of v) slots m.0 k) m.2) standing
+      falls_with k e m.0 (meant m.0 m.1) (second (is_naming slots m.0 k) (falls (world_of v) slots m.0 k) m.2) standing
   goes_on (Falling n) (Named k) meant h = tt
   goes_on (Named n) b meant h = absurd (true≢false (sym h))
 
@@ -187,9 +187,9 @@ module _ (v : Indexed Record) (slots : List (Option TableState)) (shown : IsShow
       let on = (names_on_exact (world_of v) DELETE m holds.0).1 holds.2 in
       let named = any_id (λ i. names_entity i m) ids holds.0 row.5 (names_on_names (world_of v) DELETE m holds.0 on) in
       let falling = any_id (names_on (world_of v) DELETE m) ids holds.0 row.5 on in
-      let found = found_at (λ ids. names_any ids m) (slot_of slots n) row.1 row.2 row.3 named in (
+      let found = found_at (λ ids. type_names ids m) (slot_of slots n) row.1 row.2 row.3 named in (
         Falling n,
-        next {b = Falling n} dies.1 (falls_next dies.0 m n dies.2 (both (is_named slots m n) (falls (world_of v) slots m n) found falling)),
+        next {b = Falling n} dies.1 (falls_next dies.0 m n dies.2 (both (is_naming slots m n) (falls (world_of v) slots m n) found falling)),
         subst (λ x. Standing n x) row.4 (stands_among (table_in slots n).rows row.1 row.2 row.3),
       )
 

@@ -16,10 +16,10 @@ use Rattle.eco_ids.proofs.IdOrder.{entity_cmp_total}
 use Rattle.eco_ids.proofs.LivingLists.{has_alive}
 use Rattle.eco_tables.specs.Table.{TableState, entities_of}
 use Rattle.eco_tables.specs.Tables.{slot_of, table_in}
-use Rattle.eco_index.specs.TypeTests.{names_any}
+use Rattle.eco_index.specs.TypeTests.{type_names}
 use Rattle.eco_store.specs.Store.{IsShown}
-use Rattle.eco_cleanup.specs.Nodes.{AreStarts, IsSearch, falls, is_falling, is_named, is_one_of, node_same, taken_among}
-use Rattle.eco_cleanup.specs.Objections.{Judges, first_objection}
+use Rattle.eco_cleanup.specs.Nodes.{AreStarts, IsSearch, falls, is_falling, is_naming, is_one_of, node_same, taken_among}
+use Rattle.eco_cleanup.specs.Objections.{JudgesDelete, first_objection}
 use Rattle.eco_cleanup.specs.Policies.{names_on}
 use Rattle.eco_store.specs.Worlds.{world_of}
 use Rattle.eco_cleanup.specs.contracts.node.NodePartialEq.TheImpl as node_impl
@@ -82,14 +82,14 @@ module _ (v : Indexed Record) (slots : List (Option TableState)) (shown : IsShow
   -- ---- what forbids, objects
 
   -- a table that names a member and stays is among those found
-  pub named_there : (m : Entity) (n : ℕ) → IsTrue (has_item entity_cmp (taken_among slots keys) m) → IsTrue (is_named slots m n) → is_falling keys n ≡ false
+  pub named_there : (m : Entity) (n : ℕ) → IsTrue (has_item entity_cmp (taken_among slots keys) m) → IsTrue (is_naming slots m n) → is_falling keys n ≡ false
       → (b : Bool) → falls (world_of v) slots m n ≡ b → IsTrue (is_one_of keys (Named n))
   named_there m n dies found spared true falling =
       absurd
       (true≢false
-      (sym (touched_there v slots shown starts keys begin exact m n dies (both (is_named slots m n) (falls (world_of v) slots m n) found falling)) ∙ spared))
+      (sym (touched_there v slots shown starts keys begin exact m n dies (both (is_naming slots m n) (falls (world_of v) slots m n) found falling)) ∙ spared))
   named_there m n dies found spared false falling =
-      named_found v slots shown starts keys begin exact m n dies (both (is_named slots m n) (not (falls (world_of v) slots m n)) found (ap not falling))
+      named_found v slots shown starts keys begin exact m n dies (both (is_naming slots m n) (not (falls (world_of v) slots m n)) found (ap not falling))
 
   objects_if : (h m : Entity) → Forbids (world_of v) members h m → IsTrue (some_objects (record { holder = h; member = m }))
   objects_if h m forbids =
@@ -101,7 +101,7 @@ module _ (v : Indexed Record) (slots : List (Option TableState)) (shown : IsShow
       let ids = (table_in slots n).ids in
       let on = (names_on_exact (world_of v) PANIC m held.0).1 held.2 in
       let panics = any_id (names_on (world_of v) PANIC m) ids held.0 row.5 on in
-      let found = found_at (λ xs. names_any xs m) (slot_of slots n) row.1 row.2 row.3
+      let found = found_at (λ xs. type_names xs m) (slot_of slots n) row.1 row.2 row.3
       (any_id (λ i. names_entity i m) ids held.0 row.5 (names_on_names (world_of v) PANIC m held.0 on)) in
       let standing = subst (λ x. IsTrue (has_item entity_cmp (entities_of rows) x)) row.4 (stands_among rows row.1 row.2 row.3) in
       let stays = sym (same h) ∙ forbids.1 in
@@ -120,7 +120,7 @@ module _ (v : Indexed Record) (slots : List (Option TableState)) (shown : IsShow
 
   -- ---- the least of them
 
-  judged_as : (o : Option Objection) → IsFirst objection_cmp_total some_objects o → Judges (world_of v) members o
+  judged_as : (o : Option Objection) → IsFirst objection_cmp_total some_objects o → JudgesDelete (world_of v) members o
   judged_as None none = λ h m forbids. true≢false (sym (objects_if h m forbids) ∙ none (record { holder = h; member = m }))
   judged_as (Some o) found = (
     forbids_if o found.0,
@@ -129,15 +129,15 @@ module _ (v : Indexed Record) (slots : List (Option TableState)) (shown : IsShow
         (found.1 (record { holder = o.holder; member = m }) (objects_if o.holder m forbids)),
   )
 
-  pub judged : Judges (world_of v) members (first_objection (world_of v) slots keys)
+  pub judged : JudgesDelete (world_of v) members (first_objection (world_of v) slots keys)
   judged = judged_as (first_objection (world_of v) slots keys) (objection_first (world_of v) slots keys)
 
 -- whatever the search found, its first objection is the least of all
 pub judged_exactly : (v : Indexed Record) (slots : List (Option TableState)) → IsShown v slots → (starts keys : List Node) → AreStarts starts
     → IsSearch (world_of v) slots starts keys → (o : Option Objection) → o ≡ first_objection (world_of v) slots keys → (members : List Entity)
-    → IsDoomed (world_of v) (λ x. IsTrue (has_item entity_cmp (taken_among slots starts) x)) members → Judges (world_of v) members o
+    → IsDoomed (world_of v) (λ x. IsTrue (has_item entity_cmp (taken_among slots starts) x)) members → JudgesDelete (world_of v) members o
 judged_exactly v slots shown starts keys begin exact o is members list =
-    subst (Judges (world_of v) members) (sym is) (judged v slots shown starts keys begin exact members same)
+    subst (JudgesDelete (world_of v) members) (sym is) (judged v slots shown starts keys begin exact members same)
   where
     same : (e : Entity) → has_item entity_cmp members e ≡ has_item entity_cmp (taken_among slots keys) e
     same e =

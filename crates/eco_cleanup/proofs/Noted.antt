@@ -23,9 +23,9 @@ use Rattle.eco_ids.proofs.Facts.{any_is, or_parts, or_right}
 use Rattle.eco_ids.proofs.Overlaps.{entity_eq_is, entity_eq_itself}
 use Rattle.eco_tables.specs.Table.{TableState, entities_of}
 use Rattle.eco_tables.specs.Tables.{no_table, slot_of, table_in}
-use Rattle.eco_index.specs.TypeTests.{names_any}
-use Rattle.eco_archetypes.specs.Archetypes.{is_found, is_found_by, type_at, type_matches}
-use Rattle.eco_cleanup.specs.Nodes.{Appends, AreStarts, all_nodes, falls, has_rows, is_named, is_one_of, leads, named_node, nodes_at, nodes_from, touches}
+use Rattle.eco_index.specs.TypeTests.{type_names}
+use Rattle.eco_archetypes.specs.Archetypes.{is_found, is_found_by, type_at, type_matches, has_rows}
+use Rattle.eco_cleanup.specs.Nodes.{AddsNodes, AreStarts, all_nodes, falls, is_naming, is_one_of, leads, named_node, nodes_at, nodes_from, touches}
 use Rattle.eco_cleanup.specs.Nodes.{touches_by}
 use Rattle.eco_cleanup.specs.declared.node.Node.{Node}
 use Rattle.eco_cleanup.specs.declared.node.Node.TheVariants.{Root, Falling, Named}
@@ -158,11 +158,11 @@ any_three k f g h each (i ∷ is) =
     (λ t. each i t || any_three k f g h each is t) ∙ shuffle (f i) (g i) (h i) (list_any f is) (list_any g is) (list_any h is)
 
 found_three : (m : Entity) (o : Option TableState)
-    → is_found_by (λ is. names_any is m) o ≡ ((is_found (One m) o || is_found (Two (Is m) Any) o) || is_found (Two Any (Is m)) o)
+    → is_found_by (λ is. type_names is m) o ≡ ((is_found (One m) o || is_found (Two (Is m) Any) o) || is_found (Two Any (Is m)) o)
 found_three m None = refl
 found_three m (Some t) = by (nat_lt 0 (length t.rows))
   where
-    by : (b : Bool) → (b && names_any t.ids m) ≡ (((b && list_any (pattern_matches (One m)) t.ids)
+    by : (b : Bool) → (b && type_names t.ids m) ≡ (((b && list_any (pattern_matches (One m)) t.ids)
         || (b && list_any (pattern_matches (Two (Is m) Any)) t.ids)) || (b && list_any (pattern_matches (Two Any (Is m))) t.ids))
     by true =
         any_three (λ i. names_entity i m) (pattern_matches (One m)) (pattern_matches (Two (Is m) Any)) (pattern_matches (Two Any (Is m))) (one_named m) t.ids
@@ -227,7 +227,7 @@ module _ (w : WorldState) (slots : List (Option TableState)) (m : Entity) where
 
   -- the tables that a pattern finds come
   pub listed_come : (p : Pattern) (found : List ℕ) (old new : List Node) → ((n : ℕ) → listed found n ≡ type_matches (type_at slots n) p)
-      → new ≡ old ++ flat_map (nodes_at w slots m) found → Appends (touches_by w slots m p) old new
+      → new ≡ old ++ flat_map (nodes_at w slots m) found → AddsNodes (touches_by w slots m p) old new
   listed_come p found old new all is b =
       ap (λ xs. is_one_of xs b) (is ∙ ap (λ xs. old ++ xs) (as_mapped found))
       ∙ joined old (map (named_node w slots m) (filter (has_rows slots) found)) b
@@ -240,7 +240,7 @@ module _ (w : WorldState) (slots : List (Option TableState)) (m : Entity) where
   both_ways : (n : ℕ) (f : Bool)
       → (((is_found (One m) (slot_of slots n) && f) || (is_found (Two (Is m) Any) (slot_of slots n) && f))
       || (is_found (Two Any (Is m)) (slot_of slots n) && f))
-      ≡ (is_named slots m n && f)
+      ≡ (is_naming slots m n && f)
   both_ways n f =
       ap (λ t. t || (is_found (Two Any (Is m)) (slot_of slots n) && f))
       (spread (is_found (One m) (slot_of slots n)) (is_found (Two (Is m) Any) (slot_of slots n)) f)
@@ -253,8 +253,8 @@ module _ (w : WorldState) (slots : List (Option TableState)) (m : Entity) where
   all_three (Falling n) = both_ways n (falls w slots m n)
   all_three (Named n) = both_ways n (not (falls w slots m n))
 
-  pub three_come : (old one two new : List Node) → Appends (touches_by w slots m (One m)) old one → Appends (touches_by w slots m (Two (Is m) Any)) one two
-      → Appends (touches_by w slots m (Two Any (Is m))) two new → Appends (touches w slots m) old new
+  pub three_come : (old one two new : List Node) → AddsNodes (touches_by w slots m (One m)) old one → AddsNodes (touches_by w slots m (Two (Is m) Any)) one two
+      → AddsNodes (touches_by w slots m (Two Any (Is m))) two new → AddsNodes (touches w slots m) old new
   three_come old one two new single relationship target b =
       target b
       ∙ ap (λ t. t || touches_by w slots m (Two Any (Is m)) b) (relationship b ∙ ap (λ t. t || touches_by w slots m (Two (Is m) Any) b) (single b))
@@ -282,7 +282,7 @@ one_more test xs k d within old now is =
 
 module _ (w : WorldState) (slots : List (Option TableState)) where
   -- what a node leads to comes
-  pub come_of : (a c : Node) (old new : List Node) → a ≡ c → Appends (leads w slots c) old new
+  pub come_of : (a c : Node) (old new : List Node) → a ≡ c → AddsNodes (leads w slots c) old new
       → (b : Node) → IsTrue (is_one_of new b) ↔ (IsTrue (is_one_of old b) ⊎ IsTrue (leads w slots a b))
   come_of a c old new at come b =
       subst (λ x. IsTrue (is_one_of new b) ↔ (IsTrue (is_one_of old b) ⊎ IsTrue (leads w slots x b))) (sym at) (or_fact _ _ _ (come b))
@@ -315,11 +315,11 @@ module _ (w : WorldState) (slots : List (Option TableState)) where
   touched_known m (Falling n) h =
       let same : 0 + n ≡ n = omega arith in
       subst (λ x. IsTrue (is_one_of (all_nodes slots) (Falling x))) same
-      (within Falling (λ k rest. or_left _ _ (node_itself (Falling k))) 0 slots n (there_if_found (λ is. names_any is m) (slot_of slots n) (first _ _ h)))
+      (within Falling (λ k rest. or_left _ _ (node_itself (Falling k))) 0 slots n (there_if_found (λ is. type_names is m) (slot_of slots n) (first _ _ h)))
   touched_known m (Named n) h =
       let same : 0 + n ≡ n = omega arith in
       subst (λ x. IsTrue (is_one_of (all_nodes slots) (Named x))) same
-      (within Named (λ k rest. or_left _ _ (node_itself (Named k))) 0 slots n (there_if_found (λ is. names_any is m) (slot_of slots n) (first _ _ h)))
+      (within Named (λ k rest. or_left _ _ (node_itself (Named k))) 0 slots n (there_if_found (λ is. type_names is m) (slot_of slots n) (first _ _ h)))
 
   -- whatever anything leads to is one of them
   pub all_known : (a b : Node) → IsTrue (leads w slots a b) → IsTrue (is_one_of (all_nodes slots) b)

@@ -10,13 +10,13 @@ use Rattle.eco_ids.specs.Order.{entity_cmp, entity_eq, has_item, id_cmp, id_eq, 
 use Rattle.eco_ids.specs.World.{Record, has}
 use Rattle.eco_ids.proofs.Ascending.{both}
 use Rattle.eco_ids.proofs.Facts.{id_eq_is, id_eq_itself, or_left, or_parts, or_right}
-use Rattle.eco_tables.specs.Table.{Row, TableState, entities_of}
+use Rattle.eco_tables.specs.Table.{TableRow, TableState, entities_of}
 use Rattle.eco_tables.specs.Tables.{slot_of, table_in}
-use Rattle.eco_index.specs.TypeTests.{names_any as any_names}
+use Rattle.eco_index.specs.TypeTests.{type_names as any_names}
 use Rattle.eco_archetypes.specs.Archetypes.{row_at}
 use Rattle.eco_store.specs.Store.{IsShown, record_ids}
 use Rattle.eco_store.specs.Worlds.{world_of}
-use Rattle.eco_cleanup.specs.Nodes.{falls, is_named, is_one_of, touches, Appends}
+use Rattle.eco_cleanup.specs.Nodes.{falls, is_naming, is_one_of, touches, AddsNodes}
 use Rattle.eco_cleanup.specs.OnlyHolders.{IsOnlyHolder}
 use Rattle.eco_cleanup.specs.Policies.{names_on}
 use Rattle.eco_cleanup.specs.declared.node.Node.{Node}
@@ -90,7 +90,7 @@ module _ (v : Indexed Record) (slots : List (Option TableState)) (shown : IsShow
     (alone : (b : Node) → IsTrue (touches (world_of v) slots m b) → b ≡ Named n)
     (named : filter (λ j. names_entity j m) (table_in slots n).ids ≡ i ∷ [])
     (rows : entities_of (table_in slots n).rows ≡ h ∷ []) where
-  own_row : (k : ℕ) × (r : Row) × (slice_get (table_in slots n).rows k ≡ Some r) × (r.entity ≡ h)
+  own_row : (k : ℕ) × (r : TableRow) × (slice_get (table_in slots n).rows k ≡ Some r) × (r.entity ≡ h)
   own_row = row_of (table_in slots n).rows h (subst (λ es. IsTrue (has_item entity_cmp es h)) (sym rows) (one_itself h))
 
   own_id : IsTrue (has_item id_cmp (table_in slots n).ids i) × IsTrue (names_entity i m)
@@ -102,25 +102,25 @@ module _ (v : Indexed Record) (slots : List (Option TableState)) (shown : IsShow
   had = subst (λ x. IsTrue (has (world_of v) x i)) own_row.3 (has_at v slots shown n own_row.0 own_row.1 i own_row.2 ∙ own_id.0)
 
   -- no table falls, and no other is named
-  no_fall : (k : ℕ) → IsTrue (is_named slots m k) → IsFalse (falls (world_of v) slots m k)
+  no_fall : (k : ℕ) → IsTrue (is_naming slots m k) → IsFalse (falls (world_of v) slots m k)
   no_fall k there = by (falls (world_of v) slots m k) refl
     where
       by : (b : Bool) → falls (world_of v) slots m k ≡ b → IsFalse (falls (world_of v) slots m k)
       by true is =
-          absurd (true≢false (ap falls_in (alone (Falling k) (both (is_named slots m k) (falls (world_of v) slots m k) there is))))
+          absurd (true≢false (ap falls_in (alone (Falling k) (both (is_naming slots m k) (falls (world_of v) slots m k) there is))))
       by false is = is
 
-  same_slot : (k : ℕ) → IsTrue (is_named slots m k) → k ≡ n
+  same_slot : (k : ℕ) → IsTrue (is_naming slots m k) → k ≡ n
   same_slot k there =
-      ap slot_in (alone (Named k) (both (is_named slots m k) (not (falls (world_of v) slots m k)) there (ap not (no_fall k there))))
+      ap slot_in (alone (Named k) (both (is_naming slots m k) (not (falls (world_of v) slots m k)) there (ap not (no_fall k there))))
 
-  names_there : (k row : ℕ) (r : Row) (j : Id) → row_at slots k row ≡ Some r → IsTrue (has_item id_cmp (table_in slots k).ids j)
-      → IsTrue (names_entity j m) → IsTrue (is_named slots m k)
+  names_there : (k row : ℕ) (r : TableRow) (j : Id) → row_at slots k row ≡ Some r → IsTrue (has_item id_cmp (table_in slots k).ids j)
+      → IsTrue (names_entity j m) → IsTrue (is_naming slots m k)
   names_there k row r j at there names =
       found_at (λ ids. any_names ids m) (slot_of slots k) row r at (any_id (λ x. names_entity x m) (table_in slots k).ids j there names)
 
   -- in that row, by that id
-  at_slot : (k row : ℕ) (r : Row) (j : Id) → k ≡ n → row_at slots k row ≡ Some r → IsTrue (has_item id_cmp (table_in slots k).ids j)
+  at_slot : (k row : ℕ) (r : TableRow) (j : Id) → k ≡ n → row_at slots k row ≡ Some r → IsTrue (has_item id_cmp (table_in slots k).ids j)
       → IsTrue (names_entity j m) → (r.entity ≡ h) × (j ≡ i)
   at_slot k row r j same at there names =
       let stands = stands_among (table_in slots n).rows row r (subst (λ x. row_at slots x row ≡ Some r) same at) in

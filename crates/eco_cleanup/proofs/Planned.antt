@@ -17,14 +17,14 @@ use Rattle.eco_ids.specs.World.{Record}
 use Rattle.eco_ids.proofs.Ascending.{first, second}
 use Rattle.eco_ids.proofs.Facts.{or_left, or_parts, or_right}
 use Rattle.eco_ids.proofs.Overlaps.{entity_eq_is, entity_eq_itself}
-use Rattle.eco_tables.specs.Table.{RowsHaveIds, TableState, entities_of, Row}
+use Rattle.eco_tables.specs.Table.{RowsHaveIds, TableState, entities_of, TableRow}
 use Rattle.eco_tables.specs.Tables.{no_row, no_table, slot_of, table_in}
-use Rattle.eco_index.specs.TypeTests.{names_any as any_names}
+use Rattle.eco_index.specs.TypeTests.{type_names as any_names}
 use Rattle.eco_archetypes.specs.Archetypes.{is_found_by}
 use Rattle.eco_store.specs.Store.{IsShown, Stands, record_ids}
 use Rattle.eco_store.specs.declared.type_change.TypeChange.{TypeChange}
-use Rattle.eco_cleanup.specs.Nodes.{AreStarts, IsSearch, falls, is_falling, is_named, is_one_of, leads, node_same, taken_among, touches}
-use Rattle.eco_cleanup.specs.Plans.{Ascend, IsPlan, TakesOut, TakesOutOfAll, change_in, change_of, changes_of, spared}
+use Rattle.eco_cleanup.specs.Nodes.{AreStarts, IsSearch, falls, is_falling, is_naming, is_one_of, leads, node_same, taken_among, touches}
+use Rattle.eco_cleanup.specs.Plans.{Ascend, IsDeletePlan, TakesOut, TakesOutOfAll, change_in, changes_at, changes_of, spared}
 use Rattle.eco_store.specs.Worlds.{world_of}
 use Rattle.eco_cleanup.specs.contracts.node.NodePartialEq.TheImpl as node_impl
 use Rattle.eco_cleanup.specs.declared.node.Node.{Node}
@@ -67,7 +67,7 @@ ids_standing o t row r at stands own =
     let there = subst (λ x. Stands x t row) at stands in
     ap (map (λ p. p.0)) (there.held no_row) ∙ own row no_row there.within
 
-among_change : (dead : List Entity) (o : Option TableState) (k : ℕ) (r : Row) (b : Bool) (ids : List Id) → slice_get (unwrap_or o no_table).rows k ≡ Some r
+among_change : (dead : List Entity) (o : Option TableState) (k : ℕ) (r : TableRow) (b : Bool) (ids : List Id) → slice_get (unwrap_or o no_table).rows k ≡ Some r
     → b ≡ false → ids ≡ (unwrap_or o no_table).ids → Contains (map (λ (c : TypeChange). c.from) (cond b [] (change_in dead o))) ids
 among_change dead None k r b ids at is same = absurd (none-some r at)
 among_change dead (Some t) k r true ids at is same = absurd (true≢false is)
@@ -86,7 +86,7 @@ module _ (v : Indexed Record) (slots : List (Option TableState)) (shown : IsShow
   abbrev IsLed : Node → Type 0
   IsLed (Root e) = Unit {0}
   IsLed (Falling n) = Unit {0}
-  IsLed (Named n) = (m : Entity) × IsTrue (has_item entity_cmp dying m) × IsTrue (is_named slots m n)
+  IsLed (Named n) = (m : Entity) × IsTrue (has_item entity_cmp dying m) × IsTrue (is_naming slots m n)
 
   begins : (a : Node) → IsTrue (is_one_of starts a) → IsLed a
   begins (Root e) h = tt
@@ -97,12 +97,12 @@ module _ (v : Indexed Record) (slots : List (Option TableState)) (shown : IsShow
   goes_on a (Root e) found h = tt
   goes_on a (Falling n) found h = tt
   goes_on (Root m) (Named n) found h =
-      (m, by_one slots keys m (Root m) ((exact (Root m)).1 found) (one_itself m), first (is_named slots m n) (not (falls (world_of v) slots m n)) h)
+      (m, by_one slots keys m (Root m) ((exact (Root m)).1 found) (one_itself m), first (is_naming slots m n) (not (falls (world_of v) slots m n)) h)
   goes_on (Falling k) (Named n) found h =
       let m = some_entity (λ e. touches (world_of v) slots e (Named n)) (entities_of (table_in slots k).rows) h in (
         m.0,
         by_one slots keys m.0 (Falling k) ((exact (Falling k)).1 found) m.1,
-        first (is_named slots m.0 n) (not (falls (world_of v) slots m.0 n)) m.2,
+        first (is_naming slots m.0 n) (not (falls (world_of v) slots m.0 n)) m.2,
       )
   goes_on (Named k) (Named n) found h = absurd (true≢false (sym h))
 
@@ -123,7 +123,7 @@ module _ (v : Indexed Record) (slots : List (Option TableState)) (shown : IsShow
       All-cons Takes (record { from = t.ids; to = spared dying t.ids }) []
       (record { there = any_id (names_any dying) t.ids named.0 named.1 (some_named dying m named.0 dies named.2); taken = refl }) (All-nil Takes)
 
-  taken_of : (a : Node) → IsTrue (is_one_of keys a) → All Takes (change_of slots keys a)
+  taken_of : (a : Node) → IsTrue (is_one_of keys a) → All Takes (changes_at slots keys a)
   taken_of (Root e) there = All-nil Takes
   taken_of (Falling n) there = All-nil Takes
   taken_of (Named n) there =
@@ -134,25 +134,25 @@ module _ (v : Indexed Record) (slots : List (Option TableState)) (shown : IsShow
       unless true all = All-nil Takes
       unless false all = all
 
-  all_taken : (nodes : List Node) → ((a : Node) → IsTrue (is_one_of nodes a) → IsTrue (is_one_of keys a)) → All Takes (flat_map (change_of slots keys) nodes)
+  all_taken : (nodes : List Node) → ((a : Node) → IsTrue (is_one_of nodes a) → IsTrue (is_one_of keys a)) → All Takes (flat_map (changes_at slots keys) nodes)
   all_taken [] within = All-nil Takes
   all_taken (a ∷ nodes) within =
-      All-append Takes (change_of slots keys a) (flat_map (change_of slots keys) nodes) (taken_of a (within a (or_left _ _ (node_itself a))))
+      All-append Takes (changes_at slots keys a) (flat_map (changes_at slots keys) nodes) (taken_of a (within a (or_left _ _ (node_itself a))))
       (all_taken nodes (λ b there. within b (or_right _ _ there)))
 
   -- ---- every type that has to change does
 
   among_all : (nodes : List Node) (n : ℕ) (ids : List Id) → IsTrue (is_one_of nodes (Named n))
-      → Contains (map (λ (c : TypeChange). c.from) (change_of slots keys (Named n))) ids
-      → Contains (map (λ (c : TypeChange). c.from) (flat_map (change_of slots keys) nodes)) ids
+      → Contains (map (λ (c : TypeChange). c.from) (changes_at slots keys (Named n))) ids
+      → Contains (map (λ (c : TypeChange). c.from) (flat_map (changes_at slots keys) nodes)) ids
   among_all [] n ids there among = absurd (true≢false (sym there))
   among_all (a ∷ nodes) n ids there among =
-      subst (λ xs. Contains xs ids) (sym (map-append (λ (c : TypeChange). c.from) (change_of slots keys a) (flat_map (change_of slots keys) nodes)))
+      subst (λ xs. Contains xs ids) (sym (map-append (λ (c : TypeChange). c.from) (changes_at slots keys a) (flat_map (changes_at slots keys) nodes)))
       (elim (or_parts ((node_impl.eq-value).it (Named n) a) (is_one_of nodes (Named n)) there) as
-      (λ _. Contains (froms (change_of slots keys a) ++ froms (flat_map (change_of slots keys) nodes)) ids) [
-        | inl same ↦ Contains-append_left (froms (change_of slots keys a)) (froms (flat_map (change_of slots keys) nodes)) ids
-            (subst (λ x. Contains (froms (change_of slots keys x)) ids) (node_same (Named n) a same) among)
-        | inr later ↦ Contains-append_right (froms (change_of slots keys a)) (froms (flat_map (change_of slots keys) nodes)) ids
+      (λ _. Contains (froms (changes_at slots keys a) ++ froms (flat_map (changes_at slots keys) nodes)) ids) [
+        | inl same ↦ Contains-append_left (froms (changes_at slots keys a)) (froms (flat_map (changes_at slots keys) nodes)) ids
+            (subst (λ x. Contains (froms (changes_at slots keys x)) ids) (node_same (Named n) a same) among)
+        | inr later ↦ Contains-append_right (froms (changes_at slots keys a)) (froms (flat_map (changes_at slots keys) nodes)) ids
             (among_all nodes n ids later among)
       ])
     where
@@ -176,9 +176,9 @@ module _ (v : Indexed Record) (slots : List (Option TableState)) (shown : IsShow
       among_all keys n (record_ids r) there (among_change dying (slot_of slots n) row.1 row.2 (is_falling keys n) (record_ids r) row.3 stays same)
 
   pub planned : (dead : List Entity) (changes : List TypeChange) → dead ≡ dying → changes ≡ changes_of slots keys → Ascend changes
-      → IsPlan v (λ x. IsTrue (has_item entity_cmp (taken_among slots starts) x)) dead changes
+      → IsDeletePlan v (λ x. IsTrue (has_item entity_cmp (taken_among slots starts) x)) dead changes
   planned dead changes who what ascend =
-      subst (IsPlan v (λ x. IsTrue (has_item entity_cmp (taken_among slots starts) x)) dead) (sym what) (record { doomed = doomed; taken = taken })
+      subst (IsDeletePlan v (λ x. IsTrue (has_item entity_cmp (taken_among slots starts) x)) dead) (sym what) (record { doomed = doomed; taken = taken })
     where
       listed : (e : Entity) → has_item entity_cmp dying e ≡ has_item entity_cmp dead e
       listed e = sym (ap (λ es. has_item entity_cmp es e) who)
@@ -196,7 +196,7 @@ module _ (v : Indexed Record) (slots : List (Option TableState)) (shown : IsShow
 
 -- ---- whatever lists the members
 
-pub as_listed : (v : Indexed Record) (IsRoot : Entity → Type 0) (dead : List Entity) (changes : List TypeChange) → IsPlan v IsRoot dead changes
+pub as_listed : (v : Indexed Record) (IsRoot : Entity → Type 0) (dead : List Entity) (changes : List TypeChange) → IsDeletePlan v IsRoot dead changes
     → (members : List Entity) → IsDoomed (world_of v) IsRoot members
     → without (world_of v) (has_item entity_cmp dead) (λ e. names_any dead) ≡ after_delete (world_of v) members
 as_listed v IsRoot dead changes plan members list = λ t. without (world_of v) (λ e. same e t) (λ e i. named_alike dead members same i t)

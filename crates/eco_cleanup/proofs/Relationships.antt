@@ -19,7 +19,7 @@ use Rattle.eco_ids.specs.World.{Record, WorldState, has}
 use Rattle.eco_ids.proofs.Ascending.{both, first, second}
 use Rattle.eco_ids.proofs.Facts.{any_is, or_left, or_parts, or_right}
 use Rattle.eco_ids.proofs.Overlaps.{entity_eq_is, entity_eq_itself}
-use Rattle.eco_tables.specs.Table.{Row, TableState, entities_of}
+use Rattle.eco_tables.specs.Table.{TableRow, TableState, entities_of}
 use Rattle.eco_tables.specs.Tables.{no_table, slot_of, table_in}
 use Rattle.eco_archetypes.specs.Archetypes.{row_at, type_at, type_matches}
 use Rattle.eco_store.specs.Store.{IsShown}
@@ -57,7 +57,7 @@ typed : (o : Option TableState) → IsTrue (type_matches (option_map (λ (t : Ta
 typed None h = absurd (true≢false (sym h))
 typed (Some t) h = let one = some_id (pattern_matches deleting) t.ids h in subst (λ i. IsTrue (has_item id_cmp t.ids i)) (only_that one.0 one.2) one.1
 
-matched : (o : Option TableState) (k : ℕ) (row : Row) → slice_get (unwrap_or o no_table).rows k ≡ Some row
+matched : (o : Option TableState) (k : ℕ) (row : TableRow) → slice_get (unwrap_or o no_table).rows k ≡ Some row
     → IsTrue (has_item id_cmp (unwrap_or o no_table).ids that) → IsTrue (type_matches (option_map (λ (t : TableState). t.ids) o) deleting)
 matched None k row at h = absurd (none-some row at)
 matched (Some t) k row at h = any_id (pattern_matches deleting) t.ids that h refl
@@ -85,7 +85,7 @@ module _ (v : Indexed Record) (slots : List (Option TableState)) (shown : IsShow
   abbrev own : Bool
   own = entity_eq (policy w m ON_DELETE) DELETE
 
-  found_has : (n k : ℕ) (row : Row) → row_at slots n k ≡ Some row → IsTrue (list_any (nat_eq n) found) → IsTrue (has w row.entity that)
+  found_has : (n k : ℕ) (row : TableRow) → row_at slots n k ≡ Some row → IsTrue (list_any (nat_eq n) found) → IsTrue (has w row.entity that)
   found_has n k row at there = has_at v slots shown n k row that at ∙ typed (slot_of slots n) (sym (all n) ∙ there)
 
   has_found : (r : Entity) → IsTrue (has w r that)

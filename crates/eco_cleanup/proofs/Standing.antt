@@ -15,7 +15,7 @@ use Rattle.eco_ids.proofs.Exact.{keys, keys_find}
 use Rattle.eco_ids.proofs.Facts.{any_is, id_eq_is, id_eq_itself, or_parts, or_right}
 use Rattle.eco_ids.proofs.Keeps.{has_in}
 use Rattle.eco_ids.proofs.Overlaps.{entity_eq_is, entity_eq_itself}
-use Rattle.eco_tables.specs.Table.{Row, RowsHaveIds, TableState, entities_of}
+use Rattle.eco_tables.specs.Table.{TableRow, RowsHaveIds, TableState, entities_of}
 use Rattle.eco_tables.specs.Tables.{no_row, no_table, table_in}
 use Rattle.eco_archetypes.specs.Archetypes.{is_found_by, row_at}
 use Rattle.eco_store.specs.Store.{IsShown, Stands}
@@ -34,26 +34,26 @@ any_id p ids i h passes =
 
 -- ---- rows
 
-pub stands_among : (rows : List Row) (k : ℕ) (r : Row) → slice_get rows k ≡ Some r → IsTrue (has_item entity_cmp (entities_of rows) r.entity)
+pub stands_among : (rows : List TableRow) (k : ℕ) (r : TableRow) → slice_get rows k ≡ Some r → IsTrue (has_item entity_cmp (entities_of rows) r.entity)
 stands_among [] k r at = absurd (none-some r at)
-stands_among (x ∷ rows) zero r at = or_left _ _ (subst (λ (y : Row). IsTrue (entity_eq x.entity y.entity)) (same_Some x r at) (entity_eq_itself x.entity))
+stands_among (x ∷ rows) zero r at = or_left _ _ (subst (λ (y : TableRow). IsTrue (entity_eq x.entity y.entity)) (same_Some x r at) (entity_eq_itself x.entity))
 stands_among (x ∷ rows) (suc k) r at = or_right _ _ (stands_among rows k r at)
 
-pub row_of : (rows : List Row) (e : Entity) → IsTrue (has_item entity_cmp (entities_of rows) e)
-    → (k : ℕ) × (r : Row) × (slice_get rows k ≡ Some r) × (r.entity ≡ e)
+pub row_of : (rows : List TableRow) (e : Entity) → IsTrue (has_item entity_cmp (entities_of rows) e)
+    → (k : ℕ) × (r : TableRow) × (slice_get rows k ≡ Some r) × (r.entity ≡ e)
 row_of [] e h = absurd (true≢false (sym h))
 row_of (x ∷ rows) e h =
-    elim (or_parts (entity_eq x.entity e) (has_item entity_cmp (entities_of rows) e) h) as (λ _. (k : ℕ) × (r : Row) × (slice_get (x ∷ rows) k ≡ Some r)
+    elim (or_parts (entity_eq x.entity e) (has_item entity_cmp (entities_of rows) e) h) as (λ _. (k : ℕ) × (r : TableRow) × (slice_get (x ∷ rows) k ≡ Some r)
     × (r.entity ≡ e)) [
       | inl same ↦ (0, x, refl, entity_eq_is x.entity e same)
       | inr later ↦ let rest = row_of rows e later in (suc rest.0, rest.1, rest.2, rest.3)
     ]
 
-some_rows : (rows : List Row) (k : ℕ) (r : Row) → slice_get rows k ≡ Some r → IsTrue (nat_lt 0 (length rows))
+some_rows : (rows : List TableRow) (k : ℕ) (r : TableRow) → slice_get rows k ≡ Some r → IsTrue (nat_lt 0 (length rows))
 some_rows [] k r at = absurd (none-some r at)
 some_rows (x ∷ rows) k r at = grind (arith, nat_tests)
 
-pub found_at : (test : List Id → Bool) (o : Option TableState) (k : ℕ) (r : Row) → slice_get (unwrap_or o no_table).rows k ≡ Some r
+pub found_at : (test : List Id → Bool) (o : Option TableState) (k : ℕ) (r : TableRow) → slice_get (unwrap_or o no_table).rows k ≡ Some r
     → IsTrue (test (unwrap_or o no_table).ids) → IsTrue (is_found_by test o)
 found_at test None k r at h = absurd (none-some r at)
 found_at test (Some t) k r at h = both _ _ (some_rows t.rows k r at) h
@@ -66,16 +66,16 @@ has_standing (Some d) t row i stands own =
     keys_find d.held i ∙ ap (λ xs. has_item id_cmp xs i) (ap keys (stands.held no_row) ∙ own row no_row stands.within)
 
 module _ (v : Indexed Record) (slots : List (Option TableState)) (shown : IsShown v slots) where
-  pub has_at : (n k : ℕ) (r : Row) (i : Id) → row_at slots n k ≡ Some r → has (world_of v) r.entity i ≡ has_item id_cmp (table_in slots n).ids i
+  pub has_at : (n k : ℕ) (r : TableRow) (i : Id) → row_at slots n k ≡ Some r → has (world_of v) r.entity i ≡ has_item id_cmp (table_in slots n).ids i
   has_at n k r i at = has_standing (record_of (world_of v) r.entity) (table_in slots n) k i (shown.rows n k r at) (shown.own n)
 
   -- who has an id stands in a table whose type has it
   pub stands_with : (h : Entity) (i : Id) → IsTrue (has (world_of v) h i)
-      → (n : ℕ) × (k : ℕ) × (r : Row) × (row_at slots n k ≡ Some r) × (r.entity ≡ h) × IsTrue (has_item id_cmp (table_in slots n).ids i)
+      → (n : ℕ) × (k : ℕ) × (r : TableRow) × (row_at slots n k ≡ Some r) × (r.entity ≡ h) × IsTrue (has_item id_cmp (table_in slots n).ids i)
   stands_with h i there = by (record_of (world_of v) h) refl there
     where
       by : (o : Option Record) → record_of (world_of v) h ≡ o → IsTrue (has_in o i)
-          → (n : ℕ) × (k : ℕ) × (r : Row) × (row_at slots n k ≡ Some r) × (r.entity ≡ h) × IsTrue (has_item id_cmp (table_in slots n).ids i)
+          → (n : ℕ) × (k : ℕ) × (r : TableRow) × (row_at slots n k ≡ Some r) × (r.entity ≡ h) × IsTrue (has_item id_cmp (table_in slots n).ids i)
       by None at had = absurd (true≢false (sym had))
       by (Some d) at had =
           let row = shown.living h d at in (

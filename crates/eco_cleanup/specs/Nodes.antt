@@ -1,5 +1,5 @@
 -- How deaths lead to deaths, table by table.
-use Rattle.std.proofs.Common.{◌≡◌, ℕ, Bool, true, false, not, nat_lt, length, ◌&&◌, ◌||◌, List, [], ◌∷◌, flat_map, ◌+◌, Option, ap, sym, ◌∙◌}
+use Rattle.std.proofs.Common.{◌≡◌, ℕ, Bool, true, false, not, ◌&&◌, ◌||◌, List, [], ◌∷◌, flat_map, ◌+◌, Option, ap, sym, ◌∙◌}
 use Rattle.std.proofs.Common.{true≢false, if◌then◌else◌, IsTrue}
 use Rattle.std.specs.Prelude.{◌↔◌}
 use Rattle.std.specs.List.{list_any}
@@ -13,24 +13,20 @@ use Rattle.eco_ids.specs.World.{WorldState}
 use Rattle.eco_ids.proofs.Overlaps.{entity_eq_is}
 use Rattle.eco_tables.specs.Table.{TableState, entities_of}
 use Rattle.eco_tables.specs.Tables.{slot_of, table_in}
-use Rattle.eco_index.specs.TypeTests.{names_any}
-use Rattle.eco_archetypes.specs.Archetypes.{is_found, is_found_by}
+use Rattle.eco_index.specs.TypeTests.{type_names}
+use Rattle.eco_archetypes.specs.Archetypes.{is_found, is_found_by, has_rows}
 use Rattle.eco_cleanup.specs.Policies.{names_on}
 use Rattle.eco_cleanup.specs.declared.node.Node.{Node}
 use Rattle.eco_cleanup.specs.declared.node.Node.TheVariants.{Root, Falling, Named}
 use Rattle.eco_cleanup.specs.contracts.node.NodePartialEq.TheImpl as node_impl
 
 -- the table in the slot has rows, and its type names the member
-abbrev pub is_named : List (Option TableState) → Entity → ℕ → Bool
-is_named slots m n = is_found_by (λ ids. names_any ids m) (slot_of slots n)
+abbrev pub is_naming : List (Option TableState) → Entity → ℕ → Bool
+is_naming slots m n = is_found_by (λ ids. type_names ids m) (slot_of slots n)
 
 -- its type has an id that names the member under the policy Delete
 abbrev pub falls : WorldState → List (Option TableState) → Entity → ℕ → Bool
 falls w slots m n = list_any (names_on w DELETE m) (table_in slots n).ids
-
--- the table in the slot has rows
-abbrev pub has_rows : List (Option TableState) → ℕ → Bool
-has_rows slots n = nat_lt 0 (length (table_in slots n).rows)
 
 -- how the table of a slot whose type names the member is noted
 abbrev pub named_node : WorldState → List (Option TableState) → Entity → ℕ → Node
@@ -43,8 +39,8 @@ nodes_at w slots m n = if has_rows slots n then named_node w slots m n ∷ [] el
 -- the tables whose types name the entity, each as it is noted
 abbrev pub touches : WorldState → List (Option TableState) → Entity → Node → Bool
 touches w slots e (Root x) = false
-touches w slots e (Falling n) = is_named slots e n && falls w slots e n
-touches w slots e (Named n) = is_named slots e n && not (falls w slots e n)
+touches w slots e (Falling n) = is_naming slots e n && falls w slots e n
+touches w slots e (Named n) = is_naming slots e n && not (falls w slots e n)
 
 -- the tables whose types have an id that the pattern matches, as they are noted of the entity
 abbrev pub touches_by : WorldState → List (Option TableState) → Entity → Pattern → Node → Bool
@@ -99,8 +95,8 @@ abbrev pub taken_among : List (Option TableState) → List Node → List Entity
 taken_among slots nodes = flat_map (taken_by slots) nodes
 
 -- those that pass a test come to others
-abbrev pub Appends : (Node → Bool) → List Node → List Node → Type 0
-Appends test old new = (b : Node) → is_one_of new b ≡ (is_one_of old b || test b)
+abbrev pub AddsNodes : (Node → Bool) → List Node → List Node → Type 0
+AddsNodes test old new = (b : Node) → is_one_of new b ≡ (is_one_of old b || test b)
 
 -- the nodes are the least set that holds these and, with each node, whatever it leads to
 abbrev pub IsSearch : WorldState → List (Option TableState) → List Node → List Node → Type 0

@@ -64,13 +64,13 @@ module _ (w : WorldState) where
   first_objection slots nodes = fold (λ first node. former objection_cmp first (objection_of slots nodes node)) None nodes
 
 -- nobody forbids the delete of these members, or who forbids it first
-abbrev pub Judges : WorldState → List Entity → Option Objection → Type 0
-Judges w members None = (h m : Entity) → Forbids w members h m → ⊥
-Judges w members (Some o) = ForbidsFirst w members o.holder o.member
+abbrev pub JudgesDelete : WorldState → List Entity → Option Objection → Type 0
+JudgesDelete w members None = (h m : Entity) → Forbids w members h m → ⊥
+JudgesDelete w members (Some o) = ForbidsFirst w members o.holder o.member
 
 -- the answer: nobody forbids it, or it is refused for who forbids it first, or for want of memory
-abbrev pub Answers : {A : Type 0} → WorldState → List Entity → Result A Refusal → Type 0
-Answers w members (Ok done) = (h m : Entity) → Forbids w members h m → ⊥
-Answers w members (Err (Panic h m)) = ForbidsFirst w members h m
-Answers w members (Err OutOfMemory) = Unit {0}
-Answers w members (Err _) = ⊥
+abbrev pub AnswersDelete : {A : Type 0} → WorldState → List Entity → Result A Refusal → Type 0
+AnswersDelete w members (Ok done) = (h m : Entity) → Forbids w members h m → ⊥
+AnswersDelete w members (Err (Panic h m)) = ForbidsFirst w members h m
+AnswersDelete w members (Err OutOfMemory) = Unit {0}
+AnswersDelete w members (Err _) = ⊥

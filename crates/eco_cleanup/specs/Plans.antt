@@ -35,7 +35,7 @@ pub record TakesOutOfAll
       → IsTrue (list_any goes (record_ids r)) → Contains (map (λ c. c.from) changes) (record_ids r)
 
 -- those die whom a delete of the roots takes, and the changes take the ids that name them out of the types of the others
-pub record IsPlan
+pub record IsDeletePlan
     (v : Indexed Record) (IsRoot : Entity → Type 0) (dead : List Entity) (changes : List TypeChange) : Type 0 where
   pub doomed : (e : Entity) → IsTrue (has_item entity_cmp dead e) ↔ Doomed (world_of v) IsRoot e
   pub taken : TakesOutOfAll v (has_item entity_cmp dead) (names_any dead) changes
@@ -52,11 +52,11 @@ change_in dead None = []
 change_in dead (Some t) = record { from = t.ids; to = spared dead t.ids } ∷ []
 
 -- likewise of a table that is named and does not fall
-abbrev pub change_of : List (Option TableState) → List Node → Node → List TypeChange
-change_of slots nodes (Root e) = []
-change_of slots nodes (Falling n) = []
-change_of slots nodes (Named n) = if is_falling nodes n then [] else change_in (taken_among slots nodes) (slot_of slots n)
+abbrev pub changes_at : List (Option TableState) → List Node → Node → List TypeChange
+changes_at slots nodes (Root e) = []
+changes_at slots nodes (Falling n) = []
+changes_at slots nodes (Named n) = if is_falling nodes n then [] else change_in (taken_among slots nodes) (slot_of slots n)
 
 -- of all such tables
 abbrev pub changes_of : List (Option TableState) → List Node → List TypeChange
-changes_of slots nodes = flat_map (change_of slots nodes) nodes
+changes_of slots nodes = flat_map (changes_at slots nodes) nodes

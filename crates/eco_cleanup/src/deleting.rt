@@ -8,9 +8,9 @@ ghost use Rattle.eco_ids.specs.Outcome.{Meets};
 ghost use Rattle.eco_ids.specs.declared.entity.Entity.{Entity as EntityData};
 ghost use Rattle.eco_ids.specs.declared.id.Id.{Id as IdData};
 ghost use Rattle.eco_store.specs.Holders.{entities_with};
-ghost use Rattle.eco_cleanup.specs.Objections.{Answers};
+ghost use Rattle.eco_cleanup.specs.Objections.{AnswersDelete};
 ghost use Rattle.eco_cleanup.specs.OnlyHolders.{IsOnlyHolder};
-ghost use Rattle.eco_cleanup.specs.Plans.{IsPlan, TakesOutOfAll};
+ghost use Rattle.eco_cleanup.specs.Plans.{IsDeletePlan, TakesOutOfAll};
 ghost use Rattle.eco_store.specs.Worlds.{world_of};
 ghost use Rattle.eco_cleanup.specs.declared.node.Node.TheVariants.{Root, Falling};
 
@@ -113,11 +113,11 @@ pub fn carry_out(
 
 // What the delete does, unless a policy forbids it.
 fn plan_delete(alloc: Global, store: &Store, roots: &[Entity]) -> Result<Plan, Refusal>
-    ensures planned { IfOk result (λ p. IsPlan store.now.entities
+    ensures planned { IfOk result (λ p. IsDeletePlan store.now.entities
         (λ x. IsTrue (has_item entity_cmp roots.now x)) p.dead.items p.changes.items) }
     ensures judged { (members : List EntityData)
         → IsDoomedList (world_of store.now.entities) (λ x. IsTrue (has_item entity_cmp roots.now x)) members
-        → Answers (world_of store.now.entities) members result }
+        → AnswersDelete (world_of store.now.entities) members result }
 {
     let starts = nodes_of(alloc, roots)?;
     let ties = Ties {
@@ -140,13 +140,13 @@ fn nodes_of(alloc: Global, entities: &[Entity]) -> Result<Vec<Node>, AllocError>
 
 // What the delete of all who have such an id does, unless a policy forbids it.
 fn plan_delete_with(alloc: Global, store: &Store, pattern: Pattern) -> Result<Plan, Refusal>
-    ensures planned { IfOk result (λ p. IsPlan store.now.entities
+    ensures planned { IfOk result (λ p. IsDeletePlan store.now.entities
         (λ x. IsTrue (has_item entity_cmp (entities_with store.now.entities pattern) x))
         p.dead.items p.changes.items) }
     ensures judged { (members : List EntityData)
         → IsDoomedList (world_of store.now.entities)
         (λ x. IsTrue (has_item entity_cmp (entities_with store.now.entities pattern) x)) members
-        → Answers (world_of store.now.entities) members result }
+        → AnswersDelete (world_of store.now.entities) members result }
 {
     let places = store.places();
     let slots = places.archetypes().tables_by(&pattern)?;

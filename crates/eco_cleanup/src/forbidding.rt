@@ -6,7 +6,7 @@ ghost use Rattle.eco_ids.specs.declared.entity.Entity.{Entity as EntityData};
 ghost use Rattle.eco_tables.specs.Tables.{table_in};
 ghost use Rattle.eco_store.specs.Store.{IsShown};
 ghost use Rattle.eco_cleanup.specs.Nodes.{taken_among, AreStarts, IsSearch};
-ghost use Rattle.eco_cleanup.specs.Objections.{Answers, first_objection, first_outside, first_protected, named_first, objection_at, objection_of, protects};
+ghost use Rattle.eco_cleanup.specs.Objections.{AnswersDelete, first_objection, first_outside, first_protected, named_first, objection_at, objection_of, protects};
 ghost use Rattle.eco_store.specs.Worlds.{world_of};
 
 use crate::doomed::Doomed;
@@ -30,7 +30,7 @@ impl Ties<'_> {
         ensures judged { (members : List EntityData)
             → IsDoomedList (world_of self.now.store.now.entities)
             (λ x. IsTrue (has_item entity_cmp (taken_among self.now.places starts.now) x)) members
-            → Answers (world_of self.now.store.now.entities) members result }
+            → AnswersDelete (world_of self.now.store.now.entities) members result }
     {
         let doomed = self.search(alloc, starts)?;
         match self.first_objection(&doomed) {

@@ -6,8 +6,8 @@ ghost use Rattle.eco_ids.specs.declared.entity.Entity.{Entity as EntityData};
 ghost use Rattle.eco_tables.specs.Tables.{slot_of};
 ghost use Rattle.eco_store.specs.Store.{IsShown};
 ghost use Rattle.eco_cleanup.specs.Nodes.{taken_among, taken_by, AreStarts};
-ghost use Rattle.eco_cleanup.specs.Objections.{Answers};
-ghost use Rattle.eco_cleanup.specs.Plans.{Ascend, change_in, change_of, changes_of, spared, IsPlan};
+ghost use Rattle.eco_cleanup.specs.Objections.{AnswersDelete};
+ghost use Rattle.eco_cleanup.specs.Plans.{Ascend, change_in, changes_at, changes_of, spared, IsDeletePlan};
 ghost use Rattle.eco_store.specs.Worlds.{world_of};
 
 use crate::doomed::Doomed;
@@ -29,13 +29,13 @@ impl Ties<'_> {
     pub fn plan(&self, alloc: Global, starts: &[Node]) -> Result<Plan, Refusal>
         requires shown { IsShown self.now.store.now.entities self.now.places }
         requires starts { AreStarts starts.now }
-        ensures planned { IfOk result (λ p. IsPlan self.now.store.now.entities
+        ensures planned { IfOk result (λ p. IsDeletePlan self.now.store.now.entities
             (λ x. IsTrue (has_item entity_cmp (taken_among self.now.places starts.now) x))
             p.dead.items p.changes.items) }
         ensures judged { (members : List EntityData)
             → IsDoomedList (world_of self.now.store.now.entities)
             (λ x. IsTrue (has_item entity_cmp (taken_among self.now.places starts.now) x)) members
-            → Answers (world_of self.now.store.now.entities) members result }
+            → AnswersDelete (world_of self.now.store.now.entities) members result }
     {
         let doomed = self.judge(alloc, starts)?;
         let plan = self.plan_of(alloc, &doomed)?;
@@ -100,7 +100,7 @@ impl Ties<'_> {
         changes: &mut Vec<TypeChange>,
     ) -> Result<(), AllocError>
         ensures change { OnOk result (changes.new.items
-            ≡ changes.old.items ++ change_of self.now.places doomed.now.nodes.keys node) }
+            ≡ changes.old.items ++ changes_at self.now.places doomed.now.nodes.keys node) }
         ensures ascend { Ascend changes.old.items → OnOk result (Ascend changes.new.items) }
     {
         match node {

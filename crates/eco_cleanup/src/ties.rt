@@ -5,7 +5,7 @@ ghost use Rattle.eco_tables.specs.Table.{entities_of};
 ghost use Rattle.eco_tables.specs.Tables.{slot_of, table_in};
 ghost use Rattle.eco_ids.specs.Order.{entity_cmp, has_item};
 ghost use Rattle.eco_ids.specs.declared.entity.TheConstants.{DELETE as DELETE_DATA};
-ghost use Rattle.eco_cleanup.specs.Nodes.{all_nodes, falls, leads, named_node, node_same, nodes_at, taken_among, touches, touches_by, Appends, IsSearch};
+ghost use Rattle.eco_cleanup.specs.Nodes.{all_nodes, falls, leads, named_node, node_same, nodes_at, taken_among, touches, touches_by, AddsNodes, IsSearch};
 ghost use Rattle.eco_store.specs.Worlds.{world_of};
 ghost use Rattle.eco_cleanup.specs.declared.node.Node.TheVariants.{Falling};
 
@@ -57,7 +57,8 @@ impl Ties<'_> {
     /// The tables that have rows and a type which names the entity.
     #[inline(always)]
     pub fn append_named(&self, entity: Entity, found: &mut Vec<Node>) -> Result<(), AllocError>
-        ensures { OnOk result (Appends (touches (world_of self.now.store.now.entities) self.now.places entity)
+        ensures { OnOk result (AddsNodes
+            (touches (world_of self.now.store.now.entities) self.now.places entity)
             found.old.items found.new.items) }
     {
         if !self.places.archetypes().is_named(entity) {
@@ -77,7 +78,7 @@ impl Ties<'_> {
         pattern: Pattern,
         found: &mut Vec<Node>,
     ) -> Result<(), AllocError>
-        ensures { OnOk result (Appends
+        ensures { OnOk result (AddsNodes
             (touches_by (world_of self.now.store.now.entities) self.now.places member pattern)
             found.old.items found.new.items) }
     {
@@ -126,7 +127,7 @@ impl Ties<'_> {
 
     // The tables whose types name one who stands in the table of a slot.
     fn append_standing(&self, slot: usize, found: &mut Vec<Node>) -> Result<(), AllocError>
-        ensures { OnOk result (Appends
+        ensures { OnOk result (AddsNodes
             (leads (world_of self.now.store.now.entities) self.now.places (Falling slot))
             found.old.items found.new.items) }
     {

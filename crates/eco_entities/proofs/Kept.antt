@@ -7,7 +7,7 @@ use Rattle.std.proofs.lemmas.Option.{slice_get_within}
 use Rattle.eco_ids.specs.declared.entity.Entity.{Entity}
 use Rattle.eco_ids.specs.Indices.{Indexed, IndexState, Retired, Free, Living, record_in, record_of, is_alive, is_free_in, is_free_at, with_record, with_death}
 use Rattle.eco_ids.specs.Indices.{with_new, admitted, raised, next_entity}
-use Rattle.eco_entities.specs.Changes.{ChangesAt, Keeps}
+use Rattle.eco_entities.specs.Changes.{ChangesAt, KeepsAnswers}
 use Rattle.eco_ids.proofs.Lists.{slice_get-set_same, slice_get-set_other}
 use Rattle.eco_ids.proofs.States.{record_here}
 use Rattle.eco_entities.proofs.States.{free_known, alive_known, next_is}
@@ -66,7 +66,7 @@ record_appended [] (suc n) (suc i) g = record_appended [] n i g
 record_appended (x ∷ xs) n zero g = refl
 record_appended (x ∷ xs) n (suc i) g = record_appended xs n i g
 
-pub record-admitted : {A : Type 0} (w : Indexed A) (n : ℕ) → Keeps (record_of w) (record_of (admitted n w))
+pub record-admitted : {A : Type 0} (w : Indexed A) (n : ℕ) → KeepsAnswers (record_of w) (record_of (admitted n w))
 record-admitted w n = record { all = λ e. record_appended w.indices n e.index e.generation }
 
 -- the next entity, once its index is known
@@ -95,7 +95,7 @@ free_is w e h = ap (λ o. is_free_in o e.generation) h ∙ eq-eqb e.generation e
 -- what the room for the next entity leaves, and what its settling makes
 pub record IsRoom {A : Type 0} (w : Indexed A) (e : Entity) : Type 0 where
   pub free : is_free_at (with_room w e) e ≡ true
-  pub keeps : Keeps (record_of w) (record_of (with_room w e))
+  pub keeps : KeepsAnswers (record_of w) (record_of (with_room w e))
   pub settled : (r : A) → with_record (with_room w e) e r ≡ with_new w e r
 
 pub next_has_room : {A : Type 0} (w : Indexed A) (e : Entity) → next_entity w ≡ Some e → IsRoom w e

@@ -12,7 +12,7 @@ use Rattle.eco_ids.specs.Indices.{Indexed, IndexState, Retired, Free, Living, re
 use Rattle.eco_ids.specs.Indices.{with_death, admitted, changed, change_kept}
 use Rattle.eco_ids.specs.Outcome.{Refuses, Answers, is_out_of_memory}
 use Rattle.eco_ids.specs.Renaming.{unfit_rename, may_rename}
-use Rattle.eco_entities.specs.Registration.{Registration, newcomer, name_of, placed, renamed}
+use Rattle.eco_entities.specs.Registration.{Registration, newcomer, given_name, placed, renamed}
 use Rattle.eco_entities.specs.Runs.{Call, Create, Admit, MakeAlive, Kill, Rename, SetPlace, LeadsTo, RunsTo, NobodyLivesTwice}
 use Rattle.eco_ids.proofs.Lists.{slice_get-set_same, slice_get-set_other}
 use Rattle.eco_ids.proofs.States.{living_at}
@@ -115,8 +115,8 @@ past_renamed w new e x name r (Some why) h p = rw h.1 p
 past_call : (c : Call) (w new : Indexed Registration) (e : Entity) → LeadsTo c w new → IsPast w e → IsPast new e
 past_call (Create name arity) w new e h p =
     elim (cases_Bool (is_out_of_memory h.0)) [
-      | inl out ↦ let same : IsTrue (may_make name_of w name) × (new ≡ w) = MatchBool-at_true _ _ out h.1 in rw same.1 p
-      | inr step ↦ past_made w new e (newcomer name arity) h.0 (unfit_name name_of w name) (next_entity w) refl (MatchBool-at_false _ _ step h.1) p
+      | inl out ↦ let same : IsTrue (may_make given_name w name) × (new ≡ w) = MatchBool-at_true _ _ out h.1 in rw same.1 p
+      | inr step ↦ past_made w new e (newcomer name arity) h.0 (unfit_name given_name w name) (next_entity w) refl (MatchBool-at_false _ _ step h.1) p
     ]
 past_call (Admit n) w new e h p =
     grind (arith, common_steps, cases_Bool, past_admitted)
@@ -125,8 +125,8 @@ past_call (MakeAlive x) w new e h p =
 past_call (Kill x) w new e h p = rw h.1 (past_died w e x h.0 p)
 past_call (Rename x name) w new e h p =
     elim (cases_Bool (is_out_of_memory h.0)) [
-      | inl out ↦ let same : IsTrue (may_rename name_of w x false name) × (new ≡ w) = MatchBool-at_true _ _ out h.1 in rw same.1 p
-      | inr step ↦ past_renamed w new e x name h.0 (unfit_rename name_of w x false name) (MatchBool-at_false _ _ step h.1) p
+      | inl out ↦ let same : IsTrue (may_rename given_name w x false name) × (new ≡ w) = MatchBool-at_true _ _ out h.1 in rw same.1 p
+      | inr step ↦ past_renamed w new e x name h.0 (unfit_rename given_name w x false name) (MatchBool-at_false _ _ step h.1) p
     ]
 past_call (SetPlace x place) w new e h p = rw h.1 (past_changed w e x (placed place) (record_of w x) refl p)
 
@@ -138,5 +138,6 @@ pub lives_once : NobodyLivesTwice
 lives_once old later e calls alive runs =
     let p : IsPast later e = past_run calls (with_death old e) later e runs (past_killed old e alive) in (
       past_not_alive later e p,
-      λ name arity x new h. next_not_past later e x (made_next later new x (newcomer name arity) (unfit_name name_of later name) (next_entity later) refl h) p,
+      λ name arity x new h. next_not_past later e x
+          (made_next later new x (newcomer name arity) (unfit_name given_name later name) (next_entity later) refl h) p,
     )

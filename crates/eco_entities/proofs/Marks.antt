@@ -12,7 +12,7 @@ use Rattle.eco_ids.specs.declared.entity.Entity.{Entity}
 use Rattle.eco_ids.specs.Indices.{Indexed, IndexState, Retired, Free, Living, lowest_free, next_entity, admitted, is_alive, is_free_at, map_state, raised}
 use Rattle.eco_ids.specs.Indices.{with_death, with_new, with_record, changed}
 use Rattle.eco_entities.specs.Registration.{Registration, renamed}
-use Rattle.eco_entities.specs.Slots.{IsMarked, Fits, is_free, is_named, next_generation, put_at, state_of, states, IsNextSlot}
+use Rattle.eco_entities.specs.Slots.{IsMarked, GenerationFits, is_free, is_named, next_generation, put_at, state_of, states, IsNextSlot}
 use Rattle.eco_entities.specs.declared.slot.Slot.{Slot}
 use Rattle.eco_entities.specs.declared.slots.Slots.TheInside.{Inside}
 use Rattle.eco_ids.proofs.Lists.{slice_get-set_same, slice_get-set_other, map-replicate}
@@ -22,7 +22,7 @@ use Rattle.eco_entities.proofs.States.{alive_known, free_known, changed_states, 
 
 -- one state changes, and its mark with it
 pub marked-set : (limit : ℕ) (xs : List (IndexState Registration)) (marks marks' : List Bool) (i : ℕ) (x : IndexState Registration) → IsMarked limit xs marks →
-    i < length xs → Fits (Some x) → marks' ≡ set marks i (is_free x) → IsMarked limit (set xs i x) marks'
+    i < length xs → GenerationFits (Some x) → marks' ≡ set marks i (is_free x) → IsMarked limit (set xs i x) marks'
 marked-set limit xs marks marks' i x m l fits e = search (rules, length-set, map-set, cases_eq, slice_get-set_same, slice_get-set_other)
 
 -- the lowest mark is the lowest free index
@@ -45,7 +45,7 @@ lowest_marked n (Living g r ∷ xs) = lowest_later n (Living g r) xs _ refl (low
 
 -- a state that stays as free as it was keeps its mark
 pub marked_kept : (limit : ℕ) (xs : List (IndexState Registration)) (marks : List Bool) (i : ℕ) (x y : IndexState Registration) → IsMarked limit xs marks →
-    slice_get xs i ≡ Some y → is_free x ≡ is_free y → Fits (Some x) → IsMarked limit (set xs i x) marks
+    slice_get xs i ≡ Some y → is_free x ≡ is_free y → GenerationFits (Some x) → IsMarked limit (set xs i x) marks
 marked_kept limit xs marks i x y m here same fits =
     let within : i < length xs = slice_get_within xs i y here in
     let mark : get_or marks i false ≡ is_free y = ap (λ ms. get_or ms i false) m.marked
@@ -53,10 +53,10 @@ marked_kept limit xs marks i x y m here same fits =
     marked-set limit xs marks marks i x m within fits (sym (set-get_or marks i false) ∙ ap (λ b. set marks i b) (mark ∙ sym same))
 
 pub fits_at : (limit : ℕ) (xs : List (IndexState Registration)) (marks : List Bool) (i : ℕ) (y : IndexState Registration) → IsMarked limit xs marks →
-    slice_get xs i ≡ Some y → Fits (Some y)
+    slice_get xs i ≡ Some y → GenerationFits (Some y)
 fits_at limit xs marks i y m here = rw here at (m.fit i)
 
-pub fits-map_state : (change : Registration → Registration) (y : IndexState Registration) → Fits (Some y) → Fits (Some (map_state change y))
+pub fits-map_state : (change : Registration → Registration) (y : IndexState Registration) → GenerationFits (Some y) → GenerationFits (Some (map_state change y))
 fits-map_state change Retired f = f
 fits-map_state change (Free g) f = f
 fits-map_state change (Living g r) f = f
@@ -69,11 +69,11 @@ is_free-map_state change (Living g r) = refl
 abbrev with_state : ℕ → IndexState Registration → Indexed Registration → Indexed Registration
 with_state i x v = record v { indices = slice_set v.indices i x }
 
-fits_if : (A : Type 0) (g : ℕ) (b : Bool) → nat_lt g 65535 ≡ b → Fits {A = A} (Some (if b then Free (g + 1) else Retired))
+fits_if : (A : Type 0) (g : ℕ) (b : Bool) → nat_lt g 65535 ≡ b → GenerationFits {A = A} (Some (if b then Free (g + 1) else Retired))
 fits_if A g true e = let below : g < 65535 = ltb-true g 65535 e in omega arith
 fits_if A g false e = tt
 
-pub fits-raised : (A : Type 0) (g : ℕ) → Fits {A = A} (Some (raised g))
+pub fits-raised : (A : Type 0) (g : ℕ) → GenerationFits {A = A} (Some (raised g))
 fits-raised A g = fits_if A g (nat_lt g 65535) refl
 
 -- who is made next
@@ -108,18 +108,19 @@ next_unknown limit xs low = ap (λ o. option_or o (first_unknown limit (length x
 
 -- more free indices at the end
 
-pub fits-append : {A : Type 0} (xs ys : List (IndexState A)) → ((i : ℕ) → Fits (slice_get xs i)) → ((i : ℕ) → Fits (slice_get ys i)) → (i : ℕ) →
-    Fits (slice_get (xs ++ ys) i)
+pub fits-append : {A : Type 0} (xs ys : List (IndexState A)) → ((i : ℕ) → GenerationFits (slice_get xs i)) → ((i : ℕ) → GenerationFits (slice_get ys i))
+    → (i : ℕ) →
+    GenerationFits (slice_get (xs ++ ys) i)
 fits-append [] ys f g i = g i
 fits-append (x ∷ xs) ys f g zero = f zero
 fits-append (x ∷ xs) ys f g (suc i) = fits-append xs ys (λ j. f (suc j)) g i
 
-fits-fresh : (A : Type 0) (n i : ℕ) → Fits {A = A} (slice_get (replicate n (Free 0)) i)
+fits-fresh : (A : Type 0) (n i : ℕ) → GenerationFits {A = A} (slice_get (replicate n (Free 0)) i)
 fits-fresh A zero i = tt
 fits-fresh A (suc n) zero = omega arith
 fits-fresh A (suc n) (suc i) = fits-fresh A n i
 
-fits-one : (g : ℕ) (r : Registration) → g ≤ 65535 → (i : ℕ) → Fits (slice_get (Living g r ∷ []) i)
+fits-one : (g : ℕ) (r : Registration) → g ≤ 65535 → (i : ℕ) → GenerationFits (slice_get (Living g r ∷ []) i)
 fits-one g r l zero = l
 fits-one g r l (suc i) = tt
 
@@ -194,7 +195,7 @@ module _ (kept : Inside) (w : Indexed Registration) (m : IsMarked kept.limit (st
   -- another state at a known index
   pub slot_put : (marks' : List Bool) (i : ℕ) (new : Slot) (x : IndexState Registration) →
       i < length (items kept) →
-      state_of ((labels kept) i) new ≡ x → Fits (Some x) → marks' ≡ set kept.free i (is_free x) →
+      state_of ((labels kept) i) new ≡ x → GenerationFits (Some x) → marks' ≡ set kept.free i (is_free x) →
       IsMarked kept.limit (states (labels kept) (set (items kept) i new)) marks'
       × Shows kept.limit (labels kept) (set (items kept) i new) (record w { indices = slice_set w.indices i x })
   slot_put marks' i new x l is fits mark =

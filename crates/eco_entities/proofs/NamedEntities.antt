@@ -10,7 +10,7 @@ use Rattle.eco_ids.specs.declared.entity.Entity.{Entity}
 use Rattle.eco_ids.specs.Indices.{Indexed, IndexState, Retired, Free, Living, record_in, record_of, living_from}
 use Rattle.eco_ids.specs.Names.{is_text, is_called, named_entity}
 use Rattle.eco_ids.specs.Renaming.{own_name}
-use Rattle.eco_entities.specs.Registration.{Registration, name_of}
+use Rattle.eco_entities.specs.Registration.{Registration, given_name}
 use Rattle.eco_entities.specs.Registry.{IsRegistry}
 use Rattle.eco_ids.proofs.States.{record_here}
 
@@ -29,27 +29,27 @@ called_same name (Some own) h = ap Some (text_same own name h)
 -- the search among the living
 
 abbrev is_named : List ℕ → Entity × Registration → Bool
-is_named name p = is_called name (name_of p.1)
+is_named name p = is_called name (given_name p.1)
 
 -- nobody there has the name
 abbrev NoNamedEntity : List (IndexState Registration) → List ℕ → Type 0
-NoNamedEntity xs name = (i g : ℕ) (r : Registration) → record_in (slice_get xs i) g ≡ Some r → is_called name (name_of r) ≡ false
+NoNamedEntity xs name = (i g : ℕ) (r : Registration) → record_in (slice_get xs i) g ≡ Some r → is_called name (given_name r) ≡ false
 
 -- this one has it
 abbrev IsNamedEntity : ℕ → List (IndexState Registration) → List ℕ → Entity × Registration → Type 0
-IsNamedEntity n xs name q = (n ≤ q.0.index) × (record_in (slice_get xs (q.0.index - n)) q.0.generation ≡ Some q.1) × (is_called name (name_of q.1) ≡ true)
+IsNamedEntity n xs name q = (n ≤ q.0.index) × (record_in (slice_get xs (q.0.index - n)) q.0.generation ≡ Some q.1) × (is_called name (given_name q.1) ≡ true)
 
 abbrev Found : ℕ → List (IndexState Registration) → List ℕ → Option (Entity × Registration) → Type 0
 Found n xs name o = MatchOption o (NoNamedEntity xs name) (IsNamedEntity n xs name)
 
 none_after : (x : IndexState Registration) (xs : List (IndexState Registration)) (name : List ℕ) →
-    ((g : ℕ) (r : Registration) → record_in (Some x) g ≡ Some r → is_called name (name_of r) ≡ false) → NoNamedEntity xs name → NoNamedEntity (x ∷ xs) name
+    ((g : ℕ) (r : Registration) → record_in (Some x) g ≡ Some r → is_called name (given_name r) ≡ false) → NoNamedEntity xs name → NoNamedEntity (x ∷ xs) name
 none_after x xs name here rest zero g r h = here g r h
 none_after x xs name here rest (suc i) g r h = rest i g r h
 
 -- one state in front, at which nobody has the name
 found_later : (n : ℕ) (x : IndexState Registration) (xs : List (IndexState Registration)) (name : List ℕ) (o : Option (Entity × Registration)) →
-    ((g : ℕ) (r : Registration) → record_in (Some x) g ≡ Some r → is_called name (name_of r) ≡ false) → Found (n + 1) xs name o → Found n (x ∷ xs) name o
+    ((g : ℕ) (r : Registration) → record_in (Some x) g ≡ Some r → is_called name (given_name r) ≡ false) → Found (n + 1) xs name o → Found n (x ∷ xs) name o
 found_later n x xs name None here rest = none_after x xs name here rest
 found_later n x xs name (Some q) here rest = grind (arith, common_steps)
 
@@ -57,7 +57,7 @@ living_one : (g f : ℕ) (r q : Registration) → record_in (Some (Living g r)) 
 living_one g f r q h = grind (arith, common_steps, cases_eq, record_here, none-some, ne_eqb)
 
 found_living : (n g : ℕ) (r : Registration) (xs : List (IndexState Registration)) (name : List ℕ) (b : Bool) (o : Option (Entity × Registration)) →
-    is_called name (name_of r) ≡ b → Found (n + 1) xs name o → Found n (Living g r ∷ xs) name (cond b (Some (record { index = n; generation = g }, r)) o)
+    is_called name (given_name r) ≡ b → Found (n + 1) xs name o → Found n (Living g r ∷ xs) name (cond b (Some (record { index = n; generation = g }, r)) o)
 found_living n g r xs name true o e rest = grind (arith, common_steps, record_here)
 found_living n g r xs name false o e rest = grind (arith, common_steps, found_later, same_Some, living_one)
 
@@ -65,26 +65,26 @@ found_from : (n : ℕ) (xs : List (IndexState Registration)) (name : List ℕ) �
 found_from n [] name = λ i g r h. absurd (none-some r h)
 found_from n (Retired ∷ xs) name = found_later n Retired xs name _ (λ g r h. absurd (none-some r h)) (found_from (n + 1) xs name)
 found_from n (Free f ∷ xs) name = found_later n (Free f) xs name _ (λ g r h. absurd (none-some r h)) (found_from (n + 1) xs name)
-found_from n (Living g r ∷ xs) name = found_living n g r xs name (is_called name (name_of r)) _ refl (found_from (n + 1) xs name)
+found_from n (Living g r ∷ xs) name = found_living n g r xs name (is_called name (given_name r)) _ refl (found_from (n + 1) xs name)
 
-unnamed : {name : List ℕ} (o : Option Registration) → option_and_then name_of o ≡ Some name →
-    ((r : Registration) → o ≡ Some r → is_called name (name_of r) ≡ false) → ⊥
+unnamed : {name : List ℕ} (o : Option Registration) → option_and_then given_name o ≡ Some name →
+    ((r : Registration) → o ≡ Some r → is_called name (given_name r) ≡ false) → ⊥
 unnamed {name} None h none = none-some name h
 unnamed {name} (Some r) h none = false≢true (sym (none r refl) ∙ (ap (is_called name) h ∙ text_refl name))
 
 -- in a registry, what is found under a name is the entity that has it
 registry_finds : (found : List ℕ → Option Entity) (w : Indexed Registration) (name : List ℕ) (o : Option (Entity × Registration)) →
-    IsRegistry found (own_name name_of w) → Found 0 w.indices name o → (f : Option Entity) → f ≡ found name → f ≡ option_map (λ p. p.0) o
+    IsRegistry found (own_name given_name w) → Found 0 w.indices name o → (f : Option Entity) → f ≡ found name → f ≡ option_map (λ p. p.0) o
 registry_finds found w name None r none None e = refl
 registry_finds found w name None r none (Some x) e =
-    let lived : own_name name_of w x ≡ Some name = r.lives name x (sym e) in
+    let lived : own_name given_name w x ≡ Some name = r.lives name x (sym e) in
     absurd (unnamed (record_of w x) lived (none x.index x.generation))
 registry_finds found w name (Some q) r has f e =
     let place : q.0.index - 0 ≡ q.0.index = omega arith in
     let kept : record_of w q.0 ≡ Some q.1 = rw place at has.1 in
-    let named : own_name name_of w q.0 ≡ Some name = ap (option_and_then name_of) kept ∙ called_same name (name_of q.1) has.2 in
+    let named : own_name given_name w q.0 ≡ Some name = ap (option_and_then given_name) kept ∙ called_same name (given_name q.1) has.2 in
     e ∙ r.listed name q.0 named
 
-pub registry_named_entity : (found : List ℕ → Option Entity) (w : Indexed Registration) (name : List ℕ) → IsRegistry found (own_name name_of w) →
-    found name ≡ named_entity name_of w name
+pub registry_named_entity : (found : List ℕ → Option Entity) (w : Indexed Registration) (name : List ℕ) → IsRegistry found (own_name given_name w) →
+    found name ≡ named_entity given_name w name
 registry_named_entity found w name r = registry_finds found w name _ r (found_from 0 w.indices name) (found name) refl

@@ -15,7 +15,7 @@ use Rattle.eco_ids.specs.Indices.{admitted, raised, changed, change_kept}
 use Rattle.eco_ids.specs.Outcome.{Refuses, Answers, is_out_of_memory}
 use Rattle.eco_ids.specs.Renaming.{unfit_rename, may_rename}
 use Rattle.eco_entities.specs.Needs.{fields_for, need_in, need_of, NeedsNeverGrow}
-use Rattle.eco_entities.specs.Registration.{Registration, newcomer, name_of, placed, renamed}
+use Rattle.eco_entities.specs.Registration.{Registration, newcomer, given_name, placed, renamed}
 use Rattle.eco_entities.specs.Runs.{Call, Create, Admit, MakeAlive, Kill, Rename, SetPlace, LeadsTo}
 use Rattle.eco_ids.proofs.Lists.{slice_get-set_same, slice_get-set_other}
 use Rattle.eco_ids.proofs.States.{living_at}
@@ -139,8 +139,8 @@ need_renamed w new e x name r (Some why) h = rw h.1 (omega arith)
 need_call : (c : Call) (w new : Indexed Registration) (e : Entity) → LeadsTo c w new → need_of new e ≤ need_of w e
 need_call (Create name arity) w new e h =
     elim (cases_Bool (is_out_of_memory h.0)) [
-      | inl out ↦ let same : IsTrue (may_make name_of w name) × (new ≡ w) = MatchBool-at_true _ _ out h.1 in rw same.1 (omega arith)
-      | inr step ↦ need_made w new e (newcomer name arity) h.0 (unfit_name name_of w name) (next_entity w) refl (MatchBool-at_false _ _ step h.1)
+      | inl out ↦ let same : IsTrue (may_make given_name w name) × (new ≡ w) = MatchBool-at_true _ _ out h.1 in rw same.1 (omega arith)
+      | inr step ↦ need_made w new e (newcomer name arity) h.0 (unfit_name given_name w name) (next_entity w) refl (MatchBool-at_false _ _ step h.1)
     ]
 need_call (Admit n) w new e h =
     elim (cases_Bool (is_out_of_memory h.0)) [
@@ -161,8 +161,8 @@ need_call (MakeAlive x) w new e h =
 need_call (Kill x) w new e h = rw h.1 (need_dead w e x h.0)
 need_call (Rename x name) w new e h =
     elim (cases_Bool (is_out_of_memory h.0)) [
-      | inl out ↦ let same : IsTrue (may_rename name_of w x false name) × (new ≡ w) = MatchBool-at_true _ _ out h.1 in rw same.1 (omega arith)
-      | inr step ↦ need_renamed w new e x name h.0 (unfit_rename name_of w x false name) (MatchBool-at_false _ _ step h.1)
+      | inl out ↦ let same : IsTrue (may_rename given_name w x false name) × (new ≡ w) = MatchBool-at_true _ _ out h.1 in rw same.1 (omega arith)
+      | inr step ↦ need_renamed w new e x name h.0 (unfit_rename given_name w x false name) (MatchBool-at_false _ _ step h.1)
     ]
 need_call (SetPlace x place) w new e h = rw h.1 (need_changed w e x (placed place) (λ k. refl) (record_of w x) refl)
 

@@ -15,8 +15,8 @@ use Rattle.std.proofs.lemmas.Option.{slice_get_within}
 use Rattle.eco_ids.specs.declared.entity.Entity.{Entity}
 use Rattle.eco_ids.specs.Indices.{Indexed, Living, record_of, is_alive, is_free_at, with_record, with_death, with_new, next_entity, changed, change_kept}
 use Rattle.eco_ids.specs.Renaming.{own_name}
-use Rattle.eco_entities.specs.Registration.{Registration, newcomer, name_of, placed, renamed}
-use Rattle.eco_entities.specs.Changes.{ChangesAt, Keeps}
+use Rattle.eco_entities.specs.Registration.{Registration, newcomer, given_name, placed, renamed}
+use Rattle.eco_entities.specs.Changes.{ChangesAt, KeepsAnswers}
 use Rattle.eco_entities.specs.Registry.{IsRegistry}
 use Rattle.eco_ids.proofs.Lists.{slice_get-set_same}
 use Rattle.eco_ids.proofs.States.{record_here, record_at}
@@ -25,33 +25,33 @@ use Rattle.eco_entities.proofs.Kept.{record-new, record_of_next, record-settled,
 
 -- where what is kept changes at one entity, so do the names
 pub names_follow : (w new : Indexed Registration) (e : Entity) (o : Option Registration) → ChangesAt (record_of w) (record_of new) e o →
-    ChangesAt (own_name name_of w) (own_name name_of new) e (option_and_then name_of o)
-names_follow w new e o c = record { here = ap (option_and_then name_of) c.here; others = λ j ne. ap (option_and_then name_of) (c.others j ne) }
+    ChangesAt (own_name given_name w) (own_name given_name new) e (option_and_then given_name o)
+names_follow w new e o c = record { here = ap (option_and_then given_name) c.here; others = λ j ne. ap (option_and_then given_name) (c.others j ne) }
 
 -- where what is kept stays, so do the names
-pub names_stay : (w new : Indexed Registration) → Keeps (record_of w) (record_of new) → Keeps (own_name name_of w) (own_name name_of new)
-names_stay w new k = record { all = λ e. ap (option_and_then name_of) (k.all e) }
+pub names_stay : (w new : Indexed Registration) → KeepsAnswers (record_of w) (record_of new) → KeepsAnswers (own_name given_name w) (own_name given_name new)
+names_stay w new k = record { all = λ e. ap (option_and_then given_name) (k.all e) }
 
 -- a newcomer has its name, and the others keep theirs
 pub own-settled : (w : Indexed Registration) (e : Entity) (name : Option (List ℕ)) (arity : Option ℕ) → is_free_at w e ≡ true →
-    ChangesAt (own_name name_of w) (own_name name_of (with_record w e (newcomer name arity))) e name
+    ChangesAt (own_name given_name w) (own_name given_name (with_record w e (newcomer name arity))) e name
 own-settled w e name arity free =
     names_follow w (with_record w e (newcomer name arity)) e (Some (newcomer name arity)) (record-settled w e (newcomer name arity) free)
 
-pub own_of_free : (w : Indexed Registration) (e : Entity) → is_free_at w e ≡ true → own_name name_of w e ≡ None
-own_of_free w e free = ap (option_and_then name_of) (record_of_free w e free)
+pub own_of_free : (w : Indexed Registration) (e : Entity) → is_free_at w e ≡ true → own_name given_name w e ≡ None
+own_of_free w e free = ap (option_and_then given_name) (record_of_free w e free)
 
 -- the next entity has its name, and the others keep theirs
 pub own-new : (w : Indexed Registration) (e : Entity) (name : Option (List ℕ)) (arity : Option ℕ) → next_entity w ≡ Some e →
-    ChangesAt (own_name name_of w) (own_name name_of (with_new w e (newcomer name arity))) e name
+    ChangesAt (own_name given_name w) (own_name given_name (with_new w e (newcomer name arity))) e name
 own-new w e name arity next =
     names_follow w (with_new w e (newcomer name arity)) e (Some (newcomer name arity)) (record-new w e (newcomer name arity) next)
 
-pub own_of_next : (w : Indexed Registration) (e : Entity) → next_entity w ≡ Some e → own_name name_of w e ≡ None
-own_of_next w e next = ap (option_and_then name_of) (record_of_next w e next)
+pub own_of_next : (w : Indexed Registration) (e : Entity) → next_entity w ≡ Some e → own_name given_name w e ≡ None
+own_of_next w e next = ap (option_and_then given_name) (record_of_next w e next)
 
 -- the dead have no name, and the others keep theirs
-pub own-died : (w : Indexed Registration) (e : Entity) → is_alive w e ≡ true → ChangesAt (own_name name_of w) (own_name name_of (with_death w e)) e None
+pub own-died : (w : Indexed Registration) (e : Entity) → is_alive w e ≡ true → ChangesAt (own_name given_name w) (own_name given_name (with_death w e)) e None
 own-died w e alive = names_follow w (with_death w e) e None (record-died w e alive)
 
 -- a change of what is kept of one entity
@@ -66,21 +66,23 @@ record-changed w e change r h =
     }
 
 pub own-changed : (w : Indexed Registration) (e : Entity) (change : Registration → Registration) (r : Registration) →
-    slice_get w.indices e.index ≡ Some (Living e.generation r) → ChangesAt (own_name name_of w) (own_name name_of (changed w e change)) e (name_of (change r))
+    slice_get w.indices e.index ≡ Some (Living e.generation r)
+    → ChangesAt (own_name given_name w) (own_name given_name (changed w e change)) e (given_name (change r))
 own-changed w e change r here = names_follow w (changed w e change) e (Some (change r)) (record-changed w e change r (record_at w e r here))
 
 pub own-renamed : (w : Indexed Registration) (e : Entity) (name : Option (List ℕ)) → is_alive w e ≡ true →
-    ChangesAt (own_name name_of w) (own_name name_of (changed w e (renamed name))) e name
+    ChangesAt (own_name given_name w) (own_name given_name (changed w e (renamed name))) e name
 own-renamed w e name alive =
     let living : (r : Registration) × (slice_get w.indices e.index ≡ Some (Living e.generation r)) = alive_known w e alive in
     own-changed w e (renamed name) living.0 living.1
 
 -- a place is no name
 pub own-placed : (w : Indexed Registration) (e : Entity) (p : Place) → is_alive w e ≡ true →
-    Keeps (own_name name_of w) (own_name name_of (changed w e (placed p)))
+    KeepsAnswers (own_name given_name w) (own_name given_name (changed w e (placed p)))
 own-placed w e p alive =
     let living : (r : Registration) × (slice_get w.indices e.index ≡ Some (Living e.generation r)) = alive_known w e alive in
-    let c : ChangesAt (own_name name_of w) (own_name name_of (changed w e (placed p))) e (name_of living.0) = own-changed w e (placed p) living.0 living.1 in
+    let c : ChangesAt (own_name given_name w) (own_name given_name (changed w e (placed p))) e (given_name living.0) = own-changed w e
+    (placed p) living.0 living.1 in
     record {
       all = λ j. grind (arith, common_steps, cases_entity, record_at);
     }
@@ -92,8 +94,8 @@ death_of_renamed w e change alive = grind (arith, common_steps, alive_known, rec
 
 module _ {found : List ℕ → Option Entity} where
   -- a call that makes an entity alive keeps the registry
-  pub registry_made_alive : (w new : Indexed Registration) (e : Entity) (r : Result (Unit {0}) Refusal) → IsRegistry found (own_name name_of w) →
-      MakesAliveWith w e (newcomer None None) r new → IsRegistry found (own_name name_of new)
+  pub registry_made_alive : (w new : Indexed Registration) (e : Entity) (r : Result (Unit {0}) Refusal) → IsRegistry found (own_name given_name w) →
+      MakesAliveWith w e (newcomer None None) r new → IsRegistry found (own_name given_name new)
   registry_made_alive w new e r g h =
       elim (cases_Bool (is_free_at w e)) [
         | inl free ↦
@@ -105,8 +107,8 @@ module _ {found : List ℕ → Option Entity} where
       ]
 
   -- a call that admits keeps the registry
-  pub registry_admitted : (w new : Indexed Registration) (n : ℕ) (may : Bool) (r : Result (Unit {0}) Refusal) → IsRegistry found (own_name name_of w) →
-      Meets (Admits w n) may w r new → IsRegistry found (own_name name_of new)
+  pub registry_admitted : (w new : Indexed Registration) (n : ℕ) (may : Bool) (r : Result (Unit {0}) Refusal) → IsRegistry found (own_name given_name w) →
+      Meets (Admits w n) may w r new → IsRegistry found (own_name given_name new)
   registry_admitted w new n may r g h = grind (arith, common_steps, cases_Bool, registry_same, names_stay, record-admitted)
 
 pub alive_changed : (w : Indexed Registration) (e : Entity) (change : Registration → Registration) → is_alive w e ≡ true →

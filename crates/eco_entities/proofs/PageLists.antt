@@ -5,7 +5,7 @@ use Rattle.std.specs.List.{AllZip}
 use Rattle.std.proofs.lemmas.Bool.{cases_eq}
 use Rattle.std.proofs.lemmas.Option.{slice_get_past}
 use Rattle.eco_ids.proofs.Lists.{slice_get-set_other, slice_get-set_there}
-use Rattle.eco_entities.specs.Changes.{ChangesAt, Keeps}
+use Rattle.eco_entities.specs.Changes.{ChangesAt, KeepsAnswers}
 
 module _ {P K V : Type 0} (at : K → ℕ) (read : P → K → Option V) where
   -- the value under a key
@@ -31,8 +31,8 @@ module _ {P K V : Type 0} (at : K → ℕ) (read : P → K → Option V) where
   }
 
   -- a page that has the same values
-  pub page_kept : (pages : List P) (n : ℕ) (old new : P) → slice_get pages n ≡ Some old → Keeps (read old) (read new)
-      → Keeps (value_at pages) (value_at (set pages n new))
+  pub page_kept : (pages : List P) (n : ℕ) (old new : P) → slice_get pages n ≡ Some old → KeepsAnswers (read old) (read new)
+      → KeepsAnswers (value_at pages) (value_at (set pages n new))
   page_kept pages n old new there kept = record {
     all = λ j. elim (cases_eq (at j) n) [
       | inl same ↦ ap (λ m. option_and_then (λ q. read q j) (slice_get (set pages n new) m)) same
@@ -47,8 +47,8 @@ module _ {P K V : Type 0} (at : K → ℕ) (read : P → K → Option V) where
       ap (λ m. option_and_then (λ q. read q k) (slice_get pages m)) (sym is) ∙ ap (option_and_then (λ q. read q k)) (slice_get_past pages n past)
 
   -- copies of all pages
-  pub values_copied : (C : P → P → Type 0) → ((p q : P) → C p q → Keeps (read p) (read q)) → (pages pages' : List P) → AllZip C pages pages'
-      → Keeps (value_at pages) (value_at pages')
+  pub values_copied : (C : P → P → Type 0) → ((p q : P) → C p q → KeepsAnswers (read p) (read q)) → (pages pages' : List P) → AllZip C pages pages'
+      → KeepsAnswers (value_at pages) (value_at pages')
   values_copied C kept pages pages' all = record { all = λ k. by k (at k) pages pages' all }
     where
       by : (k : K) (n : ℕ) (ps qs : List P) → AllZip C ps qs
@@ -59,8 +59,8 @@ module _ {P K V : Type 0} (at : K → ℕ) (read : P → K → Option V) where
       by k zero (p ∷ ps) (q ∷ qs) all = (kept p q all.0).all k
       by k (suc n) (p ∷ ps) (q ∷ qs) all = by k n ps qs all.1
 
-pub keeps_then : {K V : Type 0} {f g h : K → V} → Keeps f g → Keeps g h → Keeps f h
+pub keeps_then : {K V : Type 0} {f g h : K → V} → KeepsAnswers f g → KeepsAnswers g h → KeepsAnswers f h
 keeps_then a b = record { all = λ k. b.all k ∙ a.all k }
 
-pub changes_then : {K V : Type 0} {f g h : K → V} {k : K} {v : V} → Keeps f g → ChangesAt g h k v → ChangesAt f h k v
+pub changes_then : {K V : Type 0} {f g h : K → V} {k : K} {v : V} → KeepsAnswers f g → ChangesAt g h k v → ChangesAt f h k v
 changes_then a c = record { here = c.here; others = λ j apart. c.others j apart ∙ a.all j }

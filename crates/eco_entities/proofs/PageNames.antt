@@ -7,7 +7,7 @@ use Rattle.std.specs.declared.cmp.Ordering.TheVariants.{Equal}
 use Rattle.std.specs.FinMap.Entries.{find, find-put, find-where_key, put, where_key}
 use Rattle.std.proofs.lemmas.Cmp.{by_ranked, nat_cmp_total, ranked}
 use Rattle.eco_entities.specs.declared.label.Label.{Label}
-use Rattle.eco_entities.specs.Changes.{ChangesAt, Keeps}
+use Rattle.eco_entities.specs.Changes.{ChangesAt, KeepsAnswers}
 use Rattle.eco_entities.specs.Label.{label_text}
 use Rattle.eco_entities.specs.Pages.{name_at, text_at, SameTexts}
 use Rattle.eco_entities.proofs.PageLists.{absent, page_changed, value_read, values_copied}
@@ -57,5 +57,5 @@ module _ (pages : List (List (ℕ × Label))) where
   pub nameless : (k p : ℕ) → p ≡ k / 64 → length pages ≤ p → name_at pages k ≡ None
   nameless = absent (λ k. k / 64) text_at pages
 
-pub names_copied : (pages pages' : List (List (ℕ × Label))) → AllZip SameTexts pages pages' → Keeps (name_at pages) (name_at pages')
+pub names_copied : (pages pages' : List (List (ℕ × Label))) → AllZip SameTexts pages pages' → KeepsAnswers (name_at pages) (name_at pages')
 names_copied = values_copied (λ k. k / 64) text_at SameTexts (λ es fs same. record { all = same.same })

@@ -7,7 +7,7 @@ use Rattle.std.proofs.lemmas.Slice.Eq.{bytes_eq-Decides}
 use Rattle.std.specs.Str.{bytes_eq}
 use Rattle.eco_ids.specs.declared.entity.Entity.{Entity}
 use Rattle.eco_ids.specs.Names.{is_name}
-use Rattle.eco_entities.specs.Changes.{ChangesAt, Keeps}
+use Rattle.eco_entities.specs.Changes.{ChangesAt, KeepsAnswers}
 use Rattle.eco_entities.specs.Registry.{IsRegistry}
 
 -- two texts are equal or not
@@ -24,7 +24,7 @@ cases_entity a b = grind (arith, common_steps, cases_eq)
 
 module _ {found found' : List ℕ → Option Entity} {own own' : Entity → Option (List ℕ)} where
   -- nothing that it is about has changed
-  pub registry_same : IsRegistry found own → Keeps found found' → Keeps own own' → IsRegistry found' own'
+  pub registry_same : IsRegistry found own → KeepsAnswers found found' → KeepsAnswers own own' → IsRegistry found' own'
   registry_same r f o = grind (arith, common_steps)
 
   -- an entity without name gets one that nobody has
@@ -49,12 +49,12 @@ module _ {found found' : List ℕ → Option Entity} {own own' : Entity → Opti
   registry_lose name e r named f o = grind (arith, common_steps, cases_text, none-some, same_Some, cases_entity)
 
   -- an entity without name still has none
-  pub registry_nameless : (e : Entity) → IsRegistry found own → own e ≡ None → Keeps found found' → ChangesAt own own' e None → IsRegistry found' own'
+  pub registry_nameless : (e : Entity) → IsRegistry found own → own e ≡ None → KeepsAnswers found found' → ChangesAt own own' e None → IsRegistry found' own'
   registry_nameless e r nameless f o = grind (arith, common_steps, registry_same, cases_entity)
 
 -- a name that was given and taken back
 pub keeps_undone : {found found' found'' : List ℕ → Option Entity} (name : List ℕ) (e : Entity)
-    → found name ≡ None → ChangesAt found found' name (Some e) → ChangesAt found' found'' name None → Keeps found found''
+    → found name ≡ None → ChangesAt found found' name (Some e) → ChangesAt found' found'' name None → KeepsAnswers found found''
 keeps_undone {found} {found'} {found''} name e free f g = grind (arith, common_steps, cases_text)
 
 -- an entity gets another name, and then the old one is free

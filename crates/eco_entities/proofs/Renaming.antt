@@ -13,24 +13,26 @@ use Rattle.eco_ids.specs.Indices.{Indexed, is_alive, changed}
 use Rattle.eco_ids.specs.Names.{is_name, is_called, named_entity}
 use Rattle.eco_ids.specs.Outcome.{Meets, first_refusal, is_out_of_memory}
 use Rattle.eco_ids.specs.Renaming.{own_name, RenamesWith, may_rename}
-use Rattle.eco_entities.specs.Registration.{Registration, newcomer, name_of, renamed}
+use Rattle.eco_entities.specs.Registration.{Registration, newcomer, given_name, renamed}
 use Rattle.eco_entities.proofs.NamedEntities.{text_refl, called_same}
 use Rattle.eco_ids.proofs.States.{record_at}
 use Rattle.eco_ids.proofs.Lists.{set_own}
 use Rattle.eco_entities.proofs.States.{alive_known}
 
 -- who doesn't bear the name isn't called by it
-pub uncalled : (w : Indexed Registration) (e : Entity) (name : List ℕ) → (own_name name_of w e ≡ Some name → ⊥) → is_called name (own_name name_of w e) ≡ false
+pub uncalled : (w : Indexed Registration) (e : Entity) (name : List ℕ) → (own_name given_name w e ≡ Some name → ⊥)
+    → is_called name (own_name given_name w e) ≡ false
 uncalled w e name ne = grind (arith, common_steps, cases_Bool, called_same)
 
 -- another has it
 pub rename_taken : (w : Indexed Registration) (e x : Entity) (name : List ℕ) → is_alive w e ≡ true → is_name name ≡ true →
-    is_called name (own_name name_of w e) ≡ false → named_entity name_of w name ≡ Some x → RenamesWith name_of renamed w e false (Some name) (Err NameTaken) w
+    is_called name (own_name given_name w e) ≡ false → named_entity given_name w name ≡ Some x
+    → RenamesWith given_name renamed w e false (Some name) (Err NameTaken) w
 rename_taken w e x name alive good other found = rw (alive, good, other, found) (refl, refl)
 
 -- nobody has it, so there is nothing against it
 pub rename_may : (w : Indexed Registration) (e : Entity) (name : List ℕ) → is_alive w e ≡ true → is_name name ≡ true →
-    is_called name (own_name name_of w e) ≡ false → named_entity name_of w name ≡ None → may_rename name_of w e false (Some name) ≡ true
+    is_called name (own_name given_name w e) ≡ false → named_entity given_name w name ≡ None → may_rename given_name w e false (Some name) ≡ true
 rename_may w e name alive good other free = rw (alive, good, other, free) refl
 
 -- a state set again
@@ -38,12 +40,12 @@ same_name : (r : Registration) (name : Option (List ℕ)) → r.name ≡ name �
 same_name r name h = ap (λ n. renamed n r) (sym h)
 
 -- its own name again changes nothing
-pub renamed_same : (w : Indexed Registration) (e : Entity) (name : List ℕ) → is_alive w e ≡ true → own_name name_of w e ≡ Some name →
+pub renamed_same : (w : Indexed Registration) (e : Entity) (name : List ℕ) → is_alive w e ≡ true → own_name given_name w e ≡ Some name →
     changed w e (renamed (Some name)) ≡ w
 renamed_same w e name alive own = grind (arith, common_steps, alive_known, record_at, same_name, set_own)
 
-pub rename_same : (w : Indexed Registration) (e : Entity) (name : List ℕ) → is_alive w e ≡ true → is_name name ≡ true → own_name name_of w e ≡ Some name →
-    RenamesWith name_of renamed w e false (Some name) (Ok tt) w
+pub rename_same : (w : Indexed Registration) (e : Entity) (name : List ℕ) → is_alive w e ≡ true → is_name name ≡ true → own_name given_name w e ≡ Some name →
+    RenamesWith given_name renamed w e false (Some name) (Ok tt) w
 rename_same w e name alive good own = rw (alive, good, ap (is_called name) own, text_refl name) (refl, sym (renamed_same w e name alive own))
 
 -- a name is refused for itself, and not for want of memory
@@ -53,7 +55,7 @@ unfit_whys A true b why h = rw (← same_Some BadName why h) refl
 unfit_whys A false true why h = rw (← same_Some NameTaken why h) refl
 unfit_whys A false false why h = absurd (none-some why h)
 
-pub unfit_why : (A : Type 0) (w : Indexed Registration) (name : Option (List ℕ)) (why : Refusal) → unfit_name name_of w name ≡ Some why →
+pub unfit_why : (A : Type 0) (w : Indexed Registration) (name : Option (List ℕ)) (why : Refusal) → unfit_name given_name w name ≡ Some why →
     is_out_of_memory {A = A} (Err why) ≡ false
 unfit_why A w name why h = unfit_whys A _ _ why h
 
@@ -62,8 +64,9 @@ checked None r why h e = absurd (let both : Ok tt ≡ Err why = sym h ∙ e in c
 checked (Some y) r why h e = let both : Err y ≡ Err why = sym h ∙ e in cc
 
 -- a create whose name is unfit
-pub makes_refused : (w : Indexed Registration) (name : Option (List ℕ)) (arity : Option ℕ) (may : Bool) (why : Refusal) → unfit_name name_of w name ≡ Some why →
-    Meets (Makes name_of w (newcomer name arity)) may w (Err why) w
+pub makes_refused : (w : Indexed Registration) (name : Option (List ℕ)) (arity : Option ℕ) (may : Bool) (why : Refusal)
+    → unfit_name given_name w name ≡ Some why →
+    Meets (Makes given_name w (newcomer name arity)) may w (Err why) w
 makes_refused w name arity may why h = rw (unfit_why Entity w name why h, h) (refl, refl)
 
 -- the test of two handles
@@ -76,12 +79,13 @@ other_entity a b h e =
     false≢true (h ∙ and_from _ _ (eq-eqb _ _ (ap (λ (x : Entity). x.index) e)) (eq-eqb _ _ (ap (λ (x : Entity). x.generation) e)))
 
 -- a name that nobody has is fit
-pub fit_free : (w : Indexed Registration) (name : List ℕ) → is_name name ≡ true → named_entity name_of w name ≡ None → unfit_name name_of w (Some name) ≡ None
+pub fit_free : (w : Indexed Registration) (name : List ℕ) → is_name name ≡ true → named_entity given_name w name ≡ None
+    → unfit_name given_name w (Some name) ≡ None
 fit_free w name good free = rw (good, free) refl
 
 pub rename_free : (w : Indexed Registration) (e : Entity) (name : List ℕ) → is_alive w e ≡ true → is_name name ≡ true
-    → named_entity name_of w name ≡ None → RenamesWith name_of renamed w e false (Some name) (Ok tt) (changed w e (renamed (Some name)))
-rename_free w e name alive good free = elim (cases_Bool (is_called name (own_name name_of w e))) [
+    → named_entity given_name w name ≡ None → RenamesWith given_name renamed w e false (Some name) (Ok tt) (changed w e (renamed (Some name)))
+rename_free w e name alive good free = elim (cases_Bool (is_called name (own_name given_name w e))) [
   | inl t ↦ rw (alive, good, t) (refl, refl)
   | inr f ↦ rw (alive, good, f, free) (refl, refl)
 ]

@@ -7,7 +7,7 @@ use Rattle.std.proofs.lemmas.Option.{none-some, same_Some, slice_get_read}
 use Rattle.eco_ids.specs.declared.entity.Entity.{Entity}
 use Rattle.eco_ids.specs.Indices.{Indexed, IndexState, Retired, Free, Living, record_in, record_of, is_alive, is_free_in, map_state}
 use Rattle.eco_ids.specs.Renaming.{own_name}
-use Rattle.eco_entities.specs.Registration.{Registration, name_of, entity_at, entity_in, own_arity, own_place, renamed}
+use Rattle.eco_entities.specs.Registration.{Registration, given_name, entity_at, entity_in, own_arity, own_place, renamed}
 use Rattle.eco_entities.specs.Slots.{is_living, is_named, arity_in, place_in, registration_of, state_at, state_of, states, living_in, living_slot, is_free}
 use Rattle.eco_entities.specs.Slots.{next_generation}
 use Rattle.eco_entities.specs.Labels.{label_of}
@@ -110,7 +110,7 @@ arity_map l (Some s) = refl
 abbrev pub name_in : Option (List ℕ) → Slot → Option (List ℕ)
 name_in l s = if is_named s.state then l else None
 
-name_map : (l : Option (List ℕ)) (o : Option Slot) → option_and_then name_of (option_map (registration_of l) o) ≡ option_and_then (name_in l) o
+name_map : (l : Option (List ℕ)) (o : Option Slot) → option_and_then given_name (option_map (registration_of l) o) ≡ option_and_then (name_in l) o
 name_map l None = refl
 name_map l (Some s) = refl
 
@@ -137,12 +137,12 @@ module _ (kept : Inside) (w : Indexed Registration) (view : View kept w) (e : En
   pub arity_shown : option_and_then arity_in (living_slot (items kept) e) ≡ own_arity w e
   arity_shown = sym (ap (option_and_then (λ r. r.arity)) record_shown ∙ arity_map ((labels kept) e.index) (living_slot (items kept) e))
 
-  pub name_shown : option_and_then (name_in ((labels kept) e.index)) (living_slot (items kept) e) ≡ own_name name_of w e
-  name_shown = sym (ap (option_and_then name_of) record_shown ∙ name_map ((labels kept) e.index) (living_slot (items kept) e))
+  pub name_shown : option_and_then (name_in ((labels kept) e.index)) (living_slot (items kept) e) ≡ own_name given_name w e
+  name_shown = sym (ap (option_and_then given_name) record_shown ∙ name_map ((labels kept) e.index) (living_slot (items kept) e))
 
   -- where a living entity's slot was read
   pub name_read : (s : Slot) → is_alive w e ≡ true → e.index < length (items kept) → s ≡ get_or (items kept) e.index s
-      → name_in ((labels kept) e.index) s ≡ own_name name_of w e
+      → name_in ((labels kept) e.index) s ≡ own_name given_name w e
   name_read s alive within read = grind (arith, common_steps, slice_get_read, alive_shown, false≢true, living_same, name_shown)
 
 -- who has no name loses none

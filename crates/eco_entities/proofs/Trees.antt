@@ -14,7 +14,7 @@ use Rattle.std.specs.declared.cmp.Ordering.{Ordering}
 use Rattle.std.specs.declared.cmp.Ordering.TheVariants.{Less, Equal, Greater}
 use Rattle.eco_ids.specs.declared.entity.Entity.{Entity}
 use Rattle.eco_entities.specs.declared.key.Key.{Key}
-use Rattle.eco_entities.specs.Changes.{ChangesAt, Keeps}
+use Rattle.eco_entities.specs.Changes.{ChangesAt, KeepsAnswers}
 use Rattle.eco_entities.specs.Keys.{found_among, found_in, hash_of, key_cmp, text_cmp}
 use Rattle.eco_entities.proofs.PageLists.{absent, page_changed, page_kept, value_read}
 use Rattle.eco_entities.proofs.Registers.{cases_text}
@@ -49,7 +49,7 @@ module _ (h : ℕ) (b bs : List ℕ) (hashed : h ≡ hash_of bs) (text : b ≡ b
       subst (λ x. get_by (λ l. ordering_then (nat_cmp (hash_of bs) l.hash) (slice_cmp nat_cmp x l.text.bytes)) m ≡ o) text
       (subst (λ x. get_by (λ l. ordering_then (nat_cmp x l.hash) (slice_cmp nat_cmp b l.text.bytes)) m ≡ o) hashed found)
 
-pub tree_unchanged : (m n : BTreeMap Key Entity) → n.entries ≡ m.entries → Keeps (found_in m) (found_in n)
+pub tree_unchanged : (m n : BTreeMap Key Entity) → n.entries ≡ m.entries → KeepsAnswers (found_in m) (found_in n)
 tree_unchanged m n same = record { all = λ text. ap (lookup (is_at (text_cmp text))) same }
 
 -- a tree in which one name changed, among the others
@@ -58,7 +58,7 @@ pub tree_changed : (trees : List (BTreeMap Key Entity)) (bs : List ℕ) (n : ℕ
 tree_changed = page_changed (λ text. hash_of text % 128) found_in
 
 pub tree_kept : (trees : List (BTreeMap Key Entity)) (n : ℕ) (old new : BTreeMap Key Entity) → slice_get trees n ≡ Some old
-    → Keeps (found_in old) (found_in new) → Keeps (found_among trees) (found_among (set trees n new))
+    → KeepsAnswers (found_in old) (found_in new) → KeepsAnswers (found_among trees) (found_among (set trees n new))
 tree_kept = page_kept (λ text. hash_of text % 128) found_in
 
 pub tree_read : (trees : List (BTreeMap Key Entity)) (bs : List ℕ) (n : ℕ) (tree : BTreeMap Key Entity) → n ≡ hash_of bs % 128
@@ -70,7 +70,7 @@ treeless = absent (λ text. hash_of text % 128) found_in
 
 -- an entity that was put under a name of another, and the other put back
 pub put_back : (f g h : List ℕ → Option Entity) (bs : List ℕ) (e x : Entity) {A E : Type 0} (r : Result A E) → ChangesAt f g bs (Some e) → f bs ≡ Some x
-    → OnOk r (ChangesAt g h bs (Some x)) → OnErr r (g bs ≡ None) → Keeps f h
+    → OnOk r (ChangesAt g h bs (Some x)) → OnErr r (g bs ≡ None) → KeepsAnswers f h
 put_back f g h bs e x (Ok a) change was again none = record {
   all = λ j. elim (cases_text j bs) [
     | inl same ↦ ap h same ∙ (again.here ∙ (sym was ∙ ap f (sym same)))

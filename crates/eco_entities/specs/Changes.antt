@@ -7,5 +7,5 @@ pub record ChangesAt {K V : Type 0} (old new : K → V) (k : K) (v : V) : Type 0
   pub others : (j : K) → j ≢ k → new j ≡ old j
 
 -- the same answers
-pub record Keeps {K V : Type 0} (old new : K → V) : Type 0 where
+pub record KeepsAnswers {K V : Type 0} (old new : K → V) : Type 0 where
   pub all : (k : K) → new k ≡ old k

@@ -19,8 +19,8 @@ abbrev pub newcomer : Option (List ℕ) → Option ℕ → Registration
 newcomer name arity = record { name = name; arity = arity; place = None }
 
 -- the name, if there is one
-abbrev pub name_of : Registration → Option (List ℕ)
-name_of r = r.name
+abbrev pub given_name : Registration → Option (List ℕ)
+given_name r = r.name
 
 -- the arity of a living entity, where it has one
 abbrev pub own_arity : Indexed Registration → Entity → Option ℕ
@@ -52,9 +52,9 @@ renamed name r = record r { name = name }
 -- ---- steps, each with when it may want memory
 
 -- an entity of this name and this arity, or none, is made
-abbrev pub Creates : Indexed Registration → Option (List ℕ) → Option ℕ → Result Entity Refusal → Indexed Registration → Type 0
-Creates w name arity = Meets (Makes name_of w (newcomer name arity)) (may_make name_of w name) w
+abbrev pub CreatesRegistration : Indexed Registration → Option (List ℕ) → Option ℕ → Result Entity Refusal → Indexed Registration → Type 0
+CreatesRegistration w name arity = Meets (Makes given_name w (newcomer name arity)) (may_make given_name w name) w
 
 -- the entity has this name, or none, from then on
-abbrev pub Renames : Indexed Registration → Entity → Option (List ℕ) → Result (Unit {0}) Refusal → Indexed Registration → Type 0
-Renames w e name = Meets (RenamesWith name_of renamed w e false name) (may_rename name_of w e false name) w
+abbrev pub RenamesRegistration : Indexed Registration → Entity → Option (List ℕ) → Result (Unit {0}) Refusal → Indexed Registration → Type 0
+RenamesRegistration w e name = Meets (RenamesWith given_name renamed w e false name) (may_rename given_name w e false name) w

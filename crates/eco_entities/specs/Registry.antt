@@ -5,7 +5,7 @@ use Rattle.eco_ids.specs.declared.entity.Entity.{Entity}
 use Rattle.eco_ids.specs.Names.{is_proper}
 use Rattle.eco_entities.specs.declared.names.Names.{Names}
 use Rattle.eco_entities.specs.declared.short_names.ShortNames.{ShortNames}
-use Rattle.eco_entities.specs.Changes.{ChangesAt, Keeps}
+use Rattle.eco_entities.specs.Changes.{ChangesAt, KeepsAnswers}
 use Rattle.eco_entities.specs.Keys.{found_among}
 
 -- the entity that is found under a short name
@@ -24,12 +24,12 @@ pub record Claims (old new : List ℕ → Option Entity) (name : List ℕ) (e : 
 -- somebody is found under the name, and nothing changed
 pub record IsBorne (old new : List ℕ → Option Entity) (name : List ℕ) : Type 0 where
   pub borne : is_some (old name) ≡ true
-  pub same : Keeps old new
+  pub same : KeepsAnswers old new
 
 -- nobody is found under the name, and nothing changed
 pub record IsFree (old new : List ℕ → Option Entity) (name : List ℕ) : Type 0 where
   pub free : old name ≡ None
-  pub same : Keeps old new
+  pub same : KeepsAnswers old new
 
 -- an entity is found under a name exactly where it lives with this name, and it is one
 pub record IsRegistry (found : List ℕ → Option Entity) (own : Entity → Option (List ℕ)) : Type 0 where

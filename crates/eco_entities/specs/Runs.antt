@@ -5,7 +5,7 @@ use Rattle.eco_ids.specs.declared.refusal.Refusal.{Refusal}
 use Rattle.eco_ids.specs.Births.{Makes, Admits, may_admit, MakesAliveWith}
 use Rattle.eco_ids.specs.Indices.{Indexed, is_alive, with_death, changed}
 use Rattle.eco_ids.specs.Outcome.{Meets}
-use Rattle.eco_entities.specs.Registration.{Creates, Registration, Renames, newcomer, name_of, placed}
+use Rattle.eco_entities.specs.Registration.{CreatesRegistration, Registration, RenamesRegistration, newcomer, given_name, placed}
 use Rattle.eco_entities.specs.declared.place.Place.{Place}
 
 -- a call that changes the index
@@ -19,11 +19,11 @@ pub data Call : Type 0 where
 
 -- the call leads from the old index to the new one, whatever it answers
 abbrev pub LeadsTo : Call → Indexed Registration → Indexed Registration → Type 0
-LeadsTo (Create name arity) old new = (r : Result Entity Refusal) × Creates old name arity r new
+LeadsTo (Create name arity) old new = (r : Result Entity Refusal) × CreatesRegistration old name arity r new
 LeadsTo (Admit n) old new = (r : Result (Unit {0}) Refusal) × Meets (Admits old n) (may_admit old n) old r new
 LeadsTo (MakeAlive e) old new = (r : Result (Unit {0}) Refusal) × MakesAliveWith old e (newcomer None None) r new
 LeadsTo (Kill e) old new = IsTrue (is_alive old e) × (new ≡ with_death old e)
-LeadsTo (Rename e name) old new = (r : Result (Unit {0}) Refusal) × Renames old e name r new
+LeadsTo (Rename e name) old new = (r : Result (Unit {0}) Refusal) × RenamesRegistration old e name r new
 LeadsTo (SetPlace e p) old new = IsTrue (is_alive old e) × (new ≡ changed old e (placed p))
 
 -- the calls, one after another, lead from the old index to the new one
@@ -36,4 +36,4 @@ abbrev pub NobodyLivesTwice : Type 0
 NobodyLivesTwice =
     (old later : Indexed Registration) (e : Entity) (calls : List Call) → IsTrue (is_alive old e) → RunsTo calls (with_death old e) later
     → (is_alive later e ≡ false)
-    × ((name : Option (List ℕ)) (arity : Option ℕ) (x : Entity) (new : Indexed Registration) → Makes name_of later (newcomer name arity) (Ok x) new → x ≢ e)
+    × ((name : Option (List ℕ)) (arity : Option ℕ) (x : Entity) (new : Indexed Registration) → Makes given_name later (newcomer name arity) (Ok x) new → x ≢ e)

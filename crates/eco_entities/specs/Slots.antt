@@ -99,15 +99,15 @@ next_generation (Some (Free g)) = g
 next_generation (Some (Living g r)) = 0
 
 -- a generation is at most 65,535
-abbrev pub Fits : {A : Type 0} → Option (IndexState A) → Type 0
-Fits None = Unit {0}
-Fits (Some Retired) = Unit {0}
-Fits (Some (Free g)) = g ≤ 65535
-Fits (Some (Living g r)) = g ≤ 65535
+abbrev pub GenerationFits : {A : Type 0} → Option (IndexState A) → Type 0
+GenerationFits None = Unit {0}
+GenerationFits (Some Retired) = Unit {0}
+GenerationFits (Some (Free g)) = g ≤ 65535
+GenerationFits (Some (Living g r)) = g ≤ 65535
 
 -- the indices lie below the limit, the free ones are marked, and the generations fit
 pub record IsMarked (limit : ℕ) (states : List (IndexState Registration)) (marks : List Bool) : Type 0 where
   pub limited : limit ≤ 1048576
   pub within : length states ≤ limit
   pub marked : marks ≡ map is_free states
-  pub fit : (i : ℕ) → Fits (slice_get states i)
+  pub fit : (i : ℕ) → GenerationFits (slice_get states i)

@@ -12,7 +12,7 @@ ghost use Rattle.eco_ids.specs.Names.{named_entity, is_name};
 ghost use Rattle.eco_ids.specs.Outcome.{Meets};
 ghost use Rattle.eco_ids.specs.Renaming.{own_name, may_rename, RenamesWith};
 ghost use Rattle.eco_entities.specs.Needs.{need};
-ghost use Rattle.eco_entities.specs.Registration.{Creates, Renames, newcomer, name_of, own_arity, own_place, entity_at, placed, renamed};
+ghost use Rattle.eco_entities.specs.Registration.{CreatesRegistration, RenamesRegistration, newcomer, given_name, own_arity, own_place, entity_at, placed, renamed};
 ghost use Rattle.eco_entities.specs.Rules.{IsRuled};
 ghost use Rattle.eco_entities.specs.Taken.{IsTaken};
 
@@ -46,14 +46,14 @@ impl Drop for EntityIndex {
 impl Model for EntityIndex {
     ghost use Rattle.eco_ids.specs.Indices.{Indexed};
     ghost use Rattle.eco_ids.specs.Renaming.{own_name};
-    ghost use Rattle.eco_entities.specs.Registration.{Registration, name_of};
+    ghost use Rattle.eco_entities.specs.Registration.{Registration, given_name};
     ghost use Rattle.eco_entities.specs.Registry.{IsRegistry, entity_of};
 
     ghost Value = { Indexed Registration };
 
     ghost view = { λ s. s.slots };
 
-    ghost invariant = { λ s. IsRegistry (entity_of s.names) (own_name name_of s.slots) };
+    ghost invariant = { λ s. IsRegistry (entity_of s.names) (own_name given_name s.slots) };
 }
 
 impl EntityIndex {
@@ -112,15 +112,15 @@ impl EntityIndex {
 
     /// The name of a living entity, if it has one.
     pub fn name(&self, entity: Entity) -> Option<&str>
-        ensures { option_copied result ≡ own_name name_of self.now entity }
+        ensures { option_copied result ≡ own_name given_name self.now entity }
     {
         self.slots.name(entity)
     }
 
     /// The living entity of this name. No two have the same. Takes no memory.
     pub fn lookup(&self, name: &str) -> Option<Entity>
-        ensures named_entity { result ≡ named_entity name_of self.now name.now }
-        ensures exact { (e : Entity) → (result ≡ Some e) ↔ (own_name name_of self.now e ≡ Some name.now) }
+        ensures named_entity { result ≡ named_entity given_name self.now name.now }
+        ensures exact { (e : Entity) → (result ≡ Some e) ↔ (own_name given_name self.now e ≡ Some name.now) }
     {
         self.names.get(name)
     }
@@ -187,7 +187,7 @@ impl EntityIndex {
     ///
     /// Flecs uses ids again in the order of its own list; the lowest comes first here, so that a run can be repeated.
     pub fn create(&mut self, name: Option<&str>, arity: Option<u8>) -> Result<Entity, Refusal>
-        ensures { Creates self.old (option_copied name.entry) arity result self.new }
+        ensures { CreatesRegistration self.old (option_copied name.entry) arity result self.new }
     {
         match self.next() {
             Some(entity) => self.create_next(entity, name, arity),
@@ -207,7 +207,7 @@ impl EntityIndex {
         arity: Option<u8>,
     ) -> Result<Entity, Refusal>
         requires { next_entity self.old ≡ Some entity }
-        ensures { Creates self.old (option_copied name.entry) arity result self.new }
+        ensures { CreatesRegistration self.old (option_copied name.entry) arity result self.new }
     {
         let Some(text) = name else {
             self.settle_nameless(entity, arity)?;
@@ -241,7 +241,7 @@ impl EntityIndex {
     /// What stands against the name of a new entity: `BadName` where it is none, then `NameTaken` where a living entity has
     /// it.
     pub fn check_name(&self, name: Option<&str>) -> Result<(), Refusal>
-        ensures { MatchOption (unfit_name name_of self.now (option_copied name.entry)) (result ≡ Ok tt)
+        ensures { MatchOption (unfit_name given_name self.now (option_copied name.entry)) (result ≡ Ok tt)
             (λ why. result ≡ Err why) }
     {
         let Some(text) = name else {
@@ -280,11 +280,11 @@ impl EntityIndex {
         requires next { next_entity self.old ≡ Some entity }
         requires proper { IsTrue (is_name text.now) }
         ensures ok { IfOk result (λ done. MatchBool done
-            ((unfit_name name_of self.old (Some text.now) ≡ None)
+            ((unfit_name given_name self.old (Some text.now) ≡ None)
             × (self.new ≡ with_new self.old entity (newcomer (Some text.now) arity)))
             (IsTaken self.old text.now self.new)) }
         ensures err { OnErr result
-            ((unfit_name name_of self.old (Some text.now) ≡ None) × (self.new ≡ self.old)) }
+            ((unfit_name given_name self.old (Some text.now) ≡ None) × (self.new ≡ self.old)) }
     {
         let Some(own) = self.names.claim(text, entity)? else {
             return Ok(false);
@@ -348,7 +348,7 @@ impl EntityIndex {
     /// where another living entity has it, and with `OutOfMemory` where a growth was refused, in this order. A refused
     /// call changes nothing, so the old name stays.
     pub fn rename(&mut self, entity: Entity, name: Option<&str>) -> Result<(), Refusal>
-        ensures { Renames self.old entity (option_copied name.entry) result self.new }
+        ensures { RenamesRegistration self.old entity (option_copied name.entry) result self.new }
     {
         if !self.is_alive(entity) {
             return Err(Refusal::NotAlive);
@@ -375,10 +375,10 @@ impl EntityIndex {
         requires alive { IsTrue (is_alive self.old entity) }
         requires proper { IsTrue (is_name name.now) }
         ensures ok { IfOk result (λ done. MatchBool done
-            (RenamesWith name_of renamed self.old entity false (Some name.now) (Ok tt) self.new)
+            (RenamesWith given_name renamed self.old entity false (Some name.now) (Ok tt) self.new)
             (IsTaken self.old name.now self.new)) }
         ensures err { OnErr result
-            (IsTrue (may_rename name_of self.old entity false (Some name.now)) × (self.new ≡ self.old)) }
+            (IsTrue (may_rename given_name self.old entity false (Some name.now)) × (self.new ≡ self.old)) }
     {
         let Some(own) = self.names.claim(name, entity)? else {
             return Ok(false);

@@ -1,7 +1,7 @@
 //! The names of entities by their indices.
 ghost use Rattle.std.specs.Prelude.{◌≡◌, ◌/◌, ◌≤◌, length, None, Some, OnOk, OnErr, IfOk, option_map};
 ghost use Rattle.std.specs.Option.{option_copied};
-ghost use Rattle.eco_entities.specs.Changes.{Keeps};
+ghost use Rattle.eco_entities.specs.Changes.{KeepsAnswers};
 ghost use Rattle.eco_entities.specs.Pages.{name_at};
 
 use crate::label::Label;
@@ -27,13 +27,13 @@ fn page_of(index: u32) -> usize
 }
 
 impl Labels {
-    ghost use Rattle.eco_entities.specs.Changes.{ChangesAt, Keeps};
+    ghost use Rattle.eco_entities.specs.Changes.{ChangesAt, KeepsAnswers};
     ghost use Rattle.eco_entities.specs.Label.{label_text};
     ghost use Rattle.eco_entities.specs.Labels.{label_of};
 
     /// No index has a name.
     pub(crate) fn new(alloc: Global) -> Labels
-        ensures { Keeps (λ _. None) (label_of result) }
+        ensures { KeepsAnswers (λ _. None) (label_of result) }
     {
         Labels {
             pages: Vec::new(alloc),
@@ -42,7 +42,7 @@ impl Labels {
 
     /// The same names once more. An `Err` comes where memory is refused.
     pub(crate) fn try_copy(&self) -> Result<Labels, AllocError>
-        ensures { IfOk result (λ l. Keeps (label_of self.now) (label_of l)) }
+        ensures { IfOk result (λ l. KeepsAnswers (label_of self.now) (label_of l)) }
     {
         let pages = self.pages.clone()?;
         Ok(Labels { pages })
@@ -67,7 +67,7 @@ impl Labels {
         ensures ok { OnOk result (ChangesAt (label_of self.old) (label_of self.new) index
             (Some (label_text name))) }
         ensures was { IfOk result (λ was. option_map label_text was ≡ label_of self.old index) }
-        ensures err { OnErr result (Keeps (label_of self.old) (label_of self.new)) }
+        ensures err { OnErr result (KeepsAnswers (label_of self.old) (label_of self.new)) }
     {
         let place = page_of(index);
         cover(&mut self.pages, place + 1)?;
@@ -90,7 +90,7 @@ impl Labels {
 
 // So many pages at least. An `Err` comes where a growth was refused, and may leave some of them.
 fn cover(pages: &mut Vec<Page>, len: usize) -> Result<(), AllocError>
-    ensures same { Keeps (name_at pages.old.items) (name_at pages.new.items) }
+    ensures same { KeepsAnswers (name_at pages.old.items) (name_at pages.new.items) }
     ensures enough { OnOk result (len ≤ length pages.new.items) }
 {
     while pages.len() < len {

@@ -2,7 +2,7 @@
 ghost use Rattle.std.specs.Prelude.{◌≡◌, ℕ, Some, None, IsTrue};
 ghost use Rattle.eco_ids.specs.declared.entity.Entity.{Entity};
 ghost use Rattle.eco_ids.specs.Indices.{Indexed, admitted, changed, is_alive, is_free_at, next_entity, record_of, with_death, with_new, with_record};
-ghost use Rattle.eco_entities.specs.Changes.{ChangesAt, Keeps};
+ghost use Rattle.eco_entities.specs.Changes.{ChangesAt, KeepsAnswers};
 ghost use Rattle.eco_entities.specs.Needs.{NeedsNeverGrow};
 ghost use Rattle.eco_entities.specs.Registration.{Registration};
 ghost use Rattle.eco_entities.specs.Runs.{NobodyLivesTwice};
@@ -23,7 +23,8 @@ pub fn changes_touch_one_entity()
         → ChangesAt (record_of w) (record_of (changed w e change)) e (Some (change r)) }
     ensures dead { (w : Indexed Registration) (e : Entity) → IsTrue (is_alive w e)
         → ChangesAt (record_of w) (record_of (with_death w e)) e None }
-    ensures admitted { (w : Indexed Registration) (n : ℕ) → Keeps (record_of w) (record_of (admitted n w)) }
+    ensures admitted { (w : Indexed Registration) (n : ℕ)
+        → KeepsAnswers (record_of w) (record_of (admitted n w)) }
 {}
 
 /// Who is made next, or is free, doesn't live.

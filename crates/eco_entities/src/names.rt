@@ -17,13 +17,13 @@ pub(crate) struct Names {
 }
 
 impl Names {
-    ghost use Rattle.eco_entities.specs.Changes.{ChangesAt, Keeps};
+    ghost use Rattle.eco_entities.specs.Changes.{ChangesAt, KeepsAnswers};
     ghost use Rattle.eco_entities.specs.Label.{label_text};
     ghost use Rattle.eco_entities.specs.Registry.{entity_of, Claims, IsBorne, IsFree};
 
     /// No name is in use.
     pub(crate) fn new(alloc: Global) -> Names
-        ensures { Keeps (λ _. None) (entity_of result) }
+        ensures { KeepsAnswers (λ _. None) (entity_of result) }
     {
         Names {
             short: ShortNames::new(alloc),
@@ -34,7 +34,7 @@ impl Names {
 
     /// The same names once more. An `Err` comes where memory is refused.
     pub(crate) fn try_copy(&self) -> Result<Names, AllocError>
-        ensures { IfOk result (λ n. Keeps (entity_of self.now) (entity_of n)) }
+        ensures { IfOk result (λ n. KeepsAnswers (entity_of self.now) (entity_of n)) }
     {
         let short = self.short.try_copy()?;
         let long = self.long.clone()?;

@@ -1,6 +1,6 @@
 //! The short names in use, each with the living entity that bears it.
 ghost use Rattle.std.specs.Prelude.{◌≡◌, ◌<◌, ◌≤◌, None, OnOk, OnErr, IfOk, MatchBool, length};
-ghost use Rattle.eco_entities.specs.Changes.{Keeps};
+ghost use Rattle.eco_entities.specs.Changes.{KeepsAnswers};
 ghost use Rattle.eco_entities.specs.Keys.{found_among};
 
 use crate::key::Key;
@@ -18,12 +18,12 @@ pub(crate) struct ShortNames {
 }
 
 impl ShortNames {
-    ghost use Rattle.eco_entities.specs.Changes.{ChangesAt, Keeps};
+    ghost use Rattle.eco_entities.specs.Changes.{ChangesAt, KeepsAnswers};
     ghost use Rattle.eco_entities.specs.Registry.{short_entity_of, Claims, IsBorne, IsFree};
 
     /// No name is in use.
     pub(crate) fn new(alloc: Global) -> ShortNames
-        ensures { Keeps (λ _. None) (short_entity_of result) }
+        ensures { KeepsAnswers (λ _. None) (short_entity_of result) }
     {
         ShortNames {
             trees: Vec::new(alloc),
@@ -32,7 +32,7 @@ impl ShortNames {
 
     /// The same names once more. An `Err` comes where memory is refused.
     pub(crate) fn try_copy(&self) -> Result<ShortNames, AllocError>
-        ensures { IfOk result (λ n. Keeps (short_entity_of self.now) (short_entity_of n)) }
+        ensures { IfOk result (λ n. KeepsAnswers (short_entity_of self.now) (short_entity_of n)) }
     {
         let trees = self.trees.clone()?;
         Ok(ShortNames { trees })
@@ -85,7 +85,7 @@ impl ShortNames {
 
 // So many trees at least. An `Err` comes where a growth was refused, and may leave some of them.
 fn cover(trees: &mut Vec<BTreeMap<Key, Entity>>, len: usize) -> Result<(), AllocError>
-    ensures same { Keeps (found_among trees.old.items) (found_among trees.new.items) }
+    ensures same { KeepsAnswers (found_among trees.old.items) (found_among trees.new.items) }
     ensures enough { OnOk result (len ≤ length trees.new.items) }
     ensures wanting { OnErr result (length trees.old.items < len) }
 {

@@ -7,8 +7,8 @@ ghost use Rattle.std.specs.Option.{option_copied};
 ghost use Rattle.eco_ids.specs.Renaming.{own_name};
 ghost use Rattle.eco_entities.specs.Label.{label_text};
 ghost use Rattle.eco_entities.specs.Needs.{need_of};
-ghost use Rattle.eco_entities.specs.Registration.{name_of, newcomer, own_arity, own_place, entity_at, placed, renamed};
-ghost use Rattle.eco_entities.specs.Slots.{living_slot, next_generation, put_at, Fits, IsNextSlot};
+ghost use Rattle.eco_entities.specs.Registration.{given_name, newcomer, own_arity, own_place, entity_at, placed, renamed};
+ghost use Rattle.eco_entities.specs.Slots.{living_slot, next_generation, put_at, GenerationFits, IsNextSlot};
 
 use crate::free_set::FreeSet;
 use crate::label::Label;
@@ -92,7 +92,7 @@ impl Slots {
     pub(crate) fn rules(&self)
         ensures limited { self.now.limit ≤ 1048576 }
         ensures within { length self.now.indices ≤ self.now.limit }
-        ensures generations { (i : ℕ) → Fits (slice_get self.now.indices i) }
+        ensures generations { (i : ℕ) → GenerationFits (slice_get self.now.indices i) }
     {
         let _ = &self.limit;
     }
@@ -133,7 +133,7 @@ impl Slots {
 
     /// The name of a living entity, if it has one.
     pub(crate) fn name(&self, entity: Entity) -> Option<&str>
-        ensures { option_copied result ≡ own_name name_of self.now entity }
+        ensures { option_copied result ≡ own_name given_name self.now entity }
     {
         if living(self.slots.as_slice(), entity)?.is_named() {
             self.labels.get(entity.index)
@@ -333,7 +333,7 @@ impl Slots {
     ) -> Result<Option<Label>, AllocError>
         requires { IsTrue (is_alive self.old entity) }
         ensures ok { OnOk result (self.new ≡ changed self.old entity (renamed (Some (label_text name)))) }
-        ensures was { IfOk result (λ was. option_map label_text was ≡ own_name name_of self.old entity) }
+        ensures was { IfOk result (λ was. option_map label_text was ≡ own_name given_name self.old entity) }
         ensures err { OnErr result (self.new ≡ self.old) }
     {
         let label = self.labels.insert(entity.index, name)?;
@@ -348,7 +348,7 @@ impl Slots {
     pub(crate) fn take_name(&mut self, entity: Entity) -> Option<Label>
         requires { IsTrue (is_alive self.old entity) }
         ensures renamed { self.new ≡ changed self.old entity (renamed None) }
-        ensures was { option_map label_text result ≡ own_name name_of self.old entity }
+        ensures was { option_map label_text result ≡ own_name given_name self.old entity }
     {
         let index = entity.index as usize;
         if !self.slots[index].is_named() {

@@ -10,7 +10,7 @@ use Rattle.eco_ids.specs.Matching.{pattern_matches}
 use Rattle.eco_ids.specs.Order.{id_cmp, is_ascending}
 use Rattle.eco_ids.specs.declared.id.Id.{Id}
 use Rattle.eco_ids.specs.declared.pattern.Pattern.{Pattern}
-use Rattle.eco_entries.specs.First.{IsCounted, IsJoined, IsNext}
+use Rattle.eco_entries.specs.First.{IsJoinedIf, IsJoined, IsNext}
 use Rattle.eco_entries.proofs.Unseen.{below_before}
 
 -- the id is one of these
@@ -91,7 +91,7 @@ module _ (p : Pattern) (ids : List Id) (k : ℕ) (d : Id) (here : k < length ids
   pub first_more : (old new : Option Id) → IsFirst p ids (take k ids) old → IsNext p (get_or ids k d) old new → IsFirst p ids (take (k + 1) ids) new
   first_more old new was is = by (pattern_matches p (get_or ids k d)) refl is
     where
-      by : (b : Bool) → pattern_matches p (get_or ids k d) ≡ b → IsCounted b p (get_or ids k d) old new
+      by : (b : Bool) → pattern_matches p (get_or ids k d) ≡ b → IsJoinedIf b p (get_or ids k d) old new
           → IsFirst p ids (take (k + 1) ids) new
       by true e is = met e old new was is
       by false e is = subst (IsFirst p ids (take (k + 1) ids)) (sym is) (passed e old was)

@@ -14,20 +14,20 @@ use Rattle.eco_entries.specs.Seen.{is_seen}
 use Rattle.eco_entries.specs.declared.seen.Seen.{Seen}
 
 -- stands for an entity that no `*` asks for
-abbrev nobody : Entity
-nobody = record { index = 0; generation = 0 }
+abbrev unasked_entity : Entity
+unasked_entity = record { index = 0; generation = 0 }
 
 -- the entity where the part is `*`, and the same for all where it is not
 abbrev pub asked_for : Part → Entity → Entity
 asked_for Each e = e
-asked_for Any e = nobody
-asked_for (Is x) e = nobody
+asked_for Any e = unasked_entity
+asked_for (Is x) e = unasked_entity
 
 -- what the `*` parts are on an id
 abbrev pub filling : Pattern → Id → Id
-filling (One e) i = id.One nobody
+filling (One e) i = id.One unasked_entity
 filling (Two p q) (id.Two r t) = id.Two (asked_for p r) (asked_for q t)
-filling (Two p q) (id.One e) = id.One nobody
+filling (Two p q) (id.One e) = id.One unasked_entity
 
 -- the id matches, and this is its filling
 abbrev pub fills : Pattern → Id → Id → Bool

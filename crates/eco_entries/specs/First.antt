@@ -11,10 +11,10 @@ IsJoined p i None new = new ≡ Some i
 IsJoined p i (Some own) new = (same_filling p own i ≡ true) × (new ≡ Some own)
 
 -- only an id that matches counts
-abbrev pub IsCounted : Bool → Pattern → Id → Option Id → Option Id → Type 0
-IsCounted true p i old new = IsJoined p i old new
-IsCounted false p i old new = new ≡ old
+abbrev pub IsJoinedIf : Bool → Pattern → Id → Option Id → Option Id → Type 0
+IsJoinedIf true p i old new = IsJoined p i old new
+IsJoinedIf false p i old new = new ≡ old
 
 -- the first match among some ids, and among these and one more
 abbrev pub IsNext : Pattern → Id → Option Id → Option Id → Type 0
-IsNext p i old new = IsCounted (pattern_matches p i) p i old new
+IsNext p i old new = IsJoinedIf (pattern_matches p i) p i old new

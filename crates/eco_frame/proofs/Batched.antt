@@ -9,7 +9,7 @@ use Rattle.eco_ids.specs.Run.{Command}
 use Rattle.eco_ids.specs.World.{WorldState}
 use Rattle.eco_systems.specs.Batches.{joined}
 use Rattle.eco_systems.specs.Recording.{BatchRecords, pieces_of}
-use Rattle.eco_systems.specs.Rows.{ValuedRow, rows_of}
+use Rattle.eco_systems.specs.Rows.{ValuedRow, valued_rows}
 use Rattle.eco_systems.specs.Systems.{SystemModel}
 use Rattle.eco_batches.specs.Outlines.{no_system}
 use Rattle.eco_bodies.specs.declared.systems.System.{System}
@@ -17,7 +17,7 @@ use Rattle.eco_workers.specs.Batches.{AreStages, IsBatch, IsOut}
 use Rattle.eco_stages.specs.Taking.{by_index, fresh}
 use Rattle.eco_world.specs.Merging.{all_commands}
 use Rattle.eco_frame.specs.Models.{model_at, model_of}
-use Rattle.eco_frame.specs.Pieces.{IsRecorded, Settled, part_at, part_of, piece_commands, piece_taken, pieces_at, pieces_in}
+use Rattle.eco_frame.specs.Pieces.{IsRecorded, Settled, part_at, body_with_rows, piece_commands, piece_taken, pieces_at, pieces_in}
 use Rattle.eco_frame.proofs.Fresh.{ascending_batch, fresh_batch}
 use Rattle.eco_frame.proofs.Grouped.{AreGrouped, grouped, joined_map}
 use Rattle.eco_frame.proofs.Recorded.{pieces_record}
@@ -81,7 +81,7 @@ module _ {B : Type 0} (reads writes : B → List Pattern) (kills : B → Bool) (
 
   abbrev Chosen : List (System B) → List ℕ → Type 0
   Chosen systems places =
-      (ss : List (System B)) × (flat_map (part_at w systems) places ≡ map (part_of w) ss) × (map (model_at (map model systems)) places ≡ map model ss)
+      (ss : List (System B)) × (flat_map (part_at w systems) places ≡ map (body_with_rows w) ss) × (map (model_at (map model systems)) places ≡ map model ss)
 
   -- there is a system at each of the positions
   chosen : (systems : List (System B)) (places : List ℕ) → AllByRecursion (λ k. k < length systems) places → Chosen systems places
@@ -89,7 +89,7 @@ module _ {B : Type 0} (reads writes : B → List Pattern) (kills : B → Bool) (
   chosen systems (k ∷ ks) h = elim (slice_get_cases systems k).1 as (λ _. Chosen systems (k ∷ ks)) [
     | inl c ↦
         let rest = chosen systems ks h.1 in
-        let part = ap (λ o. option_to_list (option_map (part_of w) o)) c.2 in
+        let part = ap (λ o. option_to_list (option_map (body_with_rows w) o)) c.2 in
         let there = ap (λ o. unwrap_or o no_system) (slice_get-map model systems k ∙ ap (option_map model) c.2) in
         (c.0 ∷ rest.0, (λ i. part i ++ rest.1 i), (λ i. there i ∷ rest.2 i))
     | inr n ↦ let past = n.0 in let within = h.0 in absurd (omega (arith, past, within))
@@ -97,7 +97,8 @@ module _ {B : Type 0} (reads writes : B → List Pattern) (kills : B → Bool) (
 
   -- what the pieces of each system record is what the systems record
   all_record : (ss : List (System B)) (owns : List (List (List ℕ))) (stagess : List (List (List Command)))
-      → AreGrouped (by_index (piece_commands taken commands)) (by_index (piece_taken taken commands)) (map (λ s. pieces_in (part_of w s)) ss) owns stagess
+      → AreGrouped (by_index (piece_commands taken commands)) (by_index (piece_taken taken commands))
+      (map (λ s. pieces_in (body_with_rows w s)) ss) owns stagess
       → BatchRecords w (map model ss) (map (map (map fresh)) owns) (joined (map joined stagess))
   all_record [] [] [] h = refl
   all_record [] [] (x ∷ xs) h = absurd h
@@ -107,7 +108,7 @@ module _ {B : Type 0} (reads writes : B → List Pattern) (kills : B → Bool) (
   all_record (s ∷ ss) (d ∷ ds) (x ∷ xs) h = (
     joined x,
     joined (map joined xs),
-    pieces_record reads writes kills taken commands settled s (pieces_of (rows_of w s.query)) d x h.0,
+    pieces_record reads writes kills taken commands settled s (pieces_of (valued_rows w s.query)) d x h.0,
     all_record ss ds xs h.1,
     refl,
   )
@@ -123,8 +124,8 @@ module _ {B : Type 0} (reads writes : B → List Pattern) (kills : B → Bool) (
       let f = by_index (piece_commands taken commands) in
       let t = by_index (piece_taken taken commands) in
       let c = chosen systems places within in
-      let xss = map (λ s. pieces_in (part_of w s)) c.0 in
-      let flat : map see pieces ≡ joined xss = seen ∙ ap (flat_map pieces_in) c.1 ∙ flat_of_map pieces_in (part_of w) c.0 in
+      let xss = map (λ s. pieces_in (body_with_rows w s)) c.0 in
+      let flat : map see pieces ≡ joined xss = seen ∙ ap (flat_map pieces_in) c.1 ∙ flat_of_map pieces_in (body_with_rows w) c.0 in
       let g = grouped f t xss b.draws stages
       (subst (λ ps. AreStages f t ps b.draws stages) flat (stages_seen see f t pieces b.draws stages b.recorded)) in
       let draws = map (map (map fresh)) g.0 in

@@ -17,7 +17,7 @@ use Rattle.eco_ids.specs.Run.{Command}
 use Rattle.eco_workers.specs.Alone.{IsInTurn, IsOutInTurn}
 use Rattle.eco_workers.specs.Batches.{IsBatch, IsOut}
 use Rattle.eco_systems.specs.Batches.{joined}
-use Rattle.eco_systems.specs.Frames.{AreAscending, AreFresh, BatchDraws, drawn, fresh, fresh_from}
+use Rattle.eco_systems.specs.Frames.{AreAscending, AreFresh, BatchDraws, all_drawn, fresh_entity, fresh_from}
 
 -- numbers, each of which stands once
 
@@ -131,41 +131,41 @@ module _ {S : Type 0} (commands : S → List ℕ → List Command) (taken : S �
 
 -- numbers as fresh handles
 
-has_fresh : (xs : List ℕ) (e : Entity) → has_item entity_cmp (map fresh xs) e ≡ (eqb 0 e.generation && ltb 0 (times e.index xs))
+has_fresh : (xs : List ℕ) (e : Entity) → has_item entity_cmp (map fresh_entity xs) e ≡ (eqb 0 e.generation && ltb 0 (times e.index xs))
 has_fresh [] e = grind (arith, nat_tests)
-has_fresh (x ∷ xs) e = here x e.index e.generation (times e.index xs) (has_item entity_cmp (map fresh xs) e) (has_fresh xs e)
+has_fresh (x ∷ xs) e = here x e.index e.generation (times e.index xs) (has_item entity_cmp (map fresh_entity xs) e) (has_fresh xs e)
   where
     here : (x i g t : ℕ) (b : Bool) → b ≡ (eqb 0 g && ltb 0 t)
         → (is_eq (ordering_then (nat_cmp x i) (nat_cmp 0 g)) || b) ≡ (eqb 0 g && ltb 0 (cond (eqb x i) 1 0 + t))
     here x i g t b h = grind (arith, nat_tests)
 
-above_fresh : (x : ℕ) (xs : List ℕ) → list_all (λ (y : Entity). is_lt (entity_cmp (fresh x) y)) (map fresh xs) ≡ all_above x xs
+above_fresh : (x : ℕ) (xs : List ℕ) → list_all (λ (y : Entity). is_lt (entity_cmp (fresh_entity x) y)) (map fresh_entity xs) ≡ all_above x xs
 above_fresh x [] = refl
 above_fresh x (y ∷ xs) = λ i. here x y i && above_fresh x xs i
   where
     here : (x y : ℕ) → is_lt (ordering_then (nat_cmp x y) (nat_cmp 0 0)) ≡ ltb x y
     here x y = grind (arith, nat_tests)
 
-fresh_up : (xs : List ℕ) → is_ascending entity_cmp (map fresh xs) ≡ ascends xs
+fresh_up : (xs : List ℕ) → is_ascending entity_cmp (map fresh_entity xs) ≡ ascends xs
 fresh_up [] = refl
 fresh_up (x ∷ xs) = λ i. above_fresh x xs i && fresh_up xs i
 
-fresh_once : (xs : List ℕ) → ((x : ℕ) → times x xs ≤ 1) → IsTrue (is_distinct (map fresh xs))
+fresh_once : (xs : List ℕ) → ((x : ℕ) → times x xs ≤ 1) → IsTrue (is_distinct (map fresh_entity xs))
 fresh_once [] h = refl
 fresh_once (x ∷ xs) h =
-    both _ _ (ap not (has_fresh xs (fresh x)) ∙ alone x (times x xs) (h x)) (fresh_once xs (λ y. let k = h y in omega arith))
+    both _ _ (ap not (has_fresh xs (fresh_entity x)) ∙ alone x (times x xs) (h x)) (fresh_once xs (λ y. let k = h y in omega arith))
   where
     alone : (x t : ℕ) → cond (eqb x x) 1 0 + t ≤ 1 → not (eqb 0 0 && ltb 0 t) ≡ true
     alone x t h = grind (arith, nat_tests)
 
 -- the draws of a batch
 
-joined_fresh : (own : List (List ℕ)) → joined (map (map fresh) own) ≡ map fresh (concat own)
+joined_fresh : (own : List (List ℕ)) → joined (map (map fresh_entity) own) ≡ map fresh_entity (concat own)
 joined_fresh [] = refl
-joined_fresh (d ∷ own) = ap (λ l. map fresh d ++ l) (joined_fresh own) ∙ sym (map-append fresh d (concat own))
+joined_fresh (d ∷ own) = ap (λ l. map fresh_entity d ++ l) (joined_fresh own) ∙ sym (map-append fresh_entity d (concat own))
 
 each_up : (own : List (List ℕ)) → All (λ (d : List ℕ). ascends d ≡ true) own
-    → AllByRecursion (λ d. IsTrue (is_ascending entity_cmp d)) (map (map fresh) own)
+    → AllByRecursion (λ d. IsTrue (is_ascending entity_cmp d)) (map (map fresh_entity) own)
 each_up [] up = tt
 each_up (d ∷ own) up =
     let P : List ℕ → Type 0 = λ d. ascends d ≡ true in
@@ -173,21 +173,21 @@ each_up (d ∷ own) up =
 
 -- each number from the base to below the limit was drawn once
 pub fresh_until : (base limit : ℕ) (own : List (List ℕ)) (draws : BatchDraws)
-    → joined draws ≡ map (map fresh) own
+    → joined draws ≡ map (map fresh_entity) own
     → All (λ (d : List ℕ). ascends d ≡ true) own
     → ((x : ℕ) → total (times x) own ≡ once base limit x)
-    → AreFresh base draws × (length (drawn draws) ≡ limit - base)
+    → AreFresh base draws × (length (all_drawn draws) ≡ limit - base)
 fresh_until base limit own draws shape up each =
     let xs = concat own in
     let all : (x : ℕ) → times x xs ≡ once base limit x = λ x. times_concat x own ∙ each x in
-    let is : drawn draws ≡ map fresh xs = ap joined shape ∙ joined_fresh own in
-    let count : length (drawn draws) ≡ limit - base = ap length is ∙ length-map xs fresh ∙ length_is base limit xs all in
-    let has : (e : Entity) → has_item entity_cmp (drawn draws) e ≡ (eqb 0 e.generation && ltb 0 (once base limit e.index)) =
+    let is : all_drawn draws ≡ map fresh_entity xs = ap joined shape ∙ joined_fresh own in
+    let count : length (all_drawn draws) ≡ limit - base = ap length is ∙ length-map xs fresh_entity ∙ length_is base limit xs all in
+    let has : (e : Entity) → has_item entity_cmp (all_drawn draws) e ≡ (eqb 0 e.generation && ltb 0 (once base limit e.index)) =
     λ e. ap (λ l. has_item entity_cmp l e) is ∙ has_fresh xs e ∙ ap (λ t. eqb 0 e.generation && ltb 0 t) (all e.index) in (
       record {
         exact = λ e. (
-          λ k. inside (length (drawn draws)) e.index e.generation count (sym (has e) ∙ k),
-          λ k. has e ∙ listed (length (drawn draws)) e.index e.generation count k.0 k.1 k.2,
+          λ k. inside (length (all_drawn draws)) e.index e.generation count (sym (has e) ∙ k),
+          λ k. has e ∙ listed (length (all_drawn draws)) e.index e.generation count k.0 k.1 k.2,
         );
         once = subst (λ l. IsTrue (is_distinct l)) (sym is) (fresh_once xs (λ x. let h = all x in one x (times x xs) h));
         ascending = subst (AllByRecursion (λ d. IsTrue (is_ascending entity_cmp d))) (sym shape) (each_up own up);
@@ -206,10 +206,10 @@ fresh_until base limit own draws shape up each =
 
 -- what is promised of each piece's draws makes them fresh
 pub fresh_batch : (base n : ℕ) (own : List (List ℕ)) (draws : BatchDraws)
-    → joined draws ≡ map (map fresh) own
+    → joined draws ≡ map (map fresh_entity) own
     → All (λ (d : List ℕ). ascends d ≡ true) own
     → ((x : ℕ) → total (times x) own ≡ once base (base + n) x)
-    → AreFresh base draws × (length (drawn draws) ≡ n)
+    → AreFresh base draws × (length (all_drawn draws) ≡ n)
 fresh_batch base n own draws shape up each =
     let h = fresh_until base (base + n) own draws shape up each in
     let count = h.1 in
@@ -217,19 +217,20 @@ fresh_batch base n own draws shape up each =
 
 -- and where they ascend over all pieces, they are the fresh handles in turn
 pub ascending_batch : (base n : ℕ) (own : List (List ℕ)) (draws : BatchDraws)
-    → joined draws ≡ map (map fresh) own
+    → joined draws ≡ map (map fresh_entity) own
     → ascends (concat own) ≡ true
     → ((x : ℕ) → total (times x) own ≡ once base (base + n) x)
     → AreAscending base draws
 ascending_batch base n own draws shape up each =
     let xs = concat own in
     let all : (x : ℕ) → times x xs ≡ once base (base + n) x = λ x. times_concat x own ∙ each x in
-    let is : drawn draws ≡ map fresh xs = ap joined shape ∙ joined_fresh own in
+    let is : all_drawn draws ≡ map fresh_entity xs = ap joined shape ∙ joined_fresh own in
     let size : (base + n) - base ≡ n = omega arith in
-    let count : length (drawn draws) ≡ n = ap length is ∙ length-map xs fresh ∙ length_is base (base + n) xs all ∙ size in
-    let has : (e : Entity) → has_item entity_cmp (map fresh xs) e ≡ has_item entity_cmp (fresh_from base n) e = λ e.
+    let count : length (all_drawn draws) ≡ n = ap length is ∙ length-map xs fresh_entity ∙ length_is base (base + n) xs all ∙ size in
+    let has : (e : Entity) → has_item entity_cmp (map fresh_entity xs) e ≡ has_item entity_cmp (fresh_from base n) e = λ e.
     has_fresh xs e ∙ ap (λ t. eqb 0 e.generation && ltb 0 t) (all e.index ∙ sym (times_range base n e.index))
     ∙ sym (has_fresh (range_with_len base n) e) in
-    is ∙ same_members entity_cmp_total same_entity (map fresh xs) (fresh_from base n) (fresh_up xs ∙ up) (fresh_up (range_with_len base n) ∙ range_up base n)
+    is ∙ same_members entity_cmp_total same_entity (map fresh_entity xs) (fresh_from base n) (fresh_up xs ∙ up) (fresh_up (range_with_len base n)
+    ∙ range_up base n)
     (λ e. (λ k. sym (has e) ∙ k, λ k. has e ∙ k))
     ∙ ap (fresh_from base) (sym count)

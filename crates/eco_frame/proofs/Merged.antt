@@ -9,15 +9,15 @@ use Rattle.eco_ids.specs.Births.{may_admit}
 use Rattle.eco_ids.specs.Outcome.{Meets, Refuses}
 use Rattle.eco_ids.specs.Run.{Command, Runs}
 use Rattle.eco_ids.specs.World.{WorldState, entities}
-use Rattle.eco_systems.specs.Frames.{Outcomes, with_admitted}
+use Rattle.eco_systems.specs.Frames.{FrameOutcomes, with_admitted}
 use Rattle.eco_systems.specs.Systems.{SystemModel}
 use Rattle.eco_world.specs.Merging.{Merges, RunsAdmitted}
 use Rattle.eco_frame.specs.Pieces.{IsRecorded}
-use Rattle.eco_frame.specs.Progresses.{Counts, HasRun}
+use Rattle.eco_frame.specs.Progresses.{CountsReport, HasRun}
 use Rattle.eco_frame.specs.declared.progress.Progress.{Progress}
 
 -- one outcome for each command
-runs_length : (w : WorldState) (cs : List Command) (os : Outcomes) (new : WorldState) → Runs w cs os new → length os ≡ length cs
+runs_length : (w : WorldState) (cs : List Command) (os : FrameOutcomes) (new : WorldState) → Runs w cs os new → length os ≡ length cs
 runs_length w [] [] new h = refl
 runs_length w [] (o ∷ os) new h = absurd h
 runs_length w (c ∷ cs) [] new h = absurd h
@@ -28,8 +28,8 @@ module _ (w : WorldState) (n : ℕ) (cs : List Command) (most : length w.indices
   admits = le-leb (length w.indices + n) w.limit most
 
   -- a merge that is done has run the commands
-  ran : (os : Outcomes) (new : WorldState) → Merges w n cs (Ok os) new → RunsAdmitted w n cs (Ok os) new
-  ran os new h = subst (λ b. MatchBool b (RunsAdmitted w n cs (Ok os) new) (Refuses {A = Outcomes} NoMoreIds w (Ok os) new)) admits h
+  ran : (os : FrameOutcomes) (new : WorldState) → Merges w n cs (Ok os) new → RunsAdmitted w n cs (Ok os) new
+  ran os new h = subst (λ b. MatchBool b (RunsAdmitted w n cs (Ok os) new) (Refuses {A = FrameOutcomes} NoMoreIds w (Ok os) new)) admits h
 
   -- one that isn't done found no memory, and changed nothing
   abbrev Wanted : Refusal → WorldState → Type 0
@@ -37,7 +37,7 @@ module _ (w : WorldState) (n : ℕ) (cs : List Command) (most : length w.indices
 
   not_ran : (why : Refusal) (new : WorldState) → Merges w n cs (Err why) new → Wanted why new
   not_ran why new h =
-      let r = subst (λ b. MatchBool b (RunsAdmitted w n cs (Err why) new) (Refuses {A = Outcomes} NoMoreIds w (Err why) new)) admits h in
+      let r = subst (λ b. MatchBool b (RunsAdmitted w n cs (Err why) new) (Refuses {A = FrameOutcomes} NoMoreIds w (Err why) new)) admits h in
       absurd (true≢false (ap is_ok (sym r.1)))
 
   pub merge_wanted : (may : Bool) (why : Refusal) (new : WorldState) → Meets (Merges w n cs) may w (Err why) new → Wanted why new
@@ -45,9 +45,9 @@ module _ (w : WorldState) (n : ℕ) (cs : List Command) (most : length w.indices
   merge_wanted may why new h = not_ran why new h
 
 -- a batch that was recorded has run once it is merged
-pub has_run : (workers : ℕ) (w new : WorldState) (batch : List SystemModel) (cs : List Command) (n : ℕ) (before after : Progress) (os : Outcomes)
+pub has_run : (workers : ℕ) (w new : WorldState) (batch : List SystemModel) (cs : List Command) (n : ℕ) (before after : Progress) (os : FrameOutcomes)
     → IsRecorded workers w batch cs n → length w.indices + n ≤ w.limit → Merges w n cs (Ok os) new
-    → (total draws : ℕ) → total ≡ before.commands + length cs → draws ≡ before.drawn + n → Counts before os total draws after
+    → (total draws : ℕ) → total ≡ before.commands + length cs → draws ≡ before.drawn + n → CountsReport before os total draws after
     → HasRun workers w batch before after new
 has_run workers w new batch cs n before after os r most m total draws count more is =
     let h = ran w n cs most os new m in

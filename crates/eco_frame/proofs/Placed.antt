@@ -9,7 +9,7 @@ use Rattle.eco_ids.specs.World.{WorldState}
 use Rattle.eco_ids.proofs.Further.{found_at}
 use Rattle.eco_systems.specs.Batches.{joined}
 use Rattle.eco_systems.specs.Laws.{OrderHasSystems}
-use Rattle.eco_systems.specs.Phases.{in_order, order_of, phases, positions_from, rank}
+use Rattle.eco_systems.specs.Phases.{in_order, order_of, phases, positions_from, phase_rank}
 use Rattle.eco_systems.specs.Systems.{SystemModel}
 use Rattle.eco_systems.specs.declared.phase.Phase.{Phase}
 use Rattle.eco_batches.specs.Outlines.{ArePlacedBatches, system_at, system_of, systems_of}
@@ -47,8 +47,9 @@ positions phase n [] (d ∷ ds) h = absurd h
 positions phase n (s ∷ ss) [] h = absurd h
 positions phase n (s ∷ ss) (d ∷ ds) h =
     let later = positions phase (n + 1) ss ds h.1 in
-    ap (λ p. if rank p == rank phase then n ∷ positions_from phase (n + 1) (systems_of ds) else positions_from phase (n + 1) (systems_of ds)) h.0.phase
-    ∙ ap (λ l. if rank s.phase == rank phase then n ∷ l else l) later
+    ap (λ p. if phase_rank p == phase_rank phase then n ∷ positions_from phase (n + 1) (systems_of ds) else positions_from phase (n + 1)
+    (systems_of ds)) h.0.phase
+    ∙ ap (λ l. if phase_rank s.phase == phase_rank phase then n ∷ l else l) later
 
 orders : (ss : List SystemModel) (ds : List Declared) → AllZip Declares ss ds → order_of (systems_of ds) ≡ order_of ss
 orders ss ds h = go phases

@@ -6,7 +6,7 @@ use Rattle.std.specs.List.{AllByRecursion}
 use Rattle.eco_ids.specs.Lawful.{IsLawful}
 use Rattle.eco_ids.specs.World.{WorldState}
 use Rattle.eco_systems.specs.Batches.{AreBatches, joined}
-use Rattle.eco_systems.specs.Frames.{AscendingRuns, BatchDraws, BatchRuns, BatchRunsSolo, Outcomes}
+use Rattle.eco_systems.specs.Frames.{AscendingRuns, BatchDraws, BatchRuns, BatchRunsSolo, FrameOutcomes}
 use Rattle.eco_systems.specs.Laws.{FramesAreSolo, StoppedAreSolo}
 use Rattle.eco_systems.specs.Phases.{in_order}
 use Rattle.eco_systems.specs.Systems.{IsLawfulSystem, SystemModel}
@@ -22,7 +22,7 @@ map_twice f items [] = refl
 map_twice f items (v ∷ vs) = ap (λ l. map f (items v) ∷ l) (map_twice f items vs)
 
 -- it stopped before its first batch
-pub stopped_at_once : (Way : WorldState → List SystemModel → BatchDraws → Outcomes → WorldState → Type 0) (w : WorldState) (systems : List SystemModel)
+pub stopped_at_once : (Way : WorldState → List SystemModel → BatchDraws → FrameOutcomes → WorldState → Type 0) (w : WorldState) (systems : List SystemModel)
     (batches : List (List SystemModel)) → AreBatches w (in_order systems) batches → (stop : FrameStop) → stop.batches ≡ 0 → Frames Way w systems (Err stop) w
 stopped_at_once Way w systems batches h stop none = ([], [], ([], batches, h, (refl, refl), λ all. refl), none)
 
@@ -82,8 +82,8 @@ module _ (workers : ℕ) (w new : WorldState) {S V : Type 0} (f : S → SystemMo
       some_ran workers w new (map f systems) items batches p n stop count within placed found
 
 -- a frame whose batches go in one way is one whose batches go in the other
-frames_weaker : (One Other : WorldState → List SystemModel → BatchDraws → Outcomes → WorldState → Type 0)
-    → ((w : WorldState) (b : List SystemModel) (d : BatchDraws) (o : Outcomes) (new : WorldState) → One w b d o new → Other w b d o new)
+frames_weaker : (One Other : WorldState → List SystemModel → BatchDraws → FrameOutcomes → WorldState → Type 0)
+    → ((w : WorldState) (b : List SystemModel) (d : BatchDraws) (o : FrameOutcomes) (new : WorldState) → One w b d o new → Other w b d o new)
     → (w : WorldState) (systems : List SystemModel) (r : Result FrameDone FrameStop) (new : WorldState)
     → Frames One w systems r new → Frames Other w systems r new
 frames_weaker One Other weaker w systems (Ok r) new h =

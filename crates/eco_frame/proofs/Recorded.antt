@@ -8,7 +8,7 @@ use Rattle.eco_ids.specs.Run.{Command}
 use Rattle.eco_systems.specs.Batches.{joined}
 use Rattle.eco_systems.specs.Recording.{PiecesRecord, RowsRecord}
 use Rattle.eco_systems.specs.Rows.{ValuedRow}
-use Rattle.eco_bodies.specs.Taking.{commands_of, taken_of}
+use Rattle.eco_bodies.specs.Taking.{commands_in_turn, taken_of}
 use Rattle.eco_bodies.specs.declared.systems.System.{System}
 use Rattle.eco_workers.specs.Batches.{AreStages}
 use Rattle.eco_stages.specs.Taking.{by_index, fresh}
@@ -19,7 +19,7 @@ module _ {B : Type 0} (reads writes : B → List Pattern) (kills : B → Bool) (
     (commands : B → ValuedRow → List Entity → List Command) (settled : Settled taken commands) where
   -- rows that take just these draws record, each with its own
   rows_record : (s : System B) (rows : List ValuedRow) (draws : List Entity) → taken_of (taken s.body) rows draws ≡ length draws
-      → RowsRecord (model_of reads writes kills taken commands s) rows draws (commands_of (commands s.body) (taken s.body) rows draws)
+      → RowsRecord (model_of reads writes kills taken commands s) rows draws (commands_in_turn (commands s.body) (taken s.body) rows draws)
   rows_record s [] draws h = (nil_from_length draws (sym h), refl)
   rows_record s (row ∷ rows) draws h =
       let n = taken s.body row draws in
@@ -33,11 +33,11 @@ module _ {B : Type 0} (reads writes : B → List Pattern) (kills : B → Bool) (
       let own = settled s.body row mine others (ap (taken s.body row) split ∙ sym long) in (
         mine,
         others,
-        commands_of (commands s.body) (taken s.body) rows others,
+        commands_in_turn (commands s.body) (taken s.body) rows others,
         eq-eqb (taken s.body row mine) (length mine) own.0,
         rows_record s rows others (omega (arith, h, both, len, long)),
         sym split,
-        ap (λ l. l ++ commands_of (commands s.body) (taken s.body) rows others) (ap (commands s.body row) (sym split) ∙ own.1),
+        ap (λ l. l ++ commands_in_turn (commands s.body) (taken s.body) rows others) (ap (commands s.body row) (sym split) ∙ own.1),
       )
 
   -- the stages of a system's pieces are what it records

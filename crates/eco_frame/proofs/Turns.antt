@@ -4,16 +4,16 @@ use Rattle.std.proofs.Common.{length-append}
 use Rattle.std.proofs.lemmas.List.{append-nil}
 use Rattle.eco_ids.specs.World.{WorldState}
 use Rattle.eco_systems.specs.Batches.{joined}
-use Rattle.eco_systems.specs.Frames.{BatchDraws, InTurn, Outcomes, drawn}
+use Rattle.eco_systems.specs.Frames.{BatchDraws, InTurn, FrameOutcomes, all_drawn}
 use Rattle.eco_systems.specs.Systems.{SystemModel}
 use Rattle.eco_frame.specs.Progresses.{HasRun, HaveRun, RunsBy}
 use Rattle.eco_frame.specs.Reports.{drawn_in}
 use Rattle.eco_frame.specs.declared.progress.Progress.{Progress}
 
-module _ (Goes : WorldState → List SystemModel → BatchDraws → Outcomes → WorldState → Type 0) where
+module _ (Goes : WorldState → List SystemModel → BatchDraws → FrameOutcomes → WorldState → Type 0) where
   -- one batch more goes
-  turn_more : (w : WorldState) (bs : List (List SystemModel)) (ds : List BatchDraws) (os : Outcomes) (mid : WorldState) (b : List SystemModel)
-      (d : BatchDraws) (o : Outcomes) (new : WorldState) → InTurn Goes w bs ds os mid → Goes mid b d o new
+  turn_more : (w : WorldState) (bs : List (List SystemModel)) (ds : List BatchDraws) (os : FrameOutcomes) (mid : WorldState) (b : List SystemModel)
+      (d : BatchDraws) (o : FrameOutcomes) (new : WorldState) → InTurn Goes w bs ds os mid → Goes mid b d o new
       → InTurn Goes w (bs ++ b ∷ []) (ds ++ d ∷ []) (os ++ o) new
   turn_more w [] [] os mid b d o new h g =
       (o, [], new, subst (λ m. Goes m b d o new) h.1 g, (refl, refl), ap (λ l. l ++ o) h.0 ∙ sym (append-nil o))
@@ -22,10 +22,10 @@ module _ (Goes : WorldState → List SystemModel → BatchDraws → Outcomes →
   turn_more w (x ∷ bs) (y ∷ ds) os mid b d o new h g =
       (h.0, h.1 ++ o, h.2, h.3, turn_more h.2 bs ds h.1 mid b d o new h.4 g, ap (λ l. l ++ o) h.5 ∙ append_assoc h.0 h.1 o)
 
-module _ (One Other : WorldState → List SystemModel → BatchDraws → Outcomes → WorldState → Type 0)
-    (weaker : (w : WorldState) (b : List SystemModel) (d : BatchDraws) (o : Outcomes) (new : WorldState) → One w b d o new → Other w b d o new) where
+module _ (One Other : WorldState → List SystemModel → BatchDraws → FrameOutcomes → WorldState → Type 0)
+    (weaker : (w : WorldState) (b : List SystemModel) (d : BatchDraws) (o : FrameOutcomes) (new : WorldState) → One w b d o new → Other w b d o new) where
   -- batches that go in one way go in the other
-  pub turns_weaker : (w : WorldState) (bs : List (List SystemModel)) (ds : List BatchDraws) (os : Outcomes) (new : WorldState)
+  pub turns_weaker : (w : WorldState) (bs : List (List SystemModel)) (ds : List BatchDraws) (os : FrameOutcomes) (new : WorldState)
       → InTurn One w bs ds os new → InTurn Other w bs ds os new
   turns_weaker w [] [] os new h = h
   turns_weaker w [] (x ∷ ds) os new h = absurd h
@@ -36,7 +36,7 @@ joined_append : {A : Type 0} (xss : List (List A)) (xs : List A) → joined (xss
 joined_append [] xs = append-nil xs
 joined_append (x ∷ xss) xs = ap (λ l. x ++ l) (joined_append xss xs) ∙ sym (append_assoc x (joined xss) xs)
 
-drawn_more : (ds : List BatchDraws) (d : BatchDraws) → drawn_in (ds ++ d ∷ []) ≡ drawn_in ds + length (drawn d)
+drawn_more : (ds : List BatchDraws) (d : BatchDraws) → drawn_in (ds ++ d ∷ []) ≡ drawn_in ds + length (all_drawn d)
 drawn_more [] d = omega arith
 drawn_more (x ∷ ds) d = let h = drawn_more ds d in omega (arith, h)
 

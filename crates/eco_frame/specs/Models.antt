@@ -6,7 +6,7 @@ use Rattle.eco_ids.specs.Run.{Command}
 use Rattle.eco_ids.specs.Lawful.{IsLawful}
 use Rattle.eco_ids.specs.World.{WorldState}
 use Rattle.eco_systems.specs.Batches.{joined, AreBatches}
-use Rattle.eco_systems.specs.Frames.{BatchDraws, IsFrame, IsSolo, Outcomes}
+use Rattle.eco_systems.specs.Frames.{BatchDraws, IsFrame, IsSolo, FrameOutcomes}
 use Rattle.eco_systems.specs.Phases.{in_order, order_of}
 use Rattle.eco_systems.specs.Rows.{ValuedRow}
 use Rattle.eco_systems.specs.Systems.{SystemModel, system_reads}
@@ -39,5 +39,5 @@ ArePlaced w systems places = (joined places ≡ order_of systems) × AreBatches 
 -- every frame of the systems on the world is the run of these one by one
 abbrev pub AreOneByOne : WorldState → List SystemModel → Type 0
 AreOneByOne w systems =
-    (draws : List BatchDraws) (outcomes : Outcomes) (new : WorldState)
+    (draws : List BatchDraws) (outcomes : FrameOutcomes) (new : WorldState)
     → IsLawful w → IsFrame w systems draws outcomes new → IsSolo w systems draws outcomes new

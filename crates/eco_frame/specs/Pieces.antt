@@ -3,11 +3,11 @@ use Rattle.std.specs.Prelude.{◌≡◌, ℕ, ◌-◌, ◌++◌, List, drop, fla
 use Rattle.eco_ids.specs.declared.entity.Entity.{Entity}
 use Rattle.eco_ids.specs.Run.{Command}
 use Rattle.eco_ids.specs.World.{WorldState}
-use Rattle.eco_systems.specs.Frames.{AreAscending, AreFresh, BatchDraws, drawn}
+use Rattle.eco_systems.specs.Frames.{AreAscending, AreFresh, BatchDraws, all_drawn}
 use Rattle.eco_systems.specs.Recording.{BatchRecords, pieces_of}
-use Rattle.eco_systems.specs.Rows.{ValuedRow, rows_of}
+use Rattle.eco_systems.specs.Rows.{ValuedRow, valued_rows}
 use Rattle.eco_systems.specs.Systems.{SystemModel}
-use Rattle.eco_bodies.specs.Taking.{commands_of, taken_of}
+use Rattle.eco_bodies.specs.Taking.{commands_in_turn, taken_of}
 use Rattle.eco_bodies.specs.declared.systems.System.{System}
 use Rattle.eco_workers.specs.Batches.{IsBatch, IsOut}
 use Rattle.eco_stages.specs.Taking.{by_index}
@@ -17,24 +17,24 @@ use Rattle.eco_frame.specs.declared.piece.RowsPiece.{RowsPiece}
 
 module _ {B : Type 0} where
   -- the rows of a piece
-  abbrev pub rows_in : RowsPiece B → List ValuedRow
-  rows_in p = take (p.end - p.first) (drop p.first p.rows.now)
+  abbrev pub piece_rows : RowsPiece B → List ValuedRow
+  piece_rows p = take (p.end - p.first) (drop p.first p.rows.now)
 
   -- a piece is its body with its rows
   abbrev pub seen_piece : RowsPiece B → B × List ValuedRow
-  seen_piece p = (p.body.now, rows_in p)
+  seen_piece p = (p.body.now, piece_rows p)
 
   -- and so is what the rows of a system are kept in
   abbrev pub seen_part : Part B → B × List ValuedRow
   seen_part p = (p.body.now, p.rows)
 
   -- a system's body, with the rows of its query on a world
-  abbrev pub part_of : WorldState → System B → B × List ValuedRow
-  part_of w s = (s.body, rows_of w s.query)
+  abbrev pub body_with_rows : WorldState → System B → B × List ValuedRow
+  body_with_rows w s = (s.body, valued_rows w s.query)
 
   -- the same of the system at a position of declaration, if there is one
   abbrev pub part_at : WorldState → List (System B) → ℕ → List (B × List ValuedRow)
-  part_at w systems k = option_to_list (option_map (part_of w) (slice_get systems k))
+  part_at w systems k = option_to_list (option_map (body_with_rows w) (slice_get systems k))
 
   -- the pieces of such rows, each with the body
   abbrev pub pieces_in : B × List ValuedRow → List (B × List ValuedRow)
@@ -47,7 +47,7 @@ module _ {B : Type 0} where
   module _ (taken : B → ValuedRow → List Entity → ℕ) (commands : B → ValuedRow → List Entity → List Command) where
     -- what a piece records with the handles that are there to draw
     abbrev pub piece_commands : B × List ValuedRow → List Entity → List Command
-    piece_commands p = commands_of (commands p.0) (taken p.0) p.1
+    piece_commands p = commands_in_turn (commands p.0) (taken p.0) p.1
 
     -- and how many of them it takes
     abbrev pub piece_taken : B × List ValuedRow → List Entity → ℕ
@@ -73,5 +73,5 @@ Settled {B} taken commands =
 -- a batch recorded these commands, and drew so many handles, which are fresh; of one worker they ascend over all pieces in order
 abbrev pub IsRecorded : ℕ → WorldState → List SystemModel → List Command → ℕ → Type 0
 IsRecorded workers w batch commands n =
-    (draws : BatchDraws) × BatchRecords w batch draws commands × AreFresh (length w.indices) draws × (length (drawn draws) ≡ n)
+    (draws : BatchDraws) × BatchRecords w batch draws commands × AreFresh (length w.indices) draws × (length (all_drawn draws) ≡ n)
     × (workers ≡ 1 → AreAscending (length w.indices) draws)

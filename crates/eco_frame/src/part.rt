@@ -2,7 +2,7 @@
 ghost use Rattle.std.specs.Prelude.{◌≡◌, ◌++◌, ◌<◌, flat_map, length, map, IfErr, IfOk, OnOk};
 ghost use Rattle.std.specs.List.{All};
 ghost use Rattle.eco_ids.specs.declared.refusal.Refusal.TheVariants.{OutOfMemory};
-ghost use Rattle.eco_frame.specs.Pieces.{part_at, part_of, pieces_in, seen_part, seen_piece};
+ghost use Rattle.eco_frame.specs.Pieces.{part_at, body_with_rows, pieces_in, seen_part, seen_piece};
 
 use crate::piece::RowsPiece;
 use crate::system_rows::SystemRows;
@@ -28,7 +28,7 @@ impl<B> Drop for Part<'_, B> {
 
 // Asks a world for the rows of a system.
 fn ask<'a, B: SystemBody>(world: &'a World, system: &'a System<B>) -> Result<Part<'a, B>, Refusal>
-    ensures ok { IfOk result (λ p. seen_part p ≡ part_of world.now system.now) }
+    ensures ok { IfOk result (λ p. seen_part p ≡ body_with_rows world.now system.now) }
     ensures err { IfErr result (λ why. why ≡ OutOfMemory) }
 {
     let rows = SystemRows::of(world, &system.query)?;

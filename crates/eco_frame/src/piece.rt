@@ -1,6 +1,6 @@
 //! Pieces of a batch.
 ghost use Rattle.std.specs.Prelude.{◌≡◌, ◌-◌, ◌≤◌, drop, false, length, take, IfErr, IfOk};
-ghost use Rattle.eco_bodies.specs.Taking.{commands_of, taken_of};
+ghost use Rattle.eco_bodies.specs.Taking.{commands_in_turn, taken_of};
 ghost use Rattle.eco_stages.specs.Taking.{Broke, Took, stopped_by};
 
 use crate::system_rows::SystemRows;
@@ -46,7 +46,7 @@ fn record_between<B: SystemBody, D: Draws>(
     ensures rest { D.rest draws.new ≡ D.rest draws.old }
     ensures wet { IfOk result (λ _. D.is_dry draws.new ≡ false) }
     ensures ok { IfOk result (λ _. Took
-        (commands_of (B.commands body.now) (B.taken body.now) (take (end - first) (drop first rows.now)))
+        (commands_in_turn (B.commands body.now) (B.taken body.now) (take (end - first) (drop first rows.now)))
         (taken_of (B.taken body.now) (take (end - first) (drop first rows.now)))
         (D.so_far draws.old) (D.so_far draws.new) stage.old stage.new) }
     ensures why { IfErr result (λ why. why ≡ stopped_by (D.is_dry draws.new)) }
@@ -62,11 +62,11 @@ fn record_between<B: SystemBody, D: Draws>(
 }
 
 impl<B: SystemBody> Piece for RowsPiece<'_, B> {
-    ghost use Rattle.eco_frame.specs.Pieces.{rows_in};
+    ghost use Rattle.eco_frame.specs.Pieces.{piece_rows};
 
-    ghost commands = { λ p. commands_of (B.commands p.body.now) (B.taken p.body.now) (rows_in p) };
+    ghost commands = { λ p. commands_in_turn (B.commands p.body.now) (B.taken p.body.now) (piece_rows p) };
 
-    ghost taken = { λ p. taken_of (B.taken p.body.now) (rows_in p) };
+    ghost taken = { λ p. taken_of (B.taken p.body.now) (piece_rows p) };
 
     fn record<D: Draws>(&self, draws: &mut D, stage: &mut Stage) -> Result<(), Refusal> {
         record_between(self.body, self.rows, self.first, self.end, draws, stage)

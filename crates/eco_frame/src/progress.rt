@@ -1,7 +1,7 @@
 //! What a frame has done so far.
 ghost use Rattle.std.specs.Prelude.{◌≡◌, ◌+◌, ◌≤◌, ◌<◌, ◌++◌, ◌∷◌, [], length, vec_capacity, vec_len, IfOk, IfSome};
 ghost use Rattle.eco_world.specs.Merging.{all_commands};
-ghost use Rattle.eco_frame.specs.Progresses.{Counts, IsCounted, done_of};
+ghost use Rattle.eco_frame.specs.Progresses.{CountsReport, CommandsAreCounted, done_of};
 
 use crate::report::FrameReport;
 use eco_stages::{Report, Stage};
@@ -62,7 +62,7 @@ impl Progress {
     // One more batch was merged, with so many commands and draws in all.
     pub(crate) fn push(&mut self, report: Report, commands: usize, drawn: u32)
         requires { vec_len self.old.reports < vec_capacity self.old.reports }
-        ensures { Counts self.old report commands drawn self.new }
+        ensures { CountsReport self.old report commands drawn self.new }
     {
         self.reports.push_reserved(report);
         self.commands = commands;
@@ -71,7 +71,7 @@ impl Progress {
 
     // Of all that was done.
     pub(crate) fn into_report(self) -> FrameReport
-        requires { IsCounted self }
+        requires { CommandsAreCounted self }
         ensures { result ≡ done_of self }
     {
         let Progress {

@@ -3,7 +3,7 @@ ghost use Rattle.std.specs.Prelude.{◌≡◌, ◌<◌, length, slice_get, IfErr
 ghost use Rattle.std.specs.List.{list_any};
 ghost use Rattle.eco_ids.specs.declared.refusal.Refusal.TheVariants.{OutOfMemory};
 ghost use Rattle.eco_answers.specs.Answers.{asked};
-ghost use Rattle.eco_systems.specs.Rows.{rows_of};
+ghost use Rattle.eco_systems.specs.Rows.{valued_rows};
 ghost use Rattle.eco_world.specs.Queries.{may_query};
 ghost use Rattle.eco_frame.specs.Rows.{asks_no_data, may_show, world_row};
 
@@ -69,7 +69,7 @@ impl<'a> Model for SystemRows<'a> {
 impl<'a> SystemRows<'a> {
     /// The rows of a query on a world. Refused with `OutOfMemory` alone, and never where there is no result.
     pub fn of(world: &'a World, query: &'a Query) -> Result<SystemRows<'a>, Refusal>
-        ensures ok { IfOk result (λ rows. rows ≡ rows_of world.now query.now) }
+        ensures ok { IfOk result (λ rows. rows ≡ valued_rows world.now query.now) }
         ensures err { IfErr result (λ why. why ≡ OutOfMemory) }
         ensures some { OnErr result (IsTrue (may_query world.now (asked query.now))) }
     {

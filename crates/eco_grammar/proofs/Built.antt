@@ -11,8 +11,8 @@ use Rattle.eco_grammar.specs.Grammar.{WrittenAtom, alternatives, WrittenSlot, Is
 use Rattle.eco_grammar.specs.Reader.Machine.{body_of}
 use Rattle.eco_grammar.specs.Reader.Points.{atom_view, is_bare_head}
 use Rattle.eco_query.specs.Queries.{QuerySlot}
-use Rattle.eco_grammar.specs.Readings.{ok_map, ok_both, id_of, ids_of, term_of_body, slots_of, has_wildcard, misplaces_wildcard, is_positive}
-use Rattle.eco_grammar.specs.Reader.Marks.{asks, slots_from, grouping, AreWhole, AreProperMarks}
+use Rattle.eco_grammar.specs.Readings.{ok_map, ok_both, id_of, ids_of, term_of_body, slots_of_written, has_wildcard, misplaces_wildcard, is_positive_body}
+use Rattle.eco_grammar.specs.Reader.Marks.{ends_positive, slots_from, grouping, AreWhole, AreProperMarks}
 use Rattle.eco_grammar.specs.Reader.LastTerms.{last_of, misplaces_last, term_with, left_over}
 use Rattle.eco_grammar.specs.declared.written.WrittenAtom as written
 use Rattle.eco_query.specs.declared.access.Access.{Access}
@@ -102,7 +102,7 @@ misplaced_is ms g = wildcards [] ms refl g
 
 -- ---- slots that ask for something
 
-pub asks_is : (xs : List WrittenAtom) (ms : List Mark) → list_any asks ms ≡ list_any (λ s. is_positive s.body) (slots_from xs ms)
+pub asks_is : (xs : List WrittenAtom) (ms : List Mark) → list_any ends_positive ms ≡ list_any (λ s. is_positive_body s.body) (slots_from xs ms)
 asks_is xs [] = refl
 asks_is xs (marks.Same ∷ ms) = asks_is xs ms
 asks_is xs (marks.Begin ∷ ms) = asks_is [] ms
@@ -183,13 +183,14 @@ module _ (entity_named : List ℕ → Option Entity) where
             ] refl e
       ] e
 
-  slot_unknown : (s : WrittenSlot) (ss : List WrittenSlot) (f : Refusal) → term_of_body entity_named s.body ≡ Err f → slots_of entity_named (s ∷ ss) ≡ Err f
+  slot_unknown : (s : WrittenSlot) (ss : List WrittenSlot) (f : Refusal) → term_of_body entity_named s.body ≡ Err f
+      → slots_of_written entity_named (s ∷ ss) ≡ Err f
   slot_unknown s ss f e =
-      ap (λ r. ok_both (λ t ts. t ∷ ts) (ok_map (λ a. let q : QuerySlot = record { access = s.access; term = a } in q) r) (slots_of entity_named ss)) e
+      ap (λ r. ok_both (λ t ts. t ∷ ts) (ok_map (λ a. let q : QuerySlot = record { access = s.access; term = a } in q) r) (slots_of_written entity_named ss)) e
 
   -- an unknown name in a pending alternative is that of the slots
   pending_unknown : (xs : List WrittenAtom) (ms : List Mark) (f : Refusal) → some_of xs ≡ true → ids_of entity_named xs ≡ Err f → grouping true ms ≡ Some false
-      → slots_of entity_named (slots_from xs ms) ≡ Err f
+      → slots_of_written entity_named (slots_from xs ms) ≡ Err f
   pending_unknown xs [] f s d g = cc
   pending_unknown xs (marks.Same ∷ ms) f s d g = cc
   pending_unknown xs (marks.Begin ∷ ms) f s d g = cc
@@ -207,7 +208,7 @@ module _ (entity_named : List ℕ → Option Entity) where
 pub record Standing (entity_named : List ℕ → Option Entity) (all : List Mark) (xs : List WrittenAtom) (ys : List QuerySlot) (group : List Id)
     (rest : List Mark) : Type 0 where
   pub known : ids_of entity_named xs ≡ Ok group
-  pub whole : slots_of entity_named (slots_from [] all) ≡ joined entity_named ys (slots_of entity_named (slots_from xs rest))
+  pub whole : slots_of_written entity_named (slots_from [] all) ≡ joined entity_named ys (slots_of_written entity_named (slots_from xs rest))
   pub groups : grouping (some_of xs) rest ≡ Some false
   pub proper : AreProperMarks rest
 
@@ -226,14 +227,14 @@ module _ (entity_named : List ℕ → Option Entity) (all : List Mark) where
     }
 
     pub other_unknown : (a : Access) (x : written.WrittenAtom) (f : Refusal) (ms : List Mark) → Standing entity_named all xs ys group (marks.Other a x ∷ ms)
-        → id_of entity_named (atom_view x) ≡ Err f → slots_of entity_named (slots_from [] all) ≡ Err f
+        → id_of entity_named (atom_view x) ≡ Err f → slots_of_written entity_named (slots_from [] all) ≡ Err f
     other_unknown a x f ms s e =
         s.whole ∙ ap (joined entity_named ys) (pending_unknown entity_named (xs ++ atom_view x ∷ []) ms f (some_of-more xs (atom_view x))
         (ids_more entity_named xs group (atom_view x) s.known ∙ ap (ok_map (λ i. group ++ i ∷ [])) e) s.groups)
 
     pub last_unknown : (a : Access) (h : Head) (x : written.WrittenAtom) (f : Refusal) (ms : List Mark)
         → Standing entity_named all xs ys group (marks.Slot a h x ∷ ms)
-        → last_of entity_named h (some_of xs) (atom_view x) ≡ Err f → slots_of entity_named (slots_from [] all) ≡ Err f
+        → last_of entity_named h (some_of xs) (atom_view x) ≡ Err f → slots_of_written entity_named (slots_from [] all) ≡ Err f
     last_unknown a h x f ms s e =
         let (bare, rest) = slot_grouped xs a h ms s.groups in
         s.whole ∙ ap (joined entity_named ys) (slot_unknown entity_named (record { access = a; body = body_of h xs (atom_view x) }) (slots_from [] ms) f
@@ -252,8 +253,8 @@ module _ (entity_named : List ℕ → Option Entity) (all : List Mark) where
           whole = s.whole
               ∙ ap (λ r. joined entity_named ys
               (ok_both (λ t ts. t ∷ ts) (ok_map (λ k. let q : QuerySlot = record { access = a; term = k } in q) r)
-              (slots_of entity_named (slots_from [] ms)))) asked
-              ∙ elim (slots_of entity_named (slots_from [] ms)) as
+              (slots_of_written entity_named (slots_from [] ms)))) asked
+              ∙ elim (slots_of_written entity_named (slots_from [] ms)) as
               (λ r. joined entity_named ys (ok_both (λ t ts. t ∷ ts) (Ok (let q : QuerySlot = record { access = a; term = term_with group l } in q)) r)
               ≡ joined entity_named (ys ++ (record { access = a; term = term_with group l }) ∷ []) r) [
                 | Err f ↦ refl
@@ -322,20 +323,20 @@ pub wildcard_none : (ms : List Mark) (g : Bool) (i : ℕ) → AreWhole ms → mi
     → false ≡ list_any misplaces_wildcard (slots_from [] ms)
 wildcard_none ms g i w inv ge = sym (sym (misplaced_is ms w) ∙ inv ∙ ap (misplaced g) (past_end ms i ge))
 
-pub positive_found : (ms : List Mark) (i : ℕ) (m : Mark) → list_any asks ms ≡ list_any asks (drop i ms) → i < length ms
-    → get_or ms i marks.Same ≡ m → asks m ≡ true → true ≡ list_any (λ s. is_positive s.body) (slots_from [] ms)
-positive_found ms i m inv lt e found = sym (sym (asks_is [] ms) ∙ inv ∙ ap (list_any asks) (at_mark ms i m lt e)
-    ∙ ap (λ c. c || list_any asks (drop (i + 1) ms)) found)
+pub positive_found : (ms : List Mark) (i : ℕ) (m : Mark) → list_any ends_positive ms ≡ list_any ends_positive (drop i ms) → i < length ms
+    → get_or ms i marks.Same ≡ m → ends_positive m ≡ true → true ≡ list_any (λ s. is_positive_body s.body) (slots_from [] ms)
+positive_found ms i m inv lt e found = sym (sym (asks_is [] ms) ∙ inv ∙ ap (list_any ends_positive) (at_mark ms i m lt e)
+    ∙ ap (λ c. c || list_any ends_positive (drop (i + 1) ms)) found)
 
-pub positive_none : (ms : List Mark) (i : ℕ) → list_any asks ms ≡ list_any asks (drop i ms) → length ms ≤ i
-    → false ≡ list_any (λ s. is_positive s.body) (slots_from [] ms)
-positive_none ms i inv ge = sym (sym (asks_is [] ms) ∙ inv ∙ ap (list_any asks) (past_end ms i ge))
+pub positive_none : (ms : List Mark) (i : ℕ) → list_any ends_positive ms ≡ list_any ends_positive (drop i ms) → length ms ≤ i
+    → false ≡ list_any (λ s. is_positive_body s.body) (slots_from [] ms)
+positive_none ms i inv ge = sym (sym (asks_is [] ms) ∙ inv ∙ ap (list_any ends_positive) (past_end ms i ge))
 
 module _ (entity_named : List ℕ → Option Entity) (all : List Mark) (xs : List WrittenAtom) (ys : List QuerySlot) (group : List Id) (i : ℕ) where
   pub standing_at : (m : Mark) → Standing entity_named all xs ys group (drop i all) → i < length all → get_or all i marks.Same ≡ m
       → Standing entity_named all xs ys group (m ∷ drop (i + 1) all)
   standing_at m s lt e = subst (λ rest. Standing entity_named all xs ys group rest) (at_mark all i m lt e) s
 
-  pub standing_end : Standing entity_named all xs ys group (drop i all) → length all ≤ i → slots_of entity_named (slots_from [] all) ≡ Ok ys
+  pub standing_end : Standing entity_named all xs ys group (drop i all) → length all ≤ i → slots_of_written entity_named (slots_from [] all) ≡ Ok ys
   standing_end s le =
-      s.whole ∙ ap (λ rest. joined entity_named ys (slots_of entity_named (slots_from xs rest))) (past_end all i le) ∙ ap (λ qs. Ok qs) (append-nil ys)
+      s.whole ∙ ap (λ rest. joined entity_named ys (slots_of_written entity_named (slots_from xs rest))) (past_end all i le) ∙ ap (λ qs. Ok qs) (append-nil ys)

@@ -9,7 +9,7 @@ use Rattle.eco_ids.specs.Terms.{QueryTerm}
 use Rattle.eco_grammar.specs.Grammar.{WrittenAtom, WrittenBody, absent, optional, alternatives, WrittenSlot}
 use Rattle.eco_query.specs.Queries.{QuerySlot, exactly, patterns_of, reads, IsPattern, IsTerm, IsQuery}
 use Rattle.eco_query.specs.Queries.{is_positive as asks_there}
-use Rattle.eco_grammar.specs.Readings.{ok_map, ok_both, ids_of, term_of_body, slots_of, atoms_of, count_atoms, is_positive}
+use Rattle.eco_grammar.specs.Readings.{ok_map, ok_both, ids_of, term_of_body, slots_of_written, atoms_of, count_atoms, is_positive_body}
 use Rattle.eco_grammar.specs.Reader.Marks.{slots_from}
 use Rattle.eco_grammar.specs.Reader.LastTerms.{last_of, term_with, IsLast}
 use Rattle.eco_grammar.specs.declared.point.Mark.{Mark}
@@ -37,8 +37,8 @@ all_more P [] x h p = (p, tt)
 all_more P (y ∷ xs) x (q, h) p = (q, all_more P xs x h p)
 
 module _ (entity_named : List ℕ → Option Entity) where
-  slots_first : (s : WrittenSlot) (ss : List WrittenSlot) (qs : List QuerySlot) → slots_of entity_named (s ∷ ss) ≡ Ok qs
-      → (t : QueryTerm) × (ts : List QuerySlot) × (term_of_body entity_named s.body ≡ Ok t) × (slots_of entity_named ss ≡ Ok ts)
+  slots_first : (s : WrittenSlot) (ss : List WrittenSlot) (qs : List QuerySlot) → slots_of_written entity_named (s ∷ ss) ≡ Ok qs
+      → (t : QueryTerm) × (ts : List QuerySlot) × (term_of_body entity_named s.body ≡ Ok t) × (slots_of_written entity_named ss ≡ Ok ts)
       × ((record { access = s.access; term = t }) ∷ ts ≡ qs)
   slots_first s ss qs e =
       let (q, ts, one, more, same) = both_ok _ _ _ qs e in
@@ -47,15 +47,15 @@ module _ (entity_named : List ℕ → Option Entity) where
 
   -- ---- the slots that are made ask for something that is there where those that are written do
 
-  body_positive : (k : WrittenBody) (t : QueryTerm) → term_of_body entity_named k ≡ Ok t → is_positive k ≡ asks_there t
+  body_positive : (k : WrittenBody) (t : QueryTerm) → term_of_body entity_named k ≡ Ok t → is_positive_body k ≡ asks_there t
   body_positive (absent x) t e = let (p, known, same) = map_ok _ _ t e in ap asks_there same
   body_positive (optional x) t e = let (i, known, same) = map_ok _ _ t e in ap asks_there same
   body_positive (alternatives []) t e = let same : terms.Or [] ≡ t = cc in ap asks_there same
   body_positive (alternatives (x ∷ [])) t e = let (p, known, same) = map_ok _ _ t e in ap asks_there same
   body_positive (alternatives (x ∷ y ∷ xs)) t e = let (is, known, same) = map_ok _ _ t e in ap asks_there same
 
-  pub slots_positive : (ss : List WrittenSlot) (qs : List QuerySlot) → slots_of entity_named ss ≡ Ok qs
-      → list_any (λ s. is_positive s.body) ss ≡ list_any (λ q. asks_there q.term) qs
+  pub slots_positive : (ss : List WrittenSlot) (qs : List QuerySlot) → slots_of_written entity_named ss ≡ Ok qs
+      → list_any (λ s. is_positive_body s.body) ss ≡ list_any (λ q. asks_there q.term) qs
   slots_positive [] qs e = let none : [] ≡ qs = cc in ap (list_any (λ q. asks_there q.term)) none
   slots_positive (s ∷ ss) qs e =
       let (t, ts, asked, more, same) = slots_first s ss qs e in
@@ -78,7 +78,7 @@ module _ (entity_named : List ℕ → Option Entity) where
       let (is, known, same) = map_ok _ _ t e in
       sym (ap (λ k. length (patterns_of k)) same) ∙ length-map is exactly ∙ ids_counted (x ∷ y ∷ xs) is known
 
-  slots_counted : (ss : List WrittenSlot) (qs : List QuerySlot) → slots_of entity_named ss ≡ Ok qs → length (reads qs) ≡ count_atoms ss
+  slots_counted : (ss : List WrittenSlot) (qs : List QuerySlot) → slots_of_written entity_named ss ≡ Ok qs → length (reads qs) ≡ count_atoms ss
   slots_counted [] qs e = let none : [] ≡ qs = cc in sym (ap (λ qs. length (reads qs)) none)
   slots_counted (s ∷ ss) qs e =
       let (t, ts, asked, more, same) = slots_first s ss qs e in
@@ -126,7 +126,7 @@ id_kept ys group i r k = record { terms = r.terms; ids = all_more (λ i. IsPatte
 -- at the end of the atoms a query is made
 pub query_kept : (entity_named : List ℕ → Option Entity) (all : List Mark) (xs : List WrittenAtom) (ys : List QuerySlot) (group : List Id) (i : ℕ)
     → Standing entity_named all xs ys group (drop i all) → length all ≤ i → InRange ys group → count_atoms (slots_from [] all) ≤ 32
-    → IsTrue (list_any (λ s. is_positive s.body) (slots_from [] all)) → IsQuery ys
+    → IsTrue (list_any (λ s. is_positive_body s.body) (slots_from [] all)) → IsQuery ys
 query_kept entity_named all xs ys group i s le r few positive =
     let made = standing_end entity_named all xs ys group i s le in
     record {

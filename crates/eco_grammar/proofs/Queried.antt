@@ -5,7 +5,7 @@ use Rattle.std.specs.Prelude.{IsOk}
 use Rattle.eco_ids.specs.declared.entity.Entity.{Entity}
 use Rattle.eco_ids.specs.declared.refusal.Refusal.{Refusal}
 use Rattle.eco_ids.specs.declared.refusal.Refusal.TheVariants.{TooManyTerms}
-use Rattle.eco_grammar.specs.Grammar.{WrittenAtom, single, pair, WrittenBody, absent, optional, alternatives, WrittenSlot, IsAtom, AreMore, IsBody, AreSlots}
+use Rattle.eco_grammar.specs.Grammar.{WrittenAtom, single, pair, WrittenBody, absent, optional, alternatives, WrittenSlot, IsAtom, AreMore, IsBody, AreMoreSlots}
 use Rattle.eco_grammar.specs.Grammar.{SpellsSlots, SpellsQuery, IsProperAtom}
 use Rattle.eco_grammar.specs.Reader.Machine.{body_of}
 use Rattle.eco_grammar.specs.Reader.Points.{atom_view, is_bare_head}
@@ -44,7 +44,7 @@ body_proper size u v (optional x) (a, tok, is) = (atom_proper size a v x is, tt)
 body_proper size u v (alternatives []) s = absurd s
 body_proper size u v (alternatives (x ∷ xs)) (a, is, more) = (atom_proper size u a x is, more_proper size a v xs more)
 
-slots_proper : (size : ℕ) (u : List ℕ) (ss : List WrittenSlot) → AreSlots size u ss → AreProperSlots ss
+slots_proper : (size : ℕ) (u : List ℕ) (ss : List WrittenSlot) → AreMoreSlots size u ss → AreProperSlots ss
 slots_proper size u [] s = tt
 slots_proper size u (s ∷ ss) (a, b, tok, (c, access, body), more) = (body_proper size c b s.body body, slots_proper size b ss more)
 

@@ -5,7 +5,7 @@ use Rattle.eco_ids.specs.declared.entity.Entity.{Entity}
 use Rattle.eco_ids.specs.declared.refusal.Refusal.TheVariants.{Syntax}
 use Rattle.eco_grammar.specs.Grammar.{WrittenSlot, SpellsId, SpellsQuery, SpellsRef}
 use Rattle.eco_grammar.specs.Reader.Machine.{Point, advance, runs, move, end, Stops, id_start, query_start, ref_start}
-use Rattle.eco_grammar.specs.Readings.{ReadsAll, entity_at, id_of, query_of}
+use Rattle.eco_grammar.specs.Readings.{ReadsAll, entity_of_placed, id_of, query_of}
 use Rattle.eco_grammar.proofs.Rest.{Rest}
 use Rattle.eco_grammar.proofs.Runs.{read_out}
 use Rattle.eco_grammar.proofs.Spelled.{start_out, id_out, id_refused, query_fault, ref_out, ref_refused}
@@ -49,10 +49,10 @@ ended_or_stops p text = elim (through 0 p text) [
 ]
 
 module _ (entity_named : List ℕ → Option Entity) where
-  pub all_refs : ReadsAll SpellsRef (entity_at entity_named)
+  pub all_refs : ReadsAll SpellsRef (entity_of_placed entity_named)
   all_refs text = elim (ended_or_stops ref_start text) [
-    | inl (slots, rest) ↦ (let (r, s, e) = ref_out text slots rest in (entity_at entity_named r, inl (r, s, refl)))
-    | inr (n, stops) ↦ (Err (Syntax n), ref_refused (entity_at entity_named) text n stops)
+    | inl (slots, rest) ↦ (let (r, s, e) = ref_out text slots rest in (entity_of_placed entity_named r, inl (r, s, refl)))
+    | inr (n, stops) ↦ (Err (Syntax n), ref_refused (entity_of_placed entity_named) text n stops)
   ]
 
   pub all_ids : ReadsAll SpellsId (id_of entity_named)

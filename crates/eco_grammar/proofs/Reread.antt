@@ -14,10 +14,10 @@ use Rattle.eco_ids.specs.Terms as terms
 use Rattle.eco_ids.specs.Text.{entity_text, id_text, part_text, pattern_text}
 use Rattle.eco_query.specs.Canonical.{access_text, term_text, slot_text, query_text}
 use Rattle.eco_grammar.specs.Grammar.{WrittenPart, named, each, any, WrittenAtom, single, pair, WrittenBody, absent, optional, alternatives, WrittenSlot}
-use Rattle.eco_grammar.specs.Grammar.{IsPart, IsAtom, AreMore, IsBody, IsSlot, AreSlots, SpellsQuery}
+use Rattle.eco_grammar.specs.Grammar.{IsPart, IsAtom, AreMore, IsBody, IsSlot, AreMoreSlots, SpellsQuery}
 use Rattle.eco_query.specs.Queries.{QuerySlot, exactly, patterns_of, reads, IsPatternPart, IsPattern, IsTerm, IsQuery}
-use Rattle.eco_grammar.specs.Readings.{Reads, has_wildcard, is_lone_wildcard, id_of, ids_of, part_of, pattern_of, term_of_body, slots_of, query_of, ok_map}
-use Rattle.eco_grammar.specs.Readings.{atoms_of, count_atoms, misplaces_wildcard, is_positive}
+use Rattle.eco_grammar.specs.Readings.{Reads, has_wildcard, is_lone_wildcard, id_of, ids_of, part_of, pattern_of_atom, term_of_body, slots_of_written, query_of, ok_map}
+use Rattle.eco_grammar.specs.Readings.{atoms_of, count_atoms, misplaces_wildcard, is_positive_body}
 use Rattle.eco_grammar.specs.Tokens.{handle, IsWhite}
 use Rattle.eco_query.specs.declared.access.Access.{Access}
 use Rattle.eco_query.specs.declared.access.Access.TheVariants.{In, Out, InOut, InOutNone}
@@ -166,7 +166,7 @@ module _ (size : ℕ) where
       )
 
   slots_spelled : (ss : List QuerySlot) → AllByRecursion (λ s. IsTerm s.term) ss → length (more_text ss) ≤ size
-      → AreSlots size (more_text ss) (slots_written ss)
+      → AreMoreSlots size (more_text ss) (slots_written ss)
   slots_spelled [] h le = refl
   slots_spelled (s ∷ ss) (h, hs) le =
       let here : length (slot_text s ++ more_text ss) ≤ size = behind (codes ", ") (slot_text s ++ more_text ss) size le in (
@@ -225,7 +225,7 @@ module _ (size : ℕ) where
     part_means u Each = refl
     part_means u Any = refl
 
-    atom_means : (v : List ℕ) (p : Pattern) → pattern_of entity_named (atom_before v p) ≡ Ok p
+    atom_means : (v : List ℕ) (p : Pattern) → pattern_of_atom entity_named (atom_before v p) ≡ Ok p
     atom_means v (pattern.One e) = refl
     atom_means v (pattern.Two p q) =
         rw (part_means (part_text p ++ (codes ", " ++ (part_text q ++ (codes ")" ++ v)))) p, part_means (part_text q ++ (codes ")" ++ v)) q) refl
@@ -246,13 +246,13 @@ module _ (size : ℕ) where
     body_means v (terms.Or (i ∷ [])) (two, h) = absurd (omega arith)
     body_means v (terms.Or (i ∷ j ∷ is)) h = ap (ok_map (λ is. terms.Or is)) (ids_mean v (i ∷ j ∷ is))
 
-    slots_mean : (ss : List QuerySlot) → AllByRecursion (λ s. IsTerm s.term) ss → slots_of entity_named (slots_written ss) ≡ Ok ss
+    slots_mean : (ss : List QuerySlot) → AllByRecursion (λ s. IsTerm s.term) ss → slots_of_written entity_named (slots_written ss) ≡ Ok ss
     slots_mean [] h = refl
     slots_mean (s ∷ ss) (h, hs) = rw (body_means (more_text ss) s.term h, slots_mean ss hs) refl
 
 -- no refusal comes before the names
 query_known : (entity_named : List ℕ → Option Entity) (ws : List WrittenSlot) (ss : List QuerySlot) → nat_lt 32 (count_atoms ws) ≡ false
-    → list_any misplaces_wildcard ws ≡ false → list_any (λ s. is_positive s.body) ws ≡ true → slots_of entity_named ws ≡ Ok ss
+    → list_any misplaces_wildcard ws ≡ false → list_any (λ s. is_positive_body s.body) ws ≡ true → slots_of_written entity_named ws ≡ Ok ss
     → query_of entity_named ws ≡ Ok ss
 query_known entity_named ws ss count placed positive means = rw (count, placed, positive) means
 

@@ -5,11 +5,11 @@ use Rattle.eco_ids.proofs.Common.{length-append, ltb-true, lt-ltb, list_all, con
 use Rattle.eco_grammar.proofs.ByteTests.{name_parts, name_of_parts}
 use Rattle.eco_query.proofs.Booleans.{and_left, and_right, and_both}
 use Rattle.eco_grammar.specs.Tokens.{name, handle, is_white, is_digit}
-use Rattle.eco_grammar.specs.Reader.Machine.{grown, is_lone, Before, Role, whole, first, second, sole, takes_wildcard, Spot, slot, word, shut, body, atom, part}
+use Rattle.eco_grammar.specs.Reader.Machine.{with_digit, is_lone, Before, Role, whole, first, second, sole, takes_wildcard, Spot, slot, word, shut, body, atom, part}
 use Rattle.eco_grammar.specs.Reader.Machine.{behind, after, Point, at, letters, bar, name_of, hash, index, dot, generation, body_of, slots_with, others_with}
 use Rattle.eco_grammar.specs.Reader.Machine.{begun, part_of, is_front, access_of, part_or, atom_or, body_or, comma, behind_atom, enter, move_at, move}
 use Rattle.eco_grammar.specs.Grammar.{WrittenPart, named, each, any, WrittenAtom, single, pair, WrittenBody, absent, optional, alternatives, WrittenSlot, IsTok}
-use Rattle.eco_grammar.specs.Grammar.{IsPart, IsAtom, AreMore, IsBody, access_word, IsSlot, AreSlots}
+use Rattle.eco_grammar.specs.Grammar.{IsPart, IsAtom, AreMore, IsBody, access_word, IsSlot, AreMoreSlots}
 use Rattle.eco_query.specs.declared.access.Access.{Access}
 use Rattle.eco_query.specs.declared.access.Access.TheVariants.{In, Out, InOut, InOutNone}
 use Rattle.eco_grammar.specs.declared.point.Head.{Head}
@@ -28,10 +28,10 @@ module _ (size : ℕ) (r : List WrittenSlot) where
   -- ---- what the grammar wants behind each token
 
   abbrev pub After : Head → Before → WrittenAtom → List ℕ → Type 0
-  After Plain c x u = (ys : List WrittenAtom) × (v : List ℕ) × (ss : List WrittenSlot) × AreMore size u v ys × AreSlots size v ss
+  After Plain c x u = (ys : List WrittenAtom) × (v : List ℕ) × (ss : List WrittenSlot) × AreMore size u v ys × AreMoreSlots size v ss
       × (r ≡ c.slots ++ (record { access = c.access; body = alternatives (c.others ++ x ∷ ys) }) ∷ ss)
-  After Not c x u = (ss : List WrittenSlot) × AreSlots size u ss × (r ≡ c.slots ++ (record { access = c.access; body = absent x }) ∷ ss)
-  After Optional c x u = (ss : List WrittenSlot) × AreSlots size u ss × (r ≡ c.slots ++ (record { access = c.access; body = optional x }) ∷ ss)
+  After Not c x u = (ss : List WrittenSlot) × AreMoreSlots size u ss × (r ≡ c.slots ++ (record { access = c.access; body = absent x }) ∷ ss)
+  After Optional c x u = (ss : List WrittenSlot) × AreMoreSlots size u ss × (r ≡ c.slots ++ (record { access = c.access; body = optional x }) ∷ ss)
   After Alone c x u = (u ≡ []) × (r ≡ slots_with Alone c x)
 
   abbrev pub Second : Before → WrittenPart → WrittenPart → List ℕ → Type 0
@@ -97,7 +97,7 @@ module _ (size : ℕ) (r : List WrittenSlot) where
   atom_join c u (inl (p, v, s, f)) = (single p, v, s, f)
   atom_join c u (inr (a, left, (p, b, isp, (d, comma', (q, e, isq, (v, right, f)))))) = (pair p q, v, (a, b, d, e, left, isp, comma', isq, right), f)
 
-  body_split : (ss : List WrittenSlot) (a : Access) (k : WrittenBody) (more : List WrittenSlot) (u v : List ℕ) → IsBody size u v k → AreSlots size v more
+  body_split : (ss : List WrittenSlot) (a : Access) (k : WrittenBody) (more : List WrittenSlot) (u v : List ℕ) → IsBody size u v k → AreMoreSlots size v more
       → r ≡ ss ++ (record { access = a; body = k }) ∷ more → BodyThen ss a u
   body_split ss a (absent x) more u v (w, tok, s) slots e = inr (inl (w, tok, atom_split (begun ss a Not) x w v s (more, slots, e)))
   body_split ss a (optional x) more u v (w, tok, s) slots e = inr (inr (w, tok, atom_split (begun ss a Optional) x w v s (more, slots, e)))
@@ -106,7 +106,7 @@ module _ (size : ℕ) (r : List WrittenSlot) where
       inl (atom_split (begun ss a Plain) x u w s (xs, v, more, others, slots, e))
 
   body_join : (ss : List WrittenSlot) (a : Access) (u : List ℕ) → BodyThen ss a u
-      → (k : WrittenBody) × (v : List ℕ) × (more : List WrittenSlot) × IsBody size u v k × AreSlots size v more
+      → (k : WrittenBody) × (v : List ℕ) × (more : List WrittenSlot) × IsBody size u v k × AreMoreSlots size v more
       × (r ≡ ss ++ (record { access = a; body = k }) ∷ more)
   body_join ss a u (inl s) =
       let (x, w, isx, (xs, v, more, others, slots, e)) = atom_join (begun ss a Plain) u s in
@@ -116,7 +116,7 @@ module _ (size : ℕ) (r : List WrittenSlot) where
   body_join ss a u (inr (inr (w, tok, s))) =
       let (x, v, isx, (more, slots, e)) = atom_join (begun ss a Optional) w s in (optional x, v, more, (w, tok, isx), slots, e)
 
-  pub slot_split : (ss : List WrittenSlot) (s : WrittenSlot) (more : List WrittenSlot) (u v : List ℕ) → IsSlot size u v s → AreSlots size v more
+  pub slot_split : (ss : List WrittenSlot) (s : WrittenSlot) (more : List WrittenSlot) (u v : List ℕ) → IsSlot size u v s → AreMoreSlots size v more
       → r ≡ ss ++ s ∷ more
       → SlotThen ss u
   slot_split ss s more u v (w, inl (same, none), k) slots e =
@@ -126,7 +126,7 @@ module _ (size : ℕ) (r : List WrittenSlot) where
       inr (a, opens, (s.access, b, isw, (w, shuts, body_split ss s.access s.body more w v k slots e)))
 
   pub slot_join : (ss : List WrittenSlot) (u : List ℕ) → SlotThen ss u
-      → (s : WrittenSlot) × (v : List ℕ) × (more : List WrittenSlot) × IsSlot size u v s × AreSlots size v more × (r ≡ ss ++ s ∷ more)
+      → (s : WrittenSlot) × (v : List ℕ) × (more : List WrittenSlot) × IsSlot size u v s × AreMoreSlots size v more × (r ≡ ss ++ s ∷ more)
   slot_join ss u (inl t) =
       let (k, v, more, isk, slots, e) = body_join ss InOut u t in
       (record { access = InOut; body = k }, v, more, (u, inl (refl, refl), isk), slots, e)
@@ -134,7 +134,7 @@ module _ (size : ℕ) (r : List WrittenSlot) where
       let (k, v, more, isk, slots, e) = body_join ss access w t in
       (record { access = access; body = k }, v, more, (w, inr (a, b, opens, isw, shuts), isk), slots, e)
 
-  comma_in : (h : Head) (c : Before) (x : WrittenAtom) (b : ℕ) (u : List ℕ) (more : List WrittenSlot) → AreSlots size (b ∷ u) more
+  comma_in : (h : Head) (c : Before) (x : WrittenAtom) (b : ℕ) (u : List ℕ) (more : List WrittenSlot) → AreMoreSlots size (b ∷ u) more
       → r ≡ c.slots ++ (record { access = c.access; body = body_of h c.others x }) ∷ more → Sat (comma h c x b) (λ q. Rest q u)
   comma_in h c x b u [] e f = cc
   comma_in h c x b u (s ∷ ss) (a, v, tok, iss, slots) f =
@@ -147,7 +147,7 @@ module _ (size : ℕ) (r : List WrittenSlot) where
       )
 
   comma_out : (h : Head) (c : Before) (x : WrittenAtom) (b : ℕ) (u : List ℕ) → Sat (comma h c x b) (λ q. Rest q u)
-      → (more : List WrittenSlot) × AreSlots size (b ∷ u) more × (r ≡ c.slots ++ (record { access = c.access; body = body_of h c.others x }) ∷ more)
+      → (more : List WrittenSlot) × AreMoreSlots size (b ∷ u) more × (r ≡ c.slots ++ (record { access = c.access; body = body_of h c.others x }) ∷ more)
   comma_out h c x b u s =
       sat_if (b == 44) _ _ (λ q. Rest q u) _
       (λ e (a, tok, t).
@@ -425,7 +425,7 @@ module _ (size : ℕ) (r : List WrittenSlot) where
       let b_is : b ≡ k = p.0 in
       let (d, j', grows, rest) = digits_in 4294967295 i j k t run in
       if_sat (is_digit b) _ _ (λ q. Rest q u) (rw b_is d)
-      (subst (λ o'. Sat (option_and_then (λ j. Some (index o from j)) o') (λ q. Rest q u)) (sym (ap (grown 4294967295 i) b_is ∙ grows))
+      (subst (λ o'. Sat (option_and_then (λ j. Some (index o from j)) o') (λ q. Rest q u)) (sym (ap (with_digit 4294967295 i) b_is ∙ grows))
       (t, j, g, v, rest, least, p.1, f))
   move_in n (dot o from i) b u place (g, v, least, tok, f) =
       let (c, t, e, d, run) = number_front 65535 g (omega arith) (omega arith) in
@@ -436,7 +436,7 @@ module _ (size : ℕ) (r : List WrittenSlot) where
       let same : h ≡ g = cc in
       let s : Sat (move_at n (behind o (named from (handle i g))) b) (λ q. Rest q u) =
       skip_in n (behind o (named from (handle i g))) b u place (v, tok, rw (← same) f) in
-      elim (is_digit b) as (λ c. is_digit b ≡ c → Sat (if c then option_and_then (λ h. Some (generation o from i h)) (grown 65535 g b)
+      elim (is_digit b) as (λ c. is_digit b ≡ c → Sat (if c then option_and_then (λ h. Some (generation o from i h)) (with_digit 65535 g b)
       else move_at n (behind o (named from (handle i g))) b) (λ q. Rest q u)) [
         | true ↦ λ e. absurd (none_sat (move_at n (behind o (named from (handle i g))) b) (λ q. Rest q u)
             (word_stops n o (named from (handle i g)) b (digit_word b e)) s)
@@ -447,7 +447,7 @@ module _ (size : ℕ) (r : List WrittenSlot) where
       let b_is : b ≡ k = p.0 in
       let (d, j', grows, rest) = digits_in 65535 g h k t run in
       if_sat (is_digit b) _ _ (λ q. Rest q u) (rw b_is d)
-      (subst (λ o'. Sat (option_and_then (λ h. Some (generation o from i h)) o') (λ q. Rest q u)) (sym (ap (grown 65535 g) b_is ∙ grows))
+      (subst (λ o'. Sat (option_and_then (λ h. Some (generation o from i h)) o') (λ q. Rest q u)) (sym (ap (with_digit 65535 g) b_is ∙ grows))
       (t, h, v, rest, p.1, f))
 
   pub move_out : (n : ℕ) (p : Point) (b : ℕ) (u : List ℕ) → n + length (b ∷ u) ≡ size → Sat (move n p b) (λ q. Rest q u) → Rest p (b ∷ u)
@@ -482,7 +482,7 @@ module _ (size : ℕ) (r : List WrittenSlot) where
   move_out n (index o from i) b u place h =
       sat_if (is_digit b) _ _ (λ q. Rest q u) _
       (λ d h.
-      let (k, grows, (t, j, g, v, run, least, tok, f)) = some_out (grown 4294967295 i b) (λ j. index o from j) (λ q. Rest q u) h in
+      let (k, grows, (t, j, g, v, run, least, tok, f)) = some_out (with_digit 4294967295 i b) (λ j. index o from j) (λ q. Rest q u) h in
       (b ∷ t, j, g, v, digits_out 4294967295 i j b k t d grows run, least, tok_uncons b (t ++ (46 ∷ decimal g)) b u v refl tok, f))
       (λ _ h. sat_if (b == 46) _ _ (λ q. Rest q u) _
       (λ e (g, v, least, tok, f). ([], i, g, v, refl, least, tok_uncons 46 (decimal g) b u v (same_byte b 46 e) tok, f))
@@ -496,7 +496,7 @@ module _ (size : ℕ) (r : List WrittenSlot) where
   move_out n (generation o from i g) b u place h =
       sat_if (is_digit b) _ _ (λ q. Rest q u) _
       (λ d h.
-      let (k, grows, (t, j, v, run, tok, f)) = some_out (grown 65535 g b) (λ h. generation o from i h) (λ q. Rest q u) h in
+      let (k, grows, (t, j, v, run, tok, f)) = some_out (with_digit 65535 g b) (λ h. generation o from i h) (λ q. Rest q u) h in
       (b ∷ t, j, v, digits_out 65535 g j b k t d grows run, tok_uncons b t b u v refl tok, f))
       (λ _ h. let (v, tok, f) = skip_out n (behind o (named from (handle i g))) b u place h in
       ([], g, v, refl, tok, f)) h

@@ -2,7 +2,7 @@
 use Rattle.eco_ids.proofs.Common.{◌≡◌, ℕ, ◌+◌, List, [], ◌∷◌, ◌++◌, length, Some, None, codes, decimal, Option, option_map, option_and_then, sym, refl, ap, ◌∙◌}
 use Rattle.eco_ids.proofs.Common.{subst, inl, inr, append-nil, arith, length-append}
 use Rattle.eco_grammar.specs.Tokens.{name, handle}
-use Rattle.eco_grammar.specs.Grammar.{WrittenPart, named, each, any, WrittenAtom, single, WrittenSlot, IsTok, IsPart, access_word, AreSlots}
+use Rattle.eco_grammar.specs.Grammar.{WrittenPart, named, each, any, WrittenAtom, single, WrittenSlot, IsTok, IsPart, access_word, AreMoreSlots}
 use Rattle.eco_query.specs.declared.access.Access.{Access}
 use Rattle.eco_query.specs.declared.access.Access.TheVariants.{In, Out, InOut, InOutNone}
 use Rattle.eco_grammar.specs.declared.point.Head.{Head}
@@ -46,12 +46,12 @@ nil_parts [] b e = sym e
 nil_parts (x ∷ a) b e = cc
 
 module _ (size : ℕ) (r : List WrittenSlot) where
-  slots_end : (front more : List WrittenSlot) (s : WrittenSlot) → AreSlots size [] more → r ≡ front ++ s ∷ more → r ≡ front ++ s ∷ []
+  slots_end : (front more : List WrittenSlot) (s : WrittenSlot) → AreMoreSlots size [] more → r ≡ front ++ s ∷ more → r ≡ front ++ s ∷ []
   slots_end front [] s h e = e
   slots_end front (t ∷ more) s (a, b, tok, iss, h) e = absurd (tok_nil 44 [] a tok)
 
   after_end : (h : Head) (c : Before) (x : WrittenAtom) → After size r h c x [] → r ≡ slots_with h c x
-  after_end Plain c x ([], v, ss, same, slots, e) = slots_end c.slots ss _ (subst (λ v. AreSlots size v ss) (sym same) slots) e
+  after_end Plain c x ([], v, ss, same, slots, e) = slots_end c.slots ss _ (subst (λ v. AreMoreSlots size v ss) (sym same) slots) e
   after_end Plain c x (y ∷ ys, v, ss, (a, d, tok, isy, more), slots, e) = absurd (tok_nil 124 (codes "|") a tok)
   after_end Not c x (ss, slots, e) = slots_end c.slots ss _ slots e
   after_end Optional c x (ss, slots, e) = slots_end c.slots ss _ slots e

@@ -2,7 +2,7 @@
 use Rattle.eco_ids.proofs.Common.{◌≡◌, ℕ, ◌+◌, ◌-◌, ◌<◌, ◌≤◌, true, List, length, drop, nat_lt, slice_index, slice_range, Some, refl, arith, length-drop}
 use Rattle.eco_ids.proofs.Common.{nat_tests, length-take-le, may_follow}
 use Rattle.eco_grammar.specs.Tokens.{is_digit, is_white}
-use Rattle.eco_grammar.specs.Reader.Machine.{Point, Role, Spot, at, dot, generation, hash, index, name_of, grown, Reached}
+use Rattle.eco_grammar.specs.Reader.Machine.{Point, Role, Spot, at, dot, generation, hash, index, name_of, with_digit, Reached}
 use Rattle.eco_grammar.proofs.Loops.{reached_more}
 use Rattle.eco_grammar.proofs.Stuck.{slice_range_more}
 
@@ -18,7 +18,7 @@ module _ (text : List ℕ) (n : ℕ) (start : Point) where
       rw (slice_range_more text from n le lt)
       (reached_more start text n (name_of o from (slice_range text from n)) _ lt run (rw (is, fits) refl))
 
-  pub index_more : (o : Role) (from i j : ℕ) → n < length text → is_digit (slice_index text n) ≡ true → grown 4294967295 i (slice_index text n) ≡ Some j
+  pub index_more : (o : Role) (from i j : ℕ) → n < length text → is_digit (slice_index text n) ≡ true → with_digit 4294967295 i (slice_index text n) ≡ Some j
       → Reached start text n (index o from i) → Reached start text (n + 1) (index o from j)
   index_more o from i j lt is more run = reached_more start text n (index o from i) (index o from j) lt run (rw (is, more) refl)
 

@@ -11,7 +11,7 @@ use Rattle.eco_grammar.specs.Reader.Machine.{Point, Before, end, advance, runs, 
 use Rattle.eco_query.specs.declared.access.Access.TheVariants.{InOut}
 use Rattle.eco_grammar.specs.declared.point.Head.{Head}
 use Rattle.eco_grammar.specs.declared.point.Head.TheVariants.{Plain, Not, Optional, Alone}
-use Rattle.eco_grammar.specs.Readings.{Reads, SpellsOnce, ReadsOnce, entity_at, entity_of_part}
+use Rattle.eco_grammar.specs.Readings.{Reads, SpellsOnce, ReadsOnce, entity_of_placed, entity_of_part}
 use Rattle.eco_grammar.proofs.Rest.{Rest, slot_split, slot_join, atom_split, atom_join}
 use Rattle.eco_grammar.proofs.Runs.{read_out, rest_once}
 use Rattle.eco_grammar.proofs.Fault.{fault_at}
@@ -135,7 +135,7 @@ pub id_refused : {T : Type 0} (meaning : WrittenAtom → Result T Refusal) (text
 id_refused meaning text n s = inr (n, id_fault text n s, refl)
 
 pub ref_answered : (entity_named : List ℕ → Option Entity) (text : List ℕ) (p : WrittenPart) → EndsWith ref_start text (single p)
-    → Reads SpellsRef (entity_at entity_named) text (entity_of_part entity_named p)
+    → Reads SpellsRef (entity_of_placed entity_named) text (entity_of_part entity_named p)
 ref_answered entity_named text p e =
     let (r, s, same) = ref_ended text (single p) e in
     let part_is : p ≡ named r.at r.reference = cc in

@@ -5,7 +5,7 @@ use Rattle.eco_ids.proofs.Common.{ltb-true, lt-ltb, le-leb, leb-true, cond-false
 use Rattle.eco_grammar.proofs.ByteTests.{white_not_word, digit_is, is_digit_of, one_digit, more_digits}
 use Rattle.eco_query.proofs.Booleans.{and_left, and_right, and_both}
 use Rattle.std.proofs.lemmas.Fmt.{decimal_by_steps}
-use Rattle.eco_grammar.specs.Reader.Machine.{is_prefix, grown, Before, Role, whole, first, second, sole, Spot, slot, word, shut, body, atom, part, behind, after}
+use Rattle.eco_grammar.specs.Reader.Machine.{is_prefix, with_digit, Before, Role, whole, first, second, sole, Spot, slot, word, shut, body, atom, part, behind, after}
 use Rattle.eco_grammar.specs.Reader.Machine.{is_front, access_of, behind_atom, enter, move_at}
 use Rattle.eco_grammar.specs.Tokens.{is_white, is_digit}
 use Rattle.eco_grammar.specs.Grammar.{WrittenPart, WrittenAtom, single, IsTok, access_word}
@@ -144,16 +144,16 @@ some_out (Some x) f P s = (x, refl, s)
 -- digits behind a number, up to a bound
 abbrev pub digits : ℕ → ℕ → List ℕ → Option ℕ
 digits most i [] = Some i
-digits most i (b ∷ t) = if is_digit b then option_and_then (λ j. digits most j t) (grown most i b) else None
+digits most i (b ∷ t) = if is_digit b then option_and_then (λ j. digits most j t) (with_digit most i b) else None
 
 pub digits_in : (most i j k : ℕ) (t : List ℕ) → digits most i (k ∷ t) ≡ Some j
-    → (is_digit k ≡ true) × (n : ℕ) × (grown most i k ≡ Some n) × (digits most n t ≡ Some j)
+    → (is_digit k ≡ true) × (n : ℕ) × (with_digit most i k ≡ Some n) × (digits most n t ≡ Some j)
 digits_in most i j k t e = grind (arith, common_steps)
 
-pub digits_out : (most i j k n : ℕ) (t : List ℕ) → is_digit k ≡ true → grown most i k ≡ Some n → digits most n t ≡ Some j → digits most i (k ∷ t) ≡ Some j
+pub digits_out : (most i j k n : ℕ) (t : List ℕ) → is_digit k ≡ true → with_digit most i k ≡ Some n → digits most n t ≡ Some j → digits most i (k ∷ t) ≡ Some j
 digits_out most i j k n t d g e = cond-true (is_digit k) _ _ d ∙ ap (λ o. option_and_then (λ j. digits most j t) o) g ∙ e
 
-pub digits_more : (most i j k n : ℕ) (t : List ℕ) → digits most i t ≡ Some j → is_digit k ≡ true → grown most j k ≡ Some n
+pub digits_more : (most i j k n : ℕ) (t : List ℕ) → digits most i t ≡ Some j → is_digit k ≡ true → with_digit most j k ≡ Some n
     → digits most i (t ++ k ∷ []) ≡ Some n
 digits_more most i j k n [] e d g =
     let same : i ≡ j = cc in digits_out most i n k n [] d (rw same g) refl
@@ -172,7 +172,7 @@ number_front most n fits le =
     let same : 10 * (m / 10) + ((48 + m % 10) - 48) ≡ m = omega arith in
     let test : (nat_lt 0 (m / 10) && nat_le (10 * (m / 10) + ((48 + m % 10) - 48)) most) ≡ true =
     and_both _ _ (lt-ltb 0 (m / 10) pos) (le-leb (10 * (m / 10) + ((48 + m % 10) - 48)) most (omega arith)) in
-    let grows : grown most (m / 10) (48 + m % 10) ≡ Some m =
+    let grows : with_digit most (m / 10) (48 + m % 10) ≡ Some m =
     cond-true (nat_lt 0 (m / 10) && nat_le (10 * (m / 10) + ((48 + m % 10) - 48)) most) _ _ test ∙ ap (λ k. Some k) same in
     let (c, t, e, d, run) = ih (omega arith) in (
       c,
@@ -183,7 +183,7 @@ number_front most n fits le =
     ))
     n (omega arith) le
 
-pub grown_is : (most i k n : ℕ) → grown most i k ≡ Some n → (0 < i) × (n ≡ 10 * i + (k - 48)) × (n ≤ most)
+pub grown_is : (most i k n : ℕ) → with_digit most i k ≡ Some n → (0 < i) × (n ≡ 10 * i + (k - 48)) × (n ≤ most)
 grown_is most i k n e = grind (arith, common_steps, leb-true, and_right, ltb-true, and_left)
 
 pub number_more : (most i j : ℕ) (t : List ℕ) → most < 2 ^ 64 → i ≤ most → digits most i t ≡ Some j → (decimal i ++ t ≡ decimal j) × (j ≤ most)

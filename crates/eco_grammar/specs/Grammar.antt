@@ -73,16 +73,16 @@ abbrev pub IsSlot : ℕ → List ℕ → List ℕ → WrittenSlot → Type 0
 IsSlot size u v slot = (a : List ℕ) × IsAccess u a slot.access × IsBody size a v slot.body
 
 -- more slots, each behind a comma, up to the end
-abbrev pub AreSlots : ℕ → List ℕ → List WrittenSlot → Type 0
-AreSlots size u [] = u ≡ []
-AreSlots size u (s ∷ ss) = (a : List ℕ) × (b : List ℕ)
-    × IsTok (codes ",") u a × IsSlot size a b s × AreSlots size b ss
+abbrev pub AreMoreSlots : ℕ → List ℕ → List WrittenSlot → Type 0
+AreMoreSlots size u [] = u ≡ []
+AreMoreSlots size u (s ∷ ss) = (a : List ℕ) × (b : List ℕ)
+    × IsTok (codes ",") u a × IsSlot size a b s × AreMoreSlots size b ss
 
 -- white space, then a slot, then more
 abbrev pub SpellsSlots : ℕ → List ℕ → List WrittenSlot → Type 0
 SpellsSlots size text [] = ⊥
 SpellsSlots size text (s ∷ ss) = (a : List ℕ) × (b : List ℕ)
-    × IsTok [] text a × IsSlot size a b s × AreSlots size b ss
+    × IsTok [] text a × IsSlot size a b s × AreMoreSlots size b ss
 
 -- the text spells these slots
 abbrev pub SpellsQuery : List ℕ → List WrittenSlot → Type 0

@@ -45,12 +45,12 @@ found_at at (Some e) = Ok e
 found_at at None = Err (UnknownName at)
 
 -- a handle means itself, living or not; a name the entity that has it
-abbrev pub entity_of : (List ℕ → Option Entity) → ℕ → Reference → Result Entity Refusal
-entity_of entity_named at (name n) = found_at at (entity_named n)
-entity_of entity_named at (handle i g) = Ok (record { index = i; generation = g })
+abbrev pub entity_of_reference : (List ℕ → Option Entity) → ℕ → Reference → Result Entity Refusal
+entity_of_reference entity_named at (name n) = found_at at (entity_named n)
+entity_of_reference entity_named at (handle i g) = Ok (record { index = i; generation = g })
 
-abbrev pub entity_at : (List ℕ → Option Entity) → PlacedReference → Result Entity Refusal
-entity_at entity_named r = entity_of entity_named r.at r.reference
+abbrev pub entity_of_placed : (List ℕ → Option Entity) → PlacedReference → Result Entity Refusal
+entity_of_placed entity_named r = entity_of_reference entity_named r.at r.reference
 
 abbrev pub is_wildcard : WrittenPart → Bool
 is_wildcard (named at r) = false
@@ -59,7 +59,7 @@ is_wildcard any = true
 
 -- a wildcard names no entity
 abbrev pub entity_of_part : (List ℕ → Option Entity) → WrittenPart → Result Entity Refusal
-entity_of_part entity_named (named at r) = entity_of entity_named at r
+entity_of_part entity_named (named at r) = entity_of_reference entity_named at r
 entity_of_part entity_named each = Err WildcardHere
 entity_of_part entity_named any = Err WildcardHere
 
@@ -92,14 +92,14 @@ id_of entity_named (pair p q) =
 
 -- a part of a pair's pattern
 abbrev pub part_of : (List ℕ → Option Entity) → WrittenPart → Result Part Refusal
-part_of entity_named (named at r) = ok_map (λ e. Is e) (entity_of entity_named at r)
+part_of entity_named (named at r) = ok_map (λ e. Is e) (entity_of_reference entity_named at r)
 part_of entity_named each = Ok Each
 part_of entity_named any = Ok Any
 
 -- the pattern of an atom: wildcards stand in pairs alone
-abbrev pub pattern_of : (List ℕ → Option Entity) → WrittenAtom → Result Pattern Refusal
-pattern_of entity_named (single p) = ok_map (λ e. pattern.One e) (entity_of_part entity_named p)
-pattern_of entity_named (pair p q) =
+abbrev pub pattern_of_atom : (List ℕ → Option Entity) → WrittenAtom → Result Pattern Refusal
+pattern_of_atom entity_named (single p) = ok_map (λ e. pattern.One e) (entity_of_part entity_named p)
+pattern_of_atom entity_named (pair p q) =
     ok_both (λ r t. pattern.Two r t) (part_of entity_named p) (part_of entity_named q)
 
 -- ---- queries
@@ -131,10 +131,10 @@ misplaces_wildcard s = misplaces s.body where
   misplaces (alternatives (x ∷ y ∷ xs)) = list_any has_wildcard (x ∷ y ∷ xs)
 
 -- the slot asks for something that is there
-abbrev pub is_positive : WrittenBody → Bool
-is_positive (absent x) = false
-is_positive (optional x) = false
-is_positive (alternatives xs) = true
+abbrev pub is_positive_body : WrittenBody → Bool
+is_positive_body (absent x) = false
+is_positive_body (optional x) = false
+is_positive_body (alternatives xs) = true
 
 abbrev pub ids_of : (List ℕ → Option Entity) → List WrittenAtom → Result (List Id) Refusal
 ids_of entity_named [] = Ok []
@@ -142,19 +142,19 @@ ids_of entity_named (x ∷ xs) = ok_both (λ i is. i ∷ is) (id_of entity_named
 
 -- what a body asks
 abbrev pub term_of_body : (List ℕ → Option Entity) → WrittenBody → Result QueryTerm Refusal
-term_of_body entity_named (absent x) = ok_map (λ p. terms.Not p) (pattern_of entity_named x)
+term_of_body entity_named (absent x) = ok_map (λ p. terms.Not p) (pattern_of_atom entity_named x)
 term_of_body entity_named (optional x) = ok_map (λ i. terms.Optional i) (id_of entity_named x)
 term_of_body entity_named (alternatives []) = Ok (terms.Or [])
-term_of_body entity_named (alternatives (x ∷ [])) = ok_map (λ p. terms.And p) (pattern_of entity_named x)
+term_of_body entity_named (alternatives (x ∷ [])) = ok_map (λ p. terms.And p) (pattern_of_atom entity_named x)
 term_of_body entity_named (alternatives (x ∷ y ∷ xs)) =
     ok_map (λ is. terms.Or is) (ids_of entity_named (x ∷ y ∷ xs))
 
-abbrev pub slot_of : (List ℕ → Option Entity) → WrittenSlot → Result QuerySlot Refusal
-slot_of entity_named s = ok_map (λ a. record { access = s.access; term = a }) (term_of_body entity_named s.body)
+abbrev pub slot_of_written : (List ℕ → Option Entity) → WrittenSlot → Result QuerySlot Refusal
+slot_of_written entity_named s = ok_map (λ a. record { access = s.access; term = a }) (term_of_body entity_named s.body)
 
-abbrev pub slots_of : (List ℕ → Option Entity) → List WrittenSlot → Result (List QuerySlot) Refusal
-slots_of entity_named [] = Ok []
-slots_of entity_named (s ∷ ss) = ok_both (λ t ts. t ∷ ts) (slot_of entity_named s) (slots_of entity_named ss)
+abbrev pub slots_of_written : (List ℕ → Option Entity) → List WrittenSlot → Result (List QuerySlot) Refusal
+slots_of_written entity_named [] = Ok []
+slots_of_written entity_named (s ∷ ss) = ok_both (λ t ts. t ∷ ts) (slot_of_written entity_named s) (slots_of_written entity_named ss)
 
 -- the query of some slots, or the first that holds: too many atoms, a wildcard where none may stand, nothing
 -- asked for, an unknown name
@@ -162,8 +162,8 @@ abbrev pub query_of : (List ℕ → Option Entity) → List WrittenSlot → Resu
 query_of entity_named slots =
     if nat_lt 32 (count_atoms slots) then Err TooManyTerms
     else (if list_any misplaces_wildcard slots then Err WildcardHere
-    else (if not (list_any (λ s. is_positive s.body) slots) then Err NoPositive
-    else slots_of entity_named slots))
+    else (if not (list_any (λ s. is_positive_body s.body) slots) then Err NoPositive
+    else slots_of_written entity_named slots))
 
 -- an answer, or that memory for what would be answered is wanting
 abbrev pub InMemory : {T : Type 0} → Result T Refusal → Result T Refusal → Type 0

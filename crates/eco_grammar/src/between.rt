@@ -2,7 +2,7 @@
 ghost use Rattle.std.specs.Prelude.{◌≡◌, true, ◌+◌, ◌<◌, length, Option, IfSome, option_map, slice_index};
 ghost use Rattle.eco_grammar.specs.Reader.Machine as machine;
 ghost use Rattle.eco_grammar.specs.Reader.Machine.{part_or};
-ghost use Rattle.eco_grammar.specs.Reader.Points.{Draft, IsBegunAt, KeepsSlots, is_bare, is_bare_head, is_bare_role, is_bare_spot, atom_view, before_view, marked, or_point, role_view, spot_view, step_view};
+ghost use Rattle.eco_grammar.specs.Reader.Points.{Draft, IsBegunAt, KeepsSlots, is_bare, is_bare_head, is_bare_role, is_bare_spot, atom_view, before_view, marked, or_point, role_view, spot_view, point_of_step};
 
 use crate::classes::{is_name_start, is_white_space};
 use crate::point::{Head, Mark, Point, Role, Spot, Step};
@@ -40,7 +40,7 @@ pub fn behind_atom<'a>(
     requires within { at < length text.now }
     ensures begun { IfSome result (λ s. IsBegunAt (at + 1) s.point) }
     ensures slots { IfSome result (KeepsSlots (is_bare_head head)) }
-    ensures step { (d : Draft) → option_map (step_view text.now (at + 1) d) result
+    ensures step { (d : Draft) → option_map (point_of_step text.now (at + 1) d) result
         ≡ machine.behind_atom head (before_view d access head) (atom_view atom.entry)
         (slice_index text.now at) }
 {
@@ -96,7 +96,7 @@ pub fn behind_part<'a>(
     requires within { at < length text.now }
     ensures begun { IfSome result (λ s. IsBegunAt (at + 1) s.point) }
     ensures slots { IfSome result (KeepsSlots (is_bare_role role.entry)) }
-    ensures step { (d : Draft) → option_map (step_view text.now (at + 1) d) result
+    ensures step { (d : Draft) → option_map (point_of_step text.now (at + 1) d) result
         ≡ machine.enter at (spot_view d (Spot.Behind role.entry part.entry)) (slice_index text.now at) }
 {
     let byte = text[at];
@@ -129,7 +129,7 @@ fn begin_slot<'a>(text: &'a [u8], at: usize) -> Option<Step<'a>>
     requires within { at < length text.now }
     ensures begun { IfSome result (λ s. IsBegunAt (at + 1) s.point) }
     ensures slots { IfSome result (KeepsSlots true) }
-    ensures step { (d : Draft) → option_map (step_view text.now (at + 1) d) result
+    ensures step { (d : Draft) → option_map (point_of_step text.now (at + 1) d) result
         ≡ machine.enter at (machine.slot d.slots) (slice_index text.now at) }
 {
     if text[at] == b'[' {
@@ -144,7 +144,7 @@ fn begin_word<'a>(text: &'a [u8], at: usize) -> Option<Step<'a>>
     requires within { at < length text.now }
     ensures begun { IfSome result (λ s. IsBegunAt (at + 1) s.point) }
     ensures slots { IfSome result (KeepsSlots true) }
-    ensures step { (d : Draft) → option_map (step_view text.now (at + 1) d) result
+    ensures step { (d : Draft) → option_map (point_of_step text.now (at + 1) d) result
         ≡ machine.enter at (machine.word d.slots) (slice_index text.now at) }
 {
     if matches!(text[at], b'i' | b'o' | b'n') {
@@ -159,7 +159,7 @@ fn shut_access<'a>(text: &'a [u8], at: usize, access: Access) -> Option<Step<'a>
     requires within { at < length text.now }
     ensures begun { IfSome result (λ s. IsBegunAt (at + 1) s.point) }
     ensures slots { IfSome result (KeepsSlots true) }
-    ensures step { (d : Draft) → option_map (step_view text.now (at + 1) d) result
+    ensures step { (d : Draft) → option_map (point_of_step text.now (at + 1) d) result
         ≡ machine.enter at (machine.shut d.slots access) (slice_index text.now at) }
 {
     if text[at] == b']' {
@@ -174,7 +174,7 @@ pub fn enter<'a>(text: &'a [u8], at: usize, spot: Spot<'a>) -> Option<Step<'a>>
     requires within { at < length text.now }
     ensures begun { IfSome result (λ s. IsBegunAt (at + 1) s.point) }
     ensures slots { IfSome result (KeepsSlots (is_bare_spot spot.entry)) }
-    ensures step { (d : Draft) → option_map (step_view text.now (at + 1) d) result
+    ensures step { (d : Draft) → option_map (point_of_step text.now (at + 1) d) result
         ≡ machine.enter at (spot_view d spot.entry) (slice_index text.now at) }
 {
     match spot {
@@ -194,7 +194,7 @@ pub fn move_at<'a>(text: &'a [u8], at: usize, spot: Spot<'a>) -> Option<Step<'a>
     requires within { at < length text.now }
     ensures begun { IfSome result (λ s. IsBegunAt (at + 1) s.point) }
     ensures slots { IfSome result (KeepsSlots (is_bare_spot spot.entry)) }
-    ensures step { (d : Draft) → option_map (step_view text.now (at + 1) d) result
+    ensures step { (d : Draft) → option_map (point_of_step text.now (at + 1) d) result
         ≡ machine.move_at at (spot_view d spot.entry) (slice_index text.now at) }
 {
     if is_white_space(text[at]) {

@@ -3,7 +3,7 @@ ghost use Rattle.std.specs.Prelude.{◌≡◌, ◌⊎◌, ◌≤◌, [], ◌∷�
 ghost use Rattle.std.specs.List.{list_any};
 ghost use Rattle.eco_grammar.specs.Readings as reading;
 ghost use Rattle.eco_query.specs.Queries.{slot_view};
-ghost use Rattle.eco_grammar.specs.Readings.{InMemory, count_atoms, is_positive, query_of, slots_of};
+ghost use Rattle.eco_grammar.specs.Readings.{InMemory, count_atoms, is_positive_body, query_of, slots_of_written};
 ghost use Rattle.eco_grammar.specs.Reader.Marks as term;
 ghost use Rattle.eco_grammar.specs.Reader.LastTerms.{IsLast, left_over, term_with};
 ghost use Rattle.eco_grammar.specs.Reader.Marks.{AreProperMarks, AreWhole, slots_from};
@@ -45,7 +45,7 @@ fn misplaces_wildcard(marks: &[Mark<'_>]) -> bool
 
 /// Whether an atom ends a slot that asks for something that is there.
 fn asks(mark: Mark<'_>) -> bool
-    ensures { result ≡ term.asks mark.entry }
+    ensures { result ≡ term.ends_positive mark.entry }
 {
     match mark {
         Mark::Slot(_, head, _) => match head {
@@ -59,7 +59,7 @@ fn asks(mark: Mark<'_>) -> bool
 /// Whether some slot asks for something that is there.
 #[tactic(auto, using(crate::proofs::Built::positive_found, crate::proofs::Built::positive_none))]
 fn has_positive(marks: &[Mark<'_>]) -> bool
-    ensures { result ≡ list_any (λ s. is_positive s.body) (slots_from [] marks.now) }
+    ensures { result ≡ list_any (λ s. is_positive_body s.body) (slots_from [] marks.now) }
 {
     for mark in marks {
         if asks(*mark) {
@@ -73,8 +73,9 @@ fn has_positive(marks: &[Mark<'_>]) -> bool
 fn check_names<N: Names>(marks: &[Mark<'_>], names: &N) -> Result<(), Refusal>
     requires whole { AreWhole marks.now }
     requires proper { AreProperMarks marks.now }
-    ensures known { OnOk result (IsOk (slots_of (N.entity_named names.now) (slots_from [] marks.now))) }
-    ensures unknown { IfErr result (λ e. slots_of (N.entity_named names.now) (slots_from [] marks.now)
+    ensures known { OnOk result (IsOk
+        (slots_of_written (N.entity_named names.now) (slots_from [] marks.now))) }
+    ensures unknown { IfErr result (λ e. slots_of_written (N.entity_named names.now) (slots_from [] marks.now)
         ≡ Err e) }
 {
     let mut grouped = false;
@@ -121,9 +122,9 @@ fn build_query<N: Names>(alloc: Global, marks: &[Mark<'_>], names: &N) -> Result
     requires whole { AreWhole marks.now }
     requires proper { AreProperMarks marks.now }
     requires few { count_atoms (slots_from [] marks.now) ≤ 32 }
-    requires positive { IsTrue (list_any (λ s. is_positive s.body) (slots_from [] marks.now)) }
+    requires positive { IsTrue (list_any (λ s. is_positive_body s.body) (slots_from [] marks.now)) }
     ensures { (result ≡ Err Refusal.OutOfMemory)
-        ⊎ (result ≡ slots_of (N.entity_named names.now) (slots_from [] marks.now)) }
+        ⊎ (result ≡ slots_of_written (N.entity_named names.now) (slots_from [] marks.now)) }
 {
     let mut slots = Vec::new(alloc);
     let mut group = Vec::new(alloc);

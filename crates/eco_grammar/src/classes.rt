@@ -2,7 +2,7 @@
 ghost use Rattle.std.specs.Prelude.{◌≡◌, ◌-◌, true, Option, None, Some, if◌then◌else◌};
 ghost use Rattle.eco_ids.specs.Names.{may_begin, may_follow};
 ghost use Rattle.eco_grammar.specs.Tokens.{is_white, is_digit};
-ghost use Rattle.eco_grammar.specs.Reader.Machine.{grown};
+ghost use Rattle.eco_grammar.specs.Reader.Machine.{with_digit};
 
 pub fn is_white_space(byte: u8) -> bool
     ensures { result ≡ is_white byte }
@@ -42,7 +42,7 @@ pub fn digit(byte: u8) -> Option<u8>
 /// A number with one more digit, if that is no digit behind a lone 0 and the number stays within a bound.
 pub fn grow(most: u32, number: u32, digit: u8) -> Option<u32>
     requires { is_digit digit ≡ true }
-    ensures { result ≡ grown most number digit }
+    ensures { result ≡ with_digit most number digit }
 {
     let next = u64::from(number) * 10 + u64::from(digit - b'0');
     if number > 0 && next <= u64::from(most) {

@@ -4,7 +4,7 @@ ghost use Rattle.eco_ids.specs.declared.entity.Entity.{Entity};
 ghost use Rattle.eco_query.specs.Canonical.{query_text};
 ghost use Rattle.eco_grammar.specs.Grammar.{SpellsId, SpellsQuery, SpellsRef};
 ghost use Rattle.eco_query.specs.Queries.{IsQuery, QuerySlot};
-ghost use Rattle.eco_grammar.specs.Readings.{Reads, ReadsAll, ReadsOnce, SpellsOnce, entity_at, id_of, query_of};
+ghost use Rattle.eco_grammar.specs.Readings.{Reads, ReadsAll, ReadsOnce, SpellsOnce, entity_of_placed, id_of, query_of};
 
 use eco_query::Query;
 
@@ -18,7 +18,7 @@ pub fn texts_spell_once()
 /// Under any names a text is answered in one way at most: as what it spells, or as one refusal with one place.
 pub fn texts_read_once()
     ensures reference { (entity_named : List ℕ → Option Entity)
-        → ReadsOnce SpellsRef (entity_at entity_named) }
+        → ReadsOnce SpellsRef (entity_of_placed entity_named) }
     ensures id { (entity_named : List ℕ → Option Entity) → ReadsOnce SpellsId (id_of entity_named) }
     ensures query { (entity_named : List ℕ → Option Entity) → ReadsOnce SpellsQuery (query_of entity_named) }
 {}
@@ -26,7 +26,7 @@ pub fn texts_read_once()
 /// Under any names each text is answered in some way: as what it spells, or as a refusal with a place.
 pub fn texts_are_read()
     ensures reference { (entity_named : List ℕ → Option Entity)
-        → ReadsAll SpellsRef (entity_at entity_named) }
+        → ReadsAll SpellsRef (entity_of_placed entity_named) }
     ensures id { (entity_named : List ℕ → Option Entity) → ReadsAll SpellsId (id_of entity_named) }
     ensures query { (entity_named : List ℕ → Option Entity) → ReadsAll SpellsQuery (query_of entity_named) }
 {}

@@ -1,6 +1,6 @@
 //! Reads references, ids and queries.
 ghost use Rattle.eco_grammar.specs.Grammar.{SpellsId, SpellsQuery, SpellsRef};
-ghost use Rattle.eco_grammar.specs.Readings.{Reads, ReadsInMemory, entity_at, id_of, query_of};
+ghost use Rattle.eco_grammar.specs.Readings.{Reads, ReadsInMemory, entity_of_placed, id_of, query_of};
 
 use crate::build::query_from;
 use crate::names::Names;
@@ -19,7 +19,7 @@ use std::alloc::Global;
 /// - `Syntax`, where the text isn't a reference, with the length in bytes of its longest beginning of one;
 /// - `UnknownName`, where no entity has the name, with the byte place where the name begins.
 pub fn read_ref<N: Names>(text: &str, names: &N) -> Result<Entity, Refusal>
-    ensures { Reads SpellsRef (entity_at (N.entity_named names.now)) text.now result }
+    ensures { Reads SpellsRef (entity_of_placed (N.entity_named names.now)) text.now result }
 {
     match scan_atom(text.as_bytes(), Spot::Part(Role::Sole)) {
         Ok(WrittenAtom::Single(part)) => part.entity(names),

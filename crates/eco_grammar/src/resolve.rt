@@ -2,7 +2,7 @@
 ghost use Rattle.std.specs.Prelude.{◌≡◌, ℕ};
 ghost use Rattle.eco_grammar.specs.Grammar.{IsProper, IsProperAtom, IsProperPart};
 ghost use Rattle.eco_grammar.specs.Reader.Points.{atom_view, part_view, reference_view};
-ghost use Rattle.eco_grammar.specs.Readings.{entity_of, entity_of_part, has_wildcard, id_of, is_lone_wildcard, is_wildcard, part_of, pattern_of};
+ghost use Rattle.eco_grammar.specs.Readings.{entity_of_reference, entity_of_part, has_wildcard, id_of, is_lone_wildcard, is_wildcard, part_of, pattern_of_atom};
 
 use crate::names::Names;
 use crate::written::{Reference, WrittenAtom, WrittenPart};
@@ -12,7 +12,7 @@ impl Reference<'_> {
     /// A handle means itself, living or not. The place is where the name begins, for its refusal.
     pub fn entity<N: Names>(self, at: usize, names: &N) -> Result<Entity, Refusal>
         requires { IsProper (reference_view self) }
-        ensures { result ≡ entity_of (N.entity_named names.now) at (reference_view self.entry) }
+        ensures { result ≡ entity_of_reference (N.entity_named names.now) at (reference_view self.entry) }
     {
         match self {
             Reference::Name(name) => {
@@ -98,7 +98,7 @@ impl WrittenAtom<'_> {
     /// The pattern of an atom: wildcards stand in pairs alone.
     pub fn pattern<N: Names>(self, names: &N) -> Result<Pattern, Refusal>
         requires { IsProperAtom (atom_view self) }
-        ensures { result ≡ pattern_of (N.entity_named names.now) (atom_view self.entry) }
+        ensures { result ≡ pattern_of_atom (N.entity_named names.now) (atom_view self.entry) }
     {
         match self {
             WrittenAtom::Single(part) => Ok(Pattern::One(part.entity(names)?)),

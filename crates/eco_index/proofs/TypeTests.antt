@@ -12,7 +12,7 @@ use Rattle.eco_ids.specs.Matching.{pattern_matches}
 use Rattle.eco_ids.specs.Order.{entity_eq, names_entity}
 use Rattle.eco_ids.proofs.Ascending.{first, second}
 use Rattle.eco_ids.proofs.Overlaps.{entity_eq_itself, entity_eq_is}
-use Rattle.eco_index.specs.TypeTests.{names_any, AreNeeded, each_alone, group_at, matches_each, matches_one, naming}
+use Rattle.eco_index.specs.TypeTests.{type_names, AreNeeded, each_alone, group_at, matches_each, type_matches_one, naming}
 use Rattle.eco_index.specs.IdIndex.{any_matches}
 use Rattle.eco_index.proofs.Keys.{and_true, or_false}
 
@@ -21,17 +21,17 @@ same_truth true b f g = sym (f refl)
 same_truth false true f g = g refl
 same_truth false false f g = refl
 
-one_pattern : (p : Pattern) (ids : List Id) → matches_one (p ∷ []) ids ≡ list_any (pattern_matches p) ids
+one_pattern : (p : Pattern) (ids : List Id) → type_matches_one (p ∷ []) ids ≡ list_any (pattern_matches p) ids
 one_pattern p ids = or_false (any_matches ids p)
 
 -- of a test with one group
-pub one_group : (test : List Id → Bool) (ps : List Pattern) → ((ids : List Id) → matches_one ps ids ≡ test ids) → AreNeeded test (ps ∷ [])
+pub one_group : (test : List Id → Bool) (ps : List Pattern) → ((ids : List Id) → type_matches_one ps ids ≡ test ids) → AreNeeded test (ps ∷ [])
 one_group test ps is ids passes zero d within = is ids ∙ passes
 one_group test ps is ids passes (suc k) d within = absurd (omega (arith, within))
 
 -- what its patterns find passes
-pub only_group : (test : List Id → Bool) (ps : List Pattern) (k : ℕ) (ids : List Id) → ((ids : List Id) → matches_one ps ids ≡ test ids)
-    → k < length (ps ∷ []) → matches_one (group_at (ps ∷ []) k) ids ≡ true → true ≡ test ids
+pub only_group : (test : List Id → Bool) (ps : List Pattern) (k : ℕ) (ids : List Id) → ((ids : List Id) → type_matches_one ps ids ≡ test ids)
+    → k < length (ps ∷ []) → type_matches_one (group_at (ps ∷ []) k) ids ≡ true → true ≡ test ids
 only_group test ps zero ids is within found = sym (sym (is ids) ∙ found)
 only_group test ps (suc k) ids is within found = absurd (omega (arith, within))
 
@@ -55,7 +55,7 @@ shuffled false false true false true z = refl
 shuffled false false true false false z = refl
 shuffled false false false x y z = refl
 
-pub names_match : (e : Entity) (ids : List Id) → matches_one (naming e) ids ≡ names_any ids e
+pub names_match : (e : Entity) (ids : List Id) → type_matches_one (naming e) ids ≡ type_names ids e
 names_match e [] = refl
 names_match e (i ∷ ids) =
     shuffled (pattern_matches (One e) i) (pattern_matches (Two (Is e) Any) i) (pattern_matches (Two Any (Is e)) i)

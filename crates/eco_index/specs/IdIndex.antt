@@ -24,11 +24,6 @@ matches_id i p = pattern_matches p i
 abbrev pub any_matches : List Id → Pattern → Bool
 any_matches ids p = list_any (pattern_matches p) ids
 
--- the pattern that an id alone matches
-abbrev pub exactly : Id → Pattern
-exactly (id.One e) = One e
-exactly (id.Two r t) = Two (Is r) (Is t)
-
 -- which slots are listed under each pattern
 abbrev pub Lists : Type 0
 Lists = Pattern → ℕ → Bool

@@ -17,16 +17,16 @@ abbrev pub KeepsNumbers : Numbers → Numbers → Type 0
 KeepsNumbers old new = (n : ℕ) → 0 < number_at old n → 0 < number_at new n
 
 -- the mark of the key's entity for what it is in the key; a pair goes by its target
-abbrev pub mark_of : Marks → Key → ℕ
-mark_of m (Single e) = number_at m.singles e.index
-mark_of m (Pair r t) = number_at m.pairs t.index
-mark_of m (Relationship r) = number_at m.relationships r.index
-mark_of m (Target t) = number_at m.targets t.index
-mark_of m AnyPair = m.any_pair
+abbrev pub key_mark : Marks → Key → ℕ
+key_mark m (Single e) = number_at m.singles e.index
+key_mark m (Pair r t) = number_at m.pairs t.index
+key_mark m (Relationship r) = number_at m.relationships r.index
+key_mark m (Target t) = number_at m.targets t.index
+key_mark m AnyPair = m.any_pair
 
 -- the key has a mark
 abbrev pub may_be_kept : Marks → Key → Bool
-may_be_kept m k = nat_lt 0 (mark_of m k)
+may_be_kept m k = nat_lt 0 (key_mark m k)
 
 -- what might be kept still may
 abbrev pub KeepsMarks : Marks → Marks → Type 0

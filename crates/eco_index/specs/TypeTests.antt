@@ -10,8 +10,8 @@ use Rattle.eco_ids.specs.Order.{names_entity}
 use Rattle.eco_index.specs.IdIndex.{any_matches}
 
 -- one of the ids matches one of the patterns
-abbrev pub matches_one : List Pattern → List Id → Bool
-matches_one ps ids = list_any (any_matches ids) ps
+abbrev pub type_matches_one : List Pattern → List Id → Bool
+type_matches_one ps ids = list_any (any_matches ids) ps
 
 -- each of the patterns matches one of the ids
 abbrev pub matches_each : List Pattern → List Id → Bool
@@ -31,15 +31,15 @@ IsPlace groups k place = (k < length groups) × (place < length (group_at groups
 
 -- each type that passes has, for each group, an id that one of its patterns matches
 abbrev pub AreNeeded : (List Id → Bool) → List (List Pattern) → Type 0
-AreNeeded test groups = (ids : List Id) → IsTrue (test ids) → All (λ ps. IsTrue (matches_one ps ids)) groups
+AreNeeded test groups = (ids : List Id) → IsTrue (test ids) → All (λ ps. IsTrue (type_matches_one ps ids)) groups
 
 -- the type passes, and one of the patterns matches one of its ids
 abbrev pub passes_with : (List Id → Bool) → List Pattern → List Id → Bool
-passes_with test ps ids = matches_one ps ids && test ids
+passes_with test ps ids = type_matches_one ps ids && test ids
 
 -- the type passes, and none of the patterns matches one of its ids
 abbrev pub passes_without : (List Id → Bool) → List Pattern → List Id → Bool
-passes_without test ps ids = not (matches_one ps ids) && test ids
+passes_without test ps ids = not (type_matches_one ps ids) && test ids
 
 -- the patterns of all ids that name an entity
 abbrev pub naming : Entity → List Pattern
@@ -50,5 +50,5 @@ abbrev pub each_alone : List Pattern → List (List Pattern)
 each_alone ps = map (λ p. p ∷ []) ps
 
 -- an id of the type names the entity
-abbrev pub names_any : List Id → Entity → Bool
-names_any ids f = list_any (λ i. names_entity i f) ids
+abbrev pub type_names : List Id → Entity → Bool
+type_names ids f = list_any (λ i. names_entity i f) ids

@@ -186,12 +186,7 @@ fn take_back(lists: &mut Vec<IndexMap<Id, usize, Seed>>, own: &mut IndexMap<Id, 
 }
 
 // No edge leads from the slot or to it. It takes no memory.
-fn cut_all(
-    alloc: Global,
-    seed: Seed,
-    lists: &mut Vec<IndexMap<Id, usize, Seed>>,
-    slot: usize,
-)
+fn cut_all(alloc: Global, seed: Seed, lists: &mut Vec<IndexMap<Id, usize, Seed>>, slot: usize)
     requires { IsTwofold lists.old.items }
     ensures { Cuts lists.old.items lists.new.items slot }
 {

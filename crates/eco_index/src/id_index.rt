@@ -10,7 +10,8 @@ ghost use Rattle.eco_ids.specs.declared.pattern.Pattern.{Pattern as Patterns};
 ghost use Rattle.eco_ids.specs.declared.id.Id.TheVariants.{Two};
 ghost use Rattle.eco_index.specs.Marks.{AreMarked};
 ghost use Rattle.eco_index.specs.IdIndex.{KeepsNoEmpty, same_key, ListsNone, ListsSame, Turns, HasTurned, KeepsRest, own_count};
-ghost use Rattle.eco_index.specs.IdIndex.{has_key, has_one, is_listed, keys_of, matches_id, any_matches, exactly};
+ghost use Rattle.eco_query.specs.Queries.{exactly};
+ghost use Rattle.eco_index.specs.IdIndex.{has_key, has_one, is_listed, keys_of, matches_id, any_matches};
 
 use crate::id_index::key::Key;
 use crate::id_index::marks::Marks;

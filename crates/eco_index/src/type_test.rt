@@ -5,7 +5,7 @@ ghost use Rattle.eco_ids.specs.Matching.{pattern_matches};
 ghost use Rattle.eco_query.specs.Queries.{matches_type};
 ghost use Rattle.eco_ids.specs.declared.id.Id.{Id as Ids};
 ghost use Rattle.eco_ids.specs.declared.pattern.Pattern.{Pattern as Patterns};
-ghost use Rattle.eco_index.specs.TypeTests.{names_any, AreNeeded, IsPlace, each_alone, group_at, matches_each, matches_one, naming};
+ghost use Rattle.eco_index.specs.TypeTests.{type_names, AreNeeded, IsPlace, each_alone, group_at, matches_each, type_matches_one, naming};
 
 use eco_ids::{Entity, Part, Pattern, TypeList};
 use eco_query::Query;
@@ -44,7 +44,7 @@ pub trait TypeTest {
     /// Whether a type passes that a pattern of the group has found. A test that has nothing left to ask then says so.
     fn passes_found(&self, group: usize, type_list: &TypeList) -> bool
         requires group { group < length (groups self.now) }
-        requires found { IsTrue (matches_one (group_at (groups self.now) group) type_list.now) }
+        requires found { IsTrue (type_matches_one (group_at (groups self.now) group) type_list.now) }
         ensures { result ≡ test self.now type_list.now }
     {
         let _group = group;
@@ -94,7 +94,7 @@ pub struct Naming {
 }
 
 impl TypeTest for Naming {
-    ghost test = { λ n ids. names_any ids n.entity };
+    ghost test = { λ n ids. type_names ids n.entity };
 
     ghost groups = { λ n. naming n.entity ∷ [] };
 

@@ -16,13 +16,13 @@ named_by e None = entity_text e
 named_by e (Some name) = name
 
 -- an entity by its name: `Heron` or `#10.0`
-abbrev pub named : WorldState → Entity → List ℕ
-named w e = named_by e (own_name w e)
+abbrev pub printed_name : WorldState → Entity → List ℕ
+printed_name w e = named_by e (own_name w e)
 
 -- an id by the names of its entities: `Ship` or `(MooredAt, Quay)`
 abbrev pub named_id : WorldState → Id → List ℕ
-named_id w (One e) = named w e
-named_id w (Two r t) = codes "(" ++ named w r ++ codes ", " ++ named w t ++ codes ")"
+named_id w (One e) = printed_name w e
+named_id w (Two r t) = codes "(" ++ printed_name w r ++ codes ", " ++ printed_name w t ++ codes ")"
 
 -- a name, behind a space
 abbrev pub name_behind : Option (List ℕ) → List ℕ

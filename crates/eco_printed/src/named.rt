@@ -1,6 +1,6 @@
 //! Entities and ids by their names.
 ghost use Rattle.std.specs.Prelude.{Some};
-ghost use Rattle.eco_printed.specs.Printed.{named, named_id};
+ghost use Rattle.eco_printed.specs.Printed.{printed_name, named_id};
 
 use eco_ids::{Entity, Id};
 use eco_world::World;
@@ -14,7 +14,7 @@ struct Named<'a> {
 }
 
 impl fmt::Display for Named<'_> {
-    ghost output = { λ n. Some (named n.world.now n.entity) };
+    ghost output = { λ n. Some (printed_name n.world.now n.entity) };
 
     fn fmt<W: fmt::Write>(&self, f: &mut fmt::Formatter<W>) -> fmt::Result {
         let entity = self.entity;

@@ -14,8 +14,8 @@ use Rattle.eco_ids.specs.World.{WorldState}
 use Rattle.eco_query.specs.Queries.{QuerySlot}
 use Rattle.eco_systems.specs.declared.phase.Phase.{Phase}
 use Rattle.eco_systems.specs.Frames.{BatchRuns}
-use Rattle.eco_bodies.specs.Actions.{first_refusal, is_kill, script_writes}
-use Rattle.eco_bodies.specs.Added.{IsAdded, add_refusal, is_named}
+use Rattle.eco_bodies.specs.Actions.{first_action_refusal, is_kill, script_writes}
+use Rattle.eco_bodies.specs.Added.{IsAdded, add_refusal, has_system_named}
 use Rattle.eco_bodies.specs.Bodies.{system_with}
 use Rattle.eco_bodies.specs.Scripts.{script_commands, script_taken}
 use Rattle.eco_bodies.specs.declared.action.Action.{Action}
@@ -27,22 +27,22 @@ use Rattle.eco_frame.specs.declared.stop.FrameStop.{FrameStop}
 use Rattle.eco_steps.specs.Actions as texts
 use Rattle.eco_steps.specs.Steps as step
 use Rattle.eco_script.specs.References.{ReadsQuery}
-use Rattle.eco_script.specs.Replies.{done, frame_reply, unless, Declares, ReadsSystem, StepReplies}
+use Rattle.eco_script.specs.Replies.{done, frame_reply, unless, DeclaresSystem, ReadsSystem, StepReplies}
 use Rattle.eco_script.specs.States.{NamedSystem, ScriptState, is_declared, name_refusal, script_system}
-use Rattle.eco_script.specs.Systems.{model_by, named, reached, recorded_by, taken_by, IsBody, ReadsBody}
+use Rattle.eco_script.specs.Systems.{model_by, named, reached, recorded_by, handles_taken, IsScriptOf, ReadsBody}
 
 -- ---- bodies
 
 -- what is said of a script that was made is what it is
 pub body_of : (slots : List QuerySlot) (acts : List Action) (r : Result Script Refusal) → IsFalse (is_out_of_memory r)
-    → MatchOption (first_refusal slots acts) (IfErr r (λ why. why ≡ OutOfMemory)) (λ why. r ≡ Err why)
+    → MatchOption (first_action_refusal slots acts) (IfErr r (λ why. why ≡ OutOfMemory)) (λ why. r ≡ Err why)
     → IfOk r (λ s. s.actions.items ≡ acts) → IfOk r (λ s. s.writes.items ≡ script_writes slots acts) → IfOk r (λ s. s.kills ≡ list_any is_kill acts)
-    → MatchOption (first_refusal slots acts) (IsOkAnd r (IsBody slots acts)) (λ why. r ≡ Err why)
-body_of slots acts r plain refused a w k = which (first_refusal slots acts) r plain refused a w k where
+    → MatchOption (first_action_refusal slots acts) (IsOkAnd r (IsScriptOf slots acts)) (λ why. r ≡ Err why)
+body_of slots acts r plain refused a w k = which (first_action_refusal slots acts) r plain refused a w k where
   which : (o : Option Refusal) (r : Result Script Refusal) → IsFalse (is_out_of_memory r)
       → MatchOption o (IfErr r (λ why. why ≡ OutOfMemory)) (λ why. r ≡ Err why)
       → IfOk r (λ s. s.actions.items ≡ acts) → IfOk r (λ s. s.writes.items ≡ script_writes slots acts) → IfOk r (λ s. s.kills ≡ list_any is_kill acts)
-      → MatchOption o (IsOkAnd r (IsBody slots acts)) (λ why. r ≡ Err why)
+      → MatchOption o (IsOkAnd r (IsScriptOf slots acts)) (λ why. r ≡ Err why)
   which (Some why) r plain refused a w k = refused
   which None (Ok s) plain refused a w k = record { actions_are = a; writes_are = w; kills_are = k }
   which None (Err why) plain refused a w k = wanted why plain refused where
@@ -51,20 +51,20 @@ body_of slots acts r plain refused a w k = which (first_refusal slots acts) r pl
 
 -- nothing but this is said of a script that was not made
 refused_unless : {A : Type 0} (slots : List QuerySlot) (acts : List Action) (o : Option Refusal) (why : Refusal) (r : Result Script Refusal)
-    (x y : Result A Refusal) → r ≡ Err why → y ≡ Err why → MatchOption o (IsOkAnd r (IsBody slots acts)) (λ other. r ≡ Err other) → y ≡ unless o x
+    (x y : Result A Refusal) → r ≡ Err why → y ≡ Err why → MatchOption o (IsOkAnd r (IsScriptOf slots acts)) (λ other. r ≡ Err other) → y ≡ unless o x
 refused_unless slots acts None why (Ok b) x y is at fits = cc
 refused_unless slots acts None why (Err e) x y is at fits = absurd fits
 refused_unless slots acts (Some other) why r x y is at fits = let same : why ≡ other = cc in at ∙ ap Err same
 
 fitting : (slots : List QuerySlot) (acts : List Action) (o : Option Refusal) (body : Script) (r : Result Script Refusal) → r ≡ Ok body
-    → MatchOption o (IsOkAnd r (IsBody slots acts)) (λ why. r ≡ Err why) → (o ≡ None) × IsBody slots acts body
+    → MatchOption o (IsOkAnd r (IsScriptOf slots acts)) (λ why. r ≡ Err why) → (o ≡ None) × IsScriptOf slots acts body
 fitting slots acts (Some why) body r is fits = cc
 fitting slots acts None body (Err why) is fits = absurd fits
-fitting slots acts None body (Ok b) is fits = let same : b ≡ body = cc in (refl, subst (IsBody slots acts) same fits)
+fitting slots acts None body (Ok b) is fits = let same : b ≡ body = cc in (refl, subst (IsScriptOf slots acts) same fits)
 
 -- ---- names
 
-named_so : (systems : List (System Script)) (name : List ℕ) → is_declared (map named systems) name ≡ is_named systems name
+named_so : (systems : List (System Script)) (name : List ℕ) → is_declared (map named systems) name ≡ has_system_named systems name
 named_so [] name = refl
 named_so (s ∷ ss) name = ap (λ b. is_text (string_bytes s.name) name || b) (named_so ss name)
 
@@ -91,41 +91,41 @@ shaped s name phase slots acts writes kills n p q a w k =
 module _ (w : WorldState) (old : List (System Script)) (name : List ℕ) (phase : Phase) (text : List ℕ) (acts : List texts.Action) where
   -- one of the texts was refused, or memory was wanting
   pub refused_system : (why : Refusal) → (IsFalse (is_out_of_memory {A = NamedSystem} (Err why)) → ReadsSystem (reached w old) name phase text acts (Err why))
-      → Declares (reached w old) name phase text acts (Err why) (reached w old)
+      → DeclaresSystem (reached w old) name phase text acts (Err why) (reached w old)
   refused_system OutOfMemory read = (refl, refl)
   refused_system why read = (Err why, read refl, refl, refl)
 
-  pub refused_query : (why : Refusal) → ReadsQuery w text (Err why) → Declares (reached w old) name phase text acts (Err why) (reached w old)
+  pub refused_query : (why : Refusal) → ReadsQuery w text (Err why) → DeclaresSystem (reached w old) name phase text acts (Err why) (reached w old)
   refused_query why read = refused_system why (λ plain. (Err why, read, refl))
 
   module _ (slots : List QuerySlot) (query : ReadsQuery w text (Ok slots)) where
     body_refused : (why : Refusal) → ReadsBody w slots acts (Err why) → ReadsSystem (reached w old) name phase text acts (Err why)
     body_refused why (Err other, read, is) = let same : why ≡ other = cc in (Ok slots, query, (Err other, read, ap Err same))
     body_refused why (Ok these, read, fits) =
-        (Ok slots, query, (Ok these, read, refused_unless slots these (first_refusal slots these) why (Err why) _ (Err why) refl refl fits))
+        (Ok slots, query, (Ok these, read, refused_unless slots these (first_action_refusal slots these) why (Err why) _ (Err why) refl refl fits))
 
     pub refused_body : (why : Refusal) → (IsFalse (is_out_of_memory {A = Script} (Err why)) → ReadsBody w slots acts (Err why))
-        → Declares (reached w old) name phase text acts (Err why) (reached w old)
+        → DeclaresSystem (reached w old) name phase text acts (Err why) (reached w old)
     refused_body OutOfMemory read = (refl, refl)
     refused_body why read = (Err why, body_refused why (read refl), refl, refl)
 
     -- what the texts name, where its name is refused or not
     named_of : (body : Script) (o : Option Refusal) → add_refusal old name ≡ o → ReadsBody w slots acts (Ok body)
-        → (these : List Action) × IsBody slots these body
+        → (these : List Action) × IsScriptOf slots these body
         × ReadsSystem (reached w old) name phase text acts (unless o (Ok (script_system name phase slots these)))
     named_of body o at (Err why, read, is) = cc
     named_of body o at (Ok these, read, fits) =
-        let (none, made) = fitting slots these (first_refusal slots these) body (Ok body) refl fits in
+        let (none, made) = fitting slots these (first_action_refusal slots these) body (Ok body) refl fits in
         let same : name_refusal (map named old) name ≡ o = refusal_so old name ∙ at in
         (these, made, (Ok slots, query, (Ok these, read, rw (none, same) refl)))
 
     -- its name was refused, or memory was wanting
     pub refused_name : (body : Script) (why : Refusal) → ReadsBody w slots acts (Ok body)
         → MatchOption (add_refusal old name) (why ≡ OutOfMemory) (λ other. why ≡ other)
-        → Declares (reached w old) name phase text acts (Err why) (reached w old)
+        → DeclaresSystem (reached w old) name phase text acts (Err why) (reached w old)
     refused_name body why read refused = which (add_refusal old name) refl refused where
       which : (o : Option Refusal) → add_refusal old name ≡ o → MatchOption o (why ≡ OutOfMemory) (λ other. why ≡ other)
-          → Declares (reached w old) name phase text acts (Err why) (reached w old)
+          → DeclaresSystem (reached w old) name phase text acts (Err why) (reached w old)
       which None at is = rw is (refl, refl)
       which (Some other) at is =
           rw is (refused_system other (λ _. (named_of body (Some other) at read).2))
@@ -133,10 +133,10 @@ module _ (w : WorldState) (old : List (System Script)) (name : List ℕ) (phase 
     -- it was added
     pub added_system : (body : Script) (new : List (System Script)) → ReadsBody w slots acts (Ok body)
         → MatchOption (add_refusal old name) ⊤ (λ _. ⊥) → IsAdded old name phase slots body new
-        → Declares (reached w old) name phase text acts (Ok done) (reached w new)
+        → DeclaresSystem (reached w old) name phase text acts (Ok done) (reached w new)
     added_system body new read none (s, is, n, p, q, b) = which (add_refusal old name) refl none where
       which : (o : Option Refusal) → add_refusal old name ≡ o → MatchOption o ⊤ (λ _. ⊥)
-          → Declares (reached w old) name phase text acts (Ok done) (reached w new)
+          → DeclaresSystem (reached w old) name phase text acts (Ok done) (reached w new)
       which (Some why) at none = absurd none
       which None at none =
           let (these, made, names) = named_of body None at read in
@@ -156,7 +156,7 @@ models_so (s ∷ ss) = ap (λ ms. model_by s ∷ ms) (models_so ss)
 
 -- a frame of the systems that are kept is one of those that were declared
 pub frame_runs : (w new : WorldState) (systems : List (System Script)) (x : Result FrameDone FrameStop)
-    → Frames BatchRuns w (map model_by systems) x new → IfErr x (λ stop. IsWhy taken_by recorded_by model_by w systems stop new)
+    → Frames BatchRuns w (map model_by systems) x new → IfErr x (λ stop. IsWhy handles_taken recorded_by model_by w systems stop new)
     → StepReplies (reached w systems) step.frame (Ok (frame_reply x)) (reached new systems)
 frame_runs w new systems (Ok r) runs why = (Ok r, inl (rw (models_so systems) runs, why, refl), refl)
 frame_runs w new systems (Err stop) runs why = (Err stop, inl (rw (models_so systems) runs, (systems, refl, why), refl), refl)

@@ -19,18 +19,18 @@ use Rattle.eco_ids.specs.Terms.{QueryTerm}
 use Rattle.eco_ids.specs.World.{WorldState, entities, is_alive, with_entities}
 use Rattle.eco_grammar.specs.Grammar.{SpellsId, SpellsQuery, SpellsRef}
 use Rattle.eco_query.specs.Queries.{QuerySlot}
-use Rattle.eco_grammar.specs.Readings.{Reads, ReadsInMemory, ReadsOnce, entity_at, id_of, ok_both, ok_map, query_of}
+use Rattle.eco_grammar.specs.Readings.{Reads, ReadsInMemory, ReadsOnce, entity_of_placed, id_of, ok_both, ok_map, query_of}
 use Rattle.eco_systems.specs.declared.phase.Phase.{Phase}
 use Rattle.eco_bodies.specs.declared.action.Action.{Action}
 use Rattle.eco_script.specs.Laws.{is_frame}
-use Rattle.eco_script.specs.Recording.{Names, ReadsAction, ReadsActions, ReadsCommand, ReadsCommands, ReadsEach, has_stages}
+use Rattle.eco_script.specs.Recording.{MakesOfNamed, ReadsAction, ReadsActions, ReadsCommand, ReadsCommands, ReadsEach, has_stages}
 use Rattle.eco_script.specs.References.{ReadsBoth, ReadsEntity, ReadsId, ReadsQuery}
-use Rattle.eco_script.specs.Replies.{Reply, done, merged, shown, replied, with_declared, AnswersAdded, Calls, Declares, On, OnCommands, OnEntity, OnId}
+use Rattle.eco_script.specs.Replies.{Reply, done, merged, shown, replied, with_declared, AnswersAdded, Calls, DeclaresSystem, On, OnCommands, OnEntity, OnId}
 use Rattle.eco_script.specs.Replies.{OnQuery, ReadsSystem}
 use Rattle.eco_script.specs.Replies.{Replies, StepReplies, Then}
 use Rattle.eco_script.specs.States.{NamedSystem, ScriptState}
 use Rattle.eco_steps.specs.Actions as texts
-use Rattle.eco_steps.specs.Commands.{Command}
+use Rattle.eco_steps.specs.Commands.{WrittenCommand}
 use Rattle.eco_steps.specs.Commands as command
 use Rattle.eco_steps.specs.Steps as step
 use Rattle.eco_stages.specs.Outcomes.{Outcomes}
@@ -101,7 +101,7 @@ plainly Step one r q new other f g p h =
     one r q new other (neither_is (is_out_of_memory r) _ f).0 (neither_is (is_out_of_memory q) _ g).0 p h
 
 names_once : {A C : Type 0} (Reads : Result A Refusal → Type 0) (make : A → C) → ((n m : Result A Refusal) → Reads n → Reads m → n ≡ m)
-    → (r q : Result C Refusal) → Names Reads make r → Names Reads make q → r ≡ q
+    → (r q : Result C Refusal) → MakesOfNamed Reads make r → MakesOfNamed Reads make q → r ≡ q
 names_once Reads make one r q (x, p, is) (y, h, at) = is ∙ ap (ok_map make) (one x y p h) ∙ sym at
 
 -- texts that are each read in one way at most
@@ -124,7 +124,7 @@ module _ {T C : Type 0} (One : T → Result C Refusal → Type 0) where
 
 -- the laws of what the steps stand on
 pub record Laws : Type 0 where
-  pub refs : (entity_named : List ℕ → Option Entity) → ReadsOnce SpellsRef (entity_at entity_named)
+  pub refs : (entity_named : List ℕ → Option Entity) → ReadsOnce SpellsRef (entity_of_placed entity_named)
   pub ids : (entity_named : List ℕ → Option Entity) → ReadsOnce SpellsId (id_of entity_named)
   pub queries : (entity_named : List ℕ → Option Entity) → ReadsOnce SpellsQuery (query_of entity_named)
   pub create : (name : Option (List ℕ)) → HasOneEnd (λ w. Creates w name)
@@ -179,7 +179,7 @@ module _ (l : Laws) where
     both_once e i n m (x, y, p, q, is) (u, v, h, k, at) =
         is ∙ ap (λ a. ok_both (λ s t. (s, t)) a y) (entity_once e x u p h) ∙ ap (λ b. ok_both (λ s t. (s, t)) u b) (id_once i y v q k) ∙ sym at
 
-    command_once : (c : Command) (r q : Result run.Command Refusal) → ReadsCommand w c r → ReadsCommand w c q → r ≡ q
+    command_once : (c : WrittenCommand) (r q : Result run.Command Refusal) → ReadsCommand w c r → ReadsCommand w c q → r ≡ q
     command_once (command.create e) = names_once _ _ (entity_once e)
     command_once (command.add e i) = names_once _ _ (both_once e i)
     command_once (command.remove e i) = names_once _ _ (both_once e i)
@@ -190,7 +190,7 @@ module _ (l : Laws) where
     command_once (command.delete_with i) = names_once _ _ (id_once i)
     command_once (command.remove_all i) = names_once _ _ (id_once i)
 
-    commands_once : (cs : List Command) (r q : Result (List run.Command) Refusal) → ReadsCommands w cs r → ReadsCommands w cs q → r ≡ q
+    commands_once : (cs : List WrittenCommand) (r q : Result (List run.Command) Refusal) → ReadsCommands w cs r → ReadsCommands w cs q → r ≡ q
     commands_once = each_once (ReadsCommand w) command_once
 
     action_once : (a : texts.Action) (r q : Result Action Refusal) → ReadsAction w a r → ReadsAction w a q → r ≡ q
@@ -227,7 +227,7 @@ module _ (l : Laws) where
         (subst (λ z. IsFalse (has_wanted z)) at g) one two in
         (is ∙ ap (replied merged) same ∙ sym at, end)
 
-    merge_once : (n : ℕ) (ss : List (List Command)) (may : Bool)
+    merge_once : (n : ℕ) (ss : List (List WrittenCommand)) (may : Bool)
         → OnceInMemory (Meets (OnCommands w (flat_map (λ s. s) ss) (λ cs. Calls (Merges w n cs) merged)) may w)
     merge_once n ss may r q new other f g p h =
         let (f0, fs) = neither_is (is_out_of_memory r) _ f in
@@ -316,7 +316,7 @@ module _ (l : Laws) (s : ScriptState) where
       (λ slots. then_once (ReadsActions s.world acts) _ (λ n m _ _ a b. actions_once l s.world acts n m a b)
       (λ named r q _ _ is at. is ∙ sym at))
 
-  declares_once : (name : List ℕ) (phase : Phase) (text : List ℕ) (acts : List texts.Action) → Once (Declares s name phase text acts)
+  declares_once : (name : List ℕ) (phase : Phase) (text : List ℕ) (acts : List texts.Action) → Once (DeclaresSystem s name phase text acts)
   declares_once name phase text acts r q new other f g p h =
       let (x, one, is, a) = rw f at p in
       let (y, two, at, b) = rw g at h in

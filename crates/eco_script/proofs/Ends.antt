@@ -26,7 +26,7 @@ use Rattle.eco_ids.specs.Terms.{QueryTerm}
 use Rattle.eco_ids.specs.World.{WorldState, has, names_living, is_alive, living, entities, with_entities}
 use Rattle.eco_grammar.specs.Grammar.{SpellsId, SpellsQuery, SpellsRef}
 use Rattle.eco_query.specs.Queries.{QuerySlot}
-use Rattle.eco_grammar.specs.Readings.{ReadsAll, entity_at, id_of, query_of}
+use Rattle.eco_grammar.specs.Readings.{ReadsAll, entity_of_placed, id_of, query_of}
 use Rattle.eco_frame.specs.declared.stop.FrameStop.{FrameStop}
 use Rattle.eco_script.specs.States.{ScriptState}
 use Rattle.eco_script.specs.References.{ReadsEntity, ReadsId, ReadsQuery}
@@ -172,7 +172,7 @@ of_world old s (r, new, p) = (r, record { world = new; systems = old.systems }, 
 
 -- under any names each text is answered in some way
 pub record TextsRead : Type 0 where
-  pub refs : (entity_named : List ℕ → Option Entity) → ReadsAll SpellsRef (entity_at entity_named)
+  pub refs : (entity_named : List ℕ → Option Entity) → ReadsAll SpellsRef (entity_of_placed entity_named)
   pub ids : (entity_named : List ℕ → Option Entity) → ReadsAll SpellsId (id_of entity_named)
   pub queries : (entity_named : List ℕ → Option Entity) → ReadsAll SpellsQuery (query_of entity_named)
 

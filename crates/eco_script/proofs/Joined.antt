@@ -5,7 +5,7 @@ use Rattle.std.proofs.lemmas.List.{flat_map_more, take_all, take_more}
 use Rattle.std.specs.Fmt.{HasWritten}
 use Rattle.std.specs.declared.fmt.Formatter.{Formatter}
 use Rattle.eco_ids.specs.declared.id.Id.{Id}
-use Rattle.eco_script.specs.Lines.{held_text, joined}
+use Rattle.eco_script.specs.Lines.{held_text, joined_by_commas}
 use Rattle.eco_script.specs.Values.{Shown}
 
 pub same_held : (i j : Id) (v w : Option Shown) → i ≡ j → v ≡ w → held_text i v ≡ held_text j w
@@ -26,7 +26,7 @@ module _ {W : Type 0} (took : W → List ℕ → W → Type 0) {A : Type 0} (tex
 
   -- the first and all behind it
   pub all_joined : (f g h : Formatter W) (all : List A) (x : A) (xs : List A) (n : ℕ) (t : List ℕ) → all ≡ x ∷ xs → length xs ≤ n → t ≡ text x
-      → HasWritten took f t g → HasWritten took g (behind (take n xs)) h → HasWritten took f (joined text all) h
+      → HasWritten took f t g → HasWritten took g (behind (take n xs)) h → HasWritten took f (joined_by_commas text all) h
   all_joined f g h all x xs n t are end is first rest =
-      put_two took f g h t (behind (take n xs)) (joined text all) first rest
-      (ap (λ s. s ++ behind (take n xs)) is ∙ ap (λ ys. text x ++ behind ys) (take_all n xs end) ∙ ap (joined text) (sym are))
+      put_two took f g h t (behind (take n xs)) (joined_by_commas text all) first rest
+      (ap (λ s. s ++ behind (take n xs)) is ∙ ap (λ ys. text x ++ behind ys) (take_all n xs end) ∙ ap (joined_by_commas text) (sym are))

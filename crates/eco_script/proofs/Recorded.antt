@@ -11,7 +11,7 @@ use Rattle.eco_ids.specs.Outcome.{is_out_of_memory, Meets}
 use Rattle.eco_ids.specs.Run as run
 use Rattle.eco_ids.specs.World.{WorldState}
 use Rattle.eco_grammar.specs.Readings.{ok_map}
-use Rattle.eco_steps.specs.Commands.{Command}
+use Rattle.eco_steps.specs.Commands.{WrittenCommand}
 use Rattle.eco_steps.specs.Steps as step
 use Rattle.eco_stages.specs.Outcomes.{Outcomes}
 use Rattle.eco_world.specs.Merging.{Merges, may_merge}
@@ -81,7 +81,7 @@ module _ {T C : Type 0} (One : T → Result C Refusal → Type 0) where
         subst (λ ds. ReadsEach One ds (Err why)) (take-append-drop (k + 1) cs) (reads_refused (take (k + 1) cs) (drop (k + 1) cs) why front)
 
 module _ (w : WorldState) where
-  module _ (ss : List (List Command)) (k : ℕ) (s : List Command) (xs : List run.Command) (at : slice_get ss k ≡ Some s)
+  module _ (ss : List (List WrittenCommand)) (k : ℕ) (s : List WrittenCommand) (xs : List run.Command) (at : slice_get ss k ≡ Some s)
       (read : ReadsCommands w (flat_map (λ t. t) (take k ss)) (Ok xs)) where
     stage_read : (r : Result (List run.Command) Refusal) → ReadsCommands w s r
         → ReadsCommands w (flat_map (λ t. t) (take (k + 1) ss)) (ok_map (λ ys. xs ++ ys) r)
@@ -103,25 +103,25 @@ module _ (w : WorldState) where
         (reads_refused (ReadsCommand w) (flat_map (λ t. t) (take (k + 1) ss)) (flat_map (λ t. t) (drop (k + 1) ss)) why (stage_read (Err why) p))
 
   -- there is a stage where one stands at a place
-  pub stages_there : (ss : List (List Command)) (i : ℕ) → i < length ss → IsTrue (has_stages ss)
+  pub stages_there : (ss : List (List WrittenCommand)) (i : ℕ) → i < length ss → IsTrue (has_stages ss)
   stages_there [] i there = absurd (omega (arith, there))
   stages_there (s ∷ ss) i there = refl
 
   -- a text was refused, or memory was wanting for what is recorded
-  pub refused_merge : (n : ℕ) (ss : List (List Command)) (why : Refusal)
+  pub refused_merge : (n : ℕ) (ss : List (List WrittenCommand)) (why : Refusal)
       → (IsFalse (is_out_of_memory {A = List run.Command} (Err why)) → ReadsCommands w (flat_map (λ s. s) ss) (Err why))
       → (IsTrue (is_out_of_memory {A = List run.Command} (Err why)) → IsTrue (has_stages ss)) → Replies w (step.merge n ss) (Err why) w
   refused_merge n ss OutOfMemory read wanting = let there = wanting refl in (rw there refl, refl)
   refused_merge n ss why read wanting = (Err why, read refl, (refl, refl))
 
   -- where there is no stage there is no command
-  wants_no_more : (n : ℕ) (ss : List (List Command)) (cs : List run.Command) → ReadsCommands w (flat_map (λ s. s) ss) (Ok cs)
+  wants_no_more : (n : ℕ) (ss : List (List WrittenCommand)) (cs : List run.Command) → ReadsCommands w (flat_map (λ s. s) ss) (Ok cs)
       → IsTrue (may_merge w n cs) → IsTrue (has_stages ss || may_merge w n [])
   wants_no_more n (s ∷ ss) cs read may = refl
   wants_no_more n [] cs read may = let q : cs ≡ [] = cc in rw q at may
 
   -- all texts were read, and the merge was made
-  pub made_merge : (n : ℕ) (ss : List (List Command)) (cs : List run.Command) (r : Result Outcomes Refusal) (new : WorldState)
+  pub made_merge : (n : ℕ) (ss : List (List WrittenCommand)) (cs : List run.Command) (r : Result Outcomes Refusal) (new : WorldState)
       → ReadsCommands w (flat_map (λ s. s) ss) (Ok cs) → Meets (Merges w n cs) (may_merge w n cs) w r new → Replies w (step.merge n ss) (replied merged r) new
   made_merge n ss cs (Ok outcomes) new read met = (Ok cs, read, (Ok outcomes, met, refl))
   made_merge n ss cs (Err OutOfMemory) new read (may, same) = (wants_no_more n ss cs read may, same)

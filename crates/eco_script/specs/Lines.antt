@@ -6,9 +6,9 @@ use Rattle.eco_ids.specs.Text.{entity_text, id_text, value_text}
 use Rattle.eco_script.specs.Values.{Shown}
 
 -- texts of items, joined by a comma and a space
-abbrev pub joined : {A : Type 0} → (A → List ℕ) → List A → List ℕ
-joined text [] = []
-joined text (x ∷ xs) = text x ++ flat_map (λ y. codes ", " ++ text y) xs
+abbrev pub joined_by_commas : {A : Type 0} → (A → List ℕ) → List A → List ℕ
+joined_by_commas text [] = []
+joined_by_commas text (x ∷ xs) = text x ++ flat_map (λ y. codes ", " ++ text y) xs
 
 -- a name, or `-`
 abbrev pub name_text : Option (List ℕ) → List ℕ
@@ -37,8 +37,9 @@ held_text i (Some shown) = id_text i ++ codes "=" ++ shown_text shown
 -- an entity with its name, its arity and its ids, each with what it shows: `#9.0 a - [#10.0, #11.0=3 -4]`
 abbrev pub entity_line : Entity → Option (List ℕ) → Option ℕ → (Id → Option Shown) → List Id → List ℕ
 entity_line e name arity shows ids =
-    entity_text e ++ codes " " ++ name_text name ++ codes " " ++ arity_text arity ++ codes " [" ++ joined (λ i. held_text i (shows i)) ids ++ codes "]\n"
+    entity_text e ++ codes " " ++ name_text name ++ codes " " ++ arity_text arity ++ codes " [" ++ joined_by_commas
+    (λ i. held_text i (shows i)) ids ++ codes "]\n"
 
 -- a result with its entries: `row #9.0 [#10.0, -]`
 abbrev pub row_line : Entity → List (Option Id) → List ℕ
-row_line e entries = codes "row " ++ entity_text e ++ codes " [" ++ joined entry_text entries ++ codes "]\n"
+row_line e entries = codes "row " ++ entity_text e ++ codes " [" ++ joined_by_commas entry_text entries ++ codes "]\n"

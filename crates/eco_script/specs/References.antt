@@ -7,11 +7,11 @@ use Rattle.eco_ids.specs.Names.{lookup}
 use Rattle.eco_ids.specs.World.{WorldState}
 use Rattle.eco_grammar.specs.Grammar.{SpellsId, SpellsQuery, SpellsRef}
 use Rattle.eco_query.specs.Queries.{QuerySlot}
-use Rattle.eco_grammar.specs.Readings.{Reads, ReadsInMemory, entity_at, id_of, ok_both, query_of}
+use Rattle.eco_grammar.specs.Readings.{Reads, ReadsInMemory, entity_of_placed, id_of, ok_both, query_of}
 
 -- the text, a name or a handle with white space round it, names this entity, or is refused
 unfoldable pub ReadsEntity : WorldState → List ℕ → Result Entity Refusal → Type 0
-ReadsEntity w text = Reads SpellsRef (entity_at (lookup w)) text
+ReadsEntity w text = Reads SpellsRef (entity_of_placed (lookup w)) text
 
 -- the text, an entity or a pair of two with white space round it, names this id, or is refused
 unfoldable pub ReadsId : WorldState → List ℕ → Result Id Refusal → Type 0

@@ -21,7 +21,7 @@ use Rattle.eco_world.specs.Merging.{Merges, may_merge}
 use Rattle.eco_world.specs.Queries.{may_query}
 use Rattle.eco_systems.specs.declared.phase.Phase.{Phase}
 use Rattle.eco_systems.specs.Frames.{BatchRuns}
-use Rattle.eco_bodies.specs.Actions.{first_refusal}
+use Rattle.eco_bodies.specs.Actions.{first_action_refusal}
 use Rattle.eco_bodies.specs.declared.script.Script.{Script}
 use Rattle.eco_bodies.specs.declared.systems.System.{System}
 use Rattle.eco_frame.specs.Reports.{FrameDone, Frames}
@@ -30,9 +30,9 @@ use Rattle.eco_frame.specs.declared.stop.FrameStop.{FrameStop}
 use Rattle.eco_script.specs.Recording.{ReadsActions, ReadsCommands, has_stages}
 use Rattle.eco_script.specs.References.{ReadsEntity, ReadsId, ReadsQuery}
 use Rattle.eco_script.specs.States.{NamedSystem, ScriptState, name_refusal, script_system}
-use Rattle.eco_script.specs.Systems.{model_by, named, recorded_by, taken_by}
+use Rattle.eco_script.specs.Systems.{model_by, named, recorded_by, handles_taken}
 use Rattle.eco_steps.specs.Actions as texts
-use Rattle.eco_steps.specs.Commands.{Command}
+use Rattle.eco_steps.specs.Commands.{WrittenCommand}
 use Rattle.eco_steps.specs.Steps as step
 use Rattle.eco_script.specs.Values.{Shown, shown_value}
 
@@ -79,7 +79,8 @@ abbrev pub OnQuery : WorldState → List ℕ → (List QuerySlot → Result Repl
 OnQuery w text = On (ReadsQuery w text) w
 
 -- the texts are commands
-abbrev pub OnCommands : WorldState → List Command → (List run.Command → Result Reply Refusal → WorldState → Type 0) → Result Reply Refusal → WorldState → Type 0
+abbrev pub OnCommands : WorldState → List WrittenCommand → (List run.Command → Result Reply Refusal → WorldState → Type 0) → Result Reply Refusal → WorldState
+    → Type 0
 OnCommands w texts = On (ReadsCommands w texts) w
 
 -- a query that was added, if there is such a one, is answered on the world as it is now
@@ -129,7 +130,7 @@ unless (Some why) r = Err why
 abbrev pub ReadsSystem : ScriptState → List ℕ → Phase → List ℕ → List texts.Action → Result NamedSystem Refusal → Type 0
 ReadsSystem s name phase text actions =
     Then (ReadsQuery s.world text) (λ slots. Then (ReadsActions s.world actions) (λ acts r.
-    r ≡ unless (first_refusal slots acts) (unless (name_refusal s.systems name) (Ok (script_system name phase slots acts)))))
+    r ≡ unless (first_action_refusal slots acts) (unless (name_refusal s.systems name) (Ok (script_system name phase slots acts)))))
 
 -- it stands behind the others, where it was not refused
 abbrev pub with_declared : ScriptState → Result NamedSystem Refusal → ScriptState
@@ -137,15 +138,15 @@ with_declared s (Ok system) = record { world = s.world; systems = s.systems ++ s
 with_declared s (Err why) = s
 
 -- a system is declared or refused; memory may be wanting for it
-abbrev pub Declares : ScriptState → List ℕ → Phase → List ℕ → List texts.Action → Result Reply Refusal → ScriptState → Type 0
-Declares s name phase text actions =
+abbrev pub DeclaresSystem : ScriptState → List ℕ → Phase → List ℕ → List texts.Action → Result Reply Refusal → ScriptState → Type 0
+DeclaresSystem s name phase text actions =
     Meets (λ r new. (d : Result NamedSystem Refusal) × ReadsSystem s name phase text actions d
     × (r ≡ replied (λ _. done) d) × (new ≡ with_declared s d)) true s
 
 -- why a frame of these systems stopped, as it is said of any list of scripts that are these systems
 abbrev pub IsWhyStopped : ScriptState → FrameStop → ScriptState → Type 0
 IsWhyStopped s stop new =
-    (listed : List (System Script)) × (map named listed ≡ s.systems) × IsWhy taken_by recorded_by model_by s.world listed stop new.world
+    (listed : List (System Script)) × (map named listed ≡ s.systems) × IsWhy handles_taken recorded_by model_by s.world listed stop new.world
 
 -- a frame of the systems runs, to its end or to a stop; systems are as they were
 abbrev pub RunsFrame : ScriptState → Result FrameDone FrameStop → ScriptState → Type 0
@@ -165,7 +166,7 @@ frame_reply (Err stop) = stopped stop
 -- what the step answers, and what it leaves: a system is declared, a frame runs the systems declared so far, and every other step is
 -- one on the world alone
 abbrev pub StepReplies : ScriptState → step.Step → Result Reply Refusal → ScriptState → Type 0
-StepReplies old (step.system name phase text actions) r new = Declares old name phase text actions r new
+StepReplies old (step.system name phase text actions) r new = DeclaresSystem old name phase text actions r new
 StepReplies old step.frame r new =
     (x : Result FrameDone FrameStop) × (RunsFrame old x new ⊎ StopsAtOnce old x new) × (r ≡ Ok (frame_reply x))
 StepReplies old s r new = Replies old.world s r new.world × (new.systems ≡ old.systems)

@@ -81,15 +81,15 @@ step_lines w (Ok reply) = reply_lines w reply
 step_lines w (Err why) = refused_line why
 
 -- the outcomes of the commands of a merge or of a frame, and why a frame stopped
-abbrev pub outcomes_of : Result Reply Refusal → Outcomes
-outcomes_of (Ok (merged outcomes)) = outcomes
-outcomes_of (Ok (framed r)) = r.outcomes
-outcomes_of (Ok (stopped stop)) = Err stop.refusal ∷ []
-outcomes_of _ = []
+abbrev pub reply_outcomes : Result Reply Refusal → Outcomes
+reply_outcomes (Ok (merged outcomes)) = outcomes
+reply_outcomes (Ok (framed r)) = r.outcomes
+reply_outcomes (Ok (stopped stop)) = Err stop.refusal ∷ []
+reply_outcomes _ = []
 
 -- memory was wanting for the step, or for a command of its merge or frame
 abbrev pub has_wanted : Result Reply Refusal → Bool
-has_wanted r = is_out_of_memory r || list_any is_out_of_memory (outcomes_of r)
+has_wanted r = is_out_of_memory r || list_any is_out_of_memory (reply_outcomes r)
 
 -- the step may take the old state to the new one, and these are its lines
 abbrev pub Does : ScriptState → Step → List ℕ → ScriptState → Type 0

@@ -1,7 +1,7 @@
 //! The lines that show entities, values and results.
 
 ghost use Rattle.std.specs.Prelude.{◌≡◌, Some, option_map};
-ghost use Rattle.eco_script.specs.Lines.{arity_text, entry_text, held_text, joined, name_text, row_line};
+ghost use Rattle.eco_script.specs.Lines.{arity_text, entry_text, held_text, joined_by_commas, name_text, row_line};
 ghost use Rattle.eco_script.specs.Text.{line_of};
 ghost use Rattle.eco_script.specs.Values.{shown_value};
 
@@ -54,7 +54,7 @@ impl Ids<'_> {
 }
 
 impl fmt::Display for Ids<'_> {
-    ghost output = { λ ids. Some (joined
+    ghost output = { λ ids. Some (joined_by_commas
         (λ i. held_text i (shown_value ids.world.now ids.entity i)) ids.ids.now) };
 
     fn fmt<W: fmt::Write>(&self, f: &mut fmt::Formatter<W>) -> fmt::Result {
@@ -90,7 +90,7 @@ impl fmt::Display for Entry {
 struct Entries<'a>(&'a [Option<Id>]);
 
 impl fmt::Display for Entries<'_> {
-    ghost output = { λ entries. Some (joined entry_text entries.0.now) };
+    ghost output = { λ entries. Some (joined_by_commas entry_text entries.0.now) };
 
     fn fmt<W: fmt::Write>(&self, f: &mut fmt::Formatter<W>) -> fmt::Result {
         if let Some((first, rest)) = self.0.split_first() {

@@ -3,7 +3,7 @@
 ghost use Rattle.std.specs.Prelude.{◌≡◌, ◌≤◌, IsFalse, option_map};
 ghost use Rattle.eco_ids.specs.Outcome.{is_out_of_memory};
 ghost use Rattle.eco_script.specs.Answers.{answer_view};
-ghost use Rattle.eco_script.specs.Replies.{Declares, Replies, StepReplies};
+ghost use Rattle.eco_script.specs.Replies.{DeclaresSystem, Replies, StepReplies};
 ghost use Rattle.eco_script.specs.Systems.{reached, ReadsBody};
 ghost use Rattle.eco_steps.specs.Steps as steps;
 ghost use Rattle.eco_steps.specs.Steps.{KeepsTo};
@@ -194,7 +194,8 @@ fn system(
     text: &str,
     actions: Actions<'_>,
 ) -> Result<Reply, Refusal>
-    ensures { Declares (reached world.now systems.old) name.now phase text.now (actions_view actions.entry)
+    ensures { DeclaresSystem (reached world.now systems.old) name.now phase text.now
+        (actions_view actions.entry)
         (answer_view result) (reached world.now systems.new) }
 {
     let query = read_query(text, world)?;

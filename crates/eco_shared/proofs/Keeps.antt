@@ -9,7 +9,7 @@ use Rattle.eco_shared.specs.declared.merge.Merge.{Merge}
 use Rattle.eco_shared.specs.declared.merge.Knows.{Knows}
 use Rattle.eco_shared.specs.declared.shown.Shown.{Shown}
 use Rattle.eco_shared.specs.Histories.{IsAfter, IsMerged, mark_of}
-use Rattle.eco_shared.specs.Sharing.{world_of, history, state_of, knows, nothing, Names, Follows, Goes, Kept, Sees, Opens, Stays}
+use Rattle.eco_shared.specs.Sharing.{shown_world, history, shown_state, knows, nothing, KnowsOf, Follows, GoesOn, Kept, Sees, Opens, Stays}
 
 off : false ≡ true → ⊥
 off e = true≢false (sym e)
@@ -18,23 +18,23 @@ pub after_push : (w : WorldState) (ms : List Merge) (mid : WorldState) (m : Merg
 after_push w [] mid m new h one = (new, subst (λ v. IsMerged v m new) h one, refl)
 after_push w (x ∷ ms) mid m new h one = (h.0, h.1, after_push h.0 ms mid m new h.2 one)
 
-kept_set : (s : Shown) (views : List Knows) (by : ℕ) (w : Knows) → (w.known ≡ true → Names w s) → Kept s views → Kept s (set views by w)
+kept_set : (s : Shown) (views : List Knows) (by : ℕ) (w : Knows) → (w.known ≡ true → KnowsOf w s) → Kept s views → Kept s (set views by w)
 kept_set s views by w mine others j u e k =
     ⊎_elim
-    (λ (x : (j ≡ by) × (w ≡ u)). subst (λ (v : Knows). v.known ≡ true → Names v s) x.1 mine k)
+    (λ (x : (j ≡ by) × (w ≡ u)). subst (λ (v : Knows). v.known ≡ true → KnowsOf v s) x.1 mine k)
     (λ (x : (j ≢ by) × (get_elem? views j ≡ some u)). others j u x.1 k)
     (at_set views by j w u e)
 
 -- what is known of a state of the shared world is all that it says
-same_names : (v : Knows) (s t : Shown) → state_of t ≡ state_of s → Names v s → Names v t
+same_names : (v : Knows) (s t : Shown) → shown_state t ≡ shown_state s → KnowsOf v s → KnowsOf v t
 same_names v s t same h =
     subst (λ x. IsAfter v.start x.1.seen.log x.0 × (v.mark ≡ mark_of x.1.seen.book)) (sym same) h
 
 -- one merge more is known
-follows_names : (v : Knows) (s t : Shown) → Follows s t → Names v s → Names v t
+follows_names : (v : Knows) (s t : Shown) → Follows s t → KnowsOf v s → KnowsOf v t
 follows_names v s t f h =
-    let longer : IsAfter v.start (history s ++ f.1 ∷ []) (world_of t) = after_push v.start (history s) (world_of s) f.1 (world_of t) h.0 f.3 in
-    (subst (λ l. IsAfter v.start l (world_of t)) (sym f.2) longer, h.1 ∙ sym (ap mark_of f.0))
+    let longer : IsAfter v.start (history s ++ f.1 ∷ []) (shown_world t) = after_push v.start (history s) (shown_world s) f.1 (shown_world t) h.0 f.3 in
+    (subst (λ l. IsAfter v.start l (shown_world t)) (sym f.2) longer, h.1 ∙ sym (ap mark_of f.0))
 
 pub begins : (s : Shown) → Kept s (nothing ∷ [])
 begins s zero v e k = absurd (off (subst (λ (u : Knows). u.known ≡ true) (sym (some-injective _ _ e)) k))
@@ -48,10 +48,10 @@ admits s views h by v e k =
     (at_snoc views nothing v by e)
 
 -- the first publish, which adds nothing to the empty history
-pub opens : (by : ℕ) (v : Knows) (s t : Shown) → history s ≡ [] → state_of t ≡ state_of s → TurnsAt Kept by v s t Opens
+pub opens : (by : ℕ) (v : Knows) (s t : Shown) → history s ≡ [] → shown_state t ≡ shown_state s → TurnsAt Kept by v s t Opens
 opens by v s t none same views h at =
-    let w : Knows = knows (world_of s) (mark_of s.front.seen.book) in
-    let mine : Names w s = (subst (λ l. IsAfter (world_of s) l (world_of s)) (sym none) refl, refl) in
+    let w : Knows = knows (shown_world s) (mark_of s.front.seen.book) in
+    let mine : KnowsOf w s = (subst (λ l. IsAfter (shown_world s) l (shown_world s)) (sym none) refl, refl) in
     let all : Kept s (set views by w) = kept_set s views by w (λ _. mine) h in
     (w, (λ j u e k. same_names u s t same (all j u e k)), refl)
 
@@ -59,11 +59,11 @@ pub enters : (by : ℕ) (v : Knows) → v.known ≡ true → Turns Kept by v (λ
 enters by v known s views h at = (v, kept_set s views by v (h by v at) h, (refl, h by v at known))
 
 -- one merge more, or the same once more
-goes_names : (v : Knows) (s t : Shown) → Goes s t → Names v s → Names v t
-goes_names v s t g h = ⊎_elim (λ (f : Follows s t). follows_names v s t f h) (λ (e : state_of t ≡ state_of s). same_names v s t e h) g
+goes_names : (v : Knows) (s t : Shown) → GoesOn s t → KnowsOf v s → KnowsOf v t
+goes_names v s t g h = ⊎_elim (λ (f : Follows s t). follows_names v s t f h) (λ (e : shown_state t ≡ shown_state s). same_names v s t e h) g
 
 -- whatever has this state is shown
-pub goes_on : (by : ℕ) (v : Knows) (s op t : Shown) → Goes s op → state_of t ≡ state_of op → TurnsAt Kept by v s t Stays
+pub goes_on : (by : ℕ) (v : Knows) (s op t : Shown) → GoesOn s op → shown_state t ≡ shown_state op → TurnsAt Kept by v s t Stays
 goes_on by v s op t g same views h at =
     let all : Kept s (set views by v) = kept_set s views by v (h by v at) h in
     (v, (λ j u e k. same_names u op t same (goes_names u s op g (all j u e k))), refl)
@@ -72,7 +72,7 @@ pub forks : (by : ℕ) (v : Knows) → Forks Kept by v v v
 forks by v s views h at j u e k =
     ⊎_elim
     (λ (x : get_elem? (set views by v) j ≡ some u). kept_set s views by v (h by v at) h j u x k)
-    (λ (x : v ≡ u). subst (λ (w : Knows). w.known ≡ true → Names w s) x (h by v at) k)
+    (λ (x : v ≡ u). subst (λ (w : Knows). w.known ≡ true → KnowsOf w s) x (h by v at) k)
     (at_snoc (set views by v) v u j e)
 
 -- a viewer takes in what another view knows

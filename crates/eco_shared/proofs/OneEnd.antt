@@ -11,7 +11,7 @@ use Rattle.eco_ids.specs.declared.refusal.Refusal.TheVariants.{OutOfMemory, NoMo
 use Rattle.eco_ids.proofs.Ascending.{first, second}
 use Rattle.eco_ids.proofs.Ends.{IsSettled}
 use Rattle.eco_ids.proofs.Runs.{applies_settled}
-use Rattle.eco_stages.specs.Outcomes.{Outcomes, alike}
+use Rattle.eco_stages.specs.Outcomes.{Outcomes, alike_in_memory}
 use Rattle.eco_world.specs.Merging.{Merges, RunsAdmitted}
 
 lacks : {A : Type 0} (r : Result A Refusal) → is_out_of_memory r ≡ true → r ≡ Err OutOfMemory
@@ -33,7 +33,7 @@ meets_alike : {A S : Type 0} (Step : Result A Refusal → S → Type 0) (may : B
     → (r ≡ q) × (new ≡ other)
 meets_alike Step may old r q new other s same h k = met Step may old r q new other (is_out_of_memory r) (is_out_of_memory q) s refl refl same h k
 
-runs_alike : (cs : List Command) (w : WorldState) (rs qs : Outcomes) (new other : WorldState) → IsTrue (alike rs qs)
+runs_alike : (cs : List Command) (w : WorldState) (rs qs : Outcomes) (new other : WorldState) → IsTrue (alike_in_memory rs qs)
     → Runs w cs rs new → Runs w cs qs other → (rs ≡ qs) × (new ≡ other)
 runs_alike [] w [] [] new other a h k = (refl, h ∙ sym k)
 runs_alike [] w [] (q ∷ qs) new other a h k = absurd k
@@ -53,7 +53,7 @@ ran true w n cs rs new h =
 ran false w n cs rs new h = absurd (cc (h.0))
 
 pub merges_alike : (w : WorldState) (n : ℕ) (cs : List Command) (rs qs : Outcomes) (new other : WorldState)
-    → IsTrue (alike rs qs) → Merges w n cs (Ok rs) new → Merges w n cs (Ok qs) other → (rs ≡ qs) × (new ≡ other)
+    → IsTrue (alike_in_memory rs qs) → Merges w n cs (Ok rs) new → Merges w n cs (Ok qs) other → (rs ≡ qs) × (new ≡ other)
 merges_alike w n cs rs qs new other a h k =
     let fits = may_admit (entities w) n in
     runs_alike cs (with_entities w (admitted n (entities w))) rs qs new other a (ran fits w n cs rs new h) (ran fits w n cs qs other k)

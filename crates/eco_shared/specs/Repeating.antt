@@ -3,7 +3,7 @@ use Rattle.std.specs.Prelude.{◌≡◌, ℕ, IsTrue, List, Ok, Option, None, So
 use Rattle.std.specs.Arc.{arc_value}
 use Rattle.eco_ids.specs.Run.{Command}
 use Rattle.eco_ids.specs.World.{WorldState}
-use Rattle.eco_stages.specs.Outcomes.{Outcomes, alike}
+use Rattle.eco_stages.specs.Outcomes.{Outcomes, alike_in_memory}
 use Rattle.eco_world.specs.Merging.{Merges}
 use Rattle.eco_shared.specs.declared.merge.Merge.{Merge}
 use Rattle.eco_shared.specs.declared.spare.Last.{Last}
@@ -17,7 +17,7 @@ merge_of l = merge l.admitted l.commands l.report
 -- what comes of the world by the merge, made once more with memory wanting for the same commands; by none the same world
 abbrev pub Leads : WorldState → Option Last → WorldState → Type 0
 Leads w None new = new ≡ w
-Leads w (Some last) new = (outcomes : Outcomes) × IsTrue (alike outcomes last.report) × IsMerged w (merge last.admitted last.commands outcomes) new
+Leads w (Some last) new = (outcomes : Outcomes) × IsTrue (alike_in_memory outcomes last.report) × IsMerged w (merge last.admitted last.commands outcomes) new
 
 -- whatever comes of the spare world is the world that is shown
 abbrev pub Repeats : Spare → WorldState → Type 0
@@ -31,4 +31,4 @@ KeepsUp spare now = (s : Spare) → spare ≡ Some s → Repeats s now
 abbrev pub MergesHaveOneEnd : Type 0
 MergesHaveOneEnd =
     (w : WorldState) (n : ℕ) (cs : List Command) (rs qs : Outcomes) (new other : WorldState)
-    → IsTrue (alike rs qs) → Merges w n cs (Ok rs) new → Merges w n cs (Ok qs) other → (rs ≡ qs) × (new ≡ other)
+    → IsTrue (alike_in_memory rs qs) → Merges w n cs (Ok rs) new → Merges w n cs (Ok qs) other → (rs ≡ qs) × (new ≡ other)

@@ -12,15 +12,15 @@ use Rattle.eco_shared.specs.declared.shown.Shown.{Shown}
 use Rattle.eco_shared.specs.Histories.{IsAfter, IsMerged, mark_of}
 
 -- the world that is shown
-abbrev pub world_of : Shown → WorldState
-world_of s = arc_value s.world
+abbrev pub shown_world : Shown → WorldState
+shown_world s = arc_value s.world
 
 -- the history that is shown
 abbrev pub history : Shown → List Merge
 history s = s.front.seen.log
 
-abbrev pub state_of : Shown → WorldState × Front Merge
-state_of s = (arc_value s.world, s.front)
+abbrev pub shown_state : Shown → WorldState × Front Merge
+shown_state s = (arc_value s.world, s.front)
 
 abbrev pub knows : WorldState → Mark → Knows
 knows start mark = record { known = true; start = start; mark = mark }
@@ -31,24 +31,24 @@ nothing = record { known = false; start = first_world 9; mark = record { number 
 
 -- the second is of the same history, one merge longer, whose world that merge makes
 abbrev pub Follows : Shown → Shown → Type 0
-Follows s t = (t.front.seen.book ≡ s.front.seen.book) × (m : Merge) × (history t ≡ history s ++ m ∷ []) × IsMerged (world_of s) m (world_of t)
+Follows s t = (t.front.seen.book ≡ s.front.seen.book) × (m : Merge) × (history t ≡ history s ++ m ∷ []) × IsMerged (shown_world s) m (shown_world t)
 
 -- one merge more, or the same once more
-abbrev pub Goes : Shown → Shown → Type 0
-Goes s t = Follows s t ⊎ (state_of t ≡ state_of s)
+abbrev pub GoesOn : Shown → Shown → Type 0
+GoesOn s t = Follows s t ⊎ (shown_state t ≡ shown_state s)
 
 -- what a view knows of what is shown
-abbrev pub Names : Knows → Shown → Type 0
-Names v s = IsAfter v.start (history s) (world_of s) × (v.mark ≡ mark_of s.front.seen.book)
+abbrev pub KnowsOf : Knows → Shown → Type 0
+KnowsOf v s = IsAfter v.start (history s) (shown_world s) × (v.mark ≡ mark_of s.front.seen.book)
 
 abbrev pub Kept : Shown → List Knows → Type 0
-Kept s views = (by : ℕ) (v : Knows) → get_elem? views by ≡ some v → v.known ≡ true → Names v s
+Kept s views = (by : ℕ) (v : Knows) → get_elem? views by ≡ some v → v.known ≡ true → KnowsOf v s
 
 abbrev pub Sees : Knows → Shown → Shown → Knows → Type 0
-Sees v s t w = (w ≡ v) × Names v t
+Sees v s t w = (w ≡ v) × KnowsOf v t
 
 abbrev pub Opens : Knows → Shown → Shown → Knows → Type 0
-Opens v s t w = w ≡ knows (world_of s) (mark_of s.front.seen.book)
+Opens v s t w = w ≡ knows (shown_world s) (mark_of s.front.seen.book)
 
 abbrev pub Stays : Knows → Shown → Shown → Knows → Type 0
 Stays v s t w = w ≡ v

@@ -3,14 +3,14 @@ ghost use Rattle.std.specs.Prelude.{◌≡◌, ◌<◌, ◌≤◌, ◌++◌, ◌
 ghost use Rattle.std.specs.List.{All};
 ghost use Rattle.std.specs.Arc.{arc_value};
 ghost use Rattle.left_right.specs.Sides.{view};
-ghost use Rattle.eco_histories.specs.Rules.{head_of};
+ghost use Rattle.eco_histories.specs.Rules.{book_head};
 ghost use Rattle.eco_ids.specs.Births.{may_admit};
 ghost use Rattle.eco_ids.specs.World.{entities};
 ghost use Rattle.eco_ids.specs.declared.refusal.Refusal.TheVariants.{OutOfMemory};
 ghost use Rattle.eco_world.specs.Merging.{all_commands};
 ghost use Rattle.eco_shared.specs.Histories.{IsMerged, merge, mark_of};
 ghost use Rattle.eco_shared.specs.Repeating.{KeepsUp, merge_of};
-ghost use Rattle.eco_shared.specs.Sharing.{world_of, state_of, history, Follows, Goes};
+ghost use Rattle.eco_shared.specs.Sharing.{shown_world, shown_state, history, Follows, GoesOn};
 ghost use Rattle.eco_shared.specs.Views.{IsNew, refusal_of};
 
 use crate::keeper::{Keeper, park};
@@ -77,20 +77,20 @@ pub struct Merger<J: Naming, R: Wait + Drop> {
     pub(crate) stopped: bool,
     ghost known: { ((view writer.desk.place).known ≡ true)
         × ((view writer.desk.place).mark ≡ mark_of writer.desk.shown.value.front.seen.book) },
-    ghost head_is: { head ≡ head_of writer.desk.shown.value.front.seen.book },
+    ghost head_is: { head ≡ book_head writer.desk.shown.value.front.seen.book },
     ghost titled: { slice_get title.marks.seen.log title.number
         ≡ Some (mark_of writer.desk.shown.value.front.seen.book) },
     ghost clear: { stopped ≡ false → length (drop writer.behind writer.log.items) ≡ 0 },
-    ghost keeps_up: { KeepsUp spare (world_of writer.desk.shown.value) },
+    ghost keeps_up: { KeepsUp spare (shown_world writer.desk.shown.value) },
 }
 
 // The world behind the history that is shown, one merge longer.
 fn behind(now: &Shown, head: &Head<Merge>, last: &Last, world: Arc<World>) -> Option<Shown>
-    requires head { head.now ≡ head_of now.now.front.seen.book }
-    requires merged { IsMerged (world_of now.now) (merge_of last.now) (arc_value world) }
+    requires head { head.now ≡ book_head now.now.front.seen.book }
+    requires merged { IsMerged (shown_world now.now) (merge_of last.now) (arc_value world) }
     ensures history { IfSome result (λ s. history s ≡ history now.now ++ merge_of last.now ∷ []) }
-    ensures world { IfSome result (λ s. world_of s ≡ arc_value world) }
-    ensures goes { IfSome result (Goes now.now) }
+    ensures world { IfSome result (λ s. shown_world s ≡ arc_value world) }
+    ensures goes { IfSome result (GoesOn now.now) }
 {
     let front = now.front.extended::<Last, Entry>(head, last)?;
     Some(Shown { world, front })
@@ -150,8 +150,8 @@ impl<J: Naming, R: Wait + Drop> Merger<J, R> {
     fn publish(&mut self, op: Shown) -> Result<(), AllocError>
         requires running { self.old.stopped ≡ false }
         requires none { self.old.spare ≡ None }
-        requires goes { Goes self.old.writer.desk.shown.value op }
-        ensures ok { IfOk result (λ _. (state_of self.new.writer.desk.shown.value ≡ state_of op)
+        requires goes { GoesOn self.old.writer.desk.shown.value op }
+        ensures ok { IfOk result (λ _. (shown_state self.new.writer.desk.shown.value ≡ shown_state op)
             × (self.new.stopped ≡ false)) }
         ensures err { IfErr result (λ _. self.new.writer.desk.shown.value ≡ self.old.writer.desk.shown.value) }
         ensures view { view self.new.writer.desk.place ≡ view self.old.writer.desk.place }
@@ -170,7 +170,7 @@ impl<J: Naming, R: Wait + Drop> Merger<J, R> {
 
     // A copy of the world that is shown.
     fn copy_shown(&self) -> Result<Arc<World>, AllocError>
-        ensures { IfOk result (λ a. arc_value a ≡ world_of self.now.writer.desk.shown.value) }
+        ensures { IfOk result (λ a. arc_value a ≡ shown_world self.now.writer.desk.shown.value) }
     {
         let copy = self.writer.published().world.try_copy()?;
         owned(self.alloc, copy)
@@ -179,9 +179,9 @@ impl<J: Naming, R: Wait + Drop> Merger<J, R> {
     // The world that is shown, once more and for the merger alone: the spare one, with the last merge made on it too, else a copy.
     fn ready(&mut self) -> Result<Arc<World>, AllocError>
         requires running { self.old.stopped ≡ false }
-        ensures ok { IfOk result (λ a. (arc_value a ≡ world_of self.new.writer.desk.shown.value)
+        ensures ok { IfOk result (λ a. (arc_value a ≡ shown_world self.new.writer.desk.shown.value)
             × (self.new.stopped ≡ false)) }
-        ensures shown { state_of self.new.writer.desk.shown.value ≡ state_of self.old.writer.desk.shown.value }
+        ensures shown { shown_state self.new.writer.desk.shown.value ≡ shown_state self.old.writer.desk.shown.value }
         ensures view { view self.new.writer.desk.place ≡ view self.old.writer.desk.place }
         ensures same { (self.new.title ≡ self.old.title) × (self.new.spare ≡ None) }
     {
@@ -205,10 +205,10 @@ impl<J: Naming, R: Wait + Drop> Merger<J, R> {
     fn show(&mut self, world: Arc<World>, last: Last) -> Result<(), AllocError>
         requires running { self.old.stopped ≡ false }
         requires none { self.old.spare ≡ None }
-        requires merged { IsMerged (world_of self.old.writer.desk.shown.value) (merge_of last) (arc_value world) }
+        requires merged { IsMerged (shown_world self.old.writer.desk.shown.value) (merge_of last) (arc_value world) }
         ensures history { IfOk result (λ _. history self.new.writer.desk.shown.value
             ≡ history self.old.writer.desk.shown.value ++ merge_of last ∷ []) }
-        ensures world { IfOk result (λ _. world_of self.new.writer.desk.shown.value ≡ arc_value world) }
+        ensures world { IfOk result (λ _. shown_world self.new.writer.desk.shown.value ≡ arc_value world) }
         ensures err { IfErr result (λ _. self.new.writer.desk.shown.value ≡ self.old.writer.desk.shown.value) }
         ensures view { view self.new.writer.desk.place ≡ view self.old.writer.desk.place }
         ensures same { self.new.title ≡ self.old.title }
@@ -236,12 +236,12 @@ impl<J: Naming, R: Wait + Drop> Merger<J, R> {
     pub fn merge(&mut self, admitted: u32, stages: &[Stage]) -> Result<Report, Refusal>
         ensures ok { IfOk result (λ r. history self.new.writer.desk.shown.value
             ≡ history self.old.writer.desk.shown.value ++ merge admitted (all_commands stages.now) r ∷ []) }
-        ensures world { IfOk result (λ r. IsMerged (world_of self.old.writer.desk.shown.value)
-            (merge admitted (all_commands stages.now) r) (world_of self.new.writer.desk.shown.value)) }
+        ensures world { IfOk result (λ r. IsMerged (shown_world self.old.writer.desk.shown.value)
+            (merge admitted (all_commands stages.now) r) (shown_world self.new.writer.desk.shown.value)) }
         ensures why { IfErr result (λ why. why
-            ≡ refusal_of (world_of self.old.writer.desk.shown.value) admitted self.old.stopped) }
-        ensures err { IfErr result (λ _. state_of self.new.writer.desk.shown.value
-            ≡ state_of self.old.writer.desk.shown.value) }
+            ≡ refusal_of (shown_world self.old.writer.desk.shown.value) admitted self.old.stopped) }
+        ensures err { IfErr result (λ _. shown_state self.new.writer.desk.shown.value
+            ≡ shown_state self.old.writer.desk.shown.value) }
         ensures stopped { IfErr result (λ _. self.new.stopped ≡ false
             → length (drop self.new.writer.behind self.new.writer.log.items) ≡ 0) }
         ensures start { (view self.new.writer.desk.place).start ≡ (view self.old.writer.desk.place).start }

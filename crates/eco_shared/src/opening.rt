@@ -5,7 +5,7 @@ ghost use mathlib.Core.List.{IsPrefix};
 ghost use Rattle.left_right.specs.Sides.{view};
 ghost use Rattle.eco_ids.specs.declared.refusal.Refusal.TheVariants.{OutOfMemory};
 ghost use Rattle.eco_shared.specs.Histories.{mark_of};
-ghost use Rattle.eco_shared.specs.Sharing.{world_of, state_of, history, knows};
+ghost use Rattle.eco_shared.specs.Sharing.{shown_world, shown_state, history, knows};
 ghost use Rattle.eco_shared.specs.Views.{IsNew};
 
 use crate::keeper::new_keeper;
@@ -28,7 +28,7 @@ use std::sync::{Arc, Wait};
 // The two copies, with no merge yet.
 fn copies(alloc: Global, front: &Front<Merge>, world: World) -> Result<(Shown, Shown), AllocError>
     requires { front.now.seen.log ≡ [] }
-    ensures { IfOk result (λ c. (state_of c.0 ≡ state_of c.1) × (world_of c.0 ≡ world) × (c.0.front ≡ front.now) × (history c.0 ≡ [])) }
+    ensures { IfOk result (λ c. (shown_state c.0 ≡ shown_state c.1) × (shown_world c.0 ≡ world) × (c.0.front ≡ front.now) × (history c.0 ≡ [])) }
 {
     let world = owned(alloc, world)?;
     let first = Shown {
@@ -46,11 +46,11 @@ fn publish_opening<R: Wait>(
     again: Snapshot<Shown>,
 ) -> (TheWriter, Result<(), AllocError>)
     requires pending { drop writer.behind writer.log.items ≡ again.value ∷ [] }
-    requires same { state_of again.value ≡ state_of writer.desk.shown.value }
+    requires same { shown_state again.value ≡ shown_state writer.desk.shown.value }
     requires none { history writer.desk.shown.value ≡ [] }
     ensures pending { IfOk result.1 (λ _. drop result.0.behind result.0.log.items ≡ []) }
-    ensures same { IfOk result.1 (λ _. state_of result.0.desk.shown.value ≡ state_of writer.desk.shown.value) }
-    ensures known { IfOk result.1 (λ _. view result.0.desk.place ≡ knows (world_of writer.desk.shown.value) (mark_of writer.desk.shown.value.front.seen.book)) }
+    ensures same { IfOk result.1 (λ _. shown_state result.0.desk.shown.value ≡ shown_state writer.desk.shown.value) }
+    ensures known { IfOk result.1 (λ _. view result.0.desk.place ≡ knows (shown_world writer.desk.shown.value) (mark_of writer.desk.shown.value.front.seen.book)) }
 {
     let _ = again;
     writer.publish_as::<Opening, R>(rt)
@@ -67,7 +67,7 @@ fn open_writer<R: Wait>(
     requires none { front.now.seen.log ≡ [] }
     requires viewers { (0 < viewers) × (viewers ≤ 64) }
     ensures pending { IfOk result (λ w. drop w.behind w.log.items ≡ []) }
-    ensures world { IfOk result (λ w. world_of w.desk.shown.value ≡ world) }
+    ensures world { IfOk result (λ w. shown_world w.desk.shown.value ≡ world) }
     ensures front { IfOk result (λ w. w.desk.shown.value.front ≡ front.now) }
     ensures known { IfOk result (λ w. view w.desk.place ≡ knows world (mark_of front.now.seen.book)) }
 {
@@ -98,7 +98,7 @@ fn open_merger<J: Naming, R: Wait + Drop>(
     viewers: usize,
 ) -> Result<Merger<J, R>, AllocError>
     requires viewers { (0 < viewers) × (viewers ≤ 64) }
-    ensures world { IfOk result (λ m. world_of m.writer.desk.shown.value ≡ world) }
+    ensures world { IfOk result (λ m. shown_world m.writer.desk.shown.value ≡ world) }
     ensures start { IfOk result (λ m. (view m.writer.desk.place).start ≡ world) }
     ensures history { IfOk result (λ m. history m.writer.desk.shown.value ≡ []) }
     ensures title { IfOk result (λ m. (m.title.number ≡ length registry.old.front.seen.log) × (length registry.old.front.seen.log < length registry.new.front.seen.log)) }
@@ -131,7 +131,7 @@ pub fn open<J: Naming, R: Wait + Drop>(
     viewers: usize,
 ) -> Result<(Merger<J, R>, Vec<Viewer<J, R>>), (World, Refusal)>
     requires viewers { (0 < viewers) × (viewers ≤ 64) }
-    ensures merger { IfOk result (λ r. (world_of r.0.writer.desk.shown.value ≡ world) × ((view r.0.writer.desk.place).start ≡ world) × (history r.0.writer.desk.shown.value ≡ [])) }
+    ensures merger { IfOk result (λ r. (shown_world r.0.writer.desk.shown.value ≡ world) × ((view r.0.writer.desk.place).start ≡ world) × (history r.0.writer.desk.shown.value ≡ [])) }
     ensures viewers { IfOk result (λ r. (length r.1.items ≡ viewers) × All (IsNew world r.0.title.number) r.1.items) }
     ensures title { IfOk result (λ r. (r.0.title.number ≡ length registry.old.front.seen.log) × (length registry.old.front.seen.log < length registry.new.front.seen.log)) }
     ensures registry { IsPrefix registry.old.front.seen.log registry.new.front.seen.log }

@@ -1,7 +1,7 @@
 //! Publishing one version.
 ghost use Rattle.std.specs.Prelude.{◌≡◌, ◌∷◌, [], length, drop, true, false, IfOk, IfErr};
 ghost use Rattle.left_right.specs.Sides.{view};
-ghost use Rattle.eco_shared.specs.Sharing.{state_of, Goes};
+ghost use Rattle.eco_shared.specs.Sharing.{shown_state, GoesOn};
 
 use crate::rule::{Merging, TheWriter};
 use crate::shown::Shown;
@@ -17,9 +17,9 @@ fn publish<R: Wait>(
     op: Snapshot<Shown>,
 ) -> (TheWriter, Result<(), AllocError>)
     requires pending { drop writer.behind writer.log.items ≡ op.value ∷ [] }
-    requires goes { Goes writer.desk.shown.value op.value }
+    requires goes { GoesOn writer.desk.shown.value op.value }
     ensures ok { IfOk result.1 (λ _. (drop result.0.behind result.0.log.items ≡ [])
-        × (state_of result.0.desk.shown.value ≡ state_of op.value)) }
+        × (shown_state result.0.desk.shown.value ≡ shown_state op.value)) }
     ensures err { IfErr result.1 (λ _. result.0.desk.shown.value ≡ writer.desk.shown.value) }
     ensures same { view result.0.desk.place ≡ view writer.desk.place }
 {
@@ -34,9 +34,9 @@ pub fn publish_in<R: Wait>(
     op: Snapshot<Shown>,
 ) -> Result<(), AllocError>
     requires pending { drop writer.old.behind writer.old.log.items ≡ op.value ∷ [] }
-    requires goes { Goes writer.old.desk.shown.value op.value }
+    requires goes { GoesOn writer.old.desk.shown.value op.value }
     ensures ok { IfOk result (λ _. (drop writer.new.behind writer.new.log.items ≡ [])
-        × (state_of writer.new.desk.shown.value ≡ state_of op.value)) }
+        × (shown_state writer.new.desk.shown.value ≡ shown_state op.value)) }
     ensures err { IfErr result (λ _. writer.new.desk.shown.value ≡ writer.old.desk.shown.value) }
     ensures same { view writer.new.desk.place ≡ view writer.old.desk.place }
 {
@@ -45,9 +45,9 @@ pub fn publish_in<R: Wait>(
         op,
         |w: TheWriter, x: Snapshot<Shown>| -> (TheWriter, Result<(), AllocError>)
             requires pending { drop w.behind w.log.items ≡ x.value ∷ [] }
-            requires goes { Goes w.desk.shown.value x.value }
+            requires goes { GoesOn w.desk.shown.value x.value }
             ensures ok { IfOk result.1 (λ _. (drop result.0.behind result.0.log.items ≡ [])
-                × (state_of result.0.desk.shown.value ≡ state_of x.value)) }
+                × (shown_state result.0.desk.shown.value ≡ shown_state x.value)) }
             ensures err { IfErr result.1 (λ _. result.0.desk.shown.value ≡ w.desk.shown.value) }
             ensures same { view result.0.desk.place ≡ view w.desk.place }
         { publish(rt, w, x) },

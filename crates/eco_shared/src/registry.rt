@@ -1,7 +1,7 @@
 //! Which shared worlds there are. Each has a number of its own.
 ghost use Rattle.std.specs.Prelude.{◌≡◌, ◌++◌, ◌∷◌, [], length, Some, slice_get, IfSome, IfNone, MatchBool};
 ghost use mathlib.Core.List.{IsPrefix};
-ghost use Rattle.eco_histories.specs.Rules.{head_of};
+ghost use Rattle.eco_histories.specs.Rules.{book_head};
 ghost use Rattle.eco_shared.specs.Histories.{mark_of};
 
 use crate::merge::{Mark, Merge};
@@ -26,7 +26,7 @@ pub struct Blank {
     head: Head<Mark>,
     front: Front<Mark>,
     pub ghost empty: { front.seen.log ≡ [] },
-    pub ghost head_is: { head ≡ head_of front.seen.book },
+    pub ghost head_is: { head ≡ book_head front.seen.book },
 }
 
 impl Blank {
@@ -54,7 +54,7 @@ pub struct Registry<J: Naming> {
     head: Head<Mark>,
     pub front: Front<Mark>,
     of: PhantomData<J>,
-    ghost head_is: { head ≡ head_of J.book },
+    ghost head_is: { head ≡ book_head J.book },
     ghost book_is: { front.seen.book ≡ J.book },
 }
 

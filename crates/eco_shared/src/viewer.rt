@@ -3,7 +3,7 @@ ghost use Rattle.std.specs.Prelude.{◌≡◌, ◌≢◌, true, IfSome, MatchBoo
 ghost use mathlib.Core.List.{IsPrefix};
 ghost use Rattle.left_right.specs.Sides.{view};
 ghost use Rattle.eco_shared.specs.Histories.{IsAfter, mark_of};
-ghost use Rattle.eco_shared.specs.Sharing.{history, world_of, Names};
+ghost use Rattle.eco_shared.specs.Sharing.{history, shown_world, KnowsOf};
 
 use crate::keeper::Keeper;
 use crate::news::News;
@@ -52,7 +52,7 @@ impl Drop for View {
 fn look_once(reader: TheReader) -> (TheReader, Option<Shown>)
     requires { (view reader.place).known ≡ true }
     ensures same { view result.0.place ≡ view reader.place }
-    ensures shown { IfSome result.1 (Names (view reader.place)) }
+    ensures shown { IfSome result.1 (KnowsOf (view reader.place)) }
 {
     match reader.enter_as::<Entering>() {
         Ok(reading) => {
@@ -68,7 +68,7 @@ impl<J: Naming, R: Wait + Drop> Viewer<J, R> {
     pub fn enter(&mut self, rt: &impl Wait) -> View
         ensures history { IsPrefix self.old.news.front.seen.log (history result.shown) }
         ensures seen { self.new.news.front.seen.log ≡ history result.shown }
-        ensures world { IsAfter (view self.old.reader.place).start (history result.shown) (world_of result.shown) }
+        ensures world { IsAfter (view self.old.reader.place).start (history result.shown) (shown_world result.shown) }
         ensures same { (view self.new.reader.place ≡ view self.old.reader.place) × (self.new.news.title.number ≡ self.old.news.title.number) }
     {
         for _ in rt.forever() {
@@ -97,7 +97,7 @@ impl<J: Naming, R: Wait + Drop> Viewer<J, R> {
 
     fn look(&mut self) -> Option<Shown>
         ensures same { (view self.new.reader.place ≡ view self.old.reader.place) × (self.new.news ≡ self.old.news) }
-        ensures shown { IfSome result (Names (view self.old.reader.place)) }
+        ensures shown { IfSome result (KnowsOf (view self.old.reader.place)) }
     {
         replace_with(&mut self.reader, (), |reader, _x| look_once(reader))
     }
@@ -106,7 +106,7 @@ impl<J: Naming, R: Wait + Drop> Viewer<J, R> {
 impl View {
     /// The world that is seen.
     pub fn world(&self) -> &World
-        ensures { result.now ≡ world_of self.now.shown }
+        ensures { result.now ≡ shown_world self.now.shown }
     {
         &self.shown.world
     }

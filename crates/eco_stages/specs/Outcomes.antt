@@ -27,11 +27,11 @@ left done None rest last = all_done done
 left done (Some refusal) rest last = all_done done ++ Err refusal ∷ outcomes_of rest last
 
 -- both are of the same number of commands, and memory was wanting for the same of them
-abbrev pub alike : Outcomes → Outcomes → Bool
-alike [] [] = true
-alike [] (q ∷ qs) = false
-alike (r ∷ rs) [] = false
-alike (r ∷ rs) (q ∷ qs) = beq (is_out_of_memory q) (is_out_of_memory r) && alike rs qs
+abbrev pub alike_in_memory : Outcomes → Outcomes → Bool
+alike_in_memory [] [] = true
+alike_in_memory [] (q ∷ qs) = false
+alike_in_memory (r ∷ rs) [] = false
+alike_in_memory (r ∷ rs) (q ∷ qs) = beq (is_out_of_memory q) (is_out_of_memory r) && alike_in_memory rs qs
 
 -- what is written, in order, and for how many outcomes there is room in all
 pub record Written : Type 0 where

@@ -4,7 +4,7 @@ ghost use Rattle.std.specs.Iterator.{at_most};
 ghost use Rattle.std.specs.Map.Iter.{TakesFirst};
 ghost use Rattle.std.specs.Slice.Iter.{iter_rest};
 ghost use Rattle.eco_ids.specs.Outcome.{is_out_of_memory};
-ghost use Rattle.eco_stages.specs.Outcomes.{alike, left, outcomes_of};
+ghost use Rattle.eco_stages.specs.Outcomes.{alike_in_memory, left, outcomes_of};
 
 use crate::outcomes::Refused;
 use eco_ids::Refusal;
@@ -72,7 +72,7 @@ fn wants_memory(outcome: &Result<(), Refusal>) -> bool
 impl Iter<'_> {
     /// Whether both have the same number of outcomes left, and memory was wanting for the same commands.
     pub(crate) fn is_alike(self, other: Iter<'_>) -> bool
-        ensures { result ≡ alike self.entry other.entry }
+        ensures { result ≡ alike_in_memory self.entry other.entry }
     {
         let (mut own, mut others) = (self, other);
         while let Some(outcome) = own.next() {

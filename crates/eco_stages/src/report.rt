@@ -1,6 +1,6 @@
 //! What the commands of a merge answered.
 ghost use Rattle.std.specs.Prelude.{◌≡◌, ◌==◌, IfOk, length};
-ghost use Rattle.eco_stages.specs.Outcomes.{alike};
+ghost use Rattle.eco_stages.specs.Outcomes.{alike_in_memory};
 
 use crate::iter::Iter;
 use crate::outcomes::Outcomes;
@@ -68,7 +68,7 @@ impl Report {
     /// Whether both tell of the same number of commands, and memory was wanting for the same of them. Of two merges of the same
     /// commands into the same world this is all that can differ.
     pub fn is_alike(&self, other: &Report) -> bool
-        ensures { result ≡ alike self.now other.now }
+        ensures { result ≡ alike_in_memory self.now other.now }
     {
         self.iter().is_alike(other.iter())
     }

@@ -9,9 +9,9 @@ use Rattle.eco_ids.specs.declared.value.Value.{Value}
 use Rattle.eco_systems.specs.declared.phase.Phase.{Phase}
 use Rattle.eco_systems.specs.declared.phase.Phase.TheVariants.{OnLoad, PostLoad, PreUpdate, OnUpdate, OnValidate, PostUpdate, PreStore, OnStore}
 use Rattle.eco_steps.specs.Actions.{Action, add, remove, put, sum, kill, spawn}
-use Rattle.eco_steps.specs.Decode.{list_in, each_in, value_in, slot_in, phase_of, action_of_none, action_of_text, action_of_slot, action_of}
+use Rattle.eco_steps.specs.Decode.{list_in, each_in, value_of_data, slot_in, phase_of, action_of_none, action_of_text, action_of_slot, action_of}
 use Rattle.eco_steps.specs.Decode.{action_in, actions_in, words_in}
-use Rattle.eco_steps.specs.Steps.{IsSlotData, IsActionData, IsActionsData, phase_word, written}
+use Rattle.eco_steps.specs.Steps.{IsSlotData, IsActionData, IsActionsData, phase_word, written_list}
 use Rattle.eco_steps.proofs.Parts.{number_in_range, value_found, chosen, word_is, str_is, number_is, list_is, value_is, words_is}
 use Rattle.eco_steps.proofs.Values.{items_list-items_of, each_found, each_is}
 
@@ -65,38 +65,39 @@ module _ (edition : Edition) where
       (each_found (action_in edition) (IsActionData edition) action_found items actions are)
 
   -- what is found is what is written
-  none_is : (w : List ℕ) (a : Action) → action_of_none w ≡ Some a → IsActionData edition (written w []) a
+  none_is : (w : List ℕ) (a : Action) → action_of_none w ≡ Some a → IsActionData edition (written_list w []) a
   none_is w a e =
       chosen _ (bytes_eq w (codes "kill")) _ _ a e (λ t h. let q : a ≡ kill = cc in rw (q, word_is w _ t) refl)
       (λ f. chosen _ (bytes_eq w (codes "spawn")) _ _ a f (λ t h. let q : a ≡ spawn None = cc in rw (q, word_is w _ t) refl) (λ h. cc))
 
-  text_is : (w x : List ℕ) (a : Action) → action_of_text w x ≡ Some a → IsActionData edition (written w (string x ∷ [])) a
+  text_is : (w x : List ℕ) (a : Action) → action_of_text w x ≡ Some a → IsActionData edition (written_list w (string x ∷ [])) a
   text_is w x a e =
       chosen _ (bytes_eq w (codes "add")) _ _ a e (λ t h. let q : a ≡ add x = cc in rw (q, word_is w _ t) refl)
       (λ f. chosen _ (bytes_eq w (codes "remove")) _ _ a f (λ t h. let q : a ≡ remove x = cc in rw (q, word_is w _ t) refl)
       (λ g. chosen _ (bytes_eq w (codes "spawn")) _ _ a g (λ t h. let q : a ≡ spawn (Some x) = cc in rw (q, word_is w _ t) refl) (λ h. cc)))
 
-  put_is : (w : List ℕ) (d e : Data) (n : ℕ) (a : Action) → IsSlotData d n → bytes_eq w (codes "put") ≡ true → option_map (put n) (value_in edition e) ≡ Some a
-      → IsActionData edition (written w (d ∷ e ∷ [])) a
-  put_is w d e n a at t f = valued (value_in edition e) refl f where
-    valued : (o : Option Value) → value_in edition e ≡ o → option_map (put n) o ≡ Some a → IsActionData edition (written w (d ∷ e ∷ [])) a
+  put_is : (w : List ℕ) (d e : Data) (n : ℕ) (a : Action) → IsSlotData d n → bytes_eq w (codes "put") ≡ true
+      → option_map (put n) (value_of_data edition e) ≡ Some a
+      → IsActionData edition (written_list w (d ∷ e ∷ [])) a
+  put_is w d e n a at t f = valued (value_of_data edition e) refl f where
+    valued : (o : Option Value) → value_of_data edition e ≡ o → option_map (put n) o ≡ Some a → IsActionData edition (written_list w (d ∷ e ∷ [])) a
     valued None is h = cc
     valued (Some v) is h = let q : a ≡ put n v = cc in rw (q, word_is w _ t) (d, e, refl, at, value_is edition e v is)
 
   sum_is : (w : List ℕ) (d e : Data) (n : ℕ) (a : Action) → IsSlotData d n → bytes_eq w (codes "sum") ≡ true → option_map (sum n) (slot_in e) ≡ Some a
-      → IsActionData edition (written w (d ∷ e ∷ [])) a
+      → IsActionData edition (written_list w (d ∷ e ∷ [])) a
   sum_is w d e n a at t f = counted (slot_in e) refl f where
-    counted : (o : Option ℕ) → slot_in e ≡ o → option_map (sum n) o ≡ Some a → IsActionData edition (written w (d ∷ e ∷ [])) a
+    counted : (o : Option ℕ) → slot_in e ≡ o → option_map (sum n) o ≡ Some a → IsActionData edition (written_list w (d ∷ e ∷ [])) a
     counted None is h = cc
     counted (Some m) is h = let q : a ≡ sum n m = cc in rw (q, word_is w _ t) (d, e, refl, at, slot_is e m is)
 
   slots_are : (w : List ℕ) (d e : Data) (n : ℕ) (a : Action) → IsSlotData d n → action_of_slot edition w n e ≡ Some a
-      → IsActionData edition (written w (d ∷ e ∷ [])) a
+      → IsActionData edition (written_list w (d ∷ e ∷ [])) a
   slots_are w d e n a at f =
       chosen _ (bytes_eq w (codes "put")) _ _ a f (put_is w d e n a at)
       (λ g. chosen _ (bytes_eq w (codes "sum")) _ _ a g (sum_is w d e n a at) (λ h. cc))
 
-  action_of_is : (w : List ℕ) (ds : List Data) (a : Action) → action_of edition w ds ≡ Some a → IsActionData edition (written w ds) a
+  action_of_is : (w : List ℕ) (ds : List Data) (a : Action) → action_of edition w ds ≡ Some a → IsActionData edition (written_list w ds) a
   action_of_is w [] a e = none_is w a e
   action_of_is w (d ∷ []) a e = option_and_then_some (action_of_text w) (as_str d) a e (λ x is h. rw (str_is d x is) (text_is w x a h))
   action_of_is w (d ∷ f ∷ []) a e =

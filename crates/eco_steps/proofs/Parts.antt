@@ -18,9 +18,9 @@ use Rattle.eco_ids.specs.declared.value.TheConstants.{FIELD_COUNT}
 use Rattle.eco_ids.specs.declared.value.Value.{Value}
 use Rattle.eco_ids.specs.Edition.{largest_arity}
 use Rattle.eco_ids.specs.World.{padded}
-use Rattle.eco_steps.specs.Decode.{items_list, list_in, each_in, name_in, number_in, integer_in, value_of_items, value_in}
+use Rattle.eco_steps.specs.Decode.{items_list, list_in, each_in, name_in, number_in, integer_in, value_of_items, value_of_data}
 use Rattle.eco_steps.specs.Decode.{words_of, words_in}
-use Rattle.eco_steps.specs.Steps.{IsIntegerData, IsValueData, written, list_data, name_data}
+use Rattle.eco_steps.specs.Steps.{IsIntegerData, IsValueData, written_list, list_data, name_data}
 use Rattle.eco_steps.proofs.Values.{items_list-items_of, items_of-items_list, each_found, each_is, one_more}
 
 -- ---- what is written is found
@@ -45,7 +45,7 @@ module _ (edition : Edition) where
       → value_of_items edition ds ≡ option_map padded (each_in integer_in ds)
   items_read ds l h = grind arith
 
-  pub value_found : (d : Data) (v : Value) → IsValueData edition d v → value_in edition d ≡ Some v
+  pub value_found : (d : Data) (v : Value) → IsValueData edition d v → value_of_data edition d ≡ Some v
   value_found d v is =
       let long = same_length IsIntegerData is.items is.fields is.are_integers in
       rw (is.is_list, items_list-items_of is.items, is.filled)
@@ -132,7 +132,7 @@ module _ (edition : Edition) where
         let long = same_length IsIntegerData ds fields are in
         record { items = ds; fields = fields; is_list = refl; are_integers = are; at_least = omega arith; at_most = omega arith; filled = cc }
 
-  pub value_is : (d : Data) (v : Value) → value_in edition d ≡ Some v → IsValueData edition d v
+  pub value_is : (d : Data) (v : Value) → value_of_data edition d ≡ Some v → IsValueData edition d v
   value_is d v e = option_and_then_some (value_of_items edition) (list_in d) v e (λ ds is h. rw (list_is d ds is) (fields_are ds v h))
 
 -- an arity of any edition is one that a value has room for
@@ -181,13 +181,13 @@ field_read f items i item fields z there small is found zeros =
     )
 
 -- what has a word in front is written so
-words_are : (es : List Data) (w : List ℕ) (ds : List Data) → words_of es ≡ Some (w, ds) → list_data es ≡ written w ds
+words_are : (es : List Data) (w : List ℕ) (ds : List Data) → words_of es ≡ Some (w, ds) → list_data es ≡ written_list w ds
 words_are [] w ds e = cc
 words_are (word ∷ rest) w ds e = said (as_str word) refl e where
   said : (o : Option (List ℕ)) → as_str word ≡ o → option_map {U = List ℕ × List Data} (λ t. (t, rest)) o ≡ Some (w, ds)
-      → list_data (word ∷ rest) ≡ written w ds
+      → list_data (word ∷ rest) ≡ written_list w ds
   said None is h = cc
   said (Some t) is h = let (p, q) = some_pair_parts t w rest ds h in rw (str_is word t is, p, q) refl
 
-pub words_is : (d : Data) (w : List ℕ) (ds : List Data) → words_in d ≡ Some (w, ds) → d ≡ written w ds
+pub words_is : (d : Data) (w : List ℕ) (ds : List Data) → words_in d ≡ Some (w, ds) → d ≡ written_list w ds
 words_is d w ds e = option_and_then_some words_of (list_in d) (w, ds) e (λ es is h. list_is d es is ∙ words_are es w ds h)

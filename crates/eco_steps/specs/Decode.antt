@@ -16,7 +16,7 @@ use Rattle.eco_steps.specs.Steps.{Step, create, component, add, remove, set, cle
 use Rattle.eco_steps.specs.Steps.{cache, cached, merge, system, frame, phase_word}
 use Rattle.eco_steps.specs.Actions.{Action}
 use Rattle.eco_steps.specs.Actions as action
-use Rattle.eco_steps.specs.Commands.{Command}
+use Rattle.eco_steps.specs.Commands.{WrittenCommand}
 use Rattle.eco_steps.specs.Commands as command
 use Rattle.eco_steps.specs.Script.{Script}
 
@@ -101,28 +101,28 @@ abbrev pub words_in : Data → Option (List ℕ × List Data)
 words_in d = option_and_then words_of (list_in d)
 
 -- the command that a step is, if a stage may hold it
-abbrev pub command_of : Step → Option Command
-command_of (create None) = None
-command_of (create (Some handle)) = Some (command.create handle)
-command_of (component name arity) = None
-command_of (add entity id) = Some (command.add entity id)
-command_of (remove entity id) = Some (command.remove entity id)
-command_of (set entity id v) = Some (command.set entity id v)
-command_of (clear entity) = Some (command.clear entity)
-command_of (remove_all id) = Some (command.remove_all id)
-command_of (delete entity) = Some (command.delete entity)
-command_of (delete_with id) = Some (command.delete_with id)
-command_of (rename entity name) = Some (command.rename entity name)
-command_of (has entity id) = None
-command_of (get entity id) = None
-command_of (show entity) = None
-command_of list = None
-command_of (query text) = None
-command_of (cache text) = None
-command_of (cached n) = None
-command_of (merge admitted stages) = None
-command_of (system name phase text actions) = None
-command_of frame = None
+abbrev pub command_in_step : Step → Option WrittenCommand
+command_in_step (create None) = None
+command_in_step (create (Some handle)) = Some (command.create handle)
+command_in_step (component name arity) = None
+command_in_step (add entity id) = Some (command.add entity id)
+command_in_step (remove entity id) = Some (command.remove entity id)
+command_in_step (set entity id v) = Some (command.set entity id v)
+command_in_step (clear entity) = Some (command.clear entity)
+command_in_step (remove_all id) = Some (command.remove_all id)
+command_in_step (delete entity) = Some (command.delete entity)
+command_in_step (delete_with id) = Some (command.delete_with id)
+command_in_step (rename entity name) = Some (command.rename entity name)
+command_in_step (has entity id) = None
+command_in_step (get entity id) = None
+command_in_step (show entity) = None
+command_in_step list = None
+command_in_step (query text) = None
+command_in_step (cache text) = None
+command_in_step (cached n) = None
+command_in_step (merge admitted stages) = None
+command_in_step (system name phase text actions) = None
+command_in_step frame = None
 
 -- the phase of a word
 abbrev pub phase_of : List ℕ → Option Phase
@@ -160,8 +160,8 @@ module _ (edition : Edition) where
   value_of_items ds = if nat_le 1 (length ds) && nat_le (length ds) (largest_arity edition) then option_map padded (each_in integer_in ds) else None
 
   -- the value of a component
-  abbrev pub value_in : Data → Option Value
-  value_in d = option_and_then value_of_items (list_in d)
+  abbrev pub value_of_data : Data → Option Value
+  value_of_data d = option_and_then value_of_items (list_in d)
 
   -- the step with this word, a text and one more argument
   abbrev pub step_of_two : List ℕ → List ℕ → Data → Option Step
@@ -172,7 +172,7 @@ module _ (edition : Edition) where
 
   -- the step with this word, two texts and one more argument
   abbrev pub step_of_three : List ℕ → List ℕ → List ℕ → Data → Option Step
-  step_of_three word text other d = if bytes_eq word (codes "set") then option_map (set text other) (value_in d) else None
+  step_of_three word text other d = if bytes_eq word (codes "set") then option_map (set text other) (value_of_data d) else None
 
   -- the step with this word and these arguments, by how many there are
   abbrev pub step_of : List ℕ → List Data → Option Step
@@ -187,27 +187,27 @@ module _ (edition : Edition) where
   alone_in d = option_and_then (λ p. step_of p.0 p.1) (words_in d)
 
   -- the command that a value is
-  abbrev pub command_in : Data → Option Command
-  command_in d = option_and_then command_of (alone_in d)
+  abbrev pub command_in : Data → Option WrittenCommand
+  command_in d = option_and_then command_in_step (alone_in d)
 
   -- the commands that a value lists
-  abbrev pub stage_in : Data → Option (List Command)
+  abbrev pub stage_in : Data → Option (List WrittenCommand)
   stage_in d = option_and_then (each_in command_in) (list_in d)
 
   -- the stages that a value lists
-  abbrev pub stages_in : Data → Option (List (List Command))
+  abbrev pub stages_in : Data → Option (List (List WrittenCommand))
   stages_in d = option_and_then (each_in stage_in) (list_in d)
 
   -- the merge with these arguments
-  abbrev pub merge_of : List Data → Option Step
-  merge_of (admitted ∷ stages ∷ []) =
+  abbrev pub merge_of_data : List Data → Option Step
+  merge_of_data (admitted ∷ stages ∷ []) =
       option_and_then (λ n. option_map (merge n) (stages_in stages)) (number_in 0 1048576 admitted)
-  merge_of _ = None
+  merge_of_data _ = None
 
   -- the action with this word, a slot and one more argument
   abbrev pub action_of_slot : List ℕ → ℕ → Data → Option Action
   action_of_slot word slot d =
-      if bytes_eq word (codes "put") then option_map (action.put slot) (value_in d)
+      if bytes_eq word (codes "put") then option_map (action.put slot) (value_of_data d)
       else (if bytes_eq word (codes "sum") then option_map (action.sum slot) (slot_in d) else None)
 
   -- the action with this word and these arguments, by how many there are
@@ -226,20 +226,20 @@ module _ (edition : Edition) where
   actions_in d = option_and_then (each_in action_in) (list_in d)
 
   -- the system with this name and these further arguments
-  abbrev pub system_with : List ℕ → Data → Data → Data → Option Step
-  system_with name phase text actions =
+  abbrev pub named_system_of_data : List ℕ → Data → Data → Data → Option Step
+  named_system_of_data name phase text actions =
       option_and_then (λ p. option_and_then (λ t. option_map (system name p t) (actions_in actions)) (as_str text)) (option_and_then phase_of (as_str phase))
 
   -- the system with these arguments
-  abbrev pub system_of : List Data → Option Step
-  system_of (name ∷ phase ∷ text ∷ actions ∷ []) = option_and_then (λ n. system_with n phase text actions) (as_str name)
-  system_of _ = None
+  abbrev pub system_of_data : List Data → Option Step
+  system_of_data (name ∷ phase ∷ text ∷ actions ∷ []) = option_and_then (λ n. named_system_of_data n phase text actions) (as_str name)
+  system_of_data _ = None
 
   -- the step with this word and these arguments
   abbrev pub step_with : List ℕ → List Data → Option Step
   step_with w ds =
-      if bytes_eq w (codes "merge") then merge_of ds
-      else (if bytes_eq w (codes "system") then system_of ds else step_of w ds)
+      if bytes_eq w (codes "merge") then merge_of_data ds
+      else (if bytes_eq w (codes "system") then system_of_data ds else step_of w ds)
 
   -- the step that a value is
   abbrev pub step_in : Data → Option Step

@@ -13,7 +13,7 @@ use Rattle.eco_systems.specs.declared.phase.Phase.{Phase}
 use Rattle.eco_systems.specs.declared.phase.Phase.TheVariants.{OnLoad, PostLoad, PreUpdate, OnUpdate, OnValidate, PostUpdate, PreStore, OnStore}
 use Rattle.eco_steps.specs.Actions.{Action}
 use Rattle.eco_steps.specs.Actions as action
-use Rattle.eco_steps.specs.Commands.{Command}
+use Rattle.eco_steps.specs.Commands.{WrittenCommand}
 use Rattle.eco_steps.specs.Commands as command
 
 -- what a script may ask for, with its texts as they are written: an entity by its name or handle, an id likewise or a pair,
@@ -37,7 +37,7 @@ pub data Step : Type 0 where
   query : List ℕ → Step
   cache : List ℕ → Step
   cached : ℕ → Step
-  merge : ℕ → List (List Command) → Step
+  merge : ℕ → List (List WrittenCommand) → Step
   system : List ℕ → Phase → List ℕ → List Action → Step
   frame : Step
 
@@ -66,8 +66,8 @@ pub record IsValueData (edition : Edition) (d : Data) (v : Value) : Type 0 where
   pub filled : v ≡ padded fields
 
 -- a list that begins with the step's word
-abbrev pub written : List ℕ → List Data → Data
-written word arguments = list_data (string word ∷ arguments)
+abbrev pub written_list : List ℕ → List Data → Data
+written_list word arguments = list_data (string word ∷ arguments)
 
 -- the word of a phase
 abbrev pub phase_word : Phase → List ℕ
@@ -87,37 +87,37 @@ IsSlotData d slot = (d ≡ number (unsigned slot)) × (slot ≤ 31)
 -- what a script of an edition may hold
 module _ (edition : Edition) where
   -- the JSON value is this command: it is written as the step of the same name
-  abbrev pub IsCommandData : Data → Command → Type 0
-  IsCommandData d (command.create handle) = d ≡ written (codes "create") (string handle ∷ [])
-  IsCommandData d (command.add entity id) = d ≡ written (codes "add") (string entity ∷ string id ∷ [])
-  IsCommandData d (command.remove entity id) = d ≡ written (codes "remove") (string entity ∷ string id ∷ [])
+  abbrev pub IsCommandData : Data → WrittenCommand → Type 0
+  IsCommandData d (command.create handle) = d ≡ written_list (codes "create") (string handle ∷ [])
+  IsCommandData d (command.add entity id) = d ≡ written_list (codes "add") (string entity ∷ string id ∷ [])
+  IsCommandData d (command.remove entity id) = d ≡ written_list (codes "remove") (string entity ∷ string id ∷ [])
   IsCommandData d (command.set entity id v) =
-      (value : Data) × (d ≡ written (codes "set") (string entity ∷ string id ∷ value ∷ [])) × IsValueData edition value v
-  IsCommandData d (command.clear entity) = d ≡ written (codes "clear") (string entity ∷ [])
-  IsCommandData d (command.rename entity name) = d ≡ written (codes "rename") (string entity ∷ name_data name ∷ [])
-  IsCommandData d (command.delete entity) = d ≡ written (codes "delete") (string entity ∷ [])
-  IsCommandData d (command.delete_with id) = d ≡ written (codes "delete_with") (string id ∷ [])
-  IsCommandData d (command.remove_all id) = d ≡ written (codes "remove_all") (string id ∷ [])
+      (value : Data) × (d ≡ written_list (codes "set") (string entity ∷ string id ∷ value ∷ [])) × IsValueData edition value v
+  IsCommandData d (command.clear entity) = d ≡ written_list (codes "clear") (string entity ∷ [])
+  IsCommandData d (command.rename entity name) = d ≡ written_list (codes "rename") (string entity ∷ name_data name ∷ [])
+  IsCommandData d (command.delete entity) = d ≡ written_list (codes "delete") (string entity ∷ [])
+  IsCommandData d (command.delete_with id) = d ≡ written_list (codes "delete_with") (string id ∷ [])
+  IsCommandData d (command.remove_all id) = d ≡ written_list (codes "remove_all") (string id ∷ [])
 
   -- the JSON value is the list of these commands
-  abbrev pub IsStageData : Data → List Command → Type 0
+  abbrev pub IsStageData : Data → List WrittenCommand → Type 0
   IsStageData d commands = (items : List Data) × (d ≡ list_data items) × AllZip IsCommandData items commands
 
   -- the JSON value is the list of these stages
-  abbrev pub IsStagesData : Data → List (List Command) → Type 0
+  abbrev pub IsStagesData : Data → List (List WrittenCommand) → Type 0
   IsStagesData d stages = (items : List Data) × (d ≡ list_data items) × AllZip IsStageData items stages
 
   -- the JSON value is this action
   abbrev pub IsActionData : Data → Action → Type 0
-  IsActionData d (action.add id) = d ≡ written (codes "add") (string id ∷ [])
-  IsActionData d (action.remove id) = d ≡ written (codes "remove") (string id ∷ [])
+  IsActionData d (action.add id) = d ≡ written_list (codes "add") (string id ∷ [])
+  IsActionData d (action.remove id) = d ≡ written_list (codes "remove") (string id ∷ [])
   IsActionData d (action.put slot v) =
-      (place : Data) × (value : Data) × (d ≡ written (codes "put") (place ∷ value ∷ [])) × IsSlotData place slot × IsValueData edition value v
+      (place : Data) × (value : Data) × (d ≡ written_list (codes "put") (place ∷ value ∷ [])) × IsSlotData place slot × IsValueData edition value v
   IsActionData d (action.sum into from) =
-      (place : Data) × (other : Data) × (d ≡ written (codes "sum") (place ∷ other ∷ [])) × IsSlotData place into × IsSlotData other from
-  IsActionData d action.kill = d ≡ written (codes "kill") []
-  IsActionData d (action.spawn None) = d ≡ written (codes "spawn") []
-  IsActionData d (action.spawn (Some id)) = d ≡ written (codes "spawn") (string id ∷ [])
+      (place : Data) × (other : Data) × (d ≡ written_list (codes "sum") (place ∷ other ∷ [])) × IsSlotData place into × IsSlotData other from
+  IsActionData d action.kill = d ≡ written_list (codes "kill") []
+  IsActionData d (action.spawn None) = d ≡ written_list (codes "spawn") []
+  IsActionData d (action.spawn (Some id)) = d ≡ written_list (codes "spawn") (string id ∷ [])
 
   -- the JSON value is the list of these actions
   abbrev pub IsActionsData : Data → List Action → Type 0
@@ -125,30 +125,30 @@ module _ (edition : Edition) where
 
   -- the JSON value is this step
   abbrev pub IsStepData : Data → Step → Type 0
-  IsStepData d (create None) = d ≡ written (codes "create") []
-  IsStepData d (create (Some name)) = d ≡ written (codes "create") (string name ∷ [])
+  IsStepData d (create None) = d ≡ written_list (codes "create") []
+  IsStepData d (create (Some name)) = d ≡ written_list (codes "create") (string name ∷ [])
   IsStepData d (component name arity) =
-      (d ≡ written (codes "component") (string name ∷ number (unsigned arity) ∷ [])) × (1 ≤ arity) × (arity ≤ largest_arity edition)
-  IsStepData d (add entity id) = d ≡ written (codes "add") (string entity ∷ string id ∷ [])
-  IsStepData d (remove entity id) = d ≡ written (codes "remove") (string entity ∷ string id ∷ [])
-  IsStepData d (set entity id v) = (value : Data) × (d ≡ written (codes "set") (string entity ∷ string id ∷ value ∷ [])) × IsValueData edition value v
-  IsStepData d (clear entity) = d ≡ written (codes "clear") (string entity ∷ [])
-  IsStepData d (remove_all id) = d ≡ written (codes "remove_all") (string id ∷ [])
-  IsStepData d (delete entity) = d ≡ written (codes "delete") (string entity ∷ [])
-  IsStepData d (delete_with id) = d ≡ written (codes "delete_with") (string id ∷ [])
-  IsStepData d (rename entity name) = d ≡ written (codes "rename") (string entity ∷ name_data name ∷ [])
-  IsStepData d (has entity id) = d ≡ written (codes "has") (string entity ∷ string id ∷ [])
-  IsStepData d (get entity id) = d ≡ written (codes "get") (string entity ∷ string id ∷ [])
-  IsStepData d (show entity) = d ≡ written (codes "show") (string entity ∷ [])
-  IsStepData d list = d ≡ written (codes "list") []
-  IsStepData d (query text) = d ≡ written (codes "query") (string text ∷ [])
-  IsStepData d (cache text) = d ≡ written (codes "cache") (string text ∷ [])
-  IsStepData d (cached n) = (d ≡ written (codes "cached") (number (unsigned n) ∷ [])) × (n ≤ 4294967295)
+      (d ≡ written_list (codes "component") (string name ∷ number (unsigned arity) ∷ [])) × (1 ≤ arity) × (arity ≤ largest_arity edition)
+  IsStepData d (add entity id) = d ≡ written_list (codes "add") (string entity ∷ string id ∷ [])
+  IsStepData d (remove entity id) = d ≡ written_list (codes "remove") (string entity ∷ string id ∷ [])
+  IsStepData d (set entity id v) = (value : Data) × (d ≡ written_list (codes "set") (string entity ∷ string id ∷ value ∷ [])) × IsValueData edition value v
+  IsStepData d (clear entity) = d ≡ written_list (codes "clear") (string entity ∷ [])
+  IsStepData d (remove_all id) = d ≡ written_list (codes "remove_all") (string id ∷ [])
+  IsStepData d (delete entity) = d ≡ written_list (codes "delete") (string entity ∷ [])
+  IsStepData d (delete_with id) = d ≡ written_list (codes "delete_with") (string id ∷ [])
+  IsStepData d (rename entity name) = d ≡ written_list (codes "rename") (string entity ∷ name_data name ∷ [])
+  IsStepData d (has entity id) = d ≡ written_list (codes "has") (string entity ∷ string id ∷ [])
+  IsStepData d (get entity id) = d ≡ written_list (codes "get") (string entity ∷ string id ∷ [])
+  IsStepData d (show entity) = d ≡ written_list (codes "show") (string entity ∷ [])
+  IsStepData d list = d ≡ written_list (codes "list") []
+  IsStepData d (query text) = d ≡ written_list (codes "query") (string text ∷ [])
+  IsStepData d (cache text) = d ≡ written_list (codes "cache") (string text ∷ [])
+  IsStepData d (cached n) = (d ≡ written_list (codes "cached") (number (unsigned n) ∷ [])) × (n ≤ 4294967295)
   IsStepData d (merge admitted stages) =
-      (value : Data) × (d ≡ written (codes "merge") (number (unsigned admitted) ∷ value ∷ [])) × (admitted ≤ 1048576) × IsStagesData value stages
+      (value : Data) × (d ≡ written_list (codes "merge") (number (unsigned admitted) ∷ value ∷ [])) × (admitted ≤ 1048576) × IsStagesData value stages
   IsStepData d (system name phase text actions) =
-      (value : Data) × (d ≡ written (codes "system") (string name ∷ string (phase_word phase) ∷ string text ∷ value ∷ [])) × IsActionsData value actions
-  IsStepData d frame = d ≡ written (codes "frame") []
+      (value : Data) × (d ≡ written_list (codes "system") (string name ∷ string (phase_word phase) ∷ string text ∷ value ∷ [])) × IsActionsData value actions
+  IsStepData d frame = d ≡ written_list (codes "frame") []
 
 -- the arity of a component that the step makes is one that the edition allows
 abbrev pub KeepsTo : Edition → Step → Type 0

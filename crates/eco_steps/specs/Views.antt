@@ -20,7 +20,7 @@ use Rattle.eco_steps.specs.declared.stages.Stages.{Stages}
 use Rattle.eco_steps.specs.declared.script.Script.{Script}
 
 -- the command, with the texts that it borrows
-abbrev pub command_view : Command → commands.Command
+abbrev pub command_view : Command → commands.WrittenCommand
 command_view (command.Create handle) = commands.create handle.now
 command_view (command.Add entity id) = commands.add entity.now id.now
 command_view (command.Remove entity id) = commands.remove entity.now id.now
@@ -32,11 +32,11 @@ command_view (command.DeleteWith id) = commands.delete_with id.now
 command_view (command.RemoveAll id) = commands.remove_all id.now
 
 -- the commands of the values that are kept, which are commands all
-abbrev pub commands_view : Commands → List commands.Command
+abbrev pub commands_view : Commands → List commands.WrittenCommand
 commands_view s = unwrap_or (each_in (command_in s.edition) (map view s.values.now)) []
 
 -- the stages of the values that are kept, likewise
-abbrev pub stages_view : Stages → List (List commands.Command)
+abbrev pub stages_view : Stages → List (List commands.WrittenCommand)
 stages_view s = unwrap_or (each_in (stage_in s.edition) (map view s.values.now)) []
 
 -- the action, with the texts that it borrows

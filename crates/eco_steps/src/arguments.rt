@@ -5,7 +5,7 @@ ghost use Rattle.serde_json.specs.View.{view};
 ghost use Rattle.eco_ids.specs.declared.value.TheConstants.{FIELD_COUNT};
 ghost use Rattle.eco_ids.specs.Edition.{largest_arity};
 ghost use Rattle.eco_ids.specs.World.{padded};
-ghost use Rattle.eco_steps.specs.Decode.{each_in, integer_in, limit_in, list_in, name_in, number_in, value_in, version_in, words_in};
+ghost use Rattle.eco_steps.specs.Decode.{each_in, integer_in, limit_in, list_in, name_in, number_in, value_of_data, version_in, words_in};
 
 use eco_ids::{Edition, FIELD_COUNT};
 use serde_json::Value;
@@ -95,7 +95,7 @@ fn read_fields(items: &[Value]) -> Option<eco_ids::Value>
 /// The value of a component in a world of an edition: a list of its first fields, one at least and as many as the largest
 /// arity at most, which are whole numbers of 64 bits. The others are 0.
 pub fn read_value(edition: Edition, value: &Value) -> Option<eco_ids::Value>
-    ensures { result ≡ value_in edition (view value.now) }
+    ensures { result ≡ value_of_data edition (view value.now) }
 {
     let items = read_list(value)?;
     if items.is_empty() || items.len() > usize::from(edition.largest_arity()) {

@@ -2,7 +2,7 @@
 
 ghost use Rattle.std.specs.Prelude.{◌≡◌, option_map};
 ghost use Rattle.serde_json.specs.View.{view};
-ghost use Rattle.eco_steps.specs.Decode.{command_in, command_of};
+ghost use Rattle.eco_steps.specs.Decode.{command_in, command_in_step};
 ghost use Rattle.eco_steps.specs.Views.{command_view, step_view};
 
 use crate::step::Step;
@@ -49,7 +49,7 @@ pub enum Command<'a> {
 impl<'a> Command<'a> {
     // The command that a step is, if a stage may hold it.
     fn of_step(step: Step<'a>) -> Option<Command<'a>>
-        ensures { option_map command_view result ≡ command_of (step_view step.entry) }
+        ensures { option_map command_view result ≡ command_in_step (step_view step.entry) }
     {
         let command = match step {
             Step::Create(Some(handle)) => Command::Create { handle },

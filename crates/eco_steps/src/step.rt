@@ -2,8 +2,8 @@
 
 ghost use Rattle.std.specs.Prelude.{◌≡◌, map, option_map};
 ghost use Rattle.serde_json.specs.View.{view};
-ghost use Rattle.eco_steps.specs.Decode.{alone_in, merge_of, step_in, step_of, step_of_none, step_of_one};
-ghost use Rattle.eco_steps.specs.Decode.{step_of_text, step_of_texts, step_of_two, step_of_three, system_of, system_with};
+ghost use Rattle.eco_steps.specs.Decode.{alone_in, merge_of_data, step_in, step_of, step_of_none, step_of_one};
+ghost use Rattle.eco_steps.specs.Decode.{step_of_text, step_of_texts, step_of_two, step_of_three, system_of_data, named_system_of_data};
 
 use crate::actions::Actions;
 use crate::arguments::{read_arity, read_name, read_number, read_value, read_words};
@@ -204,7 +204,7 @@ impl<'a> Step<'a> {
 
     // A merge with these arguments.
     fn merge(edition: Edition, arguments: &'a [Value]) -> Option<Step<'a>>
-        ensures { option_map step_view result ≡ merge_of edition (map view arguments.now) }
+        ensures { option_map step_view result ≡ merge_of_data edition (map view arguments.now) }
     {
         let [admitted, stages] = arguments else {
             return None;
@@ -224,7 +224,8 @@ impl<'a> Step<'a> {
         actions: &'a Value,
     ) -> Option<Step<'a>>
         ensures { option_map step_view result
-            ≡ system_with edition name.entry.now (view phase.now) (view query.now) (view actions.now) }
+            ≡ named_system_of_data edition name.entry.now (view phase.now) (view query.now)
+            (view actions.now) }
     {
         Some(Step::System {
             name,
@@ -236,7 +237,7 @@ impl<'a> Step<'a> {
 
     // A system with these arguments.
     fn system(edition: Edition, arguments: &'a [Value]) -> Option<Step<'a>>
-        ensures { option_map step_view result ≡ system_of edition (map view arguments.now) }
+        ensures { option_map step_view result ≡ system_of_data edition (map view arguments.now) }
     {
         let [name, phase, query, actions] = arguments else {
             return None;

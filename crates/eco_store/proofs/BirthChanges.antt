@@ -15,12 +15,12 @@ use Rattle.eco_ids.specs.Indices.{is_free_in, map_state, admitted}
 use Rattle.eco_tables.specs.Column.{retyped}
 use Rattle.eco_tables.specs.Table.{TableState}
 use Rattle.eco_entities.specs.declared.place.Place.{Place}
-use Rattle.eco_entities.specs.Registration.{Registration, name_of, newcomer, placed}
+use Rattle.eco_entities.specs.Registration.{Registration, given_name, newcomer, placed}
 use Rattle.eco_store.specs.Layout.{rows_in, PutsRow}
 use Rattle.eco_store.specs.Placing.{Opposes}
 use Rattle.eco_store.specs.Seats.{IsSeated, seat_of, seen, held_of}
 use Rattle.eco_archetypes.specs.Archetypes.{row_at}
-use Rattle.eco_store.specs.Store.{Creates, record_name, record_for, read, seat_in, seat_at, HasPlace, IsStore, all_zeros, newborn}
+use Rattle.eco_store.specs.Store.{CreatesRecord, record_name, record_for, read, seat_in, seat_at, HasPlace, IsStore, all_zeros, newborn}
 use Rattle.std.proofs.lemmas.Option.{slice_get-map}
 use Rattle.eco_store.proofs.Moves.{push_seated, push_others_seen, push_held}
 use Rattle.eco_ids.proofs.Lists.{slice_get-set_there, slice_get-set_other, map-replicate}
@@ -229,7 +229,7 @@ placed_new w e d p next =
 
 -- who has no name is made where somebody can be
 pub creates_unnamed : (w : Indexed Registration) (e : Entity) (arity : Option ℕ) → next_entity w ≡ Some e
-    → Meets (Makes name_of w (newcomer None arity)) (may_make name_of w None) w (Ok e) (with_new w e (newcomer None arity))
+    → Meets (Makes given_name w (newcomer None arity)) (may_make given_name w None) w (Ok e) (with_new w e (newcomer None arity))
 creates_unnamed w e arity next =
     let d = newcomer None arity in
     let made : Result Entity Refusal = Ok e in
@@ -309,15 +309,15 @@ admit_lifts w w1 s n some r h = by (is_out_of_memory r) h
 
 -- who is refused leaves what was seen
 pub still_refused : (old seen new : Indexed Record) (name : Option (List ℕ)) (arity : Option ℕ) (ids : List Id) (r : Result Entity Refusal) → old ≡ seen
-    → new ≡ old → Creates old name arity ids r old → Creates seen name arity ids r new
+    → new ≡ old → CreatesRecord old name arity ids r old → CreatesRecord seen name arity ids r new
 still_refused old seen new name arity ids r is same h =
-    subst (λ v. Creates v name arity ids r new) is (subst (Creates old name arity ids r) (sym same) h)
+    subst (λ v. CreatesRecord v name arity ids r new) is (subst (CreatesRecord old name arity ids r) (sym same) h)
 
 -- what stands against the entity is the refusal, also where tables went since
 pub still_opposed : (w : Indexed Registration) (s s1 : List (Option TableState)) (seen : Indexed Record) (name : Option (List ℕ)) (arity : Option ℕ)
     (ids : List Id) (why : Refusal)
-    → read w s ≡ seen → read w s1 ≡ read w s → Opposes (unfit_name name_of w name) (next_entity w) (Err why)
-    → Creates seen name arity ids (refused why) (read w s1)
+    → read w s ≡ seen → read w s1 ≡ read w s → Opposes (unfit_name given_name w name) (next_entity w) (Err why)
+    → CreatesRecord seen name arity ids (refused why) (read w s1)
 still_opposed w s s1 seen name arity ids why is same h =
     still_refused (read w s) seen _ name arity ids (refused why) is same
-    (opposed (record_for (row_at s)) name_of record_name (λ a. refl) w (newborn name arity ids) name refl why h)
+    (opposed (record_for (row_at s)) given_name record_name (λ a. refl) w (newborn name arity ids) name refl why h)

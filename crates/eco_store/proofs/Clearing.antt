@@ -14,8 +14,8 @@ use Rattle.eco_ids.specs.declared.entity.Entity.{Entity}
 use Rattle.eco_ids.specs.Indices.{Indexed, is_alive, record_of, with_death}
 use Rattle.eco_ids.specs.Order.{entity_cmp, entity_eq, has_item}
 use Rattle.eco_ids.proofs.States.{living_at, record_at}
-use Rattle.eco_tables.specs.Table.{TableState, Row, entities_of}
-use Rattle.eco_tables.specs.Tables.{slot_of, table_in, no_row, no_table, Sets}
+use Rattle.eco_tables.specs.Table.{TableState, TableRow, entities_of}
+use Rattle.eco_tables.specs.Tables.{slot_of, table_in, no_row, no_table, SetsSlot}
 use Rattle.eco_entities.specs.declared.place.Place.{Place}
 use Rattle.eco_entities.specs.Registration.{Registration, own_place}
 use Rattle.eco_archetypes.specs.Archetypes.{row_at, SameRows}
@@ -41,17 +41,17 @@ unplaced_dead w s e store none = by (record_of w e) refl
         absurd (none-some place.0 (sym none ∙ ap (option_and_then (λ (x : Registration). x.place)) is ∙ place.1))
 
 -- a list that begins with the entities of some rows
-pub begun_rows : (rows : List Row) (es : List Entity) → es ≡ entities_of rows ++ drop (length rows) es
+pub begun_rows : (rows : List TableRow) (es : List Entity) → es ≡ entities_of rows ++ drop (length rows) es
     → (take (length rows) es ≡ entities_of rows) × (length rows ≤ length es)
 begun_rows rows es begun =
-    let long : length (entities_of rows) ≡ length rows = length-map rows (λ (r : Row). r.entity) in
+    let long : length (entities_of rows) ≡ length rows = length-map rows (λ (r : TableRow). r.entity) in
     let rest = drop (length rows) es in
     let all : length es ≡ length (entities_of rows) + length rest = ap length begun ∙ length-append (entities_of rows) rest in (
       (λ t. take (sym long t) (begun t)) ∙ take-append_seam (entities_of rows) rest,
       omega (arith, long, all),
     )
 
-swap_last : (xs : List Row) (k : ℕ) → k < length xs → swap_remove (take (k + 1) xs) k no_row ≡ take k xs
+swap_last : (xs : List TableRow) (k : ℕ) → k < length xs → swap_remove (take (k + 1) xs) k no_row ≡ take k xs
 swap_last xs k within =
     let long : length (take (k + 1) xs) ≡ k + 1 = length-take-le (k + 1) xs (omega (arith, within)) in
     let end : k ≡ length (take (k + 1) xs) - 1 = omega (arith, long) in
@@ -79,7 +79,7 @@ one_first e es x = by (entity_eq e x) (has_item entity_cmp es x)
     by false false = refl
 
 module _ (w : Indexed Registration) (s : List (Option TableState)) (n : ℕ) (is_store : IsStore w s) (there : IsSome (slot_of s n)) where
-  abbrev pub rows : List Row
+  abbrev pub rows : List TableRow
   rows = rows_in s n
 
   abbrev pub standing : List Entity
@@ -98,7 +98,7 @@ module _ (w : Indexed Registration) (s : List (Option TableState)) (n : ℕ) (is
     | inr past ↦ absurd (true≢false (sym there ∙ ap is_some (get_or_past s n None past)))
   ]
 
-  cut_sets : (k : ℕ) → Sets s (cut k) n (Some (shortened k))
+  cut_sets : (k : ℕ) → SetsSlot s (cut k) n (Some (shortened k))
   cut_sets k = record {
     changed = get_or-set_same s n (Some (shortened k)) None within;
     others = λ m other. get_or-set_other s n m (Some (shortened k)) None other;
@@ -128,7 +128,7 @@ module _ (w : Indexed Registration) (s : List (Option TableState)) (n : ℕ) (is
         ∙ ap Some (get_or-take (k + 1) rows k no_row (omega arith))
 
     last_is : (get_or rows k no_row).entity ≡ e
-    last_is = sym (get_or-map (λ (r : Row). r.entity) rows k no_row no_entity within)
+    last_is = sym (get_or-map (λ (r : TableRow). r.entity) rows k no_row no_entity within)
 
     last_own : own_place w1 e ≡ Some p
     last_own =
@@ -146,7 +146,7 @@ module _ (w : Indexed Registration) (s : List (Option TableState)) (n : ℕ) (is
       };
       filled =
           let long : length (entities_of (rows_in (cut k) n)) ≡ k =
-          length-map (rows_in (cut k) n) (λ (r : Row). r.entity) ∙ ap length (cut_here k) ∙ length-take-le k rows (omega (arith, within)) in
+          length-map (rows_in (cut k) n) (λ (r : TableRow). r.entity) ∙ ap length (cut_here k) ∙ length-take-le k rows (omega (arith, within)) in
           sym (slice_get_past (entities_of (rows_in (cut k) n)) k (omega (arith, long)));
     }
 
@@ -167,7 +167,7 @@ module _ (w : Indexed Registration) (s : List (Option TableState)) (n : ℕ) (is
   all_left : AreLeft (length rows)
   all_left =
       let none : drop (length rows) standing ≡ [] =
-      let long = length-map rows (λ (r : Row). r.entity) in drop_of_length-le standing (omega (arith, long)) in
+      let long = length-map rows (λ (r : TableRow). r.entity) in drop_of_length-le standing (omega (arith, long)) in
       let same : SameRows s (cut (length rows)) = λ m j. elim (cases_eq m n) [
         | inl here ↦
             ap (λ i. row_at (cut (length rows)) i j) here ∙ ap (λ xs. slice_get xs j) (cut_here (length rows) ∙ take_all (length rows) rows (omega arith))
@@ -187,7 +187,7 @@ module _ (w : Indexed Registration) (s : List (Option TableState)) (n : ℕ) (is
       let e = get_or standing k no_entity in
       let rest = drop (k + 1) standing in
       let w1 = with_deaths w rest in
-      let long = length-map rows (λ (r : Row). r.entity) in
+      let long = length-map rows (λ (r : TableRow). r.entity) in
       let next : drop k standing ≡ e ∷ rest = next_dead standing k (omega (arith, long, within)) in
       let lives : IsTrue (is_alive (after_deaths (read w s) (has_item entity_cmp rest)) e) =
       sym (ap (λ v. is_alive v e) left.read) ∙ alive_same w1 (cut (k + 1)) e ∙ last_lives k within left.store in
@@ -210,7 +210,7 @@ module _ (w : Indexed Registration) (s : List (Option TableState)) (n : ℕ) (is
   pub next_lives : (es : List Entity) (left : ℕ) → es ≡ standing → 0 < left → left ≤ length es
       → IsTrue (is_alive (with_deaths w (drop left es)) (get_or es (left - 1) no_entity))
   next_lives es left is some within =
-      let long : length es ≡ length rows = ap length is ∙ length-map rows (λ (r : Row). r.entity) in
+      let long : length es ≡ length rows = ap length is ∙ length-map rows (λ (r : TableRow). r.entity) in
       let back : left - 1 + 1 ≡ left = omega (arith, some) in
       let lives = last_lives (left - 1) (omega (arith, some, within, long)) (are_left (left - 1 + 1) (omega (arith, some, within, long))).store in
       subst (λ k. IsTrue (is_alive (with_deaths w (drop k es)) (get_or es (left - 1) no_entity))) back

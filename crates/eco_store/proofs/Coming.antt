@@ -12,11 +12,11 @@ use Rattle.eco_ids.specs.declared.id.Id.{Id}
 use Rattle.eco_ids.specs.Indices.{changed, change_kept, Indexed, is_alive, record_of}
 use Rattle.eco_ids.proofs.Lists.{not_equal}
 use Rattle.eco_tables.specs.Table.{TableState}
-use Rattle.eco_tables.specs.Tables.{slot_of, table_in, no_table, Moves, Sets}
+use Rattle.eco_tables.specs.Tables.{slot_of, table_in, no_table, Moves, SetsSlot}
 use Rattle.eco_archetypes.specs.Archetypes.{type_at, KeepsTypes}
 use Rattle.eco_archetypes.proofs.ArchetypeLemmas.{moves_types, there_as_typed}
 use Rattle.eco_store.specs.declared.moving.Move.{Move}
-use Rattle.eco_store.specs.Moving.{arriving, Admits, AreTyped, HasRoomFor}
+use Rattle.eco_store.specs.Moving.{arriving, AdmitsRow, AreTyped, HasRoomFor}
 use Rattle.eco_store.specs.Staying.{SameIn}
 use Rattle.eco_store.proofs.RowChanges.{is_equal}
 
@@ -106,7 +106,7 @@ pub room_none : (s : List (Option TableState)) → HasRoomFor s []
 room_none s m = omega arith
 
 -- room for one more
-pub place_more : (s s' : List (Option TableState)) (ns : List ℕ) (n : ℕ) (slot : Option TableState) → HasRoomFor s ns → Sets s s' n slot
+pub place_more : (s s' : List (Option TableState)) (ns : List ℕ) (n : ℕ) (slot : Option TableState) → HasRoomFor s ns → SetsSlot s s' n slot
     → (table_in s n).room + 1 ≤ (table_in s' n).room → HasRoomFor s' (ns ++ n ∷ [])
 place_more s s' ns n slot room sets more m =
     let parts = arriving_more ns n m in
@@ -131,7 +131,7 @@ first_place s n ns room =
 
 -- and leaves room for the others
 pub rest_places : (s s' : List (Option TableState)) (targets : List ℕ) (n : ℕ) (ns : List ℕ) → All (λ k. IsTrue (list_any (nat_eq k) targets)) ns
-    → Admits s s' targets n → HasRoomFor s (n ∷ ns) → HasRoomFor s' ns
+    → AdmitsRow s s' targets n → HasRoomFor s (n ∷ ns) → HasRoomFor s' ns
 rest_places s s' targets n ns among admits room m = by (list_any (nat_eq m) targets) refl
   where
     by : (b : Bool) → list_any (nat_eq m) targets ≡ b → arriving ns m ≤ (table_in s' m).room
@@ -140,12 +140,12 @@ rest_places s s' targets n ns among admits room m = by (list_any (nat_eq m) targ
 
 -- ---- moves
 
-pub admits_none : (s : List (Option TableState)) (slots : List ℕ) (to : ℕ) → Admits s s slots to
+pub admits_none : (s : List (Option TableState)) (slots : List ℕ) (to : ℕ) → AdmitsRow s s slots to
 admits_none s slots to = record { types = λ n among. refl; room = λ n among. omega arith }
 
 -- a row moved, and then tables outside of these slots may have gone
 pub admits_row : (s s1 s2 : List (Option TableState)) (from row to : ℕ) (slots : List ℕ) → IsSome (slot_of s from) → IsSome (slot_of s to)
-    → Moves s s1 from row to → SameIn s1 s2 slots → Admits s s2 slots to
+    → Moves s s1 from row to → SameIn s1 s2 slots → AdmitsRow s s2 slots to
 admits_row s s1 s2 from row to slots there_from there_to moves same = record {
   types = λ n among. ap (option_map (λ (t : TableState). t.ids)) (same n among) ∙ moves_types s s1 from row to moves there_from there_to n;
   room = λ n among.

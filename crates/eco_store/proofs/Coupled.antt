@@ -17,8 +17,8 @@ use Rattle.eco_tables.specs.Tables.{table_in, no_row, no_table, AllHaveIds}
 use Rattle.eco_index.specs.Edges.{toggled}
 use Rattle.eco_archetypes.specs.Archetypes.{KeepsRoom, KeepsTypes, SameSlots, TakesType}
 use Rattle.eco_store.specs.Layout.{ids_at, rows_in, RetypesRow}
-use Rattle.eco_store.specs.Moving.{arriving, Admits, LeavesRoom}
-use Rattle.eco_store.specs.Store.{IsStore, read, record_ids, stepped, type_of, with_toggled, with_type}
+use Rattle.eco_store.specs.Moving.{arriving, AdmitsRow, LeavesRoom}
+use Rattle.eco_store.specs.Store.{IsStore, read, record_ids, stepped, type_in_store, with_toggled, with_type}
 use Rattle.eco_store.proofs.Stepping.{toggled_as, toggled_typed, type_there}
 use Rattle.eco_store.proofs.StoreChanges.{row_within}
 use Rattle.eco_store.proofs.Taking.{takes_row}
@@ -68,7 +68,7 @@ module _ (w : Indexed Registration) (s : List (Option TableState)) where
 
   module _ (e : Entity) (p : Place) (store : IsStore w s) (own : own_place w e ≡ Some p) (had : AllHaveIds s) where
     -- an entity's type is that of its table
-    type_kept : type_of (read w s) e ≡ Some (table_in s p.table).ids
+    type_kept : type_in_store (read w s) e ≡ Some (table_in s p.table).ids
     type_kept = type_there w s e p store own ∙ ap Some (had p.table p.row no_row (row_within w s e p store own))
 
     -- whose table takes its next type steps
@@ -112,7 +112,7 @@ turn_leaves s s1 n kept ids takes apart =
     let room = ap (λ o. (unwrap_or o no_table).room) same in
     record { types = λ had is. ap (option_map (λ (t : TableState). t.ids)) same ∙ is; room = omega (arith, room) }
 
-pub move_leaves : (s s1 s2 : List (Option TableState)) (kept to : ℕ) (targets : List ℕ) → KeepsTypes s s1 → KeepsRoom s s1 → Admits s1 s2 targets to
+pub move_leaves : (s s1 s2 : List (Option TableState)) (kept to : ℕ) (targets : List ℕ) → KeepsTypes s s1 → KeepsRoom s s1 → AdmitsRow s1 s2 targets to
     → IsTrue (list_any (nat_eq kept) targets) → LeavesRoom s s2 kept
 move_leaves s s1 s2 kept to targets types room admits named =
     let one = few_arrive to kept in

@@ -8,13 +8,13 @@ use Rattle.eco_ids.specs.Order.{id_cmp, has_item}
 use Rattle.eco_ids.specs.World.{Record}
 use Rattle.eco_entities.specs.declared.place.Place.{Place}
 use Rattle.eco_entities.specs.Registration.{Registration, own_place}
-use Rattle.eco_tables.specs.Table.{TableState, Row}
+use Rattle.eco_tables.specs.Table.{TableState, TableRow}
 use Rattle.eco_tables.specs.Tables.{no_row}
 use Rattle.eco_index.specs.Edges.{exchanged}
 use Rattle.eco_store.specs.Layout.{rows_in, ids_at}
 use Rattle.eco_store.specs.Seats.{seat_of, held_of}
 use Rattle.eco_archetypes.specs.Archetypes.{row_at}
-use Rattle.eco_store.specs.Store.{IsStore, read, record_for, record_ids, has, held_at, with_exchanged, with_type}
+use Rattle.eco_store.specs.Store.{IsStore, read, record_for, record_ids, has_in_store, held_at, with_exchanged, with_type}
 use Rattle.std.specs.FinMap.Entries.{find}
 use Rattle.eco_ids.proofs.Exact.{keys_find}
 use Rattle.eco_store.proofs.StoreChanges.{placed_record, read_record, seat_there}
@@ -30,9 +30,9 @@ module _ (w : Indexed Registration) (s : List (Option TableState)) (e : Entity) 
   ids =
       let row = store.seated.there e.index (seat_of e p.table p.row) (seat_there w e p own) in
       let held : held_at (row_at s) of.0.place ≡ row.0.held = ap (held_at (row_at s)) of.2 ∙ ap held_of row.1 in
-      ap (λ (x : Row). map (λ q. q.0) x.held) (get_or_from_slice_get (rows_in s p.table) p.row row.0 no_row row.1) ∙ sym (ap (map (λ q. q.0)) held)
+      ap (λ (x : TableRow). map (λ q. q.0) x.held) (get_or_from_slice_get (rows_in s p.table) p.row row.0 no_row row.1) ∙ sym (ap (map (λ q. q.0)) held)
 
-  pub has_at : (i : Id) → has_item id_cmp (ids_at s p) i ≡ has (read w s) e i
+  pub has_at : (i : Id) → has_item id_cmp (ids_at s p) i ≡ has_in_store (read w s) e i
   has_at i =
       ap (λ xs. has_item id_cmp xs i) ids ∙ sym (keys_find (record_for (row_at s) of.0).held i)
       ∙ ap (λ o. is_some (find id_cmp i (unwrap_or (option_map (λ (r : Record). r.held) o) []))) (sym at)

@@ -11,7 +11,7 @@ use Rattle.eco_ids.specs.declared.entity.Entity.{Entity}
 use Rattle.eco_ids.specs.declared.id.Id.{Id}
 use Rattle.eco_ids.specs.Indices.{Indexed, living, record_of}
 use Rattle.eco_ids.specs.Order.{entity_cmp, has_item, is_ascending}
-use Rattle.eco_tables.specs.Table.{Row, TableState, entities_of}
+use Rattle.eco_tables.specs.Table.{TableRow, TableState, entities_of}
 use Rattle.eco_tables.specs.Tables.{no_table, slot_of, table_in}
 use Rattle.eco_index.proofs.TypeTests.{same_truth}
 use Rattle.eco_archetypes.specs.Archetypes.{is_found_by, FindsSome, standing_in, row_at}
@@ -23,12 +23,12 @@ use Rattle.eco_ids.proofs.Facts.{or_right}
 use Rattle.eco_store.proofs.Sorting.{Apart, apart_append}
 use Rattle.eco_store.proofs.Values.{stands_type}
 
-pub first_row : (rows : List Row) → 0 < length rows → (r : Row) × (slice_get rows 0 ≡ Some r)
+pub first_row : (rows : List TableRow) → 0 < length rows → (r : TableRow) × (slice_get rows 0 ≡ Some r)
 first_row [] none = absurd (omega arith)
 first_row (r ∷ rows) some = (r, refl)
 
 -- a row that is there stands within its table
-pub row_within : (rows : List Row) (k : ℕ) (r : Row) → slice_get rows k ≡ Some r → k < length rows
+pub row_within : (rows : List TableRow) (k : ℕ) (r : TableRow) → slice_get rows k ≡ Some r → k < length rows
 row_within [] k r at = absurd (cc)
 row_within (x ∷ rows) zero r at = omega arith
 row_within (x ∷ rows) (suc k) r at = let rest = row_within rows k r at in omega (arith, rest)
@@ -54,19 +54,20 @@ some_kept (Some k) ids e = (k, refl, sym (same_Some _ _ e))
 
 module _ (w : Indexed Record) (s : List (Option TableState)) (test : List Id → Bool) (shown : IsShown w s) where
   -- the entity of a row has the ids of the row's table
-  pub row_kept : (n row : ℕ) (r : Row) → row_at s n row ≡ Some r → (k : Record) × (record_of w r.entity ≡ Some k) × (map (λ h. h.0) k.held ≡ (table_in s n).ids)
+  pub row_kept : (n row : ℕ) (r : TableRow) → row_at s n row ≡ Some r → (k : Record) × (record_of w r.entity ≡ Some k)
+      × (map (λ h. h.0) k.held ≡ (table_in s n).ids)
   row_kept n row r at = some_kept (record_of w r.entity) (table_in s n).ids
       (stands_type (record_of w r.entity) (table_in s n) row (shown.rows n row r at) (shown.own n))
 
   -- who stands in a table whose type passes does
-  pub found_has : (n row : ℕ) (r : Row) → row_at s n row ≡ Some r → test (table_in s n).ids ≡ true → PassesOwn (passes test) w r.entity
+  pub found_has : (n row : ℕ) (r : TableRow) → row_at s n row ≡ Some r → test (table_in s n).ids ≡ true → PassesOwn (passes test) w r.entity
   found_has n row r at fit =
       let own = row_kept n row r at in
       (own.0, own.1, ap test own.2 ∙ fit)
 
   -- the row of an entity, in a table that is found
   abbrev pub StandsFound : Entity → Type 0
-  StandsFound e = (n : ℕ) × (row : ℕ) × (r : Row) × (row_at s n row ≡ Some r) × (r.entity ≡ e) × (is_found_by test (slot_of s n) ≡ true)
+  StandsFound e = (n : ℕ) × (row : ℕ) × (r : TableRow) × (row_at s n row ≡ Some r) × (r.entity ≡ e) × (is_found_by test (slot_of s n) ≡ true)
 
   -- who passes stands in one
   pub has_found : (e : Entity) → PassesOwn (passes test) w e → StandsFound e
@@ -105,13 +106,13 @@ module _ (w : Indexed Record) (s : List (Option TableState)) (test : List Id →
 
   -- where an entity stands that is listed
   abbrev StandsIn : List ℕ → Entity → Type 0
-  StandsIn ns e = (n : ℕ) × (row : ℕ) × (r : Row) × (row_at s n row ≡ Some r) × (r.entity ≡ e) × (list_any (nat_eq n) ns ≡ true)
+  StandsIn ns e = (n : ℕ) × (row : ℕ) × (r : TableRow) × (row_at s n row ≡ Some r) × (r.entity ≡ e) × (list_any (nat_eq n) ns ≡ true)
 
-  in_rows : (rows : List Row) (e : Entity) → Contains (entities_of rows) e → (row : ℕ) × (r : Row) × (slice_get rows row ≡ Some r) × (r.entity ≡ e)
+  in_rows : (rows : List TableRow) (e : Entity) → Contains (entities_of rows) e → (row : ℕ) × (r : TableRow) × (slice_get rows row ≡ Some r) × (r.entity ≡ e)
   in_rows rows e c =
-      let d : Row = record { entity = e; held = [] } in
-      let within : c.0 < length rows = rw (length-map rows (λ (r : Row). r.entity)) at c.1 in
-      (c.0, get_or rows c.0 d, slice_get-get_or rows c.0 d within, sym (get_or-map (λ (r : Row). r.entity) rows c.0 d e within) ∙ c.2)
+      let d : TableRow = record { entity = e; held = [] } in
+      let within : c.0 < length rows = rw (length-map rows (λ (r : TableRow). r.entity)) at c.1 in
+      (c.0, get_or rows c.0 d, slice_get-get_or rows c.0 d within, sym (get_or-map (λ (r : TableRow). r.entity) rows c.0 d e within) ∙ c.2)
 
   pub standing_row : (ns : List ℕ) (e : Entity) → Contains (standing_in s ns) e → StandsIn ns e
   standing_row [] e c = absurd (omega (arith, c.1))
@@ -124,16 +125,16 @@ module _ (w : Indexed Record) (s : List (Option TableState)) (test : List Id →
         (row.0, row.1, row.2, row.3, row.4, or_right (nat_eq row.0 n) (list_any (nat_eq row.0) ns) row.5)
   ]
 
-  rows_contain : (rows : List Row) (row : ℕ) (r : Row) → slice_get rows row ≡ Some r → Contains (entities_of rows) r.entity
+  rows_contain : (rows : List TableRow) (row : ℕ) (r : TableRow) → slice_get rows row ≡ Some r → Contains (entities_of rows) r.entity
   rows_contain rows row r at =
       let within = row_within rows row r at in (
         row,
         rw length-map within,
-        get_or-map (λ (x : Row). x.entity) rows row r r.entity within
-            ∙ ap (λ (x : Row). x.entity) (get_or_from_slice_get rows row r r at),
+        get_or-map (λ (x : TableRow). x.entity) rows row r r.entity within
+            ∙ ap (λ (x : TableRow). x.entity) (get_or_from_slice_get rows row r r at),
       )
 
-  pub row_standing : (ns : List ℕ) (n row : ℕ) (r : Row) → list_any (nat_eq n) ns ≡ true → row_at s n row ≡ Some r → Contains (standing_in s ns) r.entity
+  pub row_standing : (ns : List ℕ) (n row : ℕ) (r : TableRow) → list_any (nat_eq n) ns ≡ true → row_at s n row ≡ Some r → Contains (standing_in s ns) r.entity
   row_standing [] n row r listed at = absurd (true≢false (sym listed))
   row_standing (m ∷ ns) n row r listed at = by (λ h. row_standing ns n row r h at) (nat_eq n m) refl
     where
@@ -149,11 +150,11 @@ module _ (w : Indexed Record) (s : List (Option TableState)) (test : List Id →
   rows_apart : (n : ℕ) → Apart (entities_of (table_in s n).rows)
   rows_apart n i j d below within same =
       let rows = (table_in s n).rows in
-      let q : Row = record { entity = d; held = [] } in
-      let in_j : j < length rows = rw (length-map rows (λ (r : Row). r.entity)) at within in
+      let q : TableRow = record { entity = d; held = [] } in
+      let in_j : j < length rows = rw (length-map rows (λ (r : TableRow). r.entity)) at within in
       let in_i : i < length rows = omega arith in
       let two = shown.once n i n j (get_or rows i q) (get_or rows j q) (slice_get-get_or rows i q in_i) (slice_get-get_or rows j q in_j)
-      (sym (get_or-map (λ (r : Row). r.entity) rows i q d in_i) ∙ same ∙ get_or-map (λ (r : Row). r.entity) rows j q d in_j) in
+      (sym (get_or-map (λ (r : TableRow). r.entity) rows i q d in_i) ∙ same ∙ get_or-map (λ (r : TableRow). r.entity) rows j q d in_j) in
       absurd (omega (arith, two.1))
 
   absent : (m n : ℕ) (ns : List ℕ) → AllByRecursion (λ k. nat_eq m k ≡ false) ns → list_any (nat_eq n) ns ≡ true → m ≢ n

@@ -18,8 +18,8 @@ use Rattle.eco_entities.specs.declared.place.Place.{Place}
 use Rattle.eco_entities.specs.Registration.{Registration}
 use Rattle.eco_archetypes.specs.Archetypes.{IsAllFound, row_at}
 use Rattle.eco_store.specs.Holders.{entities_whose, passes}
-use Rattle.eco_store.specs.Ranking.{IsNumbering, number_of, standing_by, standing_from, standing_of, StandsIn}
-use Rattle.eco_store.specs.Store.{HasPlace, IsStore, read, record_for, record_ids, seat_at, seat_in, seat_of_place, type_of}
+use Rattle.eco_store.specs.Ranking.{IsNumbering, slot_number, standing_by, standing_from, standing_of, StandsIn}
+use Rattle.eco_store.specs.Store.{HasPlace, IsStore, read, record_for, record_ids, seat_at, seat_in, seat_of_place, type_in_store}
 use Rattle.eco_store.specs.declared.standing.Standing.{Standing}
 use Rattle.eco_store.proofs.Holders.{found_matches, is_found_there, row_kept}
 use Rattle.eco_store.proofs.SeatChanges.{one_some}
@@ -31,7 +31,7 @@ use Rattle.eco_ids.proofs.States.{record_at}
 -- ---- numbers
 
 -- where no number is given no slot has one
-pub none_numbered : (slots : List ℕ) (numbers : List ℕ) → ((n : ℕ) → number_of numbers n ≡ 0) → IsNumbering slots 0 numbers
+pub none_numbered : (slots : List ℕ) (numbers : List ℕ) → ((n : ℕ) → slot_number numbers n ≡ 0) → IsNumbering slots 0 numbers
 none_numbered slots numbers zeros = record {
   places = λ n k is. let bad : 0 ≡ suc k = sym (zeros n) ∙ is in absurd (omega (arith, bad));
   others = λ n k is below. absurd (omega (arith, below));
@@ -45,13 +45,13 @@ one_numbered slots count numbers m here within old = record {
   others = λ n k is below. other n k (nat_eq n m) refl is below;
 }
   where
-    at_m : (n : ℕ) → n ≡ m → number_of (set numbers m (count + 1)) n ≡ count + 1
-    at_m n e = ap (number_of (set numbers m (count + 1))) e ∙ get_or-set_same numbers m (count + 1) 0 within
+    at_m : (n : ℕ) → n ≡ m → slot_number (set numbers m (count + 1)) n ≡ count + 1
+    at_m n e = ap (slot_number (set numbers m (count + 1))) e ∙ get_or-set_same numbers m (count + 1) 0 within
 
-    beside : (n : ℕ) → nat_eq n m ≡ false → number_of (set numbers m (count + 1)) n ≡ number_of numbers n
+    beside : (n : ℕ) → nat_eq n m ≡ false → slot_number (set numbers m (count + 1)) n ≡ slot_number numbers n
     beside n e = get_or-set_other numbers m n (count + 1) 0 (λ same. true≢false (sym ((Decides-eqb n m).1 same) ∙ e))
 
-    by : (n k : ℕ) (b : Bool) → nat_eq n m ≡ b → number_of (set numbers m (count + 1)) n ≡ suc k → (k < count + 1) × (get_or slots k 0 ≡ n)
+    by : (n k : ℕ) (b : Bool) → nat_eq n m ≡ b → slot_number (set numbers m (count + 1)) n ≡ suc k → (k < count + 1) × (get_or slots k 0 ≡ n)
     by n k true e is =
         let same : n ≡ m = (Decides-eqb n m).0 e in
         let last : count + 1 ≡ suc k = sym (at_m n same) ∙ is in
@@ -61,7 +61,7 @@ one_numbered slots count numbers m here within old = record {
         let was = old.places n k (sym (beside n e) ∙ is) in
         (let low = was.0 in omega (arith, low), was.1)
 
-    other : (n k : ℕ) (b : Bool) → nat_eq n m ≡ b → number_of (set numbers m (count + 1)) n ≡ 0 → k < count + 1 → get_or slots k 0 ≢ n
+    other : (n k : ℕ) (b : Bool) → nat_eq n m ≡ b → slot_number (set numbers m (count + 1)) n ≡ 0 → k < count + 1 → get_or slots k 0 ≢ n
     other n k true e is below = let bad : count + 1 ≡ 0 = sym (at_m n ((Decides-eqb n m).0 e)) ∙ is in absurd (omega (arith, bad))
     other n k false e is below = λ same. cases same (nat_eq k count) refl
       where
@@ -117,7 +117,7 @@ module _ (w : Indexed Registration) (tables : List (Option TableState)) (store :
   abbrev Sits : ℕ → ℕ → Registration → Type 0
   Sits i g r =
       (p : Place) × (r.place ≡ Some p) × (0 < length (table_in tables p.table).rows) × (record_ids (kept r) ≡ (table_in tables p.table).ids)
-      × (type_of (read w tables) (handle i g) ≡ Some (table_in tables p.table).ids)
+      × (type_in_store (read w tables) (handle i g) ≡ Some (table_in tables p.table).ids)
 
   sits : (i g : ℕ) (r : Registration) → slice_get w.indices i ≡ Some (Living g r) → Sits i g r
   sits i g r at =
@@ -145,7 +145,7 @@ module _ (w : Indexed Registration) (tables : List (Option TableState)) (store :
   module _ (slots numbers : List ℕ) (numbering : IsNumbering slots (length slots) numbers) where
     module _ (test : List Id → Bool) (found : IsAllFound test tables slots) where
       -- a table's slot has a number exactly where its type passes
-      passing : (n k : ℕ) → 0 < length (table_in tables n).rows → number_of numbers n ≡ k → test (table_in tables n).ids ≡ is_given k
+      passing : (n k : ℕ) → 0 < length (table_in tables n).rows → slot_number numbers n ≡ k → test (table_in tables n).ids ≡ is_given k
       passing n zero rows is = by (test (table_in tables n).ids) refl
         where
           by : (b : Bool) → test (table_in tables n).ids ≡ b → b ≡ false
@@ -180,7 +180,7 @@ module _ (w : Indexed Registration) (tables : List (Option TableState)) (store :
           let n : ℕ = here.0.table in
           ap (λ o. map (λ (s : Standing). s.entity)
           (option_to_list (standing_of numbers i (option_map (seat_of_place g) o)) ++ standing_from numbers (i + 1) states)) here.1
-          ∙ one_more (handle i g) (kept r) (number_of numbers n) _ _ (ap test here.3 ∙ passing n (number_of numbers n) here.2 refl)
+          ∙ one_more (handle i g) (kept r) (slot_number numbers n) _ _ (ap test here.3 ∙ passing n (slot_number numbers n) here.2 refl)
           (whose_from (i + 1) states (next i (Living g r) states from))
 
       -- who is found by the walk is who passes
@@ -188,7 +188,7 @@ module _ (w : Indexed Registration) (tables : List (Option TableState)) (store :
       walked_whose = whose_from 0 w.indices (λ k. let e : k ≡ 0 + k = omega arith in ap (slice_get w.indices) e)
 
     -- the entity has the ids of the table that its number says
-    placed_one : (e : Entity) (n k : ℕ) (list : List Standing) → number_of numbers n ≡ k → type_of (read w tables) e ≡ Some (table_in tables n).ids
+    placed_one : (e : Entity) (n k : ℕ) (list : List Standing) → slot_number numbers n ≡ k → type_in_store (read w tables) e ≡ Some (table_in tables n).ids
         → AllByRecursion (StandsIn (read w tables) tables slots) list
         → AllByRecursion (StandsIn (read w tables) tables slots) (option_to_list (standing_by e k) ++ list)
     placed_one e n zero list is typed rest = rest
@@ -205,7 +205,7 @@ module _ (w : Indexed Registration) (tables : List (Option TableState)) (store :
         let here = first i g r states from in
         subst (λ o. AllByRecursion (StandsIn (read w tables) tables slots)
         (option_to_list (standing_of numbers i (option_map (seat_of_place g) o)) ++ standing_from numbers (i + 1) states)) (sym here.1)
-        (placed_one (handle i g) here.0.table (number_of numbers here.0.table) _ refl here.4 (placed_from (i + 1) states (next i (Living g r) states from)))
+        (placed_one (handle i g) here.0.table (slot_number numbers here.0.table) _ refl here.4 (placed_from (i + 1) states (next i (Living g r) states from)))
 
     -- each stands in the table at its place
     pub walked_placed : All (StandsIn (read w tables) tables slots) (standing_from numbers 0 w.indices)

@@ -3,7 +3,7 @@ use Rattle.std.proofs.Common.{◌≡◌, ◌≢◌, ℕ, List, [], ◌∷◌, �
 use Rattle.eco_ids.specs.declared.entity.Entity.{Entity}
 use Rattle.eco_ids.specs.declared.id.Id.{Id}
 use Rattle.eco_tables.specs.Table.{TableState, retyped_row, entities_of}
-use Rattle.eco_tables.specs.Tables.{table_in, row_in, no_table, new_row, Sets, Moves, with_row, without_row}
+use Rattle.eco_tables.specs.Tables.{table_in, row_in, no_table, new_row, SetsSlot, Moves, with_row, without_row}
 use Rattle.eco_entities.specs.declared.place.Place.{Place}
 use Rattle.eco_archetypes.specs.Archetypes.{SameRows}
 use Rattle.eco_store.specs.Layout.{rows_in, SetsRows, PutsRow, TakesRow, MovesRow}
@@ -13,7 +13,7 @@ use Rattle.eco_store.proofs.Pouring.{rows_same}
 pub rows_alike : (s s' : List (Option TableState)) → SameRows s s' → rows_in s' ≡ rows_in s
 rows_alike s s' same = λ t n. rows_same s s' same n t
 
-pub sets_rows : (s s' : List (Option TableState)) (n : ℕ) (slot : Option TableState) → Sets s s' n slot
+pub sets_rows : (s s' : List (Option TableState)) (n : ℕ) (slot : Option TableState) → SetsSlot s s' n slot
     → SetsRows (rows_in s) (rows_in s') n (unwrap_or slot no_table).rows
 sets_rows s s' n slot sets = record {
   changed = ap (λ o. (unwrap_or o no_table).rows) sets.changed;
@@ -21,7 +21,7 @@ sets_rows s s' n slot sets = record {
 }
 
 -- a row was taken out
-pub row_takes : (s s' : List (Option TableState)) (p : Place) (moved : Option Entity) → Sets s s' p.table (Some (without_row (table_in s p.table) p.row))
+pub row_takes : (s s' : List (Option TableState)) (p : Place) (moved : Option Entity) → SetsSlot s s' p.table (Some (without_row (table_in s p.table) p.row))
     → moved ≡ slice_get (entities_of (rows_in s' p.table)) p.row → TakesRow (rows_in s) (rows_in s') p moved
 row_takes s s' p moved sets filled = record { rows = sets_rows s s' p.table _ sets; filled = filled }
 
@@ -41,7 +41,7 @@ row_moves s s' from to n ids moved apart typed is moves filled =
 
 -- a new entity got a row
 pub row_puts : (s s' : List (Option TableState)) (p : Place) (e : Entity) (ids : List Id) → (table_in s p.table).ids ≡ ids
-    → p.row ≡ length (rows_in s p.table) → Sets s s' p.table (Some (with_row (table_in s p.table) (new_row e))) → PutsRow (rows_in s) (rows_in s') p e ids
+    → p.row ≡ length (rows_in s p.table) → SetsSlot s s' p.table (Some (with_row (table_in s p.table) (new_row e))) → PutsRow (rows_in s) (rows_in s') p e ids
 row_puts s s' p e ids typed end sets = record {
   end = end;
   rows = subst (λ is. SetsRows (rows_in s) (rows_in s') p.table (rows_in s p.table ++ retyped_row is (new_row e) ∷ [])) typed

@@ -7,23 +7,23 @@ use Rattle.eco_entities.specs.Registration.{Registration}
 use Rattle.eco_tables.specs.Table.{TableState}
 use Rattle.eco_tables.specs.Tables.{AllHaveIds, no_table, slot_of}
 use Rattle.eco_archetypes.specs.Archetypes.{type_at}
-use Rattle.eco_archetypes.specs.Widths.{Covers}
+use Rattle.eco_archetypes.specs.Widths.{MeetsNeeds}
 use Rattle.eco_store.specs.Lent.{AreTablesOf, KeepData, KeepsData}
-use Rattle.eco_store.specs.Store.{arity, read, IsStore}
+use Rattle.eco_store.specs.Store.{arity_in_store, read, IsStore}
 use Rattle.eco_store.proofs.Needing.{needed}
 use Rattle.eco_store.proofs.Values.{shows}
 
-pub kept_data : (w : Indexed Registration) (s : List (Option TableState)) → Covers (need w) s → KeepData (read w s) s
+pub kept_data : (w : Indexed Registration) (s : List (Option TableState)) → MeetsNeeds (need w) s → KeepData (read w s) s
 kept_data w s covers n i k at =
-    let own : fields_for (arity (read w s) i) ≤ need w i = needed w s i in
+    let own : fields_for (arity_in_store (read w s) i) ≤ need w i = needed w s i in
     let wide : need w i ≤ k = covers.each n i k at in
     omega arith
 
-pub kept_there : (w : Indexed Registration) (s : List (Option TableState)) (n : ℕ) (t : TableState) → Covers (need w) s → slot_of s n ≡ Some t
+pub kept_there : (w : Indexed Registration) (s : List (Option TableState)) (n : ℕ) (t : TableState) → MeetsNeeds (need w) s → slot_of s n ≡ Some t
     → KeepsData (read w s) t
 kept_there w s n t covers at = subst (λ o. KeepsData (read w s) (unwrap_or o no_table)) at (kept_data w s covers n)
 
 -- the tables that a store lends are its own
-pub lent_tables : (w : Indexed Registration) (s : List (Option TableState)) → IsStore w s → Covers (need w) s → AllHaveIds s
+pub lent_tables : (w : Indexed Registration) (s : List (Option TableState)) → IsStore w s → MeetsNeeds (need w) s → AllHaveIds s
     → ((n m : ℕ) (ids : List Id) → type_at s n ≡ Some ids → type_at s m ≡ Some ids → n ≡ m) → AreTablesOf (read w s) s
 lent_tables w s store covers own kinds = record { shown = shows w s store own; kept = kept_data w s covers; kinds = kinds }

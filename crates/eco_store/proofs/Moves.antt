@@ -9,10 +9,10 @@ use Rattle.eco_ids.specs.declared.id.Id.{Id}
 use Rattle.eco_entities.specs.declared.place.Place.{Place}
 use Rattle.eco_store.specs.Layout.{rows_in, MovesRow, TakesRow, PutsRow}
 use Rattle.eco_tables.specs.Column.{retyped}
-use Rattle.eco_tables.specs.Table.{TableState, Row, retyped_row, entities_of}
+use Rattle.eco_tables.specs.Table.{TableState, TableRow, retyped_row, entities_of}
 use Rattle.eco_tables.specs.Tables.{row_in, no_row, new_row as row_of}
 use Rattle.eco_ids.proofs.Lists.{not_equal}
-use Rattle.eco_store.specs.Seats.{Seat, IsSeated, entity_of, seat_of, held_of, seen}
+use Rattle.eco_store.specs.Seats.{Seat, IsSeated, seated_entity, seat_of, held_of, seen}
 use Rattle.eco_archetypes.specs.Archetypes.{row_at}
 use Rattle.eco_store.proofs.SeatChanges.{Removed, Pushed, no_some, one_some, seated_removed, seated_pushed, removed_seen, pushed_seen}
 use Rattle.eco_store.proofs.RowChanges.{between_rows, moves_removes, moves_pushes, rows_removed, rows_pushed, swap_at_row, swap_at_last, is_equal}
@@ -25,13 +25,13 @@ row_there P s i p seated here = let old = seated.there i p here in slice_get_wit
 module _ (P : ℕ → Option Seat) (s s' : List (Option TableState)) (i : ℕ) (p : Seat) (moved : Option Entity)
     (seated : IsSeated P (row_at s)) (here : P i ≡ Some p) (source : rows_in s' p.slot ≡ swap_remove (rows_in s p.slot) p.row no_row)
     (moved_is : moved ≡ slice_get (entities_of (rows_in s' p.slot)) p.row) where
-  abbrev pub rows : List Row
+  abbrev pub rows : List TableRow
   rows = rows_in s p.slot
 
   abbrev pub last : ℕ
   last = length rows - 1
 
-  abbrev pub m : Row
+  abbrev pub m : TableRow
   m = get_or rows last no_row
 
   pub there : p.row < length rows
@@ -43,16 +43,17 @@ module _ (P : ℕ → Option Seat) (s s' : List (Option TableState)) (i : ℕ) (
   pub m_seat : P m.entity.index ≡ Some (seat_of m.entity p.slot last)
   m_seat = seated.back p.slot last m m_row
 
-  moved_from : moved ≡ option_map (λ (r : Row). r.entity) (slice_get (swap_remove rows p.row no_row) p.row)
+  moved_from : moved ≡ option_map (λ (r : TableRow). r.entity) (slice_get (swap_remove rows p.row no_row) p.row)
   moved_from =
       moved_is ∙ ap (λ xs. slice_get (entities_of xs) p.row) source
-      ∙ slice_get-map (λ (r : Row). r.entity) (swap_remove rows p.row no_row) p.row
+      ∙ slice_get-map (λ (r : TableRow). r.entity) (swap_remove rows p.row no_row) p.row
 
   pub moved_some : last ≢ p.row → moved ≡ Some m.entity
-  moved_some d = moved_from ∙ ap (option_map (λ (r : Row). r.entity)) (swap_at_row rows p.row there d ∙ m_row)
+  moved_some d = moved_from ∙ ap (option_map (λ (r : TableRow). r.entity)) (swap_at_row rows p.row there d ∙ m_row)
 
   pub moved_none : last ≡ p.row → moved ≡ None
-  moved_none e = moved_from ∙ ap (option_map (λ (r : Row). r.entity)) (sym (ap (slice_get (swap_remove rows p.row no_row)) e) ∙ swap_at_last rows p.row there)
+  moved_none e = moved_from ∙ ap (option_map (λ (r : TableRow). r.entity)) (sym (ap (slice_get (swap_remove rows p.row no_row)) e)
+      ∙ swap_at_last rows p.row there)
 
   pub m_other : last ≢ p.row → m.entity.index ≢ i
   m_other d e = d (ap (λ (q : Seat). q.row) (one_some (P i) _ _ (ap P (sym e) ∙ m_seat) here))
@@ -94,19 +95,19 @@ module _ (P P' : ℕ → Option Seat) (s s' : List (Option TableState)) (i : ℕ
   within : p.row < length (rows_in s p.slot)
   within = row_there P s i p seated here
 
-  abbrev mine : Row
+  abbrev mine : TableRow
   mine = m P s s' i p moved seated here moves.source moves.filled
 
   abbrev final : ℕ
   final = last P s s' i p moved seated here moves.source moves.filled
 
-  abbrev E1 : ℕ → ℕ → Option Row
+  abbrev E1 : ℕ → ℕ → Option TableRow
   E1 = between_rows s s' from to ids moved within moves
 
   removes : Removed (row_at s) E1 p.slot p.row final
   removes = moves_removes s s' from to ids moved within moves
 
-  abbrev new_row : Row
+  abbrev new_row : TableRow
   new_row = retyped_row ids (row_in s p.slot p.row)
 
   pushes : Pushed E1 (row_at s') to.table to.row new_row
@@ -139,8 +140,8 @@ module _ (P P' : ℕ → Option Seat) (s s' : List (Option TableState)) (i : ℕ
   old_row : row_at s p.slot p.row ≡ Some (row_in s p.slot p.row)
   old_row = slice_get-get_or (rows_in s p.slot) p.row no_row within
 
-  new_is : new_row.entity ≡ entity_of i (record { generation = p.generation; slot = to.table; row = to.row })
-  new_is = let old = seated.there i p here in ap (λ (r : Row). r.entity) (one_some (row_at s p.slot p.row) _ _ old_row old.1) ∙ old.2
+  new_is : new_row.entity ≡ seated_entity i (record { generation = p.generation; slot = to.table; row = to.row })
+  new_is = let old = seated.there i p here in ap (λ (r : TableRow). r.entity) (one_some (row_at s p.slot p.row) _ _ old_row old.1) ∙ old.2
 
   P'_kept : (j : ℕ) → j ≢ i → P' j ≡ P1 j
   P'_kept j other = sym (P1_kept j other)
@@ -165,7 +166,7 @@ module _ (P P' : ℕ → Option Seat) (s s' : List (Option TableState)) (i : ℕ
     (gone : P' i ≡ None)
     (fixed : (e : Entity) → moved ≡ Some e → P' e.index ≡ Some (seat_of e p.slot p.row))
     (kept : (j : ℕ) → j ≢ i → ((e : Entity) → moved ≡ Some e → j ≢ e.index) → P' j ≡ P j) where
-  abbrev taken : Row
+  abbrev taken : TableRow
   taken = m P s s' i p moved seated here takes.rows.changed takes.filled
 
   abbrev end_row : ℕ
@@ -194,7 +195,7 @@ module _ (P P' : ℕ → Option Seat) (s s' : List (Option TableState)) (i : ℕ
 module _ (P P' : ℕ → Option Seat) (s s' : List (Option TableState)) (e : Entity) (p : Place) (ids : List Id)
     (seated : IsSeated P (row_at s)) (was : P e.index ≡ None) (puts : PutsRow (rows_in s) (rows_in s') p e ids)
     (now : P' e.index ≡ Some (seat_of e p.table p.row)) (kept : (j : ℕ) → j ≢ e.index → P' j ≡ P j) where
-  abbrev born : Row
+  abbrev born : TableRow
   born = retyped_row ids (row_of e)
 
   pushed : Pushed (row_at s) (row_at s') p.table p.row born

@@ -23,11 +23,11 @@ use Rattle.eco_tables.specs.Table.{TableState}
 use Rattle.eco_archetypes.specs.Archetypes.{row_at}
 use Rattle.eco_store.specs.declared.transfer.Transfer.{Transfer}
 use Rattle.eco_store.specs.Transfers.{placed_after, with_places}
-use Rattle.eco_store.specs.Store.{arity, fits, own_arity, read, record_for}
-use Rattle.eco_archetypes.specs.Widths.{Covers, FitsIn}
+use Rattle.eco_store.specs.Store.{arity_in_store, fits_in_store, own_arity_in_store, read, record_for}
+use Rattle.eco_archetypes.specs.Widths.{MeetsNeeds, FitsIn}
 use Rattle.eco_archetypes.proofs.Widths.{lowered, zero_later}
 
-own_needed : (w : Indexed Registration) (s : List (Option TableState)) (e : Entity) → fields_for (own_arity (read w s) e) ≤ need_of w e
+own_needed : (w : Indexed Registration) (s : List (Option TableState)) (e : Entity) → fields_for (own_arity_in_store (read w s) e) ≤ need_of w e
 own_needed w s e = rw (slice_get-map (map_state (record_for (row_at s))) w.indices e.index) (by (slice_get w.indices e.index))
   where
     by : (o : Option (IndexState Registration))
@@ -44,18 +44,19 @@ own_needed w s e = rw (slice_get-map (map_state (record_for (row_at s))) w.indic
         here true = omega arith
         here false = omega arith
 
-pub needed : (w : Indexed Registration) (s : List (Option TableState)) (i : Id) → fields_for (arity (read w s) i) ≤ need w i
+pub needed : (w : Indexed Registration) (s : List (Option TableState)) (i : Id) → fields_for (arity_in_store (read w s) i) ≤ need w i
 needed w s (One e) = own_needed w s e
-needed w s (Two r t) = by (own_arity (read w s) r) (own_needed w s r) (own_needed w s t)
+needed w s (Two r t) = by (own_arity_in_store (read w s) r) (own_needed w s r) (own_needed w s t)
   where
-    by : (o : Option ℕ) → fields_for o ≤ need_of w r → fields_for (own_arity (read w s) t) ≤ need_of w t
-        → fields_for (option_or o (own_arity (read w s) t)) ≤ need w (Two r t)
+    by : (o : Option ℕ) → fields_for o ≤ need_of w r → fields_for (own_arity_in_store (read w s) t) ≤ need_of w t
+        → fields_for (option_or o (own_arity_in_store (read w s) t)) ≤ need w (Two r t)
     by None a b = omega (arith, b)
     by (Some n) a b = omega (arith, a)
 
 -- a value that fits the arity fits in the tables
-pub fits_in : (w : Indexed Registration) (s : List (Option TableState)) (i : Id) (v : Value) → Covers (need w) s → IsTrue (fits (read w s) i v) → FitsIn s i v
-fits_in w s i v covers fit = (need w, covers, zero_later (unwrap_or (arity (read w s) i) 0) (need w i) v fit (needed w s i))
+pub fits_in : (w : Indexed Registration) (s : List (Option TableState)) (i : Id) (v : Value) → MeetsNeeds (need w) s → IsTrue (fits_in_store (read w s) i v)
+    → FitsIn s i v
+fits_in w s i v covers fit = (need w, covers, zero_later (unwrap_or (arity_in_store (read w s) i) 0) (need w i) v fit (needed w s i))
 
 -- an admission may want memory where it admits some
 pub admits : (w w1 : Indexed Registration) (n : ℕ) (some : Bool) (r : Result (Unit {0}) Refusal) → Meets (Admits w n) (may_admit w n && some) w r w1
@@ -86,7 +87,7 @@ module _ (w : Indexed Registration) (t : Transfer) (end count : ℕ) where
   moved_less (Two r u) = omega (arith, need_moved r, need_moved u)
 
 pub moved_covers : (w w1 : Indexed Registration) (s : List (Option TableState)) (t : Transfer) (end count : ℕ) → w1 ≡ with_places w t end count
-    → Covers (need w) s → Covers (need w1) s
+    → MeetsNeeds (need w) s → MeetsNeeds (need w1) s
 moved_covers w w1 s t end count is = lowered w w1 s (λ i. rw is (moved_less w t end count i))
 
 -- ---- places
@@ -102,14 +103,14 @@ module _ (law : NeedsNeverGrow) where
           law w (change_kept w e (placed p) (Some r)) (SetPlace e p) (ap is_some h, ap (change_kept w e (placed p)) (sym h)) i
 
   pub placed_covers : (w w1 : Indexed Registration) (s : List (Option TableState)) (e : Entity) (p : Place) → w1 ≡ changed w e (placed p)
-      → Covers (need w) s → Covers (need w1) s
+      → MeetsNeeds (need w) s → MeetsNeeds (need w1) s
   placed_covers w w1 s e p is = lowered w w1 s (λ i. rw is (placed_less w e p i))
 
   pub fixed_covers : (w w1 : Indexed Registration) (s : List (Option TableState)) (moved : Option Entity) (p : Place) → w1 ≡ fixed w moved p
-      → Covers (need w) s → Covers (need w1) s
-  fixed_covers w w1 s None p is = subst (λ v. Covers (need v) s) (sym is)
+      → MeetsNeeds (need w) s → MeetsNeeds (need w1) s
+  fixed_covers w w1 s None p is = subst (λ v. MeetsNeeds (need v) s) (sym is)
   fixed_covers w w1 s (Some e) p is = placed_covers w w1 s e p is
 
   -- a call needs no more
-  pub called : (c : Call) (w w1 : Indexed Registration) (s : List (Option TableState)) → LeadsTo c w w1 → Covers (need w) s → Covers (need w1) s
+  pub called : (c : Call) (w w1 : Indexed Registration) (s : List (Option TableState)) → LeadsTo c w w1 → MeetsNeeds (need w) s → MeetsNeeds (need w1) s
   called c w w1 s leads = lowered w w1 s (law w w1 c leads)

@@ -3,7 +3,7 @@ use Rattle.std.proofs.Common.{◌≡◌, ◌≢◌, ℕ, List, Option, Some, Non
 use Rattle.std.proofs.lemmas.Option.{none-some}
 use Rattle.eco_ids.specs.declared.entity.Entity.{Entity}
 use Rattle.eco_ids.specs.Indices.{Indexed}
-use Rattle.eco_tables.specs.Table.{Row, TableState}
+use Rattle.eco_tables.specs.Table.{TableRow, TableState}
 use Rattle.eco_entities.specs.declared.place.Place.{Place}
 use Rattle.eco_entities.specs.Registration.{Registration, own_place}
 use Rattle.eco_archetypes.specs.Archetypes.{row_at}
@@ -20,16 +20,16 @@ if_none None p = p
 if_none (Some a) p = tt
 
 module _ (w : Indexed Registration) (s : List (Option TableState)) (store : IsStore w s) (e : Entity) where
-  pub stands_at : (p : Place) → own_place w e ≡ Some p → (row : ℕ) × (r : Row) × (row_at s p.table row ≡ Some r) × (r.entity ≡ e)
+  pub stands_at : (p : Place) → own_place w e ≡ Some p → (row : ℕ) × (r : TableRow) × (row_at s p.table row ≡ Some r) × (r.entity ≡ e)
   stands_at p own =
       let there = store.seated.there e.index (seat_of e p.table p.row) (seat_there w e p own) in (p.row, there.0, there.1, there.2)
 
-  pub stands_only : (p : Place) → own_place w e ≡ Some p → (m row : ℕ) (r : Row) → row_at s m row ≡ Some r → r.entity ≡ e → m ≡ p.table
+  pub stands_only : (p : Place) → own_place w e ≡ Some p → (m row : ℕ) (r : TableRow) → row_at s m row ≡ Some r → r.entity ≡ e → m ≡ p.table
   stands_only p own m row r at is =
       let here = subst (λ (x : Entity). seat_at w x.index ≡ Some (seat_of x m row)) is (store.seated.back m row r at) in
       ap (λ (q : Seat). q.slot) (one_some (seat_at w e.index) _ _ here (seat_there w e p own))
 
-  pub stands_nowhere : own_place w e ≡ None → (m row : ℕ) (r : Row) → row_at s m row ≡ Some r → r.entity ≢ e
+  pub stands_nowhere : own_place w e ≡ None → (m row : ℕ) (r : TableRow) → row_at s m row ≡ Some r → r.entity ≢ e
   stands_nowhere none m row r at is =
       let found = place_from_seat _ r.entity m row (store.seated.back m row r at) in
       let own : own_place w r.entity ≡ Some (record { table = m; row = row }) =

@@ -7,7 +7,7 @@ use Rattle.std.proofs.lemmas.Bool.{cases_eq}
 use Rattle.std.proofs.lemmas.List.{length-map, map-append}
 use Rattle.std.proofs.lemmas.List.Elements.{All-head, All-nil, All-tail, All-push}
 use Rattle.eco_tables.specs.Table.{TableState}
-use Rattle.eco_tables.specs.Tables.{slot_of, table_in, no_table, Sets}
+use Rattle.eco_tables.specs.Tables.{slot_of, table_in, no_table, SetsSlot}
 use Rattle.eco_ids.proofs.Lists.{not_equal}
 use Rattle.eco_archetypes.proofs.ArchetypeLemmas.{type_there, there_by_type, there_as_typed}
 use Rattle.eco_store.specs.declared.transfer.Transfer.{Transfer}
@@ -183,7 +183,7 @@ due_more s (u ∷ ts) t n = let rest = due_more s ts t n in omega (arith, rest)
 
 -- room for one transfer more
 pub room_more : (s s' : List (Option TableState)) (ts : List Transfer) (t : Transfer) (slot : Option TableState) → HasRoom s ts → SameRows s s' →
-    Sets s s' t.to slot
+    SetsSlot s s' t.to slot
     → (table_in s t.to).room + length (table_in s t.from).rows ≤ (table_in s' t.to).room → HasRoom s' (ts ++ t ∷ [])
 room_more s s' ts t slot room same sets more n =
     let fewer : due s' (ts ++ t ∷ []) n ≤ due s (ts ++ t ∷ []) n =

@@ -16,7 +16,7 @@ use Rattle.eco_ids.specs.declared.id.Id.{Id}
 use Rattle.eco_ids.specs.Indices.{Indexed}
 use Rattle.eco_ids.specs.Order.{entity_cmp, AscendingAreSets}
 use Rattle.eco_ids.proofs.Facts.{or_right}
-use Rattle.eco_tables.specs.Table.{Row, TableState, entities_of}
+use Rattle.eco_tables.specs.Table.{TableRow, TableState, entities_of}
 use Rattle.eco_tables.specs.Tables.{slot_of, table_in}
 use Rattle.eco_archetypes.specs.Archetypes.{is_found_by, standing_in}
 use Rattle.eco_store.specs.Holders.{entities_whose}
@@ -90,8 +90,8 @@ found_there test None h = absurd (true≢false (sym h))
 found_there test (Some t) h = refl
 
 module _ (w : Indexed Record) (tables : List (Option TableState)) (shown : IsShown w tables) where
-  rows_placed : (P : Standing → Type 0) (i : ℕ) (rows : List Row)
-      → ((row : ℕ) (r : Row) → slice_get rows row ≡ Some r → P (record { entity = r.entity; place = i }))
+  rows_placed : (P : Standing → Type 0) (i : ℕ) (rows : List TableRow)
+      → ((row : ℕ) (r : TableRow) → slice_get rows row ≡ Some r → P (record { entity = r.entity; place = i }))
       → AllByRecursion P (map (λ e. record { entity = e; place = i }) (entities_of rows))
   rows_placed P i [] h = tt
   rows_placed P i (r ∷ rows) h = (h 0 r refl, rows_placed P i rows (λ row x at. h (suc row) x at))

@@ -5,7 +5,7 @@ use Rattle.std.specs.List.{swap_remove}
 use Rattle.std.proofs.lemmas.Bool.{cases_eq, cases_lt}
 use Rattle.std.proofs.lemmas.Bool.Decides.{Decides-eqb}
 use Rattle.std.proofs.lemmas.Option.{slice_get_past, slice_get-get_or}
-use Rattle.eco_tables.specs.Table.{TableState, Row, retyped_row}
+use Rattle.eco_tables.specs.Table.{TableState, TableRow, retyped_row}
 use Rattle.eco_tables.specs.Tables.{row_in, no_row}
 use Rattle.eco_ids.specs.declared.entity.Entity.{Entity}
 use Rattle.eco_ids.specs.declared.id.Id.{Id}
@@ -18,7 +18,7 @@ use Rattle.eco_store.proofs.SeatChanges.{Removed, Pushed}
 pub is_equal : (j k : ℕ) → j ≡ k → (j == k) ≡ true
 is_equal j k e = (Decides-eqb j k).1 e
 
-module _ (xs : List Row) (row : ℕ) (there : row < length xs) where
+module _ (xs : List TableRow) (row : ℕ) (there : row < length xs) where
   swap_below : (k : ℕ) → k < length xs - 1 → slice_get (swap_remove xs row no_row) k ≡ slice_get xs (before row (length xs) k)
   swap_below k below =
       slice_get-get_or (swap_remove xs row no_row) k no_row (rw (length-swap_remove xs row no_row) below)
@@ -45,7 +45,7 @@ module _ (xs : List Row) (row : ℕ) (there : row < length xs) where
       ]
 
 -- a row went from a table, and nothing else did
-pub rows_removed : (s : List (Option TableState)) (E : ℕ → ℕ → Option Row) (f row : ℕ) → row < length (rows_in s f)
+pub rows_removed : (s : List (Option TableState)) (E : ℕ → ℕ → Option TableRow) (f row : ℕ) → row < length (rows_in s f)
     → ((k : ℕ) → E f k ≡ slice_get (swap_remove (rows_in s f) row no_row) k) → ((n k : ℕ) → n ≢ f → E n k ≡ row_at s n k)
     → Removed (row_at s) E f row (length (rows_in s f) - 1)
 rows_removed s E f row there here elsewhere = record {
@@ -56,7 +56,7 @@ rows_removed s E f row there here elsewhere = record {
 }
 
 -- a row came to the end of a table, and nothing else did
-pub rows_pushed : (E E' : ℕ → ℕ → Option Row) (t end : ℕ) (xs : List Row) (r : Row) → end ≡ length xs → ((k : ℕ) → E t k ≡ slice_get xs k)
+pub rows_pushed : (E E' : ℕ → ℕ → Option TableRow) (t end : ℕ) (xs : List TableRow) (r : TableRow) → end ≡ length xs → ((k : ℕ) → E t k ≡ slice_get xs k)
     → ((k : ℕ) → E' t k ≡ slice_get (xs ++ r ∷ []) k) → ((n k : ℕ) → n ≢ t → E' n k ≡ E n k) → Pushed E E' t end r
 rows_pushed E E' t end xs r end_is before after elsewhere = rw end_is (record {
   free = before (length xs) ∙ slice_get_past xs (length xs) (omega arith);
@@ -67,11 +67,11 @@ rows_pushed E E' t end xs r end_is before after elsewhere = rw end_is (record {
 
 module _ (s s' : List (Option TableState)) (from to : Place) (ids : List Id) (moved : Option Entity) (there : from.row < length (rows_in s from.table))
     (moves : MovesRow (rows_in s) (rows_in s') from to ids moved) where
-  abbrev left : List Row
+  abbrev left : List TableRow
   left = swap_remove (rows_in s from.table) from.row no_row
 
   -- the rows when one was taken out
-  abbrev pub between_rows : ℕ → ℕ → Option Row
+  abbrev pub between_rows : ℕ → ℕ → Option TableRow
   between_rows n k = cond (n == from.table) (slice_get left k) (row_at s n k)
 
   between_here : (k : ℕ) → between_rows from.table k ≡ slice_get left k

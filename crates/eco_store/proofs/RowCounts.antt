@@ -7,7 +7,7 @@ use Rattle.eco_ids.specs.Indices.{Indexed, IndexState}
 use Rattle.eco_entities.specs.declared.place.Place.{Place}
 use Rattle.eco_entities.specs.Registration.{Registration, own_place}
 use Rattle.eco_entities.specs.Rules.{IsRuled}
-use Rattle.eco_tables.specs.Table.{TableState, Row}
+use Rattle.eco_tables.specs.Table.{TableState, TableRow}
 use Rattle.eco_tables.specs.Tables.{table_in}
 use Rattle.eco_store.specs.Seats.{Seat, seat_of}
 use Rattle.eco_store.specs.Store.{IsStore, seat_at, seat_in}
@@ -18,11 +18,11 @@ seat_known None s h = absurd (none-some s h)
 seat_known (Some x) s h = (x, λ i. Some x)
 
 module _ (w : Indexed Registration) (s : List (Option TableState)) (ruled : IsRuled w) (store : IsStore w s) (n : ℕ) where
-  abbrev none : Row
+  abbrev none : TableRow
   none = record { entity = record { index = 0; generation = 0 }; held = [] }
 
   -- the row at a place of the table
-  abbrev row : ℕ → Row
+  abbrev row : ℕ → TableRow
   row i = get_or (table_in s n).rows i none
 
   seated : (i : ℕ) → i < length (table_in s n).rows → seat_at w (row i).entity.index ≡ Some (seat_of (row i).entity n i)

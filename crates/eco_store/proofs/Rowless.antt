@@ -5,8 +5,8 @@ use Rattle.std.specs.List.{list_any}
 use Rattle.std.proofs.lemmas.Bool.{cases_eq}
 use Rattle.std.proofs.lemmas.Bool.Decides.{Decides-eqb}
 use Rattle.std.proofs.lemmas.List.{length-append}
-use Rattle.eco_tables.specs.Table.{TableState, Row}
-use Rattle.eco_tables.specs.Tables.{slot_of, table_in, no_table, rowless, rowless_type, Sets, Moves, with_row}
+use Rattle.eco_tables.specs.Table.{TableState, TableRow}
+use Rattle.eco_tables.specs.Tables.{slot_of, table_in, no_table, rowless, rowless_type, SetsSlot, Moves, with_row}
 use Rattle.eco_ids.proofs.Lists.{not_equal}
 use Rattle.eco_archetypes.specs.Archetypes.{is_rowless, RowlessIn, SameRows, SameTypes}
 use Rattle.eco_store.specs.declared.transfer.Transfer.{Transfer}
@@ -23,7 +23,7 @@ use Rattle.eco_store.proofs.Pouring.{rows_same}
 pub rowless_there : (s : List (Option TableState)) (n : ℕ) → IsTrue (is_rowless s n) → IsSome (slot_of s n) × ((table_in s n).rows ≡ [])
 rowless_there s n = by (slot_of s n)
   where
-    of_rows : (t : TableState) (rows : List Row) → IsTrue (is_some (rowless t rows)) → rows ≡ []
+    of_rows : (t : TableState) (rows : List TableRow) → IsTrue (is_some (rowless t rows)) → rows ≡ []
     of_rows t [] h = refl
     of_rows t (r ∷ rest) h = absurd (cc)
 
@@ -60,11 +60,11 @@ rowless_same s s' slots rows types was n empty =
     was n (rowless_from s n there (sym (rows_same s s' rows n) ∙ now.1))
 
 module _ (s s' : List (Option TableState)) (n : ℕ) (slots : List ℕ) where
-  others_rowless : (slot : Option TableState) → Sets s s' n slot → (m : ℕ) → m ≢ n → IsTrue (is_rowless s' m) → IsTrue (is_rowless s m)
+  others_rowless : (slot : Option TableState) → SetsSlot s s' n slot → (m : ℕ) → m ≢ n → IsTrue (is_rowless s' m) → IsTrue (is_rowless s m)
   others_rowless slot sets m other empty = sym (ap (λ o. is_some (rowless_type o)) (sets.others m other)) ∙ empty
 
   -- a table got a row
-  pub rowless_filled : (t : TableState) (r : Row) → Sets s s' n (Some (with_row t r)) → RowlessIn s (n ∷ slots) → RowlessIn s' slots
+  pub rowless_filled : (t : TableState) (r : TableRow) → SetsSlot s s' n (Some (with_row t r)) → RowlessIn s (n ∷ slots) → RowlessIn s' slots
   rowless_filled t r sets was m empty =
       elim (cases_eq m n) [
         | inl here ↦
@@ -77,7 +77,7 @@ module _ (s s' : List (Option TableState)) (n : ℕ) (slots : List ℕ) where
       ]
 
   -- a table may have lost its last row
-  pub rowless_emptied : (slot : Option TableState) → Sets s s' n slot → RowlessIn s slots → RowlessIn s' (n ∷ slots)
+  pub rowless_emptied : (slot : Option TableState) → SetsSlot s s' n slot → RowlessIn s slots → RowlessIn s' (n ∷ slots)
   rowless_emptied slot sets was m empty =
       elim (cases_eq m n) [
         | inl here ↦ ap (λ b. b || list_any (nat_eq m) slots) ((Decides-eqb m n).1 here)
@@ -86,7 +86,7 @@ module _ (s s' : List (Option TableState)) (n : ℕ) (slots : List ℕ) where
       ]
 
   -- a table has as many rows as before
-  pub rowless_rewritten : (slot : Option TableState) → Sets s s' n slot → length (table_in s' n).rows ≡ length (table_in s n).rows → IsSome (slot_of s n) →
+  pub rowless_rewritten : (slot : Option TableState) → SetsSlot s s' n slot → length (table_in s' n).rows ≡ length (table_in s n).rows → IsSome (slot_of s n) →
       RowlessIn s slots → RowlessIn s' slots
   rowless_rewritten slot sets as_many there was m empty =
       elim (cases_eq m n) [
@@ -97,7 +97,7 @@ module _ (s s' : List (Option TableState)) (n : ℕ) (slots : List ℕ) where
         | inr other ↦ was m (others_rowless slot sets m other empty)
       ]
     where
-      no_rows : (rows : List Row) → length rows ≡ 0 → rows ≡ []
+      no_rows : (rows : List TableRow) → length rows ≡ 0 → rows ≡ []
       no_rows [] h = refl
       no_rows (r ∷ rest) h = absurd (omega (arith, h))
 

@@ -2,18 +2,18 @@
 use Rattle.std.proofs.Common.{◌≡◌, ◌≢◌, ℕ, Option, Some, None, option_map, refl, sym, ap, ◌∙◌, inl, inr}
 use Rattle.std.proofs.lemmas.Bool.{cases_eq}
 use Rattle.eco_ids.specs.declared.entity.Entity.{Entity}
-use Rattle.eco_tables.specs.Table.{Row}
-use Rattle.eco_store.specs.Seats.{Seat, IsSeated, entity_of, seat_of, held_of, seen}
+use Rattle.eco_tables.specs.Table.{TableRow}
+use Rattle.eco_store.specs.Seats.{Seat, IsSeated, seated_entity, seat_of, held_of, seen}
 
 -- the row of the table f went; the last one, m, took its place
-pub record Removed (E E' : ℕ → ℕ → Option Row) (f row last : ℕ) : Type 0 where
+pub record Removed (E E' : ℕ → ℕ → Option TableRow) (f row last : ℕ) : Type 0 where
   pub at_row : last ≢ row → E' f row ≡ E f last
   pub at_last : E' f last ≡ None
   pub others_here : (k : ℕ) → k ≢ row → k ≢ last → E' f k ≡ E f k
   pub others : (n k : ℕ) → n ≢ f → E' n k ≡ E n k
 
 -- a row was put at the end of the table t
-pub record Pushed (E E' : ℕ → ℕ → Option Row) (t end : ℕ) (r : Row) : Type 0 where
+pub record Pushed (E E' : ℕ → ℕ → Option TableRow) (t end : ℕ) (r : TableRow) : Type 0 where
   pub free : E t end ≡ None
   pub at_end : E' t end ≡ Some r
   pub others_here : (k : ℕ) → k ≢ end → E' t k ≡ E t k
@@ -25,12 +25,12 @@ no_some o x a b = let bad : ◌≡◌ {A = Option _} None (Some x) = sym a ∙ b
 pub one_some : {X : Type 0} (o : Option X) (x y : X) → o ≡ Some x → o ≡ Some y → x ≡ y
 one_some o x y a b = let both : ◌≡◌ {A = Option _} (Some x) (Some y) = sym a ∙ b in cc
 
-module _ (P P' : ℕ → Option Seat) (E E' : ℕ → ℕ → Option Row) (i g t end : ℕ) (r : Row)
+module _ (P P' : ℕ → Option Seat) (E E' : ℕ → ℕ → Option TableRow) (i g t end : ℕ) (r : TableRow)
     (seated : IsSeated P E) (pushed : Pushed E E' t end r) (was : P i ≡ None)
-    (is : r.entity ≡ entity_of i (record { generation = g; slot = t; row = end }))
+    (is : r.entity ≡ seated_entity i (record { generation = g; slot = t; row = end }))
     (now : P' i ≡ Some (record { generation = g; slot = t; row = end })) (kept : (j : ℕ) → j ≢ i → P' j ≡ P j) where
   -- a row elsewhere stays
-  pub push_keeps : (n k : ℕ) (x : Row) → E n k ≡ Some x → E' n k ≡ Some x
+  pub push_keeps : (n k : ℕ) (x : TableRow) → E n k ≡ Some x → E' n k ≡ Some x
   push_keeps n k x e =
       elim (cases_eq n t) [
         | inr other ↦ pushed.others n k other ∙ e
@@ -40,7 +40,7 @@ module _ (P P' : ℕ → Option Seat) (E E' : ℕ → ℕ → Option Row) (i g t
             ap (λ m. E' m k) same ∙ pushed.others_here k apart ∙ here
       ]
 
-  push_was : (n k : ℕ) (x : Row) → ((n ≡ t) → k ≢ end) → E' n k ≡ Some x → E n k ≡ Some x
+  push_was : (n k : ℕ) (x : TableRow) → ((n ≡ t) → k ≢ end) → E' n k ≡ Some x → E n k ≡ Some x
   push_was n k x apart e =
       elim (cases_eq n t) [
         | inr other ↦ sym (pushed.others n k other) ∙ e
@@ -54,7 +54,7 @@ module _ (P P' : ℕ → Option Seat) (E E' : ℕ → ℕ → Option Row) (i g t
         elim (cases_eq j i) [
           | inl same ↦
               let p_is : p ≡ record { generation = g; slot = t; row = end } = one_some (P' i) p _ (ap P' (sym same) ∙ e) now in
-              (r, (λ s. E' (p_is s).slot (p_is s).row) ∙ pushed.at_end, is ∙ sym (λ s. entity_of (same s) (p_is s)))
+              (r, (λ s. E' (p_is s).slot (p_is s).row) ∙ pushed.at_end, is ∙ sym (λ s. seated_entity (same s) (p_is s)))
           | inr other ↦
               let old = seated.there j p (sym (kept j other) ∙ e) in
               (old.0, push_keeps p.slot p.row old.0 old.1, old.2)
@@ -67,8 +67,8 @@ module _ (P P' : ℕ → Option Seat) (E E' : ℕ → ℕ → Option Row) (i g t
           | inl same ↦ elim (cases_eq k end) [
             | inl at ↦
                 let x_is : x ≡ r = one_some (E' t end) x r (sym (λ s. E' (same s) (at s)) ∙ e) pushed.at_end in
-                (λ s. P' ((ap (λ (y : Row). y.entity) x_is ∙ is) s).index) ∙ now
-                ∙ sym (λ s. Some (seat_of ((ap (λ (y : Row). y.entity) x_is ∙ is) s) (same s) (at s)))
+                (λ s. P' ((ap (λ (y : TableRow). y.entity) x_is ∙ is) s).index) ∙ now
+                ∙ sym (λ s. Some (seat_of ((ap (λ (y : TableRow). y.entity) x_is ∙ is) s) (same s) (at s)))
             | inr not_end ↦
                 let old = push_was n k x (λ _. not_end) e in
                 let q = seated.back n k x old in
@@ -88,7 +88,7 @@ module _ (P P' : ℕ → Option Seat) (E E' : ℕ → ℕ → Option Row) (i g t
           let new = push_keeps p.slot p.row old.0 old.1 in
           ap (λ o. Some (held_of o)) (new ∙ sym old.1)
 
-module _ (P P' : ℕ → Option Seat) (E E' : ℕ → ℕ → Option Row) (i g f row last : ℕ) (r m : Row)
+module _ (P P' : ℕ → Option Seat) (E E' : ℕ → ℕ → Option TableRow) (i g f row last : ℕ) (r m : TableRow)
     (seated : IsSeated P E) (removed : Removed E E' f row last)
     (at : P i ≡ Some (record { generation = g; slot = f; row = row }))
     (moved : E f last ≡ Some m)
@@ -107,7 +107,7 @@ module _ (P P' : ℕ → Option Seat) (E E' : ℕ → ℕ → Option Row) (i g f
   m_same q =
       let old = seated.there i _ at in
       let both = one_some (E f row) m old.0 (ap (λ k. E f k) (sym q) ∙ moved) old.1 in
-      ap (λ (x : Row). x.entity.index) both ∙ ap (λ (e : Entity). e.index) old.2
+      ap (λ (x : TableRow). x.entity.index) both ∙ ap (λ (e : Entity). e.index) old.2
 
   -- where the row of another entity than i stands: not in the row
   not_here : (j : ℕ) (p : Seat) → j ≢ i → P j ≡ Some p → p.slot ≡ f → p.row ≢ row
@@ -115,13 +115,13 @@ module _ (P P' : ℕ → Option Seat) (E E' : ℕ → ℕ → Option Row) (i g f
       let mine = seated.there j p e in
       let his = seated.there i _ at in
       let both = one_some (E f row) mine.0 his.0 (sym (λ t. E (s t) (q t)) ∙ mine.1) his.1 in
-      other (sym (ap (λ (x : Entity). x.index) mine.2) ∙ ap (λ (x : Row). x.entity.index) both ∙ ap (λ (x : Entity). x.index) his.2)
+      other (sym (ap (λ (x : Entity). x.index) mine.2) ∙ ap (λ (x : TableRow). x.entity.index) both ∙ ap (λ (x : Entity). x.index) his.2)
 
   not_last : (j : ℕ) (p : Seat) → j ≢ m.entity.index → P j ≡ Some p → p.slot ≡ f → p.row ≢ last
   not_last j p other e s q =
       let mine = seated.there j p e in
       let both = one_some (E f last) mine.0 m (sym (λ t. E (s t) (q t)) ∙ mine.1) moved in
-      other (sym (ap (λ (x : Entity). x.index) mine.2) ∙ ap (λ (x : Row). x.entity.index) both)
+      other (sym (ap (λ (x : Entity). x.index) mine.2) ∙ ap (λ (x : TableRow). x.entity.index) both)
 
   -- the row of an entity that is neither i nor m stays
   stays : (j : ℕ) (p : Seat) → j ≢ i → j ≢ m.entity.index → P j ≡ Some p → E' p.slot p.row ≡ E p.slot p.row
@@ -141,7 +141,7 @@ module _ (P P' : ℕ → Option Seat) (E E' : ℕ → ℕ → Option Row) (i g f
             | inl is_m ↦
                 let apart : last ≢ row = λ q. not_i (is_m ∙ m_same q) in
                 let p_is : p ≡ seat_of m.entity f row = one_some (P' m.entity.index) p _ (ap P' (sym is_m) ∙ e) (fixed apart) in
-                (m, (λ s. E' (p_is s).slot (p_is s).row) ∙ removed.at_row apart ∙ moved, sym (λ s. entity_of (is_m s) (p_is s)))
+                (m, (λ s. E' (p_is s).slot (p_is s).row) ∙ removed.at_row apart ∙ moved, sym (λ s. seated_entity (is_m s) (p_is s)))
             | inr not_m ↦
                 let was : P j ≡ Some p = sym (kept j not_i not_m) ∙ e in
                 let old = seated.there j p was in

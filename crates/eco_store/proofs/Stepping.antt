@@ -10,18 +10,18 @@ use Rattle.eco_ids.specs.World.{Record}
 use Rattle.eco_tables.specs.Table.{TableState}
 use Rattle.eco_index.specs.Edges.{toggled}
 use Rattle.eco_store.specs.Layout.{ids_at}
-use Rattle.eco_store.specs.Store.{IsStore, read, record_ids, type_of, with_toggled, with_type}
+use Rattle.eco_store.specs.Store.{IsStore, read, record_ids, type_in_store, with_toggled, with_type}
 use Rattle.eco_store.proofs.StoreChanges.{held_there, read_record}
 
 -- an entity's type is that of its row
 pub type_there : (w : Indexed Registration) (s : List (Option TableState)) (e : Entity) (p : Place) → IsStore w s → own_place w e ≡ Some p
-    → type_of (read w s) e ≡ Some (ids_at s p)
+    → type_in_store (read w s) e ≡ Some (ids_at s p)
 type_there w s e p store own =
     let r = held_there w s e p store own in
     ap (option_map record_ids) (read_record w s e r.0 r.1) ∙ ap (λ held. Some (map (λ q. q.0) held)) r.2
 
 -- a step leads to the type that the entity's own leads to
-pub toggled_typed : (v : Indexed Record) (e : Entity) (ids : List Id) (i : Id) → type_of v e ≡ Some ids
+pub toggled_typed : (v : Indexed Record) (e : Entity) (ids : List Id) (i : Id) → type_in_store v e ≡ Some ids
     → changed v e (with_type (toggled ids i)) ≡ changed v e (with_toggled i)
 toggled_typed v e ids i = by (record_of v e)
   where

@@ -9,7 +9,7 @@ use Rattle.eco_ids.specs.declared.value.Value.{Value}
 use Rattle.eco_ids.specs.Indices.{changed, change_kept, with_record, Indexed, IndexState, Retired, Free, Living, record_of, with_death, raised, is_alive}
 use Rattle.eco_ids.specs.Indices.{map_state}
 use Rattle.eco_tables.specs.Column.{retyped}
-use Rattle.eco_tables.specs.Table.{TableState, Row}
+use Rattle.eco_tables.specs.Table.{TableState, TableRow}
 use Rattle.eco_tables.specs.Tables.{table_in, row_in, no_row}
 use Rattle.std.specs.List.{list_all}
 use Rattle.std.specs.Option.{option_copied}
@@ -30,7 +30,7 @@ use Rattle.eco_entities.specs.Registration.{Registration, placed, own_place}
 use Rattle.eco_store.specs.Layout.{rows_in, TakesRow, MovesRow}
 use Rattle.eco_store.specs.Placing.{fixed}
 use Rattle.eco_store.specs.Seats.{IsSeated, seat_of, seen, held_of}
-use Rattle.eco_store.specs.Store.{record_for, held_at, read, seat_in, seat_at, seat_of_place, HasPlace, IsStore, with_type, record_ids, type_of}
+use Rattle.eco_store.specs.Store.{record_for, held_at, read, seat_in, seat_at, seat_of_place, HasPlace, IsStore, with_type, record_ids, type_in_store}
 use Rattle.eco_store.proofs.SeatChanges.{one_some}
 use Rattle.std.proofs.lemmas.Option.{slice_get-map}
 use Rattle.eco_store.proofs.Moves.{row_there, mover, take_seated, take_others, move_seated, move_others, move_new_held}
@@ -220,7 +220,7 @@ module _ (w : Indexed Registration) (s s1 : List (Option TableState)) (e : Entit
       by true = tt
       by false = tt
 
-  raised_kept : (E : ℕ → ℕ → Option Row) (g : ℕ) → map_state (record_for E) (raised g) ≡ raised g
+  raised_kept : (E : ℕ → ℕ → Option TableRow) (g : ℕ) → map_state (record_for E) (raised g) ≡ raised g
   raised_kept E g = by (nat_lt g 65535)
     where
       by : (b : Bool) → map_state (record_for E) (if b then Free (g + 1) else Retired) ≡ (if b then Free (g + 1) else Retired)
@@ -413,10 +413,10 @@ same_type w s e p ids store own is up =
 
 -- an entity's ids are those of its row
 pub ids_there : (w : Indexed Registration) (s : List (Option TableState)) (e : Entity) (p : Place) (ids : List Id) → IsStore w s → own_place w e ≡ Some p
-    → type_of (read w s) e ≡ Some ids → HasIds ids (row_in s p.table p.row)
+    → type_in_store (read w s) e ≡ Some ids → HasIds ids (row_in s p.table p.row)
 ids_there w s e p ids store own is =
     let r = held_there w s e p store own in
-    one_some (type_of (read w s) e) _ ids (ap (option_map record_ids) (read_record w s e r.0 r.1) ∙ ap (λ held. Some (map (λ q. q.0) held)) r.2) is
+    one_some (type_in_store (read w s) e) _ ids (ap (option_map record_ids) (read_record w s e r.0 r.1) ∙ ap (λ held. Some (map (λ q. q.0) held)) r.2) is
 
 -- the type that an entity gets is not in the slot that it has
 pub other_slot : (s s0 : List (Option TableState)) (n to : ℕ) (own ids : List Id) → type_at s n ≡ Some own → KeepsTypes s s0 → type_at s0 to ≡ Some ids

@@ -3,14 +3,15 @@ use Rattle.std.proofs.Common.{◌≡◌, ℕ, List, [], ◌∷◌, map, length, 
 use Rattle.std.proofs.Common.{Some, None, is_some, IsTrue, sym, subst, inl, inr}
 use Rattle.std.proofs.lemmas.Bool.{cases_eq}
 use Rattle.std.proofs.lemmas.List.{length-map}
-use Rattle.eco_tables.specs.Table.{Row, TableState, retyped_row}
+use Rattle.eco_tables.specs.Table.{TableRow, TableState, retyped_row}
 use Rattle.eco_tables.specs.Tables.{no_table, no_row, slot_of, table_in, rowless, rowless_type}
 use Rattle.eco_ids.specs.declared.id.Id.{Id}
 use Rattle.eco_entities.specs.declared.place.Place.{Place}
 use Rattle.eco_store.specs.Layout.{rows_in, RetypesRow}
 use Rattle.eco_archetypes.specs.Archetypes.{TakesType, RowlessIn, is_rowless, SameSlots}
 
-pub retypes_one : (xs : List Row) (row : ℕ) (f : Row → Row) (d : Row) → length xs ≡ 1 → row < length xs → map f xs ≡ set xs row (f (get_or xs row d))
+pub retypes_one : (xs : List TableRow) (row : ℕ) (f : TableRow → TableRow) (d : TableRow) → length xs ≡ 1 → row < length xs
+    → map f xs ≡ set xs row (f (get_or xs row d))
 retypes_one [] row f d alone within = absurd (omega (arith, within))
 retypes_one (x ∷ []) zero f d alone within = refl
 retypes_one (x ∷ []) (suc row) f d alone within = absurd (omega (arith, within))
@@ -33,7 +34,7 @@ takes_rowless s s' n ids takes alone slots none k h = elim (cases_eq k n) [
   | inr other ↦ none k (subst (λ o. IsTrue (is_some (rowless_type o))) (takes.others k other) h)
 ]
   where
-    of_rows : (t : TableState) (rows : List Row) → length rows ≡ 1 → IsTrue (is_some (rowless t rows)) → ⊥
+    of_rows : (t : TableState) (rows : List TableRow) → length rows ≡ 1 → IsTrue (is_some (rowless t rows)) → ⊥
     of_rows t [] long h = absurd (omega (arith, long))
     of_rows t (r ∷ rest) long h = true≢false (sym h)
 

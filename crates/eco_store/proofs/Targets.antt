@@ -6,7 +6,7 @@ use Rattle.std.proofs.lemmas.Bool.{cases_eq}
 use Rattle.std.proofs.lemmas.List.Folds.{list_any-append}
 use Rattle.eco_ids.specs.declared.id.Id.{Id}
 use Rattle.eco_tables.specs.Table.{TableState}
-use Rattle.eco_tables.specs.Tables.{table_in, no_table, Sets}
+use Rattle.eco_tables.specs.Tables.{table_in, no_table, SetsSlot}
 use Rattle.eco_archetypes.specs.Archetypes.{KeepsRoom, SameSlots}
 use Rattle.eco_store.specs.Staying.{StayingState, with_target, SameIn}
 use Rattle.eco_store.proofs.RowChanges.{is_equal}
@@ -29,13 +29,13 @@ is_targeted p n = by (list_any (nat_eq n) p.targets) refl
 
 -- a table that is no target may have gone
 pub same_targets : (s s' : List (Option TableState)) (targets : List ℕ) (n : ℕ) (o : Option (List Id)) → list_any (nat_eq n) targets ≡ false
-    → OnSome o (Sets s s' n None) → IfNone o (SameSlots s s') → SameIn s s' targets
+    → OnSome o (SetsSlot s s' n None) → IfNone o (SameSlots s s') → SameIn s s' targets
 same_targets s s' targets n (Some ids) free dropped kept m among =
     dropped.others m (λ same. true≢false (sym among ∙ ap (λ k. list_any (nat_eq k) targets) same ∙ free))
 same_targets s s' targets n None free dropped kept m among = kept m
 
 -- a table changes and has no less room, and so has none
-pub room_won : (s s1 : List (Option TableState)) (n : ℕ) (t : TableState) → Sets s s1 n (Some t) → (table_in s n).room ≤ t.room → KeepsRoom s s1
+pub room_won : (s s1 : List (Option TableState)) (n : ℕ) (t : TableState) → SetsSlot s s1 n (Some t) → (table_in s n).room ≤ t.room → KeepsRoom s s1
 room_won s s1 n t sets more m =
     elim (cases_eq m n) [
       | inl here ↦

@@ -4,7 +4,7 @@ use Rattle.std.proofs.Common.{IsSome, nat_eq, refl, sym, ap, subst, ◌∙◌, a
 use Rattle.std.specs.List.{list_any}
 use Rattle.std.proofs.lemmas.Bool.{cases_eq}
 use Rattle.eco_tables.specs.Table.{TableState}
-use Rattle.eco_tables.specs.Tables.{slot_of, table_in, no_table, Sets}
+use Rattle.eco_tables.specs.Tables.{slot_of, table_in, no_table, SetsSlot}
 use Rattle.eco_archetypes.specs.Archetypes.{type_at}
 use Rattle.eco_archetypes.proofs.ArchetypeLemmas.{sets_types}
 use Rattle.eco_store.specs.declared.transfer.Transfer.{Transfer}
@@ -25,7 +25,7 @@ thins_both s s1 s2 slots a b = record {
 }
 
 -- rows of a table went, and then tables outside of these slots may have gone
-pub thins_without : (s s1 s2 : List (Option TableState)) (n : ℕ) (t : TableState) (slots : List ℕ) → IsSome (slot_of s n) → Sets s s1 n (Some t)
+pub thins_without : (s s1 s2 : List (Option TableState)) (n : ℕ) (t : TableState) (slots : List ℕ) → IsSome (slot_of s n) → SetsSlot s s1 n (Some t)
     → t.ids ≡ (table_in s n).ids → length t.rows ≤ length (table_in s n).rows → (table_in s n).room ≤ t.room → SameIn s1 s2 slots → Thins s s2 slots
 thins_without s s1 s2 n t slots there sets typed less more same = record {
   types = λ m among. ap (option_map (λ (u : TableState). u.ids)) (same m among) ∙ sets_types s s1 n t sets there typed m;

@@ -16,16 +16,16 @@ use Rattle.eco_ids.specs.Indices.{changed, change_kept, Indexed, IndexState, Ret
 use Rattle.eco_ids.specs.Names.{is_proper, is_same_name}
 use Rattle.eco_ids.specs.Order.{id_cmp}
 use Rattle.eco_ids.specs.Outcome.{Meets, is_out_of_memory, first_refusal, Answers, Refuses}
-use Rattle.eco_tables.specs.Table.{TableState, Row, HasIds}
+use Rattle.eco_tables.specs.Table.{TableState, TableRow, HasIds}
 use Rattle.eco_tables.specs.Tables.{AllHaveIds, slot_of, table_in, row_in, no_row, no_table}
 use Rattle.eco_store.specs.Layout.{rows_in, SetsRows}
 use Rattle.eco_entities.specs.declared.place.Place.{Place}
 use Rattle.eco_ids.specs.Renaming.{own_name, unfit_rename, RenamesWith, may_rename}
 use Rattle.eco_ids.specs.Step.{with_name}
-use Rattle.eco_entities.specs.Registration.{Registration, name_of, own_place, renamed}
+use Rattle.eco_entities.specs.Registration.{Registration, given_name, own_place, renamed}
 use Rattle.eco_store.specs.Seats.{Seat, IsSeated, seat_of, seen, held_of}
 use Rattle.eco_archetypes.specs.Archetypes.{row_at}
-use Rattle.eco_store.specs.Store.{record_for, record_name, held_at, held_by, read, seat_in, seat_at, HasPlace, IsStore, Stands, IsShown, seat_of_place}
+use Rattle.eco_store.specs.Store.{record_for, record_name, held_at, held_in_store, read, seat_in, seat_at, HasPlace, IsStore, Stands, IsShown, seat_of_place}
 use Rattle.eco_store.proofs.SeatChanges.{no_some, one_some}
 use Rattle.std.proofs.lemmas.Option.{slice_get-map}
 use Rattle.eco_store.proofs.Newborn.{is_borne-map}
@@ -48,7 +48,7 @@ stands_there w s e p t store own at =
       within = within;
       held = λ d.
           ap (held_at (row_at s)) r.2 ∙ ap held_of seat.1
-          ∙ ap (λ (x : Row). x.held) (one_some (slice_get t.rows p.row) seat.0 (get_or t.rows p.row d) in_table (slice_get-get_or t.rows p.row d within));
+          ∙ ap (λ (x : TableRow). x.held) (one_some (slice_get t.rows p.row) seat.0 (get_or t.rows p.row d) in_table (slice_get-get_or t.rows p.row d within));
     })
 
 pub stands_type : (o : Option Record) (t : TableState) (row : ℕ) → Stands o t row → All (HasIds t.ids) t.rows
@@ -59,7 +59,7 @@ stands_type (Some k) t row h typed =
 
 -- what a search of an entity's row finds, the entity has
 pub value_found : (o : Option Record) (t : TableState) (row : ℕ) (i : Id) (v : Option Value) → Stands o t row
-    → ((r : Row) → v ≡ find id_cmp i (get_or t.rows row r).held)
+    → ((r : TableRow) → v ≡ find id_cmp i (get_or t.rows row r).held)
     → v ≡ find id_cmp i (unwrap_or (option_map (λ (k : Record). k.held) o) [])
 value_found None t row i v h is = absurd h
 value_found (Some k) t row i v h is = is no_row ∙ ap (find id_cmp i) (sym (h.held no_row))
@@ -69,13 +69,13 @@ module _ (w : Indexed Registration) (s s1 : List (Option TableState)) (e : Entit
     (store : IsStore w s) (own : own_place w e ≡ Some p)
     (sets : SetsRows (rows_in s) (rows_in s1) p.table (set (rows_in s p.table) p.row
     (record { entity = (row_in s p.table p.row).entity; held = f (row_in s p.table p.row).held }))) where
-  abbrev rows : List Row
+  abbrev rows : List TableRow
   rows = (table_in s p.table).rows
 
-  abbrev old_row : Row
+  abbrev old_row : TableRow
   old_row = row_in s p.table p.row
 
-  abbrev new_row : Row
+  abbrev new_row : TableRow
   new_row = record { entity = old_row.entity; held = f old_row.held }
 
   old_there : row_at s p.table p.row ≡ Some old_row
@@ -97,7 +97,7 @@ module _ (w : Indexed Registration) (s s1 : List (Option TableState)) (e : Entit
   seat = seat_there w e p own
 
   -- a row is still there, and its entity with it
-  still : (n k : ℕ) (r : Row) → row_at s n k ≡ Some r → (x : Row) × (row_at s1 n k ≡ Some x) × (x.entity ≡ r.entity)
+  still : (n k : ℕ) (r : TableRow) → row_at s n k ≡ Some r → (x : TableRow) × (row_at s1 n k ≡ Some x) × (x.entity ≡ r.entity)
   still n k r h =
       elim (cases_eq n p.table) [
         | inr other ↦ (r, elsewhere n k (λ a b. other a) ∙ h, refl)
@@ -106,12 +106,12 @@ module _ (w : Indexed Registration) (s s1 : List (Option TableState)) (e : Entit
           | inl at_row ↦ (
             new_row,
             (λ t. row_at s1 (in_table t) (at_row t)) ∙ new_there,
-            ap (λ (x : Row). x.entity) (one_some (row_at s p.table p.row) old_row r old_there (sym (λ t. row_at s (in_table t) (at_row t)) ∙ h)),
+            ap (λ (x : TableRow). x.entity) (one_some (row_at s p.table p.row) old_row r old_there (sym (λ t. row_at s (in_table t) (at_row t)) ∙ h)),
           )
         ]
       ]
 
-  was : (n k : ℕ) (x : Row) → row_at s1 n k ≡ Some x → (r : Row) × (row_at s n k ≡ Some r) × (r.entity ≡ x.entity)
+  was : (n k : ℕ) (x : TableRow) → row_at s1 n k ≡ Some x → (r : TableRow) × (row_at s n k ≡ Some r) × (r.entity ≡ x.entity)
   was n k x h =
       elim (cases_eq n p.table) [
         | inr other ↦ (x, sym (elsewhere n k (λ a b. other a)) ∙ h, refl)
@@ -120,7 +120,7 @@ module _ (w : Indexed Registration) (s s1 : List (Option TableState)) (e : Entit
           | inl at_row ↦ (
             old_row,
             (λ t. row_at s (in_table t) (at_row t)) ∙ old_there,
-            ap (λ (y : Row). y.entity) (one_some (row_at s1 p.table p.row) new_row x new_there (sym (λ t. row_at s1 (in_table t) (at_row t)) ∙ h)),
+            ap (λ (y : TableRow). y.entity) (one_some (row_at s1 p.table p.row) new_row x new_there (sym (λ t. row_at s1 (in_table t) (at_row t)) ∙ h)),
           )
         ]
       ]
@@ -146,10 +146,10 @@ module _ (w : Indexed Registration) (s s1 : List (Option TableState)) (e : Entit
       let his = store.seated.there e.index (seat_of e p.table p.row) seat in
       ap (λ o. Some (held_of o)) (elsewhere q.slot q.row (λ a b.
       let both = one_some (row_at s p.table p.row) mine.0 his.0 (sym (λ t. row_at s (a t) (b t)) ∙ mine.1) his.1 in
-      other (sym (ap (λ (x : Entity). x.index) mine.2) ∙ ap (λ (x : Row). x.entity.index) both ∙ ap (λ (x : Entity). x.index) his.2)))
+      other (sym (ap (λ (x : Entity). x.index) mine.2) ∙ ap (λ (x : TableRow). x.entity.index) both ∙ ap (λ (x : Entity). x.index) his.2)))
 
   -- what the entity holds, its row does
-  pub held_read : held_by (read w s) e ≡ old_row.held
+  pub held_read : held_in_store (read w s) e ≡ old_row.held
   held_read =
       let r = held_there w s e p store own in
       ap (λ o. unwrap_or (option_map (λ (k : Record). k.held) o) []) (read_record w s e r.0 r.1) ∙ r.2
@@ -259,24 +259,24 @@ module _ (w : Indexed Registration) (s : List (Option TableState)) (e : Entity) 
             (Living e.generation (renamed name r)) t;
       }
 
-  name_same : own_name record_name (read w s) e ≡ own_name name_of w e
+  name_same : own_name record_name (read w s) e ≡ own_name given_name w e
   name_same = ap (option_and_then record_name) (record_of-read w s e) ∙ by (record_of w e)
     where
-      by : (o : Option Registration) → option_and_then record_name (option_map (record_for (row_at s)) o) ≡ option_and_then name_of o
+      by : (o : Option Registration) → option_and_then record_name (option_map (record_for (row_at s)) o) ≡ option_and_then given_name o
       by None = refl
       by (Some r) = refl
 
-  unfit_same : unfit_rename record_name (read w s) e false name ≡ unfit_rename name_of w e false name
+  unfit_same : unfit_rename record_name (read w s) e false name ≡ unfit_rename given_name w e false name
   unfit_same = λ t.
       first_refusal
       ((not (alive_same w s e t), NotAlive) ∷ (false, Reserved) ∷ (not (is_proper name), BadName)
-      ∷ (not (is_same_name (name_same t) name) && is_borne-map (record_for (row_at s)) name_of record_name (λ a. refl) w name t, NameTaken) ∷ [])
+      ∷ (not (is_same_name (name_same t) name) && is_borne-map (record_for (row_at s)) given_name record_name (λ a. refl) w name t, NameTaken) ∷ [])
 
-  may_same : may_rename record_name (read w s) e false name ≡ may_rename name_of w e false name
+  may_same : may_rename record_name (read w s) e false name ≡ may_rename given_name w e false name
   may_same = λ t. not (is_some (unfit_same t)) && (is_some name && not (is_same_name (name_same t) name))
 
   pub rename_lifts : (w1 : Indexed Registration) (r : Result (Unit {0}) Refusal) →
-      Meets (RenamesWith name_of renamed w e false name) (may_rename name_of w e false name) w r w1
+      Meets (RenamesWith given_name renamed w e false name) (may_rename given_name w e false name) w r w1
       → (IsStore w s → IsStore w1 s) × Meets (RenamesWith record_name with_name (read w s) e false name) (may_rename record_name (read w s) e false name)
       (read w s) r (read w1 s)
   rename_lifts w1 r h = by (is_out_of_memory r) h
@@ -287,12 +287,12 @@ module _ (w : Indexed Registration) (s : List (Option TableState)) (e : Entity) 
       ends None q = (λ store. subst (λ x. IsStore x s) (sym q.1) (renamed_store store), (q.0, ap (λ x. read x s) q.1 ∙ renamed_read))
       ends (Some why) q = (λ store. subst (λ x. IsStore x s) (sym q.1) store, (q.0, ap (λ x. read x s) q.1))
 
-      by : (b : Bool) → MatchBool b (IsTrue (may_rename name_of w e false name) × (w1 ≡ w)) (RenamesWith name_of renamed w e false name r w1)
+      by : (b : Bool) → MatchBool b (IsTrue (may_rename given_name w e false name) × (w1 ≡ w)) (RenamesWith given_name renamed w e false name r w1)
           → (IsStore w s → IsStore w1 s) × MatchBool b (IsTrue (may_rename record_name (read w s) e false name) × (read w1 s ≡ read w s))
           (RenamesWith record_name with_name (read w s) e false name r (read w1 s))
       by true q = (λ store. subst (λ x. IsStore x s) (sym q.1) store, (may_same ∙ q.0, ap (λ x. read x s) q.1))
       by false q =
-          let k = ends (unfit_rename name_of w e false name) q in (
+          let k = ends (unfit_rename given_name w e false name) q in (
             k.0,
             subst (λ u. MatchOption u (Answers tt (changed (read w s) e (with_name name)) r (read w1 s)) (λ why. Refuses why (read w s) r (read w1 s)))
                 (sym unfit_same) k.1,
@@ -315,7 +315,7 @@ place_from_seat (Some (Living g r)) e n k h = by r.place refl h
         let same : seat_of_place g p ≡ seat_of e n k = cc in
         (r, (λ t. Some (Living (same t).generation r)), is ∙ (λ t. Some (record { table = (same t).slot; row = (same t).row })))
 
-pub slot_there : (s : List (Option TableState)) (n k : ℕ) (r : Row) → row_at s n k ≡ Some r → slot_of s n ≡ Some (table_in s n)
+pub slot_there : (s : List (Option TableState)) (n k : ℕ) (r : TableRow) → row_at s n k ≡ Some r → slot_of s n ≡ Some (table_in s n)
 slot_there s n k r = by (slot_of s n)
   where
     nothing : (k : ℕ) → slice_get no_table.rows k ≡ None

@@ -5,7 +5,7 @@ use Rattle.eco_ids.specs.declared.entity.Entity.{Entity}
 use Rattle.eco_ids.specs.declared.id.Id.{Id}
 use Rattle.eco_ids.specs.declared.value.Value.{Value}
 use Rattle.eco_ids.specs.Indices.{Indexed, IndexState, Retired, Free, Living, record_of, is_alive, map_state}
-use Rattle.eco_tables.specs.Table.{TableState, Row}
+use Rattle.eco_tables.specs.Table.{TableState, TableRow}
 use Rattle.eco_entities.specs.declared.place.Place.{Place}
 use Rattle.eco_entities.specs.Registration.{Registration}
 use Rattle.eco_archetypes.specs.Archetypes.{row_at}
@@ -45,7 +45,7 @@ glue (Some Retired) h = Some Retired
 glue (Some (Free g)) h = Some (Free g)
 glue (Some (Living g r)) h = Some (Living g (record r { held = unwrap_or h [] }))
 
-glued : (E : ℕ → ℕ → Option Row) (o : Option (IndexState Registration)) →
+glued : (E : ℕ → ℕ → Option TableRow) (o : Option (IndexState Registration)) →
     option_map (map_state (record_for E)) o ≡ glue (option_map (map_state bare) o) (option_map (seen E) (seat_in o))
 glued E None = refl
 glued E (Some Retired) = refl

@@ -15,13 +15,13 @@ use Rattle.eco_ids.proofs.States.{record_at}
 use Rattle.eco_entities.specs.declared.place.Place.{Place}
 use Rattle.eco_entities.specs.Registration.{Registration, placed}
 use Rattle.eco_entities.specs.Rules.{IsRuled}
-use Rattle.eco_tables.specs.Table.{TableState, Row, retyped_row, entities_of}
+use Rattle.eco_tables.specs.Table.{TableState, TableRow, retyped_row, entities_of}
 use Rattle.eco_tables.specs.Tables.{slot_of, table_in, no_row, no_table, MovesAll, AllHaveIds}
 use Rattle.eco_store.specs.declared.transfer.Transfer.{Transfer}
 use Rattle.eco_store.specs.declared.type_change.TypeChange.{TypeChange}
 use Rattle.eco_archetypes.specs.Archetypes.{type_at, row_at}
 use Rattle.eco_store.specs.Retyping.{changed_record, after_change}
-use Rattle.eco_store.specs.Seats.{Seat, entity_of, seat_of, held_of}
+use Rattle.eco_store.specs.Seats.{Seat, seated_entity, seat_of, held_of}
 use Rattle.eco_store.specs.Store.{record_for, read, seat_in, seat_at, seat_of_place, held_at, HasPlace, IsStore}
 use Rattle.eco_store.specs.Transfers.{change_of, place_after, placed_after, with_places, Pours}
 use Rattle.eco_archetypes.proofs.ArchetypeLemmas.{there_by_row, type_there, moves_all_types}
@@ -115,7 +115,7 @@ module _ (w : Indexed Registration) (s : List (Option TableState)) (store : IsSt
       let mine = store.seated.there e.index (seat_of e t.from count) seat in
       let its = store.seated.there j (seat_of_place g p) (ap seat_in at ∙ ap (option_map (seat_of_place g)) is) in
       let same = one_some (row_at s t.from count) its.0 mine.0 (sym (λ i. row_at s (here i) (row i)) ∙ its.1) mine.1 in
-      other (ap (λ (x : Entity). x.index) (sym its.2 ∙ ap (λ (x : Row). x.entity) same ∙ mine.2))
+      other (ap (λ (x : Entity). x.index) (sym its.2 ∙ ap (λ (x : TableRow). x.entity) same ∙ mine.2))
 
   alike : (j : ℕ) → j ≢ e.index → (o : Option (IndexState Registration)) → slice_get w.indices j ≡ o
       → option_map (map_state (placed_after t end count)) o ≡ option_map (map_state (placed_after t end (count + 1))) o
@@ -162,10 +162,10 @@ pub seat_of_row : (w : Indexed Registration) (s : List (Option TableState)) (n k
     → es ≡ entities_of (table_in s n).rows → k < length es → seat_at w (get_or es k d).index ≡ Some (seat_of (get_or es k d) n k)
 seat_of_row w s n k es d store is within =
     let rows = (table_in s n).rows in
-    let as_many : length es ≡ length rows = ap length is ∙ length-map rows (λ (r : Row). r.entity) in
+    let as_many : length es ≡ length rows = ap length is ∙ length-map rows (λ (r : TableRow). r.entity) in
     let there : k < length rows = omega (arith, as_many, within) in
     let who : (get_or rows k no_row).entity ≡ get_or es k d =
-    sym (get_or-map (λ (r : Row). r.entity) rows k no_row d there) ∙ ap (λ xs. get_or xs k d) (sym is) in
+    sym (get_or-map (λ (r : TableRow). r.entity) rows k no_row d there) ∙ ap (λ xs. get_or xs k d) (sym is) in
     subst (λ (x : Entity). seat_at w x.index ≡ Some (seat_of x n k)) who
     (store.seated.back n k (get_or rows k no_row) (slice_get-get_or rows k no_row there))
 
@@ -173,7 +173,7 @@ seat_of_row w s n k es d store is within =
 pub row_fits : (w : Indexed Registration) (s : List (Option TableState)) (n m k end : ℕ) (es : List Entity) → IsRuled w → IsStore w s
     → es ≡ entities_of (table_in s n).rows → k < length es → end ≡ length (table_in s m).rows → end + k < 4294967295
 row_fits w s n m k end es ruled store is within behind =
-    let as_many : length es ≡ length (table_in s n).rows = ap length is ∙ length-map (table_in s n).rows (λ (r : Row). r.entity) in
+    let as_many : length es ≡ length (table_in s n).rows = ap length is ∙ length-map (table_in s n).rows (λ (r : TableRow). r.entity) in
     omega (arith, as_many, within, behind, rows_bounded w s ruled store n, rows_bounded w s ruled store m)
 
 -- ---- rows and places
@@ -206,7 +206,7 @@ module _ (w : Indexed Registration) (s s1 : List (Option TableState)) (t : Trans
       ap (λ rows. slice_get rows (end + k)) filled ∙ slice_get-behind (table_in s t.to).rows (map (retyped_row ids) (table_in s t.from).rows) k
       ∙ slice_get-map (retyped_row ids) (table_in s t.from).rows k
 
-  stayed : (n k : ℕ) (r : Row) → n ≢ t.from → row_at s n k ≡ Some r → row_at s1 n k ≡ Some r
+  stayed : (n k : ℕ) (r : TableRow) → n ≢ t.from → row_at s n k ≡ Some r → row_at s1 n k ≡ Some r
   stayed n k r other at =
       elim (cases_eq n t.to) [
         | inl here ↦
@@ -217,23 +217,23 @@ module _ (w : Indexed Registration) (s s1 : List (Option TableState)) (t : Trans
       ]
 
   -- the place of a row that went, and of one that stayed
-  place_went : (p : Place) (r : Row) → p.table ≡ t.from → row_at s p.table p.row ≡ Some r → after p ≡ record { table = t.to; row = end + p.row }
+  place_went : (p : Place) (r : TableRow) → p.table ≡ t.from → row_at s p.table p.row ≡ Some r → after p ≡ record { table = t.to; row = end + p.row }
   place_went p r here at =
       placed_there t end count p here (slice_get_within (table_in s t.from).rows p.row r (ap (λ m. row_at s m p.row) (sym here) ∙ at))
 
-  row_went : (p : Place) (r : Row) → p.table ≡ t.from → row_at s p.table p.row ≡ Some r
+  row_went : (p : Place) (r : TableRow) → p.table ≡ t.from → row_at s p.table p.row ≡ Some r
       → row_at s1 (after p).table (after p).row ≡ Some (retyped_row ids r)
   row_went p r here at =
       ap (λ (q : Place). row_at s1 q.table q.row) (place_went p r here at) ∙ came p.row
       ∙ ap (option_map (retyped_row ids)) (ap (λ m. row_at s m p.row) (sym here) ∙ at)
 
-  row_stayed : (p : Place) (r : Row) → p.table ≢ t.from → row_at s p.table p.row ≡ Some r → row_at s1 (after p).table (after p).row ≡ Some r
+  row_stayed : (p : Place) (r : TableRow) → p.table ≢ t.from → row_at s p.table p.row ≡ Some r → row_at s1 (after p).table (after p).row ≡ Some r
   row_stayed p r other at =
       ap (λ (q : Place). row_at s1 q.table q.row) (placed_elsewhere t end count p other) ∙ stayed p.table p.row r other at
 
   -- each entity's row is where its place says
-  found : (p : Place) (r : Row) → row_at s p.table p.row ≡ Some r
-      → (x : Row) × (row_at s1 (after p).table (after p).row ≡ Some x) × (x.entity ≡ r.entity)
+  found : (p : Place) (r : TableRow) → row_at s p.table p.row ≡ Some r
+      → (x : TableRow) × (row_at s1 (after p).table (after p).row ≡ Some x) × (x.entity ≡ r.entity)
   found p r at =
       elim (cases_eq p.table t.from) [
         | inl here ↦ (retyped_row ids r, row_went p r here at, refl)
@@ -241,8 +241,8 @@ module _ (w : Indexed Registration) (s s1 : List (Option TableState)) (t : Trans
       ]
 
   -- each row came from somewhere
-  came_from : (n k : ℕ) (x : Row) → row_at s1 n k ≡ Some x
-      → (p : Place) × (r : Row) × (row_at s p.table p.row ≡ Some r) × (r.entity ≡ x.entity) × (after p ≡ record { table = n; row = k })
+  came_from : (n k : ℕ) (x : TableRow) → row_at s1 n k ≡ Some x
+      → (p : Place) × (r : TableRow) × (row_at s p.table p.row ≡ Some r) × (r.entity ≡ x.entity) × (after p ≡ record { table = n; row = k })
   came_from n k x at =
       elim (cases_eq n t.from) [
         | inl here ↦
@@ -261,7 +261,7 @@ module _ (w : Indexed Registration) (s s1 : List (Option TableState)) (t : Trans
       ]
     where
       by : (b : Bool) → nat_lt k end ≡ b → n ≡ t.to → row_at s1 t.to k ≡ Some x
-          → (p : Place) × (r : Row) × (row_at s p.table p.row ≡ Some r) × (r.entity ≡ x.entity) × (after p ≡ record { table = n; row = k })
+          → (p : Place) × (r : TableRow) × (row_at s p.table p.row ≡ Some r) × (r.entity ≡ x.entity) × (after p ≡ record { table = n; row = k })
       by true below here there = (
         record { table = n; row = k },
         x,
@@ -277,11 +277,11 @@ module _ (w : Indexed Registration) (s s1 : List (Option TableState)) (t : Trans
             record { table = t.from; row = k - end },
             row.0,
             row.1,
-            ap (λ (r : Row). r.entity) row.2,
+            ap (λ (r : TableRow). r.entity) row.2,
             place_went (record { table = t.from; row = k - end }) row.0 refl row.1 ∙ (λ i. record { table = sym here i; row = at_k i }),
           )
         where
-          mapped : (o : Option Row) → option_map (retyped_row ids) o ≡ Some x → (r : Row) × (o ≡ Some r) × (retyped_row ids r ≡ x)
+          mapped : (o : Option TableRow) → option_map (retyped_row ids) o ≡ Some x → (r : TableRow) × (o ≡ Some r) × (retyped_row ids r ≡ x)
           mapped None h = absurd (no_some None x refl h)
           mapped (Some r) h = (r, refl, one_some (Some (retyped_row ids r)) (retyped_row ids r) x refl h)
 
@@ -309,7 +309,7 @@ module _ (w : Indexed Registration) (s s1 : List (Option TableState)) (t : Trans
           let old = had (seat_at w j) q (sym (seats j) ∙ at) in
           let row = store.seated.there j old.0 old.1 in
           let now = found (record { table = old.0.slot; row = old.0.row }) row.0 row.1 in
-          (now.0, ap (λ (x : Seat). row_at s1 x.slot x.row) (sym old.2) ∙ now.1, now.2 ∙ row.2 ∙ ap (entity_of j) old.2);
+          (now.0, ap (λ (x : Seat). row_at s1 x.slot x.row) (sym old.2) ∙ now.1, now.2 ∙ row.2 ∙ ap (seated_entity j) old.2);
       back = λ n k x at.
           let from = came_from n k x at in
           seats x.entity.index
@@ -346,13 +346,13 @@ module _ (w : Indexed Registration) (s s1 : List (Option TableState)) (t : Trans
     abbrev change : TypeChange
     change = change_of s t
 
-    row_type : (p : Place) (r : Row) → row_at s p.table p.row ≡ Some r → map (λ x. x.0) r.held ≡ (table_in s p.table).ids
+    row_type : (p : Place) (r : TableRow) → row_at s p.table p.row ≡ Some r → map (λ x. x.0) r.held ≡ (table_in s p.table).ids
     row_type p r at =
         let rows = (table_in s p.table).rows in
-        sym (ap (λ (x : Row). map (λ y. y.0) x.held) (get_or_from_slice_get rows p.row r no_row at))
+        sym (ap (λ (x : TableRow). map (λ y. y.0) x.held) (get_or_from_slice_get rows p.row r no_row at))
         ∙ have p.table p.row no_row (slice_get_within rows p.row r at)
 
-    changes : (x : Registration) (p : Place) (r : Row) → x.place ≡ Some p → row_at s p.table p.row ≡ Some r
+    changes : (x : Registration) (p : Place) (r : TableRow) → x.place ≡ Some p → row_at s p.table p.row ≡ Some r
         → record_for (row_at s1) (placed_after t end count x) ≡ changed_record change (record_for (row_at s) x)
     changes x p r is at =
         let old : record_for (row_at s) x ≡ record { name = x.name; arity = x.arity; held = r.held } = λ i. record {

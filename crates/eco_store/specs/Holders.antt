@@ -7,7 +7,7 @@ use Rattle.eco_ids.specs.declared.pattern.Pattern.{Pattern}
 use Rattle.eco_ids.specs.Indices.{Indexed, living}
 use Rattle.eco_ids.specs.Matching.{pattern_matches}
 use Rattle.eco_ids.specs.World.{Record}
-use Rattle.eco_index.specs.TypeTests.{names_any}
+use Rattle.eco_index.specs.TypeTests.{type_names}
 use Rattle.eco_store.specs.Store.{record_ids}
 
 -- the ids of the record pass the test
@@ -28,8 +28,8 @@ entities_with w p = entities_whose w (list_any (pattern_matches p))
 
 -- one of the ids names the entity
 abbrev pub is_holder : Entity → Record → Bool
-is_holder e = passes (λ ids. names_any ids e)
+is_holder e = passes (λ ids. type_names ids e)
 
 -- the living entities that have an id which names this one, ascending
-abbrev pub holders : Indexed Record → Entity → List Entity
-holders w e = entities_whose w (λ ids. names_any ids e)
+abbrev pub entities_naming : Indexed Record → Entity → List Entity
+entities_naming w e = entities_whose w (λ ids. type_names ids e)

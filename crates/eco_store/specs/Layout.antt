@@ -4,16 +4,16 @@ use Rattle.std.specs.Prelude.{Option, OnErr, OnOk, Result}
 use Rattle.std.specs.List.{list_any, swap_remove}
 use Rattle.eco_ids.specs.declared.entity.Entity.{Entity}
 use Rattle.eco_ids.specs.declared.id.Id.{Id}
-use Rattle.eco_tables.specs.Table.{Row, TableState, retyped_row, entities_of}
+use Rattle.eco_tables.specs.Table.{TableRow, TableState, retyped_row, entities_of}
 use Rattle.eco_tables.specs.Tables.{table_in, row_in, no_row, new_row}
 use Rattle.eco_entities.specs.declared.place.Place.{Place}
 use Rattle.eco_entities.specs.Needs.{need}
 use Rattle.eco_ids.specs.Indices.{Indexed}
 use Rattle.eco_ids.specs.World.{Record}
 use Rattle.eco_archetypes.specs.Archetypes.{RowlessIn, SameRows}
-use Rattle.eco_archetypes.specs.Widths.{Covers}
+use Rattle.eco_archetypes.specs.Widths.{MeetsNeeds}
 use Rattle.eco_store.specs.declared.layout.Layout.{Layout}
-use Rattle.eco_store.specs.Moving.{Admits}
+use Rattle.eco_store.specs.Moving.{AdmitsRow}
 use Rattle.eco_store.specs.Staying.{only_idle, all_staying, SameIn}
 use Rattle.eco_store.specs.Store.{IsStore, read}
 use Rattle.eco_store.specs.Transfers.{Pours, Thins}
@@ -26,7 +26,7 @@ seen l = read l.entities l.archetypes
 -- one of these slots
 pub record IsLaidBut (l : Layout) (slots : List ℕ) : Type 0 where
   pub store : IsStore l.entities l.archetypes
-  pub covers : Covers (need l.entities) l.archetypes
+  pub covers : MeetsNeeds (need l.entities) l.archetypes
   pub tidy : RowlessIn l.archetypes slots
 
 -- the parts agree, and no table is without rows but those that stay
@@ -69,7 +69,7 @@ pub record Plans (old new : Layout) : Type 0 where
 pub record Carries (old new : Layout) (to : ℕ) : Type 0 where
   pub laid : IsLaid new
   pub staying : new.staying ≡ record old.staying { idle = new.staying.idle }
-  pub admits : Admits old.archetypes new.archetypes old.staying.targets to
+  pub admits : AdmitsRow old.archetypes new.archetypes old.staying.targets to
 
 -- all rows of one table went to another, both of them targets
 pub record Empties (old new : Layout) (from to : ℕ) : Type 0 where
@@ -78,7 +78,7 @@ pub record Empties (old new : Layout) (from to : ℕ) : Type 0 where
   pub pours : Pours old.archetypes new.archetypes from to
 
 -- rows may have gone
-pub record Loses (old new : Layout) : Type 0 where
+pub record LosesRows (old new : Layout) : Type 0 where
   pub laid : IsLaid new
   pub targets : new.staying.targets ≡ old.staying.targets
   pub thins : Thins old.archetypes new.archetypes old.staying.targets
@@ -86,7 +86,7 @@ pub record Loses (old new : Layout) : Type 0 where
 -- ---- rows
 
 -- the rows of the table in a slot; none, where it is empty
-abbrev pub rows_in : List (Option TableState) → ℕ → List Row
+abbrev pub rows_in : List (Option TableState) → ℕ → List TableRow
 rows_in slots n = (table_in slots n).rows
 
 -- the ids of a row
@@ -94,22 +94,22 @@ abbrev pub ids_at : List (Option TableState) → Place → List Id
 ids_at slots p = map (λ x. x.0) (row_in slots p.table p.row).held
 
 -- the table in a slot has these rows, and every other the rows that it had
-pub record SetsRows (old new : ℕ → List Row) (n : ℕ) (rows : List Row) : Type 0 where
+pub record SetsRows (old new : ℕ → List TableRow) (n : ℕ) (rows : List TableRow) : Type 0 where
   pub changed : new n ≡ rows
   pub others : (m : ℕ) → m ≢ n → new m ≡ old m
 
 -- the entity has a row of this type at the end of a table, with zeros
-pub record PutsRow (old new : ℕ → List Row) (p : Place) (e : Entity) (ids : List Id) : Type 0 where
+pub record PutsRow (old new : ℕ → List TableRow) (p : Place) (e : Entity) (ids : List Id) : Type 0 where
   pub end : p.row ≡ length (old p.table)
   pub rows : SetsRows old new p.table (old p.table ++ retyped_row ids (new_row e) ∷ [])
 
 -- the row went, the last one of its table took its place, and this entity stands there now, if one does
-pub record TakesRow (old new : ℕ → List Row) (p : Place) (moved : Option Entity) : Type 0 where
+pub record TakesRow (old new : ℕ → List TableRow) (p : Place) (moved : Option Entity) : Type 0 where
   pub rows : SetsRows old new p.table (swap_remove (old p.table) p.row no_row)
   pub filled : moved ≡ slice_get (entities_of (new p.table)) p.row
 
 -- the row went to the end of another table, of this type, and the last one of its table took its place
-pub record MovesRow (old new : ℕ → List Row) (from to : Place) (ids : List Id) (moved : Option Entity)
+pub record MovesRow (old new : ℕ → List TableRow) (from to : Place) (ids : List Id) (moved : Option Entity)
     : Type 0 where
   pub apart : from.table ≢ to.table
   pub end : to.row ≡ length (old to.table)
@@ -120,6 +120,6 @@ pub record MovesRow (old new : ℕ → List Row) (from to : Place) (ids : List I
   pub filled : moved ≡ slice_get (entities_of (new from.table)) from.row
 
 -- the row has this type where it stands
-abbrev pub RetypesRow : (ℕ → List Row) → (ℕ → List Row) → Place → List Id → Type 0
+abbrev pub RetypesRow : (ℕ → List TableRow) → (ℕ → List TableRow) → Place → List Id → Type 0
 RetypesRow old new p ids =
     SetsRows old new p.table (slice_set (old p.table) p.row (retyped_row ids (slice_index_or (old p.table) p.row no_row)))

@@ -7,11 +7,11 @@ use Rattle.eco_entities.specs.Needs.{fields_for}
 use Rattle.eco_tables.specs.Table.{TableState, width_in}
 use Rattle.eco_tables.specs.Tables.{table_in}
 use Rattle.eco_archetypes.specs.Archetypes.{type_at}
-use Rattle.eco_store.specs.Store.{arity, IsShown}
+use Rattle.eco_store.specs.Store.{arity_in_store, IsShown}
 
 -- the table keeps as many fields of each of its ids as the id's arity says: what is data has a column
 abbrev pub KeepsData : Indexed Record → TableState → Type 0
-KeepsData w t = (i : Id) (n : ℕ) → width_in t i ≡ Some n → fields_for (arity w i) ≤ n
+KeepsData w t = (i : Id) (n : ℕ) → width_in t i ≡ Some n → fields_for (arity_in_store w i) ≤ n
 
 -- each of the tables does
 abbrev pub KeepData : Indexed Record → List (Option TableState) → Type 0

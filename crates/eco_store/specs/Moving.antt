@@ -35,7 +35,7 @@ abbrev pub HasRoomFor : List (Option TableState) → List ℕ → Type 0
 HasRoomFor slots to = (n : ℕ) → arriving to n ≤ (table_in slots n).room
 
 -- the tables in some slots keep their types, and lose no more room than one row in the table in a slot takes
-pub record Admits (old new : List (Option TableState)) (slots : List ℕ) (to : ℕ) : Type 0 where
+pub record AdmitsRow (old new : List (Option TableState)) (slots : List ℕ) (to : ℕ) : Type 0 where
   pub types : (n : ℕ) → IsTrue (list_any (nat_eq n) slots) → type_at new n ≡ type_at old n
   pub room : (n : ℕ) → IsTrue (list_any (nat_eq n) slots) → (table_in old n).room ≤ (table_in new n).room + arriving (to ∷ []) n
 

@@ -6,8 +6,8 @@ use Rattle.eco_ids.specs.declared.entity.Entity.{Entity}
 use Rattle.eco_entities.specs.Registration.{Registration}
 use Rattle.eco_tables.specs.Table.{TableState, entities_of}
 use Rattle.eco_tables.specs.Tables.{table_in}
-use Rattle.eco_store.specs.Seats.{Seat, entity_of}
-use Rattle.eco_store.specs.Store.{seat_at, seat_in, type_of}
+use Rattle.eco_store.specs.Seats.{Seat, seated_entity}
+use Rattle.eco_store.specs.Store.{seat_at, seat_in, type_in_store}
 use Rattle.eco_store.specs.declared.standing.Standing.{Standing}
 
 -- the entity in the first table
@@ -22,16 +22,16 @@ standings i tables (n ∷ ns) = map (λ e. record { entity = e; place = i }) (en
 -- the place is one of a slot whose table has the entity's own ids
 abbrev pub StandsIn : Indexed Record → List (Option TableState) → List ℕ → Standing → Type 0
 StandsIn w tables slots s =
-    (s.place < length slots) × (type_of w s.entity ≡ Some (table_in tables (slice_index_or slots s.place 0)).ids)
+    (s.place < length slots) × (type_in_store w s.entity ≡ Some (table_in tables (slice_index_or slots s.place 0)).ids)
 
 -- the number of a slot, 0 where it has none
-abbrev pub number_of : List ℕ → ℕ → ℕ
-number_of numbers n = slice_index_or numbers n 0
+abbrev pub slot_number : List ℕ → ℕ → ℕ
+slot_number numbers n = slice_index_or numbers n 0
 
 -- the first so many slots have their places for numbers, counted from 1, and no other slot has a number
 pub record IsNumbering (slots : List ℕ) (count : ℕ) (numbers : List ℕ) : Type 0 where
-  pub places : (n k : ℕ) → number_of numbers n ≡ suc k → (k < count) × (slice_index_or slots k 0 ≡ n)
-  pub others : (n k : ℕ) → number_of numbers n ≡ 0 → k < count → slice_index_or slots k 0 ≢ n
+  pub places : (n k : ℕ) → slot_number numbers n ≡ suc k → (k < count) × (slice_index_or slots k 0 ≡ n)
+  pub others : (n k : ℕ) → slot_number numbers n ≡ 0 → k < count → slice_index_or slots k 0 ≢ n
 
 -- the entity with the place that the number says
 abbrev pub standing_by : Entity → ℕ → Option Standing
@@ -41,7 +41,7 @@ standing_by e (suc k) = Some (record { entity = e; place = k })
 -- the entity of a seat that an index has, where the seat's slot has a number
 abbrev pub standing_of : List ℕ → ℕ → Option Seat → Option Standing
 standing_of numbers i None = None
-standing_of numbers i (Some s) = standing_by (entity_of i s) (number_of numbers s.slot)
+standing_of numbers i (Some s) = standing_by (seated_entity i s) (slot_number numbers s.slot)
 
 -- the living entity at an index, where its slot has a number
 abbrev pub standing_at : List ℕ → Indexed Registration → ℕ → Option Standing

@@ -9,7 +9,7 @@ use Rattle.eco_ids.specs.Indices.{Indexed, map_state}
 use Rattle.eco_ids.specs.Matching.{pattern_matches}
 use Rattle.eco_index.specs.TypeMap.{same_ids}
 use Rattle.eco_store.specs.declared.type_change.TypeChange.{TypeChange}
-use Rattle.eco_store.specs.Store.{record_ids, type_of, with_type}
+use Rattle.eco_store.specs.Store.{record_ids, type_in_store, with_type}
 
 -- an entity of the type that goes has the type that comes: values of ids that both have stay, and new ids hold zeros
 abbrev pub changed_record : TypeChange → Record → Record
@@ -29,7 +29,7 @@ IsOneWay cs = All (λ c. All (λ d. c.to ≢ d.from) cs) cs
 
 -- some living entity has this type, and it passes the test
 abbrev pub IsTypeBy : Indexed Record → (List Id → Bool) → List Id → Type 0
-IsTypeBy w test ids = IsTrue (test ids) × (e : Entity) × (type_of w e ≡ Some ids)
+IsTypeBy w test ids = IsTrue (test ids) × (e : Entity) × (type_in_store w e ≡ Some ids)
 
 -- some living entity has this type, and the pattern matches one of its ids
 abbrev pub IsTypeWith : Indexed Record → Pattern → List Id → Type 0

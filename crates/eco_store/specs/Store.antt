@@ -18,7 +18,7 @@ use Rattle.eco_ids.specs.Renaming.{RenamesWith, may_rename}
 use Rattle.eco_ids.specs.Step.{with_name}
 use Rattle.eco_ids.specs.World.{Record, zeros}
 use Rattle.eco_tables.specs.Column.{retyped, with_held}
-use Rattle.eco_tables.specs.Table.{TableState, Row, RowsHaveIds}
+use Rattle.eco_tables.specs.Table.{TableState, TableRow, RowsHaveIds}
 use Rattle.eco_entities.specs.declared.place.Place.{Place}
 use Rattle.eco_entities.specs.Registration.{Registration}
 use Rattle.eco_tables.specs.Tables.{table_in}
@@ -43,24 +43,24 @@ abbrev pub newborn : Option (List ℕ) → Option ℕ → List Id → Record
 newborn name arity ids = record { name = name; arity = arity; held = all_zeros ids }
 
 -- the arity of a living entity, where it has one
-abbrev pub own_arity : Indexed Record → Entity → Option ℕ
-own_arity w e = option_and_then (λ r. r.arity) (record_of w e)
+abbrev pub own_arity_in_store : Indexed Record → Entity → Option ℕ
+own_arity_in_store w e = option_and_then (λ r. r.arity) (record_of w e)
 
 -- what a living entity holds; nothing where it isn't living
-abbrev pub held_by : Indexed Record → Entity → List (Id × Value)
-held_by w e = unwrap_or (option_map (λ r. r.held) (record_of w e)) []
+abbrev pub held_in_store : Indexed Record → Entity → List (Id × Value)
+held_in_store w e = unwrap_or (option_map (λ r. r.held) (record_of w e)) []
 
 -- a living entity has the id
-abbrev pub has : Indexed Record → Entity → Id → Bool
-has w e i = is_some (find id_cmp i (held_by w e))
+abbrev pub has_in_store : Indexed Record → Entity → Id → Bool
+has_in_store w e i = is_some (find id_cmp i (held_in_store w e))
 
 -- the ids of a record
 abbrev pub record_ids : Record → List Id
 record_ids r = map (λ p. p.0) r.held
 
 -- the ids of a living entity
-abbrev pub type_of : Indexed Record → Entity → Option (List Id)
-type_of w e = option_map record_ids (record_of w e)
+abbrev pub type_in_store : Indexed Record → Entity → Option (List Id)
+type_in_store w e = option_map record_ids (record_of w e)
 
 -- these ids: values of ids that were there stay, and new ids hold zeros
 abbrev pub with_type : List Id → Record → Record
@@ -79,45 +79,45 @@ abbrev pub with_exchanged : Id → Id → Record → Record
 with_exchanged i j r = with_type (exchanged (record_ids r) i j) r
 
 -- this value at the id, where it is there
-abbrev pub with_written : Id → Value → Record → Record
-with_written i v r = record r { held = with_held r.held i v }
+abbrev pub record_with_written : Id → Value → Record → Record
+record_with_written i v r = record r { held = with_held r.held i v }
 
 -- the arity of an id: a single has its entity's, a pair its relationship's, else its target's
-abbrev pub arity : Indexed Record → Id → Option ℕ
-arity w (One e) = own_arity w e
-arity w (Two r t) = option_or (own_arity w r) (own_arity w t)
+abbrev pub arity_in_store : Indexed Record → Id → Option ℕ
+arity_in_store w (One e) = own_arity_in_store w e
+arity_in_store w (Two r t) = option_or (own_arity_in_store w r) (own_arity_in_store w t)
 
 -- a value has all its fields, and those past the id's arity are 0; all are, where it has none
-abbrev pub fits : Indexed Record → Id → Value → Bool
-fits w i v = (length v.0 == FIELD_COUNT) && is_zero_past (unwrap_or (arity w i) 0) v
+abbrev pub fits_in_store : Indexed Record → Id → Value → Bool
+fits_in_store w i v = (length v.0 == FIELD_COUNT) && is_zero_past (unwrap_or (arity_in_store w i) 0) v
 
 -- ---- steps, each with when it may want memory
 
 -- an entity of this name and this arity, or none, is made with these ids
-abbrev pub Creates : Indexed Record → Option (List ℕ) → Option ℕ → List Id → Result Entity Refusal → Indexed Record → Type 0
-Creates w name arity ids = Meets (Makes record_name w (newborn name arity ids)) (may_make record_name w name) w
+abbrev pub CreatesRecord : Indexed Record → Option (List ℕ) → Option ℕ → List Id → Result Entity Refusal → Indexed Record → Type 0
+CreatesRecord w name arity ids = Meets (Makes record_name w (newborn name arity ids)) (may_make record_name w name) w
 
 -- so many more indices are known
 abbrev pub Admission : Indexed Record → ℕ → Result (Unit {0}) Refusal → Indexed Record → Type 0
 Admission w n = Meets (Admits w n) (may_admit w n && nat_lt 0 n) w
 
 -- a handle that is free lives, without name, arity and ids
-abbrev pub MakesAlive : Indexed Record → Entity → Result (Unit {0}) Refusal → Indexed Record → Type 0
-MakesAlive w e = Meets (MakesAliveWith w e (newborn None None [])) (is_free_at w e) w
+abbrev pub MakesRecordAlive : Indexed Record → Entity → Result (Unit {0}) Refusal → Indexed Record → Type 0
+MakesRecordAlive w e = Meets (MakesAliveWith w e (newborn None None [])) (is_free_at w e) w
 
 -- the entity has this name, or none, from then on
-abbrev pub Renames : Indexed Record → Entity → Option (List ℕ) → Result (Unit {0}) Refusal → Indexed Record → Type 0
-Renames w e name = Meets (RenamesWith record_name with_name w e false name) (may_rename record_name w e false name) w
+abbrev pub RenamesRecord : Indexed Record → Entity → Option (List ℕ) → Result (Unit {0}) Refusal → Indexed Record → Type 0
+RenamesRecord w e name = Meets (RenamesWith record_name with_name w e false name) (may_rename record_name w e false name) w
 
 -- ---- how rows and places make it
 
 -- what the row at a place holds
-abbrev pub held_at : (ℕ → ℕ → Option Row) → Option Place → List (Id × Value)
+abbrev pub held_at : (ℕ → ℕ → Option TableRow) → Option Place → List (Id × Value)
 held_at E None = []
 held_at E (Some p) = held_of (E p.table p.row)
 
 -- the name and the arity of a registration, and what its row holds
-abbrev pub record_for : (ℕ → ℕ → Option Row) → Registration → Record
+abbrev pub record_for : (ℕ → ℕ → Option TableRow) → Registration → Record
 record_for E r = record { name = r.name; arity = r.arity; held = held_at E r.place }
 
 -- the record of each living entity, read from the rows
@@ -156,7 +156,7 @@ pub record IsStore (w : Indexed Registration) (slots : List (Option TableState))
 -- the record is that of an entity whose row in the table is there, and which holds what the row does
 pub record StandsAt (k : Record) (t : TableState) (row : ℕ) : Type 0 where
   pub within : row < length t.rows
-  pub held : (r : Row) → k.held ≡ (slice_index_or t.rows row r).held
+  pub held : (r : TableRow) → k.held ≡ (slice_index_or t.rows row r).held
 
 -- such a record is there
 abbrev pub Stands : Option Record → TableState → ℕ → Type 0
@@ -166,7 +166,7 @@ Stands (Some k) t row = StandsAt k t row
 -- the tables in these slots show the store: each row is a living entity's, with what that holds, each living entity has
 -- exactly one row, and a row has a value for each id of its table's type
 pub record IsShown (w : Indexed Record) (slots : List (Option TableState)) : Type 0 where
-  pub rows : (n row : ℕ) (r : Row) → row_at slots n row ≡ Some r → Stands (record_of w r.entity) (table_in slots n) row
-  pub living : (e : Entity) (k : Record) → record_of w e ≡ Some k → (n : ℕ) × (row : ℕ) × (r : Row) × (row_at slots n row ≡ Some r) × (r.entity ≡ e)
-  pub once : (n row m other : ℕ) (r x : Row) → row_at slots n row ≡ Some r → row_at slots m other ≡ Some x → r.entity ≡ x.entity → (n ≡ m) × (row ≡ other)
+  pub rows : (n row : ℕ) (r : TableRow) → row_at slots n row ≡ Some r → Stands (record_of w r.entity) (table_in slots n) row
+  pub living : (e : Entity) (k : Record) → record_of w e ≡ Some k → (n : ℕ) × (row : ℕ) × (r : TableRow) × (row_at slots n row ≡ Some r) × (r.entity ≡ e)
+  pub once : (n row m other : ℕ) (r x : TableRow) → row_at slots n row ≡ Some r → row_at slots m other ≡ Some x → r.entity ≡ x.entity → (n ≡ m) × (row ≡ other)
   pub own : (n : ℕ) → RowsHaveIds (table_in slots n)

@@ -3,7 +3,7 @@ ghost use Rattle.std.specs.Prelude.{◌≡◌, map, IsTrue};
 ghost use Rattle.eco_ids.specs.Indices.{is_alive, with_death};
 ghost use Rattle.eco_ids.specs.Order.{entity_cmp, has_item};
 ghost use Rattle.eco_store.specs.Deaths.{after_deaths};
-ghost use Rattle.eco_store.specs.Layout.{seen, IsLaid, Loses};
+ghost use Rattle.eco_store.specs.Layout.{seen, IsLaid, LosesRows};
 ghost use Rattle.eco_store.specs.Retyping.{after_changes, IsOneWay};
 ghost use Rattle.eco_store.specs.Transfers.{change_of, AreNamed, HasRoom, IsPlan};
 
@@ -21,7 +21,7 @@ impl Layout {
     pub(crate) fn kill(&mut self, entity: Entity)
         requires laid { IsLaid self.old }
         requires alive { IsTrue (is_alive self.old.entities entity) }
-        ensures loses { Loses self.old self.new }
+        ensures loses { LosesRows self.old self.new }
         ensures seen { seen self.new ≡ with_death (seen self.old) entity }
         ensures staying { self.new.staying ≡ record self.old.staying { idle = self.new.staying.idle } }
     {
@@ -38,7 +38,7 @@ impl Layout {
     // Each of these entities that lives dies, and its row goes. It takes no memory.
     fn kill_all(&mut self, dead: &[Entity])
         requires { IsLaid self.old }
-        ensures loses { Loses self.old self.new }
+        ensures loses { LosesRows self.old self.new }
         ensures seen { seen self.new ≡ after_deaths (seen self.old) (has_item entity_cmp dead.now) }
     {
         let mut done = 0;

@@ -1,6 +1,6 @@
 //! The tables of a store, and who stands where in them.
 ghost use Rattle.std.specs.Prelude.{◌≡◌, ◌≢◌, ℕ, Some, IfSome, IfNone};
-ghost use Rattle.eco_tables.specs.Table.{Row};
+ghost use Rattle.eco_tables.specs.Table.{TableRow};
 ghost use Rattle.eco_archetypes.specs.Archetypes.{row_at};
 ghost use Rattle.eco_store.specs.Store.{IsStore};
 
@@ -53,11 +53,11 @@ impl<'a> Places<'a> {
     #[inline]
     pub fn slot_of(&self, entity: Entity) -> Option<usize>
         ensures some { IfSome result (λ n.
-            (row : ℕ) × (r : Row) × (row_at self.now n row ≡ Some r) × (r.entity ≡ entity)) }
+            (row : ℕ) × (r : TableRow) × (row_at self.now n row ≡ Some r) × (r.entity ≡ entity)) }
         ensures only { IfSome result (λ n.
-            (m row : ℕ) (r : Row) → row_at self.now m row ≡ Some r → r.entity ≡ entity → m ≡ n) }
+            (m row : ℕ) (r : TableRow) → row_at self.now m row ≡ Some r → r.entity ≡ entity → m ≡ n) }
         ensures none { IfNone result
-            ((n row : ℕ) (r : Row) → row_at self.now n row ≡ Some r → r.entity ≢ entity) }
+            ((n row : ℕ) (r : TableRow) → row_at self.now n row ≡ Some r → r.entity ≢ entity) }
     {
         let place = self.entities.place_of(entity)?;
         Some(place.table)

@@ -7,9 +7,9 @@ ghost use Rattle.eco_ids.specs.Indices.{changed, is_alive, next_entity, record_o
 ghost use Rattle.eco_ids.specs.Names.{named_entity};
 ghost use Rattle.eco_ids.specs.Order.{id_cmp, is_ascending};
 ghost use Rattle.eco_ids.specs.Renaming.{own_name};
-ghost use Rattle.eco_entities.specs.Registration.{entity_at, name_of};
+ghost use Rattle.eco_entities.specs.Registration.{entity_at, given_name};
 ghost use Rattle.eco_store.specs.Placing.{Opposes};
-ghost use Rattle.eco_store.specs.Store.{Admission, Creates, Renames, MakesAlive, held_by, own_arity, fits, record_name, type_of, with_written, Stands};
+ghost use Rattle.eco_store.specs.Store.{Admission, CreatesRecord, RenamesRecord, MakesRecordAlive, held_in_store, own_arity_in_store, fits_in_store, record_name, type_in_store, record_with_written, Stands};
 ghost use Rattle.eco_store.specs.Lent.{AreTablesOf, KeepsData};
 
 use crate::layout::Layout;
@@ -62,7 +62,7 @@ impl Drop for Store {
 
 // What stands against a new entity of this name: its name, or that no index is left.
 fn check_new(entities: &EntityIndex, name: Option<&str>) -> Result<(), Refusal>
-    ensures { Opposes (unfit_name name_of entities.now (option_copied name.entry))
+    ensures { Opposes (unfit_name given_name entities.now (option_copied name.entry))
         (next_entity entities.now) result }
 {
     entities.check_name(name)?;
@@ -128,7 +128,7 @@ impl Store {
     /// The arity of a living entity, if it has one.
     #[inline(always)]
     pub fn arity_of(&self, e: Entity) -> Option<u8>
-        ensures { result ≡ own_arity self.now.entities e }
+        ensures { result ≡ own_arity_in_store self.now.entities e }
     {
         self.layout.entities.arity_of(e)
     }
@@ -154,7 +154,7 @@ impl Store {
 
     /// The ids of a living entity.
     pub fn type_of(&self, e: Entity) -> Option<&TypeList>
-        ensures { option_copied result ≡ type_of self.now.entities e }
+        ensures { option_copied result ≡ type_in_store self.now.entities e }
     {
         let (table, _) = self.stand(e)?;
         Some(table.type_list())
@@ -162,7 +162,7 @@ impl Store {
 
     /// The ids of an entity, ascending; none where it isn't living.
     pub fn ids_of(&self, e: Entity) -> &[Id]
-        ensures ids { result.now ≡ map (λ p. p.0) (held_by self.now.entities e) }
+        ensures ids { result.now ≡ map (λ p. p.0) (held_in_store self.now.entities e) }
         ensures ascending { IsTrue (is_ascending id_cmp result.now) }
     {
         match self.type_of(e) {
@@ -173,7 +173,7 @@ impl Store {
 
     /// The value of an id that a living entity has.
     pub fn value(&self, e: Entity, id: Id) -> Option<Value>
-        ensures { result ≡ find id_cmp id (held_by self.now.entities e) }
+        ensures { result ≡ find id_cmp id (held_in_store self.now.entities e) }
     {
         let (table, row) = self.stand(e)?;
         table.find_value(row, id)
@@ -201,7 +201,7 @@ impl Store {
         arity: Option<u8>,
         type_list: &TypeList,
     ) -> Result<Entity, Refusal>
-        ensures step { Creates self.old.entities (option_copied name.entry) arity type_list.now
+        ensures step { CreatesRecord self.old.entities (option_copied name.entry) arity type_list.now
             result self.new.entities }
     {
         // Most entities have no name, and are made one after another with the same ids.
@@ -218,7 +218,7 @@ impl Store {
     #[inline]
     fn create_in_room(&mut self, arity: Option<u8>, type_list: &TypeList) -> Option<Entity>
         ensures step { IfSome result (λ e.
-            Creates self.old.entities None arity type_list.now (Ok e) self.new.entities) }
+            CreatesRecord self.old.entities None arity type_list.now (Ok e) self.new.entities) }
         ensures none { IfNone result (self.new ≡ self.old) }
     {
         // A place's row fits, as a table has no more rows than there are indices.
@@ -241,7 +241,7 @@ impl Store {
         arity: Option<u8>,
         type_list: &TypeList,
     ) -> Result<Entity, Refusal>
-        ensures step { Creates self.old.entities (option_copied name.entry) arity type_list.now
+        ensures step { CreatesRecord self.old.entities (option_copied name.entry) arity type_list.now
             result self.new.entities }
     {
         // A place's row fits, as a table has no more rows than there are indices.
@@ -294,7 +294,7 @@ impl Store {
     /// Refused with `Taken` unless its index is known, free and at its generation, else with `OutOfMemory` where memory is
     /// refused. A refusal changes nothing.
     pub fn make_alive(&mut self, e: Entity) -> Result<(), Refusal>
-        ensures step { MakesAlive self.old.entities e result self.new.entities }
+        ensures step { MakesRecordAlive self.old.entities e result self.new.entities }
     {
         self.layout.entities.rules();
         needs_never_grow();
@@ -319,7 +319,7 @@ impl Store {
     /// Refused with `NotAlive` where nobody lives there, with `BadName` where the name is none, and with `NameTaken` where
     /// another living entity has it, in this order; then with `OutOfMemory`. The old name stays then.
     pub fn rename(&mut self, e: Entity, name: Option<&str>) -> Result<(), Refusal>
-        ensures step { Renames self.old.entities e (option_copied name.entry) result self.new.entities }
+        ensures step { RenamesRecord self.old.entities e (option_copied name.entry) result self.new.entities }
     {
         needs_never_grow();
         self.layout.entities.rename(e, name)
@@ -330,9 +330,9 @@ impl Store {
     #[inline(always)]
     pub fn set_value(&mut self, e: Entity, id: Id, value: Value) -> bool
         requires alive { IsTrue (is_alive self.old.entities e) }
-        requires fits { IsTrue (fits self.old.entities id value) }
-        ensures written { self.new.entities ≡ changed self.old.entities e (with_written id value) }
-        ensures had { result ≡ is_some (find id_cmp id (held_by self.old.entities e)) }
+        requires fits { IsTrue (fits_in_store self.old.entities id value) }
+        ensures written { self.new.entities ≡ changed self.old.entities e (record_with_written id value) }
+        ensures had { result ≡ is_some (find id_cmp id (held_in_store self.old.entities e)) }
     {
         let place = self.layout.entities.place_of(e).unwrap();
         self.layout

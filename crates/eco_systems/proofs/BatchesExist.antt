@@ -19,7 +19,7 @@ use Rattle.eco_ids.proofs.IdOrder.{entity_cmp_total, same_entity}
 use Rattle.eco_ids.proofs.Listable.{In, decide_bool, listed, sorted}
 use Rattle.eco_ids.proofs.LivingLists.{living_in, the_living}
 use Rattle.eco_systems.specs.Batches.{AreBatches, Conflict}
-use Rattle.eco_systems.specs.Closing.{Among, ClosedPasses, ListsClosed, head_of, with_head}
+use Rattle.eco_systems.specs.Closing.{Among, ClosedPasses, ListsClosed, pattern_head, pattern_with_head}
 use Rattle.eco_systems.specs.Joining.{batched}
 use Rattle.eco_systems.specs.Systems.{SystemModel, system_reads}
 use Rattle.eco_systems.specs.Writes.{IsTraitWriter, SomeOf, widened, writes_trait}
@@ -41,13 +41,13 @@ module _ (w : WorldState) (l : IsLawful w) where
       (up.0, λ x. (λ m. (all.1 x).0 ((up.2 x).0 m), λ m. (up.2 x).1 ((all.1 x).1 m)))
 
   closed_more : (p : Pattern) (old : List Pattern) → (new : List Pattern) × Among w p old new
-  closed_more p old = by (head_of p) refl
+  closed_more p old = by (pattern_head p) refl
     where
-      by : (o : Option Entity) → head_of p ≡ o → (new : List Pattern) × Among w p old new
+      by : (o : Option Entity) → pattern_head p ≡ o → (new : List Pattern) × Among w p old new
       by None at = (old ++ p ∷ [], among_wild w p old at)
       by (Some h) at =
           let xs = heads h in
-          (old ++ map (λ x. widened w (with_head p x)) xs.0, among_reached w p h xs.0 old at xs.1)
+          (old ++ map (λ x. widened w (pattern_with_head p x)) xs.0, among_reached w p h xs.0 old at xs.1)
 
   closed_list : (writes : List Pattern) → (closed : List Pattern) × ListsClosed w writes closed
   closed_list [] = ([], lists_none w)

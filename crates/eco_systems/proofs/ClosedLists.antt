@@ -16,7 +16,7 @@ use Rattle.eco_ids.specs.Traits.{Reaches}
 use Rattle.eco_ids.specs.World.{WorldState, has}
 use Rattle.eco_ids.proofs.Facts.{or_left, or_parts, or_right}
 use Rattle.eco_ids.proofs.Overlaps.{entity_eq_is, entity_eq_itself}
-use Rattle.eco_systems.specs.Closing.{head_of, with_head, ClosedPasses, ListsClosed, Among}
+use Rattle.eco_systems.specs.Closing.{pattern_head, pattern_with_head, ClosedPasses, ListsClosed, Among}
 use Rattle.eco_systems.specs.Writes.{SomeOf, BringsPattern, InClosedPatterns, widened}
 
 -- ---- the closed patterns of some are those of each
@@ -104,22 +104,22 @@ module _ (w : WorldState) where
   HasHead (Two Each q) h = ⊥
   HasHead (Two Any q) h = ⊥
 
-  own_head : (p : Pattern) (h : Entity) → HasHead p h → with_head p h ≡ p
+  own_head : (p : Pattern) (h : Entity) → HasHead p h → pattern_with_head p h ≡ p
   own_head (One e) h is = ap One (sym is)
   own_head (Two (Is r) q) h is = ap (λ x. Two (Is x) q) (sym is)
   own_head (Two Each q) h is = absurd is
   own_head (Two Any q) h is = absurd is
 
-  one_brings : (p : Pattern) (a b : Entity) → IsTrue (has w a (id.Two WITH b)) → BringsPattern w (with_head p a) (with_head p b)
+  one_brings : (p : Pattern) (a b : Entity) → IsTrue (has w a (id.Two WITH b)) → BringsPattern w (pattern_with_head p a) (pattern_with_head p b)
   one_brings (One c) a b h = h
   one_brings (Two r t) a b h = (h, refl)
 
-  reach_to_closed : (p : Pattern) (h : Entity) → HasHead p h → {x : Entity} → Reaches w WITH h x → InClosedPatterns w (p ∷ []) (with_head p x)
-  reach_to_closed p h is (root e) = root (inl (sym (ap (with_head p) e ∙ own_head p h is)))
+  reach_to_closed : (p : Pattern) (h : Entity) → HasHead p h → {x : Entity} → Reaches w WITH h x → InClosedPatterns w (p ∷ []) (pattern_with_head p x)
+  reach_to_closed p h is (root e) = root (inl (sym (ap (pattern_with_head p) e ∙ own_head p h is)))
   reach_to_closed p h is (next {a = a} {b = b} member edge) = next (reach_to_closed p h is member) (one_brings p a b edge)
 
-  brought_head : (p : Pattern) (a : Entity) (q : Pattern) → BringsPattern w (with_head p a) q → (x : Entity) × IsTrue (has w a (id.Two WITH x)) ×
-      (q ≡ with_head p x)
+  brought_head : (p : Pattern) (a : Entity) (q : Pattern) → BringsPattern w (pattern_with_head p a) q → (x : Entity) × IsTrue (has w a (id.Two WITH x)) ×
+      (q ≡ pattern_with_head p x)
   brought_head (One c) a (One x) h = (x, h, refl)
   brought_head (One c) a (Two r t) h = absurd h
   brought_head (Two r t) a (One x) h = absurd h
@@ -128,7 +128,7 @@ module _ (w : WorldState) where
   brought_head (Two r t) a (Two (Is x) u) h = (x, h.0, ap (Two (Is x)) h.1)
 
   closed_to_reach : (p : Pattern) (h : Entity) → HasHead p h → {q : Pattern} → InClosedPatterns w (p ∷ []) q → (x : Entity) × Reaches w WITH h x ×
-      (q ≡ with_head p x)
+      (q ≡ pattern_with_head p x)
   closed_to_reach p h is (root (inl e)) = (h, root refl, sym e ∙ sym (own_head p h is))
   closed_to_reach p h is (root (inr n)) = absurd n
   closed_to_reach p h is (next {a = a} {b = b} member brings) =
@@ -136,52 +136,52 @@ module _ (w : WorldState) where
       let n = brought_head p m.0 b (subst (λ r. BringsPattern w r b) m.2 brings) in
       (n.0, next m.1 n.1, n.2)
 
-  listed_head : (p : Pattern) (heads : List Entity) (test : Pattern → Bool) → IsTrue (list_any test (map (λ x. widened w (with_head p x)) heads)) →
-      (x : Entity) × IsTrue (has_item entity_cmp heads x) × IsTrue (test (widened w (with_head p x)))
+  listed_head : (p : Pattern) (heads : List Entity) (test : Pattern → Bool) → IsTrue (list_any test (map (λ x. widened w (pattern_with_head p x)) heads)) →
+      (x : Entity) × IsTrue (has_item entity_cmp heads x) × IsTrue (test (widened w (pattern_with_head p x)))
   listed_head p [] test h = absurd (true≢false (sym h))
   listed_head p (y ∷ ys) test h =
-      elim (or_parts (test (widened w (with_head p y))) _ h) as (λ _. (x : Entity) × IsTrue (entity_eq y x || has_item entity_cmp ys x) ×
-      IsTrue (test (widened w (with_head p x)))) [
+      elim (or_parts (test (widened w (pattern_with_head p y))) _ h) as (λ _. (x : Entity) × IsTrue (entity_eq y x || has_item entity_cmp ys x) ×
+      IsTrue (test (widened w (pattern_with_head p x)))) [
         | inl k ↦ (y, or_left _ _ (entity_eq_itself y), k)
         | inr k ↦ let rest = listed_head p ys test k in (rest.0, or_right (entity_eq y rest.0) _ rest.1, rest.2)
       ]
 
   head_listed : (p : Pattern) (heads : List Entity) (test : Pattern → Bool) (x : Entity) → IsTrue (has_item entity_cmp heads x) →
-      IsTrue (test (widened w (with_head p x))) → IsTrue (list_any test (map (λ y. widened w (with_head p y)) heads))
+      IsTrue (test (widened w (pattern_with_head p x))) → IsTrue (list_any test (map (λ y. widened w (pattern_with_head p y)) heads))
   head_listed p [] test x h t = absurd (true≢false (sym h))
   head_listed p (y ∷ ys) test x h t =
       elim (or_parts (entity_eq y x) (has_item entity_cmp ys x) h) as (λ _. IsTrue
-      (test (widened w (with_head p y)) || list_any test (map (λ z. widened w (with_head p z)) ys))) [
-        | inl k ↦ or_left _ _ (subst (λ z. IsTrue (test (widened w (with_head p z)))) (sym (entity_eq_is y x k)) t)
-        | inr k ↦ or_right (test (widened w (with_head p y))) _ (head_listed p ys test x k t)
+      (test (widened w (pattern_with_head p y)) || list_any test (map (λ z. widened w (pattern_with_head p z)) ys))) [
+        | inl k ↦ or_left _ _ (subst (λ z. IsTrue (test (widened w (pattern_with_head p z)))) (sym (entity_eq_is y x k)) t)
+        | inr k ↦ or_right (test (widened w (pattern_with_head p y))) _ (head_listed p ys test x k t)
       ]
 
   -- a pattern with a head
-  has_head : (p : Pattern) (h : Entity) → head_of p ≡ Some h → HasHead p h
+  has_head : (p : Pattern) (h : Entity) → pattern_head p ≡ Some h → HasHead p h
   has_head (One e) h is = same_Some e h is
   has_head (Two (Is r) q) h is = same_Some r h is
   has_head (Two Each q) h is = absurd (none-some h is)
   has_head (Two Any q) h is = absurd (none-some h is)
 
-  pub among_reached : (p : Pattern) (h : Entity) (heads : List Entity) (old : List Pattern) → head_of p ≡ Some h →
-      ((x : Entity) → IsTrue (has_item entity_cmp heads x) ↔ Reaches w WITH h x) → Among w p old (old ++ map (λ x. widened w (with_head p x)) heads)
+  pub among_reached : (p : Pattern) (h : Entity) (heads : List Entity) (old : List Pattern) → pattern_head p ≡ Some h →
+      ((x : Entity) → IsTrue (has_item entity_cmp heads x) ↔ Reaches w WITH h x) → Among w p old (old ++ map (λ x. widened w (pattern_with_head p x)) heads)
   among_reached p h heads old at exact test = (
-    λ t. there (or_parts (list_any test old) _ (sym (list_any-append test old (map (λ x. widened w (with_head p x)) heads)) ∙ t)),
-    λ c. list_any-append test old (map (λ x. widened w (with_head p x)) heads) ∙ here c,
+    λ t. there (or_parts (list_any test old) _ (sym (list_any-append test old (map (λ x. widened w (pattern_with_head p x)) heads)) ∙ t)),
+    λ c. list_any-append test old (map (λ x. widened w (pattern_with_head p x)) heads) ∙ here c,
   )
     where
       is : HasHead p h
       is = has_head p h at
 
-      there : IsTrue (list_any test old) ⊎ IsTrue (list_any test (map (λ x. widened w (with_head p x)) heads)) →
+      there : IsTrue (list_any test old) ⊎ IsTrue (list_any test (map (λ x. widened w (pattern_with_head p x)) heads)) →
           IsTrue (list_any test old) ⊎ ClosedPasses w (p ∷ []) test
       there (inl o) = inl o
       there (inr m) =
           let x = listed_head p heads test m in
-          inr (widened w (with_head p x.0), (with_head p x.0, reach_to_closed p h is ((exact x.0).0 x.1), refl), x.2)
+          inr (widened w (pattern_with_head p x.0), (pattern_with_head p x.0, reach_to_closed p h is ((exact x.0).0 x.1), refl), x.2)
 
       here : IsTrue (list_any test old) ⊎ ClosedPasses w (p ∷ []) test →
-          IsTrue (list_any test old || list_any test (map (λ x. widened w (with_head p x)) heads))
+          IsTrue (list_any test old || list_any test (map (λ x. widened w (pattern_with_head p x)) heads))
       here (inl o) = or_left _ _ o
       here (inr c) =
           let x = closed_to_reach p h is (c.1).1 in
@@ -213,13 +213,13 @@ module _ (w : WorldState) where
   wild_alone p is (root (inr n)) = absurd n
   wild_alone p is (next {a = a} {b = b} member brings) = absurd (wild_brings p b is (subst (λ r. BringsPattern w r b) (sym (wild_alone p is member)) brings))
 
-  is_wild : (p : Pattern) → head_of p ≡ None → IsWild p
+  is_wild : (p : Pattern) → pattern_head p ≡ None → IsWild p
   is_wild (One e) at = absurd (none-some e (sym at))
   is_wild (Two (Is r) q) at = absurd (none-some r (sym at))
   is_wild (Two Each q) at = tt
   is_wild (Two Any q) at = tt
 
-  pub among_wild : (p : Pattern) (old : List Pattern) → head_of p ≡ None → Among w p old (old ++ p ∷ [])
+  pub among_wild : (p : Pattern) (old : List Pattern) → pattern_head p ≡ None → Among w p old (old ++ p ∷ [])
   among_wild p old at test = (
     λ t. there (or_parts (list_any test old) _ (sym (list_any-append test old (p ∷ [])) ∙ t)),
     λ c. list_any-append test old (p ∷ []) ∙ here c,

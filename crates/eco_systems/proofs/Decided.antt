@@ -14,11 +14,11 @@ use Rattle.eco_ids.proofs.Ascending.{first, second}
 use Rattle.eco_ids.proofs.Ends.{adds_settled, clears_settled, deletes_one_settled, deletes_with_settled, makes_alive_settled, removes_all_settled}
 use Rattle.eco_ids.proofs.Ends.{removes_settled, renames_settled, sets_settled, IsSettled}
 use Rattle.eco_systems.specs.Batches.{AreBatches, joined}
-use Rattle.eco_systems.specs.Frames.{AreAscending, AscendingRuns, BatchDraws, BatchRuns, Goes, InTurn, Outcomes, drawn, fresh_from, with_admitted}
+use Rattle.eco_systems.specs.Frames.{AreAscending, AscendingRuns, BatchDraws, BatchRuns, Goes, InTurn, FrameOutcomes, all_drawn, fresh_from, with_admitted}
 use Rattle.eco_systems.specs.Laws.{DrawsDecide, OneWorkerDecides, TakesOne, was_ample}
 use Rattle.eco_systems.specs.Phases.{in_order}
 use Rattle.eco_systems.specs.Recording.{BatchRecords, PiecesRecord, RowsRecord, pieces_of}
-use Rattle.eco_systems.specs.Rows.{ValuedRow, rows_of}
+use Rattle.eco_systems.specs.Rows.{ValuedRow, valued_rows}
 use Rattle.eco_systems.specs.Systems.{SystemModel}
 use Rattle.eco_systems.proofs.Frames.{all_in_order, all_joined}
 use Rattle.eco_systems.proofs.FreshDraws.{fresh_split}
@@ -60,17 +60,18 @@ pieces_once s one (p ∷ ps) (d ∷ ds) (e ∷ es) x y c k g h whole =
     ((λ i. mine.0 i ∷ rest.0 i), g.4 ∙ (λ i. mine.1 i ++ rest.1 i) ∙ sym h.4)
 
 batch_once : (w : WorldState) (ss : List SystemModel) (ds es : BatchDraws) (x y : List Entity) (c k : List Command) → AllByRecursion TakesOne ss
-    → BatchRecords w ss ds c → BatchRecords w ss es k → drawn ds ++ x ≡ drawn es ++ y → (ds ≡ es) × (c ≡ k)
+    → BatchRecords w ss ds c → BatchRecords w ss es k → all_drawn ds ++ x ≡ all_drawn es ++ y → (ds ≡ es) × (c ≡ k)
 batch_once w [] [] [] x y c k one g h whole = (refl, g ∙ sym h)
 batch_once w [] (d ∷ ds) es x y c k one g h whole = absurd g
 batch_once w [] [] (e ∷ es) x y c k one g h whole = absurd h
 batch_once w (s ∷ ss) [] es x y c k one g h whole = absurd g
 batch_once w (s ∷ ss) (d ∷ ds) [] x y c k one g h whole = absurd h
 batch_once w (s ∷ ss) (d ∷ ds) (e ∷ es) x y c k one g h whole =
-    let parts = regroup (joined d) (drawn ds) x (joined e) (drawn es) y
+    let parts = regroup (joined d) (all_drawn ds) x (joined e) (all_drawn es) y
     (ap (λ l. l ++ x) (sym (joined_append d (joined ds))) ∙ whole ∙ ap (λ l. l ++ y) (joined_append e (joined es))) in
-    let mine = pieces_once s one.0 (pieces_of (rows_of w s.slots)) d e (drawn ds ++ x) (drawn es ++ y) g.0 h.0 g.2 h.2 parts in
-    let rest = batch_once w ss ds es x y g.1 h.1 one.1 g.3 h.3 (behind (joined d) (joined e) (drawn ds ++ x) (drawn es ++ y) (ap joined mine.0) parts) in
+    let mine = pieces_once s one.0 (pieces_of (valued_rows w s.slots)) d e (all_drawn ds ++ x) (all_drawn es ++ y) g.0 h.0 g.2 h.2 parts in
+    let rest = batch_once w ss ds es x y g.1 h.1 one.1 g.3 h.3
+    (behind (joined d) (joined e) (all_drawn ds ++ x) (all_drawn es ++ y) (ap joined mine.0) parts) in
     ((λ i. mine.0 i ∷ rest.0 i), g.4 ∙ (λ i. mine.1 i ++ rest.1 i) ∙ sym h.4)
 
 -- ---- runs in which no memory was wanting
@@ -94,7 +95,7 @@ step_once : (c : Command) (w : WorldState) (r q : Result (Unit {0}) Refusal) (ne
     → IsTrue (not (is_out_of_memory q)) → Meets (Applies c w) (may_want c w) w r new → Meets (Applies c w) (may_want c w) w q other → (r ≡ q) × (new ≡ other)
 step_once c w r q new other a b g h = (applies_settled c w).one r q new other (done (is_out_of_memory r) _ _ a g) (done (is_out_of_memory q) _ _ b h)
 
-runs_decided : (cs : List Command) (w : WorldState) (rs qs : Outcomes) (new other : WorldState) → IsTrue (was_ample rs) → IsTrue (was_ample qs)
+runs_decided : (cs : List Command) (w : WorldState) (rs qs : FrameOutcomes) (new other : WorldState) → IsTrue (was_ample rs) → IsTrue (was_ample qs)
     → Runs w cs rs new → Runs w cs qs other → (rs ≡ qs) × (new ≡ other)
 runs_decided [] w [] [] new other a b g h = (refl, g ∙ sym h)
 runs_decided [] w (r ∷ rs) qs new other a b g h = absurd g
@@ -108,15 +109,15 @@ runs_decided (c ∷ cs) w (r ∷ rs) (q ∷ qs) new other a b g h =
     ((λ i. now.0 i ∷ later.0 i), later.1)
 
 -- a batch that is recorded on one world, whose draws go on to one list
-batch_decided : (w : WorldState) (batch : List SystemModel) (ds es : BatchDraws) (x y : List Entity) (rs qs : Outcomes) (new other : WorldState)
-    → AllByRecursion TakesOne batch → IsTrue (was_ample rs) → IsTrue (was_ample qs) → drawn ds ++ x ≡ drawn es ++ y
+batch_decided : (w : WorldState) (batch : List SystemModel) (ds es : BatchDraws) (x y : List Entity) (rs qs : FrameOutcomes) (new other : WorldState)
+    → AllByRecursion TakesOne batch → IsTrue (was_ample rs) → IsTrue (was_ample qs) → all_drawn ds ++ x ≡ all_drawn es ++ y
     → BatchRuns w batch ds rs new → BatchRuns w batch es qs other → (ds ≡ es) × (rs ≡ qs) × (new ≡ other)
 batch_decided w batch ds es x y rs qs new other one a b whole g h =
     let recorded = batch_once w batch ds es x y g.1 h.1 one g.2 h.2 whole in
-    let run : Runs (with_admitted (length (drawn ds)) w) g.1 qs other =
-    subst (λ cs. Runs (with_admitted (length (drawn ds)) w) cs qs other) (sym recorded.1)
-    (subst (λ d. Runs (with_admitted (length (drawn d)) w) h.1 qs other) (sym recorded.0) h.3) in
-    let ran = runs_decided g.1 (with_admitted (length (drawn ds)) w) rs qs new other a b g.3 run in
+    let run : Runs (with_admitted (length (all_drawn ds)) w) g.1 qs other =
+    subst (λ cs. Runs (with_admitted (length (all_drawn ds)) w) cs qs other) (sym recorded.1)
+    (subst (λ d. Runs (with_admitted (length (all_drawn d)) w) h.1 qs other) (sym recorded.0) h.3) in
+    let ran = runs_decided g.1 (with_admitted (length (all_drawn ds)) w) rs qs new other a b g.3 run in
     (recorded.0, ran.0, ran.1)
 
 -- ---- batch after batch
@@ -126,11 +127,11 @@ AllFit Fits [] es = Unit {0}
 AllFit Fits (d ∷ ds) [] = Unit {0}
 AllFit Fits (d ∷ ds) (e ∷ es) = Fits d e × AllFit Fits ds es
 
-module _ (Way : WorldState → List SystemModel → BatchDraws → Outcomes → WorldState → Type 0) (Fits : BatchDraws → BatchDraws → Type 0)
-    (once : (w : WorldState) (batch : List SystemModel) (d e : BatchDraws) (rs qs : Outcomes) (new other : WorldState) → AllByRecursion TakesOne batch
+module _ (Way : WorldState → List SystemModel → BatchDraws → FrameOutcomes → WorldState → Type 0) (Fits : BatchDraws → BatchDraws → Type 0)
+    (once : (w : WorldState) (batch : List SystemModel) (d e : BatchDraws) (rs qs : FrameOutcomes) (new other : WorldState) → AllByRecursion TakesOne batch
     → Fits d e
     → IsTrue (was_ample rs) → IsTrue (was_ample qs) → Way w batch d rs new → Way w batch e qs other → (d ≡ e) × (rs ≡ qs) × (new ≡ other)) where
-  turns_once : (batches : List (List SystemModel)) (w : WorldState) (ds es : List BatchDraws) (rs qs : Outcomes) (new other : WorldState)
+  turns_once : (batches : List (List SystemModel)) (w : WorldState) (ds es : List BatchDraws) (rs qs : FrameOutcomes) (new other : WorldState)
       → AllByRecursion (AllByRecursion TakesOne) batches → AllFit Fits ds es → IsTrue (was_ample rs) → IsTrue (was_ample qs)
       → InTurn Way w batches ds rs new → InTurn Way w batches es qs other → (ds ≡ es) × (rs ≡ qs) × (new ≡ other)
   turns_once [] w [] [] rs qs new other one fit a b g h = (refl, g.0 ∙ sym h.0, g.1 ∙ sym h.1)
@@ -147,7 +148,7 @@ module _ (Way : WorldState → List SystemModel → BatchDraws → Outcomes → 
       ((λ i. now.0 i ∷ later.0 i), g.5 ∙ (λ i. now.1 i ++ later.1 i) ∙ sym h.5, later.2)
 
   -- all batches that there are
-  goes_once : (w : WorldState) (systems : List SystemModel) (ds es : List BatchDraws) (rs qs : Outcomes) (new other : WorldState)
+  goes_once : (w : WorldState) (systems : List SystemModel) (ds es : List BatchDraws) (rs qs : FrameOutcomes) (new other : WorldState)
       → AllByRecursion TakesOne systems → AllFit Fits ds es → IsTrue (was_ample rs) → IsTrue (was_ample qs)
       → Goes Way w systems ds rs new → Goes Way w systems es qs other → (ds ≡ es) × (rs ≡ qs) × (new ≡ other)
   goes_once w systems ds es rs qs new other one fit a b g h =
@@ -163,7 +164,7 @@ module _ (Way : WorldState → List SystemModel → BatchDraws → Outcomes → 
 pub draws_decide : DrawsDecide
 draws_decide w systems draws outcomes others new other one a b g h =
     let all = goes_once BatchRuns (λ d e. d ≡ e)
-    (λ w batch d e rs qs new other one same a b g h. batch_decided w batch d e [] [] rs qs new other one a b (ap (λ l. drawn l ++ []) same) g h)
+    (λ w batch d e rs qs new other one same a b g h. batch_decided w batch d e [] [] rs qs new other one a b (ap (λ l. all_drawn l ++ []) same) g h)
     w systems draws draws outcomes others new other one (all_same draws) a b g h in
     (all.1, all.2)
   where
@@ -172,12 +173,12 @@ draws_decide w systems draws outcomes others new other one a b g h =
     all_same (d ∷ ds) = (refl, all_same ds)
 
 -- the draws ascend, so they go on to one list
-ascending_once : (w : WorldState) (batch : List SystemModel) (d e : BatchDraws) (rs qs : Outcomes) (new other : WorldState) → AllByRecursion TakesOne batch
+ascending_once : (w : WorldState) (batch : List SystemModel) (d e : BatchDraws) (rs qs : FrameOutcomes) (new other : WorldState) → AllByRecursion TakesOne batch
     → IsTrue (was_ample rs) → IsTrue (was_ample qs) → AscendingRuns w batch d rs new → AscendingRuns w batch e qs other → (d ≡ e) × (rs ≡ qs) × (new ≡ other)
 ascending_once w batch d e rs qs new other one a b g h =
     let known : ℕ = length w.indices in
-    let m : ℕ = length (drawn d) in
-    let n : ℕ = length (drawn e) in
+    let m : ℕ = length (all_drawn d) in
+    let n : ℕ = length (all_drawn e) in
     let swapped : m + n ≡ n + m = omega arith in
     batch_decided w batch d e (fresh_from (known + m) n) (fresh_from (known + n) m) rs qs new other one a b
     (ap (λ l. l ++ fresh_from (known + m) n) g.1 ∙ sym (fresh_split known m n) ∙ ap (fresh_from known) swapped ∙ fresh_split known n m

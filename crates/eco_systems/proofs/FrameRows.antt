@@ -11,7 +11,7 @@ use Rattle.eco_ids.specs.World.{WorldState, Record, builtin_states, entities, ze
 use Rattle.eco_query.specs.declared.access.Access.TheVariants.{InOut}
 use Rattle.eco_systems.specs.declared.phase.Phase.TheVariants.{OnLoad, OnUpdate, OnStore}
 use Rattle.eco_systems.specs.Phases.{order_of}
-use Rattle.eco_systems.specs.Frames.{BatchDraws, IsFrame, fresh}
+use Rattle.eco_systems.specs.Frames.{BatchDraws, IsFrame, fresh_entity}
 use Rattle.eco_systems.specs.Recording.{pieces_of}
 use Rattle.eco_systems.specs.Rows.{ValuedRow}
 use Rattle.eco_systems.specs.Systems.{SystemModel}
@@ -26,7 +26,7 @@ start = record {
   limit = 12;
   queries = [];
   indices = builtin_states First ++ Living 0 (with_ids []) ∷ Living 0
-      (with_ids (id.One (fresh 9) ∷ [])) ∷ [];
+      (with_ids (id.One (fresh_entity 9) ∷ [])) ∷ [];
 }
 
 abbrev last : WorldState
@@ -35,7 +35,7 @@ last = record {
   limit = 12;
   queries = [];
   indices = builtin_states First ++ Living 0 (with_ids []) ∷ Living 0
-      (with_ids (id.One (fresh 9) ∷ [])) ∷ Living 0 (with_ids []) ∷ [];
+      (with_ids (id.One (fresh_entity 9) ∷ [])) ∷ Living 0 (with_ids []) ∷ [];
 }
 
 abbrev takes_one : List Entity → Bool
@@ -49,7 +49,7 @@ creates es = map Create es
 abbrev spawner : SystemModel
 spawner = record {
   phase = OnUpdate;
-  slots = (record { access = InOut; term = ask.And (pattern.One (fresh 9)) }) ∷ [];
+  slots = (record { access = InOut; term = ask.And (pattern.One (fresh_entity 9)) }) ∷ [];
   body_reads = [];
   writes = [];
   kills = false;
@@ -58,7 +58,7 @@ spawner = record {
 }
 
 abbrev one_draw : BatchDraws
-one_draw = ((fresh 11 ∷ []) ∷ []) ∷ []
+one_draw = ((fresh_entity 11 ∷ []) ∷ []) ∷ []
 
 row_frame : IsFrame start (spawner ∷ []) (one_draw ∷ []) (Ok tt ∷ []) last
 row_frame = (
@@ -70,8 +70,14 @@ row_frame = (
     last,
     (
       (ascending_are_fresh 11 one_draw refl, refl),
-      Create (fresh 11) ∷ [],
-      (Create (fresh 11) ∷ [], [], (Create (fresh 11) ∷ [], [], (fresh 11 ∷ [], [], [], refl, (refl, refl), refl, refl), refl, refl), refl, refl),
+      Create (fresh_entity 11) ∷ [],
+      (
+        Create (fresh_entity 11) ∷ [],
+        [],
+        (Create (fresh_entity 11) ∷ [], [], (fresh_entity 11 ∷ [], [], [], refl, (refl, refl), refl, refl), refl, refl),
+        refl,
+        refl,
+      ),
       (last, (entities last, (refl, refl), refl), refl),
     ),
     (refl, refl),
@@ -81,9 +87,9 @@ row_frame = (
 
 -- 65 rows are a piece of 64 and one of 1
 some_row : ValuedRow
-some_row = record { entity = fresh 9; entries = []; values = [] }
+some_row = record { entity = fresh_entity 9; entries = []; values = [] }
 
-row_pieces : map length (pieces_of (replicate 65 (record { entity = fresh 9; entries = []; values = [] }))) ≡ 64 ∷ 1 ∷ []
+row_pieces : map length (pieces_of (replicate 65 (record { entity = fresh_entity 9; entries = []; values = [] }))) ≡ 64 ∷ 1 ∷ []
 row_pieces = refl
 
 -- systems of the last, the first and the middle phase, and one of the first more

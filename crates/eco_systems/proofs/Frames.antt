@@ -23,7 +23,7 @@ use Rattle.eco_ids.proofs.Keeps.{has_in}
 use Rattle.eco_ids.proofs.Runs.{runs_lawful}
 use Rattle.eco_query.specs.Queries.{reads}
 use Rattle.eco_systems.specs.Batches.{Disturbs, Conflict, AreTogether, AreCut, AreBatches, joined}
-use Rattle.eco_systems.specs.Frames.{Outcomes, BatchDraws, drawn, BatchRuns, OneByOne, BatchRunsSolo, InTurn}
+use Rattle.eco_systems.specs.Frames.{FrameOutcomes, BatchDraws, all_drawn, BatchRuns, OneByOne, BatchRunsSolo, InTurn}
 use Rattle.eco_systems.specs.Frames.{with_admitted}
 use Rattle.eco_systems.specs.Laws.{FramesAreSolo, FramesKeepLawful, StoppedAreSolo, StoppedAtOnceChangesNothing}
 use Rattle.eco_systems.specs.Phases.{in_order, phases, runs_in}
@@ -146,7 +146,7 @@ module _ (start : WorldState) where
   looks_on base cur mid s [] on a p = tt
   looks_on base cur mid s (t ∷ ts) on a p = (looks_then p.0 (on t a.0), looks_on base cur mid s ts on a.1 p.1)
 
-  looks_later : (base cur mid : WorldState) (s : SystemModel) (ss : List SystemModel) (commands : List Command) (now : Outcomes) → IsLawfulSystem s →
+  looks_later : (base cur mid : WorldState) (s : SystemModel) (ss : List SystemModel) (commands : List Command) (now : FrameOutcomes) → IsLawfulSystem s →
       (draws : List (List Entity))
       → Records base s draws commands → Runs cur commands now mid → Ready start cur (s ∷ ss)
       → AllByRecursion (Apart start s) ss → AllByRecursion (λ t. LooksSame (matches_one (system_reads t)) base cur) ss →
@@ -157,7 +157,7 @@ module _ (start : WorldState) where
       (λ u apart. runs_same start s apart.plain u apart.tame apart.apart commands cur now mid (records_declared s law base draws commands rec) ready run)
       a p
 
-  ready_later : (base cur mid : WorldState) (s : SystemModel) (ss : List SystemModel) (commands : List Command) (now : Outcomes) → IsLawfulSystem s →
+  ready_later : (base cur mid : WorldState) (s : SystemModel) (ss : List SystemModel) (commands : List Command) (now : FrameOutcomes) → IsLawfulSystem s →
       (draws : List (List Entity))
       → Records base s draws commands → Runs cur commands now mid → Ready start cur (s ∷ ss) → AllByRecursion (Apart start s) ss → Ready start mid ss
   ready_later base cur mid s [] commands now law draws rec run ready a = tt
@@ -165,13 +165,13 @@ module _ (start : WorldState) where
   ready_later base cur mid s (t ∷ u ∷ us) commands now law draws rec run ready a =
       runs_traits start s (a.0).plain commands cur now mid (records_declared s law base draws commands rec) ready run
 
-  one_by_one : (base cur : WorldState) (ss : List SystemModel) (ds : BatchDraws) (commands : List Command) (outcomes : Outcomes) (new : WorldState)
+  one_by_one : (base cur : WorldState) (ss : List SystemModel) (ds : BatchDraws) (commands : List Command) (outcomes : FrameOutcomes) (new : WorldState)
       → IsLawful base → IsLawful cur → AllByRecursion IsLawfulSystem ss → Quiet start ss → Ready start cur ss
       → AllByRecursion (λ t. LooksSame (matches_one (system_reads t)) base cur) ss
       → BatchRecords base ss ds commands → Runs cur commands outcomes new → OneByOne cur ss ds outcomes new
   one_by_one base cur [] [] commands outcomes new l m laws quiet ready same rec run = nothing outcomes (subst (λ cs. Runs cur cs outcomes new) rec run)
     where
-      nothing : (outcomes : Outcomes) → Runs cur [] outcomes new → (outcomes ≡ []) × (new ≡ cur)
+      nothing : (outcomes : FrameOutcomes) → Runs cur [] outcomes new → (outcomes ≡ []) × (new ≡ cur)
       nothing [] h = (refl, h)
       nothing (r ∷ rs) h = absurd h
   one_by_one base cur [] (d ∷ ds) commands outcomes new l m laws quiet ready same rec run = absurd rec
@@ -192,12 +192,12 @@ module _ (start : WorldState) where
       )
 
   -- systems that write no traits give none
-  batch_traits : (base cur : WorldState) (ss : List SystemModel) (ds : BatchDraws) (commands : List Command) (outcomes : Outcomes) (new : WorldState)
+  batch_traits : (base cur : WorldState) (ss : List SystemModel) (ds : BatchDraws) (commands : List Command) (outcomes : FrameOutcomes) (new : WorldState)
       → AllByRecursion IsLawfulSystem ss → (SomeOf (IsTraitWriter start) ss → ⊥) → TraitsWithin start cur → BatchRecords base ss ds commands →
       Runs cur commands outcomes new → TraitsWithin start new
   batch_traits base cur [] [] commands outcomes new laws none within rec run = nothing outcomes (subst (λ cs. Runs cur cs outcomes new) rec run)
     where
-      nothing : (outcomes : Outcomes) → Runs cur [] outcomes new → TraitsWithin start new
+      nothing : (outcomes : FrameOutcomes) → Runs cur [] outcomes new → TraitsWithin start new
       nothing [] h = subst (TraitsWithin start) (sym h) within
       nothing (r ∷ rs) h = absurd h
   batch_traits base cur [] (d ∷ ds) commands outcomes new laws none within rec run = absurd rec
@@ -221,17 +221,17 @@ module _ (start : WorldState) where
   all_look w n (s ∷ ss) = (looks_admitted w n (matches_one (system_reads s)), all_look w n ss)
 
   -- a batch, and what it hands on
-  record Handed (before batch : List SystemModel) (w : WorldState) (draws : BatchDraws) (outcomes : Outcomes) (new : WorldState) : Type 0 where
+  record Handed (before batch : List SystemModel) (w : WorldState) (draws : BatchDraws) (outcomes : FrameOutcomes) (new : WorldState) : Type 0 where
     solo : BatchRunsSolo w batch draws outcomes new
     lawful : IsLawful new
     within : (SomeOf (IsTraitWriter start) (before ++ batch) → ⊥) → TraitsWithin start new
 
-  one_batch : (before batch : List SystemModel) (w : WorldState) (draws : BatchDraws) (outcomes : Outcomes) (new : WorldState)
+  one_batch : (before batch : List SystemModel) (w : WorldState) (draws : BatchDraws) (outcomes : FrameOutcomes) (new : WorldState)
       → IsLawful w → AllByRecursion IsLawfulSystem batch → AreTogether start before [] batch →
       ((SomeOf (IsTraitWriter start) before → ⊥) → TraitsWithin start w)
       → BatchRuns w batch draws outcomes new → Handed before batch w draws outcomes new
   one_batch before batch w draws outcomes new l laws together within h =
-      let n : ℕ = length (drawn draws) in
+      let n : ℕ = length (all_drawn draws) in
       let m : IsLawful (with_admitted n w) = lawful_admitted w n (h.0).1 l in
       let handed : (SomeOf (IsTraitWriter start) before → ⊥) → TraitsWithin start (with_admitted n w) = λ none. traits_admitted w n start (within none) in
       record {
@@ -248,7 +248,7 @@ module _ (start : WorldState) where
 
   -- ---- batch after batch
 
-  in_turn : (batches rest : List (List SystemModel)) (before last : List SystemModel) (w : WorldState) (draws : List BatchDraws) (outcomes : Outcomes)
+  in_turn : (batches rest : List (List SystemModel)) (before last : List SystemModel) (w : WorldState) (draws : List BatchDraws) (outcomes : FrameOutcomes)
       (new : WorldState)
       → IsLawful w → AllByRecursion (AllByRecursion IsLawfulSystem) batches → AreCut start before last (batches ++ rest) →
       ((SomeOf (IsTraitWriter start) before → ⊥) → TraitsWithin start w)
@@ -260,7 +260,7 @@ module _ (start : WorldState) where
       let one = one_batch before b w d h.0 h.2 l laws.0 areCut.1 within h.3 in
       (h.0, h.1, h.2, one.solo, in_turn bs rest (before ++ b) b h.2 ds h.1 new one.lawful laws.1 areCut.2 one.within h.4, h.5)
 
-  all_in_turn : (batches rest : List (List SystemModel)) (systems : List SystemModel) (draws : List BatchDraws) (outcomes : Outcomes) (new : WorldState)
+  all_in_turn : (batches rest : List (List SystemModel)) (systems : List SystemModel) (draws : List BatchDraws) (outcomes : FrameOutcomes) (new : WorldState)
       → IsLawful start → AllByRecursion IsLawfulSystem systems → AreBatches start systems (batches ++ rest) →
       InTurn BatchRuns start batches draws outcomes new → InTurn BatchRunsSolo start batches draws outcomes new
   all_in_turn [] rest systems [] outcomes new l laws cuts h = h
@@ -303,13 +303,13 @@ part_is_solo w systems draws outcomes new l laws h =
     (h.0, h.1, h.2, all_in_turn w h.0 h.1 (in_order systems) draws outcomes new l (all_in_order IsLawfulSystem systems laws) h.2 h.3, h.4)
 
 -- a frame, also one that stopped, leaves a lawful world lawful
-lawful_in_turn : (batches : List (List SystemModel)) (w : WorldState) (draws : List BatchDraws) (outcomes : Outcomes) (new : WorldState) → IsLawful w →
+lawful_in_turn : (batches : List (List SystemModel)) (w : WorldState) (draws : List BatchDraws) (outcomes : FrameOutcomes) (new : WorldState) → IsLawful w →
     InTurn BatchRuns w batches draws outcomes new → IsLawful new
 lawful_in_turn [] w [] outcomes new l h = subst IsLawful (sym h.1) l
 lawful_in_turn [] w (d ∷ ds) outcomes new l h = absurd h
 lawful_in_turn (b ∷ bs) w [] outcomes new l h = absurd h
 lawful_in_turn (b ∷ bs) w (d ∷ ds) outcomes new l h =
-    let n : ℕ = length (drawn d) in
+    let n : ℕ = length (all_drawn d) in
     let run = h.3 in
     lawful_in_turn bs h.2 ds h.1 new (runs_lawful run.1 (with_admitted n w) h.0 h.2 (lawful_admitted w n run.0.1 l) run.3) h.4
 
@@ -317,7 +317,7 @@ pub frames_lawful : FramesKeepLawful
 frames_lawful w systems draws outcomes new l h = lawful_in_turn h.0 w draws outcomes new l h.3
 
 -- and one that stopped at its first batch has done nothing
-none_done : (done : List (List SystemModel)) (w : WorldState) (outcomes : Outcomes) (new : WorldState) → InTurn BatchRuns w done [] outcomes new →
+none_done : (done : List (List SystemModel)) (w : WorldState) (outcomes : FrameOutcomes) (new : WorldState) → InTurn BatchRuns w done [] outcomes new →
     (outcomes ≡ []) × (new ≡ w)
 none_done [] w outcomes new h = h
 none_done (b ∷ bs) w outcomes new h = absurd h

@@ -9,11 +9,11 @@ use Rattle.eco_ids.specs.Run.{Command}
 use Rattle.eco_ids.specs.World.{WorldState, entities}
 use Rattle.eco_ids.proofs.Runs.{runs_lawful}
 use Rattle.eco_systems.specs.Batches.{AreBatches, joined}
-use Rattle.eco_systems.specs.Frames.{BatchDraws, BatchRuns, InTurn, IsFrame, IsStopped, Outcomes, PassesLimit, drawn, fresh_from, with_admitted, AreFresh}
+use Rattle.eco_systems.specs.Frames.{BatchDraws, BatchRuns, InTurn, IsFrame, FrameIsStopped, FrameOutcomes, PassesLimit, all_drawn, fresh_from, with_admitted, AreFresh}
 use Rattle.eco_systems.specs.Laws.{FramesExist, TakesSome}
 use Rattle.eco_systems.specs.Phases.{in_order}
 use Rattle.eco_systems.specs.Recording.{BatchRecords, PiecesRecord, RowsRecord, pieces_of}
-use Rattle.eco_systems.specs.Rows.{ValuedRow, rows_of}
+use Rattle.eco_systems.specs.Rows.{ValuedRow, valued_rows}
 use Rattle.eco_systems.specs.Systems.{SystemModel}
 use Rattle.eco_systems.proofs.BatchesExist.{batches_of}
 use Rattle.eco_systems.proofs.Frames.{all_in_order, all_joined, lawful_admitted}
@@ -75,12 +75,12 @@ module _ (s : SystemModel) (some : TakesSome s) where
 module _ (w : WorldState) where
   abbrev BatchTakes : List SystemModel → Type 0
   BatchTakes batch = (count : ℕ) × ((start : ℕ) → (draws : BatchDraws) × (commands : List Command)
-      × BatchRecords w batch draws commands × (drawn draws ≡ fresh_from start count))
+      × BatchRecords w batch draws commands × (all_drawn draws ≡ fresh_from start count))
 
   batch_takes : (batch : List SystemModel) → AllByRecursion TakesSome batch → BatchTakes batch
   batch_takes [] some = (0, λ start. ([], [], refl, refl))
   batch_takes (s ∷ batch) some =
-      let one = pieces_take s some.0 (pieces_of (rows_of w s.slots)) in
+      let one = pieces_take s some.0 (pieces_of (valued_rows w s.slots)) in
       let rest = batch_takes batch some.1 in (
         one.0 + rest.0,
         λ start.
@@ -96,10 +96,10 @@ module _ (w : WorldState) where
   -- ---- a batch runs, or its draws would pass the limit
 
   abbrev Runs : List SystemModel → Type 0
-  Runs batch = (draws : BatchDraws) × (outcomes : Outcomes) × (new : WorldState) × BatchRuns w batch draws outcomes new × IsLawful new
+  Runs batch = (draws : BatchDraws) × (outcomes : FrameOutcomes) × (new : WorldState) × BatchRuns w batch draws outcomes new × IsLawful new
 
   batch_ends : (batch : List SystemModel) → IsLawful w → AllByRecursion TakesSome batch → Runs batch ⊎ ((draws : BatchDraws) × PassesLimit w batch draws)
-  batch_ends batch l some = by (may_admit (entities w) (length (drawn draws))) refl
+  batch_ends batch l some = by (may_admit (entities w) (length (all_drawn draws))) refl
     where
       taken : BatchTakes batch
       taken = batch_takes batch some
@@ -113,23 +113,23 @@ module _ (w : WorldState) where
       records : BatchRecords w batch draws commands
       records = (taken.1 (length w.indices)).2
 
-      are : drawn draws ≡ fresh_from (length w.indices) taken.0
+      are : all_drawn draws ≡ fresh_from (length w.indices) taken.0
       are = (taken.1 (length w.indices)).3
 
       fresh : AreFresh (length w.indices) draws
       fresh = ascending_are_fresh (length w.indices) draws
           (are ∙ ap (fresh_from (length w.indices)) (sym (ap length are ∙ fresh_length (length w.indices) taken.0)))
 
-      by : (b : Bool) → may_admit (entities w) (length (drawn draws)) ≡ b → Runs batch ⊎ ((draws : BatchDraws) × PassesLimit w batch draws)
+      by : (b : Bool) → may_admit (entities w) (length (all_drawn draws)) ≡ b → Runs batch ⊎ ((draws : BatchDraws) × PassesLimit w batch draws)
       by true room =
-          let m : IsLawful (with_admitted (length (drawn draws)) w) = lawful_admitted w (length (drawn draws)) room l in
-          let run = runs_end commands (with_admitted (length (drawn draws)) w) m in
+          let m : IsLawful (with_admitted (length (all_drawn draws)) w) = lawful_admitted w (length (all_drawn draws)) room l in
+          let run = runs_end commands (with_admitted (length (all_drawn draws)) w) m in
           inl (
             draws,
             run.0,
             run.1,
             ((fresh, room), commands, records, run.2),
-            runs_lawful commands (with_admitted (length (drawn draws)) w) run.0 run.1 m
+            runs_lawful commands (with_admitted (length (all_drawn draws)) w) run.0 run.1 m
                 run.2,
           )
       by false room = inr (draws, (fresh, room, commands, records))
@@ -137,7 +137,7 @@ module _ (w : WorldState) where
 -- ---- batch after batch
 
 abbrev Whole : WorldState → List (List SystemModel) → Type 0
-Whole w batches = (draws : List BatchDraws) × (outcomes : Outcomes) × (new : WorldState) × InTurn BatchRuns w batches draws outcomes new
+Whole w batches = (draws : List BatchDraws) × (outcomes : FrameOutcomes) × (new : WorldState) × InTurn BatchRuns w batches draws outcomes new
 
 record Stop (w : WorldState) (batches : List (List SystemModel)) : Type 0 where
   done : List (List SystemModel)
@@ -145,7 +145,7 @@ record Stop (w : WorldState) (batches : List (List SystemModel)) : Type 0 where
   rest : List (List SystemModel)
   cut : batches ≡ done ++ batch ∷ rest
   draws : List BatchDraws
-  outcomes : Outcomes
+  outcomes : FrameOutcomes
   new : WorldState
   ran : InTurn BatchRuns w done draws outcomes new
   next : BatchDraws
@@ -204,7 +204,7 @@ frames_exist w systems l some = by (ends_in_turn batches w l each)
     each : AllByRecursion (AllByRecursion TakesSome) batches
     each = all_joined TakesSome batches (subst (AllByRecursion TakesSome) (batches_join w (in_order systems) batches are) (all_in_order TakesSome systems some))
 
-    by : Whole w batches ⊎ Stop w batches → (draws : List BatchDraws) × (outcomes : Outcomes) × (new : WorldState)
-        × (IsFrame w systems draws outcomes new ⊎ IsStopped w systems draws outcomes new)
+    by : Whole w batches ⊎ Stop w batches → (draws : List BatchDraws) × (outcomes : FrameOutcomes) × (new : WorldState)
+        × (IsFrame w systems draws outcomes new ⊎ FrameIsStopped w systems draws outcomes new)
     by (inl x) = (x.0, x.1, x.2, inl (batches, are, x.3))
     by (inr x) = (x.draws, x.outcomes, x.new, inr (x.done, x.batch, x.rest, x.next, subst (AreBatches w (in_order systems)) x.cut are, x.ran, x.passes))

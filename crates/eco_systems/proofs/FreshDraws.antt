@@ -14,7 +14,7 @@ use Rattle.eco_ids.proofs.Facts.{or_left, or_parts, or_right}
 use Rattle.eco_ids.proofs.Overlaps.{entity_eq_is, entity_eq_itself}
 use Rattle.eco_ids.proofs.States.{same_parts}
 use Rattle.eco_systems.specs.Batches.{joined}
-use Rattle.eco_systems.specs.Frames.{AreAscending, AreFresh, BatchDraws, drawn, fresh, fresh_from}
+use Rattle.eco_systems.specs.Frames.{AreAscending, AreFresh, BatchDraws, all_drawn, fresh_entity, fresh_from}
 
 abbrev IsIn : ℕ → ℕ → Entity → Type 0
 IsIn a n e = (e.generation ≡ 0) × (a ≤ e.index) × (e.index < a + n)
@@ -22,9 +22,9 @@ IsIn a n e = (e.generation ≡ 0) × (a ≤ e.index) × (e.index < a + n)
 listed : (a n : ℕ) (e : Entity) → IsTrue (has_item entity_cmp (fresh_from a n) e) → IsIn a n e
 listed a zero e h = absurd (true≢false (sym h))
 listed a (suc n) e h =
-    elim (or_parts (entity_eq (fresh a) e) (has_item entity_cmp (fresh_from (a + 1) n) e) h) as (λ _. IsIn a (suc n) e) [
+    elim (or_parts (entity_eq (fresh_entity a) e) (has_item entity_cmp (fresh_from (a + 1) n) e) h) as (λ _. IsIn a (suc n) e) [
       | inl k ↦
-          let is : fresh a ≡ e = entity_eq_is (fresh a) e k in
+          let is : fresh_entity a ≡ e = entity_eq_is (fresh_entity a) e k in
           let at : a ≡ e.index = ap (λ x. x.index) is in
           (sym (ap (λ x. x.generation) is), omega (arith, at), omega (arith, at))
       | inr k ↦ let rest = listed (a + 1) n e k in let low = rest.1 in let high = rest.2 in (rest.0, omega (arith, low), omega (arith, high))
@@ -33,23 +33,25 @@ listed a (suc n) e h =
 lists : (a n : ℕ) (e : Entity) → IsIn a n e → IsTrue (has_item entity_cmp (fresh_from a n) e)
 lists a zero e h = let low = h.1 in let high = h.2 in absurd (omega (arith, low, high))
 lists a (suc n) e h =
-    elim (cases_eq e.index a) as (λ _. IsTrue (entity_eq (fresh a) e || has_item entity_cmp (fresh_from (a + 1) n) e)) [
-      | inl k ↦ or_left _ _ (subst (λ x. IsTrue (entity_eq (fresh a) x)) (same_parts (fresh a) e (sym k) (sym h.0)) (entity_eq_itself (fresh a)))
-      | inr k ↦ let low = h.1 in let high = h.2 in or_right (entity_eq (fresh a) e) _ (lists (a + 1) n e (h.0, omega (arith, low, k), omega (arith, high)))
+    elim (cases_eq e.index a) as (λ _. IsTrue (entity_eq (fresh_entity a) e || has_item entity_cmp (fresh_from (a + 1) n) e)) [
+      | inl k ↦ or_left _ _ (subst (λ x. IsTrue (entity_eq (fresh_entity a) x)) (same_parts (fresh_entity a) e (sym k) (sym h.0))
+          (entity_eq_itself (fresh_entity a)))
+      | inr k ↦ let low = h.1 in let high = h.2 in or_right (entity_eq (fresh_entity a) e) _
+          (lists (a + 1) n e (h.0, omega (arith, low, k), omega (arith, high)))
     ]
 
 once : (a n : ℕ) → IsTrue (is_distinct (fresh_from a n))
 once a zero = refl
-once a (suc n) = both _ _ (absent (has_item entity_cmp (fresh_from (a + 1) n) (fresh a)) refl) (once (a + 1) n)
+once a (suc n) = both _ _ (absent (has_item entity_cmp (fresh_from (a + 1) n) (fresh_entity a)) refl) (once (a + 1) n)
   where
-    absent : (b : Bool) → has_item entity_cmp (fresh_from (a + 1) n) (fresh a) ≡ b → IsTrue (not b)
-    absent true h = let low = (listed (a + 1) n (fresh a) h).1 in absurd (omega (arith, low))
+    absent : (b : Bool) → has_item entity_cmp (fresh_from (a + 1) n) (fresh_entity a) ≡ b → IsTrue (not b)
+    absent true h = let low = (listed (a + 1) n (fresh_entity a) h).1 in absurd (omega (arith, low))
     absent false h = refl
 
-below : (a b : ℕ) → a < b → IsTrue (is_lt (entity_cmp (fresh a) (fresh b)))
+below : (a b : ℕ) → a < b → IsTrue (is_lt (entity_cmp (fresh_entity a) (fresh_entity b)))
 below a b l = ap (λ r. is_lt (ordering_then r (nat_cmp 0 0))) (sym (nat_cmp_is a b Less l))
 
-all_below : (c a n : ℕ) → c < a → IsTrue (list_all (λ y. is_lt (entity_cmp (fresh c) y)) (fresh_from a n))
+all_below : (c a n : ℕ) → c < a → IsTrue (list_all (λ y. is_lt (entity_cmp (fresh_entity c) y)) (fresh_from a n))
 all_below c a zero l = refl
 all_below c a (suc n) l = both _ _ (below c a l) (all_below c (a + 1) n (omega (arith, l)))
 
@@ -70,11 +72,11 @@ each_up (xs ∷ xss) h = let parts = apart xs (joined xss) h in (parts.0, each_u
 pub ascending_are_fresh : (known : ℕ) (draws : BatchDraws) → AreAscending known draws → AreFresh known draws
 ascending_are_fresh known draws h = record {
   exact = λ e. (
-    λ k. listed known (length (drawn draws)) e (subst (λ xs. IsTrue (has_item entity_cmp xs e)) h k),
-    λ k. subst (λ xs. IsTrue (has_item entity_cmp xs e)) (sym h) (lists known (length (drawn draws)) e k),
+    λ k. listed known (length (all_drawn draws)) e (subst (λ xs. IsTrue (has_item entity_cmp xs e)) h k),
+    λ k. subst (λ xs. IsTrue (has_item entity_cmp xs e)) (sym h) (lists known (length (all_drawn draws)) e k),
   );
-  once = subst (λ xs. IsTrue (is_distinct xs)) (sym h) (once known (length (drawn draws)));
-  ascending = each_up (joined draws) (subst (λ xs. IsTrue (is_ascending entity_cmp xs)) (sym h) (up known (length (drawn draws))));
+  once = subst (λ xs. IsTrue (is_distinct xs)) (sym h) (once known (length (all_drawn draws)));
+  ascending = each_up (joined draws) (subst (λ xs. IsTrue (is_ascending entity_cmp xs)) (sym h) (up known (length (all_drawn draws))));
 }
 
 -- so many and then so many more
@@ -83,7 +85,7 @@ fresh_split a zero n = let e : a ≡ a + 0 = omega arith in let z : 0 + n ≡ n 
 fresh_split a (suc m) n =
     let e : (a + 1) + m ≡ a + suc m = omega arith in
     let more : suc m + n ≡ suc (m + n) = omega arith in
-    ap (fresh_from a) more ∙ ap (λ xs. fresh a ∷ xs) (fresh_split (a + 1) m n ∙ ap (λ b. fresh_from (a + 1) m ++ fresh_from b n) e)
+    ap (fresh_from a) more ∙ ap (λ xs. fresh_entity a ∷ xs) (fresh_split (a + 1) m n ∙ ap (λ b. fresh_from (a + 1) m ++ fresh_from b n) e)
 
 pub fresh_length : (a n : ℕ) → length (fresh_from a n) ≡ n
 fresh_length a zero = refl

@@ -2,15 +2,15 @@
 use Rattle.std.proofs.Common.{◌≡◌, ℕ, suc, ◌+◌, ◌<◌, ◌⊎◌, inl, inr, List, [], ◌∷◌, ◌++◌, length, refl, ap, ◌∙◌, arith}
 use Rattle.std.proofs.lemmas.List.{append-nil, length-append}
 use Rattle.eco_ids.specs.World.{WorldState}
-use Rattle.eco_systems.specs.Frames.{BatchDraws, InTurn, Outcomes}
+use Rattle.eco_systems.specs.Frames.{BatchDraws, InTurn, FrameOutcomes}
 use Rattle.eco_systems.specs.Laws.{StoppedHaveMore}
 use Rattle.eco_systems.specs.Phases.{in_order}
 use Rattle.eco_systems.specs.Systems.{SystemModel}
 use Rattle.eco_systems.proofs.OneCut.{batches_unique}
 
 -- each batch that ran has its draws
-as_long : (Way : WorldState → List SystemModel → BatchDraws → Outcomes → WorldState → Type 0) (done : List (List SystemModel)) (w : WorldState)
-    (draws : List BatchDraws) (outcomes : Outcomes) (new : WorldState) → InTurn Way w done draws outcomes new → length draws ≡ length done
+as_long : (Way : WorldState → List SystemModel → BatchDraws → FrameOutcomes → WorldState → Type 0) (done : List (List SystemModel)) (w : WorldState)
+    (draws : List BatchDraws) (outcomes : FrameOutcomes) (new : WorldState) → InTurn Way w done draws outcomes new → length draws ≡ length done
 as_long Way [] w [] outcomes new h = refl
 as_long Way [] w (d ∷ ds) outcomes new h = absurd h
 as_long Way (b ∷ bs) w [] outcomes new h = absurd h

@@ -16,7 +16,7 @@ use Rattle.eco_ids.specs.World.{WorldState, Record, held_by, living, record_of}
 use Rattle.eco_ids.proofs.Exact.{keys, keys_find, keys_ascending}
 use Rattle.eco_ids.proofs.Records.{record_apart}
 use Rattle.eco_query.specs.Queries.{QuerySlot, HasPositive}
-use Rattle.eco_systems.specs.Rows.{ValuedRow, entry_value, entry_values, valued, rows_of, shows_values}
+use Rattle.eco_systems.specs.Rows.{ValuedRow, entry_value, entry_values, valued, valued_rows, shows_values}
 use Rattle.eco_systems.proofs.Answers.{asked, Sees, Alike, IsRead, choices_alike, choices_read, no_choices}
 use Rattle.eco_systems.proofs.Lists.{same_mapped, map_after, map_gathered}
 use Rattle.eco_systems.proofs.Same.{LooksSame, value_alike}
@@ -180,13 +180,13 @@ module _ (f h : Entity → List (Id × Value) → List ValuedRow) where
 
 -- ---- the rows of a world, entity by entity
 
-gathered : (w : WorldState) (slots : List QuerySlot) → rows_of w slots ≡ all_rows (rows_with w slots) 0 w.indices
+gathered : (w : WorldState) (slots : List QuerySlot) → valued_rows w slots ≡ all_rows (rows_with w slots) 0 w.indices
 gathered w slots =
     map_gathered (λ (p : Entity × Record). map (row_at p.0) (choices (keys p.1.held) (asked slots))) (valued w slots) (living w)
     ∙ λ i. flat_map (λ (p : Entity × Record). map_after (row_at p.0) (valued w slots) (choices (keys p.1.held) (asked slots)) i) (living w)
 
 pub rows_same : (seen : Id → Bool) (w new : WorldState) (slots : List QuerySlot) → IsLawful w → IsLawful new → HasPositive slots → Sees seen slots →
-    LooksSame seen w new → rows_of new slots ≡ rows_of w slots
+    LooksSame seen w new → valued_rows new slots ≡ valued_rows w slots
 rows_same seen w new slots l m positive sees p =
     gathered new slots
     ∙ all_same (rows_with w slots) (rows_with new slots) 0 new.indices w.indices

@@ -9,9 +9,9 @@ use Rattle.eco_ids.specs.Outcome.{Meets}
 use Rattle.eco_ids.specs.Run.{Command, Create, Add, Remove, Set, Clear, Rename, Delete, DeleteWith, RemoveAll, Applies, may_want, Runs}
 use Rattle.eco_ids.specs.World.{WorldState, has}
 use Rattle.eco_systems.specs.Batches.{Disturbs}
-use Rattle.eco_systems.specs.Frames.{Outcomes}
+use Rattle.eco_systems.specs.Frames.{FrameOutcomes}
 use Rattle.eco_systems.specs.Recording.{RowsRecord, PiecesRecord, Records, pieces_of}
-use Rattle.eco_systems.specs.Rows.{ValuedRow, rows_of}
+use Rattle.eco_systems.specs.Rows.{ValuedRow, valued_rows}
 use Rattle.eco_systems.specs.Systems.{SystemModel, IsLawfulSystem, IsDeclared, system_reads, matches_one}
 use Rattle.eco_systems.specs.Writes.{IsTraitWriter}
 use Rattle.eco_systems.proofs.Covered.{IsTraitId, TraitsWithin, no_traits, gained_no_trait, read_untouched}
@@ -20,15 +20,15 @@ use Rattle.eco_systems.proofs.Same.{LooksSame, looks_itself, looks_then}
 use Rattle.eco_systems.proofs.Steps.{IsMild, Gained, meets_edition, meets_effect, meets_gains}
 
 -- a run of two lists is a run after a run
-pub record Split (cs ds : List Command) (w new : WorldState) (rs : Outcomes) : Type 0 where
-  pub now : Outcomes
-  pub later : Outcomes
+pub record Split (cs ds : List Command) (w new : WorldState) (rs : FrameOutcomes) : Type 0 where
+  pub now : FrameOutcomes
+  pub later : FrameOutcomes
   pub mid : WorldState
   pub first_run : Runs w cs now mid
   pub second_run : Runs mid ds later new
   pub outcomes : rs ≡ now ++ later
 
-pub runs_split : (cs ds : List Command) (w new : WorldState) (rs : Outcomes) → Runs w (cs ++ ds) rs new → Split cs ds w new rs
+pub runs_split : (cs ds : List Command) (w new : WorldState) (rs : FrameOutcomes) → Runs w (cs ++ ds) rs new → Split cs ds w new rs
 runs_split [] ds w new rs h = record { now = []; later = rs; mid = w; first_run = refl; second_run = h; outcomes = refl }
 runs_split (c ∷ cs) ds w new [] h = absurd h
 runs_split (c ∷ cs) ds w new (r ∷ rs) h =
@@ -64,7 +64,7 @@ module _ (s : SystemModel) (law : IsLawfulSystem s) where
 
   pub records_declared : (w : WorldState) (draws : List (List Entity)) (commands : List Command) → Records w s draws commands →
       AllByRecursion (IsDeclared s.writes s.kills) commands
-  records_declared w draws commands h = pieces_declared (pieces_of (rows_of w s.slots)) draws commands h
+  records_declared w draws commands h = pieces_declared (pieces_of (valued_rows w s.slots)) draws commands h
 
 mild : (writes : List Pattern) (kills : Bool) → (IsTrue kills → ⊥) → (c : Command) → IsDeclared writes kills c → IsMild c
 mild writes kills n (Create e) d = tt
@@ -88,7 +88,7 @@ module _ (start : WorldState) (s : SystemModel) (plain : IsTraitWriter start s �
       go x j trait (inl a) = within.1 x j trait a
       go x j trait (inr g) = absurd (gained_no_trait start s.writes (no_traits start s plain) w within c s.kills d j trait g)
 
-  pub runs_traits : (cs : List Command) (w : WorldState) (rs : Outcomes) (new : WorldState) → AllByRecursion (IsDeclared s.writes s.kills) cs →
+  pub runs_traits : (cs : List Command) (w : WorldState) (rs : FrameOutcomes) (new : WorldState) → AllByRecursion (IsDeclared s.writes s.kills) cs →
       TraitsWithin start w → Runs w cs rs new → TraitsWithin start new
   runs_traits [] w [] new d within h = subst (TraitsWithin start) (sym h) within
   runs_traits [] w (r ∷ rs) new d within h = absurd h
@@ -97,7 +97,8 @@ module _ (start : WorldState) (s : SystemModel) (plain : IsTraitWriter start s �
 
   -- ---- and one that kills nothing and disturbs no read of t leaves what t sees
 
-  pub runs_same : (t : SystemModel) → (IsTrue s.kills → ⊥) → (Disturbs start s t → ⊥) → (cs : List Command) (w : WorldState) (rs : Outcomes) (new : WorldState)
+  pub runs_same : (t : SystemModel) → (IsTrue s.kills → ⊥) → (Disturbs start s t → ⊥)
+      → (cs : List Command) (w : WorldState) (rs : FrameOutcomes) (new : WorldState)
       → AllByRecursion (IsDeclared s.writes s.kills) cs → TraitsWithin start w → Runs w cs rs new → LooksSame (matches_one (system_reads t)) w new
   runs_same t tame apart [] w [] new d within h = subst (LooksSame (matches_one (system_reads t)) w) (sym h) (looks_itself (matches_one (system_reads t)) w)
   runs_same t tame apart [] w (r ∷ rs) new d within h = absurd h

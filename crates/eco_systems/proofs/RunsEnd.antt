@@ -32,7 +32,7 @@ use Rattle.eco_ids.proofs.Ends.{removes_settled, renames_settled, sets_settled}
 use Rattle.eco_ids.proofs.Facts.{not_ok}
 use Rattle.eco_ids.proofs.Runs.{applies_lawful}
 use Rattle.eco_ids.proofs.StepsEnd.{adds_end, deletes_one_end, deletes_with_end, loses_end, makes_alive_end, removes_all_end, renames_end, sets_end}
-use Rattle.eco_systems.specs.Frames.{Outcomes}
+use Rattle.eco_systems.specs.Frames.{FrameOutcomes}
 use Rattle.eco_systems.specs.Laws.{RefusedCommandsChangeNothing}
 
 -- the step never answers that memory is wanting
@@ -165,7 +165,7 @@ meets c w (Err why) new h =
       | false ↦ λ e. h
     ] refl
 
-pub runs_end : (cs : List Command) (w : WorldState) → IsLawful w → (rs : Outcomes) × (new : WorldState) × Runs w cs rs new
+pub runs_end : (cs : List Command) (w : WorldState) → IsLawful w → (rs : FrameOutcomes) × (new : WorldState) × Runs w cs rs new
 runs_end [] w l = ([], w, refl)
 runs_end (c ∷ cs) w l =
     let one = applies_end c w l in

@@ -9,16 +9,16 @@ use Rattle.eco_ids.specs.World.{WorldState}
 use Rattle.eco_systems.specs.Writes.{IsClosedWrite}
 
 -- the entity whose pairs of With say what the pattern brings; patterns of pairs of any relationship have none
-abbrev pub head_of : Pattern → Option Entity
-head_of (One e) = Some e
-head_of (Two (Is r) q) = Some r
-head_of (Two Each q) = None
-head_of (Two Any q) = None
+abbrev pub pattern_head : Pattern → Option Entity
+pattern_head (One e) = Some e
+pattern_head (Two (Is r) q) = Some r
+pattern_head (Two Each q) = None
+pattern_head (Two Any q) = None
 
 -- the pattern with another head: the single, or the relationship of the pairs
-abbrev pub with_head : Pattern → Entity → Pattern
-with_head (One e) x = One x
-with_head (Two p q) x = Two (Is x) q
+abbrev pub pattern_with_head : Pattern → Entity → Pattern
+pattern_with_head (One e) x = One x
+pattern_with_head (Two p q) x = Two (Is x) q
 
 -- a closed write of the patterns passes the test
 abbrev pub ClosedPasses : WorldState → List Pattern → (Pattern → Bool) → Type 0

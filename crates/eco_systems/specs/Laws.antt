@@ -12,8 +12,8 @@ use Rattle.eco_ids.specs.Run.{Command, Runs}
 use Rattle.eco_ids.specs.Traits.{Reaches}
 use Rattle.eco_ids.specs.World.{WorldState}
 use Rattle.eco_systems.specs.Batches.{AreBatches, Conflict, joined}
-use Rattle.eco_systems.specs.Closing.{Among, ListsClosed, head_of, with_head}
-use Rattle.eco_systems.specs.Frames.{BatchDraws, Outcomes, IsFrame, IsFrameAlone, IsSolo, IsFrameSoFar, IsSoloSoFar, IsStopped, AreAscending, AreFresh}
+use Rattle.eco_systems.specs.Closing.{Among, ListsClosed, pattern_head, pattern_with_head}
+use Rattle.eco_systems.specs.Frames.{BatchDraws, FrameOutcomes, IsFrame, IsFrameAlone, IsSolo, IsFrameSoFar, IsSoloSoFar, FrameIsStopped, AreAscending, AreFresh}
 use Rattle.eco_systems.specs.Joining.{batched}
 use Rattle.eco_systems.specs.Phases.{in_order, order_of}
 use Rattle.eco_systems.specs.Rows.{ValuedRow}
@@ -23,19 +23,19 @@ use Rattle.eco_systems.specs.Writes.{widened}
 -- a frame of lawful systems on a lawful world is the run of its systems one by one: with the same draws, outcomes and last world
 abbrev pub FramesAreSolo : Type 0
 FramesAreSolo =
-    (w : WorldState) (systems : List SystemModel) (draws : List BatchDraws) (outcomes : Outcomes) (new : WorldState)
+    (w : WorldState) (systems : List SystemModel) (draws : List BatchDraws) (outcomes : FrameOutcomes) (new : WorldState)
     → IsLawful w → AllByRecursion IsLawfulSystem systems → IsFrame w systems draws outcomes new → IsSolo w systems draws outcomes new
 
 -- so is what was done of a frame that stopped
 abbrev pub StoppedAreSolo : Type 0
 StoppedAreSolo =
-    (w : WorldState) (systems : List SystemModel) (draws : List BatchDraws) (outcomes : Outcomes) (new : WorldState)
+    (w : WorldState) (systems : List SystemModel) (draws : List BatchDraws) (outcomes : FrameOutcomes) (new : WorldState)
     → IsLawful w → AllByRecursion IsLawfulSystem systems → IsFrameSoFar w systems draws outcomes new → IsSoloSoFar w systems draws outcomes new
 
 -- a frame that stopped has batches left, unless its systems have none
 abbrev pub StoppedHaveMore : Type 0
 StoppedHaveMore =
-    (w : WorldState) (systems : List SystemModel) (draws : List BatchDraws) (outcomes : Outcomes) (new : WorldState)
+    (w : WorldState) (systems : List SystemModel) (draws : List BatchDraws) (outcomes : FrameOutcomes) (new : WorldState)
     (batches : List (List SystemModel)) → IsFrameSoFar w systems draws outcomes new → AreBatches w (in_order systems) batches
     → (batches ≡ []) ⊎ (length draws < length batches)
 
@@ -50,20 +50,20 @@ TakesOne s =
     → IsTrue (s.takes row mine) → IsTrue (s.takes row others) → mine ++ rest ≡ others ++ later → mine ≡ others
 
 -- no command found memory wanting
-abbrev pub was_ample : Outcomes → Bool
+abbrev pub was_ample : FrameOutcomes → Bool
 was_ample outcomes = list_all (λ r. not (is_out_of_memory r)) outcomes
 
 -- the draws decide what a frame of such systems leads to: where memory was ample it has one list of outcomes and one last world
 abbrev pub DrawsDecide : Type 0
 DrawsDecide =
-    (w : WorldState) (systems : List SystemModel) (draws : List BatchDraws) (outcomes others : Outcomes) (new other : WorldState)
+    (w : WorldState) (systems : List SystemModel) (draws : List BatchDraws) (outcomes others : FrameOutcomes) (new other : WorldState)
     → AllByRecursion TakesOne systems → IsTrue (was_ample outcomes) → IsTrue (was_ample others)
     → IsFrame w systems draws outcomes new → IsFrame w systems draws others other → (outcomes ≡ others) × (new ≡ other)
 
 -- of one worker the draws are decided too
 abbrev pub OneWorkerDecides : Type 0
 OneWorkerDecides =
-    (w : WorldState) (systems : List SystemModel) (draws other_draws : List BatchDraws) (outcomes others : Outcomes) (new other : WorldState)
+    (w : WorldState) (systems : List SystemModel) (draws other_draws : List BatchDraws) (outcomes others : FrameOutcomes) (new other : WorldState)
     → AllByRecursion TakesOne systems → IsTrue (was_ample outcomes) → IsTrue (was_ample others)
     → IsFrameAlone w systems draws outcomes new → IsFrameAlone w systems other_draws others other
     → (draws ≡ other_draws) × (outcomes ≡ others) × (new ≡ other)
@@ -72,12 +72,13 @@ OneWorkerDecides =
 abbrev pub FramesExist : Type 0
 FramesExist =
     (w : WorldState) (systems : List SystemModel) → IsLawful w → AllByRecursion TakesSome systems
-    → (draws : List BatchDraws) × (outcomes : Outcomes) × (new : WorldState) × (IsFrame w systems draws outcomes new ⊎ IsStopped w systems draws outcomes new)
+    → (draws : List BatchDraws) × (outcomes : FrameOutcomes) × (new : WorldState)
+    × (IsFrame w systems draws outcomes new ⊎ FrameIsStopped w systems draws outcomes new)
 
 -- a frame, also one that stopped, leaves a lawful world lawful
 abbrev pub FramesKeepLawful : Type 0
 FramesKeepLawful =
-    (w : WorldState) (systems : List SystemModel) (draws : List BatchDraws) (outcomes : Outcomes) (new : WorldState)
+    (w : WorldState) (systems : List SystemModel) (draws : List BatchDraws) (outcomes : FrameOutcomes) (new : WorldState)
     → IsLawful w → IsFrameSoFar w systems draws outcomes new → IsLawful new
 
 -- a command that is refused changes nothing, be it for want of memory
@@ -88,7 +89,7 @@ RefusedCommandsChangeNothing =
 -- a frame that stopped at its first batch changes nothing
 abbrev pub StoppedAtOnceChangesNothing : Type 0
 StoppedAtOnceChangesNothing =
-    (w : WorldState) (systems : List SystemModel) (outcomes : Outcomes) (new : WorldState)
+    (w : WorldState) (systems : List SystemModel) (outcomes : FrameOutcomes) (new : WorldState)
     → IsFrameSoFar w systems [] outcomes new → (outcomes ≡ []) × (new ≡ w)
 
 -- a lawful world has batches
@@ -121,13 +122,13 @@ OneMoreIsListed =
 -- the closed writes of a pattern with a head are it with each head that With leads to, widened
 abbrev pub HeadsAreAmong : Type 0
 HeadsAreAmong =
-    (w : WorldState) (p : Pattern) (head : Entity) (heads : List Entity) (old : List Pattern) → head_of p ≡ Some head
+    (w : WorldState) (p : Pattern) (head : Entity) (heads : List Entity) (old : List Pattern) → pattern_head p ≡ Some head
     → ((x : Entity) → IsTrue (has_item entity_cmp heads x) ↔ Reaches w WITH head x)
-    → Among w p old (old ++ map (λ x. widened w (with_head p x)) heads)
+    → Among w p old (old ++ map (λ x. widened w (pattern_with_head p x)) heads)
 
 -- a pattern without a head is closed by itself
 abbrev pub HeadlessAreAmong : Type 0
-HeadlessAreAmong = (w : WorldState) (p : Pattern) (old : List Pattern) → head_of p ≡ None → Among w p old (old ++ p ∷ [])
+HeadlessAreAmong = (w : WorldState) (p : Pattern) (old : List Pattern) → pattern_head p ≡ None → Among w p old (old ++ p ∷ [])
 
 -- at the positions of declaration, in the order in which the systems run, stand the systems as they run
 abbrev pub OrderHasSystems : Type 0

@@ -9,19 +9,19 @@ abbrev pub phases : List Phase
 phases = OnLoad ∷ PostLoad ∷ PreUpdate ∷ OnUpdate ∷ OnValidate ∷ PostUpdate ∷ PreStore ∷ OnStore ∷ []
 
 -- the place of a phase among them
-abbrev pub rank : Phase → ℕ
-rank OnLoad = 0
-rank PostLoad = 1
-rank PreUpdate = 2
-rank OnUpdate = 3
-rank OnValidate = 4
-rank PostUpdate = 5
-rank PreStore = 6
-rank OnStore = 7
+abbrev pub phase_rank : Phase → ℕ
+phase_rank OnLoad = 0
+phase_rank PostLoad = 1
+phase_rank PreUpdate = 2
+phase_rank OnUpdate = 3
+phase_rank OnValidate = 4
+phase_rank PostUpdate = 5
+phase_rank PreStore = 6
+phase_rank OnStore = 7
 
 -- the system is one of the phase
 abbrev pub runs_in : Phase → SystemModel → Bool
-runs_in phase s = rank s.phase == rank phase
+runs_in phase s = phase_rank s.phase == phase_rank phase
 
 -- systems, in the order of declaration, run by phase, and within a phase as declared
 abbrev pub in_order : List SystemModel → List SystemModel

@@ -3,7 +3,7 @@ use Rattle.std.specs.Prelude.{◌≡◌, ℕ, zero, suc, take, drop, length, IsT
 use Rattle.eco_ids.specs.declared.entity.Entity.{Entity}
 use Rattle.eco_ids.specs.Run.{Command}
 use Rattle.eco_ids.specs.World.{WorldState}
-use Rattle.eco_systems.specs.Rows.{ValuedRow, rows_of}
+use Rattle.eco_systems.specs.Rows.{ValuedRow, valued_rows}
 use Rattle.eco_systems.specs.Systems.{SystemModel}
 
 -- the rows take these draws in order, leave nothing of them, and record these commands in order
@@ -33,7 +33,7 @@ PiecesRecord s (p ∷ ps) (d ∷ ds) commands =
 
 -- what a system records on a world with these draws, a list for each piece
 abbrev pub Records : WorldState → SystemModel → List (List Entity) → List Command → Type 0
-Records w s draws commands = PiecesRecord s (pieces_of (rows_of w s.slots)) draws commands
+Records w s draws commands = PiecesRecord s (pieces_of (valued_rows w s.slots)) draws commands
 
 -- what the systems of a batch record, all on one world
 abbrev pub BatchRecords : WorldState → List SystemModel → List (List (List Entity)) → List Command → Type 0

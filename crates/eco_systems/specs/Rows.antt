@@ -39,5 +39,5 @@ abbrev pub valued : WorldState → List QuerySlot → Row → ValuedRow
 valued w slots row = record { entity = row.entity; entries = row.entries; values = entry_values (value_of w row.entity) slots row.entries }
 
 -- what the query answers, each result with its values
-abbrev pub rows_of : WorldState → List QuerySlot → List ValuedRow
-rows_of w slots = map (valued w slots) (answer w (map (λ s. s.term) slots))
+abbrev pub valued_rows : WorldState → List QuerySlot → List ValuedRow
+valued_rows w slots = map (valued w slots) (answer w (map (λ s. s.term) slots))

@@ -48,20 +48,20 @@ abbrev pub IsClosedWrite : WorldState → List Pattern → Pattern → Type 0
 IsClosedWrite w writes p = (q : Pattern) × InClosedPatterns w writes q × (p ≡ widened w q)
 
 -- a built-in of the edition other than ChildOf
-abbrev pub is_trait : Edition → Entity → Bool
-is_trait edition e = is_among_first (builtin_count edition) e && not (entity_eq e CHILD_OF)
+abbrev pub is_builtin_trait : Edition → Entity → Bool
+is_builtin_trait edition e = is_among_first (builtin_count edition) e && not (entity_eq e CHILD_OF)
 
 abbrev pub is_trait_part : Edition → Part → Bool
-is_trait_part edition (Is e) = is_trait edition e
+is_trait_part edition (Is e) = is_builtin_trait edition e
 is_trait_part edition Each = false
 is_trait_part edition Any = false
 
 -- the pattern holds a built-in other than ChildOf, or is one of pairs of any relationship
 abbrev pub writes_trait : Edition → Pattern → Bool
-writes_trait edition (One e) = is_trait edition e
+writes_trait edition (One e) = is_builtin_trait edition e
 writes_trait edition (Two Each q) = true
 writes_trait edition (Two Any q) = true
-writes_trait edition (Two (Is r) q) = is_trait edition r || is_trait_part edition q
+writes_trait edition (Two (Is r) q) = is_builtin_trait edition r || is_trait_part edition q
 
 -- one of its closed writes is such
 abbrev pub IsTraitWriter : WorldState → SystemModel → Type 0

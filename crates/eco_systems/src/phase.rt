@@ -1,6 +1,6 @@
 //! When a system runs.
 ghost use Rattle.std.specs.Prelude.{◌≡◌};
-ghost use Rattle.eco_systems.specs.Phases.{rank};
+ghost use Rattle.eco_systems.specs.Phases.{phase_rank};
 
 /// The phases of a frame, in the order in which they run (Flecs manual, Systems, "Builtin pipelines"). Within a phase systems
 /// run as they were declared. A change of phase alone makes no sync point.
@@ -39,7 +39,7 @@ pub const PHASES: [Phase; 8] = [
 impl Phase {
     /// Its place among the phases, from 0.
     pub fn rank(self) -> u8
-        ensures { result ≡ rank self }
+        ensures { result ≡ phase_rank self }
     {
         match self {
             Phase::OnLoad => 0,

@@ -17,7 +17,7 @@ use Rattle.eco_ids.proofs.Ascending.{all_at, first, second, less}
 use Rattle.eco_ids.proofs.Exact.{id_eq_sym}
 use Rattle.eco_ids.proofs.Facts.{equal_tie}
 use Rattle.eco_ids.proofs.IdOrder.{same_id}
-use Rattle.eco_tables.specs.Column.{ColumnState, contents, with_value, written}
+use Rattle.eco_tables.specs.Column.{ColumnState, contents, column_with_value, written}
 
 -- an id that is above all others is none of them
 pub above-other : (cs : List ColumnState) (i : ℕ) (j : Id) (d : ColumnState) → i < length cs
@@ -79,13 +79,13 @@ written-absent (c ∷ cs) row id v none = by (id_eq c.id id) refl (λ rest. writ
 -- where the ids ascend, a write of the id of a place is a write of that column alone
 pub written-ascending : (cs : List ColumnState) (i row : ℕ) (id : Id) (v : Value) (d : ColumnState) → i < length cs
     → id ≡ (get_or cs i d).id → IsTrue (is_ascending id_cmp (map (λ c. c.id) cs))
-    → set cs i (with_value (get_or cs i d) row v) ≡ map (λ c. written c row id v) cs
+    → set cs i (column_with_value (get_or cs i d) row v) ≡ map (λ c. written c row id v) cs
 written-ascending [] i row id v d within is up = absurd (omega arith)
 written-ascending (c ∷ cs) zero row id v d within is up =
     let same : id_eq c.id id ≡ true = same_eq c.id id (sym is) in
     let rest : map (λ x. written x row id v) cs ≡ cs =
     written-absent cs row id v (ap (λ x. has_item id_cmp (map (λ y. y.id) cs) x) is ∙ above-none (map (λ y. y.id) cs) c.id (first _ _ up)) in
-    rw same (ap (λ xs. with_value c row v ∷ xs) (sym rest))
+    rw same (ap (λ xs. column_with_value c row v ∷ xs) (sym rest))
 written-ascending (c ∷ cs) (suc i) row id v d within is up =
     let other : id_eq c.id id ≡ false = id_eq_sym c.id id ∙ ap (λ x. id_eq x c.id) is ∙ above-other cs i c.id d (omega arith) (first _ _ up) in
     rw other (ap (λ xs. c ∷ xs) (written-ascending cs i row id v d (omega arith) is (second _ _ up)))
@@ -108,7 +108,7 @@ module _ (cs : List ColumnState) (i : ℕ) (id : Id) (at : slice_get (map (λ c.
   found_at g d up = find-ascending g cs i id d place_within (place_id d) up
 
   pub written_at : (row : ℕ) (v : Value) (d : ColumnState) → IsTrue (is_ascending id_cmp (map (λ c. c.id) cs))
-      → set cs i (with_value (get_or cs i d) row v) ≡ map (λ c. written c row id v) cs
+      → set cs i (column_with_value (get_or cs i d) row v) ≡ map (λ c. written c row id v) cs
   written_at row v d up = written-ascending cs i row id v d place_within (place_id d) up
 
   pub has_place : has_item id_cmp (map (λ c. c.id) cs) id ≡ true

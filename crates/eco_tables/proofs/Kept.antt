@@ -6,7 +6,7 @@ use Rattle.eco_ids.specs.declared.entity.Entity.{Entity}
 use Rattle.eco_ids.specs.declared.id.Id.{Id}
 use Rattle.eco_ids.specs.Order.{id_cmp, has_item}
 use Rattle.eco_tables.specs.Column.{ColumnState, kind_of}
-use Rattle.eco_tables.specs.Table.{Row, rows_of, paired, width_among, AreKinds, HasShape}
+use Rattle.eco_tables.specs.Table.{TableRow, rows_of, paired, width_among, AreKinds, HasShape}
 use Rattle.eco_tables.proofs.Rows.{ids_of_kinds, no_width, none_read, widthless_in, within_ids}
 use Rattle.eco_tables.proofs.Widths.{width-each}
 
@@ -20,8 +20,8 @@ wide ids cs kinds i there =
     (sym (width-each ids (map kind_of cs) i ∙ ap (λ b. if b then Some (width_among (map kind_of cs) i) else None) (within_ids ids cs kinds i there))) positive
 
 -- a row has no value of an id that has no width, and zeros of one whose width is 0
-abbrev IsUnread : List Row → ℕ → Id → Option ℕ → Type 0
-IsUnread rows row i width = MatchOption width ((r : Row) → find id_cmp i (get_or rows row r).held ≡ None) (λ n. n ≡ 0)
+abbrev IsUnread : List TableRow → ℕ → Id → Option ℕ → Type 0
+IsUnread rows row i width = MatchOption width ((r : TableRow) → find id_cmp i (get_or rows row r).held ≡ None) (λ n. n ≡ 0)
 
 module _ (ids : List Id) (es : List Entity) (capacity : ℕ) (cs : List ColumnState) (room : ℕ) (shape : HasShape ids es capacity cs room) where
   -- an id without a column is none of the type's, or has no width

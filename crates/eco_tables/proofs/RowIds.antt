@@ -6,7 +6,7 @@ use Rattle.eco_ids.specs.declared.id.Id.{Id}
 use Rattle.eco_ids.specs.declared.value.Value.{Value}
 use Rattle.eco_ids.specs.Order.{id_eq}
 use Rattle.eco_tables.specs.Column.{value_in, with_held}
-use Rattle.eco_tables.specs.Table.{TableState, Row, HasIds, RowsHaveIds, retyped_row}
+use Rattle.eco_tables.specs.Table.{TableState, TableRow, HasIds, RowsHaveIds, retyped_row}
 use Rattle.eco_tables.specs.Tables.{no_row, turned, with_rows, without_row}
 use Rattle.eco_ids.proofs.Lists.{keys_paired, before, before_within, get_or-swap_remove, length-swap_remove}
 
@@ -23,7 +23,7 @@ pub none_lacks : (t : TableState) → [] ≡ t.rows → RowsHaveIds t
 none_lacks t none = subst (All (HasIds t.ids)) none (All-nil (HasIds t.ids))
 
 -- more rows, under the table's own type
-pub joined_have : (t : TableState) (rs : List Row) → RowsHaveIds t → RowsHaveIds (with_rows t rs)
+pub joined_have : (t : TableState) (rs : List TableRow) → RowsHaveIds t → RowsHaveIds (with_rows t rs)
 joined_have t rs all =
     All-append (HasIds t.ids) t.rows (map (retyped_row t.ids) rs) all
     (All-map (HasIds t.ids) (retyped_row t.ids) rs (λ k r there. keys_paired (value_in (get_or rs k r).held) t.ids))

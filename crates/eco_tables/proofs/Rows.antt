@@ -13,9 +13,9 @@ use Rattle.eco_ids.specs.World.{zeros}
 use Rattle.std.specs.FinMap.Entries.{find}
 use Rattle.eco_ids.specs.Order.{id_cmp, id_eq, has_item, is_ascending}
 use Rattle.eco_ids.proofs.Lists.{before, before_within, get_or-swap_remove, keys_paired, length-swap_remove}
-use Rattle.eco_tables.specs.Column.{ColumnState, Fits, held_in, value_in, contents, kind_of, joined, emptied, with_removed, with_value, with_held, written}
+use Rattle.eco_tables.specs.Column.{ColumnState, Fits, held_in, value_in, contents, kind_of, lengthened, emptied, with_removed, column_with_value, with_held, written}
 use Rattle.eco_tables.specs.Column.{retyped}
-use Rattle.eco_tables.specs.Table.{Row, rows_from, rows_of, retyped_row, table_of, paired, width_among, AreKinds, HasShape, ColumnsAgree, entities_of, HasIds}
+use Rattle.eco_tables.specs.Table.{TableRow, rows_from, rows_of, retyped_row, table_of, paired, width_among, AreKinds, HasShape, ColumnsAgree, entities_of, HasIds}
 use Rattle.eco_tables.proofs.Held.{found_at, find-absent, place_within, has_place}
 use Rattle.eco_tables.proofs.Widths.{find-each, value-retyped, same_within, retyped-written, value-written, value-other, width-each, width-none}
 use Rattle.eco_tables.proofs.Packing.{map_swap_remove}
@@ -41,17 +41,17 @@ pub entities_of-rows : (cs : List ColumnState) (k : ℕ) (es : List Entity) → 
 entities_of-rows cs k [] = refl
 entities_of-rows cs k (e ∷ es) = ap (λ xs. e ∷ xs) (entities_of-rows cs (suc k) es)
 
-abbrev row_of : Entity → List ColumnState → ℕ → Row
+abbrev row_of : Entity → List ColumnState → ℕ → TableRow
 row_of e cs k = record { entity = e; held = held_in cs k }
 
-pub get_or-rows_from : (cs : List ColumnState) (k : ℕ) (es : List Entity) (i : ℕ) (d : Entity) (r : Row) → i < length es
+pub get_or-rows_from : (cs : List ColumnState) (k : ℕ) (es : List Entity) (i : ℕ) (d : Entity) (r : TableRow) → i < length es
     → get_or (rows_from cs k es) i r ≡ row_of (get_or es i d) cs (k + i)
 get_or-rows_from cs k [] i d r within = absurd (omega arith)
 get_or-rows_from cs k (e ∷ es) zero d r within = ap (λ n. row_of e cs n) (let h : k ≡ k + 0 = omega arith in h)
 get_or-rows_from cs k (e ∷ es) (suc i) d r within =
     get_or-rows_from cs (suc k) es i d r (omega arith) ∙ ap (λ n. row_of (get_or es i d) cs n) (let h : suc k + i ≡ k + suc i = omega arith in h)
 
-pub get_or-rows : (cs : List ColumnState) (es : List Entity) (i : ℕ) (d : Entity) (r : Row) → i < length es
+pub get_or-rows : (cs : List ColumnState) (es : List Entity) (i : ℕ) (d : Entity) (r : TableRow) → i < length es
     → get_or (rows_from cs 0 es) i r ≡ row_of (get_or es i d) cs i
 get_or-rows cs es i d r within = get_or-rows_from cs 0 es i d r within ∙ ap (λ n. row_of (get_or es i d) cs n) (let h : 0 + i ≡ i = omega arith in h)
 
@@ -66,7 +66,7 @@ held_same f (c ∷ cs) j k same =
     λ t. (here.0 t, here.1 t) ∷ there t
 
 -- the same rows, row by row, from two lists of columns
-pub rows_ext : (cs ds : List ColumnState) (es fs : List Entity) (rows : List Row) (d : Entity) (r : Row)
+pub rows_ext : (cs ds : List ColumnState) (es fs : List Entity) (rows : List TableRow) (d : Entity) (r : TableRow)
     → length rows ≡ length es
     → ((j : ℕ) → j < length es → row_of (get_or es j d) cs j ≡ get_or rows j r)
     → rows_from cs 0 es ≡ rows
@@ -75,7 +75,7 @@ rows_ext cs ds es fs rows d r lengths each =
     (λ j within. let in_es : j < length es = rw (length-rows cs 0 es) at within in get_or-rows cs es j d r in_es ∙ each j in_es)
 
 -- a removal
-pub swapped_rows : (cs : List ColumnState) (es : List Entity) (row : ℕ) (d : Entity) (r : Row)
+pub swapped_rows : (cs : List ColumnState) (es : List Entity) (row : ℕ) (d : Entity) (r : TableRow)
     → All (λ c. length c.values ≡ length es) cs → row < length es
     → rows_from (map (λ c. with_removed c row) cs) 0 (swap_remove es row d) ≡ swap_remove (rows_from cs 0 es) row r
 swapped_rows cs es row d r even there =
@@ -106,33 +106,33 @@ rows_append cs k (e ∷ es) fs =
     ∙ ap (λ n. rows_from cs (suc k) es ++ rows_from cs n fs) (let h : suc k + length es ≡ k + suc (length es) = omega arith in h))
 
 -- the values that rows hold for an id
-abbrev pub values_held : List Row → Id → List Value
+abbrev pub values_held : List TableRow → Id → List Value
 values_held rows i = map (λ r. value_in r.held i) rows
 
-last_joined : (rows : List Row) (cs : List ColumnState) (n m : ℕ) (r : Row) → m < length rows → All (λ c. length c.values ≡ n) cs
-    → held_in (map (λ c. joined c (values_held rows c.id)) cs) (n + m) ≡ retyped (map (λ c. c.id) cs) (get_or rows m r).held
+last_joined : (rows : List TableRow) (cs : List ColumnState) (n m : ℕ) (r : TableRow) → m < length rows → All (λ c. length c.values ≡ n) cs
+    → held_in (map (λ c. lengthened c (values_held rows c.id)) cs) (n + m) ≡ retyped (map (λ c. c.id) cs) (get_or rows m r).held
 last_joined rows [] n m r there even = refl
 last_joined rows (c ∷ cs) n m r there even =
     let here : get_or (c.values ++ values_held rows c.id) (n + m) zeros ≡ value_in (get_or rows m r).held c.id =
     get_or-append_right c.values (values_held rows c.id) n (n + m) zeros (All-head (λ x. length x.values ≡ n) c cs even) (omega arith)
     ∙ ap (λ k. get_or (values_held rows c.id) k zeros) (let h : n + m - n ≡ m = omega arith in h)
-    ∙ get_or-map (λ (x : Row). value_in x.held c.id) rows m r zeros there in
+    ∙ get_or-map (λ (x : TableRow). value_in x.held c.id) rows m r zeros there in
     let rest = last_joined rows cs n m r there (All-tail (λ x. length x.values ≡ n) c cs even) in
     λ t. (c.id, here t) ∷ rest t
 
-pub joined_rows : (cs : List ColumnState) (es : List Entity) (rows : List Row) → All (λ c. length c.values ≡ length es) cs
-    → rows_from (map (λ c. joined c (values_held rows c.id)) cs) 0 (es ++ entities_of rows)
+pub joined_rows : (cs : List ColumnState) (es : List Entity) (rows : List TableRow) → All (λ c. length c.values ≡ length es) cs
+    → rows_from (map (λ c. lengthened c (values_held rows c.id)) cs) 0 (es ++ entities_of rows)
     ≡ rows_from cs 0 es ++ map (retyped_row (map (λ c. c.id) cs)) rows
 joined_rows cs es rows even =
-    let ds = map (λ c. joined c (values_held rows c.id)) cs in
+    let ds = map (λ c. lengthened c (values_held rows c.id)) cs in
     let nobody : Entity = record { index = 0; generation = 0 } in
-    let nothing : Row = record { entity = nobody; held = [] } in
+    let nothing : TableRow = record { entity = nobody; held = [] } in
     let old : rows_from ds 0 es ≡ rows_from cs 0 es =
     rows_ext ds cs es es (rows_from cs 0 es) nobody nothing (length-rows cs 0 es)
     (λ j within.
     (λ t. record {
       entity = get_or es j nobody;
-      held = held_same (λ c. joined c (values_held rows c.id)) cs j j (λ k d in_cs.
+      held = held_same (λ c. lengthened c (values_held rows c.id)) cs j j (λ k d in_cs.
           (refl, get_or_append_left (get_or cs k d).values (values_held rows (get_or cs k d).id) zeros j (rw (even k d in_cs) within))) t;
     })
     ∙ sym (get_or-rows cs es j nobody nothing within)) in
@@ -142,11 +142,11 @@ joined_rows cs es rows even =
     (length-rows ds (length es) (entities_of rows) ∙ length-map rows (λ r. r.entity) ∙ sym (length-map rows (retyped_row (map (λ c. c.id) cs))))
     (λ m within.
     let in_entities : m < length (entities_of rows) = rw (length-rows ds (length es) (entities_of rows)) at within in
-    let in_rows : m < length rows = rw (length-map rows (λ (r : Row). r.entity)) at in_entities in
+    let in_rows : m < length rows = rw (length-map rows (λ (r : TableRow). r.entity)) at in_entities in
     let r = get_or rows m nothing in
     get_or-rows_from ds (length es) (entities_of rows) m nobody nothing in_entities
     ∙ (λ t. record {
-      entity = get_or-map (λ (x : Row). x.entity) rows m nothing nobody in_rows t;
+      entity = get_or-map (λ (x : TableRow). x.entity) rows m nothing nobody in_rows t;
       held = last_joined rows cs (length es) m nothing in_rows even t;
     })
     ∙ sym (get_or-map (retyped_row (map (λ c. c.id) cs)) rows m nothing nothing in_rows)) in
@@ -157,14 +157,14 @@ values_ext : (cs : List ColumnState) (es : List Entity) (i : Id) (vs : List Valu
     → ((k : ℕ) → k < length es → get_or vs k zeros ≡ value_in (held_in cs k) i) → vs ≡ values_held (rows_from cs 0 es) i
 values_ext cs es i vs long each =
     let nobody : Entity = record { index = 0; generation = 0 } in
-    let nothing : Row = record { entity = nobody; held = [] } in
+    let nothing : TableRow = record { entity = nobody; held = [] } in
     let n : length (values_held (rows_from cs 0 es) i) ≡ length es = length-map (rows_from cs 0 es) (λ r. value_in r.held i) ∙ length-rows cs 0 es in
     ext_get_or zeros vs (values_held (rows_from cs 0 es) i) (long ∙ sym n)
     (λ k within.
     let in_es : k < length es = rw long at within in
     each k in_es
-    ∙ sym (get_or-map (λ (x : Row). value_in x.held i) (rows_from cs 0 es) k nothing zeros (rw (length-rows cs 0 es) in_es)
-    ∙ ap (λ (x : Row). value_in x.held i) (get_or-rows cs es k nobody nothing in_es)))
+    ∙ sym (get_or-map (λ (x : TableRow). value_in x.held i) (rows_from cs 0 es) k nothing zeros (rw (length-rows cs 0 es) in_es)
+    ∙ ap (λ (x : TableRow). value_in x.held i) (get_or-rows cs es k nobody nothing in_es)))
 
 pub values_at : (cs : List ColumnState) (es : List Entity) (p : ℕ) (i : Id) (d : ColumnState) → slice_get (map (λ c. c.id) cs) p ≡ Some i
     → IsTrue (is_ascending id_cmp (map (λ c. c.id) cs)) → All (λ c. length c.values ≡ length es) cs
@@ -181,12 +181,12 @@ values_absent cs es i none =
     ∙ sym (ap (λ o. unwrap_or o zeros) (find-absent (λ c. get_or c.values k zeros) cs i none)))
 
 -- a write
-pub written_rows : (cs : List ColumnState) (es : List Entity) (row : ℕ) (i : Id) (v : Value) (r : Row)
+pub written_rows : (cs : List ColumnState) (es : List Entity) (row : ℕ) (i : Id) (v : Value) (r : TableRow)
     → All (λ c. length c.values ≡ length es) cs → row < length es
     → rows_from (map (λ c. written c row i v) cs) 0 es
     ≡ set (rows_from cs 0 es) row (record { entity = (get_or (rows_from cs 0 es) row r).entity; held = with_held (get_or (rows_from cs 0 es) row r).held i v })
 written_rows cs es row i v r even there =
-    let new : Row = record { entity = (get_or (rows_from cs 0 es) row r).entity; held = with_held (get_or (rows_from cs 0 es) row r).held i v } in
+    let new : TableRow = record { entity = (get_or (rows_from cs 0 es) row r).entity; held = with_held (get_or (rows_from cs 0 es) row r).held i v } in
     let ds = map (λ c. written c row i v) cs in
     rows_ext ds cs es es (set (rows_from cs 0 es) row new) r.entity r
     (length-set (rows_from cs 0 es) row new ∙ length-rows cs 0 es)
@@ -210,8 +210,8 @@ written_rows cs es row i v r even there =
         → ((written c row i v).id ≡ c.id) × (get_or (written c row i v).values j zeros ≡ get_or c.values j zeros)
     written_there c row j i v other = by (id_eq c.id i)
       where
-        by : (b : Bool) → ((if b then with_value c row v else c).id ≡ c.id) ×
-            (get_or (if b then with_value c row v else c).values j zeros ≡ get_or c.values j zeros)
+        by : (b : Bool) → ((if b then column_with_value c row v else c).id ≡ c.id) ×
+            (get_or (if b then column_with_value c row v else c).values j zeros ≡ get_or c.values j zeros)
         by true = (refl, get_or-set_other c.values row j v zeros other)
         by false = (refl, refl)
 
@@ -224,7 +224,7 @@ written_rows cs es row i v r even there =
         λ t. here t ∷ rest t
       where
         by : (b : Bool) → row < length d.values
-            → ◌≡◌ {A = Id × Value} ((if b then with_value d row v else d).id, get_or (if b then with_value d row v else d).values row zeros)
+            → ◌≡◌ {A = Id × Value} ((if b then column_with_value d row v else d).id, get_or (if b then column_with_value d row v else d).values row zeros)
             (if b then (d.id, v) else (d.id, get_or d.values row zeros))
         by true h = ap (λ x. (d.id, x)) (get_or-set_same d.values row v zeros h)
         by false h = refl
@@ -260,15 +260,15 @@ refilled_columns n ds slice cs same is len =
 
 -- columns that took the rows of another table
 pub joined_columns : (n : ℕ) (ds slice cs from source : List ColumnState) (fs es : List Entity)
-    → map contents ds ≡ map contents (map (λ x. joined x (values_held (rows_from from 0 fs) x.id)) slice)
+    → map contents ds ≡ map contents (map (λ x. lengthened x (values_held (rows_from from 0 fs) x.id)) slice)
     → slice ≡ cs → from ≡ source → fs ≡ es → n ≡ length cs
-    → (map contents ds ≡ map contents (map (λ x. joined x (values_held (rows_from source 0 es) x.id)) cs))
+    → (map contents ds ≡ map contents (map (λ x. lengthened x (values_held (rows_from source 0 es) x.id)) cs))
     × (take n (ds ++ drop (length ds) cs) ≡ ds)
 joined_columns n ds slice cs from source fs es same is read listed len =
-    let whole : List ColumnState = map (λ x. joined x (values_held (rows_from source 0 es) x.id)) cs in
+    let whole : List ColumnState = map (λ x. lengthened x (values_held (rows_from source 0 es) x.id)) cs in
     let all : map contents ds ≡ map contents whole =
-    same ∙ (λ t. map contents (map (λ x. joined x (values_held (rows_from (read t) 0 (listed t)) x.id)) (is t))) in
-    (all, refilled n ds cs (length-contents whole ds all ∙ length-map cs (λ x. joined x (values_held (rows_from source 0 es) x.id))) (sym len))
+    same ∙ (λ t. map contents (map (λ x. lengthened x (values_held (rows_from (read t) 0 (listed t)) x.id)) (is t))) in
+    (all, refilled n ds cs (length-contents whole ds all ∙ length-map cs (λ x. lengthened x (values_held (rows_from source 0 es) x.id))) (sym len))
 
 -- they show the same table
 pub same_table : (ids : List Id) (es : List Entity) (cs ds : List ColumnState) (room : ℕ) → map contents ds ≡ map contents cs
@@ -291,7 +291,7 @@ kinds_same f same (c ∷ cs) = λ t. same c t ∷ kinds_same f same cs t
 pub written_kind : (row : ℕ) (i : Id) (v : Value) (c : ColumnState) → kind_of (written c row i v) ≡ kind_of c
 written_kind row i v c = by (id_eq c.id i)
   where
-    by : (b : Bool) → kind_of (if b then with_value c row v else c) ≡ kind_of c
+    by : (b : Bool) → kind_of (if b then column_with_value c row v else c) ≡ kind_of c
     by true = refl
     by false = refl
 
@@ -480,12 +480,12 @@ same_rows ids sids cs ds same k (e ∷ es) =
 pub entities_of_all : (ids : List Id) (cs : List ColumnState) (es : List Entity) → entities_of (rows_of ids cs es) ≡ es
 entities_of_all ids cs es = same (rows_from cs 0 es) ∙ entities_of-rows cs 0 es
   where
-    same : (rows : List Row) → entities_of (map (retyped_row ids) rows) ≡ entities_of rows
+    same : (rows : List TableRow) → entities_of (map (retyped_row ids) rows) ≡ entities_of rows
     same [] = refl
     same (r ∷ rows) = ap (λ xs. r.entity ∷ xs) (same rows)
 
 -- a removal
-pub removed_rows : (ids : List Id) (cs : List ColumnState) (es : List Entity) (row : ℕ) (d : Entity) (r : Row)
+pub removed_rows : (ids : List Id) (cs : List ColumnState) (es : List Entity) (row : ℕ) (d : Entity) (r : TableRow)
     → All (λ c. length c.values ≡ length es) cs → row < length es
     → rows_of ids (map (λ c. with_removed c row) cs) (swap_remove es row d) ≡ swap_remove (rows_of ids cs es) row r
 removed_rows ids cs es row d r even there =
@@ -493,17 +493,17 @@ removed_rows ids cs es row d r even there =
     ∙ map_swap_remove (retyped_row ids) (rows_from cs 0 es) row r r (rw (length-rows cs 0 es) there)
 
 -- rows from elsewhere
-pub added_rows : (ids : List Id) (cs : List ColumnState) (es : List Entity) (rows : List Row) (to : Row → Row)
+pub added_rows : (ids : List Id) (cs : List ColumnState) (es : List Entity) (rows : List TableRow) (to : TableRow → TableRow)
     → All (λ c. length c.values ≡ length es) cs
     → map (retyped_row ids) (map (retyped_row (map (λ c. c.id) cs)) rows) ≡ map (retyped_row ids) (map to rows)
-    → rows_of ids (map (λ c. joined c (values_held rows c.id)) cs) (es ++ entities_of rows) ≡ rows_of ids cs es ++ map (retyped_row ids) (map to rows)
+    → rows_of ids (map (λ c. lengthened c (values_held rows c.id)) cs) (es ++ entities_of rows) ≡ rows_of ids cs es ++ map (retyped_row ids) (map to rows)
 added_rows ids cs es rows to even same =
     ap (map (retyped_row ids)) (joined_rows cs es rows even)
     ∙ map-append (retyped_row ids) (rows_from cs 0 es) (map (retyped_row (map (λ c. c.id) cs)) rows)
     ∙ ap (λ xs. rows_of ids cs es ++ xs) same
 
 -- a write
-pub set_rows : (ids : List Id) (cs : List ColumnState) (es : List Entity) (row : ℕ) (i : Id) (v : Value) (r : Row)
+pub set_rows : (ids : List Id) (cs : List ColumnState) (es : List Entity) (row : ℕ) (i : Id) (v : Value) (r : TableRow)
     → All (λ c. length c.values ≡ length es) cs → row < length es
     → retyped ids (with_held (held_in cs row) i v) ≡ with_held (retyped ids (held_in cs row)) i v
     → rows_of ids (map (λ c. written c row i v) cs) es
@@ -532,19 +532,20 @@ module _ (ids : List Id) (es : List Entity) (capacity : ℕ) (cs : List ColumnSt
   row_in_columns row h = λ k d in_cs. rw (shape.even k d in_cs) (row_within row h)
 
   -- a row of the table
-  pub row_at : (row : ℕ) (e : Entity) (r : Row) → row < length es → get_or (rows_of ids cs es) row r ≡ retyped_row ids (row_of (get_or es row e) cs row)
+  pub row_at : (row : ℕ) (e : Entity) (r : TableRow) → row < length es → get_or (rows_of ids cs es) row r ≡ retyped_row ids (row_of (get_or es row e) cs row)
   row_at row e r there =
       get_or-map (retyped_row ids) (rows_from cs 0 es) row r r (rw (length-rows cs 0 es) there) ∙ ap (retyped_row ids) (get_or-rows cs es row e r there)
 
   pub shape_joined : (g : Id → List Value) (fs : List Entity) → length fs ≤ room → ((i : Id) → length (g i) ≡ length fs)
-      → HasShape ids (es ++ fs) capacity (map (λ c. joined c (g c.id)) cs) (room - length fs)
+      → HasShape ids (es ++ fs) capacity (map (λ c. lengthened c (g c.id)) cs) (room - length fs)
   shape_joined g fs some long = record {
-    kinds = rw (kinds_same (λ c. joined c (g c.id)) (λ c. refl) cs) shape.kinds;
-    even = All-map (λ c. length c.values ≡ length (es ++ fs)) (λ c. joined c (g c.id)) cs
+    kinds = rw (kinds_same (λ c. lengthened c (g c.id)) (λ c. refl) cs) shape.kinds;
+    even = All-map (λ c. length c.values ≡ length (es ++ fs)) (λ c. lengthened c (g c.id)) cs
         (λ k d in_cs.
         let both = length-append (get_or cs k d).values (g (get_or cs k d).id) in
         omega (arith, shape.even k d in_cs, long (get_or cs k d).id, both, length-append es fs));
-    roomy = All-map (λ c. room - length fs ≤ c.room) (λ c. joined c (g c.id)) cs (λ k d in_cs. omega (arith, long (get_or cs k d).id, shape.roomy k d in_cs));
+    roomy = All-map (λ c. room - length fs ≤ c.room) (λ c. lengthened c (g c.id)) cs
+        (λ k d in_cs. omega (arith, long (get_or cs k d).id, shape.roomy k d in_cs));
     rows_room = omega (arith, shape.rows_room, length-append es fs);
   }
 
@@ -583,11 +584,11 @@ module _ (ids : List Id) (es : List Entity) (capacity : ℕ) (cs : List ColumnSt
     rows_room = shape.rows_room;
   }
     where
-      by_length : (b : Bool) (c : ColumnState) → length (if b then with_value c row v else c).values ≡ length c.values
+      by_length : (b : Bool) (c : ColumnState) → length (if b then column_with_value c row v else c).values ≡ length c.values
       by_length true c = length-set c.values row v
       by_length false c = refl
 
-      by_room : (b : Bool) (c : ColumnState) → (if b then with_value c row v else c).room ≡ c.room
+      by_room : (b : Bool) (c : ColumnState) → (if b then column_with_value c row v else c).room ≡ c.room
       by_room true c = refl
       by_room false c = refl
 
@@ -609,29 +610,30 @@ module _ (ids : List Id) (es : List Entity) (capacity : ℕ) (cs : List ColumnSt
           ∙ shape.even k d in_cs
 
   -- a value that is read
-  pub value_read : (row : ℕ) (i : Id) (r : Row) → row < length es → value_in (get_or (rows_of ids cs es) row r).held i ≡ value_in (held_in cs row) i
-  value_read row i r there = ap (λ (x : Row). value_in x.held i) (row_at row r.entity r there) ∙ held_value ids cs shape.kinds row i
+  pub value_read : (row : ℕ) (i : Id) (r : TableRow) → row < length es → value_in (get_or (rows_of ids cs es) row r).held i ≡ value_in (held_in cs row) i
+  value_read row i r there = ap (λ (x : TableRow). value_in x.held i) (row_at row r.entity r there) ∙ held_value ids cs shape.kinds row i
 
-  find_read : (row : ℕ) (i : Id) (r : Row) → row < length es
+  find_read : (row : ℕ) (i : Id) (r : TableRow) → row < length es
       → find id_cmp i (get_or (rows_of ids cs es) row r).held ≡ (if has_item id_cmp ids i then Some (value_in (held_in cs row) i) else None)
-  find_read row i r there = ap (λ (x : Row). find id_cmp i x.held) (row_at row r.entity r there) ∙ find-each (value_in (held_in cs row)) ids i
+  find_read row i r there = ap (λ (x : TableRow). find id_cmp i x.held) (row_at row r.entity r there) ∙ find-each (value_in (held_in cs row)) ids i
 
-  pub has_read : (row : ℕ) (i : Id) (r : Row) → row < length es → is_some (find id_cmp i (get_or (rows_of ids cs es) row r).held) ≡ has_item id_cmp ids i
+  pub has_read : (row : ℕ) (i : Id) (r : TableRow) → row < length es → is_some (find id_cmp i (get_or (rows_of ids cs es) row r).held) ≡ has_item id_cmp ids i
   has_read row i r there = ap is_some (find_read row i r there) ∙ by (has_item id_cmp ids i)
     where
       by : (b : Bool) → is_some (if b then Some (value_in (held_in cs row) i) else None) ≡ b
       by true = refl
       by false = refl
 
-  pub zeros_read : (row : ℕ) (i : Id) (r : Row) → row < length es → find id_cmp i (held_in cs row) ≡ None → has_item id_cmp ids i ≡ true
+  pub zeros_read : (row : ℕ) (i : Id) (r : TableRow) → row < length es → find id_cmp i (held_in cs row) ≡ None → has_item id_cmp ids i ≡ true
       → find id_cmp i (get_or (rows_of ids cs es) row r).held ≡ Some zeros
   zeros_read row i r there none has =
       find_read row i r there ∙ ap (λ b. if b then Some (value_in (held_in cs row) i) else None) has ∙ ap (λ o. Some (unwrap_or o zeros)) none
 
-  pub none_read : (row : ℕ) (i : Id) (r : Row) → row < length es → has_item id_cmp ids i ≡ false → find id_cmp i (get_or (rows_of ids cs es) row r).held ≡ None
+  pub none_read : (row : ℕ) (i : Id) (r : TableRow) → row < length es → has_item id_cmp ids i ≡ false
+      → find id_cmp i (get_or (rows_of ids cs es) row r).held ≡ None
   none_read row i r there none = find_read row i r there ∙ ap (λ b. if b then Some (value_in (held_in cs row) i) else None) none
 
-  pub found_read : (row : ℕ) (i : Id) (r : Row) (v : Value) → row < length es → find id_cmp i (held_in cs row) ≡ Some v
+  pub found_read : (row : ℕ) (i : Id) (r : TableRow) (v : Value) → row < length es → find id_cmp i (held_in cs row) ≡ Some v
       → find id_cmp i (get_or (rows_of ids cs es) row r).held ≡ Some v
   found_read row i r v there found =
       find_read row i r there

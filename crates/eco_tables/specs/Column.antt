@@ -29,20 +29,20 @@ abbrev pub contents : ColumnState → (Id × ℕ) × List Value
 contents c = ((c.id, c.width), c.values)
 
 -- the column with these values behind its own, in room that was reserved
-abbrev pub joined : ColumnState → List Value → ColumnState
-joined c vs = record { id = c.id; width = c.width; values = c.values ++ vs; room = c.room - length vs }
+abbrev pub lengthened : ColumnState → List Value → ColumnState
+lengthened c vs = record { id = c.id; width = c.width; values = c.values ++ vs; room = c.room - length vs }
 
 -- the column with one more value, in room that was reserved
 abbrev pub pushed : ColumnState → Value → ColumnState
-pushed c v = joined c (v ∷ [])
+pushed c v = lengthened c (v ∷ [])
 
 -- the column with this value in the row
-abbrev pub with_value : ColumnState → ℕ → Value → ColumnState
-with_value c row v = record { id = c.id; width = c.width; values = slice_set c.values row v; room = c.room }
+abbrev pub column_with_value : ColumnState → ℕ → Value → ColumnState
+column_with_value c row v = record { id = c.id; width = c.width; values = slice_set c.values row v; room = c.room }
 
 -- the column with a value in the row, where it is the id's
 abbrev pub written : ColumnState → ℕ → Id → Value → ColumnState
-written c row i v = if id_eq c.id i then with_value c row v else c
+written c row i v = if id_eq c.id i then column_with_value c row v else c
 
 -- the last value in the place of the row's
 abbrev pub with_removed : ColumnState → ℕ → ColumnState

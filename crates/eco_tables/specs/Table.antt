@@ -9,7 +9,7 @@ use Rattle.eco_ids.specs.Order.{id_cmp, has_item, is_ascending}
 use Rattle.eco_tables.specs.Column.{ColumnState, Fits, kind_of, held_in, retyped}
 
 -- an entity, and each id of the table's type with its value
-pub record Row : Type 0 where
+pub record TableRow : Type 0 where
   pub entity : Entity
   pub held : List (Id × Value)
 
@@ -17,7 +17,7 @@ pub record Row : Type 0 where
 pub record TableState : Type 0 where
   pub ids : List Id
   pub widths : List ℕ
-  pub rows : List Row
+  pub rows : List TableRow
   pub room : ℕ
 
 -- the table of this type without rows and room
@@ -43,16 +43,16 @@ abbrev pub Agree : TableState → TableState → Type 0
 Agree t u = (i : Id) (m n : ℕ) → width_in t i ≡ Some m → width_in u i ≡ Some n → m ≡ n
 
 -- the rows of these entities, from the row k of the columns on, with what the columns hold
-abbrev pub rows_from : List ColumnState → ℕ → List Entity → List Row
+abbrev pub rows_from : List ColumnState → ℕ → List Entity → List TableRow
 rows_from columns k [] = []
 rows_from columns k (e ∷ es) = record { entity = e; held = held_in columns k } ∷ rows_from columns (suc k) es
 
 -- the row under another type
-abbrev pub retyped_row : List Id → Row → Row
+abbrev pub retyped_row : List Id → TableRow → TableRow
 retyped_row ids r = record { entity = r.entity; held = retyped ids r.held }
 
 -- the rows of a table: an id without a column holds zeros
-abbrev pub rows_of : List Id → List ColumnState → List Entity → List Row
+abbrev pub rows_of : List Id → List ColumnState → List Entity → List TableRow
 rows_of ids columns entities = map (retyped_row ids) (rows_from columns 0 entities)
 
 -- how wide the columns of an id are, 0 where it has none
@@ -93,11 +93,11 @@ pub record HasShape (ids : List Id) (entities : List Entity) (capacity : ℕ) (c
   pub rows_room : length entities + room ≤ capacity
 
 -- the entities of rows, in their order
-abbrev pub entities_of : List Row → List Entity
+abbrev pub entities_of : List TableRow → List Entity
 entities_of rows = map (λ r. r.entity) rows
 
 -- each row has a value for each id of the type
-abbrev pub HasIds : List Id → Row → Type 0
+abbrev pub HasIds : List Id → TableRow → Type 0
 HasIds ids r = map (λ p. p.0) r.held ≡ ids
 
 -- each row of the table has a value for each id of its type

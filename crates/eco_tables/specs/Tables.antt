@@ -7,7 +7,7 @@ use Rattle.eco_ids.specs.declared.id.Id.{Id}
 use Rattle.eco_ids.specs.declared.value.Value.{Value}
 use Rattle.eco_ids.specs.Order.{id_eq}
 use Rattle.eco_tables.specs.Column.{with_held}
-use Rattle.eco_tables.specs.Table.{TableState, Row, retyped_row, width_in, RowsHaveIds}
+use Rattle.eco_tables.specs.Table.{TableState, TableRow, retyped_row, width_in, RowsHaveIds}
 
 -- the table in a slot, if there is one
 abbrev pub slot_of : List (Option TableState) → ℕ → Option TableState
@@ -18,7 +18,7 @@ abbrev pub no_table : TableState
 no_table = record { ids = []; widths = []; rows = []; room = 0 }
 
 -- what stands for a row where there is none
-abbrev pub no_row : Row
+abbrev pub no_row : TableRow
 no_row = record { entity = record { index = 0; generation = 0 }; held = [] }
 
 -- the table in a slot, one without ids, rows and room where there is none
@@ -26,11 +26,11 @@ abbrev pub table_in : List (Option TableState) → ℕ → TableState
 table_in slots n = unwrap_or (slot_of slots n) no_table
 
 -- a row of the table in a slot
-abbrev pub row_in : List (Option TableState) → ℕ → ℕ → Row
+abbrev pub row_in : List (Option TableState) → ℕ → ℕ → TableRow
 row_in slots n row = slice_index_or (table_in slots n).rows row no_row
 
 -- the new slots have this at n, and every other slot keeps what it had
-pub record Sets (old new : List (Option TableState)) (n : ℕ) (slot : Option TableState) : Type 0 where
+pub record SetsSlot (old new : List (Option TableState)) (n : ℕ) (slot : Option TableState) : Type 0 where
   pub changed : slot_of new n ≡ slot
   pub others : (m : ℕ) → m ≢ n → slot_of new m ≡ slot_of old m
 
@@ -48,10 +48,10 @@ AreCopies slots copies = (n : ℕ) → slot_of copies n ≡ without_room (slot_o
 
 -- the new slots have at n the same table with other room, and every other slot keeps what it had
 abbrev pub SetsRoom : List (Option TableState) → List (Option TableState) → ℕ → Type 0
-SetsRoom old new n = Sets old new n (Some (with_room (table_in old n) (table_in new n).room))
+SetsRoom old new n = SetsSlot old new n (Some (with_room (table_in old n) (table_in new n).room))
 
 -- the row with this value at the id, where it has the id
-abbrev pub row_with : Row → Id → Value → Row
+abbrev pub row_with : TableRow → Id → Value → TableRow
 row_with r i v = record { entity = r.entity; held = with_held r.held i v }
 
 -- the table with this value at the id in the row
@@ -59,15 +59,15 @@ abbrev pub with_written : TableState → ℕ → Id → Value → TableState
 with_written t row i v = record t { rows = slice_set t.rows row (row_with (slice_index_or t.rows row no_row) i v) }
 
 -- the row of an entity that nothing is known of but zeros
-abbrev pub new_row : Entity → Row
+abbrev pub new_row : Entity → TableRow
 new_row e = record { entity = e; held = [] }
 
 -- the table with the rows at its end, under its own type
-abbrev pub with_rows : TableState → List Row → TableState
+abbrev pub with_rows : TableState → List TableRow → TableState
 with_rows t rs = record t { rows = t.rows ++ map (retyped_row t.ids) rs; room = t.room - length rs }
 
 -- the table with the row at its end, under its own type
-abbrev pub with_row : TableState → Row → TableState
+abbrev pub with_row : TableState → TableRow → TableState
 with_row t r = with_rows t (r ∷ [])
 
 -- the table without the row, whose place the last one takes; the room of one row is won
@@ -92,7 +92,7 @@ turned t ids i w = record {
 }
 
 -- the type, where these rows are none
-abbrev pub rowless : TableState → List Row → Option (List Id)
+abbrev pub rowless : TableState → List TableRow → Option (List Id)
 rowless t [] = Some t.ids
 rowless t (r ∷ rest) = None
 

@@ -6,12 +6,12 @@ use Rattle.eco_tables.specs.declared.values.Values.{Values}
 use Rattle.eco_tables.specs.declared.values.Values.TheVariants.{One, Two, Three, Four, Five, Six, Seven, Eight}
 
 -- the whole values
-abbrev pub shown : Values → List Value
-shown (One v) = map padded v.now
-shown (Two v) = map padded v.now
-shown (Three v) = map padded v.now
-shown (Four v) = map padded v.now
-shown (Five v) = map padded v.now
-shown (Six v) = map padded v.now
-shown (Seven v) = map padded v.now
-shown (Eight v) = map padded v.now
+abbrev pub whole_values : Values → List Value
+whole_values (One v) = map padded v.now
+whole_values (Two v) = map padded v.now
+whole_values (Three v) = map padded v.now
+whole_values (Four v) = map padded v.now
+whole_values (Five v) = map padded v.now
+whole_values (Six v) = map padded v.now
+whole_values (Seven v) = map padded v.now
+whole_values (Eight v) = map padded v.now

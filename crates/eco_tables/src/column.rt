@@ -2,8 +2,8 @@
 ghost use Rattle.std.specs.Prelude.{◌≡◌, ◌<◌, ◌≤◌, ◌+◌, ◌-◌, ◌++◌, ◌^◌, [], length, map, take, replicate, vec_len, vec_capacity, slice_index_or, ◌∷◌, OnOk, IfOk, ◌↔◌, IsTrue};
 ghost use Rattle.std.specs.List.{swap_remove};
 ghost use Rattle.eco_ids.specs.World.{padded, zeros};
-ghost use Rattle.eco_tables.specs.Column.{ColumnState, Fits, kind_of, pushed, joined, with_removed, with_value, emptied, contents};
-ghost use Rattle.eco_tables.specs.Values.{shown};
+ghost use Rattle.eco_tables.specs.Column.{ColumnState, Fits, kind_of, pushed, lengthened, with_removed, column_with_value, emptied, contents};
+ghost use Rattle.eco_tables.specs.Values.{whole_values};
 ghost use Rattle.eco_tables.specs.Fields.{width_of, values_of};
 
 use crate::values::Values;
@@ -261,7 +261,7 @@ impl Column {
 
     /// The values, to read in a row.
     pub fn values(&self) -> Values<'_>
-        ensures { shown result ≡ self.now.values }
+        ensures { whole_values result ≡ self.now.values }
     {
         of_same_width!(Values, &self.fields, |rows| rows.as_slice())
     }
@@ -301,7 +301,7 @@ impl Column {
     pub fn join_zeros(&mut self, count: usize)
         requires { count ≤ self.old.room }
         ensures values { self.new ≡
-            record (joined self.old (replicate count zeros)) { room = self.new.room } }
+            record (lengthened self.old (replicate count zeros)) { room = self.new.room } }
         ensures room { self.old.room ≤ self.new.room + count }
     {
         at_each_width!(&mut self.fields, |rows| join_zeros(rows, count))
@@ -311,7 +311,7 @@ impl Column {
     pub fn join(&mut self, source: &Column)
         requires room { length source.now.values ≤ self.old.room }
         requires width { self.old.width ≡ source.now.width }
-        ensures values { self.new ≡ record (joined self.old source.now.values) { room = self.new.room } }
+        ensures values { self.new ≡ record (lengthened self.old source.now.values) { room = self.new.room } }
         ensures room { self.old.room ≤ self.new.room + length source.now.values }
     {
         at_equal_widths!(
@@ -336,7 +336,7 @@ impl Column {
     pub fn write(&mut self, row: usize, value: Value)
         requires row { row < length self.old.values }
         requires fits { Fits self.old.width value }
-        ensures { self.new ≡ with_value self.old row value }
+        ensures { self.new ≡ column_with_value self.old row value }
     {
         at_each_width!(&mut self.fields, |rows| rows[row] = narrowed(value))
     }

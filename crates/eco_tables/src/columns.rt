@@ -6,7 +6,7 @@ ghost use Rattle.std.specs.Ordering.{is_lt};
 ghost use Rattle.eco_ids.specs.declared.value.TheConstants.{FIELD_COUNT};
 ghost use Rattle.eco_ids.specs.World.{zeros};
 ghost use Rattle.eco_ids.specs.Order.{id_cmp, id_eq, has_item, is_ascending};
-ghost use Rattle.eco_tables.specs.Column.{Fits, pushed, joined, emptied, with_removed, written, held_in, value_in, contents, kind_of, with_column, without_column};
+ghost use Rattle.eco_tables.specs.Column.{Fits, pushed, lengthened, emptied, with_removed, written, held_in, value_in, contents, kind_of, with_column, without_column};
 ghost use Rattle.eco_tables.specs.Table.{ColumnsAgree, kinds_of, rows_from};
 
 use crate::column::Column;
@@ -242,7 +242,7 @@ pub fn join_all(columns: &mut [Column], source: &[Column], entities: &[Entity])
     requires even { All (λ c. length c.values ≡ length entities.now) source.now }
     requires widths { ColumnsAgree columns.old source.now }
     ensures same { map contents columns.new ≡ map contents
-        (map (λ c. joined c (map (λ r. value_in r.held c.id) (rows_from source.now 0 entities.now)))
+        (map (λ c. lengthened c (map (λ r. value_in r.held c.id) (rows_from source.now 0 entities.now)))
         columns.old) }
     ensures kept { (b : ℕ) →
         All (λ c. b + length entities.now ≤ c.room) columns.old → All (λ c. b ≤ c.room) columns.new }

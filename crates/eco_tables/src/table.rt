@@ -7,10 +7,10 @@ ghost use Rattle.eco_ids.specs.Order.{id_cmp, has_item};
 ghost use Rattle.eco_ids.specs.declared.value.TheConstants.{FIELD_COUNT};
 ghost use Rattle.eco_ids.specs.World.{zeros};
 ghost use Rattle.eco_tables.specs.Column.{value_in, with_held, retyped};
-ghost use Rattle.eco_tables.specs.Table.{TableState, Row, entities_of, HasIds, Agree, FitsId, width_in, empty_table};
+ghost use Rattle.eco_tables.specs.Table.{TableState, TableRow, entities_of, HasIds, Agree, FitsId, width_in, empty_table};
 ghost use Rattle.eco_tables.specs.Kept.{IsUnkept};
 ghost use Rattle.eco_tables.specs.Tables.{cleared, new_row, no_row, with_room, with_row, with_rows, with_written, without_row, without_rows};
-ghost use Rattle.eco_tables.specs.Values.{shown};
+ghost use Rattle.eco_tables.specs.Values.{whole_values};
 
 use crate::column::Column;
 use crate::columns::{
@@ -134,7 +134,7 @@ impl Table {
     /// The values of an id, row by row. None where the id has no column: then its value is zeros in each row whose type has
     /// the id.
     pub fn values(&self, id: Id) -> Option<Values<'_>>
-        ensures shown { IfSome result (λ v. shown v ≡ map (λ r. value_in r.held id) self.now.rows) }
+        ensures shown { IfSome result (λ v. whole_values v ≡ map (λ r. value_in r.held id) self.now.rows) }
         ensures kept { is_some result ≡ nat_lt 0 (unwrap_or (width_in self.now id) 0) }
     {
         let place = find_column(self.columns.as_slice(), id)?;
@@ -144,7 +144,7 @@ impl Table {
     /// The value of an id in a row, zeros where the type lacks the id.
     pub fn value(&self, row: usize, id: Id) -> Value
         requires { row < length self.now.rows }
-        ensures { (r : Row) → result ≡ value_in (slice_index_or self.now.rows row r).held id }
+        ensures { (r : TableRow) → result ≡ value_in (slice_index_or self.now.rows row r).held id }
     {
         find_value(self.columns.as_slice(), row, id).unwrap_or(Value::ZERO)
     }
@@ -152,7 +152,7 @@ impl Table {
     /// The value of an id in a row, if the type has the id.
     pub fn find_value(&self, row: usize, id: Id) -> Option<Value>
         requires { row < length self.now.rows }
-        ensures { (r : Row) → result ≡ find id_cmp id (slice_index_or self.now.rows row r).held }
+        ensures { (r : TableRow) → result ≡ find id_cmp id (slice_index_or self.now.rows row r).held }
     {
         match find_value(self.columns.as_slice(), row, id) {
             Some(value) => Some(value),
@@ -167,7 +167,7 @@ impl Table {
     pub fn kept_value(&self, row: usize, id: Id) -> Option<Value>
         requires { row < length self.now.rows }
         ensures { MatchOption result (IsUnkept self.now row id)
-            (λ v. (r : Row) → find id_cmp id (slice_index_or self.now.rows row r).held ≡ Some v) }
+            (λ v. (r : TableRow) → find id_cmp id (slice_index_or self.now.rows row r).held ≡ Some v) }
     {
         let place = find_column(self.columns.as_slice(), id)?;
         Some(self.columns[place].value(row))

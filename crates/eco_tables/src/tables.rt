@@ -6,8 +6,8 @@ ghost use Rattle.eco_ids.specs.Order.{id_cmp};
 ghost use Rattle.eco_tables.specs.Column.{value_in, with_held};
 ghost use Rattle.std.specs.List.{All};
 ghost use Rattle.std.specs.Slice.Iter.{iter_rest};
-ghost use Rattle.eco_tables.specs.Table.{TableState, Row, entities_of, empty_table, Agree, FitsId, RowsHaveIds};
-ghost use Rattle.eco_tables.specs.Tables.{slot_of, table_in, row_in, no_row, Sets, SetsRoom, Moves, MovesAll, cleared, new_row, with_room, with_row, with_rows, with_written, without_row, without_rows, no_table, rowless_type, AllHaveIds};
+ghost use Rattle.eco_tables.specs.Table.{TableState, TableRow, entities_of, empty_table, Agree, FitsId, RowsHaveIds};
+ghost use Rattle.eco_tables.specs.Tables.{slot_of, table_in, row_in, no_row, SetsSlot, SetsRoom, Moves, MovesAll, cleared, new_row, with_room, with_row, with_rows, with_written, without_row, without_rows, no_table, rowless_type, AllHaveIds};
 
 use crate::table::Table;
 use eco_ids::{Entity, Id, TypeList, Value};
@@ -75,7 +75,8 @@ impl Tables {
         requires lengths { length type_list ≡ length widths.now }
         requires widths { All (λ w. w ≤ FIELD_COUNT) widths.now }
         ensures vacant { IfOk result (λ n. slot_of self.old n ≡ None) }
-        ensures sets { IfOk result (λ n. Sets self.old self.new n (Some (empty_table type_list widths.now))) }
+        ensures sets { IfOk result (λ n. SetsSlot self.old self.new n
+            (Some (empty_table type_list widths.now))) }
         ensures err { OnErr result (self.new ≡ self.old) }
     {
         let table = Table::new(self.alloc, type_list, widths)?;
@@ -93,7 +94,7 @@ impl Tables {
         requires full { count_by is_some self.old ≡ length self.old }
         requires rows { RowsHaveIds table }
         ensures vacant { IfOk result (λ n. slot_of self.old n ≡ None) }
-        ensures sets { IfOk result (λ n. Sets self.old self.new n (Some table)) }
+        ensures sets { IfOk result (λ n. SetsSlot self.old self.new n (Some table)) }
         ensures err { OnErr result (self.new ≡ self.old) }
     {
         let slot = self.slots.len();
@@ -150,7 +151,7 @@ impl Tables {
     /// Drops the table in a slot if it has no rows, and answers its type. Any other slot stays as it is.
     pub fn drop_empty(&mut self, slot: usize) -> Option<TypeList>
         ensures answer { result ≡ rowless_type (slot_of self.old slot) }
-        ensures dropped { OnSome result (Sets self.old self.new slot None) }
+        ensures dropped { OnSome result (SetsSlot self.old self.new slot None) }
         ensures kept { IfNone result (self.new ≡ self.old) }
     {
         if !self.is_rowless(slot) {
@@ -218,7 +219,7 @@ impl Tables {
     /// Takes the promise of room in a table back. Its memory stays.
     pub fn waive(&mut self, slot: usize)
         requires { IsSome (slot_of self.old slot) }
-        ensures { Sets self.old self.new slot (Some (with_room (table_in self.old slot) 0)) }
+        ensures { SetsSlot self.old self.new slot (Some (with_room (table_in self.old slot) 0)) }
     {
         let Some(table) = &mut self.slots[slot] else {
             unreachable!()
@@ -231,7 +232,7 @@ impl Tables {
     pub fn set_value(&mut self, slot: usize, row: usize, id: Id, value: Value) -> bool
         requires row { row < length (table_in self.old slot).rows }
         requires fits { FitsId (table_in self.old slot) id value }
-        ensures written { Sets self.old self.new slot
+        ensures written { SetsSlot self.old self.new slot
             (Some (with_written (table_in self.old slot) row id value)) }
         ensures had { result ≡ is_some (find id_cmp id (row_in self.old slot row).held) }
     {
@@ -244,7 +245,8 @@ impl Tables {
     /// A row for a new entity, with zeros, in room that was reserved.
     pub fn push_row(&mut self, slot: usize, entity: Entity)
         requires { 0 < (table_in self.old slot).room }
-        ensures { Sets self.old self.new slot (Some (with_row (table_in self.old slot) (new_row entity))) }
+        ensures { SetsSlot self.old self.new slot
+            (Some (with_row (table_in self.old slot) (new_row entity))) }
     {
         let Some(table) = &mut self.slots[slot] else {
             unreachable!()
@@ -256,7 +258,7 @@ impl Tables {
     /// the last.
     pub fn swap_out(&mut self, slot: usize, row: usize) -> Option<Entity>
         requires { row < length (table_in self.old slot).rows }
-        ensures rows { Sets self.old self.new slot (Some (without_row (table_in self.old slot) row)) }
+        ensures rows { SetsSlot self.old self.new slot (Some (without_row (table_in self.old slot) row)) }
         ensures moved { result ≡ slice_get (entities_of (table_in self.new slot).rows) row }
     {
         let Some(table) = &mut self.slots[slot] else {
@@ -268,7 +270,7 @@ impl Tables {
     /// All rows of a table go, and their room is won. The table stays, and so does its memory. It takes no memory.
     pub fn clear(&mut self, slot: usize)
         requires { IsSome (slot_of self.old slot) }
-        ensures { Sets self.old self.new slot (Some (cleared (table_in self.old slot))) }
+        ensures { SetsSlot self.old self.new slot (Some (cleared (table_in self.old slot))) }
     {
         let Some(table) = &mut self.slots[slot] else {
             unreachable!()

@@ -22,7 +22,7 @@ use Rattle.eco_ids.proofs.SetLaws.{joins_with}
 use Rattle.eco_traits.specs.Closure.{BringNoMore, HasGiven, LacksWith, gives, head_of, with_head}
 use Rattle.eco_traits.specs.Target.{target_by_pair, type_of_entity}
 use Rattle.eco_traits.proofs.Closures.{closure_to_reach, own_head, reach_to_closure}
-use Rattle.eco_traits.specs.Prospect.{is_with}
+use Rattle.eco_traits.specs.Prospect.{is_pair_of_with}
 use Rattle.eco_traits.proofs.Traits.{member, not_so, with_among}
 use Rattle.eco_traits.proofs.Walks.{has_listed}
 
@@ -72,9 +72,9 @@ keeps_given i ids traits k d o l is has j =
 
 -- where the entity has no pair of With, none is among its ids
 pub none_with : (w : WorldState) (i : Id) (traits : List Id) → Some traits ≡ type_of_entity w (head_of i) → LacksWith w (head_of i)
-    → list_any is_with traits ≡ false
+    → list_any is_pair_of_with traits ≡ false
 none_with w i traits own none =
-    not_so (list_any is_with traits) (λ h. let pair = (with_among traits (list_any is_with traits) refl).0 h in
+    not_so (list_any is_pair_of_with traits) (λ h. let pair = (with_among traits (list_any is_pair_of_with traits) refl).0 h in
     true≢false (sym (has_listed w (head_of i) (Two WITH pair.0) traits own ∙ pair.1) ∙ none pair.0))
 
 -- ---- all of them

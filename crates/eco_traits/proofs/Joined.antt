@@ -22,7 +22,7 @@ use Rattle.eco_ids.proofs.Facts.{to_T, or_right, id_eq_is, id_eq_itself}
 use Rattle.eco_ids.proofs.IdOrder.{id_cmp_total, same_id}
 use Rattle.eco_ids.proofs.Members.{same_members}
 use Rattle.eco_ids.proofs.SetLaws.{joins_with}
-use Rattle.eco_traits.specs.Target.{ExtendsTo, LeadsTo, type_of_record}
+use Rattle.eco_traits.specs.Target.{ExtendsTo, AddLeadsTo, type_of_record}
 
 -- ---- the ids of what is held
 
@@ -130,15 +130,15 @@ some_record (Some d) ids e = (d, refl, ap (λ o. unwrap_or o ids) e)
 
 -- the entity has the id
 pub has_already : (w : WorldState) (e : Entity) (i : Id) (own all : List Id) → names_living w i ≡ true → has w e i ≡ true
-    → Some own ≡ option_map type_of_record (record_of w e) → all ≡ own → LeadsTo w e i (Ok all)
+    → Some own ≡ option_map type_of_record (record_of w e) → all ≡ own → AddLeadsTo w e i (Ok all)
 has_already w e i own all lives there owns is = grind (arith, common_steps, some_record)
 
 -- it lacks the id
 pub lacked : (w : WorldState) (e : Entity) (i : Id) (r : Result (List Id) Refusal) → names_living w i ≡ true → has w e i ≡ false → ExtendsTo w e i r
-    → LeadsTo w e i r
+    → AddLeadsTo w e i r
 lacked w e i r lives absent extends = grind (arith, common_steps)
 
 pub leads_to : (w : WorldState) (e : Entity) (i : Id) (s own kept all : List Id) (verdict : Option Refusal) → names_living w i ≡ true → has w e i ≡ false
     → IsClosure w i s → Judges w e s (grown w e i s) verdict → verdict ≡ None → Some own ≡ option_map type_of_record (record_of w e) → IsTrue (is_ascending id_cmp own)
-    → kept ≡ filter (λ j. not (is_replaced w s j)) own → all ≡ fold (with_item id_cmp) kept s → LeadsTo w e i (Ok all)
+    → kept ≡ filter (λ j. not (is_replaced w s j)) own → all ≡ fold (with_item id_cmp) kept s → AddLeadsTo w e i (Ok all)
 leads_to w e i s own kept all verdict lives absent closure judges none owns up is_kept is_all = search (rules, some_record, type_with, lacked)

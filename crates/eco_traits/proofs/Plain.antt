@@ -25,7 +25,7 @@ use Rattle.eco_ids.proofs.Facts.{or_parts}
 use Rattle.eco_ids.proofs.Overlaps.{entity_eq_is, entity_eq_itself}
 use Rattle.eco_traits.proofs.Members.{only}
 use Rattle.eco_traits.proofs.Traits.{not_so}
-use Rattle.eco_traits.specs.Target.{BringsNone, IsPlain, IsSound, LeadsTo, ties, type_of_record}
+use Rattle.eco_traits.specs.Target.{BringsNone, IsPlain, IsSound, AddLeadsTo, ties, type_of_record}
 use Rattle.eco_traits.proofs.Closures.{closure_alone}
 use Rattle.eco_traits.proofs.Joined.{leads_to, some_record}
 use Rattle.eco_traits.proofs.Verdicts.{judged_cycle}
@@ -157,7 +157,7 @@ unopposed w e (Two r t) ids d at lives sound own plain =
 pub plain_leads_to : (w : WorldState) (e : Entity) (i : Id) (ids own all : List Id) → names_living w i ≡ true → has w e i ≡ false → IsSound w → AreTraitsOf w i ids
     → IsPlain w.edition i ids
     → Some own ≡ option_map type_of_record (record_of w e) → IsTrue (is_ascending id_cmp own) → all ≡ with_item id_cmp own i
-    → LeadsTo w e i (Ok all)
+    → AddLeadsTo w e i (Ok all)
 plain_leads_to w e i ids own all lives absent sound traits plain owns up is_all =
     let d = some_record (record_of w e) own owns in
     leads_to w e i (i ∷ []) own own all None lives absent (plain_alone w i ids traits plain) (unopposed w e i ids d.0 d.1 lives sound traits plain) refl owns up

@@ -17,7 +17,7 @@ use Rattle.eco_ids.proofs.Facts.{id_eq_is, id_eq_itself, same_or_apart}
 use Rattle.eco_ids.proofs.Gains.{same_relationship}
 use Rattle.eco_ids.proofs.IdOrder.{same_id}
 use Rattle.eco_ids.proofs.Overlaps.{entity_eq_is, entity_eq_itself}
-use Rattle.eco_traits.specs.Target.{BringsNone, IsSound, Replaces, spared, ties, type_of_record}
+use Rattle.eco_traits.specs.Target.{BringsNone, IsSound, Replaces, without_replaced, ties, type_of_record}
 use Rattle.eco_traits.proofs.Joined.{leads_to}
 use Rattle.eco_traits.proofs.Members.{only, same_truth}
 use Rattle.eco_traits.proofs.Plain.{alone_judged, comes_alone, pair_calm, pair_late}
@@ -142,11 +142,12 @@ module _ (w : WorldState) (r t : Entity) (traits : List Id) (are : Some traits �
       → Some own ≡ option_map type_of_record (record_of w e) → IsTrue (is_ascending id_cmp own)
       → IsSound w → ties w own r t ≡ false
       → is_wrong_policy (Two r t) ≡ false → BringsNone traits → (IsTrue (has_item id_cmp traits (One ACYCLIC)) → Reaches w r t e → ⊥)
-      → spared replaced own ≡ filter (λ i. not (exclusive && is_pair_of r i)) own
+      → without_replaced replaced own ≡ filter (λ i. not (exclusive && is_pair_of r i)) own
       → Replaces w e (Two r t) own replaced
   replaces e own replaced lives absent owns up sound free policy brings no_walk left =
       let closure = comes_alone w (Two r t) traits are brings in
-      leads_to w e (Two r t) (Two r t ∷ []) own (spared replaced own) (with_item id_cmp (spared replaced own) (Two r t)) None lives absent closure
+      leads_to w e (Two r t) (Two r t ∷ []) own (without_replaced replaced own)
+      (with_item id_cmp (without_replaced replaced own) (Two r t)) None lives absent closure
       (alone_judged w e (Two r t) (ap (λ b. b || false) policy) (pair_late w e r t)
       (λ q closes.
       let pair = only same_id (Two r t) (Two q closes.1) closes.2 in

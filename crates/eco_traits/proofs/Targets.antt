@@ -5,7 +5,7 @@ use Rattle.eco_ids.specs.declared.id.Id.{Id}
 use Rattle.eco_ids.specs.Order.{id_cmp, is_ascending, with_item}
 use Rattle.eco_ids.specs.World.{WorldState, has, names_living}
 use Rattle.eco_traits.specs.declared.target.Target.TheVariants.{Own, With}
-use Rattle.eco_traits.specs.Target.{FindsTarget, IsPlain, IsSound, LeadsTo, type_of_entity}
+use Rattle.eco_traits.specs.Target.{FindsTarget, IsPlain, IsSound, AddLeadsTo, type_of_entity}
 use Rattle.eco_traits.proofs.Joined.{has_already}
 use Rattle.eco_traits.proofs.Plain.{AreTraitsOf, plain_leads_to}
 
@@ -15,10 +15,10 @@ module _ (w : WorldState) (e : Entity) (i : Id) (own : List Id) (lives : names_l
 
   -- the id is there
   pub own_target : has w e i ≡ true → FindsTarget w e i (Ok Own)
-  own_target there = subst (λ ids. LeadsTo w e i (Ok ids)) own_is (has_already w e i own own lives there owns refl)
+  own_target there = subst (λ ids. AddLeadsTo w e i (Ok ids)) own_is (has_already w e i own own lives there owns refl)
 
   -- it comes alone
   pub plain_target : (ids : List Id) → has w e i ≡ false → IsSound w → AreTraitsOf w i ids → IsPlain w.edition i ids → IsTrue (is_ascending id_cmp own) → FindsTarget w e i (Ok With)
   plain_target ids absent sound traits plain up =
-      subst (λ all. LeadsTo w e i (Ok (with_item id_cmp all i))) own_is
+      subst (λ all. AddLeadsTo w e i (Ok (with_item id_cmp all i))) own_is
       (plain_leads_to w e i ids own (with_item id_cmp own i) lives absent sound traits plain owns up refl)

@@ -31,7 +31,7 @@ use Rattle.eco_ids.proofs.Ascending.{first, second}
 use Rattle.eco_ids.proofs.Facts.{or_parts, or_right, id_eq_is}
 use Rattle.eco_ids.proofs.IdOrder.{entity_cmp_total}
 use Rattle.eco_traits.proofs.Members.{only, has_get, has_append, same_truth}
-use Rattle.eco_traits.specs.Target.{ClosesBy, FindsType, IsClosedBy, IsSound, LeadsTo, extended_by, left_by, type_of_record}
+use Rattle.eco_traits.specs.Target.{ClosesBy, FindsType, IsClosedBy, IsSound, AddLeadsTo, extended_by, left_by, type_of_record}
 use Rattle.eco_traits.proofs.Joined.{lacked, leads_to, some_record}
 
 -- ---- ascending ids
@@ -170,7 +170,7 @@ target_any w e b exact = same_truth b (list_any (λ p. has w p.0 (Two WITH e)) (
 pub judged_refuses : (w : WorldState) (e : Entity) (i : Id) (s : List Id) (why : Refusal) → names_living w i ≡ true → has w e i ≡ false → IsClosure w i s
     → Judges w e s (grown w e i s) (Some why) → FindsType w e i (Err why)
 judged_refuses w e i s why lives absent closure judges =
-    elim (is_out_of_memory {A = List Id} (Err why)) as (λ b. MatchBool b (IsTrue (names_living w i)) (LeadsTo w e i (Err why))) [
+    elim (is_out_of_memory {A = List Id} (Err why)) as (λ b. MatchBool b (IsTrue (names_living w i)) (AddLeadsTo w e i (Err why))) [
       | true ↦ lives
       | false ↦ lacked w e i (Err why) lives absent (s, closure, Some why, judges, refl)
     ]
@@ -178,6 +178,6 @@ judged_refuses w e i s why lives absent closure judges =
 -- a closure that nothing stands against leads to the type that has it
 pub judged_leads : (w : WorldState) (e : Entity) (i : Id) (s own all : List Id) (verdict : Option Refusal) → names_living w i ≡ true → has w e i ≡ false →
     IsClosure w i s → Judges w e s (grown w e i s) verdict → verdict ≡ None → Some own ≡ option_map type_of_record (record_of w e) →
-    IsTrue (is_ascending id_cmp own) → all ≡ extended_by w s own → LeadsTo w e i (Ok all)
+    IsTrue (is_ascending id_cmp own) → all ≡ extended_by w s own → AddLeadsTo w e i (Ok all)
 judged_leads w e i s own all verdict lives absent closure judges none owns up is_all =
     leads_to w e i s own (left_by w s own) all verdict lives absent closure judges none owns up refl is_all

@@ -15,9 +15,9 @@ use Rattle.eco_traits.specs.declared.target.Target.TheVariants.{With}
 use Rattle.eco_traits.specs.Target.{FindsTarget}
 
 -- a pair of With
-abbrev pub is_with : Id → Bool
-is_with (One c) = false
-is_with (Two r t) = entity_eq r WITH
+abbrev pub is_pair_of_with : Id → Bool
+is_pair_of_with (One c) = false
+is_pair_of_with (Two r t) = entity_eq r WITH
 
 -- an id that says how pairs behave: Exclusive, Acyclic, Symmetric where the edition has it, or a pair of With
 abbrev pub is_trait : Edition → Id → Bool

@@ -88,8 +88,8 @@ abbrev pub IsSound : WorldState → Type 0
 IsSound w = IsTrue (has_symmetric w.edition) → IsLawful w
 
 -- the type that e has once the closure s came to it
-abbrev pub IsTypeWith : WorldState → Entity → List Id → Result (List Id) Refusal → Type 0
-IsTypeWith w e s r = (d : Record) × (record_of w e ≡ Some d) × (r ≡ Ok (type_of_record (with_closure w s d)))
+abbrev pub IsTypeAfter : WorldState → Entity → List Id → Result (List Id) Refusal → Type 0
+IsTypeAfter w e s r = (d : Record) × (record_of w e ≡ Some d) × (r ≡ Ok (type_of_record (with_closure w s d)))
 
 -- the type that e has
 abbrev pub IsOwnType : WorldState → Entity → Result (List Id) Refusal → Type 0
@@ -99,21 +99,21 @@ IsOwnType w e r = (d : Record) × (record_of w e ≡ Some d) × (r ≡ Ok (type_
 abbrev pub ExtendsTo : WorldState → Entity → Id → Result (List Id) Refusal → Type 0
 ExtendsTo w e i r =
     (s : List Id) × IsClosure w i s × (verdict : Option Refusal) × Judges w e s (grown w e i s) verdict
-    × MatchOption verdict (IsTypeWith w e s r) (λ why. r ≡ Err why)
+    × MatchOption verdict (IsTypeAfter w e s r) (λ why. r ≡ Err why)
 
 -- an add of i to e leads to a type, or something stands against it: an entity in the id that isn't living; e has its own
 -- type where it has the id already, and else what stands against the whole closure counts
-abbrev pub LeadsTo : WorldState → Entity → Id → Result (List Id) Refusal → Type 0
-LeadsTo w e i r = MatchBool (names_living w i) (MatchBool (has w e i) (IsOwnType w e r) (ExtendsTo w e i r)) (r ≡ Err DeadId)
+abbrev pub AddLeadsTo : WorldState → Entity → Id → Result (List Id) Refusal → Type 0
+AddLeadsTo w e i r = MatchBool (names_living w i) (MatchBool (has w e i) (IsOwnType w e r) (ExtendsTo w e i r)) (r ≡ Err DeadId)
 
 -- the answer is that type or that refusal, or memory was wanting, which is asked for only once each entity in the id lives
 abbrev pub FindsType : WorldState → Entity → Id → Result (List Id) Refusal → Type 0
-FindsType w e i r = MatchBool (is_out_of_memory r) (IsTrue (names_living w i)) (LeadsTo w e i r)
+FindsType w e i r = MatchBool (is_out_of_memory r) (IsTrue (names_living w i)) (AddLeadsTo w e i r)
 
 -- the ids without the one that is replaced, if one is
-abbrev pub spared : Option Id → List Id → List Id
-spared None ids = ids
-spared (Some old) ids = without_item id_cmp ids old
+abbrev pub without_replaced : Option Id → List Id → List Id
+without_replaced None ids = ids
+without_replaced (Some old) ids = without_item id_cmp ids old
 
 -- the one that is replaced is among the ids, if one is
 abbrev pub IsAmong : List Id → Option Id → Type 0
@@ -122,7 +122,7 @@ IsAmong ids (Some old) = has_item id_cmp ids old ≡ true
 
 -- an add of i to e, which has these ids, leads to them with i in the place of the one that is replaced, if one is
 abbrev pub Replaces : WorldState → Entity → Id → List Id → Option Id → Type 0
-Replaces w e i own replaced = LeadsTo w e i (Ok (with_item id_cmp (spared replaced own) i))
+Replaces w e i own replaced = AddLeadsTo w e i (Ok (with_item id_cmp (without_replaced replaced own) i))
 
 -- the type that a target stands for, where an id comes to these
 abbrev pub type_meant : List Id → Id → Target → List Id
@@ -132,11 +132,11 @@ type_meant own i (Instead old) = with_item id_cmp (without_item id_cmp own old) 
 type_meant own i (Other ids) = ids
 
 -- the target is the entity's own type
-abbrev pub is_own : Target → Bool
-is_own Own = true
-is_own With = false
-is_own (Instead old) = false
-is_own (Other ids) = false
+abbrev pub is_own_type : Target → Bool
+is_own_type Own = true
+is_own_type With = false
+is_own_type (Instead old) = false
+is_own_type (Other ids) = false
 
 -- an id that gives its place up is one that e has
 abbrev pub TakesOwn : WorldState → Entity → Target → Type 0

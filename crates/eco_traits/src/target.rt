@@ -9,7 +9,7 @@ ghost use Rattle.eco_ids.specs.Step as step;
 ghost use Rattle.eco_ids.specs.World as world;
 ghost use Rattle.eco_traits.specs.Closure.{head_of};
 ghost use Rattle.eco_ids.specs.Traits.{Reaches};
-ghost use Rattle.eco_traits.specs.Target.{FindsTarget, FindsType, is_own, IsAmong, IsSound, TakesOwn, Replaces, extended_by, left_by, spared, ties, type_of_entity};
+ghost use Rattle.eco_traits.specs.Target.{FindsTarget, FindsType, is_own_type, IsAmong, IsSound, TakesOwn, Replaces, extended_by, left_by, without_replaced, ties, type_of_entity};
 
 use crate::holdings::Holdings;
 use crate::implied::{brings_any, closure_by, head_of};
@@ -58,7 +58,7 @@ pub fn target_type<H: Holdings>(
     requires alive { IsTrue (lives (H.world holdings.now) entity) }
     requires sound { IsSound (H.world holdings.now) }
     ensures target { FindsTarget (H.world holdings.now) entity id result }
-    ensures own { IfOk result (λ target. is_own target ≡ has (H.world holdings.now) entity id) }
+    ensures own { IfOk result (λ target. is_own_type target ≡ has (H.world holdings.now) entity id) }
     ensures there { IfOk result (TakesOwn (H.world holdings.now) entity) }
     ensures memory { IsTrue (is_out_of_memory result) → has (H.world holdings.now) entity id ≡ false }
 {
@@ -84,7 +84,7 @@ pub fn open_target<H: Holdings>(
     requires absent { has (H.world holdings.now) entity id ≡ false }
     requires sound { IsSound (H.world holdings.now) }
     ensures target { FindsTarget (H.world holdings.now) entity id result }
-    ensures own { IfOk result (λ target. is_own target ≡ has (H.world holdings.now) entity id) }
+    ensures own { IfOk result (λ target. is_own_type target ≡ has (H.world holdings.now) entity id) }
     ensures there { IfOk result (TakesOwn (H.world holdings.now) entity) }
 {
     let own = holdings.type_of(entity).unwrap();
@@ -109,7 +109,7 @@ fn new_target<H: Holdings>(
     requires own { Some own.now ≡ type_of_entity (H.world holdings.now) entity }
     requires traits { Some traits.now ≡ type_of_entity (H.world holdings.now) (head_of added) }
     ensures target { FindsTarget (H.world holdings.now) entity added result }
-    ensures own { IfOk result (λ target. is_own target ≡ has (H.world holdings.now) entity added) }
+    ensures own { IfOk result (λ target. is_own_type target ≡ has (H.world holdings.now) entity added) }
     ensures there { IfOk result (TakesOwn (H.world holdings.now) entity) }
 {
     let Some(replaced) = short_way(holdings, entity, own, added, traits) else {
@@ -229,7 +229,7 @@ fn has_single(ids: &TypeList, single: Entity) -> bool
 
 // The pair among the ids that one more pair of the relationship replaces, or none; no answer where there are several.
 fn replaced_by(own: &TypeList, relationship: Entity, traits: &TypeList) -> Option<Option<Id>>
-    ensures left { IfSome result (λ replaced. spared replaced own.now ≡ filter
+    ensures left { IfSome result (λ replaced. without_replaced replaced own.now ≡ filter
         (λ id. not (has_item id_cmp traits.now (One EXCLUSIVE) && step.is_pair_of relationship id))
         own.now) }
     ensures among { IfSome result (IsAmong own.now) }

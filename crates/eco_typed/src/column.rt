@@ -1,7 +1,7 @@
 //! A column of a table as values of a Rust type.
 ghost use Rattle.std.specs.Prelude.{◌≡◌, ◌∷◌, [], map, MatchOption};
 ghost use Rattle.std.specs.Iterator.{YieldsFirst, item_count};
-ghost use Rattle.eco_tables.specs.Values.{shown};
+ghost use Rattle.eco_tables.specs.Values.{whole_values};
 
 use crate::component::Component;
 use eco_ids::Value;
@@ -26,8 +26,8 @@ macro_rules! first_and_rest {
 // The first of them, and those behind it.
 #[inline(always)]
 fn split_first(values: Values<'_>) -> Option<(Value, Values<'_>)>
-    ensures { MatchOption result (shown values.entry ≡ [])
-        (λ first. shown values.entry ≡ first.0 ∷ shown first.1) }
+    ensures { MatchOption result (whole_values values.entry ≡ [])
+        (λ first. whole_values values.entry ≡ first.0 ∷ whole_values first.1) }
 {
     match values {
         Values::One(rows) => first_and_rest!(rows, One),
@@ -44,7 +44,7 @@ fn split_first(values: Values<'_>) -> Option<(Value, Values<'_>)>
 impl<'a, C> Column<'a, C> {
     // All of these values.
     pub(crate) fn of(values: Values<'a>) -> Column<'a, C>
-        ensures { shown result.values ≡ shown values.entry }
+        ensures { whole_values result.values ≡ whole_values values.entry }
     {
         Column {
             values,
@@ -56,9 +56,9 @@ impl<'a, C> Column<'a, C> {
 impl<'a, C: Component> Iterator for Column<'a, C> {
     type Item = C;
 
-    ghost next_gives = { YieldsFirst (λ s. map C.from (shown s.values)) };
+    ghost next_gives = { YieldsFirst (λ s. map C.from (whole_values s.values)) };
 
-    ghost remaining = { item_count (λ s. map C.from (shown s.values)) };
+    ghost remaining = { item_count (λ s. map C.from (whole_values s.values)) };
 
     #[inline]
     fn next(&mut self) -> Option<C> {

@@ -13,8 +13,8 @@ ghost use Rattle.eco_ids.specs.Run.{Set};
 ghost use Rattle.eco_ids.specs.Step.{Sets, may_set, unfit, unfit_set};
 ghost use Rattle.eco_grammar.specs.Readings.{ok_map};
 ghost use Rattle.eco_stages.specs.Commands.{command_of};
-ghost use Rattle.eco_tables.specs.Values.{shown};
-ghost use Rattle.eco_typed.specs.Typing.{found_at};
+ghost use Rattle.eco_tables.specs.Values.{whole_values};
+ghost use Rattle.eco_typed.specs.Typing.{value_found_at};
 ghost use Rattle.eco_world.specs.Layouts.{is_lent, lent_by};
 
 use crate::column::Column;
@@ -111,7 +111,7 @@ impl<C: Component> TypedId<C> {
     /// The value in a slot of a system's row, where the slot has found this very id and shows its values.
     #[inline(always)]
     pub fn at<R: BodyRow>(self, row: &R, slot: usize) -> Option<C>
-        ensures { result ≡ option_map C.from (found_at (R.row_of row.now) slot self.id) }
+        ensures { result ≡ option_map C.from (value_found_at (R.row_of row.now) slot self.id) }
     {
         match row.entries().get(slot) {
             Some(Some(found)) if found.is(self.id) => Some(C::from_value(row.value(slot)?)),
@@ -122,7 +122,7 @@ impl<C: Component> TypedId<C> {
     /// The table's values of the id, one for each of its entities and in their order, as [`TableRows::values`] lends them:
     /// exactly where the id is one of the table's and is data.
     pub fn column<'a>(self, table: &TableRows<'a>) -> Option<Column<'a, C>>
-        ensures shown { IfSome result (λ column. shown column.values ≡ lent_by table.now self.id) }
+        ensures shown { IfSome result (λ column. whole_values column.values ≡ lent_by table.now self.id) }
         ensures lent { is_some result ≡ is_lent table.now self.id }
     {
         let values = table.values(self.id)?;

@@ -18,14 +18,14 @@ use Rattle.eco_workers.specs.Entries.{Entry, piece_of_entry, IsStage, IsGood, Is
 use Rattle.eco_workers.specs.declared.seat.Seat.{Seat}
 use Rattle.eco_workers.specs.Rounds.{claimed, drawn}
 use Rattle.eco_workers.proofs.Turned.{in_turn}
-use Rattle.eco_workers.specs.Batches.{placed, AreStages, IsBatch, IsOut}
+use Rattle.eco_workers.specs.Batches.{placed_stages, AreStages, IsBatch, IsOut}
 
 pub placed_push : (ps : List Collected) (p : Collected) (stages : List (List Command))
-    → placed (ps ++ p ∷ []) stages ≡ set (placed ps stages) p.number p.stage
+    → placed_stages (ps ++ p ∷ []) stages ≡ set (placed_stages ps stages) p.number p.stage
 placed_push [] p stages = refl
 placed_push (q ∷ ps) p stages = placed_push ps p (set stages q.number q.stage)
 
-pub length-placed : (ps : List Collected) (stages : List (List Command)) → length (placed ps stages) ≡ length stages
+pub length-placed : (ps : List Collected) (stages : List (List Command)) → length (placed_stages ps stages) ≡ length stages
 length-placed [] stages = refl
 length-placed (p ∷ ps) stages = length-placed ps (set stages p.number p.stage) ∙ length-set stages p.number p.stage
 
@@ -40,7 +40,7 @@ at_seam P (y ∷ seen) rest x h = at_seam P seen rest x (All-tail P y (seen ++ x
 
 -- there is a place for the next piece
 pub number_within : (count : ℕ) (all seen rest : List Collected) (p : Collected) (stages : List (List Command)) → seen ++ p ∷ rest ≡ all
-    → All (λ (q : Collected). q.number < count) all → stages ≡ placed seen (replicate count []) → p.number < length stages
+    → All (λ (q : Collected). q.number < count) all → stages ≡ placed_stages seen (replicate count []) → p.number < length stages
 number_within count all seen rest p stages is within placed_so =
     let P : Collected → Type 0 = λ q. q.number < count in
     let long = ap length placed_so ∙ length-placed seen (replicate count []) ∙ length-replicate count [] in
@@ -62,12 +62,12 @@ length-sorted : (es places : List Entry) → length (sorted es places) ≡ lengt
 length-sorted [] places = refl
 length-sorted (e ∷ es) places = length-sorted es (set places e.number e) ∙ length-set places e.number e
 
-placed_sorted : (es places : List Entry) → placed (map piece_of_entry es) (map (λ (e : Entry). e.stage) places) ≡ map (λ (e : Entry). e.stage)
+placed_sorted : (es places : List Entry) → placed_stages (map piece_of_entry es) (map (λ (e : Entry). e.stage) places) ≡ map (λ (e : Entry). e.stage)
     (sorted es places)
 placed_sorted [] places = refl
 placed_sorted (e ∷ es) places =
     let stage : Entry → List Command = λ e. e.stage in
-    ap (placed (map piece_of_entry es)) (sym (map-set stage places e.number e)) ∙ placed_sorted es (set places e.number e)
+    ap (placed_stages (map piece_of_entry es)) (sym (map-set stage places e.number e)) ∙ placed_sorted es (set places e.number e)
 
 -- no number stands twice
 abbrev AreApart : List Entry → Type 0
@@ -227,7 +227,7 @@ module _ {S : Type 0} (commands : S → List ℕ → List Command) (taken : S �
       → ((x : ℕ) → times x (numbers log) ≡ once 0 count x)
       → ((x : ℕ) → total (λ (e : Entry). times x e.draws) log ≡ once base (base + n) x)
       → (workers ≡ 1 → (ascends (numbers log) ≡ true) × (ascends (flat_map (λ (e : Entry). e.draws) log) ≡ true))
-      → IsBatch commands taken workers pieces base n (placed (map piece_of_entry log) (replicate count []))
+      → IsBatch commands taken workers pieces base n (placed_stages (map piece_of_entry log) (replicate count []))
   batch_made workers pieces log base n count len good claims drawn alone =
       let places = replicate count blank in
       let es = sorted log places in
@@ -241,8 +241,8 @@ module _ {S : Type 0} (commands : S → List ℕ → List Command) (taken : S �
       (let e = good k d lt in let i = slice_get_within pieces _ _ e.0.at in omega arith) in
       let own = λ (k : ℕ) (lt : k < count). (let c = claims k in let o = once_at count k lt in
       own_place G log places k blank apart good (omega arith) (omega arith)) in
-      let stages : placed (map piece_of_entry log) (replicate count []) ≡ map stage es =
-      ap (placed (map piece_of_entry log)) (sym (map_replicate stage count blank)) ∙ placed_sorted log places in
+      let stages : placed_stages (map piece_of_entry log) (replicate count []) ≡ map stage es =
+      ap (placed_stages (map piece_of_entry log)) (sym (map_replicate stage count blank)) ∙ placed_sorted log places in
       record {
         draws = map draws es;
         recorded = subst (AreStages commands taken pieces (map draws es)) (sym stages) (are_stages pieces es blank (omega arith) (λ k lt.

@@ -10,20 +10,20 @@ use Rattle.atomic_table.specs.Table.{State, Me, Step, Allows, Splits, Joins, Act
 use Rattle.atomic_table.proofs.Lists.{at_set, at_snoc}
 use Rattle.eco_workers.specs.declared.word.Share.{Share}
 use Rattle.eco_workers.specs.declared.word.Span.{Span}
-use Rattle.eco_workers.specs.Counting.{total, times, once, whole, took, refused, less_one, one_part, both, spent, Fits, IsCounted, Counts, Takes}
+use Rattle.eco_workers.specs.Counting.{total, times, once, whole, took, refused, less_one, one_part, both, spent, ShareFits, IsCounted, Counts, Takes}
 use Rattle.eco_workers.proofs.Totals.{all_in_one, total_set, total-append, total_le, once_more, once_none, all_below_more, all_below_push, all_below-append}
 
 -- what holds of a new view of the seat, and of the others as they were, holds of all
-each_set : (k : Span) (word : ℕ) (views : List Share) (by : ℕ) (w : Share) → Fits k word w
-    → ((j : ℕ) (u : Share) → j ≢ by → get_elem? views j ≡ some u → Fits k word u) → (j : ℕ) (u : Share) → get_elem? (set views by w) j ≡ some u
-    → Fits k word u
+each_set : (k : Span) (word : ℕ) (views : List Share) (by : ℕ) (w : Share) → ShareFits k word w
+    → ((j : ℕ) (u : Share) → j ≢ by → get_elem? views j ≡ some u → ShareFits k word u) → (j : ℕ) (u : Share) → get_elem? (set views by w) j ≡ some u
+    → ShareFits k word u
 each_set k word views by w mine others j u e =
     ⊎_elim
-    (λ (x : (j ≡ by) × (w ≡ u)). subst (Fits k word) x.1 mine)
+    (λ (x : (j ≡ by) × (w ≡ u)). subst (ShareFits k word) x.1 mine)
     (λ (x : (j ≢ by) × (get_elem? views j ≡ some u)). others j u x.0 x.1)
     (at_set views by j w u e)
 
-later : (k : Span) (word : ℕ) (v : Share) → Fits k word v → Fits k (word + 1) v
+later : (k : Span) (word : ℕ) (v : Share) → ShareFits k word v → ShareFits k (word + 1) v
 later k word v f = record { bound = f.bound; refusals = f.refusals; idle = f.idle; below = all_below_more word (word + 1) v.numbers (omega arith) f.below }
 
 pub given : (k : Span) (word : ℕ) (views : List Share) (by : ℕ) (v : Share) → 0 < v.parts → word < k.bound → get_elem? views by ≡ some v
@@ -128,8 +128,8 @@ opens k le room = (
   },
 )
   where
-    one : (by : ℕ) (v : Share) → get_elem? (whole k ∷ []) by ≡ some v → Fits k k.base v
-    one zero v e = subst (Fits k k.base) (some-injective _ _ e) record { bound = λ _. refl; refusals = omega arith; idle = λ _. refl; below = refl }
+    one : (by : ℕ) (v : Share) → get_elem? (whole k ∷ []) by ≡ some v → ShareFits k k.base v
+    one zero v e = subst (ShareFits k k.base) (some-injective _ _ e) record { bound = λ _. refl; refusals = omega arith; idle = λ _. refl; below = refl }
     one (suc by) v e = absurd (some-ne-none v (sym e))
 
 -- one part of several goes to a new seat
@@ -155,7 +155,7 @@ splits k id v several none_yet s h at =
             (each_set k word s.views id left record
             { bound = λ _. mine.bound (omega arith); refusals = omega arith; idle = λ z. absurd (omega arith); below = mine.below }
             (λ j u apart e. c.each j u e) j u)
-            (λ (is : right ≡ u). subst (Fits k word) is record
+            (λ (is : right ≡ u). subst (ShareFits k word) is record
             { bound = λ _. mine.bound (omega arith); refusals = omega arith; idle = λ z. refl; below = refl })
             (at_snoc vs right u j e);
       },

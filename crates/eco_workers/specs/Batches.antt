@@ -7,9 +7,9 @@ use Rattle.eco_workers.specs.declared.collected.Collected.{Collected}
 use Rattle.eco_workers.specs.Entries.{IsStage}
 
 -- each stage at the place of its piece's number
-abbrev pub placed : List Collected → List (List Command) → List (List Command)
-placed [] stages = stages
-placed (p ∷ ps) stages = placed ps (set stages p.number p.stage)
+abbrev pub placed_stages : List Collected → List (List Command) → List (List Command)
+placed_stages [] stages = stages
+placed_stages (p ∷ ps) stages = placed_stages ps (set stages p.number p.stage)
 
 module _ {S : Type 0} (commands : S → List ℕ → List Command) (taken : S → List ℕ → ℕ) where
   -- for each piece its draws and its stage, in the same order: the stage is the recording of the piece's rows with these draws, of which nothing is left

@@ -62,7 +62,7 @@ abbrev pub spent : Share
 spent = share 0 0 [] 0
 
 -- what the rule says of one seat: it was refused at most once a part, and with no part it has nothing
-pub record Fits (k : Span) (word : ℕ) (v : Share) : Type 0 where
+pub record ShareFits (k : Span) (word : ℕ) (v : Share) : Type 0 where
   pub bound : 0 < v.parts → v.bound ≡ k.bound
   pub refusals : v.refusals ≤ v.parts
   pub idle : v.parts ≡ 0 → v.numbers ≡ []
@@ -76,7 +76,7 @@ pub record IsCounted (k : Span) (word : ℕ) (views : List Share) : Type 0 where
   pub parts : total (λ v. v.parts) views ≡ k.parts
   pub refusals : total (λ v. v.refusals) views ≡ word - k.bound
   pub numbers : (x : ℕ) → total (λ v. times x v.numbers) views ≡ once k.base (min word k.bound) x
-  pub each : (by : ℕ) (v : Share) → get_elem? views by ≡ some v → Fits k word v
+  pub each : (by : ℕ) (v : Share) → get_elem? views by ≡ some v → ShareFits k word v
 
 abbrev pub Counts : Span → State (Unit {0}) Share → Type 0
 Counts k s = (length s.words ≡ 1) × IsCounted k (slice_index s.words 0) s.views

@@ -9,8 +9,8 @@ use Rattle.eco_workers.specs.declared.round.Round.{Round}
 use Rattle.eco_workers.specs.declared.seat.Seat.{Seat}
 
 -- how many pieces there are to claim, from 0
-abbrev pub pieces_of : Round → ℕ
-pieces_of r = r.pieces
+abbrev pub piece_count : Round → ℕ
+piece_count r = r.pieces
 
 -- the first index to be drawn
 abbrev pub base_of : Round → ℕ
@@ -52,12 +52,12 @@ IsNewSeatOf r s = IsSeatOf r s × (claimed s ≡ []) × (drawn s ≡ []) × (is_
 
 -- what a claim does: a seat that was refused a piece before is refused again and stays as it is. Else the seat is refused, or it has
 -- a piece more, which is the answer
-abbrev pub Claims : Round → Seat → Option ℕ → Seat → Type 0
-Claims r old answer new =
+abbrev pub ClaimsPiece : Round → Seat → Option ℕ → Seat → Type 0
+ClaimsPiece r old answer new =
     (is_done old ≡ true → (answer ≡ None) × (new ≡ old))
     × (is_done old ≡ false → MatchOption answer
     ((is_done new ≡ true) × (claimed new ≡ claimed old))
-    (λ n. (n < pieces_of r) × (is_done new ≡ false) × (claimed new ≡ claimed old ++ n ∷ [])))
+    (λ n. (n < piece_count r) × (is_done new ≡ false) × (claimed new ≡ claimed old ++ n ∷ [])))
 
 -- what a draw does: a seat that was refused an index before is refused again and stays as it is. Else the seat is refused, or it has
 -- an index more, of which the answer is the handle of generation 0

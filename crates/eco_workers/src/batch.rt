@@ -3,7 +3,7 @@ ghost use Rattle.std.specs.Prelude.{◌≡◌, ℕ, ◌+◌, ◌<◌, ◌≤◌,
 ghost use Rattle.std.specs.Prelude.{length};
 ghost use Rattle.std.specs.List.{All, Contains};
 ghost use Rattle.eco_ids.specs.declared.refusal.Refusal.TheVariants.{NoMoreIds, OutOfMemory};
-ghost use Rattle.eco_workers.specs.Rounds.{is_done, pieces_of, IsSeatOf};
+ghost use Rattle.eco_workers.specs.Rounds.{is_done, piece_count, IsSeatOf};
 ghost use Rattle.eco_workers.specs.declared.end.End.{End};
 ghost use Rattle.eco_workers.specs.declared.end.End.TheVariants.{Done, Refused};
 ghost use Rattle.eco_stages.specs.Taking.{by_index, IsStopped};
@@ -51,7 +51,7 @@ fn work_by_halves<P: Piece + Sync, R: Threads + Sync>(
     jobs: Vec<Job>,
 ) -> Result<Vec<Worked>, AllocError>
     requires jobs { All (IsNewJobOf round.now) jobs.items }
-    requires count { pieces_of round.now ≡ length pieces.now }
+    requires count { piece_count round.now ≡ length pieces.now }
     ensures { IfOk result (λ v. (vec_len v ≡ vec_len jobs)
         × All (IsWorked (by_index P.commands) (by_index P.taken) pieces.now round.now) v.items) }
 {
@@ -59,7 +59,7 @@ fn work_by_halves<P: Piece + Sync, R: Threads + Sync>(
         rt,
         jobs,
         &|job: Job| -> Worked
-            requires { IsNewJobOf round.now job × (pieces_of round.now ≡ length pieces.now) }
+            requires { IsNewJobOf round.now job × (piece_count round.now ≡ length pieces.now) }
             ensures { IsWorked (by_index P.commands) (by_index P.taken) pieces.entry.now
                 round.entry.now result }
         { work(alloc, round, pieces, job) },
@@ -77,7 +77,7 @@ fn work_last_and_others<P: Piece + Sync, R: Threads + Sync>(
 ) -> (Worked, Result<Vec<Worked>, AllocError>)
     requires last { IsNewJobOf round.now last }
     requires others { All (IsNewJobOf round.now) others.items }
-    requires count { pieces_of round.now ≡ length pieces.now }
+    requires count { piece_count round.now ≡ length pieces.now }
     ensures last { IsWorked (by_index P.commands) (by_index P.taken) pieces.now round.now result.0 }
     ensures others { IfOk result.1 (λ v. (vec_len v ≡ vec_len others)
         × All (IsWorked (by_index P.commands) (by_index P.taken) pieces.now round.now) v.items) }
@@ -85,12 +85,12 @@ fn work_last_and_others<P: Piece + Sync, R: Threads + Sync>(
     thread::join(
         rt,
         move || -> Worked
-            requires { IsNewJobOf round.now last × (pieces_of round.now ≡ length pieces.now) }
+            requires { IsNewJobOf round.now last × (piece_count round.now ≡ length pieces.now) }
             ensures { IsWorked (by_index P.commands) (by_index P.taken) pieces.entry.now
                 round.entry.now result }
         { work(alloc, round, pieces, last) },
         move || -> Result<Vec<Worked>, AllocError>
-            requires { All (IsNewJobOf round.now) others.items × (pieces_of round.now ≡ length pieces.now) }
+            requires { All (IsNewJobOf round.now) others.items × (piece_count round.now ≡ length pieces.now) }
             ensures { IfOk result (λ v. (vec_len v ≡ vec_len others)
                 × All (IsWorked (by_index P.commands) (by_index P.taken) pieces.entry.now round.entry.now)
                 v.items) }
@@ -109,7 +109,7 @@ fn work_all<P: Piece + Sync, R: Threads + Sync>(
     mut jobs: Vec<Job>,
 ) -> Result<Vec<Worked>, AllocError>
     requires jobs { All (IsNewJobOf round.now) jobs.items }
-    requires count { pieces_of round.now ≡ length pieces.now }
+    requires count { piece_count round.now ≡ length pieces.now }
     ensures { IfOk result (λ v. (vec_len v ≡ vec_len jobs)
         × All (IsWorked (by_index P.commands) (by_index P.taken) pieces.now round.now) v.items) }
 {

@@ -1,7 +1,7 @@
 //! Stages in the order of their pieces.
 ghost use Rattle.std.specs.Prelude.{◌≡◌, ◌<◌, [], replicate, IfOk};
 ghost use Rattle.std.specs.List.{All};
-ghost use Rattle.eco_workers.specs.Batches.{placed};
+ghost use Rattle.eco_workers.specs.Batches.{placed_stages};
 
 use crate::collected::Collected;
 use eco_stages::Stage;
@@ -14,7 +14,7 @@ pub(crate) fn place(
     pieces: Vec<Collected>,
 ) -> Result<Vec<Stage>, AllocError>
     requires { All (λ p. p.number < count) pieces.items }
-    ensures { IfOk result (λ v. v.items ≡ placed pieces.items (replicate count [])) }
+    ensures { IfOk result (λ v. v.items ≡ placed_stages pieces.items (replicate count [])) }
 {
     let mut stages = Vec::with_capacity(alloc, count as usize)?;
     for _ in 0..count {

@@ -31,8 +31,8 @@ pub struct Round {
 }
 
 impl Round {
-    ghost use Rattle.eco_workers.specs.Rounds.{claimed, drawn, IsSeatOf, IsNewSeatOf, pieces_of, base_of, limit_of, seats_of};
-    ghost use Rattle.eco_workers.specs.Rounds.{done_count, dry_count, Claims, Draws, Alone};
+    ghost use Rattle.eco_workers.specs.Rounds.{claimed, drawn, IsSeatOf, IsNewSeatOf, piece_count, base_of, limit_of, seats_of};
+    ghost use Rattle.eco_workers.specs.Rounds.{done_count, dry_count, ClaimsPiece, Draws, Alone};
     ghost use Rattle.eco_workers.specs.Counting.{less_one, share};
 
     /// Opens a round of so many pieces, from 0, and of the indices from `base` to below `limit`, for so many seats, of which each
@@ -48,7 +48,7 @@ impl Round {
         requires indices { (base ≤ limit) × (limit ≤ 1048576) }
         requires pieces { pieces ≤ 16777216 }
         requires seats { (1 ≤ seats) × (seats ≤ 64) }
-        ensures work { IfOk result (λ r. (pieces_of r.0 ≡ pieces) × (seats_of r.0 ≡ seats)) }
+        ensures work { IfOk result (λ r. (piece_count r.0 ≡ pieces) × (seats_of r.0 ≡ seats)) }
         ensures indices { IfOk result (λ r. (base_of r.0 ≡ base) × (limit_of r.0 ≡ limit)) }
         ensures seats { IfOk result (λ r. (vec_len r.1 ≡ seats) × All (IsNewSeatOf r.0) r.1.items) }
         ensures err { IfErr result (λ e. e ≡ OutOfMemory) }
@@ -86,7 +86,7 @@ impl Round {
 
     /// How many pieces there are to claim.
     pub fn pieces(&self) -> u32
-        ensures { result ≡ pieces_of self.now }
+        ensures { result ≡ piece_count self.now }
     {
         self.pieces
     }
@@ -96,7 +96,7 @@ impl Round {
     pub fn claim(&self, seat: &mut Seat) -> Option<u32>
         requires { IsSeatOf self.now seat.old }
         ensures seat { IsSeatOf self.now seat.new }
-        ensures event { Claims self.now seat.old result seat.new }
+        ensures event { ClaimsPiece self.now seat.old result seat.new }
         ensures other { seat.new.draw ≡ seat.old.draw }
         ensures ascending { ascends (claimed seat.new) ≡ true }
     {
@@ -133,8 +133,8 @@ impl Round {
         ensures claimed { (x : ℕ) → total (λ s. times x (claimed s)) seats.items ≡ once 0 result.0 x }
         ensures drawn { (x : ℕ) → total (λ s. times x (drawn s)) seats.items
             ≡ once (base_of self) (base_of self + result.1) x }
-        ensures most { (result.0 ≤ pieces_of self) × (base_of self + result.1 ≤ limit_of self) }
-        ensures done { 0 < done_count seats.items → result.0 ≡ pieces_of self }
+        ensures most { (result.0 ≤ piece_count self) × (base_of self + result.1 ≤ limit_of self) }
+        ensures done { 0 < done_count seats.items → result.0 ≡ piece_count self }
         ensures dry { 0 < dry_count seats.items → base_of self + result.1 ≡ limit_of self }
         ensures alone { Alone (base_of self) seats.items result.0 result.1 }
     {

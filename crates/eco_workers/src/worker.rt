@@ -2,7 +2,7 @@
 ghost use Rattle.std.specs.Prelude.{◌≡◌, ℕ, ◌+◌, ◌<◌, ◌≤◌, List, true, false, [], ◌∷◌, ◌++◌, IfOk, IfErr, IfNone};
 ghost use Rattle.std.specs.Prelude.{MatchOption, length};
 ghost use Rattle.eco_ids.specs.declared.refusal.Refusal.TheVariants.{NoMoreIds};
-ghost use Rattle.eco_workers.specs.Rounds.{claimed, drawn, is_dry, pieces_of};
+ghost use Rattle.eco_workers.specs.Rounds.{claimed, drawn, is_dry, piece_count};
 ghost use Rattle.eco_stages.specs.Taking.{by_index, IsStopped};
 ghost use Rattle.eco_workers.specs.Entries.{entry_of, share_of, IsEntry, IsShare, IsShort, IsStage};
 ghost use Rattle.eco_workers.specs.Workers.{IsGoing, HasEnded, IsNewJobOf, IsWorked};
@@ -79,7 +79,7 @@ fn take_turn<P: Piece>(
     drawer: &mut Drawer<'_>,
     collected: &mut Vec<Collected>,
 ) -> Option<End>
-    requires count { pieces_of drawer.old.round.now ≡ length pieces.now }
+    requires count { piece_count drawer.old.round.now ≡ length pieces.now }
     requires going { IsGoing (by_index P.commands) (by_index P.taken) pieces.now drawer.old.seat
         collected.old.items }
     ensures round { drawer.new.round.now ≡ drawer.old.round.now }
@@ -114,7 +114,7 @@ fn turns<P: Piece>(
     collected: &mut Vec<Collected>,
 ) -> End
     requires new { claimed drawer.old.seat ≡ [] }
-    requires count { pieces_of drawer.old.round.now ≡ length pieces.now }
+    requires count { piece_count drawer.old.round.now ≡ length pieces.now }
     requires going { IsGoing (by_index P.commands) (by_index P.taken) pieces.now drawer.old.seat
         collected.old.items }
     ensures round { drawer.new.round.now ≡ drawer.old.round.now }
@@ -133,7 +133,7 @@ fn turns<P: Piece>(
 // Claims pieces and records each, until there is none.
 pub(crate) fn work<P: Piece>(alloc: Global, round: &Round, pieces: &[P], job: Job) -> Worked
     requires seat { IsNewJobOf round.now job }
-    requires count { pieces_of round.now ≡ length pieces.now }
+    requires count { piece_count round.now ≡ length pieces.now }
     ensures { IsWorked (by_index P.commands) (by_index P.taken) pieces.now round.now result }
 {
     let Job { seat, mut spare } = job;

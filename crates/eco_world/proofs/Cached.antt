@@ -6,16 +6,16 @@ use Rattle.eco_ids.specs.Layout.{ListedTable}
 use Rattle.eco_ids.specs.World.{WorldState}
 use Rattle.eco_query.specs.Queries.{QuerySlot, holds, matches_type}
 use Rattle.eco_answers.specs.Answers.{asked}
-use Rattle.eco_world.specs.Cached.{ListsFor, OfQuery, RefusesQuery, fulfils}
+use Rattle.eco_world.specs.Cached.{ListsFor, OfQuery, RefusesQuery, all_slots_hold}
 use Rattle.eco_world.specs.Layouts.{ListsBy}
 use Rattle.eco_world.specs.Queries.{is_passed}
 
 -- a type matches the query where what the query asks holds on it
-fulfilled : (q : List QuerySlot) (ids : List Id) → matches_type ids q ≡ fulfils (asked q) ids
+fulfilled : (q : List QuerySlot) (ids : List Id) → matches_type ids q ≡ all_slots_hold (asked q) ids
 fulfilled [] ids = refl
 fulfilled (s ∷ q) ids = ap (λ b. holds ids s.term && b) (fulfilled q ids)
 
-same_test : (q : List QuerySlot) → (λ (ids : List Id). matches_type ids q) ≡ fulfils (asked q)
+same_test : (q : List QuerySlot) → (λ (ids : List Id). matches_type ids q) ≡ all_slots_hold (asked q)
 same_test q = λ t ids. fulfilled q ids t
 
 module _ (w : WorldState) (n : ℕ) (q : List QuerySlot) (at : slice_get w.queries n ≡ Some (asked q)) where
@@ -24,5 +24,5 @@ module _ (w : WorldState) (n : ℕ) (q : List QuerySlot) (at : slice_get w.queri
   listed_for tables lists = rw at (subst (λ (test : List Id → Bool). ListsBy w test tables) (same_test q) lists)
 
   -- memory was wanting for them
-  pub refused_for : IsTrue (is_passed w (λ ids. matches_type ids q)) → RefusesQuery w n (λ slots. is_passed w (fulfils slots)) OutOfMemory
+  pub refused_for : IsTrue (is_passed w (λ ids. matches_type ids q)) → RefusesQuery w n (λ slots. is_passed w (all_slots_hold slots)) OutOfMemory
   refused_for some = rw at (refl, subst (λ (test : List Id → Bool). IsTrue (is_passed w test)) (same_test q) some)

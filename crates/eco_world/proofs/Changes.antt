@@ -17,7 +17,7 @@ use Rattle.eco_ids.proofs.Facts.{id_eq_is, not_both}
 use Rattle.eco_ids.proofs.Losses.{keeps_all, without_one}
 use Rattle.eco_ids.proofs.Records.{living_state}
 use Rattle.eco_ids.proofs.Lists.{set_own}
-use Rattle.eco_store.specs.Store.{record_ids, with_exchanged, with_toggled, with_type, with_written}
+use Rattle.eco_store.specs.Store.{record_ids, with_exchanged, with_toggled, with_type, record_with_written}
 use Rattle.eco_traits.specs.Target.{type_of_entity, type_of_record}
 use Rattle.eco_world.specs.Types.{type_of}
 use Rattle.eco_world.proofs.Held.{Held, keys, none_written, retyped_without, written_is}
@@ -101,13 +101,13 @@ module _ (w : WorldState) (e : Entity) where
         (ap (λ js. (with_type js d).held) (is ∙ ap (λ held. without_item id_cmp (keys held) i) (held_at d at)) ∙ retyped_without d.held i (sorted_at d at)))
         ∙ sym (without_one w e (λ j. id_eq j i))
 
-    written_value : (i : Id) (v : Value) → has w e i ≡ true → changed w e (with_written i v) ≡ changed w e (with_value i v)
-    written_value i v there = changed_alike (with_written i v) (with_value i v)
+    written_value : (i : Id) (v : Value) → has w e i ≡ true → changed w e (record_with_written i v) ≡ changed w e (with_value i v)
+    written_value i v there = changed_alike (record_with_written i v) (with_value i v)
         (λ d at. ap (λ held. record d { held = held }) (written_is d.held i v (sorted_at d at) (has_at i d at ∙ there)))
 
-    nothing_written : (i : Id) (v : Value) → has w e i ≡ false → changed w e (with_written i v) ≡ w
+    nothing_written : (i : Id) (v : Value) → has w e i ≡ false → changed w e (record_with_written i v) ≡ w
     nothing_written i v absent =
-        changed_same (with_written i v)
+        changed_same (record_with_written i v)
         (λ d at. ap (λ held. record d { held = held }) (none_written d.held i v (none (find id_cmp i d.held) (has_at i d at ∙ absent))))
       where
         none : (o : Option Value) → is_some o ≡ false → o ≡ None
@@ -116,15 +116,15 @@ module _ (w : WorldState) (e : Entity) where
 
     -- what was written is a value where the id is there, else nothing
     pub written_there : (i : Id) (v : Value) (had : Bool) → had ≡ has w e i →
-        MatchBool had (changed w e (with_written i v) ≡ changed w e (with_value i v)) (changed w e (with_written i v) ≡ w)
+        MatchBool had (changed w e (record_with_written i v) ≡ changed w e (with_value i v)) (changed w e (record_with_written i v) ≡ w)
     written_there i v true is = written_value i v (sym is)
     written_there i v false is = nothing_written i v (sym is)
 
     -- so the world is lawful where it is with the value
-    pub written_lawful : (i : Id) (v : Value) → (has w e i ≡ true → IsLawful (changed w e (with_value i v))) → IsLawful (changed w e (with_written i v))
+    pub written_lawful : (i : Id) (v : Value) → (has w e i ≡ true → IsLawful (changed w e (with_value i v))) → IsLawful (changed w e (record_with_written i v))
     written_lawful i v then_lawful = by (has w e i) refl
       where
-        by : (b : Bool) → has w e i ≡ b → IsLawful (changed w e (with_written i v))
+        by : (b : Bool) → has w e i ≡ b → IsLawful (changed w e (record_with_written i v))
         by true there = subst IsLawful (sym (written_value i v there)) (then_lawful there)
         by false absent = subst IsLawful (sym (nothing_written i v absent)) lawful
 

@@ -20,12 +20,12 @@ use Rattle.eco_ids.proofs.Ascending.{second}
 use Rattle.eco_ids.proofs.Exact.{id_eq_sym}
 use Rattle.eco_entities.specs.Needs.{fields_for}
 use Rattle.eco_tables.specs.Kept.{IsUnkept}
-use Rattle.eco_tables.specs.Table.{TableState, Row, paired, width_in}
+use Rattle.eco_tables.specs.Table.{TableState, TableRow, paired, width_in}
 use Rattle.eco_tables.specs.Tables.{no_row}
 use Rattle.eco_store.specs.Store as store
 use Rattle.eco_store.specs.Lent.{KeepsData}
 use Rattle.eco_store.specs.Store.{Stands}
-use Rattle.eco_world.specs.Refs.{StandsIn}
+use Rattle.eco_world.specs.Refs.{StandsInRow}
 
 -- ---- an arity is one field at least
 
@@ -43,7 +43,7 @@ own_wide w lawful e = by (record_of w e) refl
     by (Some r) at some = proper_wide w r.arity (lawful.orderly.records e r at).arity some
 
 -- what is data has a field at least, as the store has it
-pub data_wide : (w : WorldState) → IsLawful w → (i : Id) → is_some (arity w i) ≡ true → 1 ≤ fields_for (store.arity (entities w) i)
+pub data_wide : (w : WorldState) → IsLawful w → (i : Id) → is_some (arity w i) ≡ true → 1 ≤ fields_for (store.arity_in_store (entities w) i)
 data_wide w lawful (One e) some = own_wide w lawful e some
 data_wide w lawful (Two r t) some = by (is_builtin w r) some
   where
@@ -66,7 +66,7 @@ stands_within (Some k) t row there = there.within
 -- what a search of the row's columns finds is the entity's value
 value_kept : (w : WorldState) → IsLawful w → (e : Entity) (i : Id) (t : TableState) (row : ℕ) (v : Option Value)
     → Stands (record_of w e) t row → KeepsData (entities w) t → is_some (arity w i) ≡ true
-    → MatchOption v (IsUnkept t row i) (λ x. (r : Row) → find id_cmp i (get_or t.rows row r).held ≡ Some x) → v ≡ value_of w e i
+    → MatchOption v (IsUnkept t row i) (λ x. (r : TableRow) → find id_cmp i (get_or t.rows row r).held ≡ Some x) → v ≡ value_of w e i
 value_kept w lawful e i t row v stands kept some found =
     held (record_of w e) stands
     ∙ sym (ap (λ b. if b then find id_cmp i (unwrap_or (option_map (λ (r : Record). r.held) (record_of w e)) []) else None) some)
@@ -76,14 +76,14 @@ value_kept w lawful e i t row v stands kept some found =
     held (Some k) there = by v found
       where
         absent : (o : Option ℕ) → width_in t i ≡ o
-            → MatchOption o ((r : Row) → find id_cmp i (get_or t.rows row r).held ≡ None) (λ n. n ≡ 0) → None ≡ find id_cmp i k.held
+            → MatchOption o ((r : TableRow) → find id_cmp i (get_or t.rows row r).held ≡ None) (λ n. n ≡ 0) → None ≡ find id_cmp i k.held
         absent None at none = sym (ap (find id_cmp i) (there.held no_row) ∙ none no_row)
         absent (Some n) at none =
             let wide = kept i n at in
             let least = data_wide w lawful i some in
             absurd (omega (arith, none))
 
-        by : (o : Option Value) → MatchOption o (IsUnkept t row i) (λ x. (r : Row) → find id_cmp i (get_or t.rows row r).held ≡ Some x)
+        by : (o : Option Value) → MatchOption o (IsUnkept t row i) (λ x. (r : TableRow) → find id_cmp i (get_or t.rows row r).held ≡ Some x)
             → o ≡ find id_cmp i k.held
         by None unkept = absent (width_in t i) refl unkept
         by (Some x) at = sym (ap (find id_cmp i) (there.held no_row) ∙ at no_row)
@@ -113,8 +113,8 @@ stands_in None P A B C each none some = none
 stands_in (Some x) P A B C each a b = each x a b
 
 -- what a search of the row's columns finds is the entity's value, unless it is zeros of an id that is no data
-pub value_read : (w : WorldState) → IsLawful w → (e : Entity) (i : Id) (t : TableState) (row : ℕ) (v : Option Value) → StandsIn w e t row
-    → MatchOption v (IsUnkept t row i) (λ x. (r : Row) → find id_cmp i (get_or t.rows row r).held ≡ Some x)
+pub value_read : (w : WorldState) → IsLawful w → (e : Entity) (i : Id) (t : TableState) (row : ℕ) (v : Option Value) → StandsInRow w e t row
+    → MatchOption v (IsUnkept t row i) (λ x. (r : TableRow) → find id_cmp i (get_or t.rows row r).held ≡ Some x)
     → MatchOption v (Unit {0}) (λ x. (not (is_zero_past 0 x) || is_some (arity w i)) ≡ true) → v ≡ value_of w e i
 value_read w lawful e i t row v at found other = by (is_some (arity w i)) refl
   where
@@ -124,7 +124,7 @@ value_read w lawful e i t row v at found other = by (is_some (arity w i)) refl
     held (Some k) there = ap (find id_cmp i) (there.held no_row)
 
     no_data : is_some (arity w i) ≡ false → (o : Option Value)
-        → MatchOption o (IsUnkept t row i) (λ x. (r : Row) → find id_cmp i (get_or t.rows row r).held ≡ Some x)
+        → MatchOption o (IsUnkept t row i) (λ x. (r : TableRow) → find id_cmp i (get_or t.rows row r).held ≡ Some x)
         → MatchOption o (Unit {0}) (λ x. (not (is_zero_past 0 x) || is_some (arity w i)) ≡ true) → o ≡ None
     no_data none None unkept h = refl
     no_data none (Some x) is h =

@@ -33,7 +33,7 @@ use Rattle.eco_ids.proofs.Facts.{not_true}
 use Rattle.eco_store.specs.Store.{with_type}
 use Rattle.eco_traits.specs.declared.target.Target.{Target}
 use Rattle.eco_traits.specs.declared.target.Target.TheVariants.{Instead, With}
-use Rattle.eco_traits.specs.Target.{ExtendsTo, FindsTarget, FindsType, IsOwnType, IsTypeWith, LeadsTo, type_meant, type_of_entity, type_of_record}
+use Rattle.eco_traits.specs.Target.{ExtendsTo, FindsTarget, FindsType, IsOwnType, IsTypeAfter, AddLeadsTo, type_meant, type_of_entity, type_of_record}
 use Rattle.eco_tables.specs.Column.{value_in}
 use Rattle.eco_world.specs.Actor.{MaySet}
 use Rattle.eco_world.specs.Types.{type_of}
@@ -133,7 +133,7 @@ found w e i ids living absent finds = by_verdict extends.0 extends.1 extends.2 e
         subst (λ b. MatchBool b (IsOwnType w e (Ok ids)) (ExtendsTo w e i (Ok ids))) absent
         (subst (λ b. MatchBool b (MatchBool (has w e i) (IsOwnType w e (Ok ids)) (ExtendsTo w e i (Ok ids))) (Ok ids ≡ Err DeadId)) living finds)
 
-    by_verdict : (s : List Id) → IsClosure w i s → (v : Option Refusal) → Judges w e s (grown w e i s) v → MatchOption v (IsTypeWith w e s (Ok ids))
+    by_verdict : (s : List Id) → IsClosure w i s → (v : Option Refusal) → Judges w e s (grown w e i s) v → MatchOption v (IsTypeAfter w e s (Ok ids))
         (λ why. Ok ids ≡ Err why) →
         IsFound w e i ids
     by_verdict s closure None judges m = record { closure = s; is_closure = closure; judges = judges; of = m.0; at = m.1; ids_are = same_ok ids _ m.2 }
@@ -143,7 +143,7 @@ found w e i ids living absent finds = by_verdict extends.0 extends.1 extends.2 e
 pub opposed : (w : WorldState) (e : Entity) (i : Id) (why : Refusal) → names_living w i ≡ true → has w e i ≡ false → FindsType w e i (Err why) →
     Meets (Extends w e i unchanged) true w (Err why) w
 opposed w e i why living absent =
-    elim (is_out_of_memory {A = Unit {0}} (Err why)) as (λ b. MatchBool b (IsTrue (names_living w i)) (LeadsTo w e i (Err why)) →
+    elim (is_out_of_memory {A = Unit {0}} (Err why)) as (λ b. MatchBool b (IsTrue (names_living w i)) (AddLeadsTo w e i (Err why)) →
     MatchBool b (IsTrue true × (w ≡ w)) (Extends w e i unchanged (Err why) w)) [
       | true ↦ λ m. (refl, refl)
       | false ↦ λ m.
@@ -158,7 +158,7 @@ opposed w e i why living absent =
     not_found ids h = cc
 
     by_verdict : (s : List Id) → IsClosure w i s → (v : Option Refusal) → Judges w e s (grown w e i s) v →
-        MatchOption v (IsTypeWith w e s (Err why)) (λ y. (let r : Result (List Id) Refusal = Err why in r ≡ Err y)) → Extends w e i unchanged (Err why) w
+        MatchOption v (IsTypeAfter w e s (Err why)) (λ y. (let r : Result (List Id) Refusal = Err why in r ≡ Err y)) → Extends w e i unchanged (Err why) w
     by_verdict s closure None judges m = absurd (not_found _ m.2)
     by_verdict s closure (Some y) judges m = (s, closure, Some y, judges, (let same : why ≡ y = cc in ap Err same, refl))
 
@@ -213,7 +213,7 @@ module _ (w : WorldState) (e : Entity) (i : Id) (alive : is_alive w e ≡ true) 
 
       dead : names_living w i ≡ false → Meets (Adds w e i) (step.may_add w e i) w (Err why) w
       dead lies =
-          (elim (is_out_of_memory {A = Unit {0}} (Err why)) as (λ b. MatchBool b (IsTrue (names_living w i)) (LeadsTo w e i (Err why)) →
+          (elim (is_out_of_memory {A = Unit {0}} (Err why)) as (λ b. MatchBool b (IsTrue (names_living w i)) (AddLeadsTo w e i (Err why)) →
           MatchBool b (IsTrue (step.may_add w e i) × (w ≡ w)) (Adds w e i (Err why) w)) [
             | true ↦ λ m. absurd (true≢false (sym m ∙ lies))
             | false ↦ λ m.
@@ -226,7 +226,7 @@ module _ (w : WorldState) (e : Entity) (i : Id) (alive : is_alive w e ≡ true) 
       there : names_living w i ≡ true → has w e i ≡ true → Meets (Adds w e i) (step.may_add w e i) w (Err why) w
       there living has_it =
           (elim (is_out_of_memory {A = Unit {0}} (Err why)) as (λ b. (IsTrue b → has w e i ≡ false) →
-          MatchBool b (IsTrue (names_living w i)) (LeadsTo w e i (Err why)) → MatchBool b (IsTrue (step.may_add w e i) × (w ≡ w)) (Adds w e i (Err why) w)) [
+          MatchBool b (IsTrue (names_living w i)) (AddLeadsTo w e i (Err why)) → MatchBool b (IsTrue (step.may_add w e i) × (w ≡ w)) (Adds w e i (Err why) w)) [
             | true ↦ λ lacks m. absurd (true≢false (sym has_it ∙ lacks refl))
             | false ↦ λ lacks m.
                 let own : IsOwnType w e (Err why) =

@@ -33,15 +33,15 @@ all_past t (suc n) (x ∷ xs) all = all_past t n xs (second _ _ all)
 
 -- the store knows no pair of a built-in: it asks for no more fields of one to be 0
 pub fits_stored : (edition : Edition) (v : Indexed Record) (qs : List (List QueryTerm)) (i : Id) (x : Value) → IsTrue (fits (world_with edition v qs) i x)
-    → IsTrue (store.fits v i x)
+    → IsTrue (store.fits_in_store v i x)
 fits_stored edition v qs (One e) x h = h
 fits_stored edition v qs (Two r t) x h = by (is_builtin (world_with edition v qs) r) h
   where
     by : (b : Bool)
         → IsTrue ((length x.0 == FIELD_COUNT)
-        && is_zero_past (unwrap_or (if b then None else option_or (store.own_arity v r) (store.own_arity v t)) 0) x)
-        → IsTrue (store.fits v (Two r t) x)
-    by true fit = both _ _ (first _ _ fit) (all_past _ (unwrap_or (store.arity v (Two r t)) 0) x.0 (second (length x.0 == FIELD_COUNT) _ fit))
+        && is_zero_past (unwrap_or (if b then None else option_or (store.own_arity_in_store v r) (store.own_arity_in_store v t)) 0) x)
+        → IsTrue (store.fits_in_store v (Two r t) x)
+    by true fit = both _ _ (first _ _ fit) (all_past _ (unwrap_or (store.arity_in_store v (Two r t)) 0) x.0 (second (length x.0 == FIELD_COUNT) _ fit))
     by false fit = fit
 
 -- where the world is lawful with the value, the value fits

@@ -12,7 +12,7 @@ use Rattle.eco_ids.specs.Order.{has_item, id_cmp}
 use Rattle.eco_ids.specs.World.{WorldState, Record, entities, held_by, record_of}
 use Rattle.eco_ids.specs.declared.id.Id.{Id}
 use Rattle.eco_tables.specs.Column.{value_in}
-use Rattle.eco_tables.specs.Table.{TableState, Row, entities_of, width_in}
+use Rattle.eco_tables.specs.Table.{TableState, TableRow, entities_of, width_in}
 use Rattle.eco_tables.specs.Tables.{table_in}
 use Rattle.eco_store.specs.Lent.{KeepData}
 use Rattle.eco_store.specs.Store.{IsShown, Stands}
@@ -74,16 +74,16 @@ listed_there (u ∷ ts) t p = elim (element_cases u t ts p) as (λ _. Contains (
 
 -- ---- what a row holds
 
-stands_held : (o : Option Record) (t : TableState) (row : ℕ) (r : Row) → Stands o t row → slice_get t.rows row ≡ Some r →
+stands_held : (o : Option Record) (t : TableState) (row : ℕ) (r : TableRow) → Stands o t row → slice_get t.rows row ≡ Some r →
     unwrap_or (option_map (λ (k : Record). k.held) o) [] ≡ r.held
 stands_held None t row r h at = absurd h
-stands_held (Some k) t row r h at = h.held r ∙ ap (λ (x : Row). x.held) (get_or_from_slice_get t.rows row r r at)
+stands_held (Some k) t row r h at = h.held r ∙ ap (λ (x : TableRow). x.held) (get_or_from_slice_get t.rows row r r at)
 
-rows_show : (w : WorldState) (i : Id) (rows : List Row) → ((k : ℕ) (r : Row) → slice_get rows k ≡ Some r → held_by w r.entity ≡ r.held) →
-    map (λ (r : Row). value_in r.held i) rows ≡ map (λ e. value_in (held_by w e) i) (entities_of rows)
+rows_show : (w : WorldState) (i : Id) (rows : List TableRow) → ((k : ℕ) (r : TableRow) → slice_get rows k ≡ Some r → held_by w r.entity ≡ r.held) →
+    map (λ (r : TableRow). value_in r.held i) rows ≡ map (λ e. value_in (held_by w e) i) (entities_of rows)
 rows_show w i [] each = refl
 rows_show w i (r ∷ rows) each =
-    ap (λ held. value_in held i ∷ map (λ (r : Row). value_in r.held i) rows) (sym (each 0 r refl))
+    ap (λ held. value_in held i ∷ map (λ (r : TableRow). value_in r.held i) rows) (sym (each 0 r refl))
     ∙ ap (λ vs. value_in (held_by w r.entity) i ∷ vs) (rows_show w i rows (λ k x at. each (suc k) x at))
 
 module _ (w : WorldState) (slots : List (Option TableState)) (shown : IsShown (entities w) slots) (kept : KeepData (entities w) slots)

@@ -12,15 +12,15 @@ use Rattle.eco_ids.specs.World.{WorldState, Record, OnEntities, entities, with_e
 use Rattle.eco_ids.specs.declared.refusal.Refusal.{Refusal}
 use Rattle.eco_ids.specs.declared.refusal.Refusal.TheVariants.{NoMoreIds}
 use Rattle.eco_stages.specs.Outcomes.{Outcomes}
-use Rattle.eco_world.specs.Merging.{Appends, Merges, RunsAdmitted, all_commands, has_commands}
+use Rattle.eco_world.specs.Merging.{AppendsOutcomes, Merges, RunsAdmitted, all_commands, has_commands}
 
 -- before the first command
-pub none_ran : (w : WorldState) (before : Outcomes) → Appends w [] before before w
+pub none_ran : (w : WorldState) (before : Outcomes) → AppendsOutcomes w [] before before w
 none_ran w before = ([], sym (append-nil before), refl)
 
-module _ (compose : RunsCompose) (w mid new : WorldState) (cs : List Command) (before between : Outcomes) (ran : Appends w cs before between mid) where
+module _ (compose : RunsCompose) (w mid new : WorldState) (cs : List Command) (before between : Outcomes) (ran : AppendsOutcomes w cs before between mid) where
   -- commands, and others after them
-  pub both_ran : (ds : List Command) (after : Outcomes) → Appends mid ds between after new → Appends w (cs ++ ds) before after new
+  pub both_ran : (ds : List Command) (after : Outcomes) → AppendsOutcomes mid ds between after new → AppendsOutcomes w (cs ++ ds) before after new
   both_ran ds after then = (
     ran.0 ++ then.0,
     then.1 ∙ ap (λ os. os ++ then.0) ran.1 ∙ append_assoc before ran.0 then.0,
@@ -29,7 +29,7 @@ module _ (compose : RunsCompose) (w mid new : WorldState) (cs : List Command) (b
 
   -- and one more
   pub one_more : (c : Command) (r : Result (Unit {0}) Refusal) → Meets (Applies c mid) (may_want c mid) mid r new →
-      Appends w (cs ++ c ∷ []) before (between ++ r ∷ []) new
+      AppendsOutcomes w (cs ++ c ∷ []) before (between ++ r ∷ []) new
   one_more c r met = both_ran (c ∷ []) (between ++ r ∷ []) (r ∷ [], refl, (new, met, refl))
 
 module _ (stages : List (List Command)) (i : ℕ) (d : List Command) (less : i < length stages) where
@@ -58,7 +58,7 @@ module _ {X E : Type 0} (cs : List Command) (count : ℕ) (most : count ≤ leng
 
 -- commands that ran where the indices were admitted
 pub merged : (w mid new : WorldState) (n : ℕ) (cs : List Command) (items : Outcomes) → OnEntities (λ v. Admits {A = Record} v n) w (Ok (tt {0})) mid
-    → Appends mid cs [] items new → Merges w n cs (Ok items) new
+    → AppendsOutcomes mid cs [] items new → Merges w n cs (Ok items) new
 merged w mid new n cs items known ran =
     elim (may_admit (entities w) n) as (λ b.
     MatchBool b (Answers (tt {0}) (admitted n (entities w)) (Ok (tt {0})) known.0) (Refuses NoMoreIds (entities w) (Ok (tt {0})) known.0)

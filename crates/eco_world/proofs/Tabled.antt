@@ -9,7 +9,7 @@ use Rattle.eco_ids.specs.declared.entity.Entity.{Entity}
 use Rattle.eco_ids.specs.declared.id.Id.{Id}
 use Rattle.eco_ids.specs.Layout.{ListedTable, is_distinct}
 use Rattle.eco_ids.specs.Order.{entity_cmp, has_item}
-use Rattle.eco_tables.specs.Table.{TableState, Row, HasIds, entities_of}
+use Rattle.eco_tables.specs.Table.{TableState, TableRow, HasIds, entities_of}
 use Rattle.eco_tables.specs.Tables.{no_row, no_table, slot_of, table_in}
 use Rattle.eco_archetypes.specs.Archetypes.{is_found_by, type_at, row_at}
 use Rattle.eco_store.specs.Store.{IsShown, Stands}
@@ -29,20 +29,20 @@ itself n = (Decides-eqb n n).1 refl
 
 -- ---- rows of a table
 
-row_of : (rows : List Row) (e : Entity) → Contains (entities_of rows) e → (k : ℕ) × (r : Row) × (slice_get rows k ≡ Some r) × (r.entity ≡ e)
+row_of : (rows : List TableRow) (e : Entity) → Contains (entities_of rows) e → (k : ℕ) × (r : TableRow) × (slice_get rows k ≡ Some r) × (r.entity ≡ e)
 row_of [] e p = absurd (no_element e p)
-row_of (r ∷ rows) e p = elim (element_cases r.entity e (entities_of rows) p) as (λ _. (k : ℕ) × (x : Row) × (slice_get (r ∷ rows) k ≡ Some x)
+row_of (r ∷ rows) e p = elim (element_cases r.entity e (entities_of rows) p) as (λ _. (k : ℕ) × (x : TableRow) × (slice_get (r ∷ rows) k ≡ Some x)
     × (x.entity ≡ e)) [
       | inl same ↦ (0, r, refl, same)
       | inr c ↦ let later = row_of rows e c in (suc later.0, later.1, later.2, later.3)
     ]
 
-entity_in_row : (rows : List Row) (k : ℕ) (r : Row) → slice_get rows k ≡ Some r → Contains (entities_of rows) r.entity
+entity_in_row : (rows : List TableRow) (k : ℕ) (r : TableRow) → slice_get rows k ≡ Some r → Contains (entities_of rows) r.entity
 entity_in_row [] k r at = absurd (none-some r at)
-entity_in_row (x ∷ rows) zero r at = subst (λ (y : Row). Contains (entities_of (x ∷ rows)) y.entity) (same_Some x r at) (here x.entity (entities_of rows))
+entity_in_row (x ∷ rows) zero r at = subst (λ (y : TableRow). Contains (entities_of (x ∷ rows)) y.entity) (same_Some x r at) (here x.entity (entities_of rows))
 entity_in_row (x ∷ rows) (suc k) r at = there x.entity r.entity (entities_of rows) (entity_in_row rows k r at)
 
-has_row : (rows : List Row) (e : Entity) → has_item entity_cmp (entities_of rows) e ≡ true → Contains (entities_of rows) e
+has_row : (rows : List TableRow) (e : Entity) → has_item entity_cmp (entities_of rows) e ≡ true → Contains (entities_of rows) e
 has_row [] e h = absurd (true≢false (sym h))
 has_row (r ∷ rows) e h =
     elim (or_parts (is_eq (entity_cmp r.entity e)) (has_item entity_cmp (entities_of rows) e) h) as (λ _. Contains (entities_of (r ∷ rows)) e) [
@@ -51,7 +51,7 @@ has_row (r ∷ rows) e h =
     ]
 
 -- rows of different entities list each once
-distinct_rows : (rows : List Row) → ((i j : ℕ) (r x : Row) → slice_get rows i ≡ Some r → slice_get rows j ≡ Some x → r.entity ≡ x.entity → i ≡ j) →
+distinct_rows : (rows : List TableRow) → ((i j : ℕ) (r x : TableRow) → slice_get rows i ≡ Some r → slice_get rows j ≡ Some x → r.entity ≡ x.entity → i ≡ j) →
     is_distinct (entities_of rows) ≡ true
 distinct_rows [] once = refl
 distinct_rows (r ∷ rows) once = both _ _ (by (has_item entity_cmp (entities_of rows) r.entity) refl)
@@ -64,18 +64,18 @@ distinct_rows (r ∷ rows) once = both _ _ (by (has_item entity_cmp (entities_of
         absurd (omega arith)
     by false h = refl
 
-some_row : (rows : List Row) → 0 < length rows → entities_of rows ≢ []
+some_row : (rows : List TableRow) → 0 < length rows → entities_of rows ≢ []
 some_row [] within e = omega arith
 some_row (r ∷ rows) within e = none_left e
   where
     none_left : ◌≡◌ {A = List Entity} (r.entity ∷ entities_of rows) [] → ⊥
     none_left h = cc
 
-first_row : (rows : List Row) → 0 < length rows → (r : Row) × (slice_get rows 0 ≡ Some r)
+first_row : (rows : List TableRow) → 0 < length rows → (r : TableRow) × (slice_get rows 0 ≡ Some r)
 first_row [] some = absurd (omega arith)
 first_row (r ∷ rows) some = (r, refl)
 
-has_rows : (rows : List Row) (k : ℕ) (r : Row) → slice_get rows k ≡ Some r → 0 < length rows
+has_rows : (rows : List TableRow) (k : ℕ) (r : TableRow) → slice_get rows k ≡ Some r → 0 < length rows
 has_rows rows k r at = let within : k < length rows = slice_get_within rows k r at in omega arith
 
 table_there : (o : Option TableState) → 0 < length (unwrap_or o no_table).rows → o ≡ Some (unwrap_or o no_table)
@@ -174,7 +174,7 @@ stands_typed None t row h typed = absurd h
 stands_typed (Some k) t row h typed = (refl, sym (ap (map (λ p. p.0)) (h.held no_row) ∙ typed row no_row h.within))
 
 module _ (w : WorldState) (slots : List (Option TableState)) (shown : IsShown (entities w) slots) (kinds : HasKinds slots) where
-  row_lives : (n row : ℕ) (r : Row) → row_at slots n row ≡ Some r → IsTrue (is_alive w r.entity) × ((table_in slots n).ids ≡ type_of w r.entity)
+  row_lives : (n row : ℕ) (r : TableRow) → row_at slots n row ≡ Some r → IsTrue (is_alive w r.entity) × ((table_in slots n).ids ≡ type_of w r.entity)
   row_lives n row r at =
       let stands = stands_typed (record_of w r.entity) (table_in slots n) row (shown.rows n row r at) (shown.own n) in
       stands
@@ -194,10 +194,10 @@ module _ (w : WorldState) (slots : List (Option TableState)) (shown : IsShown (e
       by e (Some k) at lives fit = passes_some (λ (r : Record). passes (type_of_record r)) (entities w) e (k, at, fit)
 
   -- the row of a living entity
-  row_there : (e : Entity) → IsTrue (is_alive w e) → (n : ℕ) × (row : ℕ) × (r : Row) × (row_at slots n row ≡ Some r) × (r.entity ≡ e)
+  row_there : (e : Entity) → IsTrue (is_alive w e) → (n : ℕ) × (row : ℕ) × (r : TableRow) × (row_at slots n row ≡ Some r) × (r.entity ≡ e)
   row_there e alive = by (record_of w e) refl alive
     where
-      by : (o : Option Record) → record_of w e ≡ o → is_some o ≡ true → (n : ℕ) × (row : ℕ) × (r : Row) × (row_at slots n row ≡ Some r) × (r.entity ≡ e)
+      by : (o : Option Record) → record_of w e ≡ o → is_some o ≡ true → (n : ℕ) × (row : ℕ) × (r : TableRow) × (row_at slots n row ≡ Some r) × (r.entity ≡ e)
       by None at h = absurd (true≢false (sym h))
       by (Some k) at h = shown.living e k at
 

@@ -26,9 +26,9 @@ RefusesQuery w n may_want why =
     MatchOption (slice_get w.queries n) (why ≡ NoSuchQuery) (λ slots. (why ≡ OutOfMemory) × IsTrue (may_want slots))
 
 -- all these slots hold on an entity of this type
-abbrev pub fulfils : List QueryTerm → List Id → Bool
-fulfils slots ids = list_all (holds ids) slots
+abbrev pub all_slots_hold : List QueryTerm → List Id → Bool
+all_slots_hold slots ids = list_all (holds ids) slots
 
 -- these are the tables of a layout of the world on whose type all these slots hold
 abbrev pub ListsFor : WorldState → List QueryTerm → List ListedTable → Type 0
-ListsFor w slots = ListsBy w (fulfils slots)
+ListsFor w slots = ListsBy w (all_slots_hold slots)

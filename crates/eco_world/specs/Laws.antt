@@ -19,7 +19,7 @@ use Rattle.eco_ids.specs.World.{OnEntities, WorldState, held_by, is_alive}
 use Rattle.eco_stages.specs.Outcomes.{Outcomes}
 use Rattle.eco_world.specs.declared.query_id.QueryId.{QueryId}
 use Rattle.eco_world.specs.declared.table_rows.TableRows.{TableRows}
-use Rattle.eco_world.specs.Cached.{AddsQuery, ListsFor, OfQuery, RefusesQuery, fulfils}
+use Rattle.eco_world.specs.Cached.{AddsQuery, ListsFor, OfQuery, RefusesQuery, all_slots_hold}
 use Rattle.eco_world.specs.Layouts.{LendsValues, ListsBy, ListsWith, lent_by}
 use Rattle.eco_world.specs.Merging.{Merges, may_merge}
 use Rattle.eco_world.specs.Queries.{may_query}
@@ -35,7 +35,7 @@ StandWhere w passes tables =
 pub record ListingsAreExact : Type 0 where
   pub by_type : (w : WorldState) (passes : List Id → Bool) (tables : List ListedTable) → ListsBy w passes tables → StandWhere w passes tables
   pub with_pattern : (w : WorldState) (p : Pattern) (tables : List ListedTable) → ListsWith w p tables → StandWhere w (list_any (pattern_matches p)) tables
-  pub for_slots : (w : WorldState) (slots : List QueryTerm) (tables : List ListedTable) → ListsFor w slots tables → StandWhere w (fulfils slots) tables
+  pub for_slots : (w : WorldState) (slots : List QueryTerm) (tables : List ListedTable) → ListsFor w slots tables → StandWhere w (all_slots_hold slots) tables
 
 -- a value that is lent is the one that the world has for the entity in its row
 abbrev pub ValuesAreLent : Type 0

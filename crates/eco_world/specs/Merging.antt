@@ -14,8 +14,8 @@ abbrev pub all_commands : List (List Command) → List Command
 all_commands stages = flat_map (λ s. s) stages
 
 -- the commands ran on a world, and their outcomes were appended
-abbrev pub Appends : WorldState → List Command → Outcomes → Outcomes → WorldState → Type 0
-Appends w commands before after new = (outcomes : Outcomes) × (after ≡ before ++ outcomes) × Runs w commands outcomes new
+abbrev pub AppendsOutcomes : WorldState → List Command → Outcomes → Outcomes → WorldState → Type 0
+AppendsOutcomes w commands before after new = (outcomes : Outcomes) × (after ≡ before ++ outcomes) × Runs w commands outcomes new
 
 -- n more indices are known, and then the commands run on that world, one after another; the answer is their outcomes
 abbrev pub RunsAdmitted : WorldState → ℕ → List Command → Result Outcomes Refusal → WorldState → Type 0

@@ -12,6 +12,6 @@ pub record EntityIn : Type 0 where
   pub entity : Entity
 
 -- the entity lives, and stands in this row of the table, which keeps fields of each of its ids that is data
-pub record StandsIn (w : WorldState) (e : Entity) (t : TableState) (row : ℕ) : Type 0 where
+pub record StandsInRow (w : WorldState) (e : Entity) (t : TableState) (row : ℕ) : Type 0 where
   pub stands : Stands (record_of w e) t row
   pub kept : KeepsData (entities w) t

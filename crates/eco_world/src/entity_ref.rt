@@ -20,13 +20,13 @@ pub struct EntityRef<'a> {
 
 impl<'a> Model for EntityRef<'a> {
     ghost use Rattle.std.specs.Prelude.{IfSome};
-    ghost use Rattle.eco_world.specs.Refs.{EntityIn, StandsIn};
+    ghost use Rattle.eco_world.specs.Refs.{EntityIn, StandsInRow};
 
     ghost Value = { EntityIn };
 
     ghost view = { λ r. record { world = r.world.now; entity = r.entity } };
 
-    ghost invariant = { λ r. IfSome r.place (λ x. StandsIn r.world.now r.entity x.0.now x.1) };
+    ghost invariant = { λ r. IfSome r.place (λ x. StandsInRow r.world.now r.entity x.0.now x.1) };
 }
 
 impl<'a> EntityRef<'a> {

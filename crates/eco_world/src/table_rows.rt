@@ -1,6 +1,6 @@
 //! A table as a world lists it.
 ghost use Rattle.std.specs.Prelude.{◌≡◌, IfSome, is_some};
-ghost use Rattle.eco_tables.specs.Values.{shown};
+ghost use Rattle.eco_tables.specs.Values.{whole_values};
 
 use crate::world::World;
 use eco_ids::{Entity, Id};
@@ -42,7 +42,7 @@ impl<'a> TableRows<'a> {
     /// The values of an id, one for each of the entities and in their order. A slice has so many fields of each value as are
     /// kept of the id: those past them are 0. The values are lent exactly where the id is one of the type's and is data.
     pub fn values(&self, id: Id) -> Option<Values<'a>>
-        ensures shown { IfSome result (λ values. shown values ≡ lent_by self.now id) }
+        ensures shown { IfSome result (λ values. whole_values values ≡ lent_by self.now id) }
         ensures lent { is_some result ≡ is_lent self.now id }
     {
         // A table may keep fields of a pair of a built-in, which is no data.

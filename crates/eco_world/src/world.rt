@@ -14,7 +14,7 @@ ghost use Rattle.eco_ids.specs.World.{entities, first_world, has, held_by, is_al
 ghost use Rattle.eco_entities.specs.Registration.{entity_at};
 ghost use Rattle.eco_traits.specs.Target.{type_of_record};
 ghost use Rattle.eco_world.specs.Queries.{is_matched};
-ghost use Rattle.eco_world.specs.Refs.{StandsIn};
+ghost use Rattle.eco_world.specs.Refs.{StandsInRow};
 
 use crate::builtins::builtin_store;
 use crate::entity_ref::EntityRef;
@@ -111,12 +111,7 @@ impl World {
     /// that these don't know, such as the system's random bytes: then they can't choose pairs whose keys collide.
     ///
     /// Refused with `OutOfMemory` alone.
-    pub fn seeded(
-        alloc: Global,
-        edition: Edition,
-        limit: u32,
-        seed: u64,
-    ) -> Result<World, Refusal>
+    pub fn seeded(alloc: Global, edition: Edition, limit: u32, seed: u64) -> Result<World, Refusal>
         requires at_least { builtin_count edition ≤ limit }
         requires at_most { limit ≤ 1048576 }
         ensures ok { IfOk result (λ world. world ≡ world_of_edition edition limit) }
@@ -254,7 +249,7 @@ impl World {
     #[inline(always)]
     pub(crate) fn stand(&self, entity: Entity) -> Option<(&Table, usize)>
         ensures { MatchOption result (record_of self.now entity ≡ None)
-            (λ x. StandsIn self.now entity x.0.now x.1) }
+            (λ x. StandsInRow self.now entity x.0.now x.1) }
     {
         self.store.stand(entity)
     }
@@ -263,7 +258,7 @@ impl World {
     #[inline(always)]
     pub(crate) fn value_in(&self, table: &Table, row: usize, id: Id) -> Option<Value>
         requires { row < length table.now.rows }
-        ensures { (e : Entities) → StandsIn self.now e table.now row → result ≡ value_of self.now e id }
+        ensures { (e : Entities) → StandsInRow self.now e table.now row → result ≡ value_of self.now e id }
     {
         self.is_lawful();
         let value = table.kept_value(row, id)?;

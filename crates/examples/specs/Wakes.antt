@@ -8,7 +8,7 @@ use Rattle.eco_ids.specs.declared.pattern.Pattern.TheVariants.{One}
 use Rattle.eco_ids.specs.declared.value.Value.{Value}
 use Rattle.eco_ids.specs.Run.{Command, Set}
 use Rattle.eco_systems.specs.Systems.{IsDeclared}
-use Rattle.eco_bodies.specs.Own.{is_own}
+use Rattle.eco_bodies.specs.Own.{is_only_written}
 
 -- the component of the entity is set to the value, if there is one
 abbrev pub noted : Entity → Entity → Option Value → List Command
@@ -18,4 +18,4 @@ noted wake e (Some v) = Set e (id.One wake) v ∷ []
 pub noted_is_declared : (wake : Entity) (writes : List Pattern) → writes ≡ One wake ∷ [] → (e : Entity) (v : Option Value)
     → AllByRecursion (IsDeclared writes false) (noted wake e v)
 noted_is_declared wake writes h e None = tt
-noted_is_declared wake writes h e (Some v) = (is_own (id.One wake) writes h, tt)
+noted_is_declared wake writes h e (Some v) = (is_only_written (id.One wake) writes h, tt)

@@ -9,5 +9,5 @@ mixed zero n = n
 mixed (suc k) n = ((mixed k n * mixed k n) % 2 ^ 64 + 1442695040888963407) % 2 ^ 64
 
 -- the half of it, which a field can hold
-abbrev pub value_of : ℕ → ℕ → Value
-value_of k n = padded (pos (mixed k n / 2) ∷ [])
+abbrev pub half_value : ℕ → ℕ → Value
+half_value k n = padded (pos (mixed k n / 2) ∷ [])

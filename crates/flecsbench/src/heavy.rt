@@ -3,7 +3,7 @@ ghost use Rattle.std.specs.Prelude.{◌≡◌, ◌∷◌, [], false, refl};
 ghost use Rattle.eco_ids.specs.Run as run;
 ghost use Rattle.eco_ids.specs.declared.id.Id.TheVariants as id;
 ghost use Rattle.eco_ids.specs.declared.pattern.Pattern.TheVariants as pattern;
-ghost use Rattle.eco_bodies.specs.Own.{is_own};
+ghost use Rattle.eco_bodies.specs.Own.{is_only_written};
 ghost use Rattle.flecsbench.specs.Mixing as spec;
 
 use eco_bodies::{BodyRow, Draws, SystemBody, record_command};
@@ -49,7 +49,7 @@ fn mixed(rounds: u32, seed: u32) -> u64
 
 // The value of an entity at this index.
 fn value_of(rounds: u32, index: u32) -> Value
-    ensures { result ≡ spec.value_of rounds index }
+    ensures { result ≡ spec.half_value rounds index }
 {
     Value::of([(mixed(rounds, index) / 2) as i64])
 }
@@ -62,7 +62,7 @@ impl SystemBody for Heavy {
     ghost kills_of = { λ s. false };
 
     ghost commands = { λ s row draws.
-        run.Set row.entity (id.One s.component) (spec.value_of s.rounds row.entity.index) ∷ [] };
+        run.Set row.entity (id.One s.component) (spec.half_value s.rounds row.entity.index) ∷ [] };
 
     ghost taken = { λ s row draws. 0 };
 
@@ -89,7 +89,7 @@ impl SystemBody for Heavy {
         record_command(stage, Command::Set(entity, Id::One(self.component), value))
     }
 
-    ghost declared = { λ s row draws h. (is_own (id.One s.component) s.writes s.own, tt) };
+    ghost declared = { λ s row draws h. (is_only_written (id.One s.component) s.writes s.own, tt) };
 
     ghost settled = { λ s row mine later h. (h, refl) };
 }

@@ -1,6 +1,6 @@
 //! Calls that may want memory and that no step of a script makes: each answers what its row says, where there is enough.
 use eco_ids::entity::{EXCLUSIVE, PANIC, WITH};
-use eco_ids::{Entity, Id, Part, Pattern, Refusal, TypeList};
+use eco_ids::{Edition, Entity, Id, Part, Pattern, Refusal, TypeList};
 use eco_store::{Seed, Store};
 use eco_traits::{Target, target_type};
 use eco_world::World;
@@ -108,6 +108,21 @@ fn one_holds(alloc: Global) -> Result<bool, Refusal> {
     Ok(alone && store.holders(holder)?.is_empty())
 }
 
+// Of eight targets that an entity gets, one after another, those that are found by their pairs, in a world with this seed.
+fn targets_found(alloc: Global, seed: u64) -> Result<usize, Refusal> {
+    let mut world = World::seeded(alloc, Edition::First, 32, seed)?;
+    let likes = world.create(None)?;
+    let holder = world.create(None)?;
+    let mut found = 0;
+    for _ in 0..8 {
+        let target = world.create(None)?;
+        world.add(holder, Id::Two(likes, target))?;
+        let pair = Pattern::Two(Part::Is(likes), Part::Is(target));
+        found += world.tables_with(pair)?.len();
+    }
+    Ok(found)
+}
+
 #[test]
 fn queries_are_shown_as_canonical_texts(rt: HostRuntime) {
     assert!(rt; are_shown(rt.alloc()));
@@ -129,4 +144,11 @@ fn an_add_leads_to_what_with_brings_along(rt: HostRuntime) {
 #[test]
 fn who_has_a_tag_holds_it(rt: HostRuntime) {
     assert!(rt; one_holds(rt.alloc()) == Ok(true));
+}
+
+#[test]
+fn a_seed_changes_no_answer(rt: HostRuntime) {
+    for seed in [0, 1, 0x9e37_79b9_7f4a_7c15] {
+        assert!(rt; targets_found(rt.alloc(), seed) == Ok(8));
+    }
 }

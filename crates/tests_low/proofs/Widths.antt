@@ -6,17 +6,17 @@ use Rattle.eco_ids.specs.declared.value.Value.{Value}
 use Rattle.eco_ids.specs.Order.{id_cmp, id_eq}
 use Rattle.eco_tables.specs.Column.{Fits}
 use Rattle.eco_tables.specs.Table.{TableState, paired, FitsId, Agree}
-use Rattle.eco_tables.specs.Tables.{slot_of, table_in, no_table, Sets}
+use Rattle.eco_tables.specs.Tables.{slot_of, table_in, no_table, SetsSlot}
 
 -- the table has one width, of two fields
 abbrev pub HasTwo : List (Option TableState) → ℕ → Type 0
 HasTwo s n = (table_in s n).widths ≡ 2 ∷ []
 
 module _ (s s' : List (Option TableState)) where
-  pub two_set : (n : ℕ) (t : TableState) → Sets s s' n (Some t) → t.widths ≡ 2 ∷ [] → HasTwo s' n
+  pub two_set : (n : ℕ) (t : TableState) → SetsSlot s s' n (Some t) → t.widths ≡ 2 ∷ [] → HasTwo s' n
   two_set n t sets is = ap (λ o. (unwrap_or o no_table).widths) sets.changed ∙ is
 
-  pub two_kept : (n m : ℕ) (o : Option TableState) → Sets s s' n o → m ≢ n → HasTwo s m → HasTwo s' m
+  pub two_kept : (n m : ℕ) (o : Option TableState) → SetsSlot s s' n o → m ≢ n → HasTwo s m → HasTwo s' m
   two_kept n m o sets apart is = ap (λ x. (unwrap_or x no_table).widths) (sets.others m apart) ∙ is
 
 -- a slot with a table is no empty one

@@ -5,8 +5,8 @@ use Rattle.tests_typed.specs.declared.bounds.Bounds.{Bounds}
 use Rattle.tests_typed.specs.declared.position.Position.{Position}
 
 -- the position of a value's fields
-abbrev pub position_of : Value → Position
-position_of v = record { east = field v 0; north = field v 1 }
+abbrev pub ship_position : Value → Position
+ship_position v = record { east = field v 0; north = field v 1 }
 
 -- the bounds of a value's fields
 abbrev pub bounds_of : Value → Bounds

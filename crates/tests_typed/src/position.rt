@@ -1,7 +1,7 @@
 //! A type with named fields is a component.
 ghost use Rattle.std.specs.Prelude.{refl};
 ghost use Rattle.eco_typed.specs.Fields.{two, two_is};
-ghost use Rattle.tests_typed.specs.Ships.{position_of};
+ghost use Rattle.tests_typed.specs.Ships.{ship_position};
 
 use eco_ids::Value;
 use eco_typed::Component;
@@ -20,7 +20,7 @@ impl Component for Position {
 
     ghost value_of = { λ p. two p.east p.north };
 
-    ghost from = { position_of };
+    ghost from = { ship_position };
 
     fn to_value(&self) -> Value {
         Value::of([self.east, self.north])

@@ -9,7 +9,7 @@ use Rattle.eco_ids.specs.declared.pattern.Pattern.TheVariants.{One}
 use Rattle.eco_ids.specs.declared.value.Value.{Value}
 use Rattle.eco_ids.specs.Run.{Command, Create, Set}
 use Rattle.eco_systems.specs.Systems.{IsDeclared}
-use Rattle.eco_bodies.specs.Own.{is_own}
+use Rattle.eco_bodies.specs.Own.{is_only_written}
 
 -- the first handle becomes a twin with the number, if there is one
 abbrev pub made : Entity → Option Value → List Entity → List Command
@@ -25,7 +25,7 @@ pub made_is_declared : (twin : Entity) (writes : List Pattern) → writes ≡ On
     → AllByRecursion (IsDeclared writes false) (made twin number draws)
 made_is_declared twin writes h None draws = tt
 made_is_declared twin writes h (Some v) [] = tt
-made_is_declared twin writes h (Some v) (e ∷ draws) = (tt, (is_own (id.One twin) writes h, tt))
+made_is_declared twin writes h (Some v) (e ∷ draws) = (tt, (is_only_written (id.One twin) writes h, tt))
 
 pub made_is_settled : (twin : Entity) (number : Option Value) (mine later : List Entity) → makes number ≡ length mine
     → (makes number ≡ length mine) × (made twin number (mine ++ later) ≡ made twin number mine)

@@ -88,7 +88,8 @@ fn used(alloc: Global, store: &mut Store) -> Result<([usize; 2], [usize; 4], [us
 
 // Whether all is made and found in a new store.
 fn is_used(alloc: Global) -> bool {
-    used(alloc, &mut Store::new(alloc, 16, Seed::new(0))) == Ok(([1, 2], [1, 1, 1, 1], [1, 1, 1, 0]))
+    used(alloc, &mut Store::new(alloc, 16, Seed::new(0)))
+        == Ok(([1, 2], [1, 1, 1, 1], [1, 1, 1, 0]))
 }
 
 #[test]

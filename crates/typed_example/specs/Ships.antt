@@ -8,7 +8,7 @@ use Rattle.eco_ids.specs.declared.value.Value.{Value}
 use Rattle.eco_ids.specs.Run.{Command, Set}
 use Rattle.eco_query.specs.Queries.{exactly}
 use Rattle.eco_systems.specs.Systems.{IsDeclared}
-use Rattle.eco_bodies.specs.Own.{is_own}
+use Rattle.eco_bodies.specs.Own.{is_only_written}
 use Rattle.eco_bodies.specs.Sums.{bounded_sum}
 use Rattle.eco_typed.specs.Fields.{field, two}
 use Rattle.typed_example.specs.declared.position.Position.{Position}
@@ -37,6 +37,6 @@ recorded position e _ _ = []
 
 pub recorded_is_declared : (i : Id) (writes : List Pattern) → writes ≡ exactly i ∷ [] → (e : Entity) (at by : Option Value)
     → AllByRecursion (IsDeclared writes false) (recorded i e at by)
-recorded_is_declared i writes h e (Some at) (Some by) = (is_own i writes h, tt)
+recorded_is_declared i writes h e (Some at) (Some by) = (is_only_written i writes h, tt)
 recorded_is_declared i writes h e (Some at) None = tt
 recorded_is_declared i writes h e None by = tt

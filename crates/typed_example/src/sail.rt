@@ -1,7 +1,7 @@
 //! A body in Rust that reads its rows as Rust types.
 ghost use Rattle.std.specs.Prelude.{◌≡◌, ◌∷◌, [], false, refl};
 ghost use Rattle.eco_query.specs.Queries.{exactly};
-ghost use Rattle.eco_typed.specs.Typing.{found_at};
+ghost use Rattle.eco_typed.specs.Typing.{value_found_at};
 ghost use Rattle.typed_example.specs.Ships.{recorded, recorded_is_declared};
 
 use crate::position::Position;
@@ -55,7 +55,7 @@ impl SystemBody for Sail {
 
     // What it records for a row, and how many fresh handles it draws.
     ghost commands = { λ s row draws. recorded s.position.id row.entity
-        (found_at row 0 s.position.id) (found_at row 1 s.velocity.id) };
+        (value_found_at row 0 s.position.id) (value_found_at row 1 s.velocity.id) };
 
     ghost taken = { λ s row draws. 0 };
 
@@ -86,7 +86,7 @@ impl SystemBody for Sail {
 
     // All that it records matches what it writes.
     ghost declared = { λ s row draws h. recorded_is_declared s.position.id s.writes s.own row.entity
-        (found_at row 0 s.position.id) (found_at row 1 s.velocity.id) };
+        (value_found_at row 0 s.position.id) (value_found_at row 1 s.velocity.id) };
 
     // It draws nothing, so it looks at none of the handles that are there.
     ghost settled = { λ s row mine later h. (h, refl) };

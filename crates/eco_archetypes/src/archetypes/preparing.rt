@@ -1,6 +1,6 @@
 //! Room that is promised before rows come, so that changes of many entities take all of theirs before the first row moves.
 ghost use Rattle.std.specs.Prelude.{◌≤◌, ◌+◌, List, ℕ, Some, IsSome, OnOk};
-ghost use Rattle.eco_tables.specs.Tables.{slot_of, table_in, Sets, SetsRoom};
+ghost use Rattle.eco_tables.specs.Tables.{slot_of, table_in, SetsSlot, SetsRoom};
 ghost use Rattle.eco_archetypes.specs.Archetypes.{RowlessIn, SameRows, SameTypes};
 ghost use Rattle.eco_archetypes.specs.Widths.{KeepsWidths};
 
@@ -26,7 +26,7 @@ impl Archetypes {
     /// Takes the promise of room in a table back, so that what a refused call reserved serves the next one.
     pub fn waive(&mut self, slot: usize)
         requires { IsSome (slot_of self.old slot) }
-        ensures sets { Sets self.old self.new slot (Some (record (table_in self.old slot) { room = 0 })) }
+        ensures sets { SetsSlot self.old self.new slot (Some (record (table_in self.old slot) { room = 0 })) }
         ensures types { SameTypes self.old self.new }
         ensures rowless { (slots : List ℕ) → RowlessIn self.old slots → RowlessIn self.new slots }
         ensures rows { SameRows self.old self.new }

@@ -7,7 +7,7 @@ use Rattle.eco_ids.specs.declared.id.Id.{Id}
 use Rattle.eco_ids.specs.declared.refusal.Refusal.{Refusal}
 use Rattle.eco_grammar.specs.Grammar.{WrittenAtom}
 use Rattle.eco_query.specs.Queries.{IsPattern, exactly}
-use Rattle.eco_grammar.specs.Readings.{ok_map, id_of, pattern_of, has_wildcard, is_lone_wildcard}
+use Rattle.eco_grammar.specs.Readings.{ok_map, id_of, pattern_of_atom, has_wildcard, is_lone_wildcard}
 use Rattle.eco_grammar.specs.declared.point.Head.{Head}
 use Rattle.eco_grammar.specs.declared.point.Head.TheVariants as heads
 use Rattle.eco_grammar.specs.declared.last_term.LastTerm.{LastTerm}
@@ -17,12 +17,12 @@ use Rattle.eco_grammar.specs.declared.last_term.LastTerm.TheVariants.{And, Not, 
 abbrev pub last_of : (List ℕ → Option Entity) → Head → Bool → WrittenAtom → Result LastTerm Refusal
 last_of entity_named heads.Plain grouped x =
     if grouped then ok_map (λ i. Alternative i) (id_of entity_named x)
-    else ok_map (λ p. And p) (pattern_of entity_named x)
-last_of entity_named heads.Not grouped x = ok_map (λ p. Not p) (pattern_of entity_named x)
+    else ok_map (λ p. And p) (pattern_of_atom entity_named x)
+last_of entity_named heads.Not grouped x = ok_map (λ p. Not p) (pattern_of_atom entity_named x)
 last_of entity_named heads.Optional grouped x = ok_map (λ i. Optional i) (id_of entity_named x)
 last_of entity_named heads.Alone grouped x =
     if grouped then ok_map (λ i. Alternative i) (id_of entity_named x)
-    else ok_map (λ p. And p) (pattern_of entity_named x)
+    else ok_map (λ p. And p) (pattern_of_atom entity_named x)
 
 -- a wildcard stands in it where none may stand
 abbrev pub misplaces_last : Head → Bool → WrittenAtom → Bool

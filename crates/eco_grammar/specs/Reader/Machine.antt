@@ -11,8 +11,8 @@ use Rattle.eco_grammar.specs.declared.point.Head.{Head}
 use Rattle.eco_grammar.specs.declared.point.Head.TheVariants.{Plain, Not, Optional, Alone}
 
 -- a number with one more digit, if it was not 0 and stays within a bound
-abbrev pub grown : ℕ → ℕ → ℕ → Option ℕ
-grown most n b = if nat_lt 0 n && nat_le (10 * n + (b - 48)) most then Some (10 * n + (b - 48)) else None
+abbrev pub with_digit : ℕ → ℕ → ℕ → Option ℕ
+with_digit most n b = if nat_lt 0 n && nat_le (10 * n + (b - 48)) most then Some (10 * n + (b - 48)) else None
 
 -- `_` alone
 abbrev pub is_lone : List ℕ → Bool
@@ -151,11 +151,11 @@ move n (name_of o from m) b =
     else (if is_lone m && not (takes_wildcard o) then None else move_at n (behind o (part_of from m)) b)
 move n (hash o from) b = if is_digit b then Some (index o from (b - 48)) else None
 move n (index o from i) b =
-    if is_digit b then option_and_then (λ j. Some (index o from j)) (grown 4294967295 i b)
+    if is_digit b then option_and_then (λ j. Some (index o from j)) (with_digit 4294967295 i b)
     else (if b == 46 then Some (dot o from i) else None)
 move n (dot o from i) b = if is_digit b then Some (generation o from i (b - 48)) else None
 move n (generation o from i g) b =
-    if is_digit b then option_and_then (λ h. Some (generation o from i h)) (grown 65535 g b)
+    if is_digit b then option_and_then (λ h. Some (generation o from i h)) (with_digit 65535 g b)
     else move_at n (behind o (named from (handle i g))) b
 
 abbrev pub end_at : Spot → Option (List WrittenSlot)

@@ -58,11 +58,11 @@ AreProperMarks [] = Unit {0}
 AreProperMarks (m ∷ ms) = IsProperMark m × AreProperMarks ms
 
 -- the atom ends a slot that asks for something that is there
-abbrev pub asks : Mark → Bool
-asks marks.Same = false
-asks marks.Begin = false
-asks (marks.Other a x) = false
-asks (marks.Slot a Plain x) = true
-asks (marks.Slot a Not x) = false
-asks (marks.Slot a Optional x) = false
-asks (marks.Slot a Alone x) = true
+abbrev pub ends_positive : Mark → Bool
+ends_positive marks.Same = false
+ends_positive marks.Begin = false
+ends_positive (marks.Other a x) = false
+ends_positive (marks.Slot a Plain x) = true
+ends_positive (marks.Slot a Not x) = false
+ends_positive (marks.Slot a Optional x) = false
+ends_positive (marks.Slot a Alone x) = true

@@ -84,13 +84,13 @@ marked (marks.Other a x) d =
 marked (marks.Slot a h x) d =
     record { slots = machine.slots_with h (before_view d a h) (atom_view x); others = [] }
 
-abbrev pub step_view : List ℕ → ℕ → Draft → Step → machine.Point
-step_view text n d s = point_view text n (marked s.mark d) s.point
+abbrev pub point_of_step : List ℕ → ℕ → Draft → Step → machine.Point
+point_of_step text n d s = point_view text n (marked s.mark d) s.point
 
 -- the step is the machine's at the point, whatever was read before
 abbrev pub IsMove : List ℕ → ℕ → Point → Option Step → Type 0
 IsMove text n p s = (d : Draft)
-    → option_map (step_view text (n + 1) d) s ≡ machine.move n (point_view text n d p) (slice_index text n)
+    → option_map (point_of_step text (n + 1) d) s ≡ machine.move n (point_view text n d p) (slice_index text n)
 
 -- a point, or something else
 abbrev pub or_point : List ℕ → ℕ → Draft → Option Point → Option machine.Point → Option machine.Point

@@ -1,6 +1,6 @@
 //! Which keys may be kept, and where they may stand, told without a look into the map.
 ghost use Rattle.std.specs.Prelude.{◌≡◌, ◌+◌, ◌-◌, ◌^◌, ◌<◌, min, ℕ, true, false, OnOk, IfSome, IfNone};
-ghost use Rattle.eco_index.specs.Marks.{mark_of, may_be_kept, KeepsMarks};
+ghost use Rattle.eco_index.specs.Marks.{key_mark, may_be_kept, KeepsMarks};
 
 use crate::id_index::key::Key;
 use crate::id_index::numbers::Numbers;
@@ -36,7 +36,7 @@ impl Marks {
     // The key's mark, 0 where it has none.
     #[inline(always)]
     fn mark(&self, key: Key) -> u32
-        ensures { result ≡ mark_of self.now key }
+        ensures { result ≡ key_mark self.now key }
     {
         match key {
             Key::Single(entity) => self.singles.get(entity.index),
@@ -58,7 +58,7 @@ impl Marks {
     /// Where the key may stand, if it may be kept.
     #[inline]
     pub fn place(&self, key: Key) -> Option<usize>
-        ensures place { IfSome result (λ place. place + 1 ≡ mark_of self.now key) }
+        ensures place { IfSome result (λ place. place + 1 ≡ key_mark self.now key) }
         ensures none { IfNone result (may_be_kept self.now key ≡ false) }
     {
         let mark = self.mark(key) as usize;
@@ -70,7 +70,7 @@ impl Marks {
     #[inline]
     pub fn note(&mut self, key: Key, place: usize) -> Result<(), AllocError>
         ensures kept { KeepsMarks self.old self.new }
-        ensures ok { OnOk result (mark_of self.new key ≡ min place (2 ^ 32 - 2) + 1) }
+        ensures ok { OnOk result (key_mark self.new key ≡ min place (2 ^ 32 - 2) + 1) }
     {
         let mark = place.min(LAST_PLACE) as u32 + 1;
         match key {

@@ -1,10 +1,10 @@
 //! All who stand in a table die at once, and the table is cleared.
 ghost use Rattle.std.specs.Prelude.{◌≡◌, ◌<◌, ◌≤◌, ◌↔◌, ◌++◌, drop, length, take, IsSome, IsTrue};
-ghost use Rattle.eco_archetypes.specs.Widths.{Covers};
+ghost use Rattle.eco_archetypes.specs.Widths.{MeetsNeeds};
 ghost use Rattle.eco_entities.specs.Needs.{need};
 ghost use Rattle.eco_ids.specs.Order.{entity_cmp, has_item};
 ghost use Rattle.eco_store.specs.Deaths.{after_deaths, with_deaths};
-ghost use Rattle.eco_store.specs.Layout.{rows_in, seen, IsLaid, Loses};
+ghost use Rattle.eco_store.specs.Layout.{rows_in, seen, IsLaid, LosesRows};
 ghost use Rattle.eco_store.specs.Store.{IsStore};
 ghost use Rattle.eco_tables.specs.Table.{entities_of};
 ghost use Rattle.eco_tables.specs.Tables.{slot_of};
@@ -23,7 +23,7 @@ impl Layout {
         requires laid { IsLaid self.old }
         ensures some { 0 < result }
         ensures within { result ≤ length dead.now }
-        ensures loses { Loses self.old self.new }
+        ensures loses { LosesRows self.old self.new }
         ensures seen { seen self.new
             ≡ after_deaths (seen self.old) (has_item entity_cmp (take result dead.now)) }
     {
@@ -48,7 +48,7 @@ impl Layout {
     fn kill_rows(&mut self, slot: usize)
         requires there { IsSome (slot_of self.old.archetypes slot) }
         requires laid { IsLaid self.old }
-        ensures loses { Loses self.old self.new }
+        ensures loses { LosesRows self.old self.new }
         ensures seen { seen self.new ≡ after_deaths (seen self.old)
             (has_item entity_cmp (entities_of (rows_in self.old.archetypes slot))) }
     {
@@ -75,7 +75,7 @@ fn kill_standing(entities: &mut EntityIndex, tables: &Tables, slot: usize)
     requires store { IsStore entities.old tables.now }
     requires there { IsSome (slot_of tables.now slot) }
     ensures dead { entities.new ≡ with_deaths entities.old (entities_of (rows_in tables.now slot)) }
-    ensures covers { Covers (need entities.old) tables.now → Covers (need entities.new) tables.now }
+    ensures covers { MeetsNeeds (need entities.old) tables.now → MeetsNeeds (need entities.new) tables.now }
 {
     needs_never_grow();
     let standing = tables.get(slot).unwrap().rows();

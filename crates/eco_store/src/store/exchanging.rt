@@ -1,7 +1,7 @@
 //! An entity gets one id in the place of another.
 ghost use Rattle.std.specs.Prelude.{◌≡◌, true, false, IsTrue, OnOk, OnErr};
 ghost use Rattle.eco_ids.specs.Indices.{changed, is_alive};
-ghost use Rattle.eco_store.specs.Store.{has, with_exchanged};
+ghost use Rattle.eco_store.specs.Store.{has_in_store, with_exchanged};
 
 use crate::store::Store;
 use eco_ids::{Entity, Id};
@@ -12,8 +12,8 @@ impl Store {
     /// `Err` comes where memory is refused, and then no entity has changed.
     pub fn exchange(&mut self, e: Entity, leaving: Id, coming: Id) -> Result<(), AllocError>
         requires alive { IsTrue (is_alive self.old.entities e) }
-        requires there { has self.old.entities e leaving ≡ true }
-        requires absent { has self.old.entities e coming ≡ false }
+        requires there { has_in_store self.old.entities e leaving ≡ true }
+        requires absent { has_in_store self.old.entities e coming ≡ false }
         ensures ok { OnOk result
             (self.new.entities ≡ changed self.old.entities e (with_exchanged leaving coming)) }
         ensures err { OnErr result (self.new.entities ≡ self.old.entities) }

@@ -2,7 +2,7 @@
 ghost use Rattle.std.specs.Prelude.{◌≡◌, [], Some, IsTrue, IsOk, OnOk, OnErr};
 ghost use Rattle.eco_ids.specs.Indices.{changed, is_alive};
 ghost use Rattle.eco_store.specs.Moving.{after_moves};
-ghost use Rattle.eco_store.specs.Store.{type_of, with_type};
+ghost use Rattle.eco_store.specs.Store.{type_in_store, with_type};
 
 use crate::moving::Move;
 use crate::store::Store;
@@ -16,7 +16,7 @@ impl Store {
         requires { IsTrue (is_alive self.old.entities e) }
         ensures ok { OnOk result (self.new.entities ≡ changed self.old.entities e (with_type type_list.now)) }
         ensures err { OnErr result (self.new.entities ≡ self.old.entities) }
-        ensures own { type_of self.old.entities e ≡ Some type_list.now → IsOk result }
+        ensures own { type_in_store self.old.entities e ≡ Some type_list.now → IsOk result }
     {
         let tables = self.layout.archetypes.tables();
         tables.rows_have_ids();

@@ -6,7 +6,7 @@ ghost use Rattle.eco_ids.specs.Matching.{pattern_matches};
 ghost use Rattle.eco_ids.specs.declared.id.Id.{Id as Ids};
 ghost use Rattle.eco_tables.specs.Tables.{slot_of, table_in};
 ghost use Rattle.eco_archetypes.specs.Archetypes.{IsAllFound};
-ghost use Rattle.eco_store.specs.Holders.{passes, has_match, entities_whose, entities_with, is_holder, holders};
+ghost use Rattle.eco_store.specs.Holders.{passes, has_match, entities_whose, entities_with, is_holder, entities_naming};
 ghost use Rattle.eco_store.specs.Retyping.{IsTypeWith};
 ghost use Rattle.eco_store.specs.Lent.{AreTablesOf};
 
@@ -91,7 +91,7 @@ impl Store {
     /// The living entities that have an id which names this one, ascending. Its time grows with how many they are, and with
     /// the tables whose types name it. An `Err` comes where memory is refused, and never where nobody has such an id.
     pub fn holders(&self, e: Entity) -> Result<Vec<Entity>, AllocError>
-        ensures all { IfOk result (λ v. v.items ≡ holders self.now.entities e) }
+        ensures all { IfOk result (λ v. v.items ≡ entities_naming self.now.entities e) }
         ensures some { OnErr result (IsTrue (list_any (λ p. is_holder e p.1) (living self.now.entities))) }
     {
         self.entities_by(&Naming { entity: e })

@@ -1,7 +1,7 @@
 //! The table in a slot takes another type where it stands.
 ghost use Rattle.std.specs.Prelude.{◌≡◌, ◌≤◌, false, Some, IsSome, OnOk, OnErr};
 ghost use Rattle.eco_ids.specs.Order.{id_cmp, has_item, with_item, without_item};
-ghost use Rattle.eco_tables.specs.Tables.{slot_of, table_in, turned, Sets};
+ghost use Rattle.eco_tables.specs.Tables.{slot_of, table_in, turned, SetsSlot};
 
 use crate::tables::Tables;
 use eco_ids::Id;
@@ -15,10 +15,10 @@ impl Tables {
         requires there { IsSome (slot_of self.old slot) }
         requires absent { has_item id_cmp (table_in self.old slot).ids id ≡ false }
         requires width { width ≤ FIELD_COUNT }
-        ensures ok { OnOk result (Sets self.old self.new slot
+        ensures ok { OnOk result (SetsSlot self.old self.new slot
             (Some (turned (table_in self.old slot)
             (with_item id_cmp (table_in self.old slot).ids id) id width))) }
-        ensures err { OnErr result (Sets self.old self.new slot (slot_of self.old slot)) }
+        ensures err { OnErr result (SetsSlot self.old self.new slot (slot_of self.old slot)) }
     {
         let Some(table) = &mut self.slots[slot] else {
             unreachable!()
@@ -30,7 +30,7 @@ impl Tables {
     /// The type of a table loses an id, if it has it, and each row the value. It takes no memory.
     pub fn lose(&mut self, slot: usize, id: Id)
         requires { IsSome (slot_of self.old slot) }
-        ensures { Sets self.old self.new slot
+        ensures { SetsSlot self.old self.new slot
             (Some (turned (table_in self.old slot)
             (without_item id_cmp (table_in self.old slot).ids id) id 0)) }
     {

@@ -4,7 +4,7 @@ ghost use Rattle.eco_ids.specs.declared.refusal.Refusal.TheVariants.{NoSuchQuery
 ghost use Rattle.eco_ids.specs.Answer.{answer};
 ghost use Rattle.eco_ids.specs.Outcome.{Meets};
 ghost use Rattle.eco_answers.specs.Answers.{asked};
-ghost use Rattle.eco_world.specs.Cached.{AddsQuery, ListsFor, OfQuery, RefusesQuery, fulfils};
+ghost use Rattle.eco_world.specs.Cached.{AddsQuery, ListsFor, OfQuery, RefusesQuery, all_slots_hold};
 ghost use Rattle.eco_world.specs.Layouts.{LendsValues, listed};
 ghost use Rattle.eco_world.specs.Queries.{is_passed, may_query, result_of};
 
@@ -73,7 +73,7 @@ impl World {
             OfQuery self.now query.0 (λ slots. ListsFor self.now slots (listed tables.items))) }
         ensures values { IfOk result (λ tables. All (LendsValues self.now) tables.items) }
         ensures err { IfErr result
-            (RefusesQuery self.now query.0 (λ slots. is_passed self.now (fulfils slots))) }
+            (RefusesQuery self.now query.0 (λ slots. is_passed self.now (all_slots_hold slots))) }
     {
         let kept = self.kept(query)?;
         let asking = Asking {

@@ -4,7 +4,7 @@ ghost use Rattle.std.specs.List.{list_any};
 ghost use Rattle.eco_ids.specs.Delete.{DeletesOne, may_delete, DeletesWith, may_delete_with};
 ghost use Rattle.eco_ids.specs.Outcome.{Meets};
 ghost use Rattle.eco_ids.specs.World.{living};
-ghost use Rattle.eco_index.specs.TypeTests.{names_any};
+ghost use Rattle.eco_index.specs.TypeTests.{type_names};
 ghost use Rattle.eco_store.specs.Store.{record_ids};
 
 use crate::world::World;
@@ -48,7 +48,7 @@ impl World {
 
     // Whether some living entity has an id that names this one: where none has, its death touches no other.
     fn is_named(&self, entity: Entity) -> bool
-        ensures { result ≡ list_any (λ p. names_any (record_ids p.1) entity) (living self.now) }
+        ensures { result ≡ list_any (λ p. type_names (record_ids p.1) entity) (living self.now) }
     {
         self.store.is_named(entity)
     }

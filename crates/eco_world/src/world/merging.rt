@@ -6,7 +6,7 @@ ghost use Rattle.eco_ids.specs.Outcome.{Meets};
 ghost use Rattle.eco_ids.specs.Run.{Applies, may_want};
 ghost use Rattle.eco_ids.specs.World.{entities, OnEntities};
 ghost use Rattle.eco_stages.specs.Commands.{command_of, commands_of};
-ghost use Rattle.eco_world.specs.Merging.{all_commands, has_commands, Appends, Merges, may_merge};
+ghost use Rattle.eco_world.specs.Merging.{all_commands, has_commands, AppendsOutcomes, Merges, may_merge};
 
 use crate::settable::Settable;
 use crate::world::World;
@@ -48,7 +48,7 @@ impl World {
     // The commands of all stages are done, and their outcomes appended.
     fn run_all(&mut self, stages: &[Stage], outcomes: &mut Outcomes)
         requires { length outcomes.old.outcomes + length (all_commands stages.now) ≤ outcomes.old.room }
-        ensures { Appends self.old (all_commands stages.now)
+        ensures { AppendsOutcomes self.old (all_commands stages.now)
             outcomes.old.outcomes outcomes.new.outcomes self.new }
     {
         eco_ids::laws::runs_keep_lawful();
@@ -60,7 +60,7 @@ impl World {
     // The commands are done, one after another, and their outcomes appended.
     fn run(&mut self, commands: &[Command], outcomes: &mut Outcomes)
         requires { length outcomes.old.outcomes + length commands.now ≤ outcomes.old.room }
-        ensures ran { Appends self.old (commands_of commands.now)
+        ensures ran { AppendsOutcomes self.old (commands_of commands.now)
             outcomes.old.outcomes outcomes.new.outcomes self.new }
         ensures grown { length outcomes.new.outcomes ≡ length outcomes.old.outcomes + length commands.now }
         ensures room { outcomes.new.room ≡ outcomes.old.room }
@@ -79,7 +79,7 @@ impl World {
         requires room { length outcomes.old.outcomes + length commands.now ≤ outcomes.old.room }
         ensures some { 0 < result }
         ensures within { result ≤ length commands.now }
-        ensures ran { Appends self.old (commands_of (take result commands.now))
+        ensures ran { AppendsOutcomes self.old (commands_of (take result commands.now))
             outcomes.old.outcomes outcomes.new.outcomes self.new }
         ensures grown { length outcomes.new.outcomes ≡ length outcomes.old.outcomes + result }
         ensures room { outcomes.new.room ≡ outcomes.old.room }
@@ -99,7 +99,7 @@ impl World {
         requires room { length outcomes.old.outcomes + length commands.now ≤ outcomes.old.room }
         ensures some { 0 < result }
         ensures within { result ≤ length commands.now }
-        ensures ran { Appends self.old (commands_of (take result commands.now))
+        ensures ran { AppendsOutcomes self.old (commands_of (take result commands.now))
             outcomes.old.outcomes outcomes.new.outcomes self.new }
         ensures grown { length outcomes.new.outcomes ≡ length outcomes.old.outcomes + result }
         ensures room { outcomes.new.room ≡ outcomes.old.room }
@@ -123,7 +123,7 @@ impl World {
     #[inline(always)]
     fn run_one(&mut self, command: &Command, outcomes: &mut Outcomes)
         requires { length outcomes.old.outcomes < outcomes.old.room }
-        ensures ran { Appends self.old (command_of command.now ∷ [])
+        ensures ran { AppendsOutcomes self.old (command_of command.now ∷ [])
             outcomes.old.outcomes outcomes.new.outcomes self.new }
         ensures grown { length outcomes.new.outcomes ≡ length outcomes.old.outcomes + 1 }
         ensures room { outcomes.new.room ≡ outcomes.old.room }

@@ -1,5 +1,5 @@
 use Rattle.std.proofs.Common.{◌≡◌, ◌++◌, ◌-◌, sym, ap, ◌∙◌, arith, append-nil}
-use Rattle.eco_answers.specs.Blocks.{rows_from}
+use Rattle.eco_answers.specs.Blocks.{standings_from}
 use Rattle.eco_answers.proofs.Blocked.{rows_step}
 use Rattle.eco_answers.proofs.blocks.add_rows.Goals as goal
 
@@ -7,7 +7,7 @@ pub loop-place-init : goal.loop-place-init
 loop-place-init c =
     let none : 0 ≡ c.args.block.first - c.args.block.first = omega arith in
     record {
-      made = sym (append-nil c.args.rows.now.items) ∙ ap (λ n. c.args.rows.now.items ++ rows_from c.args.entity c.args.block.first n) none;
+      made = sym (append-nil c.args.rows.now.items) ∙ ap (λ n. c.args.rows.now.items ++ standings_from c.args.entity c.args.block.first n) none;
       within = omega arith;
     }
 
@@ -22,4 +22,4 @@ pub returns : goal.returns
 returns c =
     let all : c.loop-place.place - c.args.block.first ≡ c.args.block.end - c.args.block.first =
     omega (arith, c.loop-place.invariant.within, c.loop-place-test.false) in
-    c.loop-place.invariant.made ∙ ap (λ n. c.args.rows.now.items ++ rows_from c.args.entity c.args.block.first n) all
+    c.loop-place.invariant.made ∙ ap (λ n. c.args.rows.now.items ++ standings_from c.args.entity c.args.block.first n) all

@@ -1,9 +1,9 @@
 use Rattle.std.proofs.Common.{◌≡◌, ◌++◌, ◌-◌, ◌≤◌}
-use Rattle.eco_answers.specs.Blocks.{rows_from}
+use Rattle.eco_answers.specs.Blocks.{standings_from}
 use Rattle.eco_answers.proofs.blocks.add_rows.Given as goal
 
 abbrev pub invariant-loop-place : goal.invariant-loop-place
 invariant-loop-place l = record {
-  made : l.rows.items ≡ l.fn.rows.items ++ rows_from l.entity l.fn.block.first (l.place - l.fn.block.first);
+  made : l.rows.items ≡ l.fn.rows.items ++ standings_from l.entity l.fn.block.first (l.place - l.fn.block.first);
   within : l.place - l.fn.block.first ≤ l.fn.block.end - l.fn.block.first;
 }

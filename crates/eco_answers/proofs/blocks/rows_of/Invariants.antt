@@ -1,6 +1,6 @@
 use Rattle.std.proofs.Common.{◌≡◌, ◌++◌}
-use Rattle.eco_answers.specs.Blocks.{rows_of}
+use Rattle.eco_answers.specs.Blocks.{standings_of}
 use Rattle.eco_answers.proofs.blocks.rows_of.Given as goal
 
 abbrev pub invariant-loop-stands : goal.invariant-loop-stands
-invariant-loop-stands l = l.rows.items ++ rows_of l.blocks l.stands-iterator ≡ rows_of l.blocks l.standings
+invariant-loop-stands l = l.rows.items ++ standings_of l.blocks l.stands-iterator ≡ standings_of l.blocks l.standings

@@ -2,7 +2,7 @@ use Rattle.std.proofs.Common.{◌≡◌, ◌<◌, List, map, ap, ◌∙◌, sym,
 use Rattle.std.specs.List.{All}
 use Rattle.eco_store.specs.declared.standing.Standing.{Standing}
 use Rattle.eco_answers.specs.Answers.{asks}
-use Rattle.eco_answers.specs.Blocks.{rows_of, shown}
+use Rattle.eco_answers.specs.Blocks.{standings_of, shown}
 use Rattle.eco_answers.proofs.Blocked.{all_shown, rows_within}
 use Rattle.eco_answers.proofs.results.expanded_in.Goals as goal
 
@@ -11,8 +11,8 @@ with_rows-requires c =
     let found = c.args.found in
     let made = c.in_ok-made.made in
     let are = rw (c.tables.ensures.same, c.deref.ensures.value) at c.in_ok-made.ensures.blocks in
-    let rows : c.among.result ≡ rows_of made.list.items found.list =
-    c.among.ensures ∙ c.in_ok-rows.ensures ∙ ap (λ bs. rows_of bs found.list) c.deref-2.ensures.value in
+    let rows : c.among.result ≡ standings_of made.list.items found.list =
+    c.among.ensures ∙ c.in_ok-rows.ensures ∙ ap (λ bs. standings_of bs found.list) c.deref-2.ensures.value in
     subst (λ (ss : List Standing). All (λ (s : Standing). s.place < length made.choices.all) ss) (sym rows)
     (rows_within found.tables.now found.slots.items (asks c.args.terms.now) made are found.list c.requires.places)
 
@@ -22,5 +22,5 @@ returns c =
     let made = c.in_ok-made.made in
     let are = rw (c.tables.ensures.same, c.deref.ensures.value) at c.in_ok-made.ensures.blocks in
     c.with_rows.ensures
-    ∙ ap (map (shown made.choices.all)) (c.among.ensures ∙ c.in_ok-rows.ensures ∙ ap (λ bs. rows_of bs found.list) c.deref-2.ensures.value)
+    ∙ ap (map (shown made.choices.all)) (c.among.ensures ∙ c.in_ok-rows.ensures ∙ ap (λ bs. standings_of bs found.list) c.deref-2.ensures.value)
     ∙ all_shown found.tables.now found.slots.items (asks c.args.terms.now) made are found.list c.requires.places

@@ -1,6 +1,6 @@
 use Rattle.std.proofs.Common.{◌≡◌, ◌++◌, map, take}
-use Rattle.eco_batches.specs.Brought.{brought, key_of}
+use Rattle.eco_batches.specs.Brought.{brought, pattern_key}
 use Rattle.eco_batches.proofs.brought.append_brought.Given as goal
 
 abbrev pub invariant-loop-id : goal.invariant-loop-id
-invariant-loop-id l = l.found.items ≡ l.initial.found.items ++ map key_of (brought l.pattern (take l.id-index l.ids))
+invariant-loop-id l = l.found.items ≡ l.initial.found.items ++ map pattern_key (brought l.pattern (take l.id-index l.ids))

@@ -1,13 +1,13 @@
 use Rattle.std.proofs.Common.{[], map, ap, ◌∙◌, refl}
 use Rattle.std.proofs.lemmas.List.{take_all}
-use Rattle.eco_batches.specs.Brought.{key_of}
+use Rattle.eco_batches.specs.Brought.{pattern_key}
 use Rattle.eco_batches.proofs.Orders.{map_more}
 use Rattle.eco_batches.proofs.brought.keys_of.Goals as goal
 
 pub loop-pattern-preserved : goal.loop-pattern-preserved
 loop-pattern-preserved c =
-    map_more key_of c.args.patterns.now c.loop-pattern.pattern-index _ _ [] c.loop-pattern.keys.items c.push.new.self.items c.loop-pattern-test.true
+    map_more pattern_key c.args.patterns.now c.loop-pattern.pattern-index _ _ [] c.loop-pattern.keys.items c.push.new.self.items c.loop-pattern-test.true
     c.loop-pattern.invariant refl c.in_ok-push.ensures.items
 
 pub returns : goal.returns
-returns c = c.loop-pattern.invariant ∙ ap (map key_of) (take_all c.loop-pattern.pattern-index c.args.patterns.now c.loop-pattern-test.false)
+returns c = c.loop-pattern.invariant ∙ ap (map pattern_key) (take_all c.loop-pattern.pattern-index c.args.patterns.now c.loop-pattern-test.false)

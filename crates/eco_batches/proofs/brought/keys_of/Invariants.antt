@@ -1,6 +1,6 @@
 use Rattle.std.proofs.Common.{◌≡◌, map, take}
-use Rattle.eco_batches.specs.Brought.{key_of}
+use Rattle.eco_batches.specs.Brought.{pattern_key}
 use Rattle.eco_batches.proofs.brought.keys_of.Given as goal
 
 abbrev pub invariant-loop-pattern : goal.invariant-loop-pattern
-invariant-loop-pattern l = l.keys.items ≡ map key_of (take l.pattern-index l.patterns)
+invariant-loop-pattern l = l.keys.items ≡ map pattern_key (take l.pattern-index l.patterns)

@@ -2,7 +2,7 @@ use Rattle.std.proofs.Common.{ap, ◌∙◌, map}
 use Rattle.std.proofs.lemmas.List.{take_all}
 use Rattle.indexmap.specs.IndexSet.{insert_all}
 use Rattle.eco_systems.specs.Writes as writes
-use Rattle.eco_batches.specs.Brought.{same}
+use Rattle.eco_batches.specs.Brought.{same_pattern}
 use Rattle.eco_batches.proofs.Once.{once_more}
 use Rattle.eco_batches.proofs.closed.add_few.Goals as goal
 
@@ -15,5 +15,5 @@ loop-pattern-preserved g c =
 pub returns : goal.returns
 returns g c =
     c.loop-pattern.invariant
-    ∙ ap (λ xs. insert_all same c.args.closed.now.items (map (writes.widened (g.H.Holdings.world c.args.holdings.now)) xs))
+    ∙ ap (λ xs. insert_all same_pattern c.args.closed.now.items (map (writes.widened (g.H.Holdings.world c.args.holdings.now)) xs))
     (take_all c.loop-pattern.pattern-index c.args.patterns.now c.loop-pattern-test.false)

@@ -1,9 +1,9 @@
 use Rattle.std.proofs.Common.{◌≡◌, map, take}
 use Rattle.indexmap.specs.IndexSet.{insert_all}
 use Rattle.eco_systems.specs.Writes as writes
-use Rattle.eco_batches.specs.Brought.{same}
+use Rattle.eco_batches.specs.Brought.{same_pattern}
 use Rattle.eco_batches.proofs.closed.add_few.Given as goal
 
 abbrev pub invariant-loop-pattern : goal.invariant-loop-pattern
-invariant-loop-pattern g l = l.closed.items ≡ insert_all same l.initial.closed.items
+invariant-loop-pattern g l = l.closed.items ≡ insert_all same_pattern l.initial.closed.items
     (map (writes.widened (g.H.Holdings.world l.holdings)) (take l.pattern-index l.patterns))

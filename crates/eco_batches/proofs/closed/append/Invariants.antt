@@ -1,6 +1,6 @@
 use Rattle.std.proofs.Common.{◌≡◌, ◌++◌, map, take}
-use Rattle.eco_batches.specs.Brought.{pattern_of}
+use Rattle.eco_batches.specs.Brought.{key_pattern}
 use Rattle.eco_batches.proofs.closed.append.Given as goal
 
 abbrev pub invariant-loop-key : goal.invariant-loop-key
-invariant-loop-key l = l.closed.items ≡ l.initial.closed.items ++ map pattern_of (take l.key-index l.keys)
+invariant-loop-key l = l.closed.items ≡ l.initial.closed.items ++ map key_pattern (take l.key-index l.keys)

@@ -1,7 +1,7 @@
 use Rattle.std.proofs.Common.{◌++◌, map, ap, ◌∙◌}
 use Rattle.indexmap.specs.IndexSet.{insert_all}
 use Rattle.eco_systems.specs.Writes as writes
-use Rattle.eco_batches.specs.Brought.{once, pattern_of, same}
+use Rattle.eco_batches.specs.Brought.{unrepeated, key_pattern, same_pattern}
 use Rattle.eco_batches.proofs.Done.{if_done}
 use Rattle.eco_batches.proofs.Once.{lists_closed, once_is_distinct}
 use Rattle.eco_batches.proofs.closed.list_closed.Goals as goal
@@ -11,7 +11,7 @@ returns-then-bring_nothing-clause-closed g c =
     let w = g.H.Holdings.world c.args.holdings.now in
     if_done
     (λ made. lists_closed w c.args.writes.now c.args.writes.now c.add_few.new.closed.items (c.bring_nothing.ensures c.if-bring_nothing.true)
-    (made ∙ ap (λ ks. insert_all same ks (map (writes.widened w) c.args.writes.now)) c.clear.ensures.items))
+    (made ∙ ap (λ ks. insert_all same_pattern ks (map (writes.widened w) c.args.writes.now)) c.clear.ensures.items))
     c.add_few.result c.add_few.ensures
 
 pub returns-then-bring_nothing-clause-once : goal.returns-then-bring_nothing-clause-once
@@ -19,23 +19,23 @@ returns-then-bring_nothing-clause-once g c =
     let w = g.H.Holdings.world c.args.holdings.now in
     if_done
     (λ made. once_is_distinct c.add_few.new.closed.items (map (writes.widened w) c.args.writes.now)
-    (made ∙ ap (λ ks. insert_all same ks (map (writes.widened w) c.args.writes.now)) c.clear.ensures.items))
+    (made ∙ ap (λ ks. insert_all same_pattern ks (map (writes.widened w) c.args.writes.now)) c.clear.ensures.items))
     c.add_few.result c.add_few.ensures
 
 pub returns-clause-closed : goal.returns-clause-closed
 returns-clause-closed g c =
     let w = g.H.Holdings.world c.args.holdings.now in
     if_done
-    (λ made. lists_closed w c.args.writes.now (map pattern_of c.in_ok-all.all.keys) c.append.new.closed.items c.in_ok-all.ensures
-    (made ∙ ap (λ ks. ks ++ map pattern_of c.as_slice-2.result.now) c.clear.ensures.items ∙ ap (map pattern_of) c.as_slice-2.ensures.keys
-    ∙ c.in_ok-widened.ensures ∙ ap (λ ks. once (map (writes.widened w) (map pattern_of ks))) c.as_slice.ensures.keys))
+    (λ made. lists_closed w c.args.writes.now (map key_pattern c.in_ok-all.all.keys) c.append.new.closed.items c.in_ok-all.ensures
+    (made ∙ ap (λ ks. ks ++ map key_pattern c.as_slice-2.result.now) c.clear.ensures.items ∙ ap (map key_pattern) c.as_slice-2.ensures.keys
+    ∙ c.in_ok-widened.ensures ∙ ap (λ ks. unrepeated (map (writes.widened w) (map key_pattern ks))) c.as_slice.ensures.keys))
     c.append.result c.append.ensures
 
 pub returns-clause-once : goal.returns-clause-once
 returns-clause-once g c =
     let w = g.H.Holdings.world c.args.holdings.now in
     if_done
-    (λ made. once_is_distinct c.append.new.closed.items (map (writes.widened w) (map pattern_of c.in_ok-all.all.keys))
-    (made ∙ ap (λ ks. ks ++ map pattern_of c.as_slice-2.result.now) c.clear.ensures.items ∙ ap (map pattern_of) c.as_slice-2.ensures.keys
-    ∙ c.in_ok-widened.ensures ∙ ap (λ ks. once (map (writes.widened w) (map pattern_of ks))) c.as_slice.ensures.keys))
+    (λ made. once_is_distinct c.append.new.closed.items (map (writes.widened w) (map key_pattern c.in_ok-all.all.keys))
+    (made ∙ ap (λ ks. ks ++ map key_pattern c.as_slice-2.result.now) c.clear.ensures.items ∙ ap (map key_pattern) c.as_slice-2.ensures.keys
+    ∙ c.in_ok-widened.ensures ∙ ap (λ ks. unrepeated (map (writes.widened w) (map key_pattern ks))) c.as_slice.ensures.keys))
     c.append.result c.append.ensures

@@ -1,7 +1,7 @@
 use Rattle.std.proofs.Common.{ap, ◌∙◌, map}
 use Rattle.std.proofs.lemmas.List.{take_all}
 use Rattle.eco_systems.specs.Writes as writes
-use Rattle.eco_batches.specs.Brought.{once, pattern_of}
+use Rattle.eco_batches.specs.Brought.{unrepeated, key_pattern}
 use Rattle.eco_batches.proofs.Once.{keyed_more}
 use Rattle.eco_batches.proofs.closed.widened_once.Goals as goal
 
@@ -13,5 +13,5 @@ loop-key-preserved g c =
 pub returns : goal.returns
 returns g c =
     c.loop-key.invariant
-    ∙ ap (λ ks. once (map (writes.widened (g.H.Holdings.world c.args.holdings.now)) (map pattern_of ks)))
+    ∙ ap (λ ks. unrepeated (map (writes.widened (g.H.Holdings.world c.args.holdings.now)) (map key_pattern ks)))
     (take_all c.loop-key.key-index c.args.keys.now c.loop-key-test.false)

@@ -1,8 +1,8 @@
 use Rattle.std.proofs.Common.{◌≡◌, map, take}
 use Rattle.eco_systems.specs.Writes as writes
-use Rattle.eco_batches.specs.Brought.{once, pattern_of}
+use Rattle.eco_batches.specs.Brought.{unrepeated, key_pattern}
 use Rattle.eco_batches.proofs.closed.widened_once.Given as goal
 
 abbrev pub invariant-loop-key : goal.invariant-loop-key
-invariant-loop-key g l = map pattern_of l.all.keys
-    ≡ once (map (writes.widened (g.H.Holdings.world l.holdings)) (map pattern_of (take l.key-index l.keys)))
+invariant-loop-key g l = map key_pattern l.all.keys
+    ≡ unrepeated (map (writes.widened (g.H.Holdings.world l.holdings)) (map key_pattern (take l.key-index l.keys)))

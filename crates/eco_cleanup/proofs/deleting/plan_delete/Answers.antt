@@ -3,8 +3,8 @@ use Rattle.eco_ids.specs.Cleanup.{IsDoomed}
 use Rattle.eco_ids.specs.Order.{entity_cmp, has_item}
 use Rattle.eco_ids.specs.declared.entity.Entity.{Entity}
 use Rattle.eco_cleanup.specs.Nodes.{AreStarts, taken_among}
-use Rattle.eco_cleanup.specs.Objections.{Answers}
-use Rattle.eco_cleanup.specs.Plans.{IsPlan}
+use Rattle.eco_cleanup.specs.Objections.{AnswersDelete}
+use Rattle.eco_cleanup.specs.Plans.{IsDeletePlan}
 use Rattle.eco_store.specs.Worlds.{world_of}
 use Rattle.eco_cleanup.proofs.Deaths.{taken_roots}
 use Rattle.eco_cleanup.proofs.Noted.{roots_start}
@@ -16,12 +16,12 @@ plan-requires-clause-starts c = subst AreStarts (sym (c.deref.ensures.value ∙ 
 pub returns-clause-planned : goal.returns-clause-planned
 returns-clause-planned c =
     let slots = c.places.result in
-    subst (λ es. IfOk c.plan.result (λ p. IsPlan c.args.store.now.entities (λ x. IsTrue (has_item entity_cmp es x)) p.dead.items p.changes.items))
+    subst (λ es. IfOk c.plan.result (λ p. IsDeletePlan c.args.store.now.entities (λ x. IsTrue (has_item entity_cmp es x)) p.dead.items p.changes.items))
     (ap (taken_among slots) (c.deref.ensures.value ∙ c.in_ok-starts.ensures) ∙ taken_roots slots c.args.roots.now) c.plan.ensures.planned
 
 pub returns-clause-judged : goal.returns-clause-judged
 returns-clause-judged c =
     let slots = c.places.result in
     let w = world_of c.args.store.now.entities in
-    subst (λ es. (members : List Entity) → IsDoomed w (λ x. IsTrue (has_item entity_cmp es x)) members → Answers w members c.plan.result)
+    subst (λ es. (members : List Entity) → IsDoomed w (λ x. IsTrue (has_item entity_cmp es x)) members → AnswersDelete w members c.plan.result)
     (ap (taken_among slots) (c.deref.ensures.value ∙ c.in_ok-starts.ensures) ∙ taken_roots slots c.args.roots.now) c.plan.ensures.judged

@@ -1,11 +1,11 @@
 use Rattle.std.proofs.Common.{length, ◌-◌, ◌≤◌}
-use Rattle.eco_entities.specs.Changes.{Keeps}
+use Rattle.eco_entities.specs.Changes.{KeepsAnswers}
 use Rattle.eco_entities.specs.Keys.{found_among}
 use Rattle.eco_entities.proofs.short_names.cover.Given as goal
 
 abbrev pub invariant-loop-trees : goal.invariant-loop-trees
 invariant-loop-trees l =
-    Keeps (found_among l.fn.trees.items) (found_among l.trees.items) × (length l.fn.trees.items ≤ length l.trees.items)
+    KeepsAnswers (found_among l.fn.trees.items) (found_among l.trees.items) × (length l.fn.trees.items ≤ length l.trees.items)
 
 abbrev pub decreases-loop-trees : goal.decreases-loop-trees
 decreases-loop-trees l = l.len - length l.trees.items

@@ -2,7 +2,7 @@ use Rattle.std.proofs.Common.{rules, ◌≡◌, ◌++◌, ◌∷◌, [], flat_ma
 use Rattle.std.proofs.lemmas.Grind.{flat_map-append}
 use Rattle.std.proofs.lemmas.List.{append-nil, map_push, take_all, take_more}
 use Rattle.std.proofs.lemmas.Option.{slice_get_read}
-use Rattle.eco_frame.specs.Pieces.{part_at, part_of, seen_part}
+use Rattle.eco_frame.specs.Pieces.{part_at, body_with_rows, seen_part}
 use Rattle.eco_frame.proofs.part.parts.Goals as goal
 
 pub loop-place-preserved : goal.loop-place-preserved
@@ -15,7 +15,7 @@ loop-place-preserved g c =
     let system = c.index-systems-place.result in
     let part = c.in_ok-ask.field-0 in
     let there = slice_get_read c.args.systems.now (length c.args.systems.now) place system refl (c.requires k 0 less) c.index-systems-place.is in
-    let one : f place ≡ part_of c.args.world.now system ∷ [] = ap (λ o. option_to_list (option_map (part_of c.args.world.now) o)) there in
+    let one : f place ≡ body_with_rows c.args.world.now system ∷ [] = ap (λ o. option_to_list (option_map (body_with_rows c.args.world.now) o)) there in
     let pushed : c.push.new.self.items ≡ c.loop-place.parts.items ++ part ∷ [] = search rules in
     ap (map seen_part) pushed ∙ map_push seen_part c.loop-place.parts.items part
     ∙ ap (λ ps. ps ++ seen_part part ∷ []) c.loop-place.invariant

@@ -1,6 +1,6 @@
 use Rattle.eco_ids.proofs.Common.{◌≡◌, [], Ok, Err, sym, refl, ap, ◌∙◌, inr, rules}
 use Rattle.eco_grammar.specs.Reader.Points.{atom_view}
-use Rattle.eco_grammar.specs.Readings.{slots_of}
+use Rattle.eco_grammar.specs.Readings.{slots_of_written}
 use Rattle.eco_grammar.specs.Reader.Marks.{slots_from}
 use Rattle.eco_grammar.specs.declared.point.Mark.TheVariants.{Other, Slot}
 use Rattle.eco_grammar.specs.Reader.LastTerms.{last_of}
@@ -16,7 +16,7 @@ returns-in_err-id-in-Other g c =
     let (xs, same, s, r) = c.loop-mark.invariant in
     let here = standing_at (g.N.Names.entity_named c.args.names.now) c.args.marks.now xs _ _ c.loop-mark.mark-index (Other c.in-Other.field-0 c.in-Other.atom)
     s c.loop-mark-test.true c.in-Other.is in
-    let unknown : slots_of (g.N.Names.entity_named c.args.names.now) (slots_from [] c.args.marks.now) ≡ Err c.in_err-id-in-Other.field-0.0 =
+    let unknown : slots_of_written (g.N.Names.entity_named c.args.names.now) (slots_from [] c.args.marks.now) ≡ Err c.in_err-id-in-Other.field-0.0 =
     other_unknown _ c.args.marks.now xs _ _ c.in-Other.field-0 c.in-Other.atom c.in_err-id-in-Other.field-0.0 _ here
     (sym c.id.ensures ∙ c.in_err-id-in-Other.was) in
     inr (rw unknown (search rules))
@@ -26,7 +26,7 @@ returns-in_err-last-in-Slot g c =
     let (xs, same, s, r) = c.loop-mark.invariant in
     let here = standing_at (g.N.Names.entity_named c.args.names.now) c.args.marks.now xs _ _ c.loop-mark.mark-index
     (Slot c.in-Slot.access c.in-Slot.head c.in-Slot.atom) s c.loop-mark-test.true c.in-Slot.is in
-    let unknown : slots_of (g.N.Names.entity_named c.args.names.now) (slots_from [] c.args.marks.now) ≡ Err c.in_err-last-in-Slot.field-0.0 =
+    let unknown : slots_of_written (g.N.Names.entity_named c.args.names.now) (slots_from [] c.args.marks.now) ≡ Err c.in_err-last-in-Slot.field-0.0 =
     last_unknown _ c.args.marks.now xs _ _ c.in-Slot.access c.in-Slot.head c.in-Slot.atom c.in_err-last-in-Slot.field-0.0 _ here
     (ap (λ k. last_of (g.N.Names.entity_named c.args.names.now) c.in-Slot.head k (atom_view c.in-Slot.atom)) same ∙ sym c.last_term.ensures
     ∙ c.in_err-last-in-Slot.was) in

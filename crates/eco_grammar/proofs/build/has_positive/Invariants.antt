@@ -1,7 +1,7 @@
 use Rattle.eco_ids.proofs.Common.{◌≡◌, drop, list_any}
-use Rattle.eco_grammar.specs.Reader.Marks.{asks}
+use Rattle.eco_grammar.specs.Reader.Marks.{ends_positive}
 use Rattle.eco_grammar.proofs.build.has_positive.Given as goal
 
 -- no atom so far asks for something that is there
 abbrev pub invariant-loop-mark : goal.invariant-loop-mark
-invariant-loop-mark l = list_any asks l.marks ≡ list_any asks (drop l.mark-index l.marks)
+invariant-loop-mark l = list_any ends_positive l.marks ≡ list_any ends_positive (drop l.mark-index l.marks)

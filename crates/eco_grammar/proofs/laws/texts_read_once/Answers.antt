@@ -1,10 +1,10 @@
 use Rattle.eco_grammar.specs.Grammar.{SpellsId, SpellsQuery, SpellsRef}
-use Rattle.eco_grammar.specs.Readings.{entity_at, id_of, query_of}
+use Rattle.eco_grammar.specs.Readings.{entity_of_placed, id_of, query_of}
 use Rattle.eco_grammar.proofs.Spelled.{ref_once, id_once, query_once, reads_once}
 use Rattle.eco_grammar.proofs.laws.texts_read_once.Goals as goal
 
 pub returns-clause-reference : goal.returns-clause-reference
-returns-clause-reference c entity_named = reads_once SpellsRef (entity_at entity_named) ref_once
+returns-clause-reference c entity_named = reads_once SpellsRef (entity_of_placed entity_named) ref_once
 
 pub returns-clause-id : goal.returns-clause-id
 returns-clause-id c entity_named = reads_once SpellsId (id_of entity_named) id_once

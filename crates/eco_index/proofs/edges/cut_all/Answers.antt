@@ -16,8 +16,8 @@ returns-else-is_empty c =
     let now = c.take_back.new.lists.items in
     let own = c.replace-own.result in
     let taken = c.replace-own.ensures.value in
-    let cuts = cut_edges old now slot own c.new.result c.requires (omega arith)
-    (taken ∙ c.index_mut.ensures.value ∙ ap (get_or old slot) (sym taken)) c.new.ensures.empty
+    let cuts = cut_edges old now slot own c.with_hasher.result c.requires (omega arith)
+    (taken ∙ c.index_mut.ensures.value ∙ ap (get_or old slot) (sym taken)) c.with_hasher.ensures.empty
     (λ n j. c.take_back.ensures.taken n j
     ∙ ap (λ m. cond (leads_to n (get same_id own j)) None (edge (set old slot m) n j)) c.replace-own.ensures.after) in
     λ n j. emptied_edges now slot c.take_back.new.own (omega (arith, c.take_back.ensures.len, length-set old slot c.replace-own.new.dest))

@@ -1,6 +1,6 @@
 use Rattle.std.proofs.Common.{◌≡◌, ◌≤◌, ◌<◌, ◌++◌, arith, ap, sym, ◌∙◌, get_or, length, map, take, drop, refl}
 use Rattle.std.proofs.lemmas.List.{take_all}
-use Rattle.eco_tables.specs.Column.{ColumnState, contents, joined}
+use Rattle.eco_tables.specs.Column.{ColumnState, contents, lengthened}
 use Rattle.eco_tables.specs.Table.{rows_from}
 use Rattle.eco_tables.proofs.Held.{joined_more, mapped_all, place_id, place_within, rest_at, rest_more, room_more}
 use Rattle.eco_tables.proofs.Rows.{values_absent, values_at, values_held}
@@ -57,7 +57,7 @@ loop-column-preserved c =
           c.requires.even
           ∙ ap (values_held rows) c.id.ensures in
           rw w.columns-is record {
-            same = joined_more (λ x. joined x (values_held rows x.id)) c.args.columns.now columns k c.column-item.result w.join.new.self inside
+            same = joined_more (λ x. lengthened x (values_held rows x.id)) c.args.columns.now columns k c.column-item.result w.join.new.self inside
                 c.loop-column.auto.columns c.loop-column.invariant.same c.loop-column.invariant.rest
                 (ap contents w.join.ensures.values ∙ ap (λ vs. ((here.id, here.width), here.values ++ vs)) held);
             rest = rest_more c.args.columns.now columns k w.join.new.self c.loop-column.invariant.rest;
@@ -67,7 +67,7 @@ loop-column-preserved c =
       | in-None w ↦
           let held = values_absent c.args.source.now c.args.entities.now c.id.result w.in-None.ensures.absent ∙ ap (values_held rows) c.id.ensures in
           rw w.columns-is record {
-            same = joined_more (λ x. joined x (values_held rows x.id)) c.args.columns.now columns k c.column-item.result w.join_zeros.new.self inside
+            same = joined_more (λ x. lengthened x (values_held rows x.id)) c.args.columns.now columns k c.column-item.result w.join_zeros.new.self inside
                 c.loop-column.auto.columns c.loop-column.invariant.same c.loop-column.invariant.rest
                 (ap contents w.join_zeros.ensures.values ∙ ap (λ vs. ((here.id, here.width), here.values ++ vs)) held);
             rest = rest_more c.args.columns.now columns k w.join_zeros.new.self c.loop-column.invariant.rest;
@@ -82,6 +82,6 @@ returns-clause-kept c = λ b h. rw (take_all c.loop-column.column-index c.loop-c
 pub returns-clause-same : goal.returns-clause-same
 returns-clause-same c =
     let xs = c.args.columns.now in
-    let f = λ (x : ColumnState). joined x (values_held (rows_from c.args.source.now 0 c.args.entities.now) x.id) in
+    let f = λ (x : ColumnState). lengthened x (values_held (rows_from c.args.source.now 0 c.args.entities.now) x.id) in
     let k = c.loop-column.column-index in
     c.loop-column.invariant.same ∙ ap (map contents) (mapped_all f xs (map f (take k xs) ++ drop k xs) k (omega arith) refl)

@@ -2,7 +2,7 @@ use Rattle.std.proofs.Common.{◌≡◌, ◌+◌, ◌<◌, List, length, [], rep
 use Rattle.eco_workers.specs.Counting.{once}
 use Rattle.eco_workers.specs.declared.collected.Collected.{Collected}
 use Rattle.eco_stages.specs.Taking.{by_index}
-use Rattle.eco_workers.specs.Batches.{IsBatch, placed}
+use Rattle.eco_workers.specs.Batches.{IsBatch, placed_stages}
 use Rattle.eco_workers.proofs.Gathered.{all_claimed}
 use Rattle.eco_workers.proofs.Placed.{batch_made, within_pieces, out_made}
 use Rattle.eco_workers.proofs.Shared.{out_found, stop_for_want}
@@ -55,7 +55,7 @@ returns-clause-batch g c =
       c.min.ensures,
       c.max.ensures,
     ))) in
-    let stages = c.in_ok-stages.ensures ∙ ap (λ (l : List Collected). placed l (replicate c.in_ok-count.count [])) log.1.collected in
+    let stages = c.in_ok-stages.ensures ∙ ap (λ (l : List Collected). placed_stages l (replicate c.in_ok-count.count [])) log.1.collected in
     subst (IsBatch f t c.args.workers pieces c.args.base n) (sym stages) made
 
 pub returns-in-Some-clause-out : goal.returns-in-Some-clause-out

@@ -2,7 +2,7 @@ use Rattle.std.proofs.Common.{◌≡◌, ◌∷◌, [], ◌++◌, List, sym, ap,
 use Rattle.std.proofs.lemmas.List.{append-nil, nil_from_length}
 use Rattle.std.specs.Vec.Iter.{into_iter_items}
 use Rattle.eco_ids.specs.Run.{Command}
-use Rattle.eco_workers.specs.Batches.{placed}
+use Rattle.eco_workers.specs.Batches.{placed_stages}
 use Rattle.eco_workers.proofs.Placed.{empty_more, number_within, placed_push}
 use Rattle.eco_workers.proofs.order.place.Goals as goal
 
@@ -41,4 +41,4 @@ returns c =
     let none : into_iter_items at.piece-iterator ≡ [] =
     nil_from_length (into_iter_items at.piece-iterator) (omega (arith, at.piece-iterator.rest.ok, c.in-None.ensures.steps.0)) in
     at.invariant.placed
-    ∙ ap (λ ps. placed ps (replicate c.args.count [])) (sym (append-nil at.yielded) ∙ ap (λ ps. at.yielded ++ ps) (sym none) ∙ at.invariant.left)
+    ∙ ap (λ ps. placed_stages ps (replicate c.args.count [])) (sym (append-nil at.yielded) ∙ ap (λ ps. at.yielded ++ ps) (sym none) ∙ at.invariant.left)

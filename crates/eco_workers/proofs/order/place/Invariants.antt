@@ -1,6 +1,6 @@
 use Rattle.std.proofs.Common.{◌≡◌, ◌++◌, ◌≤◌, [], replicate}
 use Rattle.std.specs.Vec.Iter.{into_iter_items}
-use Rattle.eco_workers.specs.Batches.{placed}
+use Rattle.eco_workers.specs.Batches.{placed_stages}
 use Rattle.eco_workers.proofs.order.place.Given as goal
 
 abbrev pub invariant-loop : goal.invariant-loop
@@ -14,5 +14,5 @@ invariant-loop-piece l = record {
   can : (goal.iterator-loop-piece).can_next l.piece-iterator;
   ends : (goal.iterator-loop-piece).is_finite l.piece-iterator;
   left : l.yielded ++ into_iter_items l.piece-iterator ≡ l.fn.pieces.items;
-  placed : l.stages.items ≡ placed l.yielded (replicate l.fn.count []);
+  placed : l.stages.items ≡ placed_stages l.yielded (replicate l.fn.count []);
 }

@@ -2,7 +2,7 @@ use Rattle.std.proofs.Common.{ℕ, Some, option_map, refl, sym, ap, ◌∙◌, c
 use Rattle.std.specs.Map.{lookup}
 use Rattle.eco_entities.specs.Needs.{need}
 use Rattle.eco_tables.specs.Table.{TableState, empty_table}
-use Rattle.eco_tables.specs.Tables.{Sets, no_table}
+use Rattle.eco_tables.specs.Tables.{SetsSlot, no_table}
 use Rattle.eco_index.specs.TypeMap.{same_ids}
 use Rattle.eco_index.specs.IdIndex.{lists_of}
 use Rattle.eco_index.proofs.Caching.{exact_types, then_told}
@@ -30,7 +30,7 @@ invariant_of-self-in-Ok c =
     let ids = c.args.type_list in
     let ws = c.in_ok-widths.widths.items in
     let widths : AreWidths n s ids ws = rw (← c.self.view_is) at (rw c.as_slice.ensures.ids at c.in_ok-widths.ensures) in
-    let sets : Sets s s1 c.in_ok-slot.slot (Some (empty_table ids ws)) =
+    let sets : SetsSlot s s1 c.in_ok-slot.slot (Some (empty_table ids ws)) =
     rw c.as_slice-2.ensures at c.in_ok-slot.ensures.sets in
     found_made s s1 c.self.inside.by_type.slots c.insert_reserved.new.self.slots (lists_of c.self.inside.by_id.slots)
     (lists_of c.add_all.new.self.slots)
@@ -48,10 +48,10 @@ returns-in-Ok-clause-makes c =
     let s = c.self.inside.tables in
     let s1 = c.insert.new.self in
     let ids = c.args.type_list in
-    let sets : Sets s s1 c.in_ok-slot.slot (Some (empty_table ids c.in_ok-widths.widths.items)) =
+    let sets : SetsSlot s s1 c.in_ok-slot.slot (Some (empty_table ids c.in_ok-widths.widths.items)) =
     rw c.as_slice-2.ensures at c.in_ok-slot.ensures.sets in
     rw (← c.self.view_is)
-    (subst (λ ws. Sets s s1 c.in_ok-slot.slot (Some (empty_table ids ws))) (sym (ap (λ o. (unwrap_or o no_table).widths) sets.changed)) sets)
+    (subst (λ ws. SetsSlot s s1 c.in_ok-slot.slot (Some (empty_table ids ws))) (sym (ap (λ o. (unwrap_or o no_table).widths) sets.changed)) sets)
 
 pub returns-in-Ok-clause-widths : goal.returns-in-Ok-clause-widths
 returns-in-Ok-clause-widths c =
@@ -61,7 +61,7 @@ returns-in-Ok-clause-widths c =
     let ids = c.args.type_list in
     let ws = c.in_ok-widths.widths.items in
     let widths : AreWidths n s ids ws = rw (← c.self.view_is) at (rw c.as_slice.ensures.ids at c.in_ok-widths.ensures) in
-    let sets : Sets s s1 c.in_ok-slot.slot (Some (empty_table ids ws)) =
+    let sets : SetsSlot s s1 c.in_ok-slot.slot (Some (empty_table ids ws)) =
     rw c.as_slice-2.ensures at c.in_ok-slot.ensures.sets in
     rw (← c.self.view_is) (made_covers n s s1 c.in_ok-slot.slot ids ws sets widths)
 
@@ -85,7 +85,7 @@ invariant_of-self-in-Err c =
     let s = c.self.inside.tables in
     let l = lists_of c.self.inside.by_id.slots in
     let ids = c.args.type_list in
-    let sets : Sets s c.insert.new.self c.in_ok-slot.slot (Some (empty_table ids c.in_ok-widths.widths.items)) =
+    let sets : SetsSlot s c.insert.new.self c.in_ok-slot.slot (Some (empty_table ids c.in_ok-widths.widths.items)) =
     rw c.as_slice-2.ensures at c.in_ok-slot.ensures.sets in
     let same = unmade s c.insert.new.self c.drop_empty.new.self c.in_ok-slot.slot ids c.in_ok-widths.widths.items c.in_ok-slot.ensures.vacant sets
     (rw c.drop_empty.ensures.answer at c.drop_empty.ensures.dropped) in

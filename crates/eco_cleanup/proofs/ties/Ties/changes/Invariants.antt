@@ -1,9 +1,9 @@
 use Rattle.std.proofs.Common.{◌≡◌, flat_map, take}
-use Rattle.eco_cleanup.specs.Plans.{Ascend, change_of}
+use Rattle.eco_cleanup.specs.Plans.{Ascend, changes_at}
 use Rattle.eco_cleanup.proofs.ties.Ties.changes.Given as goal
 
 abbrev pub invariant-loop-node : goal.invariant-loop-node
 invariant-loop-node l = record {
-  changes : l.changes.items ≡ flat_map (change_of l.self.places l.doomed.nodes.keys) (take l.node-index l.node-items);
+  changes : l.changes.items ≡ flat_map (changes_at l.self.places l.doomed.nodes.keys) (take l.node-index l.node-items);
   ascend : Ascend l.changes.items;
 }

@@ -4,7 +4,7 @@ use Rattle.eco_ids.specs.Indices.{Indexed, changed, is_alive}
 use Rattle.eco_ids.specs.Names.{named_entity}
 use Rattle.eco_ids.specs.Renaming.{own_name, RenamesWith}
 use Rattle.eco_entities.specs.Label.{label_text}
-use Rattle.eco_entities.specs.Registration.{Registration, name_of, renamed}
+use Rattle.eco_entities.specs.Registration.{Registration, given_name, renamed}
 use Rattle.eco_entities.specs.Registry.{entity_of}
 use Rattle.eco_entities.proofs.NamedEntities.{registry_named_entity}
 use Rattle.eco_entities.proofs.Owners.{own-renamed}
@@ -20,7 +20,7 @@ invariant_of-self-in-Ok-Some c =
     let w = c.self.inside.slots in
     let own = rw c.in-Some.is at c.in_ok-own.ensures.ok in
     let alive : is_alive w e ≡ true = rw c.self.view_is c.requires.alive in
-    let named : own_name name_of w e ≡ Some c.as_str.result.now = sym c.in-Ok-Some.ensures.was
+    let named : own_name given_name w e ≡ Some c.as_str.result.now = sym c.in-Ok-Some.ensures.was
     ∙ (ap (option_map label_text) c.in-Ok-Some.field-0-is ∙ ap Some (sym c.as_str.ensures)) in
     rw (c.in-Ok-Some.ensures.ok, own.0)
     (registry_exchange c.as_str.result.now name e c.self.invariant named own.1.free c.requires.proper own.1.claimed c.remove.ensures
@@ -33,7 +33,7 @@ invariant_of-self-in-Ok-Some-2 c =
     let w = c.self.inside.slots in
     let own = rw c.in-Some.is at c.in_ok-own.ensures.ok in
     let alive : is_alive w e ≡ true = rw c.self.view_is c.requires.alive in
-    let named : own_name name_of w e ≡ Some c.as_str.result.now = sym c.in-Ok-Some.ensures.was
+    let named : own_name given_name w e ≡ Some c.as_str.result.now = sym c.in-Ok-Some.ensures.was
     ∙ (ap (option_map label_text) c.in-Ok-Some.field-0-is ∙ ap Some (sym c.as_str.ensures)) in
     rw (c.in-Ok-Some.ensures.ok, own.0)
     (registry_exchange c.as_str.result.now name e c.self.invariant named own.1.free c.requires.proper own.1.claimed c.remove.ensures
@@ -70,9 +70,9 @@ returns-in_err-own-clause-err c =
 pub returns-in_default-clause-ok : goal.returns-in_default-clause-ok
 returns-in_default-clause-ok c =
     let name = c.args.name.now in
-    let found : entity_of c.self.inside.names name ≡ named_entity name_of c.args.self.now name =
+    let found : entity_of c.self.inside.names name ≡ named_entity given_name c.args.self.now name =
     registry_named_entity (entity_of c.self.inside.names) c.self.inside.slots name c.self.invariant
-    ∙ ap (λ (v : Indexed Registration). named_entity name_of v name) c.self.view_is in
+    ∙ ap (λ (v : Indexed Registration). named_entity given_name v name) c.self.view_is in
     let taken = rw c.in_default.is at c.in_ok-own.ensures.ok in
     record { borne = ap is_some (sym found) ∙ taken.borne; same = c.self.view_is }
 
@@ -82,14 +82,14 @@ returns-in-Ok-Some-clause-ok c =
     let name = c.args.name.now in
     let v = c.args.self.now in
     let own = rw c.in-Some.is at c.in_ok-own.ensures.ok in
-    let found : entity_of c.self.inside.names name ≡ named_entity name_of v name =
+    let found : entity_of c.self.inside.names name ≡ named_entity given_name v name =
     registry_named_entity (entity_of c.self.inside.names) c.self.inside.slots name c.self.invariant
-    ∙ ap (λ (w : Indexed Registration). named_entity name_of w name) c.self.view_is in
+    ∙ ap (λ (w : Indexed Registration). named_entity given_name w name) c.self.view_is in
     let new = c.in-Ok-Some.ensures.ok ∙ (ap (λ n. changed c.self.inside.slots e (renamed (Some n))) own.0
     ∙ ap (λ (w : Indexed Registration). changed w e (renamed (Some name))) c.self.view_is) in
     let done = rename_free v e name c.requires.alive c.requires.proper (sym found ∙ own.1.free) in
     let same : c.match-old.self ≡ changed v e (renamed (Some name)) = search (rules, new) in
-    subst (RenamesWith name_of renamed v e false (Some name) (Ok tt)) (sym same) done
+    subst (RenamesWith given_name renamed v e false (Some name) (Ok tt)) (sym same) done
 
 pub returns-in-Ok-None-clause-ok : goal.returns-in-Ok-None-clause-ok
 returns-in-Ok-None-clause-ok c =
@@ -97,9 +97,9 @@ returns-in-Ok-None-clause-ok c =
     let name = c.args.name.now in
     let w = c.self.inside.slots in
     let own = rw c.in-Some.is at c.in_ok-own.ensures.ok in
-    let found : entity_of c.self.inside.names name ≡ named_entity name_of c.args.self.now name =
+    let found : entity_of c.self.inside.names name ≡ named_entity given_name c.args.self.now name =
     registry_named_entity (entity_of c.self.inside.names) c.self.inside.slots name c.self.invariant
-    ∙ ap (λ (v : Indexed Registration). named_entity name_of v name) c.self.view_is in
+    ∙ ap (λ (v : Indexed Registration). named_entity given_name v name) c.self.view_is in
     let new = c.in-Ok-None.ensures.ok ∙ (ap (λ n. changed w e (renamed (Some n))) own.0
     ∙ ap (λ (v : Indexed Registration). changed v e (renamed (Some name))) c.self.view_is) in
     rw new (rename_free c.args.self.now e name c.requires.alive c.requires.proper (sym found ∙ own.1.free))

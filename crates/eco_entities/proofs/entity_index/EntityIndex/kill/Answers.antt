@@ -2,15 +2,15 @@ use Rattle.std.proofs.lemmas.Grind.{common_steps}
 use Rattle.std.proofs.Common.{◌≡◌, refl, ap, ◌∙◌, true, None, arith}
 use Rattle.eco_ids.specs.Indices.{Indexed, is_alive}
 use Rattle.eco_ids.specs.Renaming.{own_name}
-use Rattle.eco_entities.specs.Registration.{Registration, name_of, renamed}
+use Rattle.eco_entities.specs.Registration.{Registration, given_name, renamed}
 use Rattle.eco_entities.proofs.Owners.{own-died, own-renamed, death_of_renamed, alive_changed}
 use Rattle.eco_entities.proofs.Registers.{registry_nameless}
 use Rattle.eco_entities.proofs.entity_index.EntityIndex.kill.Goals as goal
 
 pub invariant_of-self : goal.invariant_of-self
 invariant_of-self c =
-    let nameless : own_name name_of c.self.inside.slots c.args.entity ≡ None =
-    ap (λ (w : Indexed Registration). own_name name_of w c.args.entity) (c.self.view_is ∙ c.unname.ensures)
+    let nameless : own_name given_name c.self.inside.slots c.args.entity ≡ None =
+    ap (λ (w : Indexed Registration). own_name given_name w c.args.entity) (c.self.view_is ∙ c.unname.ensures)
     ∙ (own-renamed c.args.self.now c.args.entity None c.requires).here
     in
     let alive : is_alive c.self.inside.slots c.args.entity ≡ true =

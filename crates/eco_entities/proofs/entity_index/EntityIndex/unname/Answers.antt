@@ -1,13 +1,13 @@
 use Rattle.std.proofs.Common.{◌≡◌, refl, sym, ap, ◌∙◌, None, Some}
 use Rattle.eco_ids.specs.Renaming.{own_name}
-use Rattle.eco_entities.specs.Registration.{name_of}
+use Rattle.eco_entities.specs.Registration.{given_name}
 use Rattle.eco_entities.proofs.Owners.{own-renamed}
 use Rattle.eco_entities.proofs.Registers.{registry_lose, registry_nameless}
 use Rattle.eco_entities.proofs.entity_index.EntityIndex.unname.Goals as goal
 
 pub invariant_of-self : goal.invariant_of-self
 invariant_of-self c =
-    let named : own_name name_of c.self.inside.slots c.args.entity ≡ Some c.as_str.result.now = sym c.in-Some.ensures.was
+    let named : own_name given_name c.self.inside.slots c.args.entity ≡ Some c.as_str.result.now = sym c.in-Some.ensures.was
     ∙ ap Some (sym c.as_str.ensures) in
     rw c.take_name.ensures.renamed
     (registry_lose c.as_str.result.now c.args.entity c.self.invariant named c.remove.ensures
@@ -15,7 +15,7 @@ invariant_of-self c =
 
 pub invariant_of-self-in-Some-2 : goal.invariant_of-self-in-Some-2
 invariant_of-self-in-Some-2 c =
-    let named : own_name name_of c.self.inside.slots c.args.entity ≡ Some c.as_str.result.now = sym c.in-Some.ensures.was
+    let named : own_name given_name c.self.inside.slots c.args.entity ≡ Some c.as_str.result.now = sym c.in-Some.ensures.was
     ∙ ap Some (sym c.as_str.ensures) in
     rw c.take_name.ensures.renamed
     (registry_lose c.as_str.result.now c.args.entity c.self.invariant named c.remove.ensures

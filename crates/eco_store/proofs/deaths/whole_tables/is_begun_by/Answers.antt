@@ -3,7 +3,7 @@ use Rattle.std.specs.Option.{option_copied}
 use Rattle.std.proofs.lemmas.List.{length-map}
 use Rattle.std.proofs.lemmas.Slice.Eq.{starts_is}
 use Rattle.eco_ids.proofs.SameIds.{entity_eq-Decides}
-use Rattle.eco_tables.specs.Table.{Row, TableState, entities_of}
+use Rattle.eco_tables.specs.Table.{TableRow, TableState, entities_of}
 use Rattle.eco_tables.specs.Tables.{no_table, table_in}
 use Rattle.eco_store.specs.Layout.{rows_in}
 use Rattle.eco_store.proofs.deaths.whole_tables.is_begun_by.Goals as goal
@@ -15,7 +15,7 @@ returns c =
     let table : table_in c.args.tables.now c.args.slot ≡ c.unwrap.result.now =
     ap (λ o. unwrap_or o no_table) (sym c.get.ensures ∙ ap option_copied c.unwrap.ensures) in
     let is : c.rows.result.now ≡ entities_of rows = c.rows.ensures ∙ ap (λ (t : TableState). entities_of t.rows) (sym table) in
-    let long : length c.rows.result.now ≡ length rows = ap length is ∙ length-map rows (λ (r : Row). r.entity) in
+    let long : length c.rows.result.now ≡ length rows = ap length is ∙ length-map rows (λ (r : TableRow). r.entity) in
     let begins = starts_is entity_eq-Decides dead c.rows.result.now c.starts_with.result c.starts_with.ensures.value in (
       λ h. begins.0 h ∙ (λ t. is t ++ drop (long t) dead),
       λ h. begins.1 (drop (length rows) dead) (h ∙ ap (λ es. es ++ drop (length rows) dead) (sym is)),

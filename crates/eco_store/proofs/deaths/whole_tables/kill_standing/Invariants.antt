@@ -1,5 +1,5 @@
 use Rattle.std.proofs.Common.{◌≡◌, ◌≤◌, drop, length}
-use Rattle.eco_archetypes.specs.Widths.{Covers}
+use Rattle.eco_archetypes.specs.Widths.{MeetsNeeds}
 use Rattle.eco_entities.specs.Needs.{need}
 use Rattle.eco_store.specs.Deaths.{with_deaths}
 use Rattle.eco_store.proofs.deaths.whole_tables.kill_standing.Given as goal
@@ -8,7 +8,7 @@ abbrev pub invariant-loop-left : goal.invariant-loop-left
 invariant-loop-left l = record {
   within : l.left ≤ length l.standing;
   dead : l.entities ≡ with_deaths l.initial.entities (drop l.left l.standing);
-  covers : Covers (need l.initial.entities) l.tables → Covers (need l.entities) l.tables;
+  covers : MeetsNeeds (need l.initial.entities) l.tables → MeetsNeeds (need l.entities) l.tables;
 }
 
 abbrev pub decreases-loop-left : goal.decreases-loop-left

@@ -1,12 +1,12 @@
 use Rattle.std.proofs.Common.{◌≡◌, ◌-◌, length, take}
 use Rattle.eco_ids.specs.Order.{entity_cmp, has_item}
 use Rattle.eco_store.specs.Deaths.{after_deaths}
-use Rattle.eco_store.specs.Layout.{seen, Loses}
+use Rattle.eco_store.specs.Layout.{seen, LosesRows}
 use Rattle.eco_store.proofs.layout.Layout.kill_all.Given as goal
 
 abbrev pub invariant-loop-done : goal.invariant-loop-done
 invariant-loop-done l = record {
-  loses : Loses l.initial.self l.self;
+  loses : LosesRows l.initial.self l.self;
   seen : seen l.self ≡ after_deaths (seen l.initial.self) (has_item entity_cmp (take l.done l.dead));
 }
 

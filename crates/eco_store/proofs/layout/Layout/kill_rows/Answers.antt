@@ -1,6 +1,6 @@
 use Rattle.std.proofs.Common.{refl, sym, ap, subst, ◌∙◌, ◌∷◌, arith}
 use Rattle.eco_archetypes.specs.Archetypes.{RowlessIn}
-use Rattle.eco_archetypes.specs.Widths.{Covers}
+use Rattle.eco_archetypes.specs.Widths.{MeetsNeeds}
 use Rattle.eco_entities.specs.Needs.{need}
 use Rattle.eco_store.specs.Deaths.{with_deaths}
 use Rattle.eco_store.specs.Layout.{rows_in}
@@ -28,13 +28,13 @@ returns-then-gather-clause-loses c =
     let q = c.gather.new.self in
     let dead = c.kill_standing.ensures.dead ∙ ap (λ s. with_deaths l.entities (entities_of (rows_in s n))) c.tables.ensures.same in
     let gathered = c.gather.ensures.gathered c.if-gather.true in
-    let kept = c.kill_standing.ensures.covers (subst (Covers (need l.entities)) (sym c.tables.ensures.same) c.requires.laid.covers) in
+    let kept = c.kill_standing.ensures.covers (subst (MeetsNeeds (need l.entities)) (sym c.tables.ensures.same) c.requires.laid.covers) in
     record {
       laid = record {
         store =
             subst (λ v. IsStore v s1) (sym dead)
             (cleared_store l.entities s n c.requires.laid.store c.requires.there s1 (sets_rows s s1 n _ c.clear.ensures.rows));
-        covers = c.clear.ensures.widths _ (subst (Covers (need c.kill_standing.new.entities)) c.tables.ensures.same kept);
+        covers = c.clear.ensures.widths _ (subst (MeetsNeeds (need c.kill_standing.new.entities)) c.tables.ensures.same kept);
         tidy =
             subst (λ x. RowlessIn s1 (all_staying x)) (sym gathered)
             (rowless_gathered s1 l.staying n (rowless_emptied s s1 n (all_staying l.staying) _ c.clear.ensures.rows c.requires.laid.tidy));
@@ -62,12 +62,12 @@ release-requires c =
     let n = c.args.slot in
     let s1 = c.clear.new.self in
     let dead = c.kill_standing.ensures.dead ∙ ap (λ s. with_deaths l.entities (entities_of (rows_in s n))) c.tables.ensures.same in
-    let kept = c.kill_standing.ensures.covers (subst (Covers (need l.entities)) (sym c.tables.ensures.same) c.requires.laid.covers) in
+    let kept = c.kill_standing.ensures.covers (subst (MeetsNeeds (need l.entities)) (sym c.tables.ensures.same) c.requires.laid.covers) in
     record {
       store =
           subst (λ v. IsStore v s1) (sym dead)
           (cleared_store l.entities s n c.requires.laid.store c.requires.there s1 (sets_rows s s1 n _ c.clear.ensures.rows));
-      covers = c.clear.ensures.widths _ (subst (Covers (need c.kill_standing.new.entities)) c.tables.ensures.same kept);
+      covers = c.clear.ensures.widths _ (subst (MeetsNeeds (need c.kill_standing.new.entities)) c.tables.ensures.same kept);
       tidy =
           subst (λ x. RowlessIn s1 (n ∷ all_staying x)) (sym (c.gather.ensures.same c.if-gather.false))
           (rowless_emptied s s1 n (all_staying l.staying) _ c.clear.ensures.rows c.requires.laid.tidy);

@@ -3,12 +3,12 @@ use Rattle.std.specs.Option.{option_copied}
 use Rattle.std.proofs.lemmas.Result.{err_from_is_err_and}
 use Rattle.eco_ids.specs.declared.refusal.Refusal.TheVariants.{NoMoreIds}
 use Rattle.eco_ids.specs.Births.{Makes}
-use Rattle.eco_entities.specs.Registration.{name_of, newcomer}
+use Rattle.eco_entities.specs.Registration.{given_name, newcomer}
 use Rattle.eco_tables.specs.Tables.{new_row, table_in}
 use Rattle.eco_entities.specs.declared.place.Place.{Place}
 use Rattle.eco_store.specs.Layout.{rows_in, PutsRow}
 use Rattle.eco_archetypes.specs.Archetypes.{row_at}
-use Rattle.eco_store.specs.Store.{Creates, StoreState, record_for, record_name, newborn, read}
+use Rattle.eco_store.specs.Store.{CreatesRecord, StoreState, record_for, record_name, newborn, read}
 use Rattle.eco_store.proofs.RowCounts.{end_fits}
 use Rattle.eco_store.proofs.BirthChanges as births
 use Rattle.eco_archetypes.proofs.ArchetypeLemmas.{typed_table}
@@ -33,7 +33,7 @@ returns-in_err-check_name c = record {
       let name = option_copied c.args.name in
       let why = c.in_err-check_name.field-0.0 in
       rw (p.1, p.2)
-      (subst (Creates c.args.self.now.entities name c.args.arity c.args.type_list.now (Err why)) view
+      (subst (CreatesRecord c.args.self.now.entities name c.args.arity c.args.type_list.now (Err why)) view
       (births.still_opposed w s s _ name c.args.arity c.args.type_list.now why view refl (births.name_opposes _ _ why c.in_err-check_name.ensures)));
 }
 
@@ -44,7 +44,7 @@ returns-in_default c = record {
       let s = c.self.inside.layout.archetypes in
       let view = ap (λ (x : StoreState). x.entities) c.self.view_is in
       let name = option_copied c.args.name in
-      subst (Creates c.args.self.now.entities name c.args.arity c.args.type_list.now (Err NoMoreIds)) view
+      subst (CreatesRecord c.args.self.now.entities name c.args.arity c.args.type_list.now (Err NoMoreIds)) view
       (births.still_opposed w s s _ name c.args.arity c.args.type_list.now NoMoreIds view refl
       (births.end_opposes _ _ c.in_ok-check_name.ensures (sym c.in_default.ensures)));
 }
@@ -89,7 +89,7 @@ returns-in-Err c = record {
       let name = option_copied c.args.name in
       let child = newborn name c.args.arity c.args.type_list.now in
       rw (← c.self.view_is, c.from.ensures) (
-        unopposed (record_for (row_at s)) name_of record_name (λ a. refl) w child name refl c.in_ok-check_new-in-Err.ensures,
+        unopposed (record_for (row_at s)) given_name record_name (λ a. refl) w child name refl c.in_ok-check_new-in-Err.ensures,
         same_read w s _ c.room_for.ensures.rows,
       );
 }
@@ -102,7 +102,7 @@ set_place-requires-clause-alive c =
     let name = option_copied c.args.name in
     let created = c.in-Ok-create_next.created in
     let made =
-    create_made (record_for (row_at s)) name_of record_name (λ a. refl) w (newcomer name c.args.arity)
+    create_made (record_for (row_at s)) given_name record_name (λ a. refl) w (newcomer name c.args.arity)
     (newborn name c.args.arity c.args.type_list.now) refl _ created c.in-Ok-create_next.ensures in
     births.created_alive w _ created name c.args.arity made.0 made.1
 
@@ -125,7 +125,7 @@ invariant_of-self-in-Ok-create_next c =
     let name = option_copied c.args.name in
     let created = c.in-Ok-create_next.created in
     let made =
-    create_made (record_for (row_at s)) name_of record_name (λ a. refl) w (newcomer name c.args.arity)
+    create_made (record_for (row_at s)) given_name record_name (λ a. refl) w (newcomer name c.args.arity)
     (newborn name c.args.arity c.args.type_list.now) refl _ created c.in-Ok-create_next.ensures in
     let at : Place = record { table = n; row = c.row_count-row.result } in
     let end = c.row_count-row.ensures ∙ ap (λ z. length (rows_in z n)) c.tables.ensures.same in
@@ -161,7 +161,7 @@ returns-in-Ok-create_next c = record {
       let fresh = newcomer name c.args.arity in
       let child = newborn name c.args.arity c.args.type_list.now in
       let made =
-      create_made (record_for (row_at s)) name_of record_name (λ a. refl) w (newcomer name c.args.arity)
+      create_made (record_for (row_at s)) given_name record_name (λ a. refl) w (newcomer name c.args.arity)
       (newborn name c.args.arity c.args.type_list.now) refl _ created c.in-Ok-create_next.ensures in
       let at : Place = record { table = n; row = c.row_count-row.result } in
       let end = c.row_count-row.ensures ∙ ap (λ z. length (rows_in z n)) c.tables.ensures.same in
@@ -169,7 +169,7 @@ returns-in-Ok-create_next c = record {
       subst (λ R. PutsRow R (rows_in s2) at created c.args.type_list.now) (rows_alike s s1 c.room_for.ensures.rows)
       (row_puts s1 s2 at created c.args.type_list.now (typed_table s1 n _ c.in-Ok.ensures.typed) end c.push_row.ensures.row) in
       subst (λ v. Makes record_name v child (Ok created) (read c.set_place.new.self s2)) (ap (λ (x : StoreState). x.entities) c.self.view_is)
-      (create_done (record_for (row_at s)) name_of record_name (λ a. refl) w fresh child refl c.create_next.new.self _ created
+      (create_done (record_for (row_at s)) given_name record_name (λ a. refl) w fresh child refl c.create_next.new.self _ created
       c.in-Ok-create_next.ensures
       (ap (λ v. read v s2) c.set_place.ensures
       ∙ births.created_read w _ s s2 created at _ name c.args.arity c.self.invariant.laid.store puts made.0 made.1));
@@ -183,7 +183,7 @@ release-requires c =
     let s = l.archetypes in
     let name = option_copied c.args.name in
     let unmade =
-    create_refused (record_for (row_at s)) name_of record_name (λ a. refl) w (newcomer name c.args.arity)
+    create_refused (record_for (row_at s)) given_name record_name (λ a. refl) w (newcomer name c.args.arity)
     (newborn name c.args.arity c.args.type_list.now) refl _ c.in-Err-create_next.refused c.in-Err-create_next.ensures in
     record {
       store = rw unmade.0 (same_store w s _ c.room_for.ensures.rows c.self.invariant.laid.store);
@@ -206,7 +206,7 @@ returns-in-Err-create_next c = record {
       let s1 = c.room_for.new.self in
       let name = option_copied c.args.name in
       let unmade =
-      create_refused (record_for (row_at s)) name_of record_name (λ a. refl) w (newcomer name c.args.arity)
+      create_refused (record_for (row_at s)) given_name record_name (λ a. refl) w (newcomer name c.args.arity)
       (newborn name c.args.arity c.args.type_list.now) refl _ c.in-Err-create_next.refused c.in-Err-create_next.ensures in
       births.still_refused (read w s) _ _ name c.args.arity c.args.type_list.now (Err c.in-Err-create_next.refused)
       (ap (λ (x : StoreState). x.entities) c.self.view_is)

@@ -1,7 +1,7 @@
 use Rattle.std.proofs.Common.{Ok, None, refl, ap, subst, ◌∙◌}
 use Rattle.eco_ids.specs.Births.{Makes}
 use Rattle.eco_ids.specs.Indices.{with_new}
-use Rattle.eco_entities.specs.Registration.{name_of, newcomer}
+use Rattle.eco_entities.specs.Registration.{given_name, newcomer}
 use Rattle.eco_entities.specs.Runs.{Create}
 use Rattle.eco_entities.specs.declared.place.Place.{Place}
 use Rattle.eco_tables.specs.Tables.{new_row, table_in}
@@ -71,5 +71,5 @@ returns-clause-step c =
     let is = c.in_ok-entity.ensures.some ∙ births.placed_new w e fresh at next in
     let child = newborn None arity c.args.type_list.now in
     subst (λ v. Makes record_name v child (Ok e) (read c.create_in_room.new.self s1)) (ap (λ (x : StoreState). x.entities) c.self.view_is)
-    (create_done (record_for (row_at s)) name_of record_name (λ a. refl) w fresh child refl w1 _ e (births.creates_unnamed w e arity next)
+    (create_done (record_for (row_at s)) given_name record_name (λ a. refl) w fresh child refl w1 _ e (births.creates_unnamed w e arity next)
     (ap (λ v. read v s1) is ∙ births.created_read w w1 s s1 e at _ None arity c.self.invariant.laid.store puts next refl))

@@ -1,5 +1,5 @@
 use Rattle.std.proofs.Common.{refl, sym, ◌∙◌}
-use Rattle.eco_entities.specs.Registration.{name_of}
+use Rattle.eco_entities.specs.Registration.{given_name}
 use Rattle.eco_archetypes.specs.Archetypes.{row_at}
 use Rattle.eco_store.specs.Store.{record_for, record_name}
 use Rattle.eco_store.proofs.Newborn.{named_entity-map}
@@ -10,4 +10,4 @@ returns c =
     let l = c.self.inside.layout in
     rw (← c.self.view_is)
     (c.lookup.ensures.named_entity
-    ∙ sym (named_entity-map (record_for (row_at l.archetypes)) name_of record_name (λ a. refl) l.entities c.args.name.now))
+    ∙ sym (named_entity-map (record_for (row_at l.archetypes)) given_name record_name (λ a. refl) l.entities c.args.name.now))

@@ -1,7 +1,7 @@
 use Rattle.std.proofs.Common.{◌≡◌, ◌≤◌, ◌++◌, ◌+◌, ◌-◌, List, true, if◌then◌else◌, is_ok, ap, sym, ◌∙◌, arith, refl, length, map}
 use Rattle.std.specs.Vec.{vec_capacity}
 use Rattle.std.proofs.lemmas.List.{length-append, length-map}
-use Rattle.eco_tables.specs.Column.{ColumnState, joined}
+use Rattle.eco_tables.specs.Column.{ColumnState, lengthened}
 use Rattle.eco_tables.specs.Table.{retyped_row, rows_from, rows_of, table_of, width_among}
 use Rattle.eco_tables.proofs.Rows.{added_rows, ascends, columns_agree, entities_of-rows, joined_columns, kinds_same, length-rows, length-rows_of, same_held}
 use Rattle.eco_tables.proofs.Rows.{same_rows, same_table, shape_joined, shape_reserved, values_held}
@@ -31,7 +31,7 @@ invariant_of-self c =
     let own = c.self.inside in
     let source = c.source.inside in
     let rows = rows_from source.columns.items 0 source.entities.items in
-    let whole : List ColumnState = map (λ x. joined x (values_held rows x.id)) own.columns.items in
+    let whole : List ColumnState = map (λ x. lengthened x (values_held rows x.id)) own.columns.items in
     let some : length source.entities.items ≤ own.room =
     rw (length-rows_of _ _ _ _ _ c.source.invariant) at (rw (← c.self.view_is, ← c.source.view_is) at c.requires.room) in
     let kept = joined_columns own.columns.len c.join_all.new.columns c.as_mut_slice.result.now own.columns.items c.as_slice.result.now
@@ -59,7 +59,7 @@ returns c =
     let own = c.self.inside in
     let source = c.source.inside in
     let rows = rows_from source.columns.items 0 source.entities.items in
-    let whole : List ColumnState = map (λ x. joined x (values_held rows x.id)) own.columns.items in
+    let whole : List ColumnState = map (λ x. lengthened x (values_held rows x.id)) own.columns.items in
     let some : length source.entities.items ≤ own.room =
     rw (length-rows_of _ _ _ _ _ c.source.invariant) at (rw (← c.self.view_is, ← c.source.view_is) at c.requires.room) in
     let kept = joined_columns own.columns.len c.join_all.new.columns c.as_mut_slice.result.now own.columns.items c.as_slice.result.now
@@ -74,7 +74,7 @@ returns c =
     ∙ (λ t. if ok t then own.entities.items ++ (c.as_slice-entities.ensures.value t) else own.entities.items) in
     let held = same_held own.type_list source.type_list own.columns.items source.columns.items c.self.invariant.kinds c.source.invariant.kinds
     (rw (← c.self.view_is, ← c.source.view_is) at c.requires.widths) in
-    let kinds = kinds_same (λ x. joined x (values_held rows x.id)) (λ x. refl) own.columns.items in
+    let kinds = kinds_same (λ x. lengthened x (values_held rows x.id)) (λ x. refl) own.columns.items in
     let joined_rows =
     ap (λ fs. rows_of own.type_list whole (own.entities.items ++ fs)) (sym (entities_of-rows source.columns.items 0 source.entities.items))
     ∙ added_rows own.type_list own.columns.items own.entities.items rows (retyped_row source.type_list) c.self.invariant.even

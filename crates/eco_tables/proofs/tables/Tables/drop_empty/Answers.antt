@@ -1,4 +1,4 @@
-use Rattle.eco_tables.specs.Tables.{Sets, rowless_type, slot_of}
+use Rattle.eco_tables.specs.Tables.{SetsSlot, rowless_type, slot_of}
 use Rattle.std.proofs.Common.{sym, ◌∙◌, subst, None, Some, set, ap, arith, is_some, refl, true≢false}
 use Rattle.std.proofs.lemmas.List.{get_or_default}
 use Rattle.eco_tables.proofs.Slots.{at_slot, dropped, no_type, rowless_ids, rowless_within, sets_slot, some_there}
@@ -16,7 +16,7 @@ pub returns-clause-dropped : goal.returns-clause-dropped
 returns-clause-dropped c =
     let slots = c.self.inside.slots.items in
     let within = rowless_within slots c.args.slot (rw (← c.self.view_is) at (sym c.if-not-is_rowless.ensures)) in
-    subst (λ s. Sets s (set slots c.args.slot c.take.new.self) c.args.slot None) c.self.view_is
+    subst (λ s. SetsSlot s (set slots c.args.slot c.take.new.self) c.args.slot None) c.self.view_is
     (rw c.take.ensures.after (sets_slot slots c.args.slot None within))
 
 pub index_mut-requires : goal.index_mut-requires

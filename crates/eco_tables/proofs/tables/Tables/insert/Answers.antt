@@ -1,5 +1,5 @@
 use Rattle.std.proofs.Common.{◌≡◌, [], Some, arith, ap, sym, set, subst}
-use Rattle.eco_tables.specs.Tables.{Sets}
+use Rattle.eco_tables.specs.Tables.{SetsSlot}
 use Rattle.eco_tables.proofs.RowIds.{none_lacks}
 use Rattle.eco_tables.proofs.Slots.{reused, reused_slot, sets_slot}
 use Rattle.eco_tables.proofs.tables.Tables.insert.Goals as goal
@@ -17,7 +17,7 @@ returns-in-Some-clause-vacant c =
 pub returns-in-Some-clause-sets : goal.returns-in-Some-clause-sets
 returns-in-Some-clause-sets c =
     rw (← c.self.view_is)
-    (subst (λ t. Sets c.self.inside.slots.items (set c.self.inside.slots.items c.in-Some.slot (Some c.in_ok-table.table)) c.in-Some.slot (Some t))
+    (subst (λ t. SetsSlot c.self.inside.slots.items (set c.self.inside.slots.items c.in-Some.slot (Some c.in_ok-table.table)) c.in-Some.slot (Some t))
     c.in_ok-table.ensures
     (sets_slot c.self.inside.slots.items c.in-Some.slot (Some c.in_ok-table.table)
     (reused_slot _ _ _ c.self.invariant c.pop.new.self.items c.in-Some.slot c.in-Some.ensures.items).0))

@@ -3,7 +3,7 @@ use Rattle.std.proofs.lemmas.List.{length-drop, map-append, take_rest}
 use Rattle.std.proofs.Math.Seq.{take-add}
 use native.Mathlib.Omega.{arith}
 use Rattle.eco_stages.specs.Commands.{command_of, commands_of}
-use Rattle.eco_world.specs.Merging.{Appends}
+use Rattle.eco_world.specs.Merging.{AppendsOutcomes}
 use Rattle.eco_world.proofs.Merging.{both_ran}
 use Rattle.eco_world.proofs.world.World.run.Goals as goal
 
@@ -21,7 +21,7 @@ loop-done-preserved c =
           (both_ran c.runs_keep_lawful.ensures.compose c.args.self.now c.loop-done.self c.run_some-done.new.self (commands_of (take i cs))
           c.args.outcomes.now.outcomes c.loop-done.outcomes.outcomes was.ran (commands_of (take n (drop i cs)))
           c.run_some-done.new.outcomes.outcomes
-          (subst (λ rest. Appends c.loop-done.self (commands_of (take n rest)) c.loop-done.outcomes.outcomes
+          (subst (λ rest. AppendsOutcomes c.loop-done.self (commands_of (take n rest)) c.loop-done.outcomes.outcomes
           c.run_some-done.new.outcomes.outcomes c.run_some-done.new.self) (take_rest cs i) c.run_some-done.ensures.ran));
       grown = omega (arith, c.run_some-done.ensures.grown, was.grown);
       room = c.run_some-done.ensures.room ∙ was.room;

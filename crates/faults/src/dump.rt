@@ -51,13 +51,8 @@ fn push_entities(text: &mut String, world: &World) -> Result<(), AllocError> {
     Ok(())
 }
 
-// The answer of the query of this number.
-fn push_query(text: &mut String, world: &World, number: usize) -> Result<(), AllocError> {
-    write!(text, "query {number}")?;
-    match world.answer(QueryId(number)) {
-        Ok(rows) => push_rows(text, &rows)?,
-        Err(refusal) => write!(text, " {refusal}")?,
-    }
+// How many tables the query of this number has.
+fn push_table_count(text: &mut String, world: &World, number: usize) -> Result<(), AllocError> {
     match world.tables_of_query(QueryId(number)) {
         Ok(tables) => {
             let count = tables.len();
@@ -67,16 +62,37 @@ fn push_query(text: &mut String, world: &World, number: usize) -> Result<(), All
     }
 }
 
+// The rows of the query of this number.
+fn push_answer(text: &mut String, world: &World, number: usize) -> Result<(), AllocError> {
+    match world.answer(QueryId(number)) {
+        Ok(rows) => push_rows(text, &rows),
+        Err(refusal) => write!(text, " {refusal}"),
+    }
+}
+
+// The answer of the query of this number.
+fn push_query(text: &mut String, world: &World, number: usize) -> Result<(), AllocError> {
+    write!(text, "query {number}")?;
+    push_answer(text, world, number)?;
+    push_table_count(text, world, number)
+}
+
+// The lines of a world.
+fn push_world(text: &mut String, alloc: Global, world: &World) -> Result<(), AllocError> {
+    let high = world.high();
+    write!(text, "high {high}\n")?;
+    push_entities(text, world)?;
+    push_tables(text, alloc, world)?;
+    for number in 0..QUERIES {
+        push_query(text, world, number)?;
+    }
+    Ok(())
+}
+
 /// All that a world tells: who lives, with names, arities, ids and values; how many indices are known; its tables; and what the
 /// queries answer that were added to it.
 pub fn dump_of(alloc: Global, world: &World) -> Result<String, Refusal> {
     let mut text = String::new(alloc);
-    let high = world.high();
-    write!(&mut text, "high {high}\n")?;
-    push_entities(&mut text, world)?;
-    push_tables(&mut text, alloc, world)?;
-    for number in 0..QUERIES {
-        push_query(&mut text, world, number)?;
-    }
+    push_world(&mut text, alloc, world)?;
     Ok(text)
 }

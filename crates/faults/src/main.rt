@@ -47,11 +47,8 @@ fn show<R: Print + Eprint + Threads + Wait + Copy + Drop + Sync + AllocGlobal>(
 ) -> Result<bool, Refusal> {
     let name = scenario.name();
     let verdict = judge_any(rt, scenario)?;
-    let _written = match &verdict {
-        Verdict::Done(answer) => println!(rt; "{name} done {answer}"),
-        Verdict::Refused(answer) => println!(rt; "{name} refused {answer}"),
-        Verdict::Fault(difference) => println!(rt; "{name} FAULT {difference}"),
-    };
+    let (word, text) = verdict.parts();
+    let _written = println!(rt; "{name} {word} {text}");
     Ok(verdict.is_sound())
 }
 

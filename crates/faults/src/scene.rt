@@ -64,25 +64,6 @@ fn first_world(alloc: Global, scenario: Scenario) -> Result<World, Refusal> {
     }
 }
 
-// The world of a scenario.
-fn make(world: &mut World, scenario: Scenario) -> Result<Subject, Refusal> {
-    match scenario {
-        Scenario::Add => worlds::with_implied(world),
-        Scenario::Step => worlds::with_company(world),
-        Scenario::Turn | Scenario::Create | Scenario::Rename => worlds::with_tag(world),
-        Scenario::Set => worlds::with_pair(world),
-        Scenario::SetMirrored => worlds::with_symmetric_pair(world),
-        Scenario::AddQuery => worlds::with_tables(world),
-        Scenario::Delete => worlds::with_chain(world),
-        Scenario::DeleteWith => worlds::with_holders(world),
-        Scenario::ReadQuery | Scenario::Query => worlds::with_likes(world),
-        Scenario::Merge | Scenario::Record | Scenario::OpenShared | Scenario::MergeShared => {
-            worlds::with_two(world)
-        }
-        Scenario::Frame | Scenario::Pipeline => worlds::with_mover(world),
-    }
-}
-
 // Adds a system of one action.
 fn declare(
     alloc: Global,
@@ -126,6 +107,14 @@ fn first_systems(alloc: Global, world: &World, count: usize) -> Result<Systems<S
     Ok(systems)
 }
 
+// What a change answers.
+fn done(outcome: Result<(), Refusal>) -> Result<Answer, Refusal> {
+    match outcome {
+        Ok(()) => Ok(Answer::Done),
+        Err(refusal) => Err(refusal),
+    }
+}
+
 // What a frame answers.
 fn answer_of(outcome: Result<FrameReport, FrameStop>) -> Answer {
     match outcome {
@@ -138,17 +127,17 @@ impl Scene {
     /// The world of a scenario, and nothing besides.
     pub fn new(alloc: Global, scenario: Scenario) -> Result<Scene, Refusal> {
         let mut world = first_world(alloc, scenario)?;
-        let subject = make(&mut world, scenario)?;
-        Ok(Scene::of(alloc, scenario, world, subject))
+        worlds::make(&mut world, scenario)?;
+        Ok(Scene::of(alloc, scenario, world))
     }
 
     // A world, and nothing besides.
-    fn of(alloc: Global, scenario: Scenario, world: World, subject: Subject) -> Scene {
+    fn of(alloc: Global, scenario: Scenario, world: World) -> Scene {
         Scene {
             alloc,
             scenario,
             world,
-            subject,
+            subject: worlds::subject(scenario),
             query: None,
             command: None,
             stages: [Stage::new(alloc), Stage::new(alloc)],
@@ -159,7 +148,7 @@ impl Scene {
     /// A copy of the world, and nothing besides.
     pub fn try_copy(&self) -> Result<Scene, AllocError> {
         let world = self.world.try_copy()?;
-        Ok(Scene::of(self.alloc, self.scenario, world, self.subject))
+        Ok(Scene::of(self.alloc, self.scenario, world))
     }
 
     /// A copy of the world alone.
@@ -196,25 +185,31 @@ impl Scene {
         Ok(())
     }
 
-    /// Makes the call.
-    pub fn call<R: Threads + Sync>(&mut self, rt: &R) -> Result<Answer, Refusal> {
+    // Makes a call that answers nothing but that it is done.
+    fn change(&mut self) -> Result<(), Refusal> {
         let Subject { entity, id } = self.subject;
         match self.scenario {
-            Scenario::Add | Scenario::Step | Scenario::Turn => self.world.add(entity, id)?,
-            Scenario::Set | Scenario::SetMirrored => { self.world.set(entity, id, Value::of([5]))? }
-            Scenario::Rename => self.world.rename(entity, Some(ANOTHER))?,
-            Scenario::Delete => self.world.delete(entity)?,
-            Scenario::DeleteWith => self.world.delete_with(id)?,
-            Scenario::Create => return Ok(Answer::Made(self.world.create(Some(FRESH))?)),
-            Scenario::ReadQuery => return Ok(Answer::Read(self.world.read_query(WIDE)?)),
-            Scenario::AddQuery => return self.add_query(),
-            Scenario::Query => return self.find(),
-            Scenario::Merge | Scenario::OpenShared | Scenario::MergeShared => return self.merge(),
-            Scenario::Frame => return Ok(self.run_systems(rt)),
-            Scenario::Pipeline => return self.run_pipeline(rt),
-            Scenario::Record => return self.record(),
+            Scenario::Set | Scenario::SetMirrored => self.world.set(entity, id, Value::of([5])),
+            Scenario::Rename => self.world.rename(entity, Some(ANOTHER)),
+            Scenario::Delete => self.world.delete(entity),
+            Scenario::DeleteWith => self.world.delete_with(id),
+            _ => self.world.add(entity, id),
         }
-        Ok(Answer::Done)
+    }
+
+    /// Makes the call.
+    pub fn call<R: Threads + Sync>(&mut self, rt: &R) -> Result<Answer, Refusal> {
+        match self.scenario {
+            Scenario::Create => self.create(),
+            Scenario::ReadQuery => self.read_query(),
+            Scenario::AddQuery => self.add_query(),
+            Scenario::Query => self.find(),
+            Scenario::Merge | Scenario::OpenShared | Scenario::MergeShared => self.merge(),
+            Scenario::Frame => Ok(self.run_systems(rt)),
+            Scenario::Pipeline => self.run_pipeline(rt),
+            Scenario::Record => self.record(),
+            _ => done(self.change()),
+        }
     }
 
     /// Does what the same call left on an equal world, of which this is the answer, and answers what it is to have answered: a
@@ -248,6 +243,16 @@ impl Scene {
     // The merge is to do only what found memory.
     fn leave_out(&mut self, report: &Report) -> Result<(), AllocError> {
         record_all(self.alloc, &mut self.stages, Some(report))
+    }
+
+    // Makes an entity with a name.
+    fn create(&mut self) -> Result<Answer, Refusal> {
+        Ok(Answer::Made(self.world.create(Some(FRESH))?))
+    }
+
+    // Reads a query's text.
+    fn read_query(&self) -> Result<Answer, Refusal> {
+        Ok(Answer::Read(self.world.read_query(WIDE)?))
     }
 
     // Adds the query.

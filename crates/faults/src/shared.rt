@@ -6,7 +6,7 @@ use crate::commands::ADMITTED;
 use crate::dump::dump_of;
 use crate::scenario::Scenario;
 use crate::scene::Scene;
-use crate::verdict::{Verdict, begin_call, difference, end_call, sound};
+use crate::verdict::{Verdict, begin_call, conclude, difference, end_call};
 use eco_ids::Refusal;
 use eco_shared::{Blank, Merger, Naming, Registry, Viewer, open};
 use eco_world::{Report, World};
@@ -56,27 +56,54 @@ fn seen<J: Naming, R: Wait + Drop>(
     }
 }
 
+// Where what a viewer finds differs from what it is to find.
+fn compare_seen<J: Naming, R: Wait + Drop>(
+    rt: &R,
+    alloc: Global,
+    merger: &Merger<J, R>,
+    viewer: &mut Viewer<J, R>,
+    wanted: &str,
+) -> Result<Option<String>, Refusal> {
+    let has = seen(rt, alloc, merger, viewer)?;
+    Ok(difference(alloc, &has, wanted)?)
+}
+
+// Where the text of an answer differs from what it is to be.
+fn compare_text(
+    alloc: Global,
+    answer: &Result<Answer, Refusal>,
+    wanted: &str,
+) -> Result<Option<String>, AllocError> {
+    let has = text_of(alloc, answer)?;
+    difference(alloc, &has, wanted)
+}
+
 // Where the texts of two answers differ.
 fn compare_answers(
     alloc: Global,
     answer: &Result<Answer, Refusal>,
     expected: &Result<Answer, Refusal>,
 ) -> Result<Option<String>, AllocError> {
-    let (has, wanted) = (text_of(alloc, answer)?, text_of(alloc, expected)?);
-    difference(alloc, &has, &wanted)
+    let wanted = text_of(alloc, expected)?;
+    compare_text(alloc, answer, &wanted)
 }
 
 impl<J: Naming, R: Threads + Wait + Sync + Drop> Shared<J, R> {
-    // Where what a viewer finds differs from the other world.
-    fn compare_worlds(&mut self, rt: &R) -> Result<Option<String>, Refusal> {
-        let wanted = self.other.dump()?;
+    // Where what a viewer finds differs from a text.
+    fn compare_viewers(&mut self, rt: &R, wanted: &str) -> Result<Option<String>, Refusal> {
         for viewer in self.viewers.iter_mut() {
-            let has = seen(rt, self.alloc, &self.merger, viewer)?;
-            if let Some(found) = difference(self.alloc, &has, &wanted)? {
-                return Ok(Some(found));
+            let found = compare_seen(rt, self.alloc, &self.merger, viewer, wanted)?;
+            if found.is_some() {
+                return Ok(found);
             }
         }
         Ok(None)
+    }
+
+    // Where what a viewer finds differs from the other world.
+    fn compare_worlds(&mut self, rt: &R) -> Result<Option<String>, Refusal> {
+        let wanted = self.other.dump()?;
+        self.compare_viewers(rt, &wanted)
     }
 
     // Where the answer, or what a viewer finds, differs from what it is to be.
@@ -116,27 +143,34 @@ impl<J: Naming, R: Threads + Wait + Sync + Drop> Shared<J, R> {
 }
 
 impl<J: Naming, R: Eprint + Threads + Wait + Sync + Drop> Shared<J, R> {
-    // Makes the call, and says what it answered and where it did otherwise than it is to do.
-    fn call(&mut self, rt: &R) -> Result<(Result<Answer, Refusal>, Option<String>), Refusal> {
+    // What came of a call that answered this.
+    fn judge_answer(
+        &mut self,
+        rt: &R,
+        answer: &Result<Answer, Refusal>,
+    ) -> Result<Verdict, Refusal> {
+        let expected = self.other.follow(rt, answer)?;
+        match self.compare(rt, answer, &expected)? {
+            Some(found) => Ok(Verdict::Fault(found)),
+            None => self.conclude(rt, answer),
+        }
+    }
+
+    // Makes the call, and says what came of it.
+    fn judge_call(&mut self, rt: &R) -> Result<Verdict, Refusal> {
         self.other.arm()?;
         begin_call(rt);
         let answer = self.merge();
         end_call(rt);
-        let expected = self.other.follow(rt, &answer)?;
-        let found = self.compare(rt, &answer, &expected)?;
-        Ok((answer, found))
+        self.judge_answer(rt, &answer)
     }
 
     // What came of a merge that has another before it, which the merger makes once more.
     fn judge_merge(&mut self, rt: &R) -> Result<Verdict, Refusal> {
         self.other.arm_first()?;
-        if let Some(found) = self.merge_both(rt)? {
-            return Ok(Verdict::Fault(found));
-        }
-        let (answer, found) = self.call(rt)?;
-        match found {
+        match self.merge_both(rt)? {
             Some(found) => Ok(Verdict::Fault(found)),
-            None => self.conclude(rt, &answer),
+            None => self.judge_call(rt),
         }
     }
 
@@ -156,7 +190,7 @@ impl<J: Naming, R: Eprint + Threads + Wait + Sync + Drop> Shared<J, R> {
     fn conclude(&mut self, rt: &R, answer: &Result<Answer, Refusal>) -> Result<Verdict, Refusal> {
         match self.go_on(rt)? {
             Some(found) => Ok(Verdict::Fault(found)),
-            None => Ok(sound(answer, text_of(self.alloc, answer)?)),
+            None => conclude(self.alloc, answer),
         }
     }
 }
@@ -180,6 +214,12 @@ fn share<J: Naming, R: Wait + Drop>(
     }
 }
 
+// Where a world differs from a text.
+fn compare_world(alloc: Global, world: &World, wanted: &str) -> Result<Option<String>, Refusal> {
+    let has = dump_of(alloc, world)?;
+    Ok(difference(alloc, &has, wanted)?)
+}
+
 // Where the world that was handed back differs from what it was.
 fn compare_handed_back(
     alloc: Global,
@@ -190,8 +230,8 @@ fn compare_handed_back(
     if refusal != Refusal::OutOfMemory {
         return Ok(Some(format!(in alloc; "has: {refusal}")?));
     }
-    let (has, wanted) = (dump_of(alloc, world)?, other.dump()?);
-    Ok(difference(alloc, &has, &wanted)?)
+    let wanted = other.dump()?;
+    compare_world(alloc, world, &wanted)
 }
 
 // What came of an opening that was refused. The world that was handed back is shared after all.
@@ -234,6 +274,34 @@ fn judge_open<J: Naming, R: Eprint + Threads + Wait + Copy + Sync + Drop>(
     }
 }
 
+// What comes of a merge.
+fn judge_merged<J: Naming, R: Eprint + Threads + Wait + Copy + Sync + Drop>(
+    rt: R,
+    alloc: Global,
+    registry: &mut Registry<J>,
+    world: World,
+    other: Scene,
+) -> Result<Verdict, Refusal> {
+    let mut shared = share(rt, alloc, registry, world, other)?;
+    shared.judge_merge(&rt)
+}
+
+// What comes of the call on a copy of a scene's world, by another copy.
+fn judge_copies<J: Naming, R: Eprint + Threads + Wait + Copy + Sync + Drop>(
+    rt: R,
+    alloc: Global,
+    registry: &mut Registry<J>,
+    first: &Scene,
+    scenario: Scenario,
+) -> Result<Verdict, Refusal> {
+    let other = first.try_copy()?;
+    let world = first.copy_world()?;
+    match scenario {
+        Scenario::OpenShared => judge_open(rt, alloc, registry, world, other),
+        _ => judge_merged(rt, alloc, registry, world, other),
+    }
+}
+
 /// Makes the call of a scenario of the shared world, and tells what came of it by an equal world that is not shared.
 pub fn judge_shared<J: Naming, R: Eprint + Threads + Wait + Copy + Sync + Drop>(
     rt: R,
@@ -245,11 +313,5 @@ pub fn judge_shared<J: Naming, R: Eprint + Threads + Wait + Copy + Sync + Drop>(
 {
     let mut registry = blank.named::<J>();
     let first = Scene::new(alloc, scenario)?;
-    let other = first.try_copy()?;
-    let world = first.copy_world()?;
-    if let Scenario::OpenShared = scenario {
-        return judge_open(rt, alloc, &mut registry, world, other);
-    }
-    let mut shared = share(rt, alloc, &mut registry, world, other)?;
-    shared.judge_merge(&rt)
+    judge_copies(rt, alloc, &mut registry, &first, scenario)
 }

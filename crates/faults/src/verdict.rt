@@ -7,7 +7,6 @@ use std::alloc::{AllocError, Global};
 use std::thread::Threads;
 
 /// What came of a call.
-#[derive(Drop)]
 pub enum Verdict {
     /// It did what it does with ample memory, and answered this.
     Done(String),
@@ -17,7 +16,27 @@ pub enum Verdict {
     Fault(String),
 }
 
+// By hand, so that dropping it is one call: a derived drop is proved anew at each early return of whoever holds it.
+impl Drop for Verdict {
+    fn drop(self) {
+        match self {
+            Verdict::Done(_answer) => {}
+            Verdict::Refused(_answer) => {}
+            Verdict::Fault(_difference) => {}
+        }
+    }
+}
+
 impl Verdict {
+    /// The word for it, and what was answered or differs.
+    pub fn parts(&self) -> (&str, &str) {
+        match self {
+            Verdict::Done(answer) => ("done", answer.as_str()),
+            Verdict::Refused(answer) => ("refused", answer.as_str()),
+            Verdict::Fault(difference) => ("FAULT", difference.as_str()),
+        }
+    }
+
     /// Whether it is no fault.
     pub fn is_sound(&self) -> bool {
         !matches!(self, Verdict::Fault(_))
@@ -52,17 +71,28 @@ pub fn difference(alloc: Global, has: &str, wanted: &str) -> Result<Option<Strin
     Ok(Some(String::from_str(alloc, "has no more lines")?))
 }
 
+// Where a world differs from its text.
+fn compare_dump(alloc: Global, scene: &Scene, wanted: &str) -> Result<Option<String>, Refusal> {
+    let has = scene.dump()?;
+    Ok(difference(alloc, &has, wanted)?)
+}
+
+// Where two worlds differ.
+fn compare_worlds(alloc: Global, scene: &Scene, other: &Scene) -> Result<Option<String>, Refusal> {
+    let wanted = other.dump()?;
+    compare_dump(alloc, scene, &wanted)
+}
+
 // Where the answer or the world differs from what it is to be.
 fn compare(
     alloc: Global,
     (scene, answer): (&Scene, &str),
     (other, expected): (&Scene, &str),
 ) -> Result<Option<String>, Refusal> {
-    if let Some(difference) = difference(alloc, answer, expected)? {
-        return Ok(Some(difference));
+    match difference(alloc, answer, expected)? {
+        Some(found) => Ok(Some(found)),
+        None => compare_worlds(alloc, scene, other),
     }
-    let (has, wanted) = (scene.dump()?, other.dump()?);
-    Ok(difference(alloc, &has, &wanted)?)
 }
 
 /// Writes that the call begins.
@@ -83,13 +113,39 @@ fn call_marked<R: Eprint + Threads + Sync>(rt: &R, scene: &mut Scene) -> Result<
     answer
 }
 
-/// What came of a call of which nothing differs, by its answer and the text of that.
-pub fn sound(answer: &Result<Answer, Refusal>, text: String) -> Verdict {
+/// What came of a call of which nothing differs, by its answer.
+pub fn conclude(alloc: Global, answer: &Result<Answer, Refusal>) -> Result<Verdict, Refusal> {
+    let text = text_of(alloc, answer)?;
     if wanted_memory(answer) {
-        Verdict::Refused(text)
+        Ok(Verdict::Refused(text))
     } else {
-        Verdict::Done(text)
+        Ok(Verdict::Done(text))
     }
+}
+
+// Where the world differs from the other, on which the call of this answer is made too.
+fn compare_call<R: Threads + Sync>(
+    rt: &R,
+    alloc: Global,
+    scene: &Scene,
+    answer: &str,
+    other: &mut Scene,
+) -> Result<Option<String>, Refusal> {
+    let expected = text_of(alloc, &other.call(rt))?;
+    compare(alloc, (scene, answer), (other, &expected))
+}
+
+// Makes the call once more on both worlds, which are equal, and says where they differ then.
+fn call_both<R: Threads + Sync>(
+    rt: &R,
+    alloc: Global,
+    scene: &mut Scene,
+    other: &mut Scene,
+) -> Result<Option<String>, Refusal> {
+    scene.arm()?;
+    other.arm()?;
+    let answer = text_of(alloc, &scene.call(rt))?;
+    compare_call(rt, alloc, scene, &answer, other)
 }
 
 // Changes both worlds, which are equal, makes the call once more on both, and says where they differ then.
@@ -101,17 +157,39 @@ fn call_again<R: Threads + Sync>(
 ) -> Result<Option<String>, Refusal> {
     scene.disturb();
     other.disturb();
-    if let Some(difference) = compare(alloc, (scene, ""), (other, ""))? {
-        return Ok(Some(difference));
+    match compare_worlds(alloc, scene, other)? {
+        Some(found) => Ok(Some(found)),
+        None => call_both(rt, alloc, scene, other),
     }
-    scene.arm()?;
-    other.arm()?;
-    let answer = text_of(alloc, &scene.call(rt))?;
-    let expected = text_of(alloc, &other.call(rt))?;
-    compare(alloc, (scene, &answer), (other, &expected))
 }
 
-// What came of the call, which the other world follows.
+// Where the answer of the call or the world differs from what it is to be, at once or after one more call.
+fn find_fault<R: Threads + Sync>(
+    rt: &R,
+    alloc: Global,
+    (scene, answer): (&mut Scene, &str),
+    (other, expected): (&mut Scene, &str),
+) -> Result<Option<String>, Refusal> {
+    match compare(alloc, (scene, answer), (other, expected))? {
+        Some(found) => Ok(Some(found)),
+        None => call_again(rt, alloc, scene, other),
+    }
+}
+
+// What came of the call that answered this, which the other world follows.
+fn judge_text<R: Threads + Sync>(
+    rt: &R,
+    alloc: Global,
+    scene: &mut Scene,
+    other: &mut Scene,
+    answer: &Result<Answer, Refusal>,
+) -> Result<Option<String>, Refusal> {
+    let text = text_of(alloc, answer)?;
+    let expected = text_of(alloc, &other.follow(rt, answer)?)?;
+    find_fault(rt, alloc, (scene, &text), (other, &expected))
+}
+
+// What came of a call, which the other world follows.
 fn judge_on<R: Eprint + Threads + Sync>(
     rt: &R,
     alloc: Global,
@@ -121,15 +199,21 @@ fn judge_on<R: Eprint + Threads + Sync>(
     scene.arm()?;
     other.arm()?;
     let answer = call_marked(rt, scene);
-    let expected = text_of(alloc, &other.follow(rt, &answer)?)?;
-    let text = text_of(alloc, &answer)?;
-    if let Some(difference) = compare(alloc, (scene, &text), (other, &expected))? {
-        return Ok(Verdict::Fault(difference));
+    match judge_text(rt, alloc, scene, other, &answer)? {
+        Some(found) => Ok(Verdict::Fault(found)),
+        None => conclude(alloc, &answer),
     }
-    if let Some(difference) = call_again(rt, alloc, scene, other)? {
-        return Ok(Verdict::Fault(difference));
-    }
-    Ok(sound(&answer, text))
+}
+
+// What came of the call on a copy of a scene, by another copy.
+fn judge_copies<R: Eprint + Threads + Sync>(
+    rt: &R,
+    alloc: Global,
+    first: &Scene,
+) -> Result<Verdict, Refusal> {
+    let mut scene = first.try_copy()?;
+    let mut other = first.try_copy()?;
+    judge_on(rt, alloc, &mut scene, &mut other)
 }
 
 /// Makes the call of a scenario on a copy of its world, and tells what came of it by another copy, on which it is made where
@@ -139,7 +223,5 @@ pub fn judge<R: Eprint + Threads + Sync + AllocGlobal>(
     scenario: Scenario,
 ) -> Result<Verdict, Refusal> {
     let first = Scene::new(rt.alloc(), scenario)?;
-    let mut scene = first.try_copy()?;
-    let mut other = first.try_copy()?;
-    judge_on(rt, rt.alloc(), &mut scene, &mut other)
+    judge_copies(rt, rt.alloc(), &first)
 }

@@ -1,4 +1,7 @@
-//! The worlds on which the calls are made.
+//! The worlds on which the calls are made, as lists of what is done to them. Who is made has the next index: the first has 9, and
+//! in a world of the second edition 10.
+use crate::commands::first;
+use crate::scenario::Scenario;
 use eco_ids::entity::{CHILD_OF, SYMMETRIC, WITH};
 use eco_ids::{Entity, Id, Refusal, Value};
 use eco_world::World;
@@ -10,190 +13,252 @@ pub struct Subject {
     pub id: Id,
 }
 
-// The second entity that is made in a world.
-const SECOND: Entity = Entity {
-    index: 10,
-    generation: 0,
-};
+// What is done to a world. Entities are told by their indices.
+#[derive(Clone, Copy)]
+enum Deed {
+    // An entity without a name is made.
+    Make,
+    // An entity with a name is made.
+    Name(&'static str),
+    // A component of one field is made.
+    Narrow(&'static str),
+    // A component of two fields is made.
+    Wide(&'static str),
+    // An entity gets an id.
+    Add(u32, u32),
+    // An entity gets a pair.
+    AddPair(u32, u32, u32),
+    // An entity gets an id with a value.
+    Set(u32, u32, [i64; 2]),
+    // A query is asked again and again from now on.
+    Keep(&'static str),
+}
 
-// The query is asked again and again from now on.
+// Whether somebody was made.
+fn is_made(outcome: Result<Entity, Refusal>) -> Result<(), Refusal> {
+    match outcome {
+        Ok(_) => Ok(()),
+        Err(refusal) => Err(refusal),
+    }
+}
+
 fn keep(world: &mut World, text: &str) -> Result<(), Refusal> {
     let query = world.read_query(text)?;
     world.add_query(query)?;
     Ok(())
 }
 
-/// `T` brings `U` along, which is data; `e` lacks both, and stands in a table with another.
-pub fn with_implied(world: &mut World) -> Result<Subject, Refusal> {
-    let tag = world.create(Some("T"))?;
-    let implied = world.component(Some("U"), 2)?;
-    let own = world.component(Some("V"), 1)?;
-    let entity = world.create(Some("e"))?;
-    let other = world.create(None)?;
-    world.add(tag, Id::Two(WITH, implied))?;
-    world.set(entity, Id::One(own), Value::of([7]))?;
-    world.set(other, Id::One(own), Value::of([8]))?;
-    keep(world, "T, V")?;
-    keep(world, "U, !With")?;
-    Ok(Subject {
-        entity,
-        id: Id::One(tag),
-    })
-}
-
-/// An entity without a name has a value, which it alone has, and lacks the tag `T`, which nobody has.
-pub fn with_tag(world: &mut World) -> Result<Subject, Refusal> {
-    let tag = world.create(Some("T"))?;
-    let own = world.component(Some("V"), 1)?;
-    let entity = world.create(None)?;
-    world.set(entity, Id::One(own), Value::of([7]))?;
-    keep(world, "T, V")?;
-    keep(world, "V, !T")?;
-    Ok(Subject {
-        entity,
-        id: Id::One(tag),
-    })
-}
-
-/// The same, and another entity stands in its table.
-pub fn with_company(world: &mut World) -> Result<Subject, Refusal> {
-    let subject = with_tag(world)?;
-    let other = world.create(None)?;
-    world.set(other, Id::One(SECOND), Value::of([8]))?;
-    Ok(subject)
-}
-
-/// `e` lacks the pair of `Likes` with `Gold`, which is data.
-pub fn with_pair(world: &mut World) -> Result<Subject, Refusal> {
-    let likes = world.create(Some("Likes"))?;
-    let gold = world.component(Some("Gold"), 1)?;
-    let entity = world.create(Some("e"))?;
-    keep(world, "(Likes, *)")?;
-    Ok(Subject {
-        entity,
-        id: Id::Two(likes, gold),
-    })
-}
-
-/// `Near` is symmetric, and its pairs are data. `e`, which has a value besides, lacks the pair with `f`, and both stand alone in
-/// their tables.
-pub fn with_symmetric_pair(world: &mut World) -> Result<Subject, Refusal> {
-    let own = world.component(Some("V"), 1)?;
-    let near = world.component(Some("Near"), 1)?;
-    let entity = world.create(Some("e"))?;
-    let target = world.create(Some("f"))?;
-    world.add(near, Id::One(SYMMETRIC))?;
-    world.set(entity, Id::One(own), Value::of([7]))?;
-    world.add(target, Id::One(entity))?;
-    keep(world, "(Near, *)")?;
-    keep(world, "V, !(Near, _)")?;
-    Ok(Subject {
-        entity,
-        id: Id::Two(near, target),
-    })
-}
-
-/// Fifty tables: each of fifty entities has `T` and a tag of its own.
-pub fn with_tables(world: &mut World) -> Result<Subject, Refusal> {
-    let tag = world.create(Some("T"))?;
-    for _ in 0..50 {
-        let own = world.create(None)?;
-        let entity = world.create(None)?;
-        world.add(entity, Id::One(tag))?;
-        world.add(entity, Id::One(own))?;
+fn take(world: &mut World, deed: Deed) -> Result<(), Refusal> {
+    match deed {
+        Deed::Make => is_made(world.create(None)),
+        Deed::Name(name) => is_made(world.create(Some(name))),
+        Deed::Narrow(name) => is_made(world.component(Some(name), 1)),
+        Deed::Wide(name) => is_made(world.component(Some(name), 2)),
+        Deed::Add(entity, id) => world.add(first(entity), Id::One(first(id))),
+        Deed::AddPair(entity, one, other) => {
+            world.add(first(entity), Id::Two(first(one), first(other)))
+        }
+        Deed::Set(entity, id, fields) => {
+            world.set(first(entity), Id::One(first(id)), Value::of(fields))
+        }
+        Deed::Keep(text) => keep(world, text),
     }
-    Ok(Subject {
-        entity: tag,
-        id: Id::One(tag),
-    })
 }
 
-/// A chain of 200 along ChildOf, of which the root is named.
-pub fn with_chain(world: &mut World) -> Result<Subject, Refusal> {
-    let root = world.create(Some("root"))?;
-    let mut parent = root;
-    for _ in 1..200 {
-        let child = world.create(None)?;
-        world.add(child, Id::Two(CHILD_OF, parent))?;
-        parent = child;
+fn take_all(world: &mut World, deeds: &[Deed]) -> Result<(), Refusal> {
+    for deed in deeds {
+        take(world, *deed)?;
     }
-    keep(world, "(ChildOf, *)")?;
-    Ok(Subject {
-        entity: root,
-        id: Id::One(root),
-    })
+    Ok(())
 }
 
-/// Twenty have `T`, and each is liked by one of twenty others, who have a value too.
-pub fn with_holders(world: &mut World) -> Result<Subject, Refusal> {
-    let tag = world.create(Some("T"))?;
-    let likes = world.create(Some("Likes"))?;
-    let own = world.component(Some("V"), 1)?;
-    for number in 0..20 {
-        let holder = world.create(None)?;
-        let survivor = world.create(None)?;
-        world.add(holder, Id::One(tag))?;
-        world.set(survivor, Id::One(own), Value::of([number]))?;
-        world.add(survivor, Id::Two(likes, holder))?;
+// `T` brings `U` along, which is data; `e` lacks both, and stands in a table with another.
+const IMPLIED: &[Deed] = &[
+    Deed::Name("T"),
+    Deed::Wide("U"),
+    Deed::Narrow("V"),
+    Deed::Name("e"),
+    Deed::Make,
+    Deed::AddPair(9, WITH.index, 10),
+    Deed::Set(12, 11, [7, 0]),
+    Deed::Set(13, 11, [8, 0]),
+    Deed::Keep("T, V"),
+    Deed::Keep("U, !With"),
+];
+
+// An entity without a name has a value, which it alone has, and lacks the tag `T`, which nobody has.
+const TAG: &[Deed] = &[
+    Deed::Name("T"),
+    Deed::Narrow("V"),
+    Deed::Make,
+    Deed::Set(11, 10, [7, 0]),
+    Deed::Keep("T, V"),
+    Deed::Keep("V, !T"),
+];
+
+// Another entity stands in its table.
+const COMPANY: &[Deed] = &[Deed::Make, Deed::Set(12, 10, [8, 0])];
+
+// `e` lacks the pair of `Likes` with `Gold`, which is data.
+const PAIR: &[Deed] = &[
+    Deed::Name("Likes"),
+    Deed::Narrow("Gold"),
+    Deed::Name("e"),
+    Deed::Keep("(Likes, *)"),
+];
+
+// `Near` is symmetric, and its pairs are data. `e`, which has a value besides, lacks the pair with `f`, and both stand alone in
+// their tables.
+const SYMMETRIC_PAIR: &[Deed] = &[
+    Deed::Narrow("V"),
+    Deed::Narrow("Near"),
+    Deed::Name("e"),
+    Deed::Name("f"),
+    Deed::Add(11, SYMMETRIC.index),
+    Deed::Set(12, 10, [7, 0]),
+    Deed::Add(13, 12),
+    Deed::Keep("(Near, *)"),
+    Deed::Keep("V, !(Near, _)"),
+];
+
+// Two have a position, one is frozen, and both like somebody, one of them twice.
+const LIKES: &[Deed] = &[
+    Deed::Wide("Position"),
+    Deed::Name("Frozen"),
+    Deed::Name("Likes"),
+    Deed::Name("a"),
+    Deed::Name("b"),
+    Deed::Name("e"),
+    Deed::Name("f"),
+    Deed::Add(14, 9),
+    Deed::AddPair(14, 11, 12),
+    Deed::AddPair(14, 11, 13),
+    Deed::Add(15, 9),
+    Deed::Add(15, 10),
+    Deed::AddPair(15, 11, 12),
+];
+
+// `e` has nothing, and `f` has `T` and a value.
+const TWO: &[Deed] = &[
+    Deed::Name("T"),
+    Deed::Wide("U"),
+    Deed::Name("Likes"),
+    Deed::Name("e"),
+    Deed::Name("f"),
+    Deed::Add(13, 9),
+    Deed::Set(13, 10, [7, 0]),
+    Deed::Keep("T || U"),
+    Deed::Keep("(*, _)"),
+];
+
+// `e` has a position, a velocity and a mass.
+const MOVER: &[Deed] = &[
+    Deed::Wide("Position"),
+    Deed::Wide("Velocity"),
+    Deed::Narrow("Mass"),
+    Deed::Name("e"),
+    Deed::Set(12, 9, [1, 1]),
+    Deed::Set(12, 10, [2, 3]),
+    Deed::Set(12, 11, [0, 0]),
+    Deed::Keep("Position, Mass"),
+];
+
+const HOLDERS: &[Deed] = &[Deed::Name("T"), Deed::Name("Likes"), Deed::Narrow("V")];
+
+const HELD: &[Deed] = &[Deed::Keep("(Likes, *)"), Deed::Keep("V, !(Likes, _)")];
+
+// Fifty tables: each of fifty entities has `T` and a tag of its own.
+fn add_tables(world: &mut World) -> Result<(), Refusal> {
+    take(world, Deed::Name("T"))?;
+    for place in 0..50u32 {
+        let (own, entity) = (10 + 2 * place, 11 + 2 * place);
+        let deeds = [
+            Deed::Make,
+            Deed::Make,
+            Deed::Add(entity, 9),
+            Deed::Add(entity, own),
+        ];
+        take_all(world, &deeds)?;
     }
-    keep(world, "(Likes, *)")?;
-    keep(world, "V, !(Likes, _)")?;
-    Ok(Subject {
-        entity: tag,
-        id: Id::One(tag),
-    })
+    Ok(())
 }
 
-/// Two have a position, one is frozen, and both like somebody, one of them twice.
-pub fn with_likes(world: &mut World) -> Result<Subject, Refusal> {
-    let position = world.component(Some("Position"), 2)?;
-    let frozen = world.create(Some("Frozen"))?;
-    let likes = world.create(Some("Likes"))?;
-    let one = world.create(Some("a"))?;
-    let other = world.create(Some("b"))?;
-    let warm = world.create(Some("e"))?;
-    let cold = world.create(Some("f"))?;
-    world.add(warm, Id::One(position))?;
-    world.add(warm, Id::Two(likes, one))?;
-    world.add(warm, Id::Two(likes, other))?;
-    world.add(cold, Id::One(position))?;
-    world.add(cold, Id::One(frozen))?;
-    world.add(cold, Id::Two(likes, one))?;
-    Ok(Subject {
-        entity: warm,
-        id: Id::One(position),
-    })
+// A chain of 200 along ChildOf, of which the root is named.
+fn add_chain(world: &mut World) -> Result<(), Refusal> {
+    take(world, Deed::Name("root"))?;
+    for child in 10..209u32 {
+        let deeds = [Deed::Make, Deed::AddPair(child, CHILD_OF.index, child - 1)];
+        take_all(world, &deeds)?;
+    }
+    take(world, Deed::Keep("(ChildOf, *)"))
 }
 
-/// The tag `T` is #9.0, the component `U` #10.0, `Likes` #11.0, `e` #12.0, and `f`, which has `T` and a value, #13.0.
-pub fn with_two(world: &mut World) -> Result<Subject, Refusal> {
-    let tag = world.create(Some("T"))?;
-    let own = world.component(Some("U"), 2)?;
-    world.create(Some("Likes"))?;
-    let entity = world.create(Some("e"))?;
-    let other = world.create(Some("f"))?;
-    world.add(other, Id::One(tag))?;
-    world.set(other, Id::One(own), Value::of([7]))?;
-    keep(world, "T || U")?;
-    keep(world, "(*, _)")?;
-    Ok(Subject {
-        entity,
-        id: Id::One(tag),
-    })
+// Twenty have `T`, and each is liked by one of twenty others, who have a value too.
+fn add_holders(world: &mut World) -> Result<(), Refusal> {
+    take_all(world, HOLDERS)?;
+    for place in 0..20u32 {
+        let (holder, survivor) = (12 + 2 * place, 13 + 2 * place);
+        let deeds = [
+            Deed::Make,
+            Deed::Make,
+            Deed::Add(holder, 9),
+            Deed::Set(survivor, 11, [i64::from(place), 0]),
+            Deed::AddPair(survivor, 10, holder),
+        ];
+        take_all(world, &deeds)?;
+    }
+    take_all(world, HELD)
 }
 
-/// `e` has a position, a velocity and a mass.
-pub fn with_mover(world: &mut World) -> Result<Subject, Refusal> {
-    let position = world.component(Some("Position"), 2)?;
-    let velocity = world.component(Some("Velocity"), 2)?;
-    let mass = world.component(Some("Mass"), 1)?;
-    let entity = world.create(Some("e"))?;
-    world.set(entity, Id::One(position), Value::of([1, 1]))?;
-    world.set(entity, Id::One(velocity), Value::of([2, 3]))?;
-    world.set(entity, Id::One(mass), Value::ZERO)?;
-    keep(world, "Position, Mass")?;
-    Ok(Subject {
-        entity,
-        id: Id::One(position),
-    })
+// The same as for a tag, with company.
+fn add_company(world: &mut World) -> Result<(), Refusal> {
+    take_all(world, TAG)?;
+    take_all(world, COMPANY)
+}
+
+// An entity and a single id.
+fn about(entity: u32, id: u32) -> Subject {
+    Subject {
+        entity: first(entity),
+        id: Id::One(first(id)),
+    }
+}
+
+// An entity and a pair.
+fn about_pair(entity: u32, one: u32, other: u32) -> Subject {
+    Subject {
+        entity: first(entity),
+        id: Id::Two(first(one), first(other)),
+    }
+}
+
+/// What the call of a scenario is about.
+pub fn subject(scenario: Scenario) -> Subject {
+    match scenario {
+        Scenario::Set => about_pair(11, 9, 10),
+        Scenario::SetMirrored => about_pair(12, 11, 13),
+        Scenario::Step | Scenario::Turn | Scenario::Create | Scenario::Rename => about(11, 9),
+        Scenario::AddQuery | Scenario::Delete | Scenario::DeleteWith => about(9, 9),
+        Scenario::ReadQuery | Scenario::Query => about(14, 9),
+        _ => about(12, 9),
+    }
+}
+
+/// Makes the world of a scenario.
+pub fn make(world: &mut World, scenario: Scenario) -> Result<(), Refusal> {
+    match scenario {
+        Scenario::Add => take_all(world, IMPLIED),
+        Scenario::Step => add_company(world),
+        Scenario::Turn | Scenario::Create | Scenario::Rename => take_all(world, TAG),
+        Scenario::Set => take_all(world, PAIR),
+        Scenario::SetMirrored => take_all(world, SYMMETRIC_PAIR),
+        Scenario::AddQuery => add_tables(world),
+        Scenario::Delete => add_chain(world),
+        Scenario::DeleteWith => add_holders(world),
+        Scenario::ReadQuery | Scenario::Query => take_all(world, LIKES),
+        Scenario::Merge | Scenario::Record | Scenario::OpenShared | Scenario::MergeShared => {
+            take_all(world, TWO)
+        }
+        Scenario::Frame | Scenario::Pipeline => take_all(world, MOVER),
+    }
 }

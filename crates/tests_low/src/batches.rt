@@ -30,7 +30,7 @@ impl Piece for Made {
 }
 
 // Waits, where it is no last piece, until the last one is recorded, for so many turns; notes where it waited in vain.
-#[derive(Drop)]
+#[derive(Clone, Copy, Drop)]
 struct Gate<'a> {
     is_last: bool,
     turns: u64,
@@ -74,16 +74,7 @@ fn make_hundred<R: Threads + Sync>(
 ) -> Result<(usize, u32), Refusal>
     requires { (1 ≤ workers) × (workers ≤ 64) × (5 ≤ limit) × (limit ≤ 1000) }
 {
-    let pieces = vec![in alloc; Made; 100]?;
-    let (stages, drawn) = run_batch(
-        rt,
-        alloc,
-        Vec::new(alloc),
-        pieces.as_slice(),
-        workers,
-        5,
-        limit,
-    )?;
+    let (stages, drawn) = run_batch(rt, alloc, Vec::new(alloc), &[Made; 100], workers, 5, limit)?;
     Ok((stages.len(), drawn))
 }
 
@@ -102,21 +93,20 @@ fn handles_last_to_the_limit(rt: HostRuntime) {
 fn overlap<R: Threads + Sync>(rt: &R, alloc: Global) -> Result<bool, Refusal> {
     let opened = AtomicU64::new(0);
     let missed = AtomicU64::new(0);
-    let mut gates = Vec::new(alloc);
-    for k in 0..8 {
-        gates.push(Gate {
-            is_last: k == 7,
-            turns: 2_000_000_000,
-            opened: &opened,
-            missed: &missed,
-        })?;
-    }
-    run_batch(rt, alloc, Vec::new(alloc), gates.as_slice(), 8, 0, 0)?;
+    let waiting = Gate {
+        is_last: false,
+        turns: 2_000_000_000,
+        opened: &opened,
+        missed: &missed,
+    };
+    let mut gates = [waiting; 8];
+    gates[7].is_last = true;
+    run_batch(rt, alloc, Vec::new(alloc), &gates, 8, 0, 0)?;
     Ok(missed.load(Ordering::SeqCst) == 0)
 }
 
 // Draws a handle, waits until so many pieces have drawn one, for so many turns, and draws another; notes where it waited in vain.
-#[derive(Drop)]
+#[derive(Clone, Copy, Drop)]
 struct Twice<'a> {
     pieces: u64,
     turns: u64,
@@ -138,7 +128,7 @@ impl Twice<'_> {
 }
 
 // Makes an entity of a fresh handle.
-fn make(made: Entity, stage: &mut Stage) -> Result<(), Refusal>
+fn make_one(made: Entity, stage: &mut Stage) -> Result<(), Refusal>
     ensures ok { OnOk result (stage.new ≡ stage.old ++ Create made ∷ []) }
     ensures err { IfErr result (λ why. why ≡ OutOfMemory) }
 {
@@ -155,59 +145,68 @@ impl Piece for Twice<'_> {
 
     fn record<D: Draws>(&self, draws: &mut D, stage: &mut Stage) -> Result<(), Refusal> {
         let first = draws.draw()?;
-        make(first, stage)?;
+        make_one(first, stage)?;
         self.meet();
         let second = draws.draw()?;
-        make(second, stage)
+        make_one(second, stage)
     }
 }
 
-// The indices that the stages of eight pieces make first, in ascending order, and behind them those that they make second.
-fn made_by_eight(alloc: Global, stages: &[Stage]) -> Result<Vec<u32>, AllocError> {
-    let mut firsts = Vec::new(alloc);
-    let mut seconds = Vec::new(alloc);
+// The index that a command makes; 0, where it makes none.
+fn made_by(command: &Command) -> u32 {
+    match command {
+        Command::Create(made) => made.index,
+        _ => 0,
+    }
+}
+
+// The index that one of two commands makes; 0, where there are not two.
+fn made_at(commands: &[Command], place: usize) -> u32 {
+    match commands.get(place) {
+        Some(command) if commands.len() == 2 => made_by(command),
+        _ => 0,
+    }
+}
+
+// Whether these are the indices that stages make by their commands at a place, in any order.
+fn make(
+    alloc: Global,
+    stages: &[Stage],
+    place: usize,
+    indices: &[u32],
+) -> Result<bool, AllocError> {
+    let mut made = Vec::with_capacity(alloc, stages.len())?;
     for stage in stages {
-        if let [Command::Create(first), Command::Create(second)] = stage.commands() {
-            firsts.push(first.index)?;
-            seconds.push(second.index)?;
-        }
+        made.push(made_at(stage.commands(), place))?;
     }
-    firsts.sort()?;
-    seconds.sort()?;
-    firsts.append(&mut seconds)?;
-    Ok(firsts)
+    made.sort_unstable();
+    Ok(made.as_slice() == indices)
 }
 
-// What eight pieces make from 5 on, none of which draws its second handle before all have drawn their first; nothing, where a piece waited
-// in vain.
-fn draw_in_turn<R: Threads + Sync>(rt: &R, alloc: Global) -> Result<Vec<u32>, Refusal> {
+// Whether the stages of eight pieces make the eight indices from 5 on first, and then the next eight.
+fn make_in_turn(alloc: Global, stages: &[Stage]) -> Result<bool, AllocError> {
+    let are_first = make(alloc, stages, 0, &[5, 6, 7, 8, 9, 10, 11, 12])?;
+    let are_second = make(alloc, stages, 1, &[13, 14, 15, 16, 17, 18, 19, 20])?;
+    Ok(are_first && are_second)
+}
+
+// Whether eight pieces draw in turn: none draws its second handle before all have drawn their first, and none waits in vain.
+fn draw_in_turn<R: Threads + Sync>(rt: &R, alloc: Global) -> Result<bool, Refusal> {
     let drew = AtomicU64::new(0);
     let missed = AtomicU64::new(0);
-    let mut pieces = Vec::new(alloc);
-    for _ in 0..8 {
-        pieces.push(Twice {
-            pieces: 8,
-            turns: 2_000_000_000,
-            drew: &drew,
-            missed: &missed,
-        })?;
-    }
-    let (stages, _) = run_batch(rt, alloc, Vec::new(alloc), pieces.as_slice(), 8, 5, 1_000)?;
-    if missed.load(Ordering::SeqCst) == 1 {
-        return Ok(Vec::new(alloc));
-    }
-    Ok(made_by_eight(alloc, stages.as_slice())?)
+    let piece = Twice {
+        pieces: 8,
+        turns: 2_000_000_000,
+        drew: &drew,
+        missed: &missed,
+    };
+    let (stages, _) = run_batch(rt, alloc, Vec::new(alloc), &[piece; 8], 8, 5, 1_000)?;
+    Ok(make_in_turn(alloc, stages.as_slice())? && missed.load(Ordering::SeqCst) == 0)
 }
 
 #[test]
 fn eight_workers_draw_in_turn(rt: HostRuntime) {
-    let Ok(made) = draw_in_turn(&rt, rt.alloc()) else {
-        panic!(rt; "no memory")
-    };
-    assert_eq!(rt; made.len(), 16);
-    for (k, index) in made.iter().enumerate() {
-        assert_eq!(rt; *index as usize, k.saturating_add(5));
-    }
+    assert_eq!(rt; draw_in_turn(&rt, rt.alloc()), Ok(true));
 }
 
 #[test]

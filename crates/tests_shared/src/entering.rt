@@ -2,7 +2,7 @@
 ghost use Rattle.std.specs.Prelude.{◌≡◌};
 
 use crate::looking::{BEGIN, merge_one, opening, tagged};
-use eco_shared::{Blank, Naming, Viewer, open};
+use eco_shared::{Blank, Merger, Naming, Viewer, open};
 use std::alloc::Global;
 use std::marker::Brand;
 use std::process::Abort;
@@ -27,6 +27,16 @@ fn enters<J: Naming, R: Wait + Drop>(rt: &R, mut viewer: Viewer<J, R>, times: us
     true
 }
 
+// Whether a hundred merges are made.
+fn merges_all<J: Naming, R: Wait + Drop>(merger: &mut Merger<J, R>, alloc: Global) -> bool {
+    for k in 0..100 {
+        if merge_one(merger, alloc, BEGIN + k).is_err() {
+            return false;
+        }
+    }
+    true
+}
+
 // Four viewers enter a thousand times each, while a hundred merges are made. The fifth enters at the end.
 fn hundred<
     J: Naming + Send + 'static,
@@ -46,9 +56,7 @@ fn hundred<
             handles.push(handle).ok();
         }
     }
-    for k in 0..100 {
-        assert!(rt; merge_one(&mut merger, alloc, BEGIN + k).is_ok());
-    }
+    assert!(rt; merges_all(&mut merger, alloc));
     let mut whole: usize = 0;
     for handle in handles {
         if handle.join(&rt) {

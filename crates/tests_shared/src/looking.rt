@@ -4,7 +4,7 @@ ghost use Rattle.std.specs.Prelude.{◌≤◌};
 use eco_ids::{Entity, Id, Refusal};
 use eco_shared::{Merger, Naming};
 use eco_stages::{Command, Report, Stage};
-use eco_world::World;
+use eco_world::{TableRows, World};
 use std::alloc::Global;
 use std::sync::Wait;
 
@@ -46,39 +46,49 @@ pub fn merge_one<J: Naming, R: Wait + Drop>(
     merger.merge(1, &[stage])
 }
 
-// Whether each living entity is listed once, and nobody else.
-fn lists_the_living(world: &World) -> bool {
-    let (Ok(living), Ok(tables)) = (world.living(), world.tables()) else {
-        return false;
-    };
-    let mut listed: usize = 0;
-    for table in &tables {
-        listed = listed.saturating_add(table.entities.len());
-    }
-    for entity in &living {
-        let mut times: usize = 0;
-        for table in &tables {
-            for other in table.entities {
-                if *other == *entity {
-                    times = times.saturating_add(1);
-                }
+// How often the tables list an entity.
+fn times_listed(tables: &[TableRows<'_>], entity: Entity) -> usize {
+    let mut times: usize = 0;
+    for table in tables {
+        for other in table.entities {
+            if *other == entity {
+                times = times.saturating_add(1);
             }
         }
-        if times != 1 {
+    }
+    times
+}
+
+// Whether the tables list each of the living once, and nobody else.
+fn list_each(tables: &[TableRows<'_>], living: &[Entity]) -> bool {
+    let mut listed: usize = 0;
+    for table in tables {
+        listed = listed.saturating_add(table.entities.len());
+    }
+    for entity in living {
+        if times_listed(tables, *entity) != 1 {
             return false;
         }
     }
     listed == living.len()
 }
 
+// How many live, where each of them is listed once, and nobody else.
+fn count_listed(world: &World) -> Option<usize> {
+    let living = world.living().ok()?;
+    let tables = world.tables().ok()?;
+    list_each(&tables, &living).then_some(living.len())
+}
+
+// How many have the tag.
+fn count_tagged(world: &World) -> Option<usize> {
+    let query = world.read_query("T").ok()?;
+    Some(world.query(&query).ok()?.len())
+}
+
 /// How many have the tag, where the world is whole: those are all but the first ten, and each living entity is listed once.
 pub fn tagged(world: &World) -> Option<usize> {
-    let query = world.read_query("T").ok()?;
-    let found = world.query(&query).ok()?.len();
-    let living = world.living().ok()?.len();
-    if lists_the_living(world) && living == found.saturating_add(BEGIN as usize) {
-        Some(found)
-    } else {
-        None
-    }
+    let found = count_tagged(world)?;
+    let living = count_listed(world)?;
+    (living == found.saturating_add(BEGIN as usize)).then_some(found)
 }

@@ -60,6 +60,20 @@ fn is_full_after_one<J: Naming, R: Wait + Drop>(
         && merger.merge(0, &[]).is_ok()
 }
 
+// Whether all of it is so, of one shared world and another, whose news neither takes in.
+fn tells_each<J: Naming, R: Wait + Drop>(
+    rt: &R,
+    alloc: Global,
+    (merger, viewer): (&mut Merger<J, R>, &mut Viewer<J, R>),
+    (other, alone): (&mut Merger<J, R>, &mut Viewer<J, R>),
+) -> bool {
+    sees_each(rt, alloc, merger, viewer)
+        && stays(rt, alloc, merger, viewer)
+        && is_full_after_one(rt, alloc, other, alone)
+        && !viewer.learn(&other.tell())
+        && !alone.learn(&merger.tell())
+}
+
 // One shared world has 64 viewers, the other one.
 fn tell<J: Naming, R: Wait + Abort + Copy + Drop>(
     rt: R,
@@ -80,10 +94,7 @@ fn tell<J: Naming, R: Wait + Abort + Copy + Drop>(
     let (Some(viewer), Some(alone)) = (viewers.last_mut(), others.last_mut()) else {
         panic!(rt; "viewers")
     };
-    assert!(rt; sees_each(&rt, alloc, &mut merger, viewer));
-    assert!(rt; stays(&rt, alloc, &mut merger, viewer));
-    assert!(rt; is_full_after_one(&rt, alloc, &mut other, alone));
-    assert!(rt; !viewer.learn(&other.tell()) && !alone.learn(&merger.tell()));
+    assert!(rt; tells_each(&rt, alloc, (&mut merger, viewer), (&mut other, alone)));
     Ok(())
 }
 

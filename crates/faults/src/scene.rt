@@ -137,7 +137,7 @@ impl Scene {
             alloc,
             scenario,
             world,
-            subject: worlds::subject(scenario),
+            subject: worlds::make_subject(scenario),
             query: None,
             command: None,
             stages: [Stage::new(alloc), Stage::new(alloc)],

@@ -233,7 +233,7 @@ fn about_pair(entity: u32, one: u32, other: u32) -> Subject {
 }
 
 /// What the call of a scenario is about.
-pub fn subject(scenario: Scenario) -> Subject {
+pub fn make_subject(scenario: Scenario) -> Subject {
     match scenario {
         Scenario::Set => about_pair(11, 9, 10),
         Scenario::SetMirrored => about_pair(12, 11, 13),

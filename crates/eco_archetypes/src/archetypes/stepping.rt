@@ -55,9 +55,9 @@ impl Archetypes {
         }
     }
 
-    // The slot to which an edge leads, if one is stored.
+    /// The slot of the table that the id leads to, if an edge is stored. Mostly one is, where an entity steps as others did.
     #[inline(always)]
-    pub(super) fn lead(&self, slot: usize, id: Id) -> Option<usize>
+    pub fn lead(&self, slot: usize, id: Id) -> Option<usize>
         ensures there { IfSome result (λ n. IsSome (slot_of self.now n)) }
         ensures apart { IfSome result (λ n. slot ≢ n) }
         ensures typed { IfSome result
@@ -65,6 +65,27 @@ impl Archetypes {
     {
         let to = self.edges.get(slot, id)?;
         Some(to)
+    }
+
+    /// Room for so many more rows in the table in this slot, which is the answer. An `Err` comes where memory is refused. No row
+    /// changes.
+    #[inline(always)]
+    pub fn make_room(
+        &mut self,
+        entities: &EntityIndex,
+        slot: usize,
+        more: usize,
+    ) -> Result<usize, AllocError>
+        requires { IsSome (slot_of self.old slot) }
+        ensures same { IfOk result (λ n. n ≡ slot) }
+        ensures typed { type_at self.new slot ≡ type_at self.old slot }
+        ensures room { OnOk result (more ≤ (table_in self.new slot).room) }
+        ensures rowless { RowlessBut self.old self.new result }
+        ensures rows { SameRows self.old self.new }
+        ensures widths { StillCover entities.now self.old self.new }
+    {
+        self.reserve_rows(slot, more)?;
+        Ok(slot)
     }
 
     // What `step` does where no edge is stored. One is stored where the table was there already: to one that this step makes, it

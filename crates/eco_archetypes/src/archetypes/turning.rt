@@ -20,7 +20,6 @@ impl Archetypes {
     /// Where the table in a slot has one row, and there is no table of the type that has the id more, or less, it takes that
     /// type, and the answer is true; else nothing changes. An `Err` comes where memory is refused, and then nothing has
     /// changed.
-    #[inline(always)]
     pub fn step_alone(
         &mut self,
         entities: &EntityIndex,
@@ -33,14 +32,13 @@ impl Archetypes {
         ensures err { OnErr result (SameSlots self.old self.new) }
         ensures widths { StillCover entities.now self.old self.new }
     {
-        // An edge leads to a table of that type.
-        if self.tables.row_count(slot) != 1 || self.edges.get(slot, id).is_some() {
+        if self.tables.row_count(slot) != 1 {
             return Ok(false);
         }
         self.step_only_row(entities, slot, id)
     }
 
-    // What `step_alone` does where the table has one row and no edge leads on. Rare beside steps from tables of many.
+    // What `step_alone` does where the table has one row. Rare beside steps from tables of many.
     #[cold]
     #[inline(never)]
     fn step_only_row(
@@ -56,6 +54,9 @@ impl Archetypes {
         ensures err { OnErr result (SameSlots self.old self.new) }
         ensures widths { StillCover entities.now self.old self.new }
     {
+        if self.edges.get(slot, id).is_some() {
+            return Ok(false);
+        }
         if self.tables.get(slot).unwrap().type_list().has(id) {
             self.lose_alone(slot, id)
         } else {

@@ -19,6 +19,29 @@ impl Store {
         // The type that the row leaves is that of its own ids, since each row has a value for each id of its table.
         self.layout.archetypes.tables().rows_have_ids();
         let place = self.layout.entities.place_of(e).unwrap();
+        let Some(led) = self.layout.archetypes.lead(place.table, id) else {
+            return self.step_anew(e, id);
+        };
+        let to = self
+            .layout
+            .archetypes
+            .make_room(&self.layout.entities, led, 1)?;
+        self.layout.carry(e, place, to);
+        Ok(())
+    }
+
+    // What `step` does, also where no edge is stored. An entity that stands alone in its table takes that along, where no other
+    // table has its next type.
+    #[cold]
+    #[inline(never)]
+    fn step_anew(&mut self, e: Entity, id: Id) -> Result<(), AllocError>
+        requires { IsTrue (is_alive self.old.entities e) }
+        ensures ok { OnOk result (self.new.entities ≡ changed self.old.entities e (with_toggled id)) }
+        ensures err { OnErr result (self.new.entities ≡ self.old.entities) }
+    {
+        // The type that the row leaves is that of its own ids, since each row has a value for each id of its table.
+        self.layout.archetypes.tables().rows_have_ids();
+        let place = self.layout.entities.place_of(e).unwrap();
         let turned = self
             .layout
             .archetypes

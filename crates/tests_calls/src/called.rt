@@ -108,17 +108,22 @@ fn one_holds(alloc: Global) -> Result<bool, Refusal> {
     Ok(alone && store.holders(holder)?.is_empty())
 }
 
-// Whether each of eight targets that an entity gets, one after another, is found by its pair, in a world with this seed.
+// Whether a target that the holder gets is found by its pair.
+fn finds_target(world: &mut World, likes: Entity, holder: Entity) -> Result<bool, Refusal> {
+    let target = world.create(None)?;
+    world.add(holder, Id::Two(likes, target))?;
+    let pair = Pattern::Two(Part::Is(likes), Part::Is(target));
+    Ok(world.tables_with(pair)?.len() == 1)
+}
+
+// Whether each of eight targets that an entity gets, one after another, is found, in a world with this seed.
 fn finds_targets(alloc: Global, seed: u64) -> Result<bool, Refusal> {
     let mut world = World::seeded(alloc, Edition::First, 32, seed)?;
     let likes = world.create(None)?;
     let holder = world.create(None)?;
     let mut finds = true;
     for _ in 0..8 {
-        let target = world.create(None)?;
-        world.add(holder, Id::Two(likes, target))?;
-        let pair = Pattern::Two(Part::Is(likes), Part::Is(target));
-        finds &= world.tables_with(pair)?.len() == 1;
+        finds &= finds_target(&mut world, likes, holder)?;
     }
     Ok(finds)
 }

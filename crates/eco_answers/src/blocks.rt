@@ -10,6 +10,7 @@ use eco_entries::{Choices, choices_of, find_only};
 use eco_ids::{Entity, Id};
 use eco_query::Slot;
 use eco_store::{Ranked, Standing, Table, Tables};
+use eco_tables::TableSlot;
 use std::alloc::{AllocError, Global};
 
 /// The choices of one table: from the first on, up to the end.
@@ -57,7 +58,7 @@ fn add_block(
 pub fn blocks_of(
     alloc: Global,
     tables: &Tables,
-    slots: &[usize],
+    slots: &[TableSlot],
     terms: &[Slot],
 ) -> Result<Blocks, AllocError>
     requires some { 0 < length terms.now }

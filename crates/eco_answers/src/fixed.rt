@@ -10,6 +10,7 @@ use eco_entries::Choices;
 use eco_ids::{Id, Part, Pattern};
 use eco_query::{Slot, Term};
 use eco_store::Tables;
+use eco_tables::TableSlot;
 use std::alloc::{AllocError, Global};
 
 // The only id that a pattern matches: none, where it may match several.
@@ -58,7 +59,7 @@ pub fn fixed_choice(alloc: Global, slots: &[Slot]) -> Result<Option<Vec<Option<I
 pub fn once_each(
     alloc: Global,
     tables: &Tables,
-    slots: &[usize],
+    slots: &[TableSlot],
     choice: &[Option<Id>],
 ) -> Result<Choices, AllocError>
     requires some { 0 < length choice.now }

@@ -7,17 +7,17 @@ ghost use Rattle.eco_answers.specs.Blocks.{lent_result, shown};
 
 use eco_entries::Choices;
 use eco_ids::{Entity, Id};
-use eco_store::{Ranked, ranked};
+use eco_store::{Ranked, RankedIter};
 use std::marker::Model;
 
 /// The results that are left, each an entity and its entries. A contract sees the list of them.
 #[derive(Drop)]
-pub struct Iter<'a> {
-    rows: ranked::Iter<'a>,
+pub struct ResultIter<'a> {
+    rows: RankedIter<'a>,
     choices: &'a Choices,
 }
 
-impl<'a> Model for Iter<'a> {
+impl<'a> Model for ResultIter<'a> {
     ghost use Rattle.std.specs.Prelude.{◌<◌, List, length, map};
     ghost use Rattle.std.specs.List.{All};
     ghost use Rattle.eco_ids.specs.Answer as answers;
@@ -30,20 +30,20 @@ impl<'a> Model for Iter<'a> {
     ghost invariant = { λ i. All (λ s. s.place < length i.choices.now.all) i.rows };
 }
 
-impl<'a> Iter<'a> {
+impl<'a> ResultIter<'a> {
     /// Of these rows, each with the choice at its place.
-    pub(crate) fn of(rows: &'a Ranked, choices: &'a Choices) -> Iter<'a>
+    pub(crate) fn of(rows: &'a Ranked, choices: &'a Choices) -> ResultIter<'a>
         requires { All (λ s. s.place < length choices.now.all) rows.now }
         ensures { result ≡ map (shown choices.now.all) rows.now }
     {
-        Iter {
+        ResultIter {
             rows: rows.iter(),
             choices,
         }
     }
 }
 
-impl<'a> Iterator for Iter<'a> {
+impl<'a> Iterator for ResultIter<'a> {
     type Item = (Entity, &'a [Option<Id>]);
 
     ghost next_gives = { TakesFirst lent_result };

@@ -8,5 +8,5 @@ mod iter;
 mod results;
 
 pub use asking::Asking;
-pub use iter::Iter;
+pub use iter::ResultIter;
 pub use results::{Results, results_of};

@@ -12,7 +12,7 @@ ghost use Rattle.eco_store.specs.Worlds.{world_of};
 use crate::asking::Asking;
 use crate::blocks::{Blocks, blocks_of, rows_of};
 use crate::fixed::{fixed_choice, once_each};
-use crate::iter::Iter;
+use crate::iter::ResultIter;
 use eco_entries::Choices;
 use eco_ids::{Entity, Id};
 use eco_query::{Query, Slot};
@@ -94,10 +94,10 @@ impl Results {
     }
 
     /// All of them, in their order.
-    pub fn iter(&self) -> Iter<'_>
+    pub fn iter(&self) -> ResultIter<'_>
         ensures { result ≡ self.now }
     {
-        Iter::of(&self.rows, &self.choices)
+        ResultIter::of(&self.rows, &self.choices)
     }
 }
 

@@ -18,7 +18,7 @@ ghost use Rattle.eco_archetypes.specs.Widths.{FitsIn, KeepsWidths, StillCover};
 use eco_entities::EntityIndex;
 use eco_ids::{Entity, Id, TypeList, Value};
 use eco_index::{Caches, Edges, IdIndex, Seed, TypeMap};
-use eco_tables::Tables;
+use eco_tables::{TableSlot, Tables};
 use std::alloc::{AllocError, Global};
 use std::marker::Model;
 
@@ -39,7 +39,7 @@ pub struct Archetypes {
     tables: Tables,
     by_type: TypeMap,
     // The slot of the type that was asked for last.
-    last: usize,
+    last: TableSlot,
     by_id: IdIndex,
     edges: Edges,
     caches: Caches,
@@ -104,7 +104,7 @@ impl Archetypes {
     // The slot of the table with a type. The type that was asked for last is compared before any is searched for, since many
     // entities of one type are often made one after another.
     #[inline]
-    fn find(&mut self, type_list: &TypeList) -> Option<usize>
+    fn find(&mut self, type_list: &TypeList) -> Option<TableSlot>
         ensures found { IfSome result (λ n. type_at self.old n ≡ Some type_list.now) }
         ensures none { IfNone result ((n : ℕ) → type_at self.old n ≢ Some type_list.now) }
         ensures same { self.new ≡ self.old }
@@ -117,7 +117,7 @@ impl Archetypes {
 
     // What `find` does with another type than the last, apart, so that the last one costs no more than a look at it.
     #[inline(never)]
-    fn look_up(&mut self, type_list: &TypeList) -> Option<usize>
+    fn look_up(&mut self, type_list: &TypeList) -> Option<TableSlot>
         ensures found { IfSome result (λ n. type_at self.old n ≡ Some type_list.now) }
         ensures none { IfNone result ((n : ℕ) → type_at self.old n ≢ Some type_list.now) }
         ensures same { self.new ≡ self.old }
@@ -129,7 +129,7 @@ impl Archetypes {
 
     // Whether there is a table in the slot, of this type.
     #[inline]
-    fn has_type(&self, slot: usize, type_list: &TypeList) -> bool
+    fn has_type(&self, slot: TableSlot, type_list: &TypeList) -> bool
         ensures { IsTrue result ↔ (type_at self.now slot ≡ Some type_list.now) }
     {
         match self.tables.get(slot) {
@@ -141,7 +141,7 @@ impl Archetypes {
     /// The slot of the table with a type, and how many rows it has, where that type was asked for last and one more row
     /// fits without memory.
     #[inline]
-    pub fn last_with_room(&self, type_list: &TypeList) -> Option<(usize, usize)>
+    pub fn last_with_room(&self, type_list: &TypeList) -> Option<(TableSlot, usize)>
         ensures typed { IfSome result (λ p. type_at self.now p.0 ≡ Some type_list.now) }
         ensures room { IfSome result (λ p. 0 < (table_in self.now p.0).room) }
         ensures row { IfSome result (λ p. p.1 ≡ length (table_in self.now p.0).rows) }
@@ -164,7 +164,7 @@ impl Archetypes {
         entities: &EntityIndex,
         type_list: &TypeList,
         more: usize,
-    ) -> Result<usize, AllocError>
+    ) -> Result<TableSlot, AllocError>
         ensures typed { IfOk result (λ n. type_at self.new n ≡ Some type_list.now) }
         ensures room { IfOk result (λ n. more ≤ (table_in self.new n).room) }
         ensures kept { OnOk result (KeepsRoom self.old self.new) }
@@ -189,7 +189,7 @@ impl Archetypes {
         entities: &EntityIndex,
         type_list: TypeList,
         more: usize,
-    ) -> Result<usize, AllocError>
+    ) -> Result<TableSlot, AllocError>
         requires { (n : ℕ) → type_at self.old n ≢ Some type_list }
         ensures typed { IfOk result (λ n. type_at self.new n ≡ Some type_list) }
         ensures room { IfOk result (λ n. more ≤ (table_in self.new n).room) }
@@ -211,7 +211,7 @@ impl Archetypes {
 
     // A table without rows of a type that has none, in a slot that was empty. Every table is made here: what is to be told of
     // new tables is told here.
-    fn make(&mut self, entities: &EntityIndex, type_list: TypeList) -> Result<usize, AllocError>
+    fn make(&mut self, entities: &EntityIndex, type_list: TypeList) -> Result<TableSlot, AllocError>
         requires { (n : ℕ) → type_at self.old n ≢ Some type_list }
         ensures vacant { IfOk result (λ n. slot_of self.old n ≡ None) }
         ensures makes { IfOk result (λ n. SetsSlot self.old self.new n
@@ -237,7 +237,7 @@ impl Archetypes {
     }
 
     /// Drops the table in a slot if it has no rows: it is found no more. No row changes. It takes no memory.
-    pub fn drop_empty(&mut self, slot: usize)
+    pub fn drop_empty(&mut self, slot: TableSlot)
         ensures dropped { OnSome (rowless_type (slot_of self.old slot))
             (SetsSlot self.old self.new slot None) }
         ensures kept { IfNone (rowless_type (slot_of self.old slot)) (SameSlots self.old self.new) }
@@ -254,7 +254,7 @@ impl Archetypes {
     // and in `drop_together`: what is to be told of dropped tables is told in both.
     #[cold]
     #[inline(never)]
-    fn forget(&mut self, slot: usize)
+    fn forget(&mut self, slot: TableSlot)
         ensures dropped { OnSome (rowless_type (slot_of self.old slot))
             (SetsSlot self.old self.new slot None) }
         ensures kept { IfNone (rowless_type (slot_of self.old slot)) (SameSlots self.old self.new) }
@@ -270,7 +270,7 @@ impl Archetypes {
 
     /// Room for more rows in a table. An `Err` keeps all rows and the room that was there.
     #[inline]
-    pub(crate) fn reserve_rows(&mut self, slot: usize, more: usize) -> Result<(), AllocError>
+    pub(crate) fn reserve_rows(&mut self, slot: TableSlot, more: usize) -> Result<(), AllocError>
         requires { IsSome (slot_of self.old slot) }
         ensures sets { SetsRoom self.old self.new slot }
         ensures kept { (table_in self.old slot).room ≤ (table_in self.new slot).room }
@@ -283,7 +283,7 @@ impl Archetypes {
 
     /// Writes the value of an id in a row, which has no more fields than the tables keep of it, and takes no memory. The answer
     /// is whether the table's type has the id; where it lacks it nothing is written.
-    pub fn set_value(&mut self, slot: usize, row: usize, id: Id, value: Value) -> bool
+    pub fn set_value(&mut self, slot: TableSlot, row: usize, id: Id, value: Value) -> bool
         requires row { row < length (table_in self.old slot).rows }
         requires fits { FitsIn self.old id value }
         ensures written { SetsSlot self.old self.new slot
@@ -296,7 +296,7 @@ impl Archetypes {
 
     /// A row for a new entity, with zeros, in room that was reserved.
     #[inline]
-    pub fn push_row(&mut self, slot: usize, entity: Entity)
+    pub fn push_row(&mut self, slot: TableSlot, entity: Entity)
         requires { 0 < (table_in self.old slot).room }
         ensures row { SetsSlot self.old self.new slot
             (Some (with_row (table_in self.old slot) (new_row entity))) }
@@ -306,7 +306,7 @@ impl Archetypes {
     }
 
     /// Takes a row out, and takes no memory. The answer is the entity that stands in its place now.
-    pub fn swap_out(&mut self, slot: usize, row: usize) -> Option<Entity>
+    pub fn swap_out(&mut self, slot: TableSlot, row: usize) -> Option<Entity>
         requires { row < length (table_in self.old slot).rows }
         ensures rows { SetsSlot self.old self.new slot (Some (without_row (table_in self.old slot) row)) }
         ensures moved { result ≡ slice_get (entities_of (table_in self.new slot).rows) row }
@@ -316,7 +316,7 @@ impl Archetypes {
     }
 
     /// Takes all rows of a table out, and takes no memory. The table stays, and the room of its rows is won.
-    pub fn clear(&mut self, slot: usize)
+    pub fn clear(&mut self, slot: TableSlot)
         requires { IsSome (slot_of self.old slot) }
         ensures rows { SetsSlot self.old self.new slot (Some (cleared (table_in self.old slot))) }
         ensures widths { KeepsWidths self.old self.new }
@@ -325,7 +325,7 @@ impl Archetypes {
     }
 
     /// Moves a row into room that was reserved in another table. The answer is the entity that stands in the hole now.
-    pub fn move_row(&mut self, from: usize, row: usize, to: usize) -> Option<Entity>
+    pub fn move_row(&mut self, from: TableSlot, row: usize, to: TableSlot) -> Option<Entity>
         requires apart { from ≢ to }
         requires row { row < length (table_in self.old from).rows }
         requires room { 0 < (table_in self.old to).room }
@@ -337,7 +337,7 @@ impl Archetypes {
     }
 
     /// Moves all rows of a table, in their order, to the end of another, into room that was reserved.
-    pub fn move_rows(&mut self, from: usize, to: usize)
+    pub fn move_rows(&mut self, from: TableSlot, to: TableSlot)
         requires apart { from ≢ to }
         requires source { IsSome (slot_of self.old from) }
         requires target { IsSome (slot_of self.old to) }

@@ -7,19 +7,23 @@ ghost use Rattle.eco_tables.specs.Tables.{table_in};
 ghost use Rattle.eco_archetypes.specs.Archetypes.{standing_in};
 
 use eco_ids::Entity;
-use eco_tables::Tables;
+use eco_tables::{TableSlot, Tables};
 use std::alloc::{AllocError, Global};
 
 /// All tables of a store, and the slots of those that were found, each once, in any order.
 #[derive(Drop)]
 pub struct Found<'a> {
     pub tables: &'a Tables,
-    pub slots: Vec<usize>,
+    pub slots: Vec<TableSlot>,
 }
 
 /// Puts a slot behind those that were found before, of at most so many. Where there is no room, room for all of them is asked for
 /// at once: what grows bit by bit is copied again and again.
-pub(crate) fn put_behind(found: &mut Vec<usize>, slot: usize, most: usize) -> Result<(), AllocError>
+pub(crate) fn put_behind(
+    found: &mut Vec<TableSlot>,
+    slot: TableSlot,
+    most: usize,
+) -> Result<(), AllocError>
     ensures { OnOk result (found.new.items ≡ found.old.items ++ slot ∷ []) }
 {
     if found.len() == found.capacity() {
@@ -34,7 +38,7 @@ pub(crate) fn put_behind(found: &mut Vec<usize>, slot: usize, most: usize) -> Re
 pub fn entities_in(
     alloc: Global,
     tables: &Tables,
-    slots: &[usize],
+    slots: &[TableSlot],
 ) -> Result<Vec<Entity>, AllocError>
     ensures all { IfOk result (λ v. IsPermutation (standing_in tables.now slots.now) v.items) }
     ensures sorted { IfOk result (λ v. IsSorted entity_cmp v.items) }
@@ -46,7 +50,7 @@ pub fn entities_in(
 }
 
 // The entities that stand in the tables in these slots, table by table.
-fn gather(alloc: Global, tables: &Tables, slots: &[usize]) -> Result<Vec<Entity>, AllocError>
+fn gather(alloc: Global, tables: &Tables, slots: &[TableSlot]) -> Result<Vec<Entity>, AllocError>
     ensures all { IfOk result (λ v. v.items ≡ standing_in tables.now slots.now) }
     ensures some { OnErr result (0 < length slots.now) }
 {
@@ -58,7 +62,7 @@ fn gather(alloc: Global, tables: &Tables, slots: &[usize]) -> Result<Vec<Entity>
 }
 
 // The entities that stand in the table in a slot; none, where the slot is empty.
-fn entities_at(tables: &Tables, slot: usize) -> &[Entity]
+fn entities_at(tables: &Tables, slot: TableSlot) -> &[Entity]
     ensures { result.now ≡ entities_of (table_in tables.now slot).rows }
 {
     match tables.get(slot) {

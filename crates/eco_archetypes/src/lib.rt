@@ -12,5 +12,5 @@ mod archetypes;
 mod found;
 
 pub use archetypes::Archetypes;
-pub use eco_index::{AllOf, Naming, Seed, TypeTest};
+pub use eco_index::{AllOf, NamingTest, Seed, TypeTest};
 pub use found::{Found, entities_in};

@@ -16,10 +16,11 @@ ghost use Rattle.eco_cleanup.specs.declared.node.Node.TheVariants.{Root, Falling
 
 use crate::node::Node;
 use crate::only_holder::OnlyHolder;
-use crate::plan::Plan;
+use crate::plan::DeletePlan;
 use crate::ties::Ties;
 use eco_ids::{Entity, Pattern, Refusal};
 use eco_store::{Store, TypeChange};
+use eco_tables::TableSlot;
 use std::alloc::{AllocError, Global};
 
 /// The roots die with all that the policies demand: the least set that holds the roots and each holder of a member under
@@ -112,7 +113,7 @@ pub fn carry_out(
 }
 
 // What the delete does, unless a policy forbids it.
-fn plan_delete(alloc: Global, store: &Store, roots: &[Entity]) -> Result<Plan, Refusal>
+fn plan_delete(alloc: Global, store: &Store, roots: &[Entity]) -> Result<DeletePlan, Refusal>
     ensures planned { IfOk result (λ p. IsDeletePlan store.now.entities
         (λ x. IsTrue (has_item entity_cmp roots.now x)) p.dead.items p.changes.items) }
     ensures judged { (members : List EntityData)
@@ -139,7 +140,7 @@ fn nodes_of(alloc: Global, entities: &[Entity]) -> Result<Vec<Node>, AllocError>
 }
 
 // What the delete of all who have such an id does, unless a policy forbids it.
-fn plan_delete_with(alloc: Global, store: &Store, pattern: Pattern) -> Result<Plan, Refusal>
+fn plan_delete_with(alloc: Global, store: &Store, pattern: Pattern) -> Result<DeletePlan, Refusal>
     ensures planned { IfOk result (λ p. IsDeletePlan store.now.entities
         (λ x. IsTrue (has_item entity_cmp (entities_with store.now.entities pattern) x))
         p.dead.items p.changes.items) }
@@ -156,7 +157,7 @@ fn plan_delete_with(alloc: Global, store: &Store, pattern: Pattern) -> Result<Pl
 }
 
 // The tables in these slots, as tables that fall.
-fn falling(alloc: Global, slots: &[usize]) -> Result<Vec<Node>, AllocError>
+fn falling(alloc: Global, slots: &[TableSlot]) -> Result<Vec<Node>, AllocError>
     ensures { IfOk result (λ nodes. nodes.items ≡ map Falling slots.now) }
 {
     let mut nodes = Vec::new(alloc);

@@ -4,6 +4,7 @@ ghost use Rattle.eco_cleanup.specs.Nodes.{is_falling, is_root};
 
 use crate::node::Node;
 use eco_ids::Entity;
+use eco_tables::TableSlot;
 use indexmap::IndexSet;
 
 /// The roots, the tables all of whose rows die, and the tables that name one who dies. Whoever dies is a root or stands in a
@@ -22,14 +23,14 @@ impl Doomed {
     }
 
     /// Whether an entity that stands in the table of a slot dies: as a root, or with that table.
-    pub fn takes(&self, entity: Entity, slot: usize) -> bool
+    pub fn takes(&self, entity: Entity, slot: TableSlot) -> bool
         ensures { result ≡ (is_root self.now.nodes.keys entity || is_falling self.now.nodes.keys slot) }
     {
         self.has_root(entity) || self.falls(slot)
     }
 
     /// Whether all who stand in the table of a slot die.
-    pub fn falls(&self, slot: usize) -> bool
+    pub fn falls(&self, slot: TableSlot) -> bool
         ensures { result ≡ is_falling self.now.nodes.keys slot }
     {
         self.nodes.contains(&Node::Falling(slot))

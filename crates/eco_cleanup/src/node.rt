@@ -1,5 +1,6 @@
 //! What a search for the doomed finds.
 use eco_ids::Entity;
+use eco_tables::TableSlot;
 
 /// An entity or a table that a search for the doomed came to. Whoever dies with a table is no node: its place tells.
 #[derive(Clone, Copy, Debug, PartialEq, Eq, Hash)]
@@ -7,7 +8,7 @@ pub enum Node {
     /// The delete begins with the death of this entity.
     Root(Entity),
     /// All who stand in the table of this slot die.
-    Falling(usize),
+    Falling(TableSlot),
     /// The type of this slot's table names one who dies, and is not doomed by that.
-    Named(usize),
+    Named(TableSlot),
 }

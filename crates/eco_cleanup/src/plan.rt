@@ -15,18 +15,19 @@ use crate::node::Node;
 use crate::ties::Ties;
 use eco_ids::{Entity, Id, Refusal, TypeList};
 use eco_store::TypeChange;
+use eco_tables::TableSlot;
 use std::alloc::{AllocError, Global};
 
 /// Who dies, and the changes that take the ids which name the dead out of the types of the others.
 #[derive(Drop)]
-pub struct Plan {
+pub struct DeletePlan {
     pub dead: Vec<Entity>,
     pub changes: Vec<TypeChange>,
 }
 
 impl Ties<'_> {
     /// What deaths by these nodes do, unless a policy forbids it: refused with `Panic` then, and last with `OutOfMemory`.
-    pub fn plan(&self, alloc: Global, starts: &[Node]) -> Result<Plan, Refusal>
+    pub fn plan(&self, alloc: Global, starts: &[Node]) -> Result<DeletePlan, Refusal>
         requires shown { IsShown self.now.store.now.entities self.now.places }
         requires starts { AreStarts starts.now }
         ensures planned { IfOk result (λ p. IsDeletePlan self.now.store.now.entities
@@ -44,7 +45,7 @@ impl Ties<'_> {
 
     // What the deaths that were found mean. Each table that names one who dies and does not fall changes its type once, for
     // all its rows. An `Err` comes where memory is refused.
-    fn plan_of(&self, alloc: Global, doomed: &Doomed) -> Result<Plan, AllocError>
+    fn plan_of(&self, alloc: Global, doomed: &Doomed) -> Result<DeletePlan, AllocError>
         ensures dead { IfOk result (λ p.
             p.dead.items ≡ taken_among self.now.places doomed.now.nodes.keys) }
         ensures changes { IfOk result (λ p.
@@ -53,7 +54,7 @@ impl Ties<'_> {
     {
         let dead = self.dead(alloc, doomed)?;
         let changes = self.changes(alloc, doomed)?;
-        Ok(Plan { dead, changes })
+        Ok(DeletePlan { dead, changes })
     }
 
     // Who dies; a root may be listed twice. The rows of a table that falls come in their order.
@@ -115,7 +116,7 @@ impl Ties<'_> {
         &self,
         alloc: Global,
         doomed: &Doomed,
-        slot: usize,
+        slot: TableSlot,
         changes: &mut Vec<TypeChange>,
     ) -> Result<(), AllocError>
         ensures change { OnOk result (changes.new.items

@@ -15,6 +15,7 @@ use eco_archetypes::Archetypes;
 use eco_ids::entity::{DELETE, ON_DELETE, ON_DELETE_TARGET};
 use eco_ids::{Entity, Id, Part, Pattern, TypeList};
 use eco_store::Store;
+use eco_tables::TableSlot;
 
 // Of a relationship that has this pair the holders die with the target.
 const DELETING: Pattern = Pattern::Two(Part::Is(ON_DELETE_TARGET), Part::Is(DELETE));
@@ -54,7 +55,7 @@ fn any_of_many(store: &Store, member: Entity, ids: &TypeList) -> bool
 fn is_head_or_pair(
     store: &Store,
     archetypes: &Archetypes,
-    slots: &[usize],
+    slots: &[TableSlot],
     member: Entity,
     ids: &TypeList,
 ) -> bool
@@ -67,7 +68,7 @@ fn is_head_or_pair(
 }
 
 // Whether fewer than so many stand in the tables of these slots.
-fn have_fewer(archetypes: &Archetypes, slots: &[usize], count: usize) -> bool {
+fn have_fewer(archetypes: &Archetypes, slots: &[TableSlot], count: usize) -> bool {
     let mut left = count;
     for slot in slots {
         let rows = archetypes.tables().row_count(*slot);
@@ -97,7 +98,12 @@ fn is_head(entity: Entity, id: Id) -> bool
 }
 
 // Whether one of the ids is the target's pair with one who stands in the tables of these slots.
-fn any_pairs_in(archetypes: &Archetypes, slots: &[usize], target: Entity, ids: &TypeList) -> bool
+fn any_pairs_in(
+    archetypes: &Archetypes,
+    slots: &[TableSlot],
+    target: Entity,
+    ids: &TypeList,
+) -> bool
     ensures { result ≡ list_any (λ n. list_any (λ r. has_item id_cmp ids.now (Two r target))
         (entities_of (table_in archetypes.now n).rows)) slots.now }
 {
@@ -107,7 +113,7 @@ fn any_pairs_in(archetypes: &Archetypes, slots: &[usize], target: Entity, ids: &
 }
 
 // Whether one of the ids is the target's pair with one who stands in the table of a slot.
-fn any_pairs_at(archetypes: &Archetypes, slot: usize, target: Entity, ids: &TypeList) -> bool
+fn any_pairs_at(archetypes: &Archetypes, slot: TableSlot, target: Entity, ids: &TypeList) -> bool
     ensures { result ≡ list_any (λ r. has_item id_cmp ids.now (Two r target))
         (entities_of (table_in archetypes.now slot).rows) }
 {

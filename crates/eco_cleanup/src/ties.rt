@@ -15,7 +15,7 @@ use crate::role::any_deletes;
 use eco_ids::{Entity, Part, Pattern};
 use eco_search::{Graph, least_set};
 use eco_store::{Places, Store};
-use eco_tables::Table;
+use eco_tables::{Table, TableSlot};
 use std::alloc::{AllocError, Global};
 
 /// A root leads to the tables whose types name it, and a table that falls to the tables whose types name one who stands in it.
@@ -93,7 +93,7 @@ impl Ties<'_> {
     fn append_table(
         &self,
         member: Entity,
-        slot: usize,
+        slot: TableSlot,
         found: &mut Vec<Node>,
     ) -> Result<(), AllocError>
         ensures { OnOk result (found.new.items ≡ found.old.items
@@ -106,7 +106,7 @@ impl Ties<'_> {
     }
 
     // The table in a slot falls where an id of its type names the member under the policy `Delete`, else it is only named.
-    fn named_node(&self, member: Entity, slot: usize) -> Node
+    fn named_node(&self, member: Entity, slot: TableSlot) -> Node
         ensures { result ≡ named_node (world_of self.now.store.now.entities) self.now.places member slot }
     {
         if self.falls(member, slot) {
@@ -116,7 +116,7 @@ impl Ties<'_> {
         }
     }
 
-    fn falls(&self, member: Entity, slot: usize) -> bool
+    fn falls(&self, member: Entity, slot: TableSlot) -> bool
         ensures { result ≡ falls (world_of self.now.store.now.entities) self.now.places member slot }
     {
         match self.table(slot) {
@@ -126,7 +126,7 @@ impl Ties<'_> {
     }
 
     // The tables whose types name one who stands in the table of a slot.
-    fn append_standing(&self, slot: usize, found: &mut Vec<Node>) -> Result<(), AllocError>
+    fn append_standing(&self, slot: TableSlot, found: &mut Vec<Node>) -> Result<(), AllocError>
         ensures { OnOk result (AddsNodes
             (leads (world_of self.now.store.now.entities) self.now.places (Falling slot))
             found.old.items found.new.items) }
@@ -138,7 +138,7 @@ impl Ties<'_> {
     }
 
     /// All who stand in the table of a slot; nobody, where there is no table.
-    pub fn standing(&self, slot: usize) -> &[Entity]
+    pub fn standing(&self, slot: TableSlot) -> &[Entity]
         ensures { result.now ≡ entities_of (table_in self.now.places slot).rows }
     {
         match self.table(slot) {
@@ -148,7 +148,7 @@ impl Ties<'_> {
     }
 
     /// The table in a slot.
-    pub fn table(&self, slot: usize) -> Option<&Table>
+    pub fn table(&self, slot: TableSlot) -> Option<&Table>
         ensures { option_copied result ≡ slot_of self.now.places slot }
     {
         self.places.archetypes().tables().get(slot)

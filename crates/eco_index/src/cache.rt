@@ -10,6 +10,7 @@ ghost use Rattle.eco_index.specs.Caching.{AreKept, HasChoices, IsExact, IsTold, 
 use eco_entries::Choices;
 use eco_ids::TypeList;
 use eco_query::Query;
+use eco_tables::TableSlot;
 use indexmap::IndexSet;
 use std::alloc::{AllocError, Global};
 
@@ -17,7 +18,7 @@ use std::alloc::{AllocError, Global};
 /// are kept, slot by slot. No model: the crate's contracts read the fields.
 pub struct Cache {
     pub(crate) query: Query,
-    pub(crate) slots: IndexSet<usize>,
+    pub(crate) slots: IndexSet<TableSlot>,
     pub(crate) only: Option<Choices>,
 }
 
@@ -48,7 +49,7 @@ impl Cache {
 
     /// The table in the slot has this type from now on: the slot comes in where the type fulfils the query, and else it goes
     /// out. Choices are kept no more where the type has several. It takes no memory but for these.
-    pub fn tell(&mut self, slot: usize, type_list: &TypeList)
+    pub fn tell(&mut self, slot: TableSlot, type_list: &TypeList)
         requires { 0 < spare self.old.slots }
         ensures query { self.new.query ≡ self.old.query }
         ensures told { IsTold self.old self.new slot (Some type_list.now) }
@@ -64,7 +65,7 @@ impl Cache {
     }
 
     /// The slot has no table from now on. It takes no memory.
-    pub fn forget(&mut self, slot: usize)
+    pub fn forget(&mut self, slot: TableSlot)
         ensures query { self.new.query ≡ self.old.query }
         ensures told { IsTold self.old self.new slot None }
     {
@@ -72,7 +73,7 @@ impl Cache {
     }
 
     // The slot has no table from now on, or one whose type does not fulfil the query.
-    fn take_out(&mut self, slot: usize)
+    fn take_out(&mut self, slot: TableSlot)
         ensures query { self.new.query ≡ self.old.query }
         ensures told { (o : Option (List Ids)) → fulfils o self.old.query ≡ false
             → IsTold self.old self.new slot o }
@@ -87,7 +88,7 @@ impl Cache {
 
     /// The only choice that the query has on the type of each of these slots, slot by slot, where these are the slots that
     /// the cache has, and it keeps choices. An `Err` comes where memory is refused.
-    pub fn only_of(&self, alloc: Global, slots: &[usize]) -> Result<Option<Choices>, AllocError>
+    pub fn only_of(&self, alloc: Global, slots: &[TableSlot]) -> Result<Option<Choices>, AllocError>
         ensures found { IfOk result (λ o. MatchOption o
             ((c : ChoicesState) → HasChoices self.now slots.now c → ⊥) (HasChoices self.now slots.now)) }
         ensures kept { IfOk result (λ o. IfSome o (λ c. (types : ℕ → Option (List Ids)) →

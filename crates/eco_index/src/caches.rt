@@ -10,6 +10,7 @@ use crate::cache::Cache;
 use eco_entries::Choices;
 use eco_ids::TypeList;
 use eco_query::Query;
+use eco_tables::TableSlot;
 use indexmap::IndexSet;
 use std::alloc::{AllocError, Global};
 
@@ -51,7 +52,7 @@ impl Caches {
     }
 
     /// The table in the slot has this type from now on. It takes no memory.
-    pub fn tell(&mut self, slot: usize, type_list: &TypeList)
+    pub fn tell(&mut self, slot: TableSlot, type_list: &TypeList)
         requires { HaveRoom (cache_list self.old) }
         ensures queries { kept_queries (cache_list self.new) ≡ kept_queries (cache_list self.old) }
         ensures told { AreTold (cache_list self.old) (cache_list self.new) slot (Some type_list.now) }
@@ -62,7 +63,7 @@ impl Caches {
     }
 
     /// The slot has no table from now on. It takes no memory.
-    pub fn forget(&mut self, slot: usize)
+    pub fn forget(&mut self, slot: TableSlot)
         ensures queries { kept_queries (cache_list self.new) ≡ kept_queries (cache_list self.old) }
         ensures told { AreTold (cache_list self.old) (cache_list self.new) slot None }
     {
@@ -76,7 +77,7 @@ impl Caches {
     pub fn add(
         &mut self,
         query: Query,
-        slots: IndexSet<usize>,
+        slots: IndexSet<TableSlot>,
         only: Option<Choices>,
     ) -> Result<usize, AllocError>
         ensures number { IfOk result (λ n. n ≡ length (cache_list self.old)) }
@@ -94,7 +95,7 @@ impl Caches {
     }
 
     /// The slots of the cache of this number, if it is there and of this query.
-    pub fn of_query(&self, number: usize, query: &Query) -> Option<&[usize]>
+    pub fn of_query(&self, number: usize, query: &Query) -> Option<&[TableSlot]>
         ensures found { MatchOption result
             ((ns : List ℕ) → HasSlots (cache_list self.now) number query.now ns → ⊥)
             (λ s. HasSlots (cache_list self.now) number query.now s.now) }
@@ -117,7 +118,7 @@ impl Caches {
         alloc: Global,
         number: usize,
         query: &Query,
-        slots: &[usize],
+        slots: &[TableSlot],
     ) -> Result<Option<Choices>, AllocError>
         ensures found { IfOk result (λ o. MatchOption o
             ((c : ChoicesState) → FindsChoices (cache_list self.now) number query.now slots.now c → ⊥)

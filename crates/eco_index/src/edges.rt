@@ -8,7 +8,7 @@ ghost use Rattle.eco_index.specs.Edges.{edge, same_id, IsTwofold, SameEdges, Put
 
 use crate::seed::Seed;
 use eco_ids::Id;
-use eco_tables::Tables;
+use eco_tables::{TableSlot, Tables};
 use indexmap::IndexMap;
 use indexmap::map::Slice;
 use std::alloc::{AllocError, Global};
@@ -23,7 +23,7 @@ const FEW_EDGES: usize = 4;
 pub struct Edges {
     alloc: Global,
     seed: Seed,
-    lists: Vec<IndexMap<Id, usize, Seed>>,
+    lists: Vec<IndexMap<Id, TableSlot, Seed>>,
     ghost twofold: { IsTwofold lists.items },
 }
 
@@ -43,7 +43,7 @@ impl Edges {
 
     /// The slot to which the id leads.
     #[inline(always)]
-    pub fn get(&self, slot: usize, id: Id) -> Option<usize>
+    pub fn get(&self, slot: TableSlot, id: Id) -> Option<TableSlot>
         ensures { result ≡ edge (edge_lists self.now) slot id }
     {
         let own = self.lists.get(slot)?;
@@ -57,7 +57,7 @@ impl Edges {
 
     /// The id leads from either slot to the other from now on. An `Err` comes where memory is refused, and then no edge has
     /// changed.
-    pub fn link(&mut self, from: usize, id: Id, to: usize) -> Result<(), AllocError>
+    pub fn link(&mut self, from: TableSlot, id: Id, to: TableSlot) -> Result<(), AllocError>
         requires apart { from ≢ to }
         requires from { edge (edge_lists self.old) from id ≡ None }
         requires to { edge (edge_lists self.old) to id ≡ None }
@@ -75,7 +75,7 @@ impl Edges {
     }
 
     /// No edge leads from the slot or to it from now on. It takes no memory.
-    pub fn cut(&mut self, slot: usize)
+    pub fn cut(&mut self, slot: TableSlot)
         ensures { Cuts (edge_lists self.old) (edge_lists self.new) slot }
     {
         cut_all(self.alloc, self.seed, &mut self.lists, slot);
@@ -84,7 +84,7 @@ impl Edges {
 
 // Where the id leads, of many edges. Apart, so that a few cost no more than a look at each.
 #[inline(never)]
-fn find_edge(edges: &IndexMap<Id, usize, Seed>, id: Id) -> Option<usize>
+fn find_edge(edges: &IndexMap<Id, TableSlot, Seed>, id: Id) -> Option<TableSlot>
     ensures { result ≡ get same_id edges.now id }
 {
     edges.get(&id).copied()
@@ -92,7 +92,7 @@ fn find_edge(edges: &IndexMap<Id, usize, Seed>, id: Id) -> Option<usize>
 
 // Where the id leads, of a few edges.
 #[inline(always)]
-fn lead_among(edges: Slice<'_, Id, usize>, id: Id) -> Option<usize>
+fn lead_among(edges: Slice<'_, Id, TableSlot>, id: Id) -> Option<TableSlot>
     ensures { result ≡ lookup (same_id id) edges.entry }
 {
     for place in 0..edges.len() {
@@ -108,7 +108,7 @@ fn lead_among(edges: Slice<'_, Id, usize>, id: Id) -> Option<usize>
 fn cover(
     alloc: Global,
     seed: Seed,
-    lists: &mut Vec<IndexMap<Id, usize, Seed>>,
+    lists: &mut Vec<IndexMap<Id, TableSlot, Seed>>,
     len: usize,
 ) -> Result<(), AllocError>
     ensures same { SameEdges lists.old.items lists.new.items }
@@ -123,10 +123,10 @@ fn cover(
 
 // The id leads from the slot to another from now on.
 fn put(
-    lists: &mut Vec<IndexMap<Id, usize, Seed>>,
-    slot: usize,
+    lists: &mut Vec<IndexMap<Id, TableSlot, Seed>>,
+    slot: TableSlot,
     id: Id,
-    to: usize,
+    to: TableSlot,
 ) -> Result<(), AllocError>
     requires { slot < length lists.old.items }
     ensures ok { OnOk result (Puts lists.old.items lists.new.items slot id (Some to)) }
@@ -138,7 +138,7 @@ fn put(
 }
 
 // The id leads nowhere from the slot. It takes no memory.
-fn take(lists: &mut Vec<IndexMap<Id, usize, Seed>>, slot: usize, id: Id)
+fn take(lists: &mut Vec<IndexMap<Id, TableSlot, Seed>>, slot: TableSlot, id: Id)
     ensures taken { Puts lists.old.items lists.new.items slot id None }
     ensures len { length lists.new.items ≡ length lists.old.items }
 {
@@ -151,10 +151,10 @@ fn take(lists: &mut Vec<IndexMap<Id, usize, Seed>>, slot: usize, id: Id)
 fn link_both(
     alloc: Global,
     seed: Seed,
-    lists: &mut Vec<IndexMap<Id, usize, Seed>>,
-    from: usize,
+    lists: &mut Vec<IndexMap<Id, TableSlot, Seed>>,
+    from: TableSlot,
     id: Id,
-    to: usize,
+    to: TableSlot,
 ) -> Result<(), AllocError>
     requires { edge lists.old.items from id ≡ None }
     ensures ok { OnOk result (Links lists.old.items lists.new.items from id to) }
@@ -175,7 +175,10 @@ fn link_both(
 }
 
 // Each of these edges of a slot has no edge back any more. It takes no memory.
-fn take_back(lists: &mut Vec<IndexMap<Id, usize, Seed>>, own: &mut IndexMap<Id, usize, Seed>)
+fn take_back(
+    lists: &mut Vec<IndexMap<Id, TableSlot, Seed>>,
+    own: &mut IndexMap<Id, TableSlot, Seed>,
+)
     ensures taken { TakesBack own.old lists.old.items lists.new.items }
     ensures len { length lists.new.items ≡ length lists.old.items }
     ensures none { own.new.entries ≡ [] }
@@ -186,7 +189,12 @@ fn take_back(lists: &mut Vec<IndexMap<Id, usize, Seed>>, own: &mut IndexMap<Id, 
 }
 
 // No edge leads from the slot or to it. It takes no memory.
-fn cut_all(alloc: Global, seed: Seed, lists: &mut Vec<IndexMap<Id, usize, Seed>>, slot: usize)
+fn cut_all(
+    alloc: Global,
+    seed: Seed,
+    lists: &mut Vec<IndexMap<Id, TableSlot, Seed>>,
+    slot: TableSlot,
+)
     requires { IsTwofold lists.old.items }
     ensures { Cuts lists.old.items lists.new.items slot }
 {
@@ -203,7 +211,7 @@ fn cut_all(alloc: Global, seed: Seed, lists: &mut Vec<IndexMap<Id, usize, Seed>>
 }
 
 // Of each list the edges between slots that have tables stay.
-fn keep_in_each(lists: &mut Vec<IndexMap<Id, usize, Seed>>, tables: &Tables)
+fn keep_in_each(lists: &mut Vec<IndexMap<Id, TableSlot, Seed>>, tables: &Tables)
     ensures { KeepsEdges (has_table tables.now) lists.old.items lists.new.items }
 {
     for slot in 0..lists.len() {
@@ -212,7 +220,7 @@ fn keep_in_each(lists: &mut Vec<IndexMap<Id, usize, Seed>>, tables: &Tables)
 }
 
 // Of the edges of a slot those stay that lead to a table, where the slot has one.
-fn keep_own(own: &mut IndexMap<Id, usize, Seed>, slot: usize, tables: &Tables)
+fn keep_own(own: &mut IndexMap<Id, TableSlot, Seed>, slot: TableSlot, tables: &Tables)
     ensures { (i : Ids) → get same_id own.new i
         ≡ cond (has_table tables.now slot) (kept_if (has_table tables.now) (get same_id own.old i)) None }
 {

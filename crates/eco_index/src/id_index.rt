@@ -18,6 +18,7 @@ use crate::id_index::marks::Marks;
 use crate::id_index::slots::Slots;
 use crate::seed::Seed;
 use eco_ids::{Entity, Id, Part, Pattern};
+use eco_tables::TableSlot;
 use indexmap::IndexMap;
 use std::alloc::{AllocError, Global};
 
@@ -56,7 +57,7 @@ impl IdIndex {
 
     /// The slots that are listed under the pattern, each once.
     #[inline]
-    pub fn slots(&self, pattern: Pattern) -> &[usize]
+    pub fn slots(&self, pattern: Pattern) -> &[TableSlot]
         ensures listed { (n : ℕ) → list_any (nat_eq n) result.now ≡ lists_in self.now pattern n }
         ensures distinct { IsDistinct nat_eq result.now }
     {
@@ -68,7 +69,7 @@ impl IdIndex {
 
     /// Whether the slot is listed under the pattern.
     #[inline]
-    pub fn lists(&self, pattern: Pattern, slot: usize) -> bool
+    pub fn lists(&self, pattern: Pattern, slot: TableSlot) -> bool
         ensures { result ≡ lists_in self.now pattern slot }
     {
         match self.kept(Key::of(pattern)) {
@@ -79,7 +80,7 @@ impl IdIndex {
 
     /// Some slot that is listed under the id, if there is one.
     #[inline]
-    pub fn any(&self, id: Id) -> Option<usize>
+    pub fn any(&self, id: Id) -> Option<TableSlot>
         ensures listed { IfSome result (λ n. lists_in self.now (exactly id) n ≡ true) }
         ensures none { IfNone result ((n : ℕ) → lists_in self.now (exactly id) n ≡ false) }
     {
@@ -132,7 +133,7 @@ impl IdIndex {
     }
 
     // Lists the slot under the key; the answer is whether it was not listed there. An `Err` changes nothing that is listed.
-    fn add(&mut self, alloc: Global, key: Key, slot: usize) -> Result<bool, AllocError>
+    fn add(&mut self, alloc: Global, key: Key, slot: TableSlot) -> Result<bool, AllocError>
         ensures ok { OnOk result
             (Turns true (has_key key) (lists_in self.old) (lists_in self.new) slot) }
         ensures is_new { IfOk result (λ came. came ≡ not (is_listed self.old.slots key slot)) }
@@ -147,7 +148,7 @@ impl IdIndex {
     }
 
     // Lists the slot under a key that is not kept, which stands last then. An `Err` changes nothing that is listed.
-    fn add_key(&mut self, key: Key, slot: usize) -> Result<(), AllocError>
+    fn add_key(&mut self, key: Key, slot: TableSlot) -> Result<(), AllocError>
         requires { get same_key self.old.slots key ≡ None }
         ensures ok { OnOk result
             (Turns true (has_key key) (lists_in self.old) (lists_in self.new) slot) }
@@ -160,7 +161,7 @@ impl IdIndex {
 
     // Takes the slot off the key's list, and with the last one the list. It takes no memory.
     #[inline(always)]
-    fn take(&mut self, key: Key, slot: usize)
+    fn take(&mut self, key: Key, slot: TableSlot)
         ensures { Turns false (has_key key) (lists_in self.old) (lists_in self.new) slot }
     {
         let Some((place, slots)) = self.find(key) else {
@@ -186,7 +187,7 @@ impl IdIndex {
         }
     }
 
-    fn add_keys(&mut self, alloc: Global, keys: &[Key], slot: usize) -> Result<(), AllocError>
+    fn add_keys(&mut self, alloc: Global, keys: &[Key], slot: TableSlot) -> Result<(), AllocError>
         ensures ok { OnOk result
             (Turns true (has_one keys.now) (lists_in self.old) (lists_in self.new) slot) }
         ensures err { OnErr result
@@ -200,7 +201,7 @@ impl IdIndex {
 
     // Takes the slot off the lists of the first so many keys of a pair. Each key is named by its kind, so that the look at its
     // mark and the one at what stands in its place need no choice among kinds.
-    fn take_pair(&mut self, relationship: Entity, target: Entity, own: usize, slot: usize)
+    fn take_pair(&mut self, relationship: Entity, target: Entity, own: usize, slot: TableSlot)
         requires least { 2 ≤ own }
         requires most { own ≤ 4 }
         ensures { Turns false (has_one (take own (keys_of (Two relationship target))))
@@ -224,7 +225,7 @@ impl IdIndex {
         alloc: Global,
         id: Id,
         before: Option<Id>,
-        slot: usize,
+        slot: TableSlot,
     ) -> Result<(), AllocError>
         requires { HasTurned true before (lists_in self.old) slot }
         ensures ok { OnOk result
@@ -242,7 +243,7 @@ impl IdIndex {
     }
 
     // Takes the slot off the lists of an id. Those that the id before it has too list the slot no more.
-    fn take_id(&mut self, id: Id, before: Option<Id>, slot: usize)
+    fn take_id(&mut self, id: Id, before: Option<Id>, slot: TableSlot)
         requires { HasTurned false before (lists_in self.old) slot }
         ensures { Turns false (matches_id id) (lists_in self.old) (lists_in self.new) slot }
     {
@@ -255,7 +256,7 @@ impl IdIndex {
         }
     }
 
-    fn add_each(&mut self, alloc: Global, ids: &[Id], slot: usize) -> Result<(), AllocError>
+    fn add_each(&mut self, alloc: Global, ids: &[Id], slot: TableSlot) -> Result<(), AllocError>
         ensures ok { OnOk result
             (Turns true (any_matches ids.now) (lists_in self.old) (lists_in self.new) slot) }
         ensures err { OnErr result
@@ -270,7 +271,7 @@ impl IdIndex {
     }
 
     /// Lists a new table's slot under all patterns that match one of these ids. An `Err` changes nothing that is listed.
-    pub fn add_all(&mut self, alloc: Global, ids: &[Id], slot: usize) -> Result<(), AllocError>
+    pub fn add_all(&mut self, alloc: Global, ids: &[Id], slot: TableSlot) -> Result<(), AllocError>
         requires { (p : Patterns) → lists_in self.old p slot ≡ false }
         ensures ok { OnOk result
             (Turns true (any_matches ids.now) (lists_in self.old) (lists_in self.new) slot) }
@@ -284,7 +285,7 @@ impl IdIndex {
     }
 
     /// Takes a table's slot off the lists of all patterns that match one of these ids. It takes no memory.
-    pub fn take_all(&mut self, ids: &[Id], slot: usize)
+    pub fn take_all(&mut self, ids: &[Id], slot: TableSlot)
         ensures { Turns false (any_matches ids.now) (lists_in self.old) (lists_in self.new) slot }
     {
         let mut before = None;

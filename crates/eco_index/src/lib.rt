@@ -20,4 +20,4 @@ pub use edges::Edges;
 pub use id_index::IdIndex;
 pub use seed::Seed;
 pub use type_map::TypeMap;
-pub use type_test::{AllOf, Naming, TypeTest};
+pub use type_test::{AllOf, NamingTest, TypeTest};

@@ -8,14 +8,14 @@ ghost use Rattle.eco_index.specs.TypeMap.{LeadAlike, LeadsAlone, LeadsGrown, Tak
 
 use crate::seed::Seed;
 use eco_ids::{Id, TypeList};
-use eco_tables::Tables;
+use eco_tables::{TableSlot, Tables};
 use indexmap::IndexMap;
 use std::alloc::{AllocError, Global};
 
 /// From a type to a slot. No model: contracts see the map, as `slots_by_type`.
 #[derive(Drop)]
 pub struct TypeMap {
-    slots: IndexMap<TypeList, usize, Seed>,
+    slots: IndexMap<TypeList, TableSlot, Seed>,
     // Where the type of each slot may stand that was to change. A wrong place costs a search, and never an answer.
     places: Vec<usize>,
 }
@@ -45,7 +45,7 @@ impl TypeMap {
 
     /// The slot of a type, if it has one.
     #[inline]
-    pub fn find(&self, type_list: &TypeList) -> Option<usize>
+    pub fn find(&self, type_list: &TypeList) -> Option<TableSlot>
         ensures { result ≡ get same_ids (slots_by_type self.now) type_list.now }
     {
         self.slots.get(type_list).copied()
@@ -60,7 +60,7 @@ impl TypeMap {
     }
 
     /// The type has this slot from now on. It takes no memory.
-    pub fn insert_reserved(&mut self, type_list: TypeList, slot: usize)
+    pub fn insert_reserved(&mut self, type_list: TypeList, slot: TableSlot)
         requires { 0 < spare (slots_by_type self.old) }
         ensures { Updates same_ids (slots_by_type self.old) (slots_by_type self.new) type_list (Some slot) }
     {
@@ -87,7 +87,7 @@ impl TypeMap {
     }
 
     /// The places of this slot's types are noted from now on. No type's slot changes, whether it succeeds or not.
-    pub fn note_places(&mut self, slot: usize) -> Result<(), AllocError>
+    pub fn note_places(&mut self, slot: TableSlot) -> Result<(), AllocError>
         ensures { slots_by_type self.new ≡ slots_by_type self.old }
     {
         if slot >= self.places.len() {
@@ -98,7 +98,7 @@ impl TypeMap {
 
     // The type of the slot stands at this place.
     #[inline(always)]
-    fn note(&mut self, slot: usize, place: usize)
+    fn note(&mut self, slot: TableSlot, place: usize)
         ensures { slots_by_type self.new ≡ slots_by_type self.old }
     {
         if slot < self.places.len() {
@@ -108,7 +108,7 @@ impl TypeMap {
 
     /// Where a type stands that leads to the slot, as this one does. Where that is noted, no types are compared, since a table
     /// of one row mostly takes type after type.
-    pub fn place_of(&self, type_list: &TypeList, slot: usize) -> usize
+    pub fn place_of(&self, type_list: &TypeList, slot: TableSlot) -> usize
         requires { get same_ids (slots_by_type self.now) type_list.now ≡ Some slot }
         ensures { slice_get (values (slots_by_type self.now)) result ≡ Some slot }
     {
@@ -120,7 +120,7 @@ impl TypeMap {
 
     // The place that is noted of the slot's type, if it stands there.
     #[inline(always)]
-    fn noted(&self, slot: usize) -> Option<usize>
+    fn noted(&self, slot: TableSlot) -> Option<usize>
         ensures { IfSome result (λ place. slice_get (values (slots_by_type self.now)) place ≡ Some slot) }
     {
         let place = *self.places.get(slot)?;
@@ -131,7 +131,7 @@ impl TypeMap {
     }
 
     // Takes the type at a place out. The last one comes in its place.
-    fn take_at(&mut self, place: usize) -> Option<(TypeList, usize)>
+    fn take_at(&mut self, place: usize) -> Option<(TypeList, TableSlot)>
         ensures entry { result ≡ slice_get (slots_by_type self.old).entries place }
         ensures taken { IfSome result
             (λ p. Updates same_ids (slots_by_type self.old) (slots_by_type self.new) p.0 None) }
@@ -152,7 +152,7 @@ impl TypeMap {
         &mut self,
         place: usize,
         id: Id,
-        slot: usize,
+        slot: TableSlot,
     ) -> Result<Option<TypeList>, AllocError>
         requires room { 0 < spare (slots_by_type self.old) }
         requires there { slice_get (values (slots_by_type self.old)) place ≡ Some slot }
@@ -182,7 +182,7 @@ impl TypeMap {
     }
 
     /// The slot of the type at a place has another type from now on. It takes no memory.
-    pub fn rename_at(&mut self, place: usize, new: TypeList, slot: usize)
+    pub fn rename_at(&mut self, place: usize, new: TypeList, slot: TableSlot)
         requires room { 0 < spare (slots_by_type self.old) }
         requires there { slice_get (values (slots_by_type self.old)) place ≡ Some slot }
         ensures { (old : List Ids) → LeadsAlone (slots_by_type self.old) old slot → (t : List Ids)

@@ -89,11 +89,11 @@ impl TypeTest for Pattern {
 
 /// A type passes that has an id which names the entity.
 #[derive(Clone, Copy, Debug)]
-pub struct Naming {
+pub struct NamingTest {
     pub entity: Entity,
 }
 
-impl TypeTest for Naming {
+impl TypeTest for NamingTest {
     ghost test = { λ n ids. type_names ids n.entity };
 
     ghost groups = { λ n. naming n.entity ∷ [] };

@@ -6,7 +6,7 @@ use Rattle.std.specs.Arc.{arc_value}
 use Rattle.eco_ids.specs.World.{WorldState, first_world}
 use Rattle.eco_histories.specs.declared.front.Front.{Front}
 use Rattle.eco_shared.specs.declared.merge.Merge.{Merge}
-use Rattle.eco_shared.specs.declared.merge.Mark.{Mark}
+use Rattle.eco_shared.specs.declared.merge.HistoryMark.{HistoryMark}
 use Rattle.eco_shared.specs.declared.merge.Knows.{Knows}
 use Rattle.eco_shared.specs.declared.shown.Shown.{Shown}
 use Rattle.eco_shared.specs.Histories.{IsAfter, IsMerged, mark_of}
@@ -22,7 +22,7 @@ history s = s.front.seen.log
 abbrev pub shown_state : Shown → WorldState × Front Merge
 shown_state s = (arc_value s.world, s.front)
 
-abbrev pub knows : WorldState → Mark → Knows
+abbrev pub knows : WorldState → HistoryMark → Knows
 knows start mark = record { known = true; start = start; mark = mark }
 
 -- the world is nobody's: where nothing is known, none is

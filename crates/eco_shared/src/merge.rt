@@ -10,7 +10,7 @@ pub struct Merge {
 }
 
 // Which history it is.
-pub struct Mark {
+pub struct HistoryMark {
     pub number: u64,
     pub log_name: u64,
     pub cells_name: u64,
@@ -20,5 +20,5 @@ pub struct Mark {
 pub struct Knows {
     pub known: bool,
     pub start: World,
-    pub mark: Mark,
+    pub mark: HistoryMark,
 }

@@ -4,7 +4,7 @@ ghost use mathlib.Core.List.{IsPrefix};
 ghost use Rattle.eco_histories.specs.Rules.{book_head};
 ghost use Rattle.eco_shared.specs.Histories.{mark_of};
 
-use crate::merge::{Mark, Merge};
+use crate::merge::{HistoryMark, Merge};
 use eco_histories::front::{Front, Head, begin};
 use logbook::Plain;
 use std::marker::{Brand, PhantomData};
@@ -23,15 +23,15 @@ impl Naming for Brand {
 /// An empty registry, which has no name yet.
 #[derive(Drop)]
 pub struct Blank {
-    head: Head<Mark>,
-    front: Front<Mark>,
+    head: Head<HistoryMark>,
+    front: Front<HistoryMark>,
     pub ghost empty: { front.seen.log ≡ [] },
     pub ghost head_is: { head ≡ book_head front.seen.book },
 }
 
 impl Blank {
     pub fn new() -> Blank {
-        let (head, front) = begin::<Mark>();
+        let (head, front) = begin::<HistoryMark>();
         Blank { head, front }
     }
 
@@ -51,8 +51,8 @@ impl Blank {
 
 /// The shared worlds that were opened.
 pub struct Registry<J: Naming> {
-    head: Head<Mark>,
-    pub front: Front<Mark>,
+    head: Head<HistoryMark>,
+    pub front: Front<HistoryMark>,
     of: PhantomData<J>,
     ghost head_is: { head ≡ book_head J.book },
     ghost book_is: { front.seen.book ≡ J.book },
@@ -71,7 +71,7 @@ impl<J: Naming> Drop for Registry<J> {
 
 pub struct Enrols;
 
-impl Plain<Front<Merge>, Mark, u64> for Enrols {
+impl Plain<Front<Merge>, HistoryMark, u64> for Enrols {
     ghost use Rattle.std.specs.Prelude.{None};
     ghost use Rattle.eco_shared.specs.Histories.{mark_of};
 
@@ -84,7 +84,7 @@ impl Plain<Front<Merge>, Mark, u64> for Enrols {
 #[derive(Drop)]
 pub struct Title<J: Naming> {
     pub number: u64,
-    pub marks: Front<Mark>,
+    pub marks: Front<HistoryMark>,
     of: PhantomData<J>,
     pub ghost book_is: { marks.seen.book ≡ J.book },
 }

@@ -13,9 +13,9 @@ use Rattle.eco_ids.specs.World.{Record}
 use Rattle.eco_archetypes.specs.Archetypes.{RowlessIn, SameRows}
 use Rattle.eco_archetypes.specs.Widths.{MeetsNeeds}
 use Rattle.eco_store.specs.declared.layout.Layout.{Layout}
-use Rattle.eco_store.specs.Moving.{AdmitsRow}
+use Rattle.eco_store.specs.Moving.{AdmitsRow, LeavesRoom}
 use Rattle.eco_store.specs.Staying.{only_idle, all_staying, SameIn}
-use Rattle.eco_store.specs.Store.{IsStore, read}
+use Rattle.eco_store.specs.Store.{IsStore, read, stepped}
 use Rattle.eco_store.specs.Transfers.{Pours, Thins}
 
 -- what is seen of a layout: the record of each living entity
@@ -49,6 +49,11 @@ pub record Attempts {A E : Type 0} (old new : Layout) (w : Indexed Record) (r : 
   pub laid : IsLaid new
   pub ok : OnOk r (seen new ≡ w)
   pub err : OnErr r (seen new ≡ seen old)
+
+-- an entity gets an id or loses it, or nothing is changed; the table in a slot keeps its type, and room but for one row
+pub record StepsBeside {A E : Type 0} (old new : Layout) (step : Entity × Id) (n : ℕ) (r : Result A E) : Type 0 where
+  pub steps : Attempts old new (stepped (seen old) step) r
+  pub kept : OnOk r (LeavesRoom old.archetypes new.archetypes n)
 
 -- tables without rows may have gone, but for targets, and others are idle
 pub record Releases (old new : Layout) : Type 0 where

@@ -1,21 +1,20 @@
 //! Steps of two entities, both or neither. One of them goes to a table in which its room is taken first; so where the other
 //! stands alone, its table takes its next type where it stands, and no table of all its ids is made.
-ghost use Rattle.std.specs.Prelude.{◌≡◌, ◌≢◌, false, IsTrue, length, nat_eq, OnOk};
+ghost use Rattle.std.specs.Prelude.{◌≡◌, ◌≢◌, false, IsTrue, length, nat_eq};
 ghost use Rattle.std.specs.List.{list_any};
 ghost use Rattle.eco_ids.specs.Indices.{is_alive};
 ghost use Rattle.eco_ids.specs.Order.{entity_eq};
-ghost use Rattle.eco_store.specs.Layout.{seen, Attempts, IsLaid};
-ghost use Rattle.eco_store.specs.Moving.{LeavesRoom};
+ghost use Rattle.eco_store.specs.Layout.{seen, Attempts, IsLaid, StepsBeside};
 ghost use Rattle.eco_store.specs.Store.{stepped};
 ghost use Rattle.eco_tables.specs.Tables.{table_in};
 
 use crate::layout::Layout;
 use eco_ids::{Entity, Id};
-use eco_tables::Tables;
+use eco_tables::{TableSlot, Tables};
 use std::alloc::AllocError;
 
 // How many ids the type of the table in a slot has.
-fn id_count(tables: &Tables, slot: usize) -> usize
+fn id_count(tables: &Tables, slot: TableSlot) -> usize
     ensures { result ≡ length (table_in tables.now slot).ids }
 {
     match tables.get(slot) {
@@ -26,7 +25,7 @@ fn id_count(tables: &Tables, slot: usize) -> usize
 
 // Whether the first of two tables, rather than the second, takes its next type where it stands: it has one row, and to make its
 // next table would cost more. It saves work, and decides nothing.
-fn is_dearer(tables: &Tables, first: usize, second: usize) -> bool {
+fn is_dearer(tables: &Tables, first: TableSlot, second: TableSlot) -> bool {
     tables.row_count(first) == 1
         && (tables.row_count(second) != 1 || id_count(tables, first) > id_count(tables, second))
 }
@@ -70,12 +69,11 @@ impl Layout {
     }
 
     // The entity gets the id, or loses it. The table in the slot `kept`, a target, keeps its type, and room but for one row.
-    fn step_beside(&mut self, step: (Entity, Id), kept: usize) -> Result<(), AllocError>
+    fn step_beside(&mut self, step: (Entity, Id), kept: TableSlot) -> Result<(), AllocError>
         requires laid { IsLaid self.old }
         requires alive { IsTrue (is_alive self.old.entities step.0) }
         requires kept { IsTrue (list_any (nat_eq kept) self.old.staying.targets) }
-        ensures steps { Attempts self.old self.new (stepped (seen self.old) step) result }
-        ensures kept { OnOk result (LeavesRoom self.old.archetypes self.new.archetypes kept) }
+        ensures { StepsBeside self.old self.new step kept result }
     {
         self.archetypes.tables().rows_have_ids();
         let place = self.entities.place_of(step.0).unwrap();
@@ -92,12 +90,11 @@ impl Layout {
     }
 
     // What `step_beside` does, by a move to the table of the next type.
-    fn step_over(&mut self, step: (Entity, Id), kept: usize) -> Result<(), AllocError>
+    fn step_over(&mut self, step: (Entity, Id), kept: TableSlot) -> Result<(), AllocError>
         requires laid { IsLaid self.old }
         requires alive { IsTrue (is_alive self.old.entities step.0) }
         requires kept { IsTrue (list_any (nat_eq kept) self.old.staying.targets) }
-        ensures steps { Attempts self.old self.new (stepped (seen self.old) step) result }
-        ensures kept { OnOk result (LeavesRoom self.old.archetypes self.new.archetypes kept) }
+        ensures { StepsBeside self.old self.new step kept result }
     {
         // The type that the row leaves is that of its own ids, since each row has a value for each id of its table.
         self.archetypes.tables().rows_have_ids();

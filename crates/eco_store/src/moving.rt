@@ -10,6 +10,7 @@ ghost use Rattle.eco_store.specs.Store.{with_type};
 
 use crate::layout::Layout;
 use eco_ids::{Entity, TypeList};
+use eco_tables::TableSlot;
 use std::alloc::AllocError;
 
 /// An entity and the type that it gets.
@@ -22,7 +23,7 @@ pub struct Move {
 impl Layout {
     /// Room for one row more in the table in each of these slots, as often as the slot is named. Without slots it takes no
     /// memory.
-    pub(crate) fn take_places(&mut self, slots: &[usize]) -> Result<(), AllocError>
+    pub(crate) fn take_places(&mut self, slots: &[TableSlot]) -> Result<(), AllocError>
         requires laid { IsLaid self.old }
         requires there { All (λ n. IsSome (slot_of self.old.archetypes n)) slots.now }
         ensures plans { Plans self.old self.new }
@@ -37,7 +38,7 @@ impl Layout {
     }
 
     /// The entity, if it lives, goes to the table in this slot, unless it stands there. It takes no memory.
-    pub(crate) fn go_to(&mut self, e: Entity, to: usize)
+    pub(crate) fn go_to(&mut self, e: Entity, to: TableSlot)
         requires laid { IsLaid self.old }
         requires there { IsSome (slot_of self.old.archetypes to) }
         requires room { 0 < (table_in self.old.archetypes to).room }
@@ -59,7 +60,7 @@ impl Layout {
     }
 
     /// Each entity goes to the table in the slot at the same place, one after another. It takes no memory.
-    pub(crate) fn make_moves(&mut self, moves: &[Move], slots: &[usize])
+    pub(crate) fn make_moves(&mut self, moves: &[Move], slots: &[TableSlot])
         requires laid { IsLaid self.old }
         requires named { All (λ n. IsTrue (list_any (nat_eq n) self.old.staying.targets)) slots.now }
         requires typed { AreTyped self.old.archetypes moves.now slots.now }

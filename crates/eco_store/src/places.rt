@@ -7,6 +7,7 @@ ghost use Rattle.eco_store.specs.Store.{IsStore};
 use eco_archetypes::Archetypes;
 use eco_entities::EntityIndex;
 use eco_ids::Entity;
+use eco_tables::TableSlot;
 use std::marker::Model;
 
 /// The tables of a store, to read and to search, and the place of each living entity in them. A contract sees the tables in
@@ -51,7 +52,7 @@ impl<'a> Places<'a> {
 
     /// The slot of the table in which the entity stands; none, where it doesn't live. It takes no memory.
     #[inline]
-    pub fn slot_of(&self, entity: Entity) -> Option<usize>
+    pub fn slot_of(&self, entity: Entity) -> Option<TableSlot>
         ensures some { IfSome result (λ n.
             (row : ℕ) × (r : TableRow) × (row_at self.now n row ≡ Some r) × (r.entity ≡ entity)) }
         ensures only { IfSome result (λ n.

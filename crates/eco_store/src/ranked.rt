@@ -98,14 +98,14 @@ impl Ranked {
     }
 
     /// All of them, in their order.
-    pub fn iter(&self) -> Iter<'_>
+    pub fn iter(&self) -> RankedIter<'_>
         ensures { result ≡ self.now }
     {
         let rest = match &self.list {
             Ranks::Alone(entities) => Rest::Alone(entities.iter()),
             Ranks::Among(standings) => Rest::Among(standings.iter()),
         };
-        Iter { rest }
+        RankedIter { rest }
     }
 }
 
@@ -119,7 +119,7 @@ fn in_first(entity: Entity) -> Standing
 
 /// Those that are left of some. A contract sees the list of them.
 #[derive(Drop)]
-pub struct Iter<'a> {
+pub struct RankedIter<'a> {
     rest: Rest<'a>,
 }
 
@@ -129,7 +129,7 @@ enum Rest<'a> {
     Among(slice::Iter<'a, Standing>),
 }
 
-impl<'a> Model for Iter<'a> {
+impl<'a> Model for RankedIter<'a> {
     ghost use Rattle.std.specs.Prelude.{List};
     ghost use Rattle.eco_store.specs.declared.standing.Standing.{Standing as Stands};
 
@@ -140,7 +140,7 @@ impl<'a> Model for Iter<'a> {
     ghost view = { λ i. left_ones i.rest };
 }
 
-impl<'a> Iterator for Iter<'a> {
+impl<'a> Iterator for RankedIter<'a> {
     type Item = Standing;
 
     ghost next_gives = { TakesFirst (λ s. s) };

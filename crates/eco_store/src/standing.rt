@@ -10,7 +10,7 @@ ghost use Rattle.eco_store.specs.declared.standing.Standing.{Standing as Stands}
 use crate::ranked::Ranked;
 use eco_archetypes::Archetypes;
 use eco_ids::Entity;
-use eco_tables::Tables;
+use eco_tables::{TableSlot, Tables};
 use std::alloc::{AllocError, Global};
 
 /// An entity, and the place of its table among some.
@@ -25,13 +25,17 @@ pub struct Standing {
 #[derive(Drop)]
 pub struct Standings<'a> {
     pub tables: &'a Archetypes,
-    pub slots: Vec<usize>,
+    pub slots: Vec<TableSlot>,
     pub list: Ranked,
 }
 
 /// All who stand in the tables of these slots, ascending. An `Err` comes where memory is refused, and never where there are
 /// no slots.
-pub(crate) fn ranked(alloc: Global, tables: &Tables, slots: &[usize]) -> Result<Ranked, AllocError>
+pub(crate) fn ranked(
+    alloc: Global,
+    tables: &Tables,
+    slots: &[TableSlot],
+) -> Result<Ranked, AllocError>
     ensures all { IfOk result (λ v. IsPermutation (standings 0 tables.now slots.now) v) }
     ensures sorted { IfOk result (λ v. IsSortedByKey (λ (s : Stands). s.entity) entity_cmp v) }
     ensures some { OnErr result (0 < length slots.now) }
@@ -68,7 +72,7 @@ fn ascend(entities: &[Entity]) -> bool
 }
 
 // All who stand in the tables of several slots, ascending.
-fn among(alloc: Global, tables: &Tables, slots: &[usize]) -> Result<Ranked, AllocError>
+fn among(alloc: Global, tables: &Tables, slots: &[TableSlot]) -> Result<Ranked, AllocError>
     ensures all { IfOk result (λ v. IsPermutation (standings 0 tables.now slots.now) v) }
     ensures sorted { IfOk result (λ v. IsSortedByKey (λ (s : Stands). s.entity) entity_cmp v) }
     ensures some { OnErr result (0 < length slots.now) }
@@ -109,7 +113,11 @@ fn ascends(list: &[Standing]) -> bool
 }
 
 // All who stand in the tables of these slots, table by table.
-fn gathered(alloc: Global, tables: &Tables, slots: &[usize]) -> Result<Vec<Standing>, AllocError>
+fn gathered(
+    alloc: Global,
+    tables: &Tables,
+    slots: &[TableSlot],
+) -> Result<Vec<Standing>, AllocError>
     ensures all { IfOk result (λ v. v.items ≡ standings 0 tables.now slots.now) }
     ensures some { OnErr result (0 < length slots.now) }
 {
@@ -121,7 +129,7 @@ fn gathered(alloc: Global, tables: &Tables, slots: &[usize]) -> Result<Vec<Stand
 }
 
 // How many stand there.
-pub(crate) fn row_count(tables: &Tables, slots: &[usize]) -> usize
+pub(crate) fn row_count(tables: &Tables, slots: &[TableSlot]) -> usize
     ensures { 0 < result → 0 < length slots.now }
 {
     let mut count: usize = 0;
@@ -151,7 +159,7 @@ fn add_standing(
 }
 
 // The entities that stand in the table in a slot; none, where the slot is empty.
-fn entities_at(tables: &Tables, slot: usize) -> &[Entity]
+fn entities_at(tables: &Tables, slot: TableSlot) -> &[Entity]
     ensures { result.now ≡ entities_of (table_in tables.now slot).rows }
 {
     match tables.get(slot) {

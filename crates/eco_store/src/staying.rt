@@ -3,6 +3,7 @@ ghost use Rattle.std.specs.Prelude.{◌≡◌, length, nat_eq, not, IfOk, IsTrue
 ghost use Rattle.std.specs.List.{list_any};
 ghost use Rattle.eco_store.specs.Staying.{only_idle, with_gathered, with_target, Rests};
 
+use eco_tables::TableSlot;
 use indexmap::IndexSet;
 use std::alloc::{AllocError, Global};
 use std::marker::Model;
@@ -20,11 +21,11 @@ const MANY_TABLES: usize = 16;
 #[derive(Drop)]
 pub struct Staying {
     alloc: Global,
-    targets: IndexSet<usize>,
+    targets: IndexSet<TableSlot>,
     // A plain list: a table that lost all rows gets none before the list is cleared, so it comes once.
-    gathered: Vec<usize>,
+    gathered: Vec<TableSlot>,
     // Any slots, before tables have lost their last row.
-    idle: [usize; IDLE_COUNT],
+    idle: [TableSlot; IDLE_COUNT],
     // Which of them goes next, counted round.
     turn: usize,
     // Tables that lose all rows are gathered.
@@ -74,21 +75,21 @@ impl Staying {
     }
 
     /// Whether the slot is one of the targets.
-    pub fn is_target(&self, slot: usize) -> bool
+    pub fn is_target(&self, slot: TableSlot) -> bool
         ensures { result ≡ list_any (nat_eq slot) self.now.targets }
     {
         self.targets.contains(&slot)
     }
 
     /// The targets, each once.
-    pub fn targets(&self) -> &[usize]
+    pub fn targets(&self) -> &[TableSlot]
         ensures { result.now ≡ self.now.targets }
     {
         self.targets.as_slice()
     }
 
     /// The slots whose tables go together.
-    pub fn gathered(&self) -> &[usize]
+    pub fn gathered(&self) -> &[TableSlot]
         ensures { result.now ≡ self.now.gathered }
     {
         self.gathered.as_slice()
@@ -96,7 +97,7 @@ impl Staying {
 
     /// The table in this slot stays. The answer says whether it was none of the targets before. An `Err` comes where memory
     /// is refused, and changes nothing.
-    pub fn add_target(&mut self, slot: usize) -> Result<bool, AllocError>
+    pub fn add_target(&mut self, slot: TableSlot) -> Result<bool, AllocError>
         ensures added { IfOk result (λ new. new ≡ not (list_any (nat_eq slot) self.old.targets)) }
         ensures ok { OnOk result (self.new ≡ with_target self.old slot) }
         ensures err { OnErr result (self.new ≡ self.old) }
@@ -114,7 +115,7 @@ impl Staying {
     }
 
     /// The table in this slot lost all rows. The answer says whether it goes with others.
-    pub fn gather(&mut self, slot: usize) -> bool
+    pub fn gather(&mut self, slot: TableSlot) -> bool
         ensures gathered { IsTrue result → self.new ≡ with_gathered self.old slot }
         ensures same { IsFalse result → self.new ≡ self.old }
     {
@@ -126,7 +127,7 @@ impl Staying {
     }
 
     /// Whether the slot is one of the idle ones, of which there are eight.
-    pub fn is_resting(&self, slot: usize) -> bool
+    pub fn is_resting(&self, slot: TableSlot) -> bool
         ensures resting { result ≡ list_any (nat_eq slot) self.now.idle }
         ensures few { length self.now.idle ≡ 8 }
     {
@@ -134,7 +135,7 @@ impl Staying {
     }
 
     /// The table in this slot lost its last row: it is one of the idle ones from then on, in place of the one that is answered.
-    pub fn set_idle(&mut self, slot: usize) -> usize
+    pub fn set_idle(&mut self, slot: TableSlot) -> TableSlot
         ensures { Rests self.old self.new slot result }
     {
         let place = self.turn % IDLE_COUNT;

@@ -10,14 +10,14 @@ ghost use Rattle.eco_store.specs.Transfers.{change_of, with_places, AreNamed, Ha
 
 use crate::layout::Layout;
 use eco_entities::{EntityIndex, Place};
-use eco_tables::Tables;
+use eco_tables::{TableSlot, Tables};
 use std::alloc::AllocError;
 
 /// The slots of a table whose rows all go, and of the one that they go to.
 #[derive(Clone, Copy)]
 pub struct Transfer {
-    pub from: usize,
-    pub to: usize,
+    pub from: TableSlot,
+    pub to: TableSlot,
 }
 
 impl Transfer {

@@ -5,10 +5,11 @@ ghost use Rattle.eco_store.specs.Ranking.{IsNumbering, IsWalked, standing_at, st
 
 use crate::standing::Standing;
 use eco_entities::EntityIndex;
+use eco_tables::TableSlot;
 use std::alloc::{AllocError, Global};
 
 // For each slot below the bound its place among some, counted from 1, and 0 where it is none of them.
-fn numbers_of(alloc: Global, bound: usize, slots: &[usize]) -> Result<Vec<usize>, AllocError>
+fn numbers_of(alloc: Global, bound: usize, slots: &[TableSlot]) -> Result<Vec<usize>, AllocError>
     requires { All (λ n. n < bound) slots.now }
     ensures { IfOk result (λ v. IsNumbering slots.now (length slots.now) v.items) }
 {
@@ -25,7 +26,7 @@ pub(crate) fn walked(
     alloc: Global,
     entities: &EntityIndex,
     bound: usize,
-    slots: &[usize],
+    slots: &[TableSlot],
     count: usize,
 ) -> Result<Vec<Standing>, AllocError>
     requires { All (λ n. n < bound) slots.now }

@@ -2,11 +2,11 @@
 use Rattle.std.specs.Prelude.{ℕ, ◌-◌, List, map, vec_len, vec_capacity}
 use Rattle.eco_ids.specs.declared.value.Value.{Value}
 use Rattle.eco_ids.specs.World.{padded}
-use Rattle.eco_tables.specs.declared.column.Fields.{Fields}
-use Rattle.eco_tables.specs.declared.column.Fields.TheVariants.{One, Two, Three, Four, Five, Six, Seven, Eight}
+use Rattle.eco_tables.specs.declared.column.Cells.{Cells}
+use Rattle.eco_tables.specs.declared.column.Cells.TheVariants.{One, Two, Three, Four, Five, Six, Seven, Eight}
 
 -- how many fields are kept of each value
-abbrev pub width_of : Fields → ℕ
+abbrev pub width_of : Cells → ℕ
 width_of (One _) = 1
 width_of (Two _) = 2
 width_of (Three _) = 3
@@ -17,7 +17,7 @@ width_of (Seven _) = 7
 width_of (Eight _) = 8
 
 -- the whole values
-abbrev pub values_of : Fields → List Value
+abbrev pub values_of : Cells → List Value
 values_of (One v) = map padded v.items
 values_of (Two v) = map padded v.items
 values_of (Three v) = map padded v.items
@@ -28,7 +28,7 @@ values_of (Seven v) = map padded v.items
 values_of (Eight v) = map padded v.items
 
 -- so many more fit with no allocation
-abbrev pub room_of : Fields → ℕ
+abbrev pub room_of : Cells → ℕ
 room_of (One v) = vec_capacity v - vec_len v
 room_of (Two v) = vec_capacity v - vec_len v
 room_of (Three v) = vec_capacity v - vec_len v

@@ -14,7 +14,7 @@ use std::marker::Model;
 
 /// What is kept of values: so many fields of each.
 #[derive(Drop)]
-pub enum Fields {
+pub enum Cells {
     One(Vec<[i64; 1]>),
     Two(Vec<[i64; 2]>),
     Three(Vec<[i64; 3]>),
@@ -29,14 +29,14 @@ pub enum Fields {
 macro_rules! at_each_width {
     ($fields:expr, |$rows:ident| $done:expr) => {
         match $fields {
-            Fields::One($rows) => $done,
-            Fields::Two($rows) => $done,
-            Fields::Three($rows) => $done,
-            Fields::Four($rows) => $done,
-            Fields::Five($rows) => $done,
-            Fields::Six($rows) => $done,
-            Fields::Seven($rows) => $done,
-            Fields::Eight($rows) => $done,
+            Cells::One($rows) => $done,
+            Cells::Two($rows) => $done,
+            Cells::Three($rows) => $done,
+            Cells::Four($rows) => $done,
+            Cells::Five($rows) => $done,
+            Cells::Six($rows) => $done,
+            Cells::Seven($rows) => $done,
+            Cells::Eight($rows) => $done,
         }
     };
 }
@@ -45,14 +45,14 @@ macro_rules! at_each_width {
 macro_rules! of_same_width {
     ($made:ident, $fields:expr, |$rows:ident| $done:expr) => {
         match $fields {
-            Fields::One($rows) => $made::One($done),
-            Fields::Two($rows) => $made::Two($done),
-            Fields::Three($rows) => $made::Three($done),
-            Fields::Four($rows) => $made::Four($done),
-            Fields::Five($rows) => $made::Five($done),
-            Fields::Six($rows) => $made::Six($done),
-            Fields::Seven($rows) => $made::Seven($done),
-            Fields::Eight($rows) => $made::Eight($done),
+            Cells::One($rows) => $made::One($done),
+            Cells::Two($rows) => $made::Two($done),
+            Cells::Three($rows) => $made::Three($done),
+            Cells::Four($rows) => $made::Four($done),
+            Cells::Five($rows) => $made::Five($done),
+            Cells::Six($rows) => $made::Six($done),
+            Cells::Seven($rows) => $made::Seven($done),
+            Cells::Eight($rows) => $made::Eight($done),
         }
     };
 }
@@ -61,14 +61,14 @@ macro_rules! of_same_width {
 macro_rules! at_equal_widths {
     ($fields:expr, $others:expr, |$rows:ident, $source:ident| $done:expr) => {
         match ($fields, $others) {
-            (Fields::One($rows), Fields::One($source)) => $done,
-            (Fields::Two($rows), Fields::Two($source)) => $done,
-            (Fields::Three($rows), Fields::Three($source)) => $done,
-            (Fields::Four($rows), Fields::Four($source)) => $done,
-            (Fields::Five($rows), Fields::Five($source)) => $done,
-            (Fields::Six($rows), Fields::Six($source)) => $done,
-            (Fields::Seven($rows), Fields::Seven($source)) => $done,
-            (Fields::Eight($rows), Fields::Eight($source)) => $done,
+            (Cells::One($rows), Cells::One($source)) => $done,
+            (Cells::Two($rows), Cells::Two($source)) => $done,
+            (Cells::Three($rows), Cells::Three($source)) => $done,
+            (Cells::Four($rows), Cells::Four($source)) => $done,
+            (Cells::Five($rows), Cells::Five($source)) => $done,
+            (Cells::Six($rows), Cells::Six($source)) => $done,
+            (Cells::Seven($rows), Cells::Seven($source)) => $done,
+            (Cells::Eight($rows), Cells::Eight($source)) => $done,
             _ => unreachable!(),
         }
     };
@@ -79,7 +79,7 @@ macro_rules! at_equal_widths {
 #[derive(Drop)]
 pub struct Column {
     id: Id,
-    fields: Fields,
+    fields: Cells,
 }
 
 impl Model for Column {
@@ -103,13 +103,13 @@ fn copied<const N: usize>(rows: &Vec<[i64; N]>) -> Result<Vec<[i64; N]>, AllocEr
     Vec::from_slice(*rows.allocator(), rows.as_slice())
 }
 
-impl Fields {
+impl Cells {
     // The same fields once more. An `Err` comes where memory is refused.
-    fn try_copy(&self) -> Result<Fields, AllocError>
+    fn try_copy(&self) -> Result<Cells, AllocError>
         ensures width { IfOk result (λ f. width_of f ≡ width_of self.now) }
         ensures values { IfOk result (λ f. values_of f ≡ values_of self.now) }
     {
-        Ok(of_same_width!(Fields, self, |rows| copied(rows)?))
+        Ok(of_same_width!(Cells, self, |rows| copied(rows)?))
     }
 }
 
@@ -183,14 +183,14 @@ impl Column {
         ensures empty { result.values ≡ [] }
     {
         let fields = match width {
-            1 => Fields::One(Vec::new(alloc)),
-            2 => Fields::Two(Vec::new(alloc)),
-            3 => Fields::Three(Vec::new(alloc)),
-            4 => Fields::Four(Vec::new(alloc)),
-            5 => Fields::Five(Vec::new(alloc)),
-            6 => Fields::Six(Vec::new(alloc)),
-            7 => Fields::Seven(Vec::new(alloc)),
-            _ => Fields::Eight(Vec::new(alloc)),
+            1 => Cells::One(Vec::new(alloc)),
+            2 => Cells::Two(Vec::new(alloc)),
+            3 => Cells::Three(Vec::new(alloc)),
+            4 => Cells::Four(Vec::new(alloc)),
+            5 => Cells::Five(Vec::new(alloc)),
+            6 => Cells::Six(Vec::new(alloc)),
+            7 => Cells::Seven(Vec::new(alloc)),
+            _ => Cells::Eight(Vec::new(alloc)),
         };
         Column { id, fields }
     }
@@ -241,14 +241,14 @@ impl Column {
         ensures few { result ≤ FIELD_COUNT }
     {
         match &self.fields {
-            Fields::One(_) => 1,
-            Fields::Two(_) => 2,
-            Fields::Three(_) => 3,
-            Fields::Four(_) => 4,
-            Fields::Five(_) => 5,
-            Fields::Six(_) => 6,
-            Fields::Seven(_) => 7,
-            Fields::Eight(_) => 8,
+            Cells::One(_) => 1,
+            Cells::Two(_) => 2,
+            Cells::Three(_) => 3,
+            Cells::Four(_) => 4,
+            Cells::Five(_) => 5,
+            Cells::Six(_) => 6,
+            Cells::Seven(_) => 7,
+            Cells::Eight(_) => 8,
         }
     }
 

@@ -18,13 +18,17 @@ use std::slice;
 mod copies;
 mod turning;
 
+/// The number of the slot in which a table stands: a plain number, which counts from 0 and means nothing beyond the tables
+/// that gave it. It is the table's as long as that lives.
+pub type TableSlot = usize;
+
 /// A contract sees a list of slots, each with a table or nothing. A slot keeps its number as long as its table lives; a
 /// slot whose table was dropped may be used again.
 pub struct Tables {
     alloc: Global,
     slots: Vec<Option<Table>>,
     // The slots without a table, with room for all of them, so that a table is dropped without memory.
-    vacant: Vec<usize>,
+    vacant: Vec<TableSlot>,
 }
 
 // By hand, so that dropping it is one call: a derived drop is proved anew at each early return of whoever holds it.
@@ -71,7 +75,7 @@ impl Tables {
 
     /// A new table without rows, in a slot that was empty; the answer is the slot. An `Err` comes where memory is refused
     /// and changes nothing.
-    pub fn insert(&mut self, type_list: TypeList, widths: &[u8]) -> Result<usize, AllocError>
+    pub fn insert(&mut self, type_list: TypeList, widths: &[u8]) -> Result<TableSlot, AllocError>
         requires lengths { length type_list ≡ length widths.now }
         requires widths { All (λ w. w ≤ FIELD_COUNT) widths.now }
         ensures vacant { IfOk result (λ n. slot_of self.old n ≡ None) }
@@ -90,7 +94,7 @@ impl Tables {
     }
 
     // The table in a slot of its own, where none is vacant.
-    fn insert_last(&mut self, table: Table) -> Result<usize, AllocError>
+    fn insert_last(&mut self, table: Table) -> Result<TableSlot, AllocError>
         requires full { count_by is_some self.old ≡ length self.old }
         requires rows { RowsHaveIds table }
         ensures vacant { IfOk result (λ n. slot_of self.old n ≡ None) }
@@ -112,7 +116,7 @@ impl Tables {
     }
 
     /// The table in a slot, if there is one.
-    pub fn get(&self, slot: usize) -> Option<&Table>
+    pub fn get(&self, slot: TableSlot) -> Option<&Table>
         ensures { option_copied result ≡ slot_of self.now slot }
     {
         match self.slots.get(slot) {
@@ -122,14 +126,14 @@ impl Tables {
     }
 
     /// The slot has a table.
-    pub fn contains(&self, slot: usize) -> bool
+    pub fn contains(&self, slot: TableSlot) -> bool
         ensures { result ≡ is_some (slot_of self.now slot) }
     {
         self.get(slot).is_some()
     }
 
     /// How many rows a table has, 0 where the slot is empty.
-    pub fn row_count(&self, slot: usize) -> usize
+    pub fn row_count(&self, slot: TableSlot) -> usize
         ensures { result ≡ length (table_in self.now slot).rows }
     {
         match self.get(slot) {
@@ -139,7 +143,7 @@ impl Tables {
     }
 
     /// The slot has a table without rows.
-    pub fn is_rowless(&self, slot: usize) -> bool
+    pub fn is_rowless(&self, slot: TableSlot) -> bool
         ensures { result ≡ is_some (rowless_type (slot_of self.now slot)) }
     {
         match self.get(slot) {
@@ -149,7 +153,7 @@ impl Tables {
     }
 
     /// Drops the table in a slot if it has no rows, and answers its type. Any other slot stays as it is.
-    pub fn drop_empty(&mut self, slot: usize) -> Option<TypeList>
+    pub fn drop_empty(&mut self, slot: TableSlot) -> Option<TypeList>
         ensures answer { result ≡ rowless_type (slot_of self.old slot) }
         ensures dropped { OnSome result (SetsSlot self.old self.new slot None) }
         ensures kept { IfNone result (self.new ≡ self.old) }
@@ -189,7 +193,7 @@ impl Tables {
     }
 
     /// Room for more rows in a table. An `Err` keeps all rows and the room that was there.
-    pub fn reserve_rows(&mut self, slot: usize, more: usize) -> Result<(), AllocError>
+    pub fn reserve_rows(&mut self, slot: TableSlot, more: usize) -> Result<(), AllocError>
         requires { IsSome (slot_of self.old slot) }
         ensures sets { SetsRoom self.old self.new slot }
         ensures kept { (table_in self.old slot).room ≤ (table_in self.new slot).room }
@@ -203,7 +207,7 @@ impl Tables {
     }
 
     /// Room for so many rows more than a table had room for. An `Err` keeps all rows and the room that was there.
-    pub fn reserve_more(&mut self, slot: usize, more: usize) -> Result<(), AllocError>
+    pub fn reserve_more(&mut self, slot: TableSlot, more: usize) -> Result<(), AllocError>
         requires { IsSome (slot_of self.old slot) }
         ensures sets { SetsRoom self.old self.new slot }
         ensures kept { (table_in self.old slot).room ≤ (table_in self.new slot).room }
@@ -217,7 +221,7 @@ impl Tables {
     }
 
     /// Takes the promise of room in a table back. Its memory stays.
-    pub fn waive(&mut self, slot: usize)
+    pub fn waive(&mut self, slot: TableSlot)
         requires { IsSome (slot_of self.old slot) }
         ensures { SetsSlot self.old self.new slot (Some (with_room (table_in self.old slot) 0)) }
     {
@@ -229,7 +233,7 @@ impl Tables {
 
     /// Writes the value of an id in a row, and takes no memory. The answer is whether the table's type has the id; where it
     /// lacks it nothing is written.
-    pub fn set_value(&mut self, slot: usize, row: usize, id: Id, value: Value) -> bool
+    pub fn set_value(&mut self, slot: TableSlot, row: usize, id: Id, value: Value) -> bool
         requires row { row < length (table_in self.old slot).rows }
         requires fits { FitsId (table_in self.old slot) id value }
         ensures written { SetsSlot self.old self.new slot
@@ -243,7 +247,7 @@ impl Tables {
     }
 
     /// A row for a new entity, with zeros, in room that was reserved.
-    pub fn push_row(&mut self, slot: usize, entity: Entity)
+    pub fn push_row(&mut self, slot: TableSlot, entity: Entity)
         requires { 0 < (table_in self.old slot).room }
         ensures { SetsSlot self.old self.new slot
             (Some (with_row (table_in self.old slot) (new_row entity))) }
@@ -256,7 +260,7 @@ impl Tables {
 
     /// Takes a row out, and takes no memory. The answer is the entity that stands in its place now: none where the row was
     /// the last.
-    pub fn swap_out(&mut self, slot: usize, row: usize) -> Option<Entity>
+    pub fn swap_out(&mut self, slot: TableSlot, row: usize) -> Option<Entity>
         requires { row < length (table_in self.old slot).rows }
         ensures rows { SetsSlot self.old self.new slot (Some (without_row (table_in self.old slot) row)) }
         ensures moved { result ≡ slice_get (entities_of (table_in self.new slot).rows) row }
@@ -268,7 +272,7 @@ impl Tables {
     }
 
     /// All rows of a table go, and their room is won. The table stays, and so does its memory. It takes no memory.
-    pub fn clear(&mut self, slot: usize)
+    pub fn clear(&mut self, slot: TableSlot)
         requires { IsSome (slot_of self.old slot) }
         ensures { SetsSlot self.old self.new slot (Some (cleared (table_in self.old slot))) }
     {
@@ -281,7 +285,7 @@ impl Tables {
     /// Moves a row into room that was reserved in another table, where it is the last row. Values of ids that both types
     /// have, which are as wide in both, stay, and new ids hold zeros. It takes no memory and cannot fail. The answer is the
     /// entity that stands in the hole now: none where the row was the last.
-    pub fn move_row(&mut self, from: usize, row: usize, to: usize) -> Option<Entity>
+    pub fn move_row(&mut self, from: TableSlot, row: usize, to: TableSlot) -> Option<Entity>
         requires apart { from ≢ to }
         requires row { row < length (table_in self.old from).rows }
         requires room { 0 < (table_in self.old to).room }
@@ -294,7 +298,7 @@ impl Tables {
 
     /// Moves all rows of a table, in their order, to the end of another, into room that was reserved. Values of ids that both
     /// types have, which are as wide in both, stay, and new ids hold zeros. It takes no memory and cannot fail.
-    pub fn move_rows(&mut self, from: usize, to: usize)
+    pub fn move_rows(&mut self, from: TableSlot, to: TableSlot)
         requires apart { from ≢ to }
         requires source { IsSome (slot_of self.old from) }
         requires target { IsSome (slot_of self.old to) }
@@ -315,7 +319,12 @@ fn is_rowless(table: &Table) -> bool
 
 // What `move_row` does to the slots.
 #[inline(always)]
-fn move_in(slots: &mut [Option<Table>], from: usize, row: usize, to: usize) -> Option<Entity>
+fn move_in(
+    slots: &mut [Option<Table>],
+    from: TableSlot,
+    row: usize,
+    to: TableSlot,
+) -> Option<Entity>
     requires apart { from ≢ to }
     requires row { row < length (table_in slots.old from).rows }
     requires room { 0 < (table_in slots.old to).room }
@@ -359,7 +368,7 @@ fn move_between(
 }
 
 // What `move_rows` does to the slots.
-fn move_all_in(slots: &mut [Option<Table>], from: usize, to: usize)
+fn move_all_in(slots: &mut [Option<Table>], from: TableSlot, to: TableSlot)
     requires apart { from ≢ to }
     requires source { IsSome (slot_of slots.old from) }
     requires target { IsSome (slot_of slots.old to) }

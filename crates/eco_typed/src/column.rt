@@ -10,7 +10,7 @@ use std::marker::PhantomData;
 
 /// The values of one id in a table that are left, in the order of the table's entities, each as a value of the type.
 #[derive_where(Clone, Copy)]
-pub struct Column<'a, C> {
+pub struct TypedColumn<'a, C> {
     values: Values<'a>,
     of: PhantomData<C>,
 }
@@ -41,19 +41,19 @@ fn split_first(values: Values<'_>) -> Option<(Value, Values<'_>)>
     }
 }
 
-impl<'a, C> Column<'a, C> {
+impl<'a, C> TypedColumn<'a, C> {
     // All of these values.
-    pub(crate) fn of(values: Values<'a>) -> Column<'a, C>
+    pub(crate) fn of(values: Values<'a>) -> TypedColumn<'a, C>
         ensures { whole_values result.values ≡ whole_values values.entry }
     {
-        Column {
+        TypedColumn {
             values,
             of: PhantomData,
         }
     }
 }
 
-impl<'a, C: Component> Iterator for Column<'a, C> {
+impl<'a, C: Component> Iterator for TypedColumn<'a, C> {
     type Item = C;
 
     ghost next_gives = { YieldsFirst (λ s. map C.from (whole_values s.values)) };

@@ -6,6 +6,6 @@ mod column;
 mod component;
 mod typed_id;
 
-pub use column::Column;
+pub use column::TypedColumn;
 pub use component::Component;
 pub use typed_id::TypedId;

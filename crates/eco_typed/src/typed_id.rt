@@ -17,7 +17,7 @@ ghost use Rattle.eco_tables.specs.Values.{whole_values};
 ghost use Rattle.eco_typed.specs.Typing.{value_found_at};
 ghost use Rattle.eco_world.specs.Layouts.{is_lent, lent_by};
 
-use crate::column::Column;
+use crate::column::TypedColumn;
 use crate::component::Component;
 use eco_bodies::BodyRow;
 use eco_ids::{Entity, Id, Refusal};
@@ -121,11 +121,11 @@ impl<C: Component> TypedId<C> {
 
     /// The table's values of the id, one for each of its entities and in their order, as [`TableRows::values`] lends them:
     /// exactly where the id is one of the table's and is data.
-    pub fn column<'a>(self, table: &TableRows<'a>) -> Option<Column<'a, C>>
+    pub fn column<'a>(self, table: &TableRows<'a>) -> Option<TypedColumn<'a, C>>
         ensures shown { IfSome result (λ column. whole_values column.values ≡ lent_by table.now self.id) }
         ensures lent { is_some result ≡ is_lent table.now self.id }
     {
         let values = table.values(self.id)?;
-        Some(Column::of(values))
+        Some(TypedColumn::of(values))
     }
 }

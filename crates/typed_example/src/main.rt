@@ -5,11 +5,11 @@
 
 mod position;
 mod sail;
-mod terms;
+mod ship_components;
 mod velocity;
 
 use crate::sail::Sail;
-use crate::terms::Terms;
+use crate::ship_components::ShipComponents;
 use anyhow::Result;
 use eco_frame::run_frame;
 use eco_ids::Refusal;
@@ -23,9 +23,9 @@ fn sail_on<R: Threads + Sync>(
     rt: &R,
     alloc: Global,
     world: &mut World,
-    terms: Terms,
+    components: ShipComponents,
 ) -> Result<(), Refusal> {
-    let systems = Sail::listed(alloc, world, terms)?;
+    let systems = Sail::listed(alloc, world, components)?;
     match run_frame(rt, alloc, world, &systems, 2) {
         Ok(_) => Ok(()),
         Err(stop) => Err(stop.refusal),
@@ -41,13 +41,13 @@ fn print_world<R: Print>(rt: &R, alloc: Global, world: &World) -> Result<()> {
 
 // The world is passed on by reference: a function that owns it would have its end to prove at each way out.
 fn show<R: Print + Threads + Sync>(rt: &R, alloc: Global, world: &mut World) -> Result<()> {
-    let terms = Terms::declare(world)?;
-    let (heron, teal) = terms.launch(world)?;
-    terms.print_place(rt, world, heron)?;
-    terms.print_courses(rt, world)?;
-    sail_on(rt, alloc, world, terms)?;
-    terms.print_place(rt, world, heron)?;
-    terms.print_place(rt, world, teal)?;
+    let components = ShipComponents::declare(world)?;
+    let (heron, teal) = components.launch(world)?;
+    components.print_place(rt, world, heron)?;
+    components.print_courses(rt, world)?;
+    sail_on(rt, alloc, world, components)?;
+    components.print_place(rt, world, heron)?;
+    components.print_place(rt, world, teal)?;
     print_world(rt, alloc, world)
 }
 

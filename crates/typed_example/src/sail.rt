@@ -5,7 +5,7 @@ ghost use Rattle.eco_typed.specs.Typing.{value_found_at};
 ghost use Rattle.typed_example.specs.Ships.{recorded, recorded_is_declared};
 
 use crate::position::Position;
-use crate::terms::Terms;
+use crate::ship_components::ShipComponents;
 use crate::velocity::Velocity;
 use eco_frame::{BodyRow, Draws, Phase, SystemBody, Systems, record_command};
 use eco_ids::{Pattern, Refusal};
@@ -34,9 +34,13 @@ impl Sail {
     }
 
     /// A list of systems with this one alone. Its query names the components in the slots that the body reads.
-    pub fn listed(alloc: Global, world: &World, terms: Terms) -> Result<Systems<Sail>, Refusal> {
+    pub fn listed(
+        alloc: Global,
+        world: &World,
+        components: ShipComponents,
+    ) -> Result<Systems<Sail>, Refusal> {
         let query = world.read_query("[inout] Position, [in] Velocity")?;
-        let body = Sail::new(terms.position, terms.velocity);
+        let body = Sail::new(components.position, components.velocity);
         let mut systems = Systems::new(alloc);
         systems
             .add("sail", Phase::OnUpdate, query, body)

@@ -9,7 +9,7 @@ use crate::found::put_behind;
 use eco_entries::Choices;
 use eco_index::TypeTest;
 use eco_query::Query;
-use eco_tables::Tables;
+use eco_tables::{TableSlot, Tables};
 use indexmap::IndexSet;
 use std::alloc::{AllocError, Global};
 
@@ -31,7 +31,7 @@ impl Archetypes {
         &self,
         query: &Query,
         cache: Option<usize>,
-        slots: &[usize],
+        slots: &[TableSlot],
     ) -> Result<Option<Choices>, AllocError>
         ensures { IfOk result (λ o. IfSome o (AreKept (type_at self.now) query.now slots.now)) }
     {
@@ -46,7 +46,7 @@ impl Archetypes {
         &self,
         query: &Query,
         cache: Option<usize>,
-        slots: &[usize],
+        slots: &[TableSlot],
     ) -> Result<Option<Choices>, AllocError>
         ensures { IfOk result (λ o. IfSome o (AreKept (type_at self.now) query.now slots.now)) }
     {
@@ -57,7 +57,7 @@ impl Archetypes {
     }
 
     // The slots of the tables whose types pass, each once, where a cache has them.
-    pub(super) fn cached<T: TypeTest>(&self, test: &T) -> Option<&[usize]>
+    pub(super) fn cached<T: TypeTest>(&self, test: &T) -> Option<&[TableSlot]>
         ensures those { IfSome result (λ s. ArePassing (T.test test.now) self.now s.now) }
         ensures distinct { IfSome result (λ s. IsDistinct nat_eq s.now) }
     {
@@ -66,7 +66,7 @@ impl Archetypes {
     }
 
     // Those of the slots whose tables have rows.
-    pub(super) fn with_rows(&self, slots: &[usize]) -> Result<Vec<usize>, AllocError>
+    pub(super) fn with_rows(&self, slots: &[TableSlot]) -> Result<Vec<TableSlot>, AllocError>
         ensures all { IfOk result (λ v. v.items ≡ filter (has_rows self.now) slots.now) }
         ensures some { OnErr result (IsTrue (list_any (has_rows self.now) slots.now)) }
     {
@@ -81,7 +81,11 @@ impl Archetypes {
 }
 
 // The slots of the tables whose types fulfil the query.
-fn fulfilling(alloc: Global, tables: &Tables, query: &Query) -> Result<IndexSet<usize>, AllocError>
+fn fulfilling(
+    alloc: Global,
+    tables: &Tables,
+    query: &Query,
+) -> Result<IndexSet<TableSlot>, AllocError>
     ensures { IfOk result (λ s. AreThose (type_at tables.now) query.now s.keys) }
 {
     let mut slots = IndexSet::new(alloc);
@@ -92,7 +96,7 @@ fn fulfilling(alloc: Global, tables: &Tables, query: &Query) -> Result<IndexSet<
 }
 
 // Whether there is a table in the slot whose type fulfils the query.
-fn is_fulfilled(tables: &Tables, slot: usize, query: &Query) -> bool
+fn is_fulfilled(tables: &Tables, slot: TableSlot, query: &Query) -> bool
     ensures { result ≡ fulfils (type_at tables.now slot) query.now }
 {
     match tables.get(slot) {
@@ -102,7 +106,7 @@ fn is_fulfilled(tables: &Tables, slot: usize, query: &Query) -> bool
 }
 
 // Puts the slot to the others, if it is to stand there.
-fn note(slots: &mut IndexSet<usize>, slot: usize, stands: bool) -> Result<(), AllocError>
+fn note(slots: &mut IndexSet<TableSlot>, slot: TableSlot, stands: bool) -> Result<(), AllocError>
     ensures { OnOk result ((n : ℕ) → list_any (nat_eq n) slots.new.keys
         ≡ cond (nat_eq slot n && stands) true (list_any (nat_eq n) slots.old.keys)) }
 {
@@ -117,7 +121,7 @@ fn only_on(
     alloc: Global,
     tables: &Tables,
     query: &Query,
-    slots: &[usize],
+    slots: &[TableSlot],
 ) -> Result<Option<Choices>, AllocError>
     ensures { IfOk result (λ o. IfSome o (AreKept (type_at tables.now) query.now slots.now)) }
 {

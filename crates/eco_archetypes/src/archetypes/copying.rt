@@ -10,7 +10,7 @@ ghost use Rattle.eco_archetypes.specs.Archetypes.{type_at};
 use crate::archetypes::Archetypes;
 use eco_ids::TypeList;
 use eco_index::{Edges, TypeMap};
-use eco_tables::Tables;
+use eco_tables::{TableSlot, Tables};
 use std::alloc::AllocError;
 
 impl Archetypes {
@@ -54,7 +54,7 @@ fn list_all(tables: &Tables, by_type: &mut TypeMap) -> Result<(), AllocError>
 }
 
 // Lists a table under its type.
-fn list(type_list: &TypeList, slot: usize, by_type: &mut TypeMap) -> Result<(), AllocError>
+fn list(type_list: &TypeList, slot: TableSlot, by_type: &mut TypeMap) -> Result<(), AllocError>
     ensures { OnOk result ((q : List Ids) →
         get same_ids (slots_by_type by_type.new) q
         ≡ cond (same_ids type_list.now q) (Some slot) (get same_ids (slots_by_type by_type.old) q)) }

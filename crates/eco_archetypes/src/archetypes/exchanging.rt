@@ -9,6 +9,7 @@ ghost use Rattle.eco_archetypes.specs.Widths.{StillCover};
 use crate::archetypes::{Archetypes, are_same};
 use eco_entities::EntityIndex;
 use eco_ids::{Id, TypeList};
+use eco_tables::TableSlot;
 use std::alloc::AllocError;
 
 // The type with one id in the place of another.
@@ -60,10 +61,10 @@ impl Archetypes {
     pub fn exchange(
         &mut self,
         entities: &EntityIndex,
-        slot: usize,
+        slot: TableSlot,
         leaving: Id,
         coming: Id,
-    ) -> Result<usize, AllocError>
+    ) -> Result<TableSlot, AllocError>
         requires slot { IsSome (slot_of self.old slot) }
         requires there { has_item id_cmp (table_in self.old slot).ids leaving ≡ true }
         requires absent { has_item id_cmp (table_in self.old slot).ids coming ≡ false }
@@ -86,7 +87,7 @@ impl Archetypes {
 
     // The slot of the table with the exchanged type, where it is found without that type.
     #[inline(always)]
-    fn known_exchange(&self, slot: usize, leaving: Id, coming: Id) -> Option<usize>
+    fn known_exchange(&self, slot: TableSlot, leaving: Id, coming: Id) -> Option<TableSlot>
         requires slot { IsSome (slot_of self.now slot) }
         requires there { has_item id_cmp (table_in self.now slot).ids leaving ≡ true }
         requires absent { has_item id_cmp (table_in self.now slot).ids coming ≡ false }
@@ -104,7 +105,7 @@ impl Archetypes {
     // The slot of the first table that has the coming id, if its type is the exchanged one and the two ids stand at one place.
     // Who gets another target mostly joins those who have all else alike, so no type has to be made and hashed to find them.
     #[inline(never)]
-    fn first_exchanged(&self, slot: usize, leaving: Id, coming: Id) -> Option<usize>
+    fn first_exchanged(&self, slot: TableSlot, leaving: Id, coming: Id) -> Option<TableSlot>
         requires slot { IsSome (slot_of self.now slot) }
         requires absent { has_item id_cmp (table_in self.now slot).ids coming ≡ false }
         ensures there { IfSome result (λ n. IsSome (slot_of self.now n)) }
@@ -124,7 +125,7 @@ impl Archetypes {
     }
 
     // The slot to which two edges lead, one after the other, if both are stored: through the table that has neither id.
-    fn lead_on(&self, slot: usize, leaving: Id, coming: Id) -> Option<usize>
+    fn lead_on(&self, slot: TableSlot, leaving: Id, coming: Id) -> Option<TableSlot>
         requires slot { IsSome (slot_of self.now slot) }
         requires there { has_item id_cmp (table_in self.now slot).ids leaving ≡ true }
         requires absent { has_item id_cmp (table_in self.now slot).ids coming ≡ false }
@@ -143,10 +144,10 @@ impl Archetypes {
     fn exchange_by_type(
         &mut self,
         entities: &EntityIndex,
-        slot: usize,
+        slot: TableSlot,
         leaving: Id,
         coming: Id,
-    ) -> Result<usize, AllocError>
+    ) -> Result<TableSlot, AllocError>
         requires slot { IsSome (slot_of self.old slot) }
         requires absent { has_item id_cmp (table_in self.old slot).ids coming ≡ false }
         ensures typed { IfOk result

@@ -5,12 +5,13 @@ ghost use Rattle.eco_archetypes.specs.Archetypes.{RowlessIn, SameRows, SameTypes
 ghost use Rattle.eco_archetypes.specs.Widths.{KeepsWidths};
 
 use crate::archetypes::Archetypes;
+use eco_tables::TableSlot;
 use std::alloc::AllocError;
 
 impl Archetypes {
     /// Room for so many rows more than a table had room for. An `Err` comes where memory is refused, and keeps the room that
     /// was there.
-    pub fn reserve_more(&mut self, slot: usize, more: usize) -> Result<(), AllocError>
+    pub fn reserve_more(&mut self, slot: TableSlot, more: usize) -> Result<(), AllocError>
         requires { IsSome (slot_of self.old slot) }
         ensures sets { SetsRoom self.old self.new slot }
         ensures kept { (table_in self.old slot).room ≤ (table_in self.new slot).room }
@@ -24,7 +25,7 @@ impl Archetypes {
     }
 
     /// Takes the promise of room in a table back, so that what a refused call reserved serves the next one.
-    pub fn waive(&mut self, slot: usize)
+    pub fn waive(&mut self, slot: TableSlot)
         requires { IsSome (slot_of self.old slot) }
         ensures sets { SetsSlot self.old self.new slot (Some (record (table_in self.old slot) { room = 0 })) }
         ensures types { SameTypes self.old self.new }

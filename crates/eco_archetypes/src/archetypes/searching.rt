@@ -9,13 +9,14 @@ use crate::archetypes::Archetypes;
 use crate::found::put_behind;
 use eco_ids::{Entity, Pattern};
 use eco_index::TypeTest;
+use eco_tables::TableSlot;
 use std::alloc::AllocError;
 
 impl Archetypes {
     /// The slots of the tables that have rows and a type that passes the test, each once, in any order. Where the test names a
     /// cache of its query, its time grows with the slots of that cache, and else with the tables that the shortest group of
     /// the test's patterns finds. An `Err` comes where memory is refused, and never where no table is found.
-    pub fn tables_by<T: TypeTest>(&self, test: &T) -> Result<Vec<usize>, AllocError>
+    pub fn tables_by<T: TypeTest>(&self, test: &T) -> Result<Vec<TableSlot>, AllocError>
         ensures all { IfOk result (λ v. IsAllFound (T.test test.now) self.now v.items) }
         ensures some { OnErr result (FindsSome (T.test test.now) self.now) }
     {
@@ -26,7 +27,7 @@ impl Archetypes {
     }
 
     // What `tables_by` does where no cache answers.
-    fn search<T: TypeTest>(&self, test: &T) -> Result<Vec<usize>, AllocError>
+    fn search<T: TypeTest>(&self, test: &T) -> Result<Vec<TableSlot>, AllocError>
         ensures all { IfOk result (λ v. IsAllFound (T.test test.now) self.now v.items) }
         ensures some { OnErr result (FindsSome (T.test test.now) self.now) }
     {
@@ -41,7 +42,7 @@ impl Archetypes {
     // Puts the tables that the pattern at a place of the group finds behind those that the patterns before it found.
     fn add_found<T: TypeTest>(
         &self,
-        found: &mut Vec<usize>,
+        found: &mut Vec<TableSlot>,
         test: &T,
         group: usize,
         place: usize,
@@ -63,8 +64,8 @@ impl Archetypes {
     // the place has found.
     fn add_new<T: TypeTest>(
         &self,
-        found: &mut Vec<usize>,
-        slots: &[usize],
+        found: &mut Vec<TableSlot>,
+        slots: &[TableSlot],
         test: &T,
         group: usize,
         place: usize,
@@ -89,7 +90,7 @@ impl Archetypes {
     // Whether the table in a slot that the group's patterns have found has rows and a type that passes, and no pattern before
     // the place has found it.
     #[tactic(auto, using(crate::proofs::Searching::new_is))]
-    fn is_new<T: TypeTest>(&self, slot: usize, test: &T, group: usize, place: usize) -> bool
+    fn is_new<T: TypeTest>(&self, slot: TableSlot, test: &T, group: usize, place: usize) -> bool
         requires place { IsPlace (T.groups test.now) group place }
         requires listed { IsTrue (has_one_of (group_at (T.groups test.now) group) (type_at self.now slot)) }
         ensures { result ≡ is_found_in
@@ -101,7 +102,7 @@ impl Archetypes {
     // Whether the slot is listed under one of the group's patterns before the place.
     fn is_found_before<T: TypeTest>(
         &self,
-        slot: usize,
+        slot: TableSlot,
         test: &T,
         group: usize,
         place: usize,
@@ -118,7 +119,7 @@ impl Archetypes {
     }
 
     // Whether the table in a slot that the group's patterns have found has rows and a type that passes.
-    fn passes<T: TypeTest>(&self, slot: usize, test: &T, group: usize) -> bool
+    fn passes<T: TypeTest>(&self, slot: TableSlot, test: &T, group: usize) -> bool
         requires group { group < length (T.groups test.now) }
         requires listed { IsTrue (has_one_of (group_at (T.groups test.now) group) (type_at self.now slot)) }
         ensures { result ≡ is_found_in (T.test test.now) self.now slot }
@@ -145,7 +146,7 @@ impl Archetypes {
     }
 
     // Whether the table in one of the slots has rows and a type that passes.
-    fn has_passing<T: TypeTest>(&self, slots: &[usize], test: &T, group: usize) -> bool
+    fn has_passing<T: TypeTest>(&self, slots: &[TableSlot], test: &T, group: usize) -> bool
         requires group { group < length (T.groups test.now) }
         requires listed { All
             (λ n. IsTrue (has_one_of (group_at (T.groups test.now) group) (type_at self.now n))) slots.now }
@@ -171,7 +172,7 @@ impl Archetypes {
     /// The slots of the tables whose types have an id that the pattern matches, each once, also of those without rows. Where no
     /// type ever had such an id, mostly the marks of the index tell so. It takes no memory.
     #[inline]
-    pub fn listed(&self, pattern: Pattern) -> &[usize]
+    pub fn listed(&self, pattern: Pattern) -> &[TableSlot]
         ensures listed { (n : ℕ) →
             list_any (nat_eq n) result.now ≡ type_matches (type_at self.now n) pattern }
         ensures distinct { IsDistinct nat_eq result.now }
@@ -180,7 +181,7 @@ impl Archetypes {
     }
 
     // Whether the slot is one of them.
-    fn is_listed(&self, pattern: Pattern, slot: usize) -> bool
+    fn is_listed(&self, pattern: Pattern, slot: TableSlot) -> bool
         ensures { result ≡ type_matches (type_at self.now slot) pattern }
     {
         self.by_id.lists(pattern, slot)

@@ -1,7 +1,7 @@
 //! The step from a type to the one that has an id more, or less.
 ghost use Rattle.std.specs.Prelude.{◌≡◌, ◌≢◌, ◌≤◌, Some, IsSome, IsTrue, IfOk, IfSome, OnOk};
 ghost use Rattle.eco_ids.specs.Order.{id_cmp, is_ascending};
-ghost use Rattle.eco_tables.specs.Tables.{slot_of, table_in};
+ghost use Rattle.eco_tables.specs.Tables.{slot_of, table_in, SetsRoom};
 ghost use Rattle.eco_index.specs.Edges.{toggled};
 ghost use Rattle.eco_archetypes.specs.Archetypes.{type_at, KeepsRoom, KeepsTypes, RowlessBut, SameRows};
 ghost use Rattle.eco_archetypes.specs.Widths.{StillCover};
@@ -9,6 +9,7 @@ ghost use Rattle.eco_archetypes.specs.Widths.{StillCover};
 use crate::archetypes::Archetypes;
 use eco_entities::EntityIndex;
 use eco_ids::{Id, TypeList};
+use eco_tables::TableSlot;
 use std::alloc::AllocError;
 
 // The type with the id, or without it where it has it.
@@ -31,10 +32,10 @@ impl Archetypes {
     pub fn step(
         &mut self,
         entities: &EntityIndex,
-        slot: usize,
+        slot: TableSlot,
         id: Id,
         more: usize,
-    ) -> Result<usize, AllocError>
+    ) -> Result<TableSlot, AllocError>
         requires { IsSome (slot_of self.old slot) }
         ensures typed { IfOk result
             (λ n. type_at self.new n ≡ Some (toggled (table_in self.old slot).ids id)) }
@@ -57,7 +58,7 @@ impl Archetypes {
 
     /// The slot of the table that the id leads to, if an edge is stored. Mostly one is, where an entity steps as others did.
     #[inline(always)]
-    pub fn lead(&self, slot: usize, id: Id) -> Option<usize>
+    pub fn lead(&self, slot: TableSlot, id: Id) -> Option<TableSlot>
         ensures there { IfSome result (λ n. IsSome (slot_of self.now n)) }
         ensures apart { IfSome result (λ n. slot ≢ n) }
         ensures typed { IfSome result
@@ -68,16 +69,17 @@ impl Archetypes {
     }
 
     /// Room for so many more rows in the table in this slot, which is the answer. An `Err` comes where memory is refused. No row
-    /// changes.
+    /// and no other table changes.
     #[inline(always)]
     pub fn make_room(
         &mut self,
         entities: &EntityIndex,
-        slot: usize,
+        slot: TableSlot,
         more: usize,
-    ) -> Result<usize, AllocError>
+    ) -> Result<TableSlot, AllocError>
         requires { IsSome (slot_of self.old slot) }
         ensures same { IfOk result (λ n. n ≡ slot) }
+        ensures sets { SetsRoom self.old self.new slot }
         ensures typed { type_at self.new slot ≡ type_at self.old slot }
         ensures room { OnOk result (more ≤ (table_in self.new slot).room) }
         ensures rowless { RowlessBut self.old self.new result }
@@ -95,10 +97,10 @@ impl Archetypes {
     fn step_anew(
         &mut self,
         entities: &EntityIndex,
-        slot: usize,
+        slot: TableSlot,
         id: Id,
         more: usize,
-    ) -> Result<usize, AllocError>
+    ) -> Result<TableSlot, AllocError>
         requires { IsSome (slot_of self.old slot) }
         ensures typed { IfOk result
             (λ n. type_at self.new n ≡ Some (toggled (table_in self.old slot).ids id)) }
@@ -121,7 +123,7 @@ impl Archetypes {
     }
 
     // The id leads from either of the two tables to the other, unless memory is refused for that.
-    fn link(&mut self, from: usize, id: Id, to: usize)
+    fn link(&mut self, from: TableSlot, id: Id, to: TableSlot)
         requires from { IsSome (slot_of self.old from) }
         requires ascending { IsTrue (is_ascending id_cmp (table_in self.old from).ids) }
         requires to { type_at self.old to ≡ Some (toggled (table_in self.old from).ids id) }

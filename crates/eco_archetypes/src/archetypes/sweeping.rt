@@ -8,7 +8,7 @@ ghost use Rattle.eco_archetypes.specs.Widths.{KeepsWidths};
 
 use crate::archetypes::Archetypes;
 use eco_index::Caches;
-use eco_tables::Tables;
+use eco_tables::{TableSlot, Tables};
 
 // Fewer tables than these go one by one.
 const MANY_TABLES: usize = 16;
@@ -18,7 +18,7 @@ const LOOKED_AT: usize = 8;
 
 impl Archetypes {
     /// Drops those tables in these slots that have no rows. No row changes. It takes no memory.
-    pub fn drop_each(&mut self, slots: &[usize])
+    pub fn drop_each(&mut self, slots: &[TableSlot])
         ensures rowless { (others : List ℕ) →
             RowlessIn self.old (slots.now ++ others) → RowlessIn self.new others }
         ensures rows { SameRows self.old self.new }
@@ -32,7 +32,7 @@ impl Archetypes {
     }
 
     // What `drop_each` does with few tables.
-    fn drop_in_turn(&mut self, slots: &[usize])
+    fn drop_in_turn(&mut self, slots: &[TableSlot])
         ensures rowless { (others : List ℕ) →
             RowlessIn self.old (slots.now ++ others) → RowlessIn self.new others }
         ensures rows { SameRows self.old self.new }
@@ -45,7 +45,7 @@ impl Archetypes {
 
     // What `drop_each` does with many tables: what leads to tables is gone through once, and what leads to none goes. Taken
     // out by itself, each table would be looked for in all maps.
-    fn drop_together(&mut self, slots: &[usize])
+    fn drop_together(&mut self, slots: &[TableSlot])
         ensures rowless { (others : List ℕ) →
             RowlessIn self.old (slots.now ++ others) → RowlessIn self.new others }
         ensures rows { SameRows self.old self.new }
@@ -59,7 +59,7 @@ impl Archetypes {
 }
 
 // Drops those tables in these slots that have no rows, and tells the caches.
-fn drop_tables(tables: &mut Tables, caches: &mut Caches, slots: &[usize])
+fn drop_tables(tables: &mut Tables, caches: &mut Caches, slots: &[TableSlot])
     ensures less { IsLess tables.old tables.new }
     ensures rowless { (others : List ℕ) →
         RowlessIn tables.old (slots.now ++ others) → RowlessIn tables.new others }
@@ -73,7 +73,7 @@ fn drop_tables(tables: &mut Tables, caches: &mut Caches, slots: &[usize])
 }
 
 // Drops the table in a slot if it has no rows, and tells the caches.
-fn drop_table(tables: &mut Tables, caches: &mut Caches, slot: usize)
+fn drop_table(tables: &mut Tables, caches: &mut Caches, slot: TableSlot)
     ensures less { IsLess tables.old tables.new }
     ensures rowless { (others : List ℕ) →
         RowlessIn tables.old (slot ∷ others) → RowlessIn tables.new others }

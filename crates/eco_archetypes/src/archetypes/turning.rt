@@ -13,7 +13,7 @@ use crate::archetypes::{Archetypes, reserve_one};
 use eco_entities::EntityIndex;
 use eco_ids::{Id, TypeList};
 use eco_index::IdIndex;
-use eco_tables::Tables;
+use eco_tables::{TableSlot, Tables};
 use std::alloc::{AllocError, Global};
 
 impl Archetypes {
@@ -23,7 +23,7 @@ impl Archetypes {
     pub fn step_alone(
         &mut self,
         entities: &EntityIndex,
-        slot: usize,
+        slot: TableSlot,
         id: Id,
     ) -> Result<bool, AllocError>
         requires { IsSome (slot_of self.old slot) }
@@ -44,7 +44,7 @@ impl Archetypes {
     fn step_only_row(
         &mut self,
         entities: &EntityIndex,
-        slot: usize,
+        slot: TableSlot,
         id: Id,
     ) -> Result<bool, AllocError>
         requires there { IsSome (slot_of self.old slot) }
@@ -69,7 +69,7 @@ impl Archetypes {
     fn gain_alone(
         &mut self,
         entities: &EntityIndex,
-        slot: usize,
+        slot: TableSlot,
         id: Id,
     ) -> Result<bool, AllocError>
         requires there { IsSome (slot_of self.old slot) }
@@ -102,7 +102,7 @@ impl Archetypes {
     }
 
     // What `step_only_row` does where the type has the id.
-    fn lose_alone(&mut self, slot: usize, id: Id) -> Result<bool, AllocError>
+    fn lose_alone(&mut self, slot: TableSlot, id: Id) -> Result<bool, AllocError>
         requires there { IsSome (slot_of self.old slot) }
         requires alone { length (table_in self.old slot).rows ≡ 1 }
         requires has { has_item id_cmp (table_in self.old slot).ids id ≡ true }
@@ -120,7 +120,7 @@ impl Archetypes {
     }
 
     // The table takes the type that has the id less, which is this, and which no table has.
-    fn turn(&mut self, slot: usize, id: Id, type_list: TypeList) -> Result<(), AllocError>
+    fn turn(&mut self, slot: TableSlot, id: Id, type_list: TypeList) -> Result<(), AllocError>
         requires there { IsSome (slot_of self.old slot) }
         requires has { has_item id_cmp (table_in self.old slot).ids id ≡ true }
         requires typed { type_list ≡ without_item id_cmp (table_in self.old slot).ids id }
@@ -145,7 +145,7 @@ fn gain(
     tables: &mut Tables,
     by_id: &mut IdIndex,
     alloc: Global,
-    slot: usize,
+    slot: TableSlot,
     id: Id,
     width: u8,
 ) -> Result<(), AllocError>
@@ -171,7 +171,7 @@ fn gain(
     Ok(())
 }
 
-fn lose(tables: &mut Tables, by_id: &mut IdIndex, slot: usize, id: Id)
+fn lose(tables: &mut Tables, by_id: &mut IdIndex, slot: TableSlot, id: Id)
     requires there { IsSome (slot_of tables.old slot) }
     requires has { has_item id_cmp (table_in tables.old slot).ids id ≡ true }
     requires index { IsIdIndex (type_at tables.old) (lists_in by_id.old) }

@@ -4,7 +4,7 @@ ghost use Rattle.std.specs.List.{list_any, IsDistinct};
 ghost use Rattle.eco_index.specs.Sweeping.{has_table};
 ghost use Rattle.eco_index.specs.IdIndex.{slots_of, is_empty, is_only, SameSlotsOf, TurnsSlot};
 
-use eco_tables::Tables;
+use eco_tables::{TableSlot, Tables};
 use indexmap::IndexSet;
 use std::alloc::{AllocError, Global};
 use std::slice;
@@ -13,14 +13,14 @@ use std::slice;
 #[derive(Drop)]
 pub enum Slots {
     /// This slot.
-    One(usize),
+    One(TableSlot),
     /// These slots. The last of them may be alone again. The set is boxed, so that what the map moves about stays small.
-    Many(Box<IndexSet<usize>>),
+    Many(Box<IndexSet<TableSlot>>),
 }
 
 impl Slots {
     /// The slots, each once.
-    pub fn as_slice(&self) -> &[usize]
+    pub fn as_slice(&self) -> &[TableSlot]
         ensures slots { result.now ≡ slots_of self.now }
         ensures distinct { IsDistinct nat_eq (slots_of self.now) }
     {
@@ -31,7 +31,7 @@ impl Slots {
     }
 
     /// Whether the slot is one of them.
-    pub fn has(&self, slot: usize) -> bool
+    pub fn has(&self, slot: TableSlot) -> bool
         ensures { result ≡ list_any (nat_eq slot) (slots_of self.now) }
     {
         match self {
@@ -41,7 +41,7 @@ impl Slots {
     }
 
     /// Puts the slot to the others; the answer is whether it came now. An `Err` changes nothing.
-    pub fn add(&mut self, alloc: Global, slot: usize) -> Result<bool, AllocError>
+    pub fn add(&mut self, alloc: Global, slot: TableSlot) -> Result<bool, AllocError>
         ensures ok { OnOk result (TurnsSlot true (slots_of self.old) (slots_of self.new) slot) }
         ensures is_new { IfOk result (λ came. came ≡ not (list_any (nat_eq slot) (slots_of self.old))) }
         ensures err { OnErr result (SameSlotsOf (slots_of self.old) (slots_of self.new)) }
@@ -60,7 +60,7 @@ impl Slots {
     }
 
     /// Whether the slot is there, and alone.
-    pub fn is_only(&self, slot: usize) -> bool
+    pub fn is_only(&self, slot: TableSlot) -> bool
         ensures { result ≡ is_only (slots_of self.now) slot }
     {
         let slots = self.as_slice();
@@ -83,7 +83,7 @@ impl Slots {
     }
 
     /// Takes the slot from the others, if it is one of them.
-    pub fn take(&mut self, slot: usize)
+    pub fn take(&mut self, slot: TableSlot)
         requires { is_only (slots_of self.old) slot ≡ false }
         ensures taken { TurnsSlot false (slots_of self.old) (slots_of self.new) slot }
         ensures full { is_empty (Some self.old) ≡ false → is_empty (Some self.new) ≡ false }
@@ -94,7 +94,11 @@ impl Slots {
     }
 }
 
-fn set_of_two(alloc: Global, one: usize, other: usize) -> Result<IndexSet<usize>, AllocError>
+fn set_of_two(
+    alloc: Global,
+    one: TableSlot,
+    other: TableSlot,
+) -> Result<IndexSet<TableSlot>, AllocError>
     requires { one ≢ other }
     ensures { IfOk result (λ slots. slots.keys ≡ one ∷ other ∷ []) }
 {

@@ -8,13 +8,14 @@ ghost use Rattle.eco_index.specs.IdIndex.{any_matches, keys_of, matches_id, patt
 use crate::id_index::key::Key;
 use crate::id_index::{IdIndex, keys_of_pair};
 use eco_ids::{Entity, Id, Pattern};
+use eco_tables::TableSlot;
 use std::alloc::{AllocError, Global};
 
 impl IdIndex {
     ghost use Rattle.eco_index.specs.Contents.{lists_in};
 
     /// Lists a table's slot under all patterns that match the id. An `Err` changes nothing that is listed.
-    pub fn join(&mut self, alloc: Global, id: Id, slot: usize) -> Result<(), AllocError>
+    pub fn join(&mut self, alloc: Global, id: Id, slot: TableSlot) -> Result<(), AllocError>
         ensures ok { OnOk result
             (Turns true (matches_id id) (lists_in self.old) (lists_in self.new) slot) }
         ensures err { OnErr result (ListsSame (lists_in self.old) (lists_in self.new)) }
@@ -28,7 +29,7 @@ impl IdIndex {
     }
 
     // Lists the slot under these keys. What was listed before stays so where memory is refused for one of the others.
-    fn join_keys(&mut self, alloc: Global, keys: &[Key], slot: usize) -> Result<(), AllocError>
+    fn join_keys(&mut self, alloc: Global, keys: &[Key], slot: TableSlot) -> Result<(), AllocError>
         ensures ok { OnOk result
             (Turns true (has_one keys.now) (lists_in self.old) (lists_in self.new) slot) }
         ensures err { OnErr result (ListsSame (lists_in self.old) (lists_in self.new)) }
@@ -48,7 +49,7 @@ impl IdIndex {
 
     /// Takes a table's slot off the lists of all patterns that match the id and none of these others, which its type keeps.
     /// It takes no memory.
-    pub fn leave(&mut self, id: Id, others: &[Id], slot: usize)
+    pub fn leave(&mut self, id: Id, others: &[Id], slot: TableSlot)
         ensures { Turns false (is_own id others.now)
             (lists_in self.old) (lists_in self.new) slot }
     {
@@ -62,7 +63,7 @@ impl IdIndex {
 
     // Takes the slot off the lists of a pair. Where no other pair has its target, none is the pair, so mostly the others are
     // gone over once for both.
-    fn leave_pair(&mut self, relationship: Entity, target: Entity, others: &[Id], slot: usize)
+    fn leave_pair(&mut self, relationship: Entity, target: Entity, others: &[Id], slot: TableSlot)
         ensures { Turns false (has_own (keys_of (Two relationship target)) others.now)
             (lists_in self.old) (lists_in self.new) slot }
     {
@@ -79,7 +80,7 @@ impl IdIndex {
         );
     }
 
-    fn leave_keys(&mut self, keys: &[Key], others: &[Id], slot: usize)
+    fn leave_keys(&mut self, keys: &[Key], others: &[Id], slot: TableSlot)
         ensures { Turns false (has_own keys.now others.now)
             (lists_in self.old) (lists_in self.new) slot }
     {

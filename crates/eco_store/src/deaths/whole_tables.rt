@@ -13,7 +13,7 @@ use crate::layout::Layout;
 use eco_entities::EntityIndex;
 use eco_entities::laws::needs_never_grow;
 use eco_ids::Entity;
-use eco_tables::Tables;
+use eco_tables::{TableSlot, Tables};
 
 impl Layout {
     /// Some of the first of these entities die, those who live, and their rows go: all who stand in a table where the list
@@ -45,7 +45,7 @@ impl Layout {
 
     // All who stand in the table of a slot die, and its rows go. The table stays as an idle one or a target, or with others
     // that go together. It takes no memory.
-    fn kill_rows(&mut self, slot: usize)
+    fn kill_rows(&mut self, slot: TableSlot)
         requires there { IsSome (slot_of self.old.archetypes slot) }
         requires laid { IsLaid self.old }
         ensures loses { LosesRows self.old self.new }
@@ -62,7 +62,7 @@ impl Layout {
 }
 
 // Whether the list begins with all who stand in the table of a slot, in the order of their rows.
-fn is_begun_by(tables: &Tables, slot: usize, dead: &[Entity]) -> bool
+fn is_begun_by(tables: &Tables, slot: TableSlot, dead: &[Entity]) -> bool
     requires { IsSome (slot_of tables.now slot) }
     ensures { IsTrue result ↔ (dead.now ≡ entities_of (rows_in tables.now slot)
         ++ drop (length (rows_in tables.now slot)) dead.now) }
@@ -71,7 +71,7 @@ fn is_begun_by(tables: &Tables, slot: usize, dead: &[Entity]) -> bool
 }
 
 // All who stand in the table of a slot die, the one in the last row first. Their rows stay, which `kill_rows` takes at once.
-fn kill_standing(entities: &mut EntityIndex, tables: &Tables, slot: usize)
+fn kill_standing(entities: &mut EntityIndex, tables: &Tables, slot: TableSlot)
     requires store { IsStore entities.old tables.now }
     requires there { IsSome (slot_of tables.now slot) }
     ensures dead { entities.new ≡ with_deaths entities.old (entities_of (rows_in tables.now slot)) }

@@ -11,11 +11,12 @@ use crate::placing::fix_place;
 use eco_entities::Place;
 use eco_entities::laws::needs_never_grow;
 use eco_ids::Entity;
+use eco_tables::TableSlot;
 
 impl Layout {
     /// The entity goes from its place to the end of the table in this slot, where its room was taken. It takes no memory.
     #[inline(always)]
-    pub(crate) fn carry(&mut self, e: Entity, place: Place, to: usize)
+    pub(crate) fn carry(&mut self, e: Entity, place: Place, to: TableSlot)
         requires laid { IsLaidBeside self.old to }
         requires own { own_place self.old.entities e ≡ Some place }
         requires apart { place.table ≢ to }

@@ -13,6 +13,7 @@ use crate::moving::Move;
 use crate::transfer::Transfer;
 use crate::type_change::TypeChange;
 use eco_ids::{Id, TypeList};
+use eco_tables::TableSlot;
 use std::alloc::{AllocError, Global};
 
 impl Layout {
@@ -22,7 +23,7 @@ impl Layout {
         &mut self,
         alloc: Global,
         moves: &[Move],
-    ) -> Result<Vec<usize>, AllocError>
+    ) -> Result<Vec<TableSlot>, AllocError>
         requires { IsLaid self.old }
         ensures plans { Plans self.old self.new }
         ensures typed { IfOk result (λ slots. AreTyped self.new.archetypes moves.now slots.items) }
@@ -37,7 +38,7 @@ impl Layout {
     }
 
     // For each move the slot of the table of its type, a target.
-    fn find_tables(&mut self, alloc: Global, moves: &[Move]) -> Result<Vec<usize>, AllocError>
+    fn find_tables(&mut self, alloc: Global, moves: &[Move]) -> Result<Vec<TableSlot>, AllocError>
         requires { IsLaid self.old }
         ensures plans { Plans self.old self.new }
         ensures typed { IfOk result (λ slots. AreTyped self.new.archetypes moves.now slots.items) }
@@ -93,7 +94,7 @@ impl Layout {
 
     /// The slot of the table that an id leads to from the table in a slot, as [`Archetypes::step`] says, which is a target from
     /// then on, with room for two more rows. An `Err` comes where memory is refused. No row changes.
-    pub(crate) fn step_target(&mut self, slot: usize, id: Id) -> Result<usize, AllocError>
+    pub(crate) fn step_target(&mut self, slot: TableSlot, id: Id) -> Result<TableSlot, AllocError>
         requires laid { IsLaid self.old }
         requires slot { IsSome (slot_of self.old.archetypes slot) }
         ensures plans { Plans self.old self.new }
@@ -114,7 +115,7 @@ impl Layout {
 
     // The slot of the table with a type, which is a target from then on. What room earlier calls promised in it serves this
     // one.
-    fn target(&mut self, type_list: &TypeList) -> Result<usize, AllocError>
+    fn target(&mut self, type_list: &TypeList) -> Result<TableSlot, AllocError>
         requires { IsLaid self.old }
         ensures plans { Plans self.old self.new }
         ensures typed { IfOk result (λ n. type_at self.new.archetypes n ≡ Some type_list.now) }

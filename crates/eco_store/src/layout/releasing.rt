@@ -4,13 +4,13 @@ ghost use Rattle.eco_store.specs.Layout.{seen, IsLaid, IsLaidBeside, IsSettled, 
 ghost use Rattle.eco_tables.specs.Tables.{table_in};
 
 use crate::layout::Layout;
-use eco_tables::Tables;
+use eco_tables::{TableSlot, Tables};
 
 // So much room is worth more than the table costs to be made again, once as many rows have come.
 const MUCH_ROOM: usize = 1024;
 
 // Whether the table in a slot has much room.
-fn is_large(tables: &Tables, slot: usize) -> bool
+fn is_large(tables: &Tables, slot: TableSlot) -> bool
     ensures { IsTrue result → MUCH_ROOM ≤ (table_in tables.now slot).room }
 {
     match tables.get(slot) {
@@ -35,7 +35,7 @@ impl Layout {
     /// takes is dropped if it has no rows; a table with much room is dropped itself. A target stays in any case. It takes no
     /// memory.
     #[inline]
-    pub(crate) fn release(&mut self, slot: usize)
+    pub(crate) fn release(&mut self, slot: TableSlot)
         requires { IsLaidBeside self.old slot }
         ensures { Releases self.old self.new }
     {
@@ -50,7 +50,7 @@ impl Layout {
     // leaves others behind, or comes back to where it was.
     #[cold]
     #[inline(never)]
-    fn leave(&mut self, slot: usize)
+    fn leave(&mut self, slot: TableSlot)
         requires { IsLaidBeside self.old slot }
         ensures { Releases self.old self.new }
     {
@@ -62,7 +62,7 @@ impl Layout {
     }
 
     // The table in this slot is an idle one from then on, and the one whose place it takes goes.
-    fn rest(&mut self, slot: usize)
+    fn rest(&mut self, slot: TableSlot)
         requires { IsLaidBeside self.old slot }
         ensures { Releases self.old self.new }
     {

@@ -11,13 +11,17 @@ ghost use Rattle.eco_store.specs.Retyping.{IsTypeWith};
 ghost use Rattle.eco_store.specs.Lent.{AreTablesOf};
 
 use crate::store::Store;
-use eco_archetypes::{Found, Naming, TypeTest, entities_in};
+use eco_archetypes::{Found, NamingTest, TypeTest, entities_in};
 use eco_ids::{Entity, Pattern, TypeList};
-use eco_tables::Tables;
+use eco_tables::{TableSlot, Tables};
 use std::alloc::{AllocError, Global};
 
 // The types of the tables in these slots. An `Err` comes where memory is refused, and never without slots.
-fn types_in(alloc: Global, tables: &Tables, slots: &[usize]) -> Result<Vec<TypeList>, AllocError>
+fn types_in(
+    alloc: Global,
+    tables: &Tables,
+    slots: &[TableSlot],
+) -> Result<Vec<TypeList>, AllocError>
     requires { All (λ slot. IsSome (slot_of tables.now slot)) slots.now }
     ensures all { IfOk result
         (λ types. types.items ≡ map (λ slot. (table_in tables.now slot).ids) slots.now) }
@@ -65,7 +69,7 @@ impl Store {
     {
         self.layout.archetypes.tables().rows_have_ids();
         let archetypes = &self.layout.archetypes;
-        archetypes.is_named(entity) && archetypes.finds(&Naming { entity })
+        archetypes.is_named(entity) && archetypes.finds(&NamingTest { entity })
     }
 
     /// Whether some living entity has an id that the pattern matches. It looks at one table that has rows, and at tables
@@ -94,7 +98,7 @@ impl Store {
         ensures all { IfOk result (λ v. v.items ≡ entities_naming self.now.entities e) }
         ensures some { OnErr result (IsTrue (list_any (λ p. is_holder e p.1) (living self.now.entities))) }
     {
-        self.entities_by(&Naming { entity: e })
+        self.entities_by(&NamingTest { entity: e })
     }
 
     // The living entities whose types pass the test, ascending.

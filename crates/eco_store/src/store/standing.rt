@@ -16,7 +16,7 @@ use crate::store::Store;
 use crate::walking::walked;
 use eco_archetypes::TypeTest;
 use eco_entities::EntityIndex;
-use eco_tables::Tables;
+use eco_tables::{TableSlot, Tables};
 use std::alloc::{AllocError, Global};
 
 // So many indices cost no more to look at than one entity to sort.
@@ -28,7 +28,7 @@ fn standing_in(
     alloc: Global,
     entities: &EntityIndex,
     tables: &Tables,
-    slots: &[usize],
+    slots: &[TableSlot],
 ) -> Result<Ranked, AllocError>
     requires store { IsStore entities.now tables.now }
     requires there { All (λ n. IsSome (slot_of tables.now n)) slots.now }

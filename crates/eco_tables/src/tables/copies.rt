@@ -3,7 +3,7 @@ ghost use Rattle.std.specs.Prelude.{◌≡◌, ◌≤◌, map, vec_capacity, IfO
 ghost use Rattle.eco_tables.specs.Tables.{without_room, AreCopies};
 
 use crate::table::Table;
-use crate::tables::Tables;
+use crate::tables::{TableSlot, Tables};
 use std::alloc::{AllocError, Global};
 
 impl Tables {
@@ -45,7 +45,11 @@ fn copy_slots(alloc: Global, slots: &[Option<Table>]) -> Result<Vec<Option<Table
 }
 
 // The numbers once more, with room for so many in all.
-fn copy_with_room(alloc: Global, numbers: &[usize], room: usize) -> Result<Vec<usize>, AllocError>
+fn copy_with_room(
+    alloc: Global,
+    numbers: &[TableSlot],
+    room: usize,
+) -> Result<Vec<TableSlot>, AllocError>
     ensures same { IfOk result (λ v. v.items ≡ numbers.now) }
     ensures room { IfOk result (λ v. room ≤ vec_capacity v) }
 {

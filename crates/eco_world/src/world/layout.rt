@@ -12,6 +12,7 @@ use eco_answers::Asking;
 use eco_ids::{Id, Pattern};
 use eco_query::Query;
 use eco_store::{Tables, TypeTest};
+use eco_tables::TableSlot;
 use std::alloc::AllocError;
 
 impl World {
@@ -77,7 +78,7 @@ impl World {
 fn tables_in<'a>(
     world: &'a World,
     tables: &'a Tables,
-    slots: &[usize],
+    slots: &[TableSlot],
 ) -> Result<Vec<TableRows<'a>>, AllocError>
     requires { All (HasTable tables.now) slots.now }
     ensures all { IfOk result (λ found. listed found.items ≡ map (shown_at tables.now) slots.now) }

@@ -25,33 +25,35 @@ go_to-requires-clause-there c = there_as_typed _ c.in_ok-to.to _ c.in_ok-to.ensu
 pub go_to-requires-clause-room : goal.go_to-requires-clause-room
 go_to-requires-clause-room c = let two = c.in_ok-to.ensures.room in omega (arith, two)
 
-pub returns-in_err-to-clause-steps : goal.returns-in_err-to-clause-steps
-returns-in_err-to-clause-steps c =
+pub returns-in_err-to : goal.returns-in_err-to
+returns-in_err-to c =
     let p = err_from_is_err_and c.from_residual.result c.from_residual.ensures.1 in
     record {
-      laid = c.step_target.ensures.plans.laid;
-      ok = rw p.1 tt;
-      err = err_says c.from_residual.result (plans_seen c.args.self.now c.step_target.new.self c.step_target.ensures.plans);
+      steps = record {
+        laid = c.step_target.ensures.plans.laid;
+        ok = rw p.1 tt;
+        err = err_says c.from_residual.result (plans_seen c.args.self.now c.step_target.new.self c.step_target.ensures.plans);
+      };
+      kept = rw p.1 tt;
     }
 
-pub returns-clause-steps : goal.returns-clause-steps
-returns-clause-steps c =
+pub returns : goal.returns
+returns c =
     let l = c.args.self.now in
     let p = c.unwrap-place.result in
     let own = sym c.place_of.ensures ∙ c.unwrap-place.ensures in
     let had = subst AllHaveIds c.tables.ensures.same c.rows_have_ids.ensures in
     let m = c.step_target.new.self in
     record {
-      laid = c.go_to.ensures.carries.laid;
-      ok =
-          c.go_to.ensures.seen
-          ∙ goes_over l.entities l.archetypes c.args.step.0 p c.requires.laid.store own had (seen m) (table_in m.archetypes c.in_ok-to.to).ids
-          c.args.step.1 (plans_seen l m c.step_target.ensures.plans) (typed_table m.archetypes c.in_ok-to.to _ c.in_ok-to.ensures.typed);
-      err = tt;
+      steps = record {
+        laid = c.go_to.ensures.carries.laid;
+        ok =
+            c.go_to.ensures.seen
+            ∙ goes_over l.entities l.archetypes c.args.step.0 p c.requires.laid.store own had (seen m) (table_in m.archetypes c.in_ok-to.to).ids
+            c.args.step.1 (plans_seen l m c.step_target.ensures.plans) (typed_table m.archetypes c.in_ok-to.to _ c.in_ok-to.ensures.typed);
+        err = tt;
+      };
+      kept =
+          move_leaves l.archetypes m.archetypes c.go_to.new.self.archetypes c.args.kept c.in_ok-to.to m.staying.targets
+          c.in_ok-to.ensures.types c.in_ok-to.ensures.kept c.go_to.ensures.carries.admits (c.step_target.ensures.plans.targets c.args.kept c.requires.kept);
     }
-
-pub returns-clause-kept : goal.returns-clause-kept
-returns-clause-kept c =
-    let m = c.step_target.new.self in
-    move_leaves c.args.self.now.archetypes m.archetypes c.go_to.new.self.archetypes c.args.kept c.in_ok-to.to m.staying.targets
-    c.in_ok-to.ensures.types c.in_ok-to.ensures.kept c.go_to.ensures.carries.admits (c.step_target.ensures.plans.targets c.args.kept c.requires.kept)

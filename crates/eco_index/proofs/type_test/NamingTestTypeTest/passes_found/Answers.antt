@@ -1,6 +1,6 @@
 use Rattle.eco_index.specs.TypeTests.{type_names, naming}
 use Rattle.eco_index.proofs.TypeTests.{names_match, only_group}
-use Rattle.eco_index.proofs.type_test.NamingTypeTest.passes_found.Goals as goal
+use Rattle.eco_index.proofs.type_test.NamingTestTypeTest.passes_found.Goals as goal
 
 pub returns : goal.returns
 returns c =

@@ -9,15 +9,15 @@ use std::io;
 
 /// The components of ships. No call says how many fields they have.
 #[derive(Clone, Copy)]
-pub struct Terms {
+pub struct ShipComponents {
     pub position: TypedId<Position>,
     pub velocity: TypedId<Velocity>,
 }
 
-impl Terms {
+impl ShipComponents {
     /// Makes the components.
-    pub fn declare(world: &mut World) -> Result<Terms, Refusal> {
-        Ok(Terms {
+    pub fn declare(world: &mut World) -> Result<ShipComponents, Refusal> {
+        Ok(ShipComponents {
             position: TypedId::create(world, Some("Position"))?,
             velocity: TypedId::create(world, Some("Velocity"))?,
         })

@@ -109,7 +109,7 @@ impl Archetypes {
         ensures none { IfNone result ((n : ℕ) → type_at self.old n ≢ Some type_list.now) }
         ensures same { self.new ≡ self.old }
     {
-        if self.has_type(self.last, type_list) {
+        if self.has_type(self.last, type_list.as_slice()) {
             return Some(self.last);
         }
         self.look_up(type_list)
@@ -127,26 +127,26 @@ impl Archetypes {
         Some(slot)
     }
 
-    // Whether there is a table in the slot, of this type.
+    // Whether there is a table in the slot, whose type has just these ids.
     #[inline]
-    fn has_type(&self, slot: TableSlot, type_list: &TypeList) -> bool
-        ensures { IsTrue result ↔ (type_at self.now slot ≡ Some type_list.now) }
+    fn has_type(&self, slot: TableSlot, ids: &[Id]) -> bool
+        ensures { IsTrue result ↔ (type_at self.now slot ≡ Some ids.now) }
     {
         match self.tables.get(slot) {
-            Some(table) => are_same(table.type_list().as_slice(), type_list.as_slice()),
+            Some(table) => are_same(table.type_list().as_slice(), ids),
             None => false,
         }
     }
 
-    /// The slot of the table with a type, and how many rows it has, where that type was asked for last and one more row
-    /// fits without memory.
+    /// The slot of the table whose type has just these ids, and how many rows it has, where that type was asked for last and
+    /// one more row fits without memory.
     #[inline]
-    pub fn last_with_room(&self, type_list: &TypeList) -> Option<(TableSlot, usize)>
-        ensures typed { IfSome result (λ p. type_at self.now p.0 ≡ Some type_list.now) }
+    pub fn last_with_room(&self, ids: &[Id]) -> Option<(TableSlot, usize)>
+        ensures typed { IfSome result (λ p. type_at self.now p.0 ≡ Some ids.now) }
         ensures room { IfSome result (λ p. 0 < (table_in self.now p.0).room) }
         ensures row { IfSome result (λ p. p.1 ≡ length (table_in self.now p.0).rows) }
     {
-        if !self.has_type(self.last, type_list) {
+        if !self.has_type(self.last, ids) {
             return None;
         }
         let table = self.tables.get(self.last)?;

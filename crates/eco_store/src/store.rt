@@ -195,6 +195,7 @@ impl Store {
     /// Refused with `BadName` where the name is none, with `NameTaken` where a living entity has it, and with `NoMoreIds`
     /// where every index below the limit is in use or retired, in this order; then with `OutOfMemory` where memory is
     /// refused. A refusal changes nothing.
+    #[inline(always)]
     pub fn create(
         &mut self,
         name: Option<&str>,
@@ -204,27 +205,41 @@ impl Store {
         ensures step { CreatesRecord self.old.entities (option_copied name.entry) arity type_list.now
             result self.new.entities }
     {
-        // Most entities have no name, and are made one after another with the same ids.
-        if name.is_none() {
-            if let Some(entity) = self.create_in_room(arity, type_list) {
-                return Ok(entity);
-            }
+        // Who calls for an entity without ids mostly makes the list for this call alone: a branch of its own spares the list.
+        if type_list.as_slice().is_empty() {
+            return self.create_bare(name, arity);
         }
         self.create_at_length(name, arity, type_list)
     }
 
-    // What `create` does without a name, where that wants no memory and the type is the one that was asked for last; the answer
-    // is the entity. Else nothing changes.
+    // What `create` does without ids.
+    #[inline(never)]
+    fn create_bare(&mut self, name: Option<&str>, arity: Option<u8>) -> Result<Entity, Refusal>
+        ensures step { CreatesRecord self.old.entities (option_copied name.entry) arity []
+            result self.new.entities }
+    {
+        // Most entities have no name, and are made one after another.
+        if name.is_none() {
+            if let Some(entity) = self.create_in_room(arity) {
+                return Ok(entity);
+            }
+        }
+        let none = TypeList::empty(self.alloc);
+        self.create_at_length(name, arity, &none)
+    }
+
+    // What `create` does without a name and ids, where that wants no memory and the type without ids is the one that was asked for
+    // last; the answer is the entity. Else nothing changes.
     #[inline]
-    fn create_in_room(&mut self, arity: Option<u8>, type_list: &TypeList) -> Option<Entity>
+    fn create_in_room(&mut self, arity: Option<u8>) -> Option<Entity>
         ensures step { IfSome result (λ e.
-            CreatesRecord self.old.entities None arity type_list.now (Ok e) self.new.entities) }
+            CreatesRecord self.old.entities None arity [] (Ok e) self.new.entities) }
         ensures none { IfNone result (self.new ≡ self.old) }
     {
         // A place's row fits, as a table has no more rows than there are indices.
         self.layout.entities.rules();
         needs_never_grow();
-        let (table, row) = self.layout.archetypes.last_with_room(type_list)?;
+        let (table, row) = self.layout.archetypes.last_with_room(&[])?;
         let entity = self
             .layout
             .entities

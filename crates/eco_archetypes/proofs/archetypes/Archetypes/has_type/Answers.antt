@@ -1,4 +1,4 @@
-use Rattle.std.proofs.Common.{sym, ap, ◌∙◌, option_map}
+use Rattle.std.proofs.Common.{refl, sym, ap, ◌∙◌, option_map}
 use Rattle.std.specs.Option.{option_copied}
 use Rattle.eco_tables.specs.Table.{TableState}
 use Rattle.eco_index.proofs.TypeMaps.{type_decided}
@@ -7,7 +7,7 @@ use Rattle.eco_archetypes.proofs.archetypes.Archetypes.has_type.Goals as goal
 
 pub returns-in-Some : goal.returns-in-Some
 returns-in-Some c =
-    type_decided (type_at c.args.self.now c.args.slot) c.in-Some.table.now.ids c.args.type_list.now _ _ c.are_same.result
+    type_decided (type_at c.args.self.now c.args.slot) c.in-Some.table.now.ids c.args.ids.now _ _ c.are_same.result
     (ap (λ s. type_at s c.args.slot) (sym c.self.view_is)
     ∙ ap (option_map (λ (t : TableState). t.ids)) (sym c.get.ensures ∙ ap option_copied c.in-Some.is))
-    (c.as_slice.ensures.ids ∙ c.type_list.ensures.ids) c.as_slice-in-Some.ensures.ids c.are_same.ensures
+    (c.as_slice.ensures.ids ∙ c.type_list.ensures.ids) refl c.are_same.ensures

@@ -1,4 +1,4 @@
-use Rattle.std.proofs.Common.{Ok, None, refl, ap, subst, ◌∙◌}
+use Rattle.std.proofs.Common.{Ok, None, [], refl, ap, subst, ◌∙◌}
 use Rattle.eco_ids.specs.Births.{Makes}
 use Rattle.eco_ids.specs.Indices.{with_new}
 use Rattle.eco_entities.specs.Registration.{given_name, newcomer}
@@ -36,7 +36,7 @@ invariant_of-self-2 c =
     let fresh = newcomer None arity in
     let w1 = with_new w e fresh in
     let puts =
-    row_puts s s1 at e c.args.type_list.now (typed_table s n _ c.in_ok-table.ensures.typed) c.in_ok-table.ensures.row c.push_row.ensures.row in
+    row_puts s s1 at e [] (typed_table s n _ c.in_ok-table.ensures.typed) c.in_ok-table.ensures.row c.push_row.ensures.row in
     let is = c.in_ok-entity.ensures.some ∙ births.placed_new w e fresh at next in
     let slots = all_staying l.staying in
     record {
@@ -67,9 +67,9 @@ returns-clause-step c =
     let fresh = newcomer None arity in
     let w1 = with_new w e fresh in
     let puts =
-    row_puts s s1 at e c.args.type_list.now (typed_table s n _ c.in_ok-table.ensures.typed) c.in_ok-table.ensures.row c.push_row.ensures.row in
+    row_puts s s1 at e [] (typed_table s n _ c.in_ok-table.ensures.typed) c.in_ok-table.ensures.row c.push_row.ensures.row in
     let is = c.in_ok-entity.ensures.some ∙ births.placed_new w e fresh at next in
-    let child = newborn None arity c.args.type_list.now in
+    let child = newborn None arity [] in
     subst (λ v. Makes record_name v child (Ok e) (read c.create_in_room.new.self s1)) (ap (λ (x : StoreState). x.entities) c.self.view_is)
     (create_done (record_for (row_at s)) given_name record_name (λ a. refl) w fresh child refl w1 _ e (births.creates_unnamed w e arity next)
     (ap (λ v. read v s1) is ∙ births.created_read w w1 s s1 e at _ None arity c.self.invariant.laid.store puts next refl))

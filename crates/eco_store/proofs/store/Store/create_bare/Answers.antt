@@ -1,0 +1,18 @@
+use Rattle.std.proofs.Common.{[], List, subst, ◌∙◌}
+use Rattle.std.specs.Option.{option_copied}
+use Rattle.eco_ids.specs.declared.id.Id.{Id}
+use Rattle.eco_store.specs.Store.{CreatesRecord, StoreState}
+use Rattle.eco_store.proofs.store.Store.create_bare.Goals as goal
+use Rattle.eco_store.proofs.store.Store.create_bare.Goals.{then-is_none+in_default, else-is_none}
+
+pub returns : goal.returns
+returns c =
+    let step : StoreState → List Id → Type 0 = λ x ids.
+    CreatesRecord x.entities (option_copied c.args.name) c.args.arity ids c.create_at_length.result c.create_at_length.new.self.entities in
+    let done = subst (λ ids. step c.if-is_none.self ids) c.empty-none.ensures c.create_at_length.ensures.step in
+    record {
+      step = elim c.if-is_none.branch [
+        | then-is_none+in_default w ↦ subst (λ x. step x []) (w.self-is ∙ w.in_default.ensures.none) done
+        | else-is_none w ↦ subst (λ x. step x []) w.self-is done
+      ];
+    }

@@ -124,7 +124,6 @@ fn work_all<P: Piece + Sync, R: Threads + Sync>(
 }
 
 // What was found of the ends, after one more: the least refused piece with its refusal, and whether a worker had no memory.
-#[tactic(auto, using(crate::proofs::Stops::found_done, crate::proofs::Stops::found_full, crate::proofs::Stops::found_first))]
 fn found(least: Option<(u32, Refusal)>, full: bool, end: End) -> (Option<(u32, Refusal)>, bool)
     ensures { (ends : List End) → IsFound least full ends → IsFound result.0 result.1 (ends ++ end ∷ []) }
 {
@@ -145,7 +144,6 @@ fn found(least: Option<(u32, Refusal)>, full: bool, end: End) -> (Option<(u32, R
 }
 
 // Why the batch stops, if it does: the refusal of the least piece that was refused, or else want of memory for a piece.
-#[tactic(auto, using(crate::proofs::Stops::all_ended))]
 fn first_refusal(worked: &[Worked]) -> Option<Refusal>
     ensures none { IfNone result (All (λ w. w.end ≡ Done) worked.now) }
     ensures some { IfSome result (λ e. IsStop worked.now e) }

@@ -27,7 +27,6 @@ fn next_stage(alloc: Global, spare: &mut Vec<Stage>) -> Stage {
 }
 
 // Records a piece, with what the seat draws, into a stage whose memory serves again: what it held before goes.
-#[tactic(auto, using(crate::proofs::Drawn::broke_indices, crate::proofs::Drawn::is_stopped))]
 fn record<P: Piece>(mut stage: Stage, piece: &P, drawer: &mut Drawer<'_>) -> Result<Stage, Refusal>
     requires wet { is_dry drawer.old.seat ≡ false }
     ensures claim { drawer.new.seat.claim ≡ drawer.old.seat.claim }

@@ -1,14 +1,34 @@
 use Rattle.std.proofs.Common.{◌≡◌, List, length, length-append, [], ◌∷◌, ap, ◌∙◌, sym, subst, arith, rules}
 use Rattle.std.specs.List.{All}
 use Rattle.std.proofs.lemmas.List.{nil_from_length}
-use Rattle.std.proofs.lemmas.List.Elements.{All-push}
+use Rattle.std.proofs.lemmas.List.Elements.{All-push, All-nil}
 use Rattle.eco_workers.specs.Rounds.{IsSeatOf}
 use Rattle.eco_workers.proofs.Popped.{popped_all}
+use Rattle.eco_workers.specs.declared.seat.Seat.{Seat}
 use Rattle.eco_workers.specs.declared.worked.Worked.{Worked}
 use Rattle.eco_stages.specs.Taking.{by_index}
 use Rattle.eco_workers.specs.Workers.{IsWorked}
-use Rattle.eco_workers.proofs.Shared.{IsSearched, searched_more, searched_all}
+use Rattle.eco_workers.proofs.Shared.{IsSearched, searched_none, searched_more, searched_all}
 use Rattle.eco_workers.proofs.batch.all_seats.Goals as goal
+
+pub loop-one-init : goal.loop-one-init
+loop-one-init g c =
+    let none = c.requires.seats in
+    let seats = c.args.seats.items in
+    let worked = c.args.worked.items in
+    record {
+      count = omega (arith, ap length none);
+      room = omega (arith, c.requires.room, c.args.worked.ok);
+      left = c.requires.worked;
+      own = subst (All (IsSeatOf c.args.round.now)) (sym none) (All-nil (IsSeatOf c.args.round.now));
+      searched = searched_none (by_index g.P.Piece.commands) (by_index g.P.Piece.taken) c.args.pieces.now worked seats none;
+    }
+
+pub loop-one-smaller : goal.loop-one-smaller
+loop-one-smaller g c =
+    let rest = c.pop.new.self.items in
+    let one = c.in-Some.one in
+    omega (arith, ap length c.in-Some.ensures.items, length-append rest (one ∷ []))
 
 pub loop-one-preserved : goal.loop-one-preserved
 loop-one-preserved g c =
@@ -27,10 +47,15 @@ loop-one-preserved g c =
       count = omega (arith, n, m, i.count);
       room = search rules;
       left = p.0;
-      own = subst (All (IsSeatOf c.args.round.now)) (sym pushed) (All-push (IsSeatOf c.args.round.now) c.loop-one.seats.items one.seat i.own p.1.0);
+      own = subst (All (IsSeatOf c.args.round.now)) (sym {A = List Seat} pushed) (All-push (IsSeatOf c.args.round.now) c.loop-one.seats.items one.seat i.own p.1.0);
       searched = searched_more f t ps c.args.worked.items c.loop-one.worked.items rest
           c.loop-one.seats.items c.push_reserved.new.self.items one e pushed p.1.1 i.searched;
     }
+
+pub returns-clause-seats : goal.returns-clause-seats
+returns-clause-seats g c =
+    let i = c.loop-one.invariant in
+    (omega (arith, i.count, c.in_default.ensures.cases.0, c.loop-one.worked.ok, c.loop-one.seats.ok, c.args.worked.ok), i.own)
 
 pub returns-clause-shares : goal.returns-clause-shares
 returns-clause-shares g c =

@@ -1,19 +1,23 @@
-use Rattle.std.proofs.Common.{◌≡◌, ℕ, ◌≤◌, List, length, take, Option, subst, arith}
-use Rattle.std.specs.List.{All}
-use Rattle.std.proofs.lemmas.List.{take_all}
-use Rattle.eco_ids.specs.declared.refusal.Refusal.{Refusal}
-use Rattle.eco_workers.specs.declared.worked.Worked.{Worked}
-use Rattle.eco_workers.specs.declared.end.End.{End}
-use Rattle.eco_workers.specs.declared.end.End.TheVariants.{Done}
-use Rattle.eco_workers.specs.Workers.{ends_of, IsFound}
-use Rattle.eco_workers.proofs.Stops.{all_ended}
+use Rattle.std.proofs.Common.{take}
+use Rattle.eco_workers.specs.Workers.{ends_of}
+use Rattle.eco_workers.proofs.Stops.{found_none, found_more, stop_refused, stop_full, none_stopped}
 use Rattle.eco_workers.proofs.batch.first_refusal.Goals as goal
 
+pub loop-one-init : goal.loop-one-init
+loop-one-init c = found_none
+
+pub loop-one-preserved : goal.loop-one-preserved
+loop-one-preserved c = found_more c.args.worked.now c.loop-one.one-index c.one-item.result c.found.result.0 c.found.result.1 c.loop-one-test.true
+    c.one-item.is (c.found.ensures (ends_of (take c.loop-one.one-index c.args.worked.now)) c.loop-one.invariant)
+
+pub returns-in-Some-clause-some : goal.returns-in-Some-clause-some
+returns-in-Some-clause-some c = stop_refused c.args.worked.now c.loop-one.one-index c.loop-one.least c.loop-one.full (c.in-Some.field-0-0, c.in-Some.refusal)
+    c.loop-one-test.false c.in-Some.is c.loop-one.invariant
+
+pub returns-in-None-clause-some : goal.returns-in-None-clause-some
+returns-in-None-clause-some c = stop_full c.args.worked.now c.loop-one.one-index c.loop-one.least c.loop-one.full c.loop-one-test.false
+    c.in-None.is c.if-full.true c.loop-one.invariant
+
 pub returns-in-None-2-clause-none : goal.returns-in-None-2-clause-none
-returns-in-None-2-clause-none c =
-    let le : length c.args.worked.now ≤ c.loop-one.one-index = omega arith in
-    let whole = take_all c.loop-one.one-index c.args.worked.now le in
-    let P : Option (ℕ × Refusal) → Type 0 = λ o. IsFound o c.loop-one.full (ends_of (take c.loop-one.one-index c.args.worked.now)) in
-    let none = subst P c.in-None-2.is c.loop-one.invariant in
-    let Q : List Worked → Type 0 = λ ws. All (λ (d : End). d ≡ Done) (ends_of ws) in
-    all_ended c.args.worked.now (subst Q whole (none.2 c.if-full.false))
+returns-in-None-2-clause-none c = none_stopped c.args.worked.now c.loop-one.one-index c.loop-one.least c.loop-one.full c.loop-one-test.false
+    c.in-None-2.is c.if-full.false c.loop-one.invariant

@@ -7,7 +7,7 @@ ghost use Rattle.eco_ids.specs.declared.entity.TheConstants.{CHILD_OF};
 use eco_ids::{Entity, Id, Refusal};
 use eco_stages::{Command, Draws, Stage};
 use eco_workers::{Piece, run_batch};
-use std::alloc::{AllocError, Global};
+use std::alloc::Global;
 use std::sync::atomic::{AtomicU64, Ordering};
 use std::thread::Threads;
 
@@ -78,14 +78,18 @@ fn make_hundred<R: Threads + Sync>(
     Ok((stages.len(), drawn))
 }
 
+// Whether a limit of 105 has a handle for each piece, and one of 104 does not.
+fn last<R: Threads + Sync>(rt: &R, alloc: Global, workers: u32) -> bool
+    requires { (1 ≤ workers) × (workers ≤ 64) }
+{
+    make_hundred(rt, alloc, workers, 105) == Ok((100, 100))
+        && make_hundred(rt, alloc, workers, 104) == Err(Refusal::NoMoreIds)
+}
+
 #[test]
 fn handles_last_to_the_limit(rt: HostRuntime) {
     for workers in 1..5 {
-        assert_eq!(rt; make_hundred(&rt, rt.alloc(), workers, 105), Ok((100, 100)));
-        assert_eq!(rt;
-            make_hundred(&rt, rt.alloc(), workers, 104),
-            Err(Refusal::NoMoreIds)
-        );
+        assert!(rt; last(&rt, rt.alloc(), workers));
     }
 }
 
@@ -152,46 +156,48 @@ impl Piece for Twice<'_> {
     }
 }
 
-// The index that a command makes; 0, where it makes none.
-fn made_by(command: &Command) -> u32 {
+// Whether the command makes the entity of an index.
+fn makes(command: &Command, index: u32) -> bool {
     match command {
-        Command::Create(made) => made.index,
-        _ => 0,
+        Command::Create(made) => made.index == index,
+        _ => false,
     }
 }
 
-// The index that one of two commands makes; 0, where there are not two.
-fn made_at(commands: &[Command], place: usize) -> u32 {
+// Whether of two commands the one at a place makes the entity of an index.
+fn makes_at(commands: &[Command], place: usize, index: u32) -> bool {
     match commands.get(place) {
-        Some(command) if commands.len() == 2 => made_by(command),
-        _ => 0,
+        Some(command) => commands.len() == 2 && makes(command, index),
+        None => false,
     }
 }
 
-// Whether these are the indices that stages make by their commands at a place, in any order.
-fn make(
-    alloc: Global,
-    stages: &[Stage],
-    place: usize,
-    indices: &[u32],
-) -> Result<bool, AllocError> {
-    let mut made = Vec::with_capacity(alloc, stages.len())?;
+// Whether one of the stages makes the entity of an index by its command at a place.
+fn is_made(stages: &[Stage], place: usize, index: u32) -> bool {
     for stage in stages {
-        made.push(made_at(stage.commands(), place))?;
+        if makes_at(stage.commands(), place, index) {
+            return true;
+        }
     }
-    made.sort_unstable();
-    Ok(made.as_slice() == indices)
+    false
 }
 
-// Whether the stages of eight pieces make the eight indices from 5 on first, and then the next eight.
-fn make_in_turn(alloc: Global, stages: &[Stage]) -> Result<bool, AllocError> {
-    let are_first = make(alloc, stages, 0, &[5, 6, 7, 8, 9, 10, 11, 12])?;
-    let are_second = make(alloc, stages, 1, &[13, 14, 15, 16, 17, 18, 19, 20])?;
-    Ok(are_first && are_second)
+// Whether the eight indices from one on are made so.
+fn are_made(stages: &[Stage], place: usize, first: u32) -> bool {
+    let mut are_made = true;
+    for turn in 0..8 {
+        are_made &= is_made(stages, place, first.wrapping_add(turn));
+    }
+    are_made
+}
+
+// Whether eight stages make the eight indices from 5 on first, in any order, and then the next eight.
+fn make_in_turn(stages: &[Stage]) -> bool {
+    stages.len() == 8 && are_made(stages, 0, 5) && are_made(stages, 1, 13)
 }
 
 // Whether eight pieces draw in turn: none draws its second handle before all have drawn their first, and none waits in vain.
-fn draw_in_turn<R: Threads + Sync>(rt: &R, alloc: Global) -> Result<bool, Refusal> {
+fn draw_in_turn<R: Threads + Sync>(rt: &R, alloc: Global) -> bool {
     let drew = AtomicU64::new(0);
     let missed = AtomicU64::new(0);
     let piece = Twice {
@@ -200,16 +206,18 @@ fn draw_in_turn<R: Threads + Sync>(rt: &R, alloc: Global) -> Result<bool, Refusa
         drew: &drew,
         missed: &missed,
     };
-    let (stages, _) = run_batch(rt, alloc, Vec::new(alloc), &[piece; 8], 8, 5, 1_000)?;
-    Ok(make_in_turn(alloc, stages.as_slice())? && missed.load(Ordering::SeqCst) == 0)
+    match run_batch(rt, alloc, Vec::new(alloc), &[piece; 8], 8, 5, 1_000) {
+        Ok((stages, _)) => make_in_turn(&stages) && missed.load(Ordering::SeqCst) == 0,
+        Err(_) => false,
+    }
 }
 
 #[test]
 fn eight_workers_draw_in_turn(rt: HostRuntime) {
-    assert_eq!(rt; draw_in_turn(&rt, rt.alloc()), Ok(true));
+    assert!(rt; draw_in_turn(&rt, rt.alloc()));
 }
 
 #[test]
 fn workers_overlap(rt: HostRuntime) {
-    assert_eq!(rt; overlap(&rt, rt.alloc()), Ok(true));
+    assert!(rt; overlap(&rt, rt.alloc()) == Ok(true));
 }

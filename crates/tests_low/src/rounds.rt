@@ -5,6 +5,7 @@ ghost use Rattle.eco_workers.specs.Rounds.{IsNewSeatOf, IsSeatOf};
 use eco_ids::{Entity, Refusal};
 use eco_workers::{Round, Seat};
 use std::alloc::{AllocError, Global};
+use std::sync::atomic::{AtomicU64, Ordering};
 use std::thread;
 use std::thread::Threads;
 
@@ -56,56 +57,61 @@ fn two_seats_in_turn(rt: HostRuntime) {
     assert_eq!(rt; round.close(seats), (3, 2));
 }
 
-// What a seat claims until it is refused, of at most a thousand pieces.
-fn claimed_by(alloc: Global, round: &Round, seat: Seat) -> Result<Vec<u32>, AllocError>
+// Counts what a seat claims until it is refused, of at most a thousand pieces.
+fn claim_all(round: &Round, counts: &[AtomicU64], seat: Seat)
     requires { IsNewSeatOf round.now seat }
 {
     let mut seat = seat;
-    let mut numbers = Vec::new(alloc);
     for _ in 0..1000 {
         let Some(number) = round.claim(&mut seat) else {
             break;
         };
-        numbers.push(number)?;
+        if let Some(count) = counts.get(number as usize) {
+            count.fetch_add(1, Ordering::SeqCst);
+        }
     }
-    Ok(numbers)
 }
 
-// What eight threads claim of a thousand pieces, each until it is refused, in one list that ascends.
-fn claimed_by_eight<R: Threads + Sync>(rt: &R, alloc: Global) -> Result<Vec<u32>, Refusal> {
+// Counts what eight threads claim of a thousand pieces, each until it is refused.
+fn claim_by_eight<R: Threads + Sync>(
+    rt: &R,
+    alloc: Global,
+    counts: &[AtomicU64],
+) -> Result<(), Refusal> {
     let (round, seats) = Round::open(alloc, 0, 0, 1000, 8)?;
-    let lists = thread::map_vec(
+    thread::map_vec(
         rt,
         seats,
-        &|seat: Seat| -> Result<Vec<u32>, AllocError>
+        &|seat: Seat|
             requires { IsNewSeatOf round seat }
-        { claimed_by(alloc, &round, seat) },
+        { claim_all(&round, counts, seat) },
     )?;
-    let mut all = Vec::new(alloc);
-    for list in lists {
-        let mut numbers = list?;
-        all.append(&mut numbers)?;
-    }
-    all.sort()?;
-    Ok(all)
+    Ok(())
 }
 
-// Whether these are the numbers from 0 up to one.
-fn are_below(most: usize, numbers: &[u32]) -> bool {
-    let mut next = 0;
-    for number in numbers {
-        if *number != next {
+// A thousand counts of nothing.
+fn zeros(alloc: Global) -> Result<Vec<AtomicU64>, AllocError> {
+    let mut zeros = Vec::with_capacity(alloc, 1000)?;
+    for _ in 0..1000 {
+        zeros.push(AtomicU64::new(0))?;
+    }
+    Ok(zeros)
+}
+
+// Whether each count is one.
+fn are_ones(counts: &[AtomicU64]) -> bool {
+    for count in counts {
+        if count.load(Ordering::SeqCst) != 1 {
             return false;
         }
-        next = next.wrapping_add(1);
     }
-    numbers.len() == most
+    counts.len() == 1000
 }
 
 // Whether each of a thousand pieces is claimed once.
 fn claim_each_once<R: Threads + Sync>(rt: &R, alloc: Global) -> bool {
-    match claimed_by_eight(rt, alloc) {
-        Ok(all) => are_below(1000, all.as_slice()),
+    match zeros(alloc) {
+        Ok(counts) => claim_by_eight(rt, alloc, &counts).is_ok() && are_ones(&counts),
         Err(_) => false,
     }
 }

@@ -72,19 +72,18 @@ fn copied(alloc: Global, tables: &mut Tables) -> Result<Option<Value>, AllocErro
     }
 }
 
+// Whether a moved row has its value, and so has its copy.
+fn keep_values(alloc: Global) -> bool {
+    moved(alloc, &mut Tables::new(alloc)) == Ok(Some(WRITTEN))
+        && copied(alloc, &mut Tables::new(alloc)) == Ok(Some(WRITTEN))
+}
+
 #[test]
-fn a_copy_has_the_rows(rt: HostRuntime) {
-    assert_eq!(rt;
-        copied(rt.alloc(), &mut Tables::new(rt.alloc())),
-        Ok(Some(WRITTEN))
-    );
+fn rows_keep_their_values(rt: HostRuntime) {
+    assert!(rt; keep_values(rt.alloc()));
 }
 
 #[test]
 fn tables_get_room(rt: HostRuntime) {
-    assert_eq!(rt; filled(rt.alloc()), Ok(2));
-    assert_eq!(rt;
-        moved(rt.alloc(), &mut Tables::new(rt.alloc())),
-        Ok(Some(WRITTEN))
-    );
+    assert!(rt; filled(rt.alloc()) == Ok(2));
 }

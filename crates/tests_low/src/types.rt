@@ -20,33 +20,63 @@ fn first_ids(alloc: Global, count: u32) -> Result<TypeList, AllocError> {
     Ok(list)
 }
 
-// Puts a number at a list's copy.
-fn put(
-    numbers: &mut HashMap<TypeList, u32>,
-    list: &TypeList,
-    number: u32,
-) -> Result<(), AllocError> {
-    numbers.insert(list.try_copy()?, number)?;
-    Ok(())
+// Puts its length at the list of so many ids, and tells whether that was done.
+fn put(alloc: Global, numbers: &mut HashMap<TypeList, u32>, count: u32) -> bool {
+    match first_ids(alloc, count) {
+        Ok(list) => numbers.insert(list, count).is_ok(),
+        Err(_) => false,
+    }
 }
 
-// What a map finds for a list, and what for the list without its first id.
-fn find(numbers: &HashMap<TypeList, u32>, list: &TypeList) -> Result<[Option<u32>; 2], AllocError> {
-    let shorter = list.without(id(0))?;
-    Ok([numbers.get(list).copied(), numbers.get(&shorter).copied()])
+// Puts its length at each of eight lists.
+fn put_all(alloc: Global, numbers: &mut HashMap<TypeList, u32>) -> bool {
+    let mut are_put = true;
+    for count in 1..9 {
+        are_put &= put(alloc, numbers, count);
+    }
+    are_put
 }
 
-// What is found so where the number of a list's ids is put at it.
-fn found(alloc: Global, count: u32) -> Result<[Option<u32>; 2], AllocError> {
-    let list = first_ids(alloc, count)?;
+// Whether the number is found for a copy of the list.
+fn finds_copy(numbers: &HashMap<TypeList, u32>, list: &TypeList, count: u32) -> bool {
+    match list.try_copy() {
+        Ok(copy) => numbers.get(&copy).copied() == Some(count),
+        Err(_) => false,
+    }
+}
+
+// Whether nothing is found for the list without its first id.
+fn finds_no_shorter(numbers: &HashMap<TypeList, u32>, list: &TypeList) -> bool {
+    match list.without(id(0)) {
+        Ok(shorter) => numbers.get(&shorter).is_none(),
+        Err(_) => false,
+    }
+}
+
+// Whether it is so of the list of so many ids.
+fn is_found(alloc: Global, numbers: &HashMap<TypeList, u32>, count: u32) -> bool {
+    match first_ids(alloc, count) {
+        Ok(list) => finds_copy(numbers, &list, count) && finds_no_shorter(numbers, &list),
+        Err(_) => false,
+    }
+}
+
+// Whether it is so of each of the eight lists.
+fn are_found(alloc: Global, numbers: &HashMap<TypeList, u32>) -> bool {
+    let mut are_found = true;
+    for count in 1..9 {
+        are_found &= is_found(alloc, numbers, count);
+    }
+    are_found
+}
+
+// Whether all are put and found in a new map.
+fn serve(alloc: Global) -> bool {
     let mut numbers: HashMap<TypeList, u32> = HashMap::new(alloc);
-    put(&mut numbers, &list, count)?;
-    find(&numbers, &list)
+    put_all(alloc, &mut numbers) && are_found(alloc, &numbers)
 }
 
 #[test]
 fn types_serve_as_keys(rt: HostRuntime) {
-    for count in 1..9 {
-        assert_eq!(rt; found(rt.alloc(), count), Ok([Some(count), None]));
-    }
+    assert!(rt; serve(rt.alloc()));
 }

@@ -1,10 +1,10 @@
 -- The closure of an id where nothing that it brings brings more.
 use Rattle.std.proofs.Common.{◌≡◌, if◌then◌else◌, ℕ, ◌+◌, ◌<◌, Bool, true, false, ◌&&◌, ◌||◌, ◌⊎◌, inl, inr, List, [], ◌∷◌, length, take, get_or}
-use Rattle.std.proofs.Common.{refl, sym, ap, ◌∙◌, subst, true≢false, IsTrue, Option, Some, None}
+use Rattle.std.proofs.Common.{refl, sym, ap, ◌∙◌, subst, true≢false, IsTrue, Option, Some, None, is_some}
 use Rattle.std.specs.List.{list_any}
 use Rattle.std.proofs.Math.Bool.{or-false}
-use Rattle.std.proofs.lemmas.List.{take_more}
-use Rattle.std.proofs.lemmas.List.Folds.{list_any-append}
+use Rattle.std.proofs.lemmas.List.{map_more, take_more}
+use Rattle.std.proofs.lemmas.List.Folds.{list_any-append, list_any_at}
 use Rattle.eco_ids.specs.declared.entity.Entity.{Entity}
 use Rattle.eco_ids.specs.declared.entity.TheConstants.{WITH}
 use Rattle.eco_ids.specs.declared.id.Id.{Id}
@@ -19,7 +19,7 @@ use Rattle.eco_ids.proofs.Facts.{any_is, id_eq_is, id_eq_itself, or_left, or_par
 use Rattle.eco_ids.proofs.IdOrder.{id_cmp_total}
 use Rattle.eco_ids.proofs.Overlaps.{entity_eq_is, entity_eq_itself}
 use Rattle.eco_ids.proofs.SetLaws.{joins_with}
-use Rattle.eco_traits.specs.Closure.{BringNoMore, HasGiven, LacksWith, gives, head_of, with_head}
+use Rattle.eco_traits.specs.Closure.{BringNoMore, HasGiven, HasSameIds, LacksWith, gives, head_of, with_head, with_heads}
 use Rattle.eco_traits.specs.Target.{target_by_pair, type_of_entity}
 use Rattle.eco_traits.proofs.Closures.{closure_to_reach, own_head, reach_to_closure}
 use Rattle.eco_traits.specs.Prospect.{is_pair_of_with}
@@ -69,6 +69,46 @@ keeps_given i ids traits k d o l is has j =
     regroup false true c = refl
     regroup false false true = refl
     regroup false false false = refl
+
+-- a pair of With with a target is among the ids
+target_is_pair : (x : Entity) (own : Id) → target_by_pair WITH own ≡ Some x → is_pair_of_with own ≡ true
+target_is_pair x (One c) e = absurd (true≢false (sym (ap is_some e)))
+target_is_pair x (Two r t) e =
+    elim (entity_eq r WITH) as (λ b. (if b then Some t else None) ≡ Some x → b ≡ true) [
+      | true ↦ λ e. refl
+      | false ↦ λ e. absurd (true≢false (sym (ap is_some e)))
+    ] e
+
+pub none_without : (traits : List Id) (k : ℕ) (d : Id) (x : Entity) → k < length traits → target_by_pair WITH (get_or traits k d) ≡ Some x
+    → list_any is_pair_of_with traits ≡ false → ⊥
+none_without traits k d x l e none =
+    true≢false (sym (list_any_at is_pair_of_with traits k d l (target_is_pair x (get_or traits k d) e)) ∙ none)
+
+pub given_first : (i : Id) (empty ids : List Id) → empty ≡ [] → ids ≡ with_item id_cmp empty i → HasGiven ids i []
+given_first i empty ids none is j = ap (λ xs. has_item id_cmp xs j) (is ∙ ap (λ xs. with_item id_cmp xs i) none) ∙ joins_with id_cmp_total [] i j
+
+-- one head more is put in the place of the id's own
+pub keeps_heads : (i : Id) (ids new : List Id) (heads : List Entity) (k : ℕ) (d : Entity) → k < length heads
+    → new ≡ with_item id_cmp ids (with_head i (get_or heads k d))
+    → HasSameIds ids (with_heads i (take k heads)) → HasSameIds new (with_heads i (take (k + 1) heads))
+keeps_heads i ids new heads k d l is same j =
+    let y = with_head i (get_or heads k d) in
+    let before = with_heads i (take k heads) in
+    ap (λ xs. has_item id_cmp xs j) is ∙ joins_with id_cmp_total ids y j ∙ ap (λ b. id_eq y j || b) (same j) ∙ flip (id_eq y j) (has_item id_cmp before j)
+    ∙ ap (λ b. has_item id_cmp before j || b) (sym (or-false (id_eq y j)))
+    ∙ sym (ap (λ xs. has_item id_cmp xs j) (map_more (with_head i) heads k d l) ∙ list_any-append (λ z. id_eq z j) before (y ∷ []))
+  where
+    flip : (a b : Bool) → (a || b) ≡ (b || a)
+    flip true true = refl
+    flip true false = refl
+    flip false true = refl
+    flip false false = refl
+
+pub ascends_with : (ids new : List Id) (i : Id) → new ≡ with_item id_cmp ids i → IsTrue (is_ascending id_cmp ids) → IsTrue (is_ascending id_cmp new)
+ascends_with ids new i is up = subst (λ xs. IsTrue (is_ascending id_cmp xs)) (sym is) (ascending_with id_cmp_total ids i up)
+
+pub ascends_empty : (ids : List Id) → ids ≡ [] → IsTrue (is_ascending id_cmp ids)
+ascends_empty ids is = subst (λ xs. IsTrue (is_ascending id_cmp xs)) (sym is) refl
 
 -- where the entity has no pair of With, none is among its ids
 pub none_with : (w : WorldState) (i : Id) (traits : List Id) → Some traits ≡ type_of_entity w (head_of i) → LacksWith w (head_of i)

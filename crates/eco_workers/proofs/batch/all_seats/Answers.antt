@@ -47,7 +47,8 @@ loop-one-preserved g c =
       count = omega (arith, n, m, i.count);
       room = search rules;
       left = p.0;
-      own = subst (All (IsSeatOf c.args.round.now)) (sym {A = List Seat} pushed) (All-push (IsSeatOf c.args.round.now) c.loop-one.seats.items one.seat i.own p.1.0);
+      own = subst (All (IsSeatOf c.args.round.now)) (sym {A = List Seat} pushed)
+          (All-push (IsSeatOf c.args.round.now) c.loop-one.seats.items one.seat i.own p.1.0);
       searched = searched_more f t ps c.args.worked.items c.loop-one.worked.items rest
           c.loop-one.seats.items c.push_reserved.new.self.items one e pushed p.1.1 i.searched;
     }

@@ -1,12 +1,16 @@
-use Rattle.eco_ids.proofs.Common.{◌≡◌, [], Ok, Err, sym, refl, ap, ◌∙◌, inr, rules}
+use Rattle.eco_ids.proofs.Common.{◌≡◌, List, [], Ok, Err, sym, refl, ap, ◌∙◌, inl, inr}
+use Rattle.std.proofs.lemmas.Result.{err_from_is_err_and}
+use Rattle.eco_ids.specs.declared.refusal.Refusal.{Refusal}
+use Rattle.eco_query.specs.Queries.{QuerySlot}
 use Rattle.eco_grammar.specs.Reader.Points.{atom_view}
 use Rattle.eco_grammar.specs.Readings.{slots_of_written}
 use Rattle.eco_grammar.specs.Reader.Marks.{slots_from}
 use Rattle.eco_grammar.specs.declared.point.Mark.TheVariants.{Other, Slot}
 use Rattle.eco_grammar.specs.Reader.LastTerms.{last_of}
 use Rattle.eco_grammar.proofs.Stored.{some_of, some_of-more}
-use Rattle.eco_grammar.proofs.Built.{standing_at, other_known, other_unknown, last_known, last_unknown, standing_left, not_same, not_begin}
-use Rattle.eco_grammar.proofs.Kept.{id_kept, slot_kept, query_kept}
+use Rattle.eco_grammar.proofs.Built.{standing_first, standing_at, standing_end, atom_proper, last_proper}
+use Rattle.eco_grammar.proofs.Built.{other_known, other_unknown, last_known, last_unknown, standing_left, not_same, not_begin}
+use Rattle.eco_grammar.proofs.Kept.{first_kept, id_kept, slot_kept, query_kept}
 use Rattle.eco_grammar.proofs.build.build_query.Goals.{in-Same, in-Begin, in-Other+in_ok-id-in-Other+in_ok-push-in-Other}
 use Rattle.eco_grammar.proofs.build.build_query.Goals.{in-Slot+in_ok-last-in-Slot+in_ok-add_slot-in-Slot}
 use Rattle.eco_grammar.proofs.build.build_query.Goals as goal
@@ -19,7 +23,8 @@ returns-in_err-id-in-Other g c =
     let unknown : slots_of_written (g.N.Names.entity_named c.args.names.now) (slots_from [] c.args.marks.now) ≡ Err c.in_err-id-in-Other.field-0.0 =
     other_unknown _ c.args.marks.now xs _ _ c.in-Other.field-0 c.in-Other.atom c.in_err-id-in-Other.field-0.0 _ here
     (sym c.id.ensures ∙ c.in_err-id-in-Other.was) in
-    inr (rw unknown (search rules))
+    let p = err_from_is_err_and c.from_residual.result c.from_residual.ensures.1 in
+    inr (p.1 ∙ ap (λ (e : Refusal). Err e) p.2 ∙ sym unknown)
 
 pub returns-in_err-last-in-Slot : goal.returns-in_err-last-in-Slot
 returns-in_err-last-in-Slot g c =
@@ -30,7 +35,46 @@ returns-in_err-last-in-Slot g c =
     last_unknown _ c.args.marks.now xs _ _ c.in-Slot.access c.in-Slot.head c.in-Slot.atom c.in_err-last-in-Slot.field-0.0 _ here
     (ap (λ k. last_of (g.N.Names.entity_named c.args.names.now) c.in-Slot.head k (atom_view c.in-Slot.atom)) same ∙ sym c.last_term.ensures
     ∙ c.in_err-last-in-Slot.was) in
-    inr (rw unknown (search rules))
+    let p = err_from_is_err_and c.from_residual-in_err-last-in-Slot.result c.from_residual-in_err-last-in-Slot.ensures.1 in
+    inr (p.1 ∙ ap (λ (e : Refusal). Err e) p.2 ∙ sym unknown)
+
+pub returns-in_err-push-in-Other : goal.returns-in_err-push-in-Other
+returns-in_err-push-in-Other g c =
+    let p = err_from_is_err_and c.from_residual-in_err-push-in-Other.result c.from_residual-in_err-push-in-Other.ensures.1 in
+    inl (p.1 ∙ ap (λ (e : Refusal). Err e) p.2)
+
+pub returns-in_err-add_slot-in-Slot : goal.returns-in_err-add_slot-in-Slot
+returns-in_err-add_slot-in-Slot g c =
+    let p = err_from_is_err_and c.from_residual-in_err-add_slot-in-Slot.result c.from_residual-in_err-add_slot-in-Slot.ensures.1 in
+    inl (p.1 ∙ ap (λ (e : Refusal). Err e) (p.2 ∙ c.in_err-add_slot-in-Slot.ensures.memory))
+
+pub id-requires : goal.id-requires
+id-requires g c =
+    let (xs, same, s, r) = c.loop-mark.invariant in
+    atom_proper (g.N.Names.entity_named c.args.names.now) c.args.marks.now xs _ _ c.in-Other.field-0 c.in-Other.atom _
+    (standing_at _ c.args.marks.now xs _ _ c.loop-mark.mark-index (Other c.in-Other.field-0 c.in-Other.atom) s c.loop-mark-test.true c.in-Other.is)
+
+pub last_term-requires : goal.last_term-requires
+last_term-requires g c =
+    let (xs, same, s, r) = c.loop-mark.invariant in
+    last_proper (g.N.Names.entity_named c.args.names.now) c.args.marks.now xs _ _ c.in-Slot.access c.in-Slot.head c.in-Slot.atom _
+    (standing_at _ c.args.marks.now xs _ _ c.loop-mark.mark-index (Slot c.in-Slot.access c.in-Slot.head c.in-Slot.atom) s c.loop-mark-test.true
+    c.in-Slot.is)
+
+pub loop-mark-init : goal.loop-mark-init
+loop-mark-init g c = (
+  [],
+  refl,
+  rw (c.new-slots.ensures.items, c.new-group.ensures.items) (standing_first _ c.args.marks.now c.requires.whole c.requires.proper),
+  rw (c.new-slots.ensures.items, c.new-group.ensures.items) first_kept,
+)
+
+pub returns : goal.returns
+returns g c =
+    let (xs, same, s, r) = c.loop-mark.invariant in
+    inr (ap (λ (q : List QuerySlot). Ok q) c.of_slots.ensures
+    ∙ sym (standing_end (g.N.Names.entity_named c.args.names.now) c.args.marks.now xs _ c.loop-mark.group.items c.loop-mark.mark-index s
+    c.loop-mark-test.false))
 
 pub of_slots-requires : goal.of_slots-requires
 of_slots-requires g c =

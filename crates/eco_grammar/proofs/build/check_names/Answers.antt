@@ -1,10 +1,12 @@
-use Rattle.eco_ids.proofs.Common.{◌≡◌, [], Err, sym, refl, ap, ◌∙◌, rules}
+use Rattle.eco_ids.proofs.Common.{◌≡◌, [], Err, sym, refl, ap, ◌∙◌}
+use Rattle.std.proofs.lemmas.Result.{err_from_is_err_and}
 use Rattle.eco_grammar.specs.Reader.Points.{atom_view}
 use Rattle.eco_grammar.specs.Readings.{slots_of_written}
 use Rattle.eco_grammar.specs.Reader.Marks.{slots_from}
 use Rattle.eco_grammar.specs.declared.point.Mark.TheVariants.{Other, Slot}
 use Rattle.eco_grammar.specs.Reader.LastTerms.{last_of}
 use Rattle.eco_grammar.proofs.Stored.{some_of-more}
+use Rattle.eco_grammar.proofs.Built.{atom_proper, last_proper}
 use Rattle.eco_grammar.proofs.Built.{standing_first, standing_at, other_known, other_unknown, last_known, last_unknown, not_same, not_begin}
 use Rattle.eco_grammar.proofs.build.check_names.Goals.{in-Same, in-Begin, in-Other+in_ok-id-in-Other, in-Slot+in_ok-last_term-in-Slot}
 use Rattle.eco_grammar.proofs.build.check_names.Goals as goal
@@ -20,7 +22,8 @@ returns-in_err-id-in-Other-clause-unknown g c =
     let unknown : slots_of_written (g.N.Names.entity_named c.args.names.now) (slots_from [] c.args.marks.now) ≡ Err c.in_err-id-in-Other.field-0.0 =
     other_unknown _ c.args.marks.now xs ys group c.in-Other.field-0 c.in-Other.atom c.in_err-id-in-Other.field-0.0 _ here
     (sym c.id.ensures ∙ c.in_err-id-in-Other.was) in
-    rw unknown (search rules)
+    let p = err_from_is_err_and c.from_residual.result c.from_residual.ensures.1 in
+    rw (p.1, p.2) unknown
 
 pub returns-in_err-last_term-in-Slot-clause-unknown : goal.returns-in_err-last_term-in-Slot-clause-unknown
 returns-in_err-last_term-in-Slot-clause-unknown g c =
@@ -31,7 +34,29 @@ returns-in_err-last_term-in-Slot-clause-unknown g c =
     last_unknown _ c.args.marks.now xs ys group c.in-Slot.field-0 c.in-Slot.head c.in-Slot.atom c.in_err-last_term-in-Slot.field-0.0 _ here
     (ap (λ k. last_of (g.N.Names.entity_named c.args.names.now) c.in-Slot.head k (atom_view c.in-Slot.atom)) same ∙ sym c.last_term.ensures
     ∙ c.in_err-last_term-in-Slot.was) in
-    rw unknown (search rules)
+    let p = err_from_is_err_and c.from_residual-in_err-last_term-in-Slot.result c.from_residual-in_err-last_term-in-Slot.ensures.1 in
+    rw (p.1, p.2) unknown
+
+pub returns-in_err-id-in-Other-clause-known : goal.returns-in_err-id-in-Other-clause-known
+returns-in_err-id-in-Other-clause-known g c = let p = err_from_is_err_and c.from_residual.result c.from_residual.ensures.1 in rw p.1 tt
+
+pub returns-in_err-last_term-in-Slot-clause-known : goal.returns-in_err-last_term-in-Slot-clause-known
+returns-in_err-last_term-in-Slot-clause-known g c =
+    let p = err_from_is_err_and c.from_residual-in_err-last_term-in-Slot.result c.from_residual-in_err-last_term-in-Slot.ensures.1 in
+    rw p.1 tt
+
+pub id-requires : goal.id-requires
+id-requires g c =
+    let (xs, ys, group, same, s) = c.loop-mark.invariant in
+    atom_proper (g.N.Names.entity_named c.args.names.now) c.args.marks.now xs ys group c.in-Other.field-0 c.in-Other.atom _
+    (standing_at _ c.args.marks.now xs ys group c.loop-mark.mark-index (Other c.in-Other.field-0 c.in-Other.atom) s c.loop-mark-test.true c.in-Other.is)
+
+pub last_term-requires : goal.last_term-requires
+last_term-requires g c =
+    let (xs, ys, group, same, s) = c.loop-mark.invariant in
+    last_proper (g.N.Names.entity_named c.args.names.now) c.args.marks.now xs ys group c.in-Slot.field-0 c.in-Slot.head c.in-Slot.atom _
+    (standing_at _ c.args.marks.now xs ys group c.loop-mark.mark-index (Slot c.in-Slot.field-0 c.in-Slot.head c.in-Slot.atom) s c.loop-mark-test.true
+    c.in-Slot.is)
 
 pub loop-mark-preserved : goal.loop-mark-preserved
 loop-mark-preserved g c =

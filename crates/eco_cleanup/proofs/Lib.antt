@@ -5,6 +5,7 @@ pub mod Noted
 pub mod Objections
 pub mod OnlyFound
 pub mod OnlyHeld
+pub mod Pieces
 pub mod Planned
 pub mod Relationships
 pub mod Roles

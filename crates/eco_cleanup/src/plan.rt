@@ -1,5 +1,5 @@
 //! What a delete does, found before anything changes.
-ghost use Rattle.std.specs.Prelude.{◌≡◌, ◌++◌, List, IfOk, OnOk, IsTrue};
+ghost use Rattle.std.specs.Prelude.{◌≡◌, ◌++◌, ◌∷◌, [], List, Some, IfOk, OnOk, IsTrue};
 ghost use Rattle.eco_ids.specs.Cleanup.{names_any, IsDoomed as IsDoomedList};
 ghost use Rattle.eco_ids.specs.Order.{entity_cmp, has_item, id_cmp, is_ascending};
 ghost use Rattle.eco_ids.specs.declared.entity.Entity.{Entity as EntityData};
@@ -15,7 +15,7 @@ use crate::node::Node;
 use crate::ties::Ties;
 use eco_ids::{Entity, Id, Refusal, TypeList};
 use eco_store::TypeChange;
-use eco_tables::TableSlot;
+use eco_tables::{Table, TableSlot};
 use std::alloc::{AllocError, Global};
 
 /// Who dies, and the changes that take the ids which name the dead out of the types of the others.
@@ -125,11 +125,26 @@ impl Ties<'_> {
         ensures ascend { Ascend changes.old.items → OnOk result (Ascend changes.new.items) }
     {
         if let Some(table) = self.table(slot) {
-            let from = table.type_list().try_copy()?;
-            let to = self.spared(alloc, doomed, from.as_slice())?;
-            changes.push(TypeChange { from, to })?;
+            changes.push(self.change_of(alloc, doomed, table)?)?;
         }
         Ok(())
+    }
+
+    // The change of the type of a table.
+    #[inline(always)]
+    fn change_of(
+        &self,
+        alloc: Global,
+        doomed: &Doomed,
+        table: &Table,
+    ) -> Result<TypeChange, AllocError>
+        ensures change { IfOk result (λ c.
+            c ∷ [] ≡ change_in (taken_among self.now.places doomed.now.nodes.keys) (Some table.now)) }
+        ensures ascend { IfOk result (λ c. IsTrue (is_ascending id_cmp c.from)) }
+    {
+        let from = table.type_list().try_copy()?;
+        let to = self.spared(alloc, doomed, from.as_slice())?;
+        Ok(TypeChange { from, to })
     }
 
     // The list without the ids that name one who dies: the others one after another, so that its time grows little faster than

@@ -1,0 +1,13 @@
+use Rattle.std.proofs.Common.{map, sym, ap, ◌∙◌}
+use Rattle.std.proofs.lemmas.List.{map_more, take_all}
+use Rattle.eco_cleanup.specs.declared.node.Node.TheVariants.{Root}
+use Rattle.eco_cleanup.proofs.deleting.nodes_of.Goals as goal
+
+pub loop-entity-preserved : goal.loop-entity-preserved
+loop-entity-preserved c =
+    (rw c.loop-entity.invariant at c.in_ok-push.ensures.items) ∙ sym (map_more Root c.args.entities.now c.loop-entity.entity-index _ c.loop-entity-test.true)
+
+pub returns : goal.returns
+returns c =
+    c.loop-entity.invariant
+    ∙ ap (map Root) (take_all c.loop-entity.entity-index c.args.entities.now c.loop-entity-test.false)

@@ -1,0 +1,16 @@
+use Rattle.std.proofs.Common.{ap, ◌∙◌}
+use Rattle.std.proofs.lemmas.List.{take_all}
+use Rattle.eco_cleanup.specs.Nodes.{taken_among, taken_by}
+use Rattle.eco_cleanup.proofs.Pieces.{one_piece}
+use Rattle.eco_cleanup.proofs.ties.Ties.dead.Goals as goal
+
+pub loop-node-preserved : goal.loop-node-preserved
+loop-node-preserved c =
+    one_piece (taken_by c.args.self.now.places) c.as_slice-node-items.result.now c.loop-node.node-index _ _ _ c.loop-node-test.true
+    c.loop-node.invariant c.in_ok-append_taken.ensures
+
+pub returns : goal.returns
+returns c =
+    let items = c.as_slice-node-items.result.now in
+    c.loop-node.invariant ∙ ap (taken_among c.args.self.now.places)
+    (take_all c.loop-node.node-index items c.loop-node-test.false ∙ c.as_slice-node-items.ensures.keys)

@@ -1,10 +1,10 @@
 //! Why the program stopped.
 use eco_ids::Refusal;
-use std::alloc::{AllocError, AllocFailed};
+use std::alloc::AllocError;
 use std::{fmt, io};
 
 /// Why there are no more lines.
-#[derive(Drop)]
+#[derive(Clone, Copy)]
 pub enum Fault {
     /// The command line asks for nothing that there is.
     BadArguments,
@@ -45,12 +45,6 @@ impl From<Refusal> for Fault {
 
 impl From<AllocError> for Fault {
     fn from(_error: AllocError) -> Fault {
-        Fault::Refused(Refusal::OutOfMemory)
-    }
-}
-
-impl<T: Drop> From<AllocFailed<T>> for Fault {
-    fn from(_error: AllocFailed<T>) -> Fault {
         Fault::Refused(Refusal::OutOfMemory)
     }
 }

@@ -13,7 +13,7 @@ mod simulation;
 mod start;
 mod work;
 
-use arguments::{Asked, Choice, read_arguments};
+use arguments::{Choice, HELP};
 use case::{CASES, Case, tenths_for_one};
 use fault::Fault;
 use frames::{FRAME_CASES, FrameCase};
@@ -23,10 +23,10 @@ use std::thread::Threads;
 use std::time::Duration;
 use std::{env, io};
 
-// The words of the command line.
+// The words behind the program's name.
 fn words(rt: &HostRuntime) -> io::Result<Vec<String>> {
     let mut words = Vec::new(rt.alloc());
-    for word in env::args(rt)? {
+    for word in env::args(rt)?.skip(1) {
         words.push(word)?;
     }
     Ok(words)
@@ -127,32 +127,18 @@ fn print_cases<R: Print + Clock + Threads + Sync + AllocGlobal>(
 // Does what the words ask for.
 fn answer<R: Print + Clock + Threads + Sync + AllocGlobal>(
     rt: &R,
-    words: &[&str],
+    words: &[String],
 ) -> Result<(), Fault> {
-    match read_arguments(rt.alloc(), words)? {
-        Asked::Cases(choice) => print_cases(rt, &choice),
-        Asked::Help(text) => {
-            rt.print(&text)?;
-            Ok(())
-        }
+    match arguments::read(words) {
+        Some(choice) if choice.wants_help => Ok(rt.print(HELP)?),
+        Some(choice) => print_cases(rt, &choice),
+        None => Err(Fault::BadArguments),
     }
-}
-
-// Does what the command line asks for, of which these are the words.
-fn run<R: Print + Clock + Threads + Sync + AllocGlobal>(
-    rt: &R,
-    owned: &[String],
-) -> Result<(), Fault> {
-    let mut words = Vec::new(rt.alloc());
-    for word in owned {
-        words.push(word.as_str())?;
-    }
-    answer(rt, words.as_slice())
 }
 
 fn main(rt: HostRuntime) -> ExitCode {
     let outcome = match words(&rt) {
-        Ok(owned) => run(&rt, &owned),
+        Ok(words) => answer(&rt, words.as_slice()),
         Err(fault) => Err(Fault::from(fault)),
     };
     match outcome {

@@ -4,17 +4,17 @@ use Rattle.std.proofs.lemmas.List.{append-nil}
 use Rattle.std.specs.Io.KnownBytes.{Consumes, IsAtEnd}
 use Rattle.serde_json.specs.Data.{Data}
 use Rattle.serde_json.specs.Read.{read}
-use Rattle.eco_steps.specs.Script.{Script, IsScript, IsScriptData}
+use Rattle.eco_steps.specs.Script.{WrittenScript, IsScript, IsScriptData}
 use Rattle.eco_checker.specs.Told.{AreNoScript, AreScript}
 
-pub script_bytes : (bytes : List ℕ) (d : Data) → IsUtf8 bytes → read bytes ≡ Some d → ((s : Script) × IsScriptData d s) → (s : Script) × IsScript bytes s
+pub script_bytes : (bytes : List ℕ) (d : Data) → IsUtf8 bytes → read bytes ≡ Some d → ((s : WrittenScript) × IsScriptData d s) → (s : WrittenScript) × IsScript bytes s
 script_bytes bytes d utf8 at (s, is) = (s, (utf8, d, at, is))
 
-pub no_script_bytes : (bytes : List ℕ) (d : Data) → read bytes ≡ Some d → ((s : Script) → ¬ IsScriptData d s) → (s : Script) → ¬ IsScript bytes s
+pub no_script_bytes : (bytes : List ℕ) (d : Data) → read bytes ≡ Some d → ((s : WrittenScript) → ¬ IsScriptData d s) → (s : WrittenScript) → ¬ IsScript bytes s
 no_script_bytes bytes d at none s (utf8, v, is, of) = let q : v ≡ d = cc in none s (rw q at of)
 
 -- what is no JSON text is none
-pub no_text_bytes : (bytes : List ℕ) → (IsUtf8 bytes → read bytes ≡ None) → (s : Script) → ¬ IsScript bytes s
+pub no_text_bytes : (bytes : List ℕ) → (IsUtf8 bytes → read bytes ≡ None) → (s : WrittenScript) → ¬ IsScript bytes s
 no_text_bytes bytes none s (utf8, v, is, of) = let missing = none utf8 in cc
 
 -- what is said of the bytes that were read to the end is said of those that the reader had
@@ -22,13 +22,13 @@ read_whole : (xs ys bytes : List ℕ) → Consumes (Some xs) (Some ys) bytes →
 read_whole xs ys bytes p q = p ∙ ap (λ t. bytes ++ t) q ∙ append-nil bytes
 
 pub script_to_end : (left after : Option (List ℕ)) (bytes : List ℕ) → Consumes left after bytes → IsAtEnd after
-    → ((s : Script) × IsScript bytes s) → AreScript left
+    → ((s : WrittenScript) × IsScript bytes s) → AreScript left
 script_to_end None after bytes p q h = tt
 script_to_end (Some xs) None bytes p q h = absurd p
 script_to_end (Some xs) (Some ys) bytes p q h = rw (read_whole xs ys bytes p q) h
 
 pub none_to_end : (left after : Option (List ℕ)) (bytes : List ℕ) → Consumes left after bytes → IsAtEnd after
-    → ((s : Script) → ¬ IsScript bytes s) → AreNoScript left
+    → ((s : WrittenScript) → ¬ IsScript bytes s) → AreNoScript left
 none_to_end None after bytes p q h = tt
 none_to_end (Some xs) None bytes p q h = absurd p
 none_to_end (Some xs) (Some ys) bytes p q h = rw (read_whole xs ys bytes p q) h

@@ -5,7 +5,7 @@ use Rattle.std.proofs.lemmas.List.Elements.{Contains-append_cases, Contains-appe
 use Rattle.serde_json.specs.Data.{Data}
 use Rattle.eco_ids.specs.declared.edition.Edition.{Edition}
 use Rattle.eco_steps.specs.Decode.{step_in}
-use Rattle.eco_steps.specs.Steps.{Step, IsStepData}
+use Rattle.eco_steps.specs.Steps.{WrittenStep, IsStepData}
 use Rattle.eco_steps.proofs.Decodes.{step_found, step_is}
 use Rattle.eco_checker.specs.Faults.{numbers_without, unless_found}
 use Rattle.eco_checker.specs.Laws.{AreThoseOfNoStep}
@@ -66,17 +66,17 @@ module _ {A : Type 0} (find : Data → Option A) where
       behind m q (find d) (numbers_without find (m + 1) ds) (listed (m + 1) ds n q (omega arith) there)
 
 module _ (edition : Edition) where
-  none_means : (d : Data) → step_in edition d ≡ None → (s : Step) → ¬ IsStepData edition d s
+  none_means : (d : Data) → step_in edition d ≡ None → (s : WrittenStep) → ¬ IsStepData edition d s
   none_means d none s is = let found = step_found edition d s is in cc
 
-  means_none : (d : Data) → ((s : Step) → ¬ IsStepData edition d s) → step_in edition d ≡ None
+  means_none : (d : Data) → ((s : WrittenStep) → ¬ IsStepData edition d s) → step_in edition d ≡ None
   means_none d never = cases (step_in edition d) refl where
-    cases : (o : Option Step) → step_in edition d ≡ o → o ≡ None
+    cases : (o : Option WrittenStep) → step_in edition d ≡ o → o ≡ None
     cases None at = refl
     cases (Some s) at = absurd (never s (step_is edition d s at))
 
   no_step_at : (ds : List Data) (n k : ℕ) → n ≡ 0 + k → Lacks (step_in edition) ds k
-      → (d : Data) × (slice_get ds n ≡ Some d) × ((s : Step) → ¬ IsStepData edition d s)
+      → (d : Data) × (slice_get ds n ≡ Some d) × ((s : WrittenStep) → ¬ IsStepData edition d s)
   no_step_at ds n k is (d, at, none) =
       let same : n ≡ k = omega arith in (d, ap (λ i. slice_get ds i) same ∙ at, none_means d none)
 

@@ -6,8 +6,8 @@ use Rattle.serde_json.specs.Data.{Data}
 use Rattle.eco_ids.specs.declared.edition.Edition.{Edition}
 use Rattle.eco_ids.specs.declared.edition.Edition.TheVariants.{Second}
 use Rattle.eco_steps.specs.Decode.{Parts, each_in, limit_in, list_in, parts_in, parts_of, parts_with, step_in, version_in}
-use Rattle.eco_steps.specs.Script.{Script, IsScriptData}
-use Rattle.eco_steps.specs.Steps.{Step}
+use Rattle.eco_steps.specs.Script.{WrittenScript, IsScriptData}
+use Rattle.eco_steps.specs.Steps.{WrittenStep}
 use Rattle.eco_steps.proofs.Decodes.{no_parts, no_steps, script_is}
 use Rattle.eco_checker.specs.Faults.{edition_in, first_edition, items_in, numbers_without, third_items, unless_found}
 
@@ -70,21 +70,21 @@ numbers_by_parts d edition l items e =
 
 -- no fault, no other value
 pub script_without : (d : Data) → is_some (parts_in d) ≡ true → numbers_without (step_in (edition_in d)) 0 (items_in d) ≡ []
-    → (s : Script) × IsScriptData d s
+    → (s : WrittenScript) × IsScriptData d s
 script_without d = parted (parts_in d) refl where
   parted : (o : Option Parts) → parts_in d ≡ o → is_some o ≡ true → numbers_without (step_in (edition_in d)) 0 (items_in d) ≡ []
-      → (s : Script) × IsScriptData d s
+      → (s : WrittenScript) × IsScriptData d s
   parted None is some none = cc
   parted (Some (edition, l, items)) is some none =
       let (ss, are) = all_found (step_in edition) 0 items (sym (numbers_by_parts d edition l items is) ∙ none) in
       (record { edition = edition; limit = l; steps = ss }, script_is d edition l items ss is are)
 
 -- a script, no fault
-pub none_of_script : (d : Data) (s : Script) → IsScriptData d s
+pub none_of_script : (d : Data) (s : WrittenScript) → IsScriptData d s
     → (is_some (parts_in d) ≡ true) × (numbers_without (step_in (edition_in d)) 0 (items_in d) ≡ [])
 none_of_script d s is = parted (parts_in d) refl where
   stepped : (edition : Edition) (l : ℕ) (items : List Data) → parts_in d ≡ Some (edition, l, items)
-      → (o : Option (List Step)) → each_in (step_in edition) items ≡ o → numbers_without (step_in (edition_in d)) 0 (items_in d) ≡ []
+      → (o : Option (List WrittenStep)) → each_in (step_in edition) items ≡ o → numbers_without (step_in (edition_in d)) 0 (items_in d) ≡ []
   stepped edition l items at None e = absurd (no_steps d edition l items at e s is)
   stepped edition l items at (Some ss) e = numbers_by_parts d edition l items at ∙ none_left (step_in edition) 0 items ss e
 

@@ -1,6 +1,6 @@
 -- What a check tells of the bytes that it read.
 use Rattle.std.specs.Prelude.{ℕ, List, codes, Option, Some, None, ⊤}
-use Rattle.eco_steps.specs.Script.{Script, IsScript}
+use Rattle.eco_steps.specs.Script.{WrittenScript, IsScript}
 
 -- what is written where the bytes are a script
 abbrev pub script_line : List ℕ
@@ -11,9 +11,9 @@ script_line = codes "is a script\n"
 -- they are a script
 abbrev pub AreScript : Option (List ℕ) → Type 0
 AreScript None = ⊤
-AreScript (Some bytes) = (s : Script) × IsScript bytes s
+AreScript (Some bytes) = (s : WrittenScript) × IsScript bytes s
 
 -- they are none
 abbrev pub AreNoScript : Option (List ℕ) → Type 0
 AreNoScript None = ⊤
-AreNoScript (Some bytes) = (s : Script) → ¬ IsScript bytes s
+AreNoScript (Some bytes) = (s : WrittenScript) → ¬ IsScript bytes s

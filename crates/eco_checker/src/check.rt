@@ -2,7 +2,7 @@
 
 ghost use Rattle.std.specs.Prelude.{◌≡◌, ◌++◌, true, false, IfOk, string_bytes};
 ghost use Rattle.serde_json.specs.View.{view};
-ghost use Rattle.eco_steps.specs.Script.{Script, IsScript, IsScriptData};
+ghost use Rattle.eco_steps.specs.Script.{WrittenScript, IsScript, IsScriptData};
 ghost use Rattle.eco_checker.specs.Told.{script_line};
 
 use crate::faults::Faults;
@@ -12,8 +12,8 @@ use std::alloc::{AllocError, Global};
 
 // Whether a value is a script. Adds the line that says so, or a line for each of its faults.
 fn check_value(alloc: Global, value: &Value, text: &mut String) -> Result<bool, AllocError>
-    ensures script { IfOk result (λ is. is ≡ true → (s : Script) × IsScriptData (view value.now) s) }
-    ensures none { IfOk result (λ is. is ≡ false → (s : Script) → ¬ IsScriptData (view value.now) s) }
+    ensures script { IfOk result (λ is. is ≡ true → (s : WrittenScript) × IsScriptData (view value.now) s) }
+    ensures none { IfOk result (λ is. is ≡ false → (s : WrittenScript) → ¬ IsScriptData (view value.now) s) }
     ensures line { IfOk result (λ is. is ≡ true
         → string_bytes text.new ≡ string_bytes text.old ++ script_line) }
 {
@@ -29,8 +29,8 @@ fn check_value(alloc: Global, value: &Value, text: &mut String) -> Result<bool, 
 /// Whether some bytes are a script. Adds the line `is a script`, or a line for each of their faults and their number.
 #[tactic(auto, using(crate::proofs::Bytes::script_bytes, crate::proofs::Bytes::no_script_bytes, crate::proofs::Bytes::no_text_bytes))]
 pub fn check_bytes(alloc: Global, bytes: &[u8], text: &mut String) -> Result<bool, AllocError>
-    ensures script { IfOk result (λ is. is ≡ true → (s : Script) × IsScript bytes.now s) }
-    ensures none { IfOk result (λ is. is ≡ false → (s : Script) → ¬ IsScript bytes.now s) }
+    ensures script { IfOk result (λ is. is ≡ true → (s : WrittenScript) × IsScript bytes.now s) }
+    ensures none { IfOk result (λ is. is ≡ false → (s : WrittenScript) → ¬ IsScript bytes.now s) }
     ensures line { IfOk result (λ is. is ≡ true
         → string_bytes text.new ≡ string_bytes text.old ++ script_line) }
 {

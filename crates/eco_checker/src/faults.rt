@@ -1,9 +1,9 @@
 //! What keeps a value from being a script.
 
-ghost use Rattle.std.specs.Prelude.{◌≡◌, ◌↔◌, true, [], is_some, map, unwrap_or, IfOk, IsTrue};
+ghost use Rattle.std.specs.Prelude.{◌≡◌, ◌↔◌, [], is_some, map, unwrap_or, IfOk, IsTrue};
 ghost use Rattle.serde_json.specs.View.{view};
 ghost use Rattle.eco_steps.specs.Decode.{list_in, parts_in, step_in};
-ghost use Rattle.eco_steps.specs.Script.{Script, IsScriptData};
+ghost use Rattle.eco_steps.specs.Script.{WrittenScript, IsScriptData};
 ghost use Rattle.eco_checker.specs.Faults.{edition_in, items_in, numbers_without};
 
 use crate::search::steps_not_read;
@@ -75,8 +75,8 @@ impl<'a> Faults<'a> {
         ensures items { IfOk result (λ f. map view f.items.now ≡ items_in (view value.now)) }
         ensures steps { IfOk result (λ f. f.steps.items
             ≡ numbers_without (step_in (edition_in (view value.now))) 0 (items_in (view value.now))) }
-        ensures script { IfOk result (λ f. IsClean f → (s : Script) × IsScriptData (view value.now) s) }
-        ensures none { IfOk result (λ f. (s : Script) → IsScriptData (view value.now) s → IsClean f) }
+        ensures script { IfOk result (λ f. IsClean f → (s : WrittenScript) × IsScriptData (view value.now) s) }
+        ensures none { IfOk result (λ f. (s : WrittenScript) → IsScriptData (view value.now) s → IsClean f) }
     {
         let has_head = has_parts(value);
         let edition = steps_edition(value);

@@ -6,7 +6,7 @@ ghost use Rattle.eco_steps.specs.Decode.{action_in, command_in, step_in};
 ghost use Rattle.eco_checker.specs.Faults.{numbers_without};
 
 use eco_ids::Edition;
-use eco_steps::{Action, Command, Step};
+use eco_steps::{WrittenAction, WrittenCommand, WrittenStep};
 use serde_json::Value;
 use std::alloc::{AllocError, Global};
 
@@ -20,7 +20,7 @@ pub fn steps_not_read(
 {
     let mut numbers = Vec::new(alloc);
     for (number, value) in values.iter().enumerate() {
-        if Step::read(edition, value).is_none() {
+        if WrittenStep::read(edition, value).is_none() {
             numbers.push(number)?;
         }
     }
@@ -37,7 +37,7 @@ pub fn commands_not_read(
 {
     let mut numbers = Vec::new(alloc);
     for (number, value) in values.iter().enumerate() {
-        if Command::read(edition, value).is_none() {
+        if WrittenCommand::read(edition, value).is_none() {
             numbers.push(number)?;
         }
     }
@@ -54,7 +54,7 @@ pub fn actions_not_read(
 {
     let mut numbers = Vec::new(alloc);
     for (number, value) in values.iter().enumerate() {
-        if Action::read(edition, value).is_none() {
+        if WrittenAction::read(edition, value).is_none() {
             numbers.push(number)?;
         }
     }

@@ -4,7 +4,7 @@ use crate::reasons::reason;
 use crate::texts::{Texts, texts_of_action, texts_of_command, texts_of_step};
 use eco_grammar::{Names, read_id, read_query, read_ref};
 use eco_ids::{Edition, Refusal};
-use eco_steps::{Actions, Commands, Stages, Step};
+use eco_steps::{Actions, Commands, Stages, WrittenStep};
 use std::alloc::{AllocError, Global};
 
 // The first of some texts that is refused where it is read.
@@ -72,10 +72,14 @@ fn unread_of_actions<'a, N: Names>(
 }
 
 // The first text of a step that is refused where it is read.
-fn unread_of_step<'a, N: Names>(alloc: Global, names: &N, step: &Step<'a>) -> Option<&'a str> {
+fn unread_of_step<'a, N: Names>(
+    alloc: Global,
+    names: &N,
+    step: &WrittenStep<'a>,
+) -> Option<&'a str> {
     match *step {
-        Step::Merge { stages, .. } => unread_of_stages(alloc, names, stages),
-        Step::System { actions, .. } => match unread(alloc, names, texts_of_step(step)) {
+        WrittenStep::Merge { stages, .. } => unread_of_stages(alloc, names, stages),
+        WrittenStep::System { actions, .. } => match unread(alloc, names, texts_of_step(step)) {
             Some(text) => Some(text),
             None => unread_of_actions(alloc, names, actions),
         },
@@ -103,7 +107,7 @@ fn reserved<'a, N: Names>(names: &N, texts: Texts<'a>) -> Option<&'a str> {
 fn meant<'a, N: Names>(
     alloc: Global,
     names: &N,
-    step: &Step<'a>,
+    step: &WrittenStep<'a>,
     refusal: &Refusal,
 ) -> Option<&'a str> {
     let texts = texts_of_step(step);
@@ -140,7 +144,7 @@ pub fn push_meaning<N: Names>(
     alloc: Global,
     text: &mut String,
     names: &N,
-    step: &Step<'_>,
+    step: &WrittenStep<'_>,
     refusal: &Refusal,
 ) -> Result<(), AllocError> {
     if let Some(meant) = meant(alloc, names, step, refusal) {

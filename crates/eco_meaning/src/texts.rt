@@ -1,6 +1,6 @@
 //! The texts of steps.
 
-use eco_steps::{Action, Command, Step};
+use eco_steps::{WrittenAction, WrittenChange, WrittenCommand, WrittenStep};
 
 /// The texts of a step: what is read as a reference, as an id and as a query, and a name.
 #[derive(Clone, Copy)]
@@ -58,46 +58,52 @@ impl<'a> Texts<'a> {
 }
 
 /// The texts of a step that stand in it alone, and not in its stages or actions.
-pub fn texts_of_step<'a>(step: &Step<'a>) -> Texts<'a> {
+pub fn texts_of_step<'a>(step: &WrittenStep<'a>) -> Texts<'a> {
     match *step {
-        Step::Create(name) => Texts::none().with_name(name),
-        Step::Component { name, .. } => Texts::none().with_name(Some(name)),
-        Step::Add { entity, id }
-        | Step::Remove { entity, id }
-        | Step::Set { entity, id, .. }
-        | Step::Has { entity, id }
-        | Step::Get { entity, id } => Texts::of_both(entity, id),
-        Step::Clear { entity } | Step::Delete { entity } | Step::Show { entity } => {
+        WrittenStep::Create(name) => Texts::none().with_name(name),
+        WrittenStep::Component { name, .. } => Texts::none().with_name(Some(name)),
+        WrittenStep::Change(change) => texts_of_change(change),
+        WrittenStep::Has { entity, id } | WrittenStep::Get { entity, id } => {
+            Texts::of_both(entity, id)
+        }
+        WrittenStep::Show { entity } => Texts::of_entity(entity),
+        WrittenStep::Query { text } | WrittenStep::Cache { text } => Texts::of_query(text),
+        WrittenStep::System { name, query, .. } => Texts::of_query(query).with_name(Some(name)),
+        WrittenStep::List
+        | WrittenStep::Cached { .. }
+        | WrittenStep::Merge { .. }
+        | WrittenStep::Frame => Texts::none(),
+    }
+}
+
+// The texts of a change.
+fn texts_of_change<'a>(change: WrittenChange<'a>) -> Texts<'a> {
+    match change {
+        WrittenChange::Add { entity, id }
+        | WrittenChange::Remove { entity, id }
+        | WrittenChange::Set { entity, id, .. } => Texts::of_both(entity, id),
+        WrittenChange::Clear { entity } | WrittenChange::Delete { entity } => {
             Texts::of_entity(entity)
         }
-        Step::Rename { entity, name } => Texts::of_entity(entity).with_name(name),
-        Step::RemoveAll { id } | Step::DeleteWith { id } => Texts::of_id(id),
-        Step::Query { text } | Step::Cache { text } => Texts::of_query(text),
-        Step::System { name, query, .. } => Texts::of_query(query).with_name(Some(name)),
-        Step::List | Step::Cached { .. } | Step::Merge { .. } | Step::Frame => Texts::none(),
+        WrittenChange::Rename { entity, name } => Texts::of_entity(entity).with_name(name),
+        WrittenChange::DeleteWith { id } | WrittenChange::RemoveAll { id } => Texts::of_id(id),
     }
 }
 
 /// The texts of a command.
-pub fn texts_of_command<'a>(command: Command<'a>) -> Texts<'a> {
+pub fn texts_of_command<'a>(command: WrittenCommand<'a>) -> Texts<'a> {
     match command {
-        Command::Add { entity, id }
-        | Command::Remove { entity, id }
-        | Command::Set { entity, id, .. } => Texts::of_both(entity, id),
-        Command::Create { handle: entity }
-        | Command::Clear { entity }
-        | Command::Rename { entity, .. }
-        | Command::Delete { entity } => Texts::of_entity(entity),
-        Command::DeleteWith { id } | Command::RemoveAll { id } => Texts::of_id(id),
+        WrittenCommand::Create { handle } => Texts::of_entity(handle),
+        WrittenCommand::Change(change) => texts_of_change(change),
     }
 }
 
 /// The texts of an action.
-pub fn texts_of_action<'a>(action: Action<'a>) -> Texts<'a> {
+pub fn texts_of_action<'a>(action: WrittenAction<'a>) -> Texts<'a> {
     match action {
-        Action::Add { id } | Action::Remove { id } | Action::Spawn { id: Some(id) } => {
-            Texts::of_id(id)
-        }
+        WrittenAction::Add { id }
+        | WrittenAction::Remove { id }
+        | WrittenAction::Spawn { id: Some(id) } => { Texts::of_id(id) }
         _ => Texts::none(),
     }
 }

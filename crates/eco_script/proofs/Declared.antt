@@ -88,7 +88,7 @@ shaped s name phase slots acts writes kills n p q a w k =
     ∙ ap (λ x. shape name phase slots x s.body.writes.items s.body.kills) a
     ∙ ap (λ x. shape name phase slots acts x s.body.kills) w ∙ ap (λ x. shape name phase slots acts writes x) k
 
-module _ (w : WorldState) (old : List (System Script)) (name : List ℕ) (phase : Phase) (text : List ℕ) (acts : List texts.Action) where
+module _ (w : WorldState) (old : List (System Script)) (name : List ℕ) (phase : Phase) (text : List ℕ) (acts : List texts.WrittenAction) where
   -- one of the texts was refused, or memory was wanting
   pub refused_system : (why : Refusal) → (IsFalse (is_out_of_memory {A = NamedSystem} (Err why)) → ReadsSystem (reached w old) name phase text acts (Err why))
       → DeclaresSystem (reached w old) name phase text acts (Err why) (reached w old)

@@ -23,14 +23,14 @@ use Rattle.eco_grammar.specs.Readings.{Reads, ReadsInMemory, ReadsOnce, entity_o
 use Rattle.eco_systems.specs.declared.phase.Phase.{Phase}
 use Rattle.eco_bodies.specs.declared.action.Action.{Action}
 use Rattle.eco_script.specs.Laws.{is_frame}
-use Rattle.eco_script.specs.Recording.{MakesOfNamed, ReadsAction, ReadsActions, ReadsCommand, ReadsCommands, ReadsEach, has_stages}
+use Rattle.eco_script.specs.Recording.{MakesOfNamed, ReadsAction, ReadsActions, ReadsChange, ReadsCommand, ReadsCommands, ReadsEach, has_stages}
 use Rattle.eco_script.specs.References.{ReadsBoth, ReadsEntity, ReadsId, ReadsQuery}
-use Rattle.eco_script.specs.Replies.{Reply, done, merged, shown, replied, with_declared, AnswersAdded, Calls, DeclaresSystem, On, OnCommands, OnEntity, OnId}
+use Rattle.eco_script.specs.Replies.{Reply, done, merged, shown, replied, with_declared, AnswersAdded, Calls, Changes, DeclaresSystem, On, OnCommands, OnEntity, OnId}
 use Rattle.eco_script.specs.Replies.{OnQuery, ReadsSystem}
 use Rattle.eco_script.specs.Replies.{Replies, StepReplies, Then}
 use Rattle.eco_script.specs.States.{NamedSystem, ScriptState}
 use Rattle.eco_steps.specs.Actions as texts
-use Rattle.eco_steps.specs.Commands.{WrittenCommand}
+use Rattle.eco_steps.specs.Commands.{WrittenChange, WrittenCommand}
 use Rattle.eco_steps.specs.Commands as command
 use Rattle.eco_steps.specs.Steps as step
 use Rattle.eco_stages.specs.Outcomes.{Outcomes}
@@ -67,14 +67,14 @@ calls_once Call reply one r q new other f g (x, c, is) (y, d, at) =
     (is ∙ ap (replied reply) same ∙ sym at, end)
 
 -- where a reading was refused for want of memory, so was the step
-wanted_none : {A : Type 0} (w : WorldState) (Goes : A → Result Reply Refusal → WorldState → Type 0) (r : Result Reply Refusal) (new : WorldState)
+wanted_none : {A B : Type 0} (w : WorldState) (Goes : A → Result B Refusal → WorldState → Type 0) (r : Result B Refusal) (new : WorldState)
     → IsFalse (is_out_of_memory r) → (n : Result A Refusal) → MatchResult n (λ x. Goes x r new) (λ why. Refuses why w r new) → n ≡ Err OutOfMemory → ⊥
 wanted_none w Goes r new f n c none =
     let (a, b) = subst (λ k. MatchResult k (λ x. Goes x r new) (λ why. Refuses why w r new)) none c in
     true≢false (sym (ap is_out_of_memory a) ∙ f)
 
 -- a text that is read in one way at most, where memory is never wanting for it
-on_once : {A : Type 0} (Reads : Result A Refusal → Type 0) (w : WorldState) (Goes : A → Result Reply Refusal → WorldState → Type 0)
+on_once : {A B : Type 0} (Reads : Result A Refusal → Type 0) (w : WorldState) (Goes : A → Result B Refusal → WorldState → Type 0)
     → ((n m : Result A Refusal) → n ≢ Err OutOfMemory → m ≢ Err OutOfMemory → Reads n → Reads m → n ≡ m)
     → ((x : A) → Once (Goes x)) → Once (On Reads w Goes)
 on_once {A} Reads w Goes one goes r q new other f g (n, p, c) (m, h, d) =
@@ -179,21 +179,24 @@ module _ (l : Laws) where
     both_once e i n m (x, y, p, q, is) (u, v, h, k, at) =
         is ∙ ap (λ a. ok_both (λ s t. (s, t)) a y) (entity_once e x u p h) ∙ ap (λ b. ok_both (λ s t. (s, t)) u b) (id_once i y v q k) ∙ sym at
 
+    change_once : (c : WrittenChange) (r q : Result run.Command Refusal) → ReadsChange w c r → ReadsChange w c q → r ≡ q
+    change_once (command.add e i) = names_once _ _ (both_once e i)
+    change_once (command.remove e i) = names_once _ _ (both_once e i)
+    change_once (command.set e i v) = names_once _ _ (both_once e i)
+    change_once (command.clear e) = names_once _ _ (entity_once e)
+    change_once (command.rename e name) = names_once _ _ (entity_once e)
+    change_once (command.delete e) = names_once _ _ (entity_once e)
+    change_once (command.delete_with i) = names_once _ _ (id_once i)
+    change_once (command.remove_all i) = names_once _ _ (id_once i)
+
     command_once : (c : WrittenCommand) (r q : Result run.Command Refusal) → ReadsCommand w c r → ReadsCommand w c q → r ≡ q
     command_once (command.create e) = names_once _ _ (entity_once e)
-    command_once (command.add e i) = names_once _ _ (both_once e i)
-    command_once (command.remove e i) = names_once _ _ (both_once e i)
-    command_once (command.set e i v) = names_once _ _ (both_once e i)
-    command_once (command.clear e) = names_once _ _ (entity_once e)
-    command_once (command.rename e name) = names_once _ _ (entity_once e)
-    command_once (command.delete e) = names_once _ _ (entity_once e)
-    command_once (command.delete_with i) = names_once _ _ (id_once i)
-    command_once (command.remove_all i) = names_once _ _ (id_once i)
+    command_once (command.change c) = change_once c
 
     commands_once : (cs : List WrittenCommand) (r q : Result (List run.Command) Refusal) → ReadsCommands w cs r → ReadsCommands w cs q → r ≡ q
     commands_once = each_once (ReadsCommand w) command_once
 
-    action_once : (a : texts.Action) (r q : Result Action Refusal) → ReadsAction w a r → ReadsAction w a q → r ≡ q
+    action_once : (a : texts.WrittenAction) (r q : Result Action Refusal) → ReadsAction w a r → ReadsAction w a q → r ≡ q
     action_once (texts.add i) = names_once _ _ (id_once i)
     action_once (texts.remove i) = names_once _ _ (id_once i)
     action_once (texts.put slot v) = λ r q is at. is ∙ sym at
@@ -202,7 +205,7 @@ module _ (l : Laws) where
     action_once (texts.spawn None) = λ r q is at. is ∙ sym at
     action_once (texts.spawn (Some i)) = names_once _ _ (id_once i)
 
-    actions_once : (acts : List texts.Action) (r q : Result (List Action) Refusal) → ReadsActions w acts r → ReadsActions w acts q → r ≡ q
+    actions_once : (acts : List texts.WrittenAction) (r q : Result (List Action) Refusal) → ReadsActions w acts r → ReadsActions w acts q → r ≡ q
     actions_once = each_once (ReadsAction w) action_once
 
     merges_once : (n : ℕ) (cs : List run.Command) (may : Bool) (x y : Result Outcomes Refusal) (new other : WorldState)
@@ -238,12 +241,10 @@ module _ (l : Laws) where
 
 module _ (l : Laws) (w : WorldState) where
   on_entity : (text : List ℕ) (Goes : Entity → Result Reply Refusal → WorldState → Type 0) → ((x : Entity) → Once (Goes x)) → Once (OnEntity w text Goes)
-  unfolding ReadsEntity
-  on_entity text Goes goes = on_once (ReadsEntity w text) w Goes (λ n m _ _. l.refs (lookup w) text n m) goes
+  on_entity text Goes = on_once (ReadsEntity w text) w Goes (λ n m _ _. entity_once l w text n m)
 
   on_id : (text : List ℕ) (Goes : Id → Result Reply Refusal → WorldState → Type 0) → ((x : Id) → Once (Goes x)) → Once (OnId w text Goes)
-  unfolding ReadsId
-  on_id text Goes goes = on_once (ReadsId w text) w Goes (λ n m _ _. l.ids (lookup w) text n m) goes
+  on_id text Goes = on_once (ReadsId w text) w Goes (λ n m _ _. id_once l w text n m)
 
   on_query : (text : List ℕ) (Goes : List QuerySlot → Result Reply Refusal → WorldState → Type 0) → ((q : List QuerySlot) → Once (Goes q))
       → Once (OnQuery w text Goes)
@@ -265,17 +266,12 @@ module _ (l : Laws) (w : WorldState) where
   added_once None r q new other f g (a, b) (c, d) = (a ∙ sym c, b ∙ sym d)
   added_once (Some slots) r q new other f g p h = meets_once _ _ w (answers_once _ w) r q new other f g p h
 
-  replies_once : (s : step.Step) → OnceInMemory (Replies w s)
+  replies_once : (s : step.WrittenStep) → OnceInMemory (Replies w s)
   replies_once (step.create name) = plainly _ (meets _ _ _ (l.create name w))
   replies_once (step.component name n) = plainly _ (meets _ _ _ (l.component (Some name) n w))
-  replies_once (step.add e i) = plainly _ (on_entity e _ (λ x. on_id i _ (λ y. meets _ _ _ (l.add x y w))))
-  replies_once (step.remove e i) = plainly _ (on_entity e _ (λ x. on_id i _ (λ y. meets _ _ _ (l.remove x y w))))
-  replies_once (step.set e i v) = plainly _ (on_entity e _ (λ x. on_id i _ (λ y. meets _ _ _ (l.set x y v w))))
-  replies_once (step.clear e) = plainly _ (on_entity e _ (λ x. meets _ _ _ (l.clear x w)))
-  replies_once (step.remove_all i) = plainly _ (on_id i _ (λ y. meets _ _ _ (l.remove_all y w)))
-  replies_once (step.delete e) = plainly _ (on_entity e _ (λ x. meets _ _ _ (l.delete x w)))
-  replies_once (step.delete_with i) = plainly _ (on_id i _ (λ y. meets _ _ _ (l.delete_with y w)))
-  replies_once (step.rename e name) = plainly _ (on_entity e _ (λ x. meets _ _ _ (l.rename x name w)))
+  replies_once (step.change c) =
+      plainly _ (calls_once (Changes w c) (λ _. done) (on_once (ReadsChange w c) w _ (λ n m _ _. change_once l w c n m)
+      (λ x. meets_once (run.Applies x w) (run.may_want x w) w (applies_once l x w))))
   replies_once (step.has e i) = plainly _ (on_entity e _ (λ x. on_id i _ (λ y. answered _)))
   replies_once (step.get e i) = plainly _ (on_entity e _ (λ x. on_id i _ (λ y. answered _)))
   replies_once (step.show e) = plainly _ (on_entity e _ (λ x. show_once x (is_alive w x)))
@@ -307,7 +303,7 @@ module _ (l : Laws) (s : ScriptState) where
         same (Ok x) c d = goes x r q f g c d
         same (Err why) a b = a ∙ sym b
 
-  system_once : (name : List ℕ) (phase : Phase) (text : List ℕ) (acts : List texts.Action) (r q : Result NamedSystem Refusal)
+  system_once : (name : List ℕ) (phase : Phase) (text : List ℕ) (acts : List texts.WrittenAction) (r q : Result NamedSystem Refusal)
       → IsFalse (is_out_of_memory r) → IsFalse (is_out_of_memory q)
       → ReadsSystem s name phase text acts r → ReadsSystem s name phase text acts q → r ≡ q
   unfolding ReadsQuery
@@ -316,7 +312,7 @@ module _ (l : Laws) (s : ScriptState) where
       (λ slots. then_once (ReadsActions s.world acts) _ (λ n m _ _ a b. actions_once l s.world acts n m a b)
       (λ named r q _ _ is at. is ∙ sym at))
 
-  declares_once : (name : List ℕ) (phase : Phase) (text : List ℕ) (acts : List texts.Action) → Once (DeclaresSystem s name phase text acts)
+  declares_once : (name : List ℕ) (phase : Phase) (text : List ℕ) (acts : List texts.WrittenAction) → Once (DeclaresSystem s name phase text acts)
   declares_once name phase text acts r q new other f g p h =
       let (x, one, is, a) = rw f at p in
       let (y, two, at, b) = rw g at h in
@@ -329,22 +325,22 @@ module _ (l : Laws) (s : ScriptState) where
       ap (λ w. let c : ScriptState = record { world = w; systems = a.systems } in c) p
       ∙ ap (λ ds. let c : ScriptState = record { world = b.world; systems = ds } in c) q
 
-  world_once : (t : step.Step) → OnceInMemory (λ r (new : ScriptState). Replies s.world t r new.world × (new.systems ≡ s.systems))
+  world_once : (t : step.WrittenStep) → OnceInMemory (λ r (new : ScriptState). Replies s.world t r new.world × (new.systems ≡ s.systems))
   world_once t r q new other f g (p, a) (h, b) =
       let (same, end) = replies_once l s.world t r q new.world other.world f g p h in (same, same_state new other end (a ∙ sym b))
 
-  step_once : (t : step.Step) → IsFalse (is_frame t) → OnceInMemory (StepReplies s t)
+  step_once : (t : step.WrittenStep) → IsFalse (is_frame t) → OnceInMemory (StepReplies s t)
   step_once (step.system name phase text acts) plain = plainly _ (declares_once name phase text acts)
   step_once step.frame plain = absurd (true≢false plain)
   step_once t plain = world_once t
 
-  does_once : (t : step.Step) (a b : List ℕ) (m n : ScriptState) → IsFalse (is_frame t) → DoesInMemory s t a m → DoesInMemory s t b n
+  does_once : (t : step.WrittenStep) (a b : List ℕ) (m n : ScriptState) → IsFalse (is_frame t) → DoesInMemory s t a m → DoesInMemory s t b n
       → (a ≡ b) × (m ≡ n)
   does_once t a b m n plain (r, p, f, e) (q, h, g, k) =
       let (same, end) = step_once t plain r q m n f g p h in
       (e ∙ ap (λ v. step_lines v.world r) end ∙ ap (step_lines n.world) same ∙ sym k, end)
 
-pub text_once : (l : Laws) (s : ScriptState) (ss : List step.Step) (t u : List ℕ) (e f : ScriptState) → IsFalse (list_any is_frame ss)
+pub text_once : (l : Laws) (s : ScriptState) (ss : List step.WrittenStep) (t u : List ℕ) (e f : ScriptState) → IsFalse (list_any is_frame ss)
     → TextInMemory s ss t e → TextInMemory s ss u f → (t ≡ u) × (e ≡ f)
 text_once l s [] t u e f plain (p, q) (h, k) = (p ∙ sym h, q ∙ sym k)
 text_once l s (x ∷ xs) t u e f plain (a, rest, m, d, more, p) (b, other, n, g, less, h) =
@@ -353,6 +349,6 @@ text_once l s (x ∷ xs) t u e f plain (a, rest, m, d, more, p) (b, other, n, g,
     let (same, end) = text_once l m xs rest other e f others more (subst (λ v. TextInMemory v xs other f) (sym mid) less) in
     (p ∙ ap (λ v. v ++ rest) first ∙ ap (λ v. b ++ v) same ∙ sym h, end)
 
-pub text_may_be : (s : ScriptState) (ss : List step.Step) (t : List ℕ) (e : ScriptState) → TextInMemory s ss t e → Text s ss t e
+pub text_may_be : (s : ScriptState) (ss : List step.WrittenStep) (t : List ℕ) (e : ScriptState) → TextInMemory s ss t e → Text s ss t e
 text_may_be s [] t e h = h
 text_may_be s (x ∷ xs) t e (a, rest, m, (r, p, f, is), more, h) = (a, rest, m, (r, p, is), text_may_be m xs rest e more, h)

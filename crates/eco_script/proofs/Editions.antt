@@ -64,7 +64,7 @@ module _ (w : WorldState) where
   calls_keeps : {A : Type 0} (Call : Result A Refusal → WorldState → Type 0) (reply : A → Reply) → Keeps w Call → Keeps w (Calls Call reply)
   calls_keeps Call reply keeps r new (x, c, is) = keeps x new c
 
-  on_keeps : {A : Type 0} (Reads : Result A Refusal → Type 0) (Goes : A → Result Reply Refusal → WorldState → Type 0)
+  on_keeps : {A B : Type 0} (Reads : Result A Refusal → Type 0) (Goes : A → Result B Refusal → WorldState → Type 0)
       → ((x : A) → Keeps w (Goes x)) → Keeps w (On Reads w Goes)
   on_keeps Reads Goes keeps r new (Ok x, is, g) = keeps x r new g
   on_keeps Reads Goes keeps r new (Err why, is, g) = edition_of new w g.1
@@ -117,10 +117,6 @@ module _ (w : WorldState) where
   command_keeps : (c : run.Command) → Keeps w (Meets (run.Applies c w) (run.may_want c w) w)
   command_keeps c = meets_keeps (run.Applies c w) (run.may_want c w) (applies_keeps c)
 
-  -- a command of a stage, as a step of its own
-  call_keeps : (c : run.Command) (reply : Unit {0} → Reply) → Keeps w (Calls (Meets (run.Applies c w) (run.may_want c w) w) reply)
-  call_keeps c reply = calls_keeps _ reply (command_keeps c)
-
   show_keeps : (alive : Bool) (x : Reply) (why : Refusal) → Keeps w (λ r new. MatchBool alive (Answers x w r new) (Refuses why w r new))
   show_keeps true x why r new h = edition_of new w h.1
   show_keeps false x why r new h = edition_of new w h.1
@@ -143,18 +139,11 @@ merge_keeps w n cs r new =
       | false ↦ λ h. edition_of new w h.1
     ]
 
-replies_keep : (w : WorldState) (s : step.Step) → Keeps w (Replies w s)
+replies_keep : (w : WorldState) (s : step.WrittenStep) → Keeps w (Replies w s)
 replies_keep w (step.create name) = calls_keeps w _ _ (meets_keeps w _ _ (entities_keep w (λ v. Makes (λ r. r.name) v (bare name))))
 replies_keep w (step.component name n) =
     calls_keeps w _ _ (meets_keeps w _ _ (entities_keep w (λ v. Makes (λ r. r.name) v (component_record (Some name) n))))
-replies_keep w (step.add e i) = on_keeps w _ _ (λ x. on_keeps w _ _ (λ y. call_keeps w (run.Add x y) _))
-replies_keep w (step.remove e i) = on_keeps w _ _ (λ x. on_keeps w _ _ (λ y. call_keeps w (run.Remove x y) _))
-replies_keep w (step.set e i v) = on_keeps w _ _ (λ x. on_keeps w _ _ (λ y. call_keeps w (run.Set x y v) _))
-replies_keep w (step.clear e) = on_keeps w _ _ (λ x. call_keeps w (run.Clear x) _)
-replies_keep w (step.remove_all i) = on_keeps w _ _ (λ y. call_keeps w (run.RemoveAll y) _)
-replies_keep w (step.delete e) = on_keeps w _ _ (λ x. call_keeps w (run.Delete x) _)
-replies_keep w (step.delete_with i) = on_keeps w _ _ (λ y. call_keeps w (run.DeleteWith y) _)
-replies_keep w (step.rename e name) = on_keeps w _ _ (λ x. call_keeps w (run.Rename x name) _)
+replies_keep w (step.change c) = calls_keeps w _ _ (on_keeps w _ _ (command_keeps w))
 replies_keep w (step.has e i) = on_keeps w _ _ (λ x. on_keeps w _ _ (λ y. answers_keeps w _))
 replies_keep w (step.get e i) = on_keeps w _ _ (λ x. on_keeps w _ _ (λ y. answers_keeps w _))
 replies_keep w (step.show e) = on_keeps w _ _ (λ x. show_keeps w (is_alive w x) (shown x) _)
@@ -194,7 +183,7 @@ met Step may old r new = elim (is_out_of_memory r) as (λ b. MatchBool b (IsTrue
 ]
 
 -- a system is declared, or refused
-abbrev Declared : ScriptState → List ℕ → Phase → List ℕ → List texts.Action → Result Reply Refusal → ScriptState → Type 0
+abbrev Declared : ScriptState → List ℕ → Phase → List ℕ → List texts.WrittenAction → Result Reply Refusal → ScriptState → Type 0
 Declared s name phase text actions r new =
     (d : Result NamedSystem Refusal) × ReadsSystem s name phase text actions d × (r ≡ replied (λ _. done) d) × (new ≡ with_declared s d)
 
@@ -202,14 +191,14 @@ declared_world : (s : ScriptState) (d : Result NamedSystem Refusal) → (with_de
 declared_world s (Ok system) = refl
 declared_world s (Err why) = refl
 
-declares_keep : (name : List ℕ) (phase : Phase) (text : List ℕ) (actions : List texts.Action) (s : ScriptState) (r : Result Reply Refusal)
+declares_keep : (name : List ℕ) (phase : Phase) (text : List ℕ) (actions : List texts.WrittenAction) (s : ScriptState) (r : Result Reply Refusal)
     (new : ScriptState) → (new ≡ s) ⊎ Declared s name phase text actions r new → new.world.edition ≡ s.world.edition
 declares_keep name phase text actions s r new (inl is) = ap (λ (t : ScriptState). t.world.edition) is
 declares_keep name phase text actions s r new (inr (d, reads, says, is)) =
     ap (λ (t : ScriptState). t.world.edition) is ∙ edition_of (with_declared s d).world s.world (declared_world s d)
 
 -- a step of a script, whichever it is
-pub step_keeps : (s : step.Step) (old : ScriptState) (r : Result Reply Refusal) (new : ScriptState) → StepReplies old s r new
+pub step_keeps : (s : step.WrittenStep) (old : ScriptState) (r : Result Reply Refusal) (new : ScriptState) → StepReplies old s r new
     → new.world.edition ≡ old.world.edition
 step_keeps (step.system name phase text actions) old r new h =
     declares_keep name phase text actions old r new (met (Declared old name phase text actions) true old r new h)

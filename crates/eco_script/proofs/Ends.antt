@@ -22,16 +22,20 @@ use Rattle.eco_ids.specs.Step.{unfit_set, unfit_actor, unfit_rename, changed, wi
 use Rattle.eco_ids.specs.Builtin.{is_builtin, is_builtins}
 use Rattle.eco_ids.specs.Data.{arity, fits}
 use Rattle.eco_ids.specs.declared.value.Value.{Value}
+use Rattle.eco_ids.specs.Run as run
 use Rattle.eco_ids.specs.Terms.{QueryTerm}
 use Rattle.eco_ids.specs.World.{WorldState, has, names_living, is_alive, living, entities, with_entities}
 use Rattle.eco_grammar.specs.Grammar.{SpellsId, SpellsQuery, SpellsRef}
 use Rattle.eco_query.specs.Queries.{QuerySlot}
-use Rattle.eco_grammar.specs.Readings.{ReadsAll, entity_of_placed, id_of, query_of}
+use Rattle.eco_grammar.specs.Readings.{ReadsAll, entity_of_placed, id_of, ok_both, query_of}
 use Rattle.eco_frame.specs.declared.stop.FrameStop.{FrameStop}
 use Rattle.eco_script.specs.States.{ScriptState}
-use Rattle.eco_script.specs.References.{ReadsEntity, ReadsId, ReadsQuery}
+use Rattle.eco_script.specs.Recording.{MakesOfNamed}
+use Rattle.eco_script.specs.References.{ReadsBoth, ReadsEntity, ReadsId, ReadsQuery}
 use Rattle.eco_script.specs.Replies.{Reply, truth, got, shown, listed, found, merged, stopped, replied, AnswersAdded, Calls, On, OnEntity, OnId, OnQuery}
-use Rattle.eco_script.specs.Replies.{Replies, StepReplies}
+use Rattle.eco_script.specs.Replies.{Changes, Replies, StepReplies}
+use Rattle.eco_steps.specs.Commands.{WrittenChange}
+use Rattle.eco_steps.specs.Commands as change
 use Rattle.eco_steps.specs.Steps as step
 use Rattle.eco_script.specs.Text.{Does, step_lines}
 use Rattle.eco_script.specs.Values.{shown_value}
@@ -154,7 +158,7 @@ added_ends w (Some slots) = (Ok (found (answer w slots)), w, (refl, refl))
 calls_end : {A : Type 0} (Call : Result A Refusal → WorldState → Type 0) (reply : A → Reply) → Ends Call → Ends (Calls Call reply)
 calls_end Call reply (x, new, c) = (replied reply x, new, (x, c, refl))
 
-on_ends : {A : Type 0} (Reads : Result A Refusal → Type 0) (w : WorldState) (Goes : A → Result Reply Refusal → WorldState → Type 0)
+on_ends : {A B : Type 0} (Reads : Result A Refusal → Type 0) (w : WorldState) (Goes : A → Result B Refusal → WorldState → Type 0)
     → ((n : Result A Refusal) × Reads n) → ((x : A) → Ends (Goes x)) → Ends (On Reads w Goes)
 on_ends Reads w Goes (Ok x, is) goes = let (r, new, g) = goes x in (r, new, (Ok x, is, g))
 on_ends Reads w Goes (Err why, is) goes = (Err why, w, (Err why, is, (refl, refl)))
@@ -166,7 +170,7 @@ empty_merge_ends w n true e =
 empty_merge_ends w n false e = (Err NoMoreIds, w, (Ok [], refl, (Err NoMoreIds, rw e (refl, refl), refl)))
 
 -- a step on the world alone
-of_world : (old : ScriptState) (s : step.Step) → Ends (Replies old.world s)
+of_world : (old : ScriptState) (s : step.WrittenStep) → Ends (Replies old.world s)
     → Ends (λ r (new : ScriptState). Replies old.world s r new.world × (new.systems ≡ old.systems))
 of_world old s (r, new, p) = (r, record { world = new; systems = old.systems }, (p, refl))
 
@@ -189,6 +193,30 @@ module _ (texts : TextsRead) where
   unfolding ReadsQuery
   reads_query w text = let (n, is) = texts.queries (lookup w) text in (n, inl is)
 
+  -- a change whose texts were read in some way
+  module _ (w : WorldState) where
+    named_ends : {A : Type 0} (Reads : Result A Refusal → Type 0) (make : A → run.Command) → ((n : Result A Refusal) × Reads n)
+        → ((x : A) → Ends (Meets (run.Applies (make x) w) (run.may_want (make x) w) w))
+        → Ends (On (MakesOfNamed Reads make) w (λ c. Meets (run.Applies c w) (run.may_want c w) w))
+    named_ends Reads make (Ok x, is) ends = let (r, new, met) = ends x in (r, new, (Ok (make x), (Ok x, is, refl), met))
+    named_ends Reads make (Err why, is) ends = (Err why, w, (Err why, (Err why, is, refl), (refl, refl)))
+
+    reads_both : (e i : List ℕ) → (n : Result (Entity × Id) Refusal) × ReadsBoth w e i n
+    reads_both e i =
+        let (x, is) = reads_entity w e in
+        let (y, of) = reads_id w i in
+        (ok_both (λ a b. (a, b)) x y, x, y, is, of, refl)
+
+    change_ends : (c : WrittenChange) → Ends (Changes w c)
+    change_ends (change.add e i) = named_ends _ _ (reads_both e i) (λ p. add_ends w p.0 p.1)
+    change_ends (change.remove e i) = named_ends _ _ (reads_both e i) (λ p. remove_ends w p.0 p.1)
+    change_ends (change.set e i v) = named_ends _ _ (reads_both e i) (λ p. set_ends w p.0 p.1 v)
+    change_ends (change.clear e) = named_ends _ _ (reads_entity w e) (clear_ends w)
+    change_ends (change.rename e name) = named_ends _ _ (reads_entity w e) (λ x. rename_ends w x name)
+    change_ends (change.delete e) = named_ends _ _ (reads_entity w e) (delete_ends w)
+    change_ends (change.delete_with i) = named_ends _ _ (reads_id w i) (delete_with_ends w)
+    change_ends (change.remove_all i) = named_ends _ _ (reads_id w i) (remove_all_ends w)
+
   on_entity : (w : WorldState) (text : List ℕ) (Goes : Entity → Result Reply Refusal → WorldState → Type 0)
       → ((x : Entity) → Ends (Goes x)) → Ends (OnEntity w text Goes)
   on_entity w text Goes goes = on_ends (ReadsEntity w text) w Goes (reads_entity w text) goes
@@ -201,49 +229,26 @@ module _ (texts : TextsRead) where
       → ((q : List QuerySlot) → Ends (Goes q)) → Ends (OnQuery w text Goes)
   on_query w text Goes goes = on_ends (ReadsQuery w text) w Goes (reads_query w text) goes
 
-  step_ends : (old : ScriptState) (s : step.Step) → Ends (StepReplies old s)
-  step_ends old (step.create name) =
-      of_world old (step.create name) (calls_end _ _ (create_ends old.world name))
-  step_ends old (step.component name n) =
-      of_world old (step.component name n) (calls_end _ _ (component_ends old.world (Some name) n))
-  step_ends old (step.add e i) =
-      of_world old (step.add e i) (on_entity old.world e _ (λ x. on_id old.world i _ (λ y. calls_end _ _ (add_ends old.world x y))))
-  step_ends old (step.remove e i) =
-      of_world old (step.remove e i) (on_entity old.world e _ (λ x. on_id old.world i _ (λ y. calls_end _ _ (remove_ends old.world x y))))
-  step_ends old (step.set e i v) =
-      of_world old (step.set e i v) (on_entity old.world e _ (λ x. on_id old.world i _ (λ y. calls_end _ _ (set_ends old.world x y v))))
-  step_ends old (step.clear e) =
-      of_world old (step.clear e) (on_entity old.world e _ (λ x. calls_end _ _ (clear_ends old.world x)))
-  step_ends old (step.remove_all i) =
-      of_world old (step.remove_all i) (on_id old.world i _ (λ y. calls_end _ _ (remove_all_ends old.world y)))
-  step_ends old (step.delete e) =
-      of_world old (step.delete e) (on_entity old.world e _ (λ x. calls_end _ _ (delete_ends old.world x)))
-  step_ends old (step.delete_with i) =
-      of_world old (step.delete_with i) (on_id old.world i _ (λ y. calls_end _ _ (delete_with_ends old.world y)))
-  step_ends old (step.rename e name) =
-      of_world old (step.rename e name) (on_entity old.world e _ (λ x. calls_end _ _ (rename_ends old.world x name)))
+  step_ends : (old : ScriptState) (s : step.WrittenStep) → Ends (StepReplies old s)
+  step_ends old (step.create name) = of_world old (step.create name) (calls_end _ _ (create_ends old.world name))
+  step_ends old (step.component name n) = of_world old (step.component name n) (calls_end _ _ (component_ends old.world (Some name) n))
+  step_ends old (step.change c) = of_world old (step.change c) (calls_end _ _ (change_ends old.world c))
   step_ends old (step.has e i) =
       of_world old (step.has e i) (on_entity old.world e _ (λ x. on_id old.world i _ (λ y. (Ok (truth (has old.world x y)), old.world, (refl, refl)))))
   step_ends old (step.get e i) =
       of_world old (step.get e i) (on_entity old.world e _ (λ x. on_id old.world i _ (λ y. (Ok (got (shown_value old.world x y)), old.world, (refl, refl)))))
-  step_ends old (step.show e) =
-      of_world old (step.show e) (on_entity old.world e _ (λ x. show_ends old.world x (is_alive old.world x)))
-  step_ends old step.list =
-      of_world old step.list (Ok (listed (map (λ p. p.0) (living old.world))), old.world, (refl, refl))
+  step_ends old (step.show e) = of_world old (step.show e) (on_entity old.world e _ (λ x. show_ends old.world x (is_alive old.world x)))
+  step_ends old step.list = of_world old step.list (Ok (listed (map (λ p. p.0) (living old.world))), old.world, (refl, refl))
   step_ends old (step.query text) =
       of_world old (step.query text) (on_query old.world text _ (λ q. (Ok (found (answer old.world (asked q))), old.world, (refl, refl))))
-  step_ends old (step.cache text) =
-      of_world old (step.cache text) (on_query old.world text _ (λ q. calls_end _ _ (Err OutOfMemory, old.world, (refl, refl))))
-  step_ends old (step.cached n) =
-      of_world old (step.cached n) (added_ends old.world (slice_get old.world.queries n))
-  step_ends old (step.merge n []) =
-      of_world old (step.merge n []) (empty_merge_ends old.world n (may_admit (entities old.world) n) refl)
-  step_ends old (step.merge n (s ∷ ss)) =
-      of_world old (step.merge n (s ∷ ss)) (Err OutOfMemory, old.world, (refl, refl))
+  step_ends old (step.cache text) = of_world old (step.cache text) (on_query old.world text _ (λ q. calls_end _ _ (Err OutOfMemory, old.world, (refl, refl))))
+  step_ends old (step.cached n) = of_world old (step.cached n) (added_ends old.world (slice_get old.world.queries n))
+  step_ends old (step.merge n []) = of_world old (step.merge n []) (empty_merge_ends old.world n (may_admit (entities old.world) n) refl)
+  step_ends old (step.merge n (s ∷ ss)) = of_world old (step.merge n (s ∷ ss)) (Err OutOfMemory, old.world, (refl, refl))
   step_ends old (step.system name phase text actions) = (Err OutOfMemory, old, (refl, refl))
   step_ends old step.frame =
       let stop : FrameStop = record { batches = 0; refusal = OutOfMemory } in (Ok (stopped stop), old, (Err stop, inr (refl, refl), refl))
 
   -- some lines, and some state after them
-  pub some_step : (s : step.Step) (old : ScriptState) → (t : List ℕ) × (e : ScriptState) × Does old s t e
+  pub some_step : (s : step.WrittenStep) (old : ScriptState) → (t : List ℕ) × (e : ScriptState) × Does old s t e
   some_step s old = let (r, new, p) = step_ends old s in (step_lines new.world r, new, (r, p, refl))

@@ -9,25 +9,25 @@ use Rattle.eco_script.specs.Run.{IsTextOf, Ran, RanTo, WasNotRead, beginning}
 use Rattle.std.specs.Prelude.{◌⊎◌}
 use Rattle.serde_json.specs.Data.{Data}
 use Rattle.serde_json.specs.Read.{read}
-use Rattle.eco_steps.specs.Script.{Script, IsScript, IsScriptData}
+use Rattle.eco_steps.specs.Script.{WrittenScript, IsScript, IsScriptData}
 use Rattle.eco_script.specs.States.{ScriptState}
 use Rattle.eco_devices.specs.Beginning.{IsBeginning}
-use Rattle.eco_steps.specs.Steps.{Step}
+use Rattle.eco_steps.specs.Steps.{WrittenStep}
 use Rattle.eco_script.specs.Text.{Does, Text}
 use Rattle.eco_script.proofs.Ends.{TextsRead, some_step}
 
-pub Text-append : (xs ys : List Step) (w m e : ScriptState) (t u : List ℕ) → Text w xs t m → Text m ys u e → Text w (xs ++ ys) (t ++ u) e
+pub Text-append : (xs ys : List WrittenStep) (w m e : ScriptState) (t u : List ℕ) → Text w xs t m → Text m ys u e → Text w (xs ++ ys) (t ++ u) e
 Text-append [] ys w m e t u (tn, mw) q = rw (tn, ← mw) q
 Text-append (x ∷ xs) ys w m e t u (first, rest, mid, does, more, te) q =
     (first, rest ++ u, mid, does, Text-append xs ys mid m e rest u more q, ap (λ s. s ++ u) te ∙ append_assoc first rest u)
 
-pub Text-one : (s : Step) (w m : ScriptState) (t : List ℕ) → Does w s t m → Text w (s ∷ []) t m
+pub Text-one : (s : WrittenStep) (w m : ScriptState) (t : List ℕ) → Does w s t m → Text w (s ∷ []) t m
 Text-one s w m t d = (t, [], m, d, (refl, refl), sym (append-nil t))
 
-pub Text-more : (xs : List Step) (s : Step) (w m e : ScriptState) (t u : List ℕ) → Text w xs t m → Does m s u e → Text w (xs ++ s ∷ []) (t ++ u) e
+pub Text-more : (xs : List WrittenStep) (s : WrittenStep) (w m e : ScriptState) (t u : List ℕ) → Text w xs t m → Does m s u e → Text w (xs ++ s ∷ []) (t ++ u) e
 Text-more xs s w m e t u p d = Text-append xs (s ∷ []) w m e t u p (Text-one s m e u d)
 
-pub some_text : TextsRead → (ss : List Step) (w : ScriptState) → (t : List ℕ) × (e : ScriptState) × Text w ss t e
+pub some_text : TextsRead → (ss : List WrittenStep) (w : ScriptState) → (t : List ℕ) × (e : ScriptState) × Text w ss t e
 some_text texts [] w = ([], w, (refl, refl))
 some_text texts (s ∷ ss) w =
     let one = some_step texts s w in
@@ -38,7 +38,7 @@ begins : (t q r u more : List ℕ) → u ≡ q ++ r → (t ++ u) ++ more ≡ (t 
 begins t q r u more e = rw e (simp append_assoc)
 
 -- what is said of the front of a list, and of all of it
-module _ {X : Type 0} (f : X → Step) (xs : List X) where
+module _ {X : Type 0} (f : X → WrittenStep) (xs : List X) where
   text_more : (i : ℕ) (x : X) (w m e : ScriptState) (t u : List ℕ) → i < length xs → x ≡ get_or xs i x → Text w (map f (take i xs)) t m
       → Does m (f x) u e → Text w (map f (take (i + 1) xs)) (t ++ u) e
   text_more i x w m e t u lt is p does =
@@ -96,16 +96,16 @@ module _ {X : Type 0} (f : X → Step) (xs : List X) where
       let on = text_goes_on texts i w m (done ++ rest) p in
       (done ++ q, (done ++ rest) ++ on.0, on.1, on.2, (r ++ on.0, begins done q r rest on.0 er), Appends-trans a b c done q h hq)
 
-Text-at : (w v e : ScriptState) (ss rs : List Step) (t : List ℕ) → w ≡ v → ss ≡ rs → Text w ss t e → Text v rs t e
+Text-at : (w v e : ScriptState) (ss rs : List WrittenStep) (t : List ℕ) → w ≡ v → ss ≡ rs → Text w ss t e → Text v rs t e
 Text-at w v e ss rs t p q h = rw (← p, ← q) h
 
 -- the text of a run is that of the script that was read
-text_of : (bytes : List ℕ) (script : Script) (w e : ScriptState) (ss : List Step) (t : List ℕ)
+text_of : (bytes : List ℕ) (script : WrittenScript) (w e : ScriptState) (ss : List WrittenStep) (t : List ℕ)
     → IsScript bytes script → w ≡ beginning script → ss ≡ script.steps
     → Text w ss t e → IsTextOf bytes t
 text_of bytes script w e ss t is at_start are h = (script, e, is, Text-at w (beginning script) e ss script.steps t at_start are h)
 
-pub ran_bytes : (bytes : List ℕ) (script : Script) (w : ScriptState) (ss : List Step) (world : WorldState) (a b : Option (List ℕ))
+pub ran_bytes : (bytes : List ℕ) (script : WrittenScript) (w : ScriptState) (ss : List WrittenStep) (world : WorldState) (a b : Option (List ℕ))
     → IsScript bytes script → w ≡ beginning script → ss ≡ script.steps
     → ((t : List ℕ) × (e : ScriptState) × Text w ss t e × (e.world ≡ world) × Appends a b t)
     → RanTo (Some bytes) a b world
@@ -118,7 +118,7 @@ ran_some None a b end h = tt
 ran_some (Some bytes) a b None h = absurd h
 ran_some (Some bytes) a b (Some world) (t, (script, e, is, text, ends), k) = (t, (script, e, is, text), k)
 
-pub stopped_bytes : (bytes : List ℕ) (script : Script) (w : ScriptState) (ss : List Step) (a b : Option (List ℕ))
+pub stopped_bytes : (bytes : List ℕ) (script : WrittenScript) (w : ScriptState) (ss : List WrittenStep) (a b : Option (List ℕ))
     → IsScript bytes script → w ≡ beginning script → ss ≡ script.steps
     → ((part : List ℕ) × (text : List ℕ) × (end : ScriptState) × Text w ss text end × IsBeginning part text × Appends a b part)
     → Keeps a b ⊎ ((part : List ℕ) × (text : List ℕ) × IsTextOf bytes text × IsBeginning part text × Appends a b part)
@@ -126,7 +126,7 @@ stopped_bytes bytes script w ss a b is at_start are (part, text, e, h, begin, k)
     inr (part, text, text_of bytes script w e ss text is at_start are h, begin, k)
 
 -- bytes whose value is no script are none
-pub no_script_bytes : (bytes : List ℕ) (d : Data) → read bytes ≡ Some d → ((s : Script) → ¬ IsScriptData d s) → (s : Script) → ¬ IsScript bytes s
+pub no_script_bytes : (bytes : List ℕ) (d : Data) → read bytes ≡ Some d → ((s : WrittenScript) → ¬ IsScriptData d s) → (s : WrittenScript) → ¬ IsScript bytes s
 no_script_bytes bytes d at none s (utf8, v, is, of) = let q : v ≡ d = cc in none s (rw q at of)
 
 -- what is said of the bytes that were read to the end is said of those that the reader had

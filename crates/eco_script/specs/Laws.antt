@@ -1,22 +1,22 @@
 -- The laws of the texts of scripts, as the contracts of `src/laws.rt` cite them.
 use Rattle.std.specs.Prelude.{◌≡◌, ℕ, Bool, true, false, IsFalse, List}
 use Rattle.std.specs.List.{list_any}
-use Rattle.eco_steps.specs.Steps.{Step}
+use Rattle.eco_steps.specs.Steps.{WrittenStep}
 use Rattle.eco_steps.specs.Steps as step
 use Rattle.eco_script.specs.States.{ScriptState}
 use Rattle.eco_script.specs.Text.{Text, TextInMemory}
 
 -- the step is a frame
-abbrev pub is_frame : Step → Bool
+abbrev pub is_frame : WrittenStep → Bool
 is_frame step.frame = true
 is_frame _ = false
 
 -- where memory is never wanting, steps have one text at most, and lead to one state. Steps with a frame are left out: it is open which
 -- row of a frame draws which fresh handle
 abbrev pub HaveOneText : Type 0
-HaveOneText = (s : ScriptState) (steps : List Step) (t u : List ℕ) (end other : ScriptState) → IsFalse (list_any is_frame steps)
+HaveOneText = (s : ScriptState) (steps : List WrittenStep) (t u : List ℕ) (end other : ScriptState) → IsFalse (list_any is_frame steps)
     → TextInMemory s steps t end → TextInMemory s steps u other → (t ≡ u) × (end ≡ other)
 
 -- and that text is one that a run may have
 abbrev pub MayBeText : Type 0
-MayBeText = (s : ScriptState) (steps : List Step) (text : List ℕ) (end : ScriptState) → TextInMemory s steps text end → Text s steps text end
+MayBeText = (s : ScriptState) (steps : List WrittenStep) (text : List ℕ) (end : ScriptState) → TextInMemory s steps text end → Text s steps text end

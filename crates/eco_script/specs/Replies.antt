@@ -7,9 +7,7 @@ use Rattle.eco_ids.specs.declared.refusal.Refusal.{Refusal}
 use Rattle.eco_ids.specs.declared.refusal.Refusal.TheVariants.{NotAlive, NoSuchQuery, OutOfMemory}
 use Rattle.eco_ids.specs.Answer.{Row, answer}
 use Rattle.eco_ids.specs.Births.{Creates, may_create, MakesComponent, may_make_component}
-use Rattle.eco_ids.specs.Delete.{DeletesOne, may_delete, DeletesWith, may_delete_with}
 use Rattle.eco_ids.specs.Outcome.{Refuses, Answers, Meets}
-use Rattle.eco_ids.specs.Step.{Adds, may_add, Sets, may_set, Removes, may_remove, Clears, may_clear, RemovesAll, may_remove_all, Renames, may_rename}
 use Rattle.eco_ids.specs.Terms.{QueryTerm}
 use Rattle.eco_ids.specs.World.{WorldState, has, is_alive, living}
 use Rattle.eco_query.specs.Queries.{QuerySlot}
@@ -27,12 +25,12 @@ use Rattle.eco_bodies.specs.declared.systems.System.{System}
 use Rattle.eco_frame.specs.Reports.{FrameDone, Frames}
 use Rattle.eco_frame.specs.Stops.{IsWhy}
 use Rattle.eco_frame.specs.declared.stop.FrameStop.{FrameStop}
-use Rattle.eco_script.specs.Recording.{ReadsActions, ReadsCommands, has_stages}
+use Rattle.eco_script.specs.Recording.{ReadsActions, ReadsChange, ReadsCommands, has_stages}
 use Rattle.eco_script.specs.References.{ReadsEntity, ReadsId, ReadsQuery}
 use Rattle.eco_script.specs.States.{NamedSystem, ScriptState, name_refusal, script_system}
 use Rattle.eco_script.specs.Systems.{model_by, named, recorded_by, handles_taken}
 use Rattle.eco_steps.specs.Actions as texts
-use Rattle.eco_steps.specs.Commands.{WrittenCommand}
+use Rattle.eco_steps.specs.Commands.{WrittenChange, WrittenCommand}
 use Rattle.eco_steps.specs.Steps as step
 use Rattle.eco_script.specs.Values.{Shown, shown_value}
 
@@ -62,8 +60,8 @@ abbrev pub Calls : {A : Type 0} → (Result A Refusal → WorldState → Type 0)
 Calls {A} Call reply r new = (x : Result A Refusal) × Call x new × (r ≡ replied reply x)
 
 -- the text names something, and the step goes on with it; or the text is refused, and with it the step
-abbrev pub On : {A : Type 0} → (Result A Refusal → Type 0) → WorldState → (A → Result Reply Refusal → WorldState → Type 0)
-    → Result Reply Refusal → WorldState → Type 0
+abbrev pub On : {A B : Type 0} → (Result A Refusal → Type 0) → WorldState → (A → Result B Refusal → WorldState → Type 0)
+    → Result B Refusal → WorldState → Type 0
 On {A} Reads w Goes r new = (named : Result A Refusal) × Reads named × MatchResult named (λ x. Goes x r new) (λ why. Refuses why w r new)
 
 -- the text names an entity
@@ -78,6 +76,10 @@ OnId w text = On (ReadsId w text) w
 abbrev pub OnQuery : WorldState → List ℕ → (List QuerySlot → Result Reply Refusal → WorldState → Type 0) → Result Reply Refusal → WorldState → Type 0
 OnQuery w text = On (ReadsQuery w text) w
 
+-- the texts of a change name a command, and its call is made
+abbrev pub Changes : WorldState → WrittenChange → Result (Unit {0}) Refusal → WorldState → Type 0
+Changes w c = On (ReadsChange w c) w (λ command. Meets (run.Applies command w) (run.may_want command w) w)
+
 -- the texts are commands
 abbrev pub OnCommands : WorldState → List WrittenCommand → (List run.Command → Result Reply Refusal → WorldState → Type 0) → Result Reply Refusal → WorldState
     → Type 0
@@ -91,18 +93,11 @@ AnswersAdded w (Some slots) = Meets (Answers (found (answer w slots)) w) (may_qu
 -- what a step on the world alone answers, and the world after it; a system and a frame are no such steps. Texts are read from left to right, and the first
 -- that is refused is the step's refusal. A listing may find no memory, and so may a query that has a result, one that is added, and a merge that
 -- has stages or makes indices known.
-abbrev pub Replies : WorldState → step.Step → Result Reply Refusal → WorldState → Type 0
+abbrev pub Replies : WorldState → step.WrittenStep → Result Reply Refusal → WorldState → Type 0
 Replies w (step.create name) = Calls (Meets (Creates w name) (may_create w name) w) made
 Replies w (step.component name arity) =
     Calls (Meets (MakesComponent w (Some name) arity) (may_make_component w (Some name)) w) made
-Replies w (step.add e i) = OnEntity w e (λ x. OnId w i (λ y. Calls (Meets (Adds w x y) (may_add w x y) w) (λ _. done)))
-Replies w (step.remove e i) = OnEntity w e (λ x. OnId w i (λ y. Calls (Meets (Removes w x y) (may_remove w x y) w) (λ _. done)))
-Replies w (step.set e i v) = OnEntity w e (λ x. OnId w i (λ y. Calls (Meets (Sets w x y v) (may_set w x y v) w) (λ _. done)))
-Replies w (step.clear e) = OnEntity w e (λ x. Calls (Meets (Clears w x) (may_clear w x) w) (λ _. done))
-Replies w (step.remove_all i) = OnId w i (λ y. Calls (Meets (RemovesAll w y) (may_remove_all w y) w) (λ _. done))
-Replies w (step.delete e) = OnEntity w e (λ x. Calls (Meets (DeletesOne w x) (may_delete w x) w) (λ _. done))
-Replies w (step.delete_with i) = OnId w i (λ y. Calls (Meets (DeletesWith w y) (may_delete_with w y) w) (λ _. done))
-Replies w (step.rename e name) = OnEntity w e (λ x. Calls (Meets (Renames w x name) (may_rename w x name) w) (λ _. done))
+Replies w (step.change c) = Calls (Changes w c) (λ _. done)
 Replies w (step.has e i) = OnEntity w e (λ x. OnId w i (λ y. Answers (truth (has w x y)) w))
 Replies w (step.get e i) = OnEntity w e (λ x. OnId w i (λ y. Answers (got (shown_value w x y)) w))
 Replies w (step.show e) =
@@ -127,7 +122,7 @@ unless (Some why) r = Err why
 
 -- the system that the texts name: query and actions are read from left to right, then the actions must fit the query, and then the
 -- name must be one that no other system has; the first refusal is the answer
-abbrev pub ReadsSystem : ScriptState → List ℕ → Phase → List ℕ → List texts.Action → Result NamedSystem Refusal → Type 0
+abbrev pub ReadsSystem : ScriptState → List ℕ → Phase → List ℕ → List texts.WrittenAction → Result NamedSystem Refusal → Type 0
 ReadsSystem s name phase text actions =
     Then (ReadsQuery s.world text) (λ slots. Then (ReadsActions s.world actions) (λ acts r.
     r ≡ unless (first_action_refusal slots acts) (unless (name_refusal s.systems name) (Ok (script_system name phase slots acts)))))
@@ -138,7 +133,7 @@ with_declared s (Ok system) = record { world = s.world; systems = s.systems ++ s
 with_declared s (Err why) = s
 
 -- a system is declared or refused; memory may be wanting for it
-abbrev pub DeclaresSystem : ScriptState → List ℕ → Phase → List ℕ → List texts.Action → Result Reply Refusal → ScriptState → Type 0
+abbrev pub DeclaresSystem : ScriptState → List ℕ → Phase → List ℕ → List texts.WrittenAction → Result Reply Refusal → ScriptState → Type 0
 DeclaresSystem s name phase text actions =
     Meets (λ r new. (d : Result NamedSystem Refusal) × ReadsSystem s name phase text actions d
     × (r ≡ replied (λ _. done) d) × (new ≡ with_declared s d)) true s
@@ -165,7 +160,7 @@ frame_reply (Err stop) = stopped stop
 
 -- what the step answers, and what it leaves: a system is declared, a frame runs the systems declared so far, and every other step is
 -- one on the world alone
-abbrev pub StepReplies : ScriptState → step.Step → Result Reply Refusal → ScriptState → Type 0
+abbrev pub StepReplies : ScriptState → step.WrittenStep → Result Reply Refusal → ScriptState → Type 0
 StepReplies old (step.system name phase text actions) r new = DeclaresSystem old name phase text actions r new
 StepReplies old step.frame r new =
     (x : Result FrameDone FrameStop) × (RunsFrame old x new ⊎ StopsAtOnce old x new) × (r ≡ Ok (frame_reply x))

@@ -3,22 +3,22 @@ use Rattle.std.specs.Prelude.{◌≡◌, ◌⊎◌, ℕ, List, Option, Some, Non
 use Rattle.std.specs.Io.KnownBytes.{Appends, Keeps}
 use Rattle.eco_devices.specs.Beginning.{IsBeginning}
 use Rattle.eco_ids.specs.World.{WorldState}
-use Rattle.eco_steps.specs.Script.{Script, IsScript}
+use Rattle.eco_steps.specs.Script.{WrittenScript, IsScript}
 use Rattle.eco_script.specs.States.{ScriptState, first_state}
 use Rattle.eco_script.specs.Text.{Text}
 
 -- where the run of a script begins: a new world of its edition and its limit, without systems
-abbrev pub beginning : Script → ScriptState
+abbrev pub beginning : WrittenScript → ScriptState
 beginning script = first_state script.edition script.limit
 
 -- the bytes are a script, and the text is that of a run of it
 abbrev pub IsTextOf : List ℕ → List ℕ → Type 0
-IsTextOf bytes text = (script : Script) × (end : ScriptState) × IsScript bytes script × Text (beginning script) script.steps text end
+IsTextOf bytes text = (script : WrittenScript) × (end : ScriptState) × IsScript bytes script × Text (beginning script) script.steps text end
 
 -- likewise, and the run ends with this world
 abbrev pub IsRunOf : List ℕ → List ℕ → WorldState → Type 0
 IsRunOf bytes text world =
-    (script : Script) × (end : ScriptState) × IsScript bytes script × Text (beginning script) script.steps text end × (end.world ≡ world)
+    (script : WrittenScript) × (end : ScriptState) × IsScript bytes script × Text (beginning script) script.steps text end × (end.world ≡ world)
 
 -- Each of these is said of the bytes that the reader had, and of those that the writer held before and after. Of a device
 -- that tells no bytes nothing is said.
@@ -36,7 +36,7 @@ RanTo (Some bytes) old new world = (text : List ℕ) × IsRunOf bytes text world
 -- the bytes are no script, and nothing was written
 abbrev pub WasNotRead : Option (List ℕ) → Option (List ℕ) → Option (List ℕ) → Type 0
 WasNotRead None old new = Keeps old new
-WasNotRead (Some bytes) old new = Keeps old new × ((script : Script) → ¬ IsScript bytes script)
+WasNotRead (Some bytes) old new = Keeps old new × ((script : WrittenScript) → ¬ IsScript bytes script)
 
 -- nothing was written, or the bytes are a script, and a beginning of its text was written
 abbrev pub WasStopped : Option (List ℕ) → Option (List ℕ) → Option (List ℕ) → Type 0

@@ -45,7 +45,7 @@ pub record IsScriptOf (slots : List QuerySlot) (actions : List Action) (s : Scri
   pub kills_are : s.kills ≡ list_any is_kill actions
 
 -- the texts name its actions, which fit the query; or the first refusal is the answer
-abbrev pub ReadsBody : WorldState → List QuerySlot → List texts.Action → Result Script Refusal → Type 0
+abbrev pub ReadsBody : WorldState → List QuerySlot → List texts.WrittenAction → Result Script Refusal → Type 0
 ReadsBody w slots actions r =
     (read : Result (List Action) Refusal) × ReadsActions w actions read
     × MatchResult read (λ acts. MatchOption (first_action_refusal slots acts) (IsOkAnd r (IsScriptOf slots acts)) (λ why. r ≡ Err why)) (λ why. r ≡ Err why)

@@ -15,7 +15,7 @@ use Rattle.eco_frame.specs.declared.stop.FrameStop.{FrameStop}
 use Rattle.eco_script.specs.Lines.{entity_line, row_line, shown_text}
 use Rattle.eco_script.specs.Replies.{Reply, done, made, truth, got, shown, listed, found, kept, merged, framed, stopped, StepReplies}
 use Rattle.eco_script.specs.States.{ScriptState}
-use Rattle.eco_steps.specs.Steps.{Step}
+use Rattle.eco_steps.specs.Steps.{WrittenStep}
 use Rattle.eco_script.specs.Values.{Shown, shown_value}
 use Rattle.eco_stages.specs.Outcomes.{Outcomes}
 
@@ -92,24 +92,24 @@ abbrev pub has_wanted : Result Reply Refusal → Bool
 has_wanted r = is_out_of_memory r || list_any is_out_of_memory (reply_outcomes r)
 
 -- the step may take the old state to the new one, and these are its lines
-abbrev pub Does : ScriptState → Step → List ℕ → ScriptState → Type 0
+abbrev pub Does : ScriptState → WrittenStep → List ℕ → ScriptState → Type 0
 Does old s lines new = (r : Result Reply Refusal) × StepReplies old s r new × (lines ≡ step_lines new.world r)
 
 -- likewise, and memory was not wanting
-abbrev pub DoesInMemory : ScriptState → Step → List ℕ → ScriptState → Type 0
+abbrev pub DoesInMemory : ScriptState → WrittenStep → List ℕ → ScriptState → Type 0
 DoesInMemory old s lines new =
     (r : Result Reply Refusal) × StepReplies old s r new × IsFalse (has_wanted r) × (lines ≡ step_lines new.world r)
 
 -- steps, one after another, each of which takes a state to the next so, with their lines
-abbrev pub TextBy : (ScriptState → Step → List ℕ → ScriptState → Type 0) → ScriptState → List Step → List ℕ → ScriptState → Type 0
+abbrev pub TextBy : (ScriptState → WrittenStep → List ℕ → ScriptState → Type 0) → ScriptState → List WrittenStep → List ℕ → ScriptState → Type 0
 TextBy One old [] text new = (text ≡ []) × (new ≡ old)
 TextBy One old (s ∷ ss) text new =
     (first : List ℕ) × (rest : List ℕ) × (mid : ScriptState) × One old s first mid × TextBy One mid ss rest new × (text ≡ first ++ rest)
 
 -- the steps, one after another, may take the old state to the new one, and this is their text
-abbrev pub Text : ScriptState → List Step → List ℕ → ScriptState → Type 0
+abbrev pub Text : ScriptState → List WrittenStep → List ℕ → ScriptState → Type 0
 Text = TextBy Does
 
 -- likewise, and memory was never wanting
-abbrev pub TextInMemory : ScriptState → List Step → List ℕ → ScriptState → Type 0
+abbrev pub TextInMemory : ScriptState → List WrittenStep → List ℕ → ScriptState → Type 0
 TextInMemory = TextBy DoesInMemory

@@ -1,6 +1,7 @@
 //! Scripts: read whole, run step by step on a world of their own, with the lines of each step written before the next.
 #![tactic(auto)]
 
+mod changes;
 mod fault;
 pub mod laws;
 mod lines;

@@ -7,16 +7,17 @@ ghost use Rattle.eco_script.specs.Replies.{DeclaresSystem, Replies, StepReplies}
 ghost use Rattle.eco_script.specs.Systems.{reached, ReadsBody};
 ghost use Rattle.eco_steps.specs.Steps as steps;
 ghost use Rattle.eco_steps.specs.Steps.{KeepsTo};
-ghost use Rattle.eco_steps.specs.Views.{actions_view, stages_view, step_view};
+ghost use Rattle.eco_steps.specs.Views.{actions_view, change_view, stages_view, step_view};
 
+use crate::changes::make_change;
 use crate::recording::{read_actions, record_stages};
 use crate::references::{read_entity, read_id, read_query};
 use crate::reply::Reply;
 use crate::shown_value::ShownValue;
 use eco_bodies::{Script, Systems};
 use eco_frame::run_frame;
-use eco_ids::{Refusal, Value};
-use eco_steps::{Actions, Stages, Step};
+use eco_ids::Refusal;
+use eco_steps::{Actions, Stages, WrittenChange, WrittenStep};
 use eco_systems::Phase;
 use eco_world::{Query, QueryId, World};
 use std::alloc::Global;
@@ -36,71 +37,11 @@ fn component(world: &mut World, name: &str, arity: u8) -> Result<Reply, Refusal>
     Ok(Reply::Made(world.component(Some(name), arity)?))
 }
 
-fn add(world: &mut World, entity: &str, id: &str) -> Result<Reply, Refusal>
-    ensures { Replies world.old (steps.add entity.now id.now) (answer_view result) world.new }
-{
-    let entity = read_entity(entity, world)?;
-    let id = read_id(id, world)?;
-    world.add(entity, id)?;
-    Ok(Reply::Done)
-}
-
-fn remove(world: &mut World, entity: &str, id: &str) -> Result<Reply, Refusal>
-    ensures { Replies world.old (steps.remove entity.now id.now) (answer_view result) world.new }
-{
-    let entity = read_entity(entity, world)?;
-    let id = read_id(id, world)?;
-    world.remove(entity, id)?;
-    Ok(Reply::Done)
-}
-
-fn set(world: &mut World, entity: &str, id: &str, value: Value) -> Result<Reply, Refusal>
-    ensures { Replies world.old (steps.set entity.now id.now value) (answer_view result) world.new }
-{
-    let entity = read_entity(entity, world)?;
-    let id = read_id(id, world)?;
-    world.set(entity, id, value)?;
-    Ok(Reply::Done)
-}
-
-fn clear(world: &mut World, entity: &str) -> Result<Reply, Refusal>
-    ensures { Replies world.old (steps.clear entity.now) (answer_view result) world.new }
-{
-    let entity = read_entity(entity, world)?;
-    world.clear(entity)?;
-    Ok(Reply::Done)
-}
-
-fn remove_all(world: &mut World, id: &str) -> Result<Reply, Refusal>
-    ensures { Replies world.old (steps.remove_all id.now) (answer_view result) world.new }
-{
-    let id = read_id(id, world)?;
-    world.remove_all(id)?;
-    Ok(Reply::Done)
-}
-
-fn delete(world: &mut World, entity: &str) -> Result<Reply, Refusal>
-    ensures { Replies world.old (steps.delete entity.now) (answer_view result) world.new }
-{
-    let entity = read_entity(entity, world)?;
-    world.delete(entity)?;
-    Ok(Reply::Done)
-}
-
-fn delete_with(world: &mut World, id: &str) -> Result<Reply, Refusal>
-    ensures { Replies world.old (steps.delete_with id.now) (answer_view result) world.new }
-{
-    let id = read_id(id, world)?;
-    world.delete_with(id)?;
-    Ok(Reply::Done)
-}
-
-fn rename(world: &mut World, entity: &str, name: Option<&str>) -> Result<Reply, Refusal>
-    ensures { Replies world.old (steps.rename entity.now (option_map (λ s. s.now) name.entry))
+fn change(world: &mut World, change: WrittenChange<'_>) -> Result<Reply, Refusal>
+    ensures { Replies world.old (steps.change (change_view change.entry))
         (answer_view result) world.new }
 {
-    let entity = read_entity(entity, world)?;
-    world.rename(entity, name)?;
+    make_change(world, change)?;
     Ok(Reply::Done)
 }
 
@@ -230,7 +171,7 @@ fn answer<R: Threads + Sync>(
     world: &mut World,
     systems: &mut Systems<Script>,
     workers: u32,
-    step: &Step<'_>,
+    step: &WrittenStep<'_>,
 ) -> Result<Reply, Refusal>
     requires workers { (1 ≤ workers) × (workers ≤ 64) }
     requires keeps { KeepsTo world.old.edition (step_view step.now) }
@@ -238,31 +179,24 @@ fn answer<R: Threads + Sync>(
         (answer_view result) (reached world.new systems.new) }
 {
     match *step {
-        Step::Create(name) => create(world, name),
-        Step::Component { name, arity } => component(world, name, arity),
-        Step::Add { entity, id } => add(world, entity, id),
-        Step::Remove { entity, id } => remove(world, entity, id),
-        Step::Set { entity, id, value } => set(world, entity, id, value),
-        Step::Clear { entity } => clear(world, entity),
-        Step::RemoveAll { id } => remove_all(world, id),
-        Step::Delete { entity } => delete(world, entity),
-        Step::DeleteWith { id } => delete_with(world, id),
-        Step::Rename { entity, name } => rename(world, entity, name),
-        Step::Has { entity, id } => has(world, entity, id),
-        Step::Get { entity, id } => get(world, entity, id),
-        Step::Show { entity } => show(world, entity),
-        Step::List => list(world),
-        Step::Query { text } => query(world, text),
-        Step::Cache { text } => cache(world, text),
-        Step::Cached { query } => cached(world, query),
-        Step::Merge { admitted, stages } => merge(alloc, world, admitted, stages),
-        Step::System {
+        WrittenStep::Create(name) => create(world, name),
+        WrittenStep::Component { name, arity } => component(world, name, arity),
+        WrittenStep::Change(asked) => change(world, asked),
+        WrittenStep::Has { entity, id } => has(world, entity, id),
+        WrittenStep::Get { entity, id } => get(world, entity, id),
+        WrittenStep::Show { entity } => show(world, entity),
+        WrittenStep::List => list(world),
+        WrittenStep::Query { text } => query(world, text),
+        WrittenStep::Cache { text } => cache(world, text),
+        WrittenStep::Cached { query } => cached(world, query),
+        WrittenStep::Merge { admitted, stages } => merge(alloc, world, admitted, stages),
+        WrittenStep::System {
             name,
             phase,
             query,
             actions,
         } => system(alloc, world, systems, name, phase, query, actions),
-        Step::Frame => Ok(frame(rt, alloc, world, systems, workers)),
+        WrittenStep::Frame => Ok(frame(rt, alloc, world, systems, workers)),
     }
 }
 
@@ -274,7 +208,7 @@ pub fn perform<R: Threads + Sync>(
     world: &mut World,
     systems: &mut Systems<Script>,
     workers: u32,
-    step: &Step<'_>,
+    step: &WrittenStep<'_>,
 ) -> Result<Reply, Refusal>
     requires workers { (1 ≤ workers) × (workers ≤ 64) }
     requires keeps { KeepsTo world.old.edition (step_view step.now) }

@@ -3,17 +3,17 @@
 ghost use Rattle.std.specs.Prelude.{◌≡◌, Some, IfOk, IsFalse, IsTrue, flat_map, option_map, string_bytes};
 ghost use Rattle.eco_ids.specs.Outcome.{is_out_of_memory};
 ghost use Rattle.eco_grammar.specs.Readings.{ok_map};
-ghost use Rattle.eco_script.specs.Recording.{ReadsAction, ReadsActions, ReadsCommand, ReadsCommands, has_stages};
+ghost use Rattle.eco_script.specs.Recording.{ReadsAction, ReadsActions, ReadsChange, ReadsCommand, ReadsCommands, has_stages};
 ghost use Rattle.eco_stages.specs.Commands.{command_of};
 ghost use Rattle.eco_steps.specs.Actions as actions;
 ghost use Rattle.eco_steps.specs.Commands as texts;
-ghost use Rattle.eco_steps.specs.Views.{action_view, actions_view, command_view, commands_view, stages_view};
+ghost use Rattle.eco_steps.specs.Views.{action_view, actions_view, change_view, command_view, commands_view, stages_view};
 ghost use Rattle.eco_world.specs.Merging.{all_commands};
 
 use crate::references::{read_both, read_entity, read_id};
 use eco_bodies::Action;
 use eco_ids::{Refusal, Value};
-use eco_steps::{Actions, Commands, Stages};
+use eco_steps::{Actions, Commands, Stages, WrittenAction, WrittenChange, WrittenCommand};
 use eco_world::{Command, Stage, World};
 use std::alloc::{AllocError, Global};
 
@@ -24,28 +24,28 @@ fn create(world: &World, handle: &str) -> Result<Command, Refusal>
 }
 
 fn add(world: &World, entity: &str, id: &str) -> Result<Command, Refusal>
-    ensures { ReadsCommand world.now (texts.add entity.now id.now) (ok_map command_of result) }
+    ensures { ReadsChange world.now (texts.add entity.now id.now) (ok_map command_of result) }
 {
     let (entity, id) = read_both(entity, id, world)?;
     Ok(Command::Add(entity, id))
 }
 
 fn remove(world: &World, entity: &str, id: &str) -> Result<Command, Refusal>
-    ensures { ReadsCommand world.now (texts.remove entity.now id.now) (ok_map command_of result) }
+    ensures { ReadsChange world.now (texts.remove entity.now id.now) (ok_map command_of result) }
 {
     let (entity, id) = read_both(entity, id, world)?;
     Ok(Command::Remove(entity, id))
 }
 
 fn set(world: &World, entity: &str, id: &str, value: Value) -> Result<Command, Refusal>
-    ensures { ReadsCommand world.now (texts.set entity.now id.now value) (ok_map command_of result) }
+    ensures { ReadsChange world.now (texts.set entity.now id.now value) (ok_map command_of result) }
 {
     let (entity, id) = read_both(entity, id, world)?;
     Ok(Command::Set(entity, id, value))
 }
 
 fn clear(world: &World, entity: &str) -> Result<Command, Refusal>
-    ensures { ReadsCommand world.now (texts.clear entity.now) (ok_map command_of result) }
+    ensures { ReadsChange world.now (texts.clear entity.now) (ok_map command_of result) }
 {
     Ok(Command::Clear(read_entity(entity, world)?))
 }
@@ -67,7 +67,7 @@ fn rename(
     entity: &str,
     name: Option<&str>,
 ) -> Result<Command, Refusal>
-    ensures { IsFalse (is_out_of_memory result) → ReadsCommand world.now
+    ensures { IsFalse (is_out_of_memory result) → ReadsChange world.now
         (texts.rename entity.now (option_map (λ s. s.now) name.entry)) (ok_map command_of result) }
 {
     let entity = read_entity(entity, world)?;
@@ -75,42 +75,52 @@ fn rename(
 }
 
 fn delete(world: &World, entity: &str) -> Result<Command, Refusal>
-    ensures { ReadsCommand world.now (texts.delete entity.now) (ok_map command_of result) }
+    ensures { ReadsChange world.now (texts.delete entity.now) (ok_map command_of result) }
 {
     Ok(Command::Delete(read_entity(entity, world)?))
 }
 
 fn delete_with(world: &World, id: &str) -> Result<Command, Refusal>
-    ensures { ReadsCommand world.now (texts.delete_with id.now) (ok_map command_of result) }
+    ensures { ReadsChange world.now (texts.delete_with id.now) (ok_map command_of result) }
 {
     Ok(Command::DeleteWith(read_id(id, world)?))
 }
 
 fn remove_all(world: &World, id: &str) -> Result<Command, Refusal>
-    ensures { ReadsCommand world.now (texts.remove_all id.now) (ok_map command_of result) }
+    ensures { ReadsChange world.now (texts.remove_all id.now) (ok_map command_of result) }
 {
     Ok(Command::RemoveAll(read_id(id, world)?))
+}
+
+// The command that the texts of a change name on a world.
+fn read_change(alloc: Global, world: &World, change: WrittenChange<'_>) -> Result<Command, Refusal>
+    ensures { IsFalse (is_out_of_memory result)
+        → ReadsChange world.now (change_view change.entry) (ok_map command_of result) }
+{
+    match change {
+        WrittenChange::Add { entity, id } => add(world, entity, id),
+        WrittenChange::Remove { entity, id } => remove(world, entity, id),
+        WrittenChange::Set { entity, id, value } => set(world, entity, id, value),
+        WrittenChange::Clear { entity } => clear(world, entity),
+        WrittenChange::Rename { entity, name } => rename(alloc, world, entity, name),
+        WrittenChange::Delete { entity } => delete(world, entity),
+        WrittenChange::DeleteWith { id } => delete_with(world, id),
+        WrittenChange::RemoveAll { id } => remove_all(world, id),
+    }
 }
 
 // The command that texts name on a world.
 fn read_command(
     alloc: Global,
     world: &World,
-    command: eco_steps::Command<'_>,
+    command: WrittenCommand<'_>,
 ) -> Result<Command, Refusal>
     ensures { IsFalse (is_out_of_memory result)
         → ReadsCommand world.now (command_view command.entry) (ok_map command_of result) }
 {
     match command {
-        eco_steps::Command::Create { handle } => create(world, handle),
-        eco_steps::Command::Add { entity, id } => add(world, entity, id),
-        eco_steps::Command::Remove { entity, id } => remove(world, entity, id),
-        eco_steps::Command::Set { entity, id, value } => set(world, entity, id, value),
-        eco_steps::Command::Clear { entity } => clear(world, entity),
-        eco_steps::Command::Rename { entity, name } => rename(alloc, world, entity, name),
-        eco_steps::Command::Delete { entity } => delete(world, entity),
-        eco_steps::Command::DeleteWith { id } => delete_with(world, id),
-        eco_steps::Command::RemoveAll { id } => remove_all(world, id),
+        WrittenCommand::Create { handle } => create(world, handle),
+        WrittenCommand::Change(change) => read_change(alloc, world, change),
     }
 }
 
@@ -168,17 +178,17 @@ fn spawn(world: &World, id: &str) -> Result<Action, Refusal>
 }
 
 // The action that texts name on a world.
-fn read_action(world: &World, action: eco_steps::Action<'_>) -> Result<Action, Refusal>
+fn read_action(world: &World, action: WrittenAction<'_>) -> Result<Action, Refusal>
     ensures { ReadsAction world.now (action_view action.entry) result }
 {
     match action {
-        eco_steps::Action::Add { id } => add_id(world, id),
-        eco_steps::Action::Remove { id } => remove_id(world, id),
-        eco_steps::Action::Put { slot, value } => Ok(Action::Put { slot, value }),
-        eco_steps::Action::Sum { into, from } => Ok(Action::Sum { into, from }),
-        eco_steps::Action::Kill => Ok(Action::Kill),
-        eco_steps::Action::Spawn { id: None } => Ok(Action::Spawn(None)),
-        eco_steps::Action::Spawn { id: Some(id) } => spawn(world, id),
+        WrittenAction::Add { id } => add_id(world, id),
+        WrittenAction::Remove { id } => remove_id(world, id),
+        WrittenAction::Put { slot, value } => Ok(Action::Put { slot, value }),
+        WrittenAction::Sum { into, from } => Ok(Action::Sum { into, from }),
+        WrittenAction::Kill => Ok(Action::Kill),
+        WrittenAction::Spawn { id: None } => Ok(Action::Spawn(None)),
+        WrittenAction::Spawn { id: Some(id) } => spawn(world, id),
     }
 }
 

@@ -15,7 +15,7 @@ use crate::status::Status;
 use crate::{perform, reply};
 use eco_bodies::Systems;
 use eco_devices::{DeviceFailed, ScriptReader, ScriptWriter};
-use eco_steps::{ReadError, Script, Step};
+use eco_steps::{ReadError, WrittenScript, WrittenStep};
 use eco_world::World;
 use serde_json::Value;
 use std::alloc::{AllocError, Global};
@@ -31,7 +31,7 @@ fn run_step<R: Threads + Sync>(
     world: &mut World,
     systems: &mut Systems,
     workers: u32,
-    step: &Step<'_>,
+    step: &WrittenStep<'_>,
     text: &mut String,
 ) -> Result<(), AllocError>
     requires workers { (1 ≤ workers) × (workers ≤ 64) }
@@ -68,7 +68,7 @@ fn run_steps<R: Threads + Sync, W: ScriptWriter>(
     alloc: Global,
     world: &mut World,
     workers: u32,
-    steps: &[Step<'_>],
+    steps: &[WrittenStep<'_>],
     writer: &mut W,
 ) -> Result<(), Fault>
     requires workers { (1 ≤ workers) × (workers ≤ 64) }
@@ -121,7 +121,7 @@ fn run_bytes<R: Threads + Sync, W: ScriptWriter>(
         Err(e) if e.is_memory() => return Err(Fault::Memory),
         Err(_) => return Err(Fault::NotRead),
     };
-    let script = match Script::read(alloc, &value) {
+    let script = match WrittenScript::read(alloc, &value) {
         Ok(script) => script,
         Err(ReadError::NotAScript) => return Err(Fault::NotRead),
         Err(ReadError::OutOfMemory) => return Err(Fault::Memory),

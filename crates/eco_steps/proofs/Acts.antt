@@ -1,19 +1,18 @@
 -- What is found in a value is exactly the phase, or the actions, that it is.
-use Rattle.std.proofs.Common.{◌≡◌, ℕ, true, List, [], ◌∷◌, Option, Some, None, option_map, option_and_then, refl, codes, arith}
+use Rattle.std.proofs.Common.{◌≡◌, ℕ, List, [], ◌∷◌, Some, None, option_and_then, refl, codes, arith}
 use Rattle.std.specs.Str.{bytes_eq}
 use Rattle.std.proofs.lemmas.Option.{option_and_then_some}
 use Rattle.serde_json.specs.Data.{Data, string}
 use Rattle.serde_json.specs.Find.{as_str}
 use Rattle.eco_ids.specs.declared.edition.Edition.{Edition}
-use Rattle.eco_ids.specs.declared.value.Value.{Value}
 use Rattle.eco_systems.specs.declared.phase.Phase.{Phase}
 use Rattle.eco_systems.specs.declared.phase.Phase.TheVariants.{OnLoad, PostLoad, PreUpdate, OnUpdate, OnValidate, PostUpdate, PreStore, OnStore}
-use Rattle.eco_steps.specs.Actions.{Action, add, remove, put, sum, kill, spawn}
+use Rattle.eco_steps.specs.Actions.{WrittenAction, add, remove, put, sum, kill, spawn}
 use Rattle.eco_steps.specs.Decode.{list_in, each_in, value_of_data, slot_in, phase_of, action_of_none, action_of_text, action_of_slot, action_of}
 use Rattle.eco_steps.specs.Decode.{action_in, actions_in, words_in}
 use Rattle.eco_steps.specs.Steps.{IsSlotData, IsActionData, IsActionsData, phase_word, written_list}
 use Rattle.eco_steps.proofs.Parts.{number_in_range, value_found, chosen, word_is, str_is, number_is, list_is, value_is, words_is}
-use Rattle.eco_steps.proofs.Values.{items_list-items_of, each_found, each_is}
+use Rattle.eco_steps.proofs.Values.{mapped, items_list-items_of, each_found, each_is}
 
 -- ---- phases
 
@@ -51,7 +50,7 @@ slot_is d n e = let (is, low, high) = number_is 0 31 d n e in (is, high)
 
 module _ (edition : Edition) where
   -- what is written is found
-  action_found : (d : Data) (a : Action) → IsActionData edition d a → action_in edition d ≡ Some a
+  action_found : (d : Data) (a : WrittenAction) → IsActionData edition d a → action_in edition d ≡ Some a
   action_found d (add i) is = rw is refl
   action_found d (remove i) is = rw is refl
   action_found d (put n v) (place, value, is, at, of) = rw (is, slot_found place n at, value_found edition value v of) refl
@@ -60,55 +59,42 @@ module _ (edition : Edition) where
   action_found d (spawn None) is = rw is refl
   action_found d (spawn (Some i)) is = rw is refl
 
-  pub actions_found : (d : Data) (actions : List Action) → IsActionsData edition d actions → actions_in edition d ≡ Some actions
+  pub actions_found : (d : Data) (actions : List WrittenAction) → IsActionsData edition d actions → actions_in edition d ≡ Some actions
   actions_found d actions (items, is, are) = rw (is, items_list-items_of items)
       (each_found (action_in edition) (IsActionData edition) action_found items actions are)
 
   -- what is found is what is written
-  none_is : (w : List ℕ) (a : Action) → action_of_none w ≡ Some a → IsActionData edition (written_list w []) a
+  none_is : (w : List ℕ) (a : WrittenAction) → action_of_none w ≡ Some a → IsActionData edition (written_list w []) a
   none_is w a e =
       chosen _ (bytes_eq w (codes "kill")) _ _ a e (λ t h. let q : a ≡ kill = cc in rw (q, word_is w _ t) refl)
       (λ f. chosen _ (bytes_eq w (codes "spawn")) _ _ a f (λ t h. let q : a ≡ spawn None = cc in rw (q, word_is w _ t) refl) (λ h. cc))
 
-  text_is : (w x : List ℕ) (a : Action) → action_of_text w x ≡ Some a → IsActionData edition (written_list w (string x ∷ [])) a
+  text_is : (w x : List ℕ) (a : WrittenAction) → action_of_text w x ≡ Some a → IsActionData edition (written_list w (string x ∷ [])) a
   text_is w x a e =
       chosen _ (bytes_eq w (codes "add")) _ _ a e (λ t h. let q : a ≡ add x = cc in rw (q, word_is w _ t) refl)
       (λ f. chosen _ (bytes_eq w (codes "remove")) _ _ a f (λ t h. let q : a ≡ remove x = cc in rw (q, word_is w _ t) refl)
       (λ g. chosen _ (bytes_eq w (codes "spawn")) _ _ a g (λ t h. let q : a ≡ spawn (Some x) = cc in rw (q, word_is w _ t) refl) (λ h. cc)))
 
-  put_is : (w : List ℕ) (d e : Data) (n : ℕ) (a : Action) → IsSlotData d n → bytes_eq w (codes "put") ≡ true
-      → option_map (put n) (value_of_data edition e) ≡ Some a
-      → IsActionData edition (written_list w (d ∷ e ∷ [])) a
-  put_is w d e n a at t f = valued (value_of_data edition e) refl f where
-    valued : (o : Option Value) → value_of_data edition e ≡ o → option_map (put n) o ≡ Some a → IsActionData edition (written_list w (d ∷ e ∷ [])) a
-    valued None is h = cc
-    valued (Some v) is h = let q : a ≡ put n v = cc in rw (q, word_is w _ t) (d, e, refl, at, value_is edition e v is)
-
-  sum_is : (w : List ℕ) (d e : Data) (n : ℕ) (a : Action) → IsSlotData d n → bytes_eq w (codes "sum") ≡ true → option_map (sum n) (slot_in e) ≡ Some a
-      → IsActionData edition (written_list w (d ∷ e ∷ [])) a
-  sum_is w d e n a at t f = counted (slot_in e) refl f where
-    counted : (o : Option ℕ) → slot_in e ≡ o → option_map (sum n) o ≡ Some a → IsActionData edition (written_list w (d ∷ e ∷ [])) a
-    counted None is h = cc
-    counted (Some m) is h = let q : a ≡ sum n m = cc in rw (q, word_is w _ t) (d, e, refl, at, slot_is e m is)
-
-  slots_are : (w : List ℕ) (d e : Data) (n : ℕ) (a : Action) → IsSlotData d n → action_of_slot edition w n e ≡ Some a
+  slots_are : (w : List ℕ) (d e : Data) (n : ℕ) (a : WrittenAction) → IsSlotData d n → action_of_slot edition w n e ≡ Some a
       → IsActionData edition (written_list w (d ∷ e ∷ [])) a
   slots_are w d e n a at f =
-      chosen _ (bytes_eq w (codes "put")) _ _ a f (put_is w d e n a at)
-      (λ g. chosen _ (bytes_eq w (codes "sum")) _ _ a g (sum_is w d e n a at) (λ h. cc))
+      chosen _ (bytes_eq w (codes "put")) _ _ a f
+      (λ t h. mapped (put n) (value_of_data edition e) a h (λ v is q. rw (q, word_is w _ t) (d, e, refl, at, value_is edition e v is)))
+      (λ g. chosen _ (bytes_eq w (codes "sum")) _ _ a g
+      (λ t h. mapped (sum n) (slot_in e) a h (λ m is q. rw (q, word_is w _ t) (d, e, refl, at, slot_is e m is))) (λ h. cc))
 
-  action_of_is : (w : List ℕ) (ds : List Data) (a : Action) → action_of edition w ds ≡ Some a → IsActionData edition (written_list w ds) a
+  action_of_is : (w : List ℕ) (ds : List Data) (a : WrittenAction) → action_of edition w ds ≡ Some a → IsActionData edition (written_list w ds) a
   action_of_is w [] a e = none_is w a e
   action_of_is w (d ∷ []) a e = option_and_then_some (action_of_text w) (as_str d) a e (λ x is h. rw (str_is d x is) (text_is w x a h))
   action_of_is w (d ∷ f ∷ []) a e =
       option_and_then_some (λ n. action_of_slot edition w n f) (slot_in d) a e (λ n is h. slots_are w d f n a (slot_is d n is) h)
   action_of_is w (d ∷ f ∷ g ∷ ds) a e = cc
 
-  action_is : (d : Data) (a : Action) → action_in edition d ≡ Some a → IsActionData edition d a
+  action_is : (d : Data) (a : WrittenAction) → action_in edition d ≡ Some a → IsActionData edition d a
   action_is d a e =
       option_and_then_some (λ p. action_of edition p.0 p.1) (words_in d) a e (λ p is h. rw (words_is d p.0 p.1 is) (action_of_is p.0 p.1 a h))
 
-  pub actions_are : (d : Data) (actions : List Action) → actions_in edition d ≡ Some actions → IsActionsData edition d actions
+  pub actions_are : (d : Data) (actions : List WrittenAction) → actions_in edition d ≡ Some actions → IsActionsData edition d actions
   actions_are d actions e =
       option_and_then_some (each_in (action_in edition)) (list_in d) actions e
       (λ items is h. (items, list_is d items is, each_is (action_in edition) (IsActionData edition) action_is items actions h))

@@ -9,7 +9,7 @@ use Rattle.std.proofs.lemmas.Int.{to_z-of_z}
 use Rattle.std.proofs.lemmas.List.{append-nil, drop_all, drop-drop, drop-replicate, drop-set-lt, length-drop, length-map, length-replicate, take-append-drop}
 use Rattle.std.proofs.lemmas.List.{take_more_set}
 use Rattle.std.proofs.lemmas.Slice.Eq.{bytes_eq-Decides}
-use Rattle.std.proofs.lemmas.Option.{option_and_then_some, some_pair_parts}
+use Rattle.std.proofs.lemmas.Option.{option_and_then_some}
 use Rattle.serde_json.specs.Data.{Data, null, boolean, number, string, array, object, unsigned, negative, float}
 use Rattle.serde_json.specs.Find.{as_str}
 use Rattle.eco_ids.specs.declared.edition.Edition.{Edition}
@@ -21,7 +21,7 @@ use Rattle.eco_ids.specs.World.{padded}
 use Rattle.eco_steps.specs.Decode.{items_list, list_in, each_in, name_in, number_in, integer_in, value_of_items, value_of_data}
 use Rattle.eco_steps.specs.Decode.{words_of, words_in}
 use Rattle.eco_steps.specs.Steps.{IsIntegerData, IsValueData, written_list, list_data, name_data}
-use Rattle.eco_steps.proofs.Values.{items_list-items_of, items_of-items_list, each_found, each_is, one_more}
+use Rattle.eco_steps.proofs.Values.{mapped, items_list-items_of, items_of-items_list, each_found, each_is, one_more}
 
 -- ---- what is written is found
 
@@ -123,14 +123,12 @@ module _ (edition : Edition) where
 
   -- each of the items is a field
   fields_are : (ds : List Data) (v : Value) → value_of_items edition ds ≡ Some v → IsValueData edition (list_data ds) v
-  fields_are ds v e = counted (each_in integer_in ds) refl (few ds (option_map padded (each_in integer_in ds)) v e) where
-    counted : (o : Option (List ℤ)) → each_in integer_in ds ≡ o
-        → (1 ≤ length ds) × (length ds ≤ largest_arity edition) × (option_map padded o ≡ Some v) → IsValueData edition (list_data ds) v
-    counted None n (low, high, h) = cc
-    counted (Some fields) n (low, high, h) =
-        let are = each_is integer_in IsIntegerData integer_is ds fields n in
-        let long = same_length IsIntegerData ds fields are in
-        record { items = ds; fields = fields; is_list = refl; are_integers = are; at_least = omega arith; at_most = omega arith; filled = cc }
+  fields_are ds v e =
+      let (low, high, h) = few ds (option_map padded (each_in integer_in ds)) v e in
+      mapped padded (each_in integer_in ds) v h (λ fields n q.
+      let are = each_is integer_in IsIntegerData integer_is ds fields n in
+      let long = same_length IsIntegerData ds fields are in
+      record { items = ds; fields = fields; is_list = refl; are_integers = are; at_least = omega arith; at_most = omega arith; filled = q })
 
   pub value_is : (d : Data) (v : Value) → value_of_data edition d ≡ Some v → IsValueData edition d v
   value_is d v e = option_and_then_some (value_of_items edition) (list_in d) v e (λ ds is h. rw (list_is d ds is) (fields_are ds v h))
@@ -183,11 +181,10 @@ field_read f items i item fields z there small is found zeros =
 -- what has a word in front is written so
 words_are : (es : List Data) (w : List ℕ) (ds : List Data) → words_of es ≡ Some (w, ds) → list_data es ≡ written_list w ds
 words_are [] w ds e = cc
-words_are (word ∷ rest) w ds e = said (as_str word) refl e where
-  said : (o : Option (List ℕ)) → as_str word ≡ o → option_map {U = List ℕ × List Data} (λ t. (t, rest)) o ≡ Some (w, ds)
-      → list_data (word ∷ rest) ≡ written_list w ds
-  said None is h = cc
-  said (Some t) is h = let (p, q) = some_pair_parts t w rest ds h in rw (str_is word t is, p, q) refl
+words_are (word ∷ rest) w ds e =
+    let with_rest : List ℕ → List ℕ × List Data = λ t. (t, rest) in
+    mapped with_rest (as_str word) (w, ds) e (λ t is q.
+    rw (str_is word t is, ap (λ (x : List ℕ × List Data). x.0) q, ap (λ (x : List ℕ × List Data). x.1) q) refl)
 
 pub words_is : (d : Data) (w : List ℕ) (ds : List Data) → words_in d ≡ Some (w, ds) → d ≡ written_list w ds
 words_is d w ds e = option_and_then_some words_of (list_in d) (w, ds) e (λ es is h. list_is d es is ∙ words_are es w ds h)

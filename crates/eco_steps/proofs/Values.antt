@@ -9,6 +9,11 @@ use Rattle.serde_json.specs.Data.{Data, Items, no_items, item}
 use Rattle.serde_json.specs.View.{items_of}
 use Rattle.eco_steps.specs.Decode.{items_list, list_in, each_in}
 
+-- what was made is made of something
+pub mapped : {A B P : Type 0} (f : A → B) (o : Option A) (y : B) → option_map f o ≡ Some y → ((x : A) → o ≡ Some x → y ≡ f x → P) → P
+mapped f None y e k = cc
+mapped f (Some x) y e k = k x refl cc
+
 pub items_list-items_of : (ds : List Data) → items_list (items_of ds) ≡ ds
 items_list-items_of [] = refl
 items_list-items_of (d ∷ ds) = ap (λ es. d ∷ es) (items_list-items_of ds)
@@ -25,18 +30,12 @@ module _ {A : Type 0} (find : Data → Option A) (Is : Data → A → Type 0) wh
   each_found one (d ∷ ds) [] are = absurd are
   each_found one (d ∷ ds) (x ∷ xs) (is, are) = rw (one d x is, each_found one ds xs are) refl
 
-  -- one in front of others
-  each_more : (d : Data) (ds : List Data) (x : A) (o : Option (List A)) (ys : List A) → Is d x
-      → ((xs : List A) → o ≡ Some xs → AllZip Is ds xs) → option_map (λ xs. x ∷ xs) o ≡ Some ys → AllZip Is (d ∷ ds) ys
-  each_more d ds x None ys is are h = cc
-  each_more d ds x (Some xs) ys is are h = let q : ys ≡ x ∷ xs = cc in rw q (is, are xs refl)
-
   -- what is found in each is written there
   pub each_is : ((d : Data) (x : A) → find d ≡ Some x → Is d x) → (ds : List Data) (xs : List A) → each_in find ds ≡ Some xs → AllZip Is ds xs
   each_is one [] xs e = let q : xs ≡ [] = cc in rw q tt
   each_is one (d ∷ ds) xs e =
       option_and_then_some (λ x. option_map (λ ys. x ∷ ys) (each_in find ds)) (find d) xs e
-      (λ x is h. each_more d ds x (each_in find ds) xs (one d x is) (λ ys n. each_is one ds ys n) h)
+      (λ x is h. mapped (λ ys. x ∷ ys) (each_in find ds) xs h (λ ys n q. rw q (one d x is, each_is one ds ys n)))
 
 -- what was found so far, and what is found in the rest, are all
 module _ {V A : Type 0} (view : V → Data) (find : Data → Option A) where
@@ -70,27 +69,21 @@ module _ {V A : Type 0} (view : V → Data) (find : Data → Option A) where
 
 -- what was found in each of some values, and the values that it was found in
 module _ {V A : Type 0} (view : V → Data) (find : Data → Option A) where
-  -- the first, and those behind it
-  parted : (P : Type 0) (x : A) (o : Option (List A)) (ys : List A) → option_map (λ xs. x ∷ xs) o ≡ Some ys
-      → ((xs : List A) → o ≡ Some xs → ys ≡ x ∷ xs → P) → P
-  parted P x None ys e k = cc
-  parted P x (Some xs) ys e k = k xs refl cc
-
   each_length : (vs : List V) (xs : List A) → each_in find (map view vs) ≡ Some xs → length xs ≡ length vs
   each_length [] xs e = let q : xs ≡ [] = cc in rw q refl
   each_length (v ∷ vs) xs e =
       option_and_then_some (λ x. option_map (λ ys. x ∷ ys) (each_in find (map view vs))) (find (view v)) xs e
-      (λ x is h. parted _ x (each_in find (map view vs)) xs h (λ ys n q. rw q (ap suc (each_length vs ys n))))
+      (λ x is h. mapped (λ ys. x ∷ ys) (each_in find (map view vs)) xs h (λ ys n q. rw q (ap suc (each_length vs ys n))))
 
   each_get : (vs : List V) (xs : List A) (i : ℕ) → each_in find (map view vs) ≡ Some xs
       → slice_get xs i ≡ option_and_then (λ v. find (view v)) (slice_get vs i)
   each_get [] xs i e = let q : xs ≡ [] = cc in rw q refl
   each_get (v ∷ vs) xs zero e =
       option_and_then_some (λ x. option_map (λ ys. x ∷ ys) (each_in find (map view vs))) (find (view v)) xs e
-      (λ x is h. parted _ x (each_in find (map view vs)) xs h (λ ys n q. rw (q, is) refl))
+      (λ x is h. mapped (λ ys. x ∷ ys) (each_in find (map view vs)) xs h (λ ys n q. rw (q, is) refl))
   each_get (v ∷ vs) xs (suc i) e =
       option_and_then_some (λ x. option_map (λ ys. x ∷ ys) (each_in find (map view vs))) (find (view v)) xs e
-      (λ x is h. parted _ x (each_in find (map view vs)) xs h (λ ys n q. rw q (each_get vs ys i n)))
+      (λ x is h. mapped (λ ys. x ∷ ys) (each_in find (map view vs)) xs h (λ ys n q. rw q (each_get vs ys i n)))
 
   with_all : (P : List A → Type 0) (o : Option (List A)) → IsSome o → ((xs : List A) → o ≡ Some xs → P xs) → P (unwrap_or o [])
   with_all P None some k = cc

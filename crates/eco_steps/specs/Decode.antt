@@ -2,6 +2,7 @@
 -- that it finds exactly the scripts is proved over it.
 use Rattle.std.specs.Prelude.{ℕ, ◌^◌, ◌==◌, ◌&&◌, ℤ, pos, negsuc, List, [], ◌∷◌, length, codes, Option, Some, None, option_map, option_and_then, nat_le, nat_lt}
 use Rattle.std.specs.Prelude.{if◌then◌else◌}
+use Rattle.std.specs.Option.{option_or}
 use Rattle.std.specs.Str.{bytes_eq}
 use Rattle.serde_json.specs.Data.{Data, null, boolean, number, string, array, object, Items, no_items, item, Num, unsigned, negative, float}
 use Rattle.serde_json.specs.Find.{as_number, as_str, as_array, as_u64}
@@ -12,13 +13,12 @@ use Rattle.eco_ids.specs.Edition.{builtin_count, largest_arity}
 use Rattle.eco_ids.specs.World.{padded}
 use Rattle.eco_systems.specs.declared.phase.Phase.{Phase}
 use Rattle.eco_systems.specs.declared.phase.Phase.TheVariants.{OnLoad, PostLoad, PreUpdate, OnUpdate, OnValidate, PostUpdate, PreStore, OnStore}
-use Rattle.eco_steps.specs.Steps.{Step, create, component, add, remove, set, clear, remove_all, delete, delete_with, rename, has, get, show, list, query}
-use Rattle.eco_steps.specs.Steps.{cache, cached, merge, system, frame, phase_word}
-use Rattle.eco_steps.specs.Actions.{Action}
+use Rattle.eco_steps.specs.Steps.{WrittenStep, create, component, change, has, get, show, list, query, cache, cached, merge, system, frame, phase_word}
+use Rattle.eco_steps.specs.Actions.{WrittenAction}
 use Rattle.eco_steps.specs.Actions as action
-use Rattle.eco_steps.specs.Commands.{WrittenCommand}
+use Rattle.eco_steps.specs.Commands.{WrittenChange, WrittenCommand, add, remove, set, clear, rename, delete, delete_with, remove_all}
 use Rattle.eco_steps.specs.Commands as command
-use Rattle.eco_steps.specs.Script.{Script}
+use Rattle.eco_steps.specs.Script.{WrittenScript}
 
 -- items as a list
 abbrev pub items_list : Items → List Data
@@ -58,38 +58,57 @@ name_in (string s) = Some (Some s)
 name_in (array ds) = None
 name_in (object ms) = None
 
+-- the change with this word and one text
+abbrev pub change_of_text : List ℕ → List ℕ → Option WrittenChange
+change_of_text word text =
+    if bytes_eq word (codes "clear") then Some (clear text)
+    else (if bytes_eq word (codes "delete") then Some (delete text)
+    else (if bytes_eq word (codes "delete_with") then Some (delete_with text)
+    else (if bytes_eq word (codes "remove_all") then Some (remove_all text) else None)))
+
+-- the change with this word and two texts
+abbrev pub change_of_texts : List ℕ → List ℕ → List ℕ → Option WrittenChange
+change_of_texts word text other =
+    if bytes_eq word (codes "add") then Some (add text other)
+    else (if bytes_eq word (codes "remove") then Some (remove text other) else None)
+
+-- the change with this word, a text and one more argument
+abbrev pub change_of_two : List ℕ → List ℕ → Data → Option WrittenChange
+change_of_two word text d =
+    if bytes_eq word (codes "rename") then option_map (rename text) (name_in d)
+    else option_and_then (change_of_texts word text) (as_str d)
+
+-- the command that makes a handle alive, with these arguments
+abbrev pub created_of : List Data → Option WrittenCommand
+created_of (handle ∷ []) = option_map command.create (as_str handle)
+created_of _ = None
+
 -- the step with this word and no argument
-abbrev pub step_of_none : List ℕ → Option Step
+abbrev pub step_of_none : List ℕ → Option WrittenStep
 step_of_none word =
     if bytes_eq word (codes "create") then Some (create None)
     else (if bytes_eq word (codes "list") then Some list
     else (if bytes_eq word (codes "frame") then Some frame else None))
 
 -- the step with this word and one text
-abbrev pub step_of_text : List ℕ → List ℕ → Option Step
+abbrev pub step_of_text : List ℕ → List ℕ → Option WrittenStep
 step_of_text word text =
     if bytes_eq word (codes "create") then Some (create (Some text))
-    else (if bytes_eq word (codes "clear") then Some (clear text)
-    else (if bytes_eq word (codes "remove_all") then Some (remove_all text)
-    else (if bytes_eq word (codes "delete") then Some (delete text)
-    else (if bytes_eq word (codes "delete_with") then Some (delete_with text)
     else (if bytes_eq word (codes "show") then Some (show text)
     else (if bytes_eq word (codes "query") then Some (query text)
-    else (if bytes_eq word (codes "cache") then Some (cache text) else None)))))))
+    else (if bytes_eq word (codes "cache") then Some (cache text) else None)))
 
 -- the step with this word and one argument
-abbrev pub step_of_one : List ℕ → Data → Option Step
+abbrev pub step_of_one : List ℕ → Data → Option WrittenStep
 step_of_one word d =
     if bytes_eq word (codes "cached") then option_map cached (number_in 0 4294967295 d)
     else option_and_then (step_of_text word) (as_str d)
 
 -- the step with this word and two texts
-abbrev pub step_of_texts : List ℕ → List ℕ → List ℕ → Option Step
+abbrev pub step_of_texts : List ℕ → List ℕ → List ℕ → Option WrittenStep
 step_of_texts word text other =
-    if bytes_eq word (codes "add") then Some (add text other)
-    else (if bytes_eq word (codes "remove") then Some (remove text other)
-    else (if bytes_eq word (codes "has") then Some (has text other)
-    else (if bytes_eq word (codes "get") then Some (get text other) else None)))
+    if bytes_eq word (codes "has") then Some (has text other)
+    else (if bytes_eq word (codes "get") then Some (get text other) else None)
 
 -- a word, and what stands behind it in its list
 abbrev pub words_of : List Data → Option (List ℕ × List Data)
@@ -99,30 +118,6 @@ words_of (word ∷ arguments) = option_map (λ w. (w, arguments)) (as_str word)
 -- these parts of a value
 abbrev pub words_in : Data → Option (List ℕ × List Data)
 words_in d = option_and_then words_of (list_in d)
-
--- the command that a step is, if a stage may hold it
-abbrev pub command_in_step : Step → Option WrittenCommand
-command_in_step (create None) = None
-command_in_step (create (Some handle)) = Some (command.create handle)
-command_in_step (component name arity) = None
-command_in_step (add entity id) = Some (command.add entity id)
-command_in_step (remove entity id) = Some (command.remove entity id)
-command_in_step (set entity id v) = Some (command.set entity id v)
-command_in_step (clear entity) = Some (command.clear entity)
-command_in_step (remove_all id) = Some (command.remove_all id)
-command_in_step (delete entity) = Some (command.delete entity)
-command_in_step (delete_with id) = Some (command.delete_with id)
-command_in_step (rename entity name) = Some (command.rename entity name)
-command_in_step (has entity id) = None
-command_in_step (get entity id) = None
-command_in_step (show entity) = None
-command_in_step list = None
-command_in_step (query text) = None
-command_in_step (cache text) = None
-command_in_step (cached n) = None
-command_in_step (merge admitted stages) = None
-command_in_step (system name phase text actions) = None
-command_in_step frame = None
 
 -- the phase of a word
 abbrev pub phase_of : List ℕ → Option Phase
@@ -137,13 +132,13 @@ phase_of word =
     else (if bytes_eq word (phase_word OnStore) then Some OnStore else None)))))))
 
 -- the action with this word and no argument
-abbrev pub action_of_none : List ℕ → Option Action
+abbrev pub action_of_none : List ℕ → Option WrittenAction
 action_of_none word =
     if bytes_eq word (codes "kill") then Some action.kill
     else (if bytes_eq word (codes "spawn") then Some (action.spawn None) else None)
 
 -- the action with this word and one text
-abbrev pub action_of_text : List ℕ → List ℕ → Option Action
+abbrev pub action_of_text : List ℕ → List ℕ → Option WrittenAction
 action_of_text word text =
     if bytes_eq word (codes "add") then Some (action.add text)
     else (if bytes_eq word (codes "remove") then Some (action.remove text)
@@ -163,32 +158,25 @@ module _ (edition : Edition) where
   abbrev pub value_of_data : Data → Option Value
   value_of_data d = option_and_then value_of_items (list_in d)
 
-  -- the step with this word, a text and one more argument
-  abbrev pub step_of_two : List ℕ → List ℕ → Data → Option Step
-  step_of_two word text d =
-      if bytes_eq word (codes "component") then option_map (component text) (number_in 1 (largest_arity edition) d)
-      else (if bytes_eq word (codes "rename") then option_map (rename text) (name_in d)
-      else option_and_then (step_of_texts word text) (as_str d))
+  -- the change with this word, two texts and one more argument
+  abbrev pub change_of_three : List ℕ → List ℕ → List ℕ → Data → Option WrittenChange
+  change_of_three word text other d = if bytes_eq word (codes "set") then option_map (set text other) (value_of_data d) else None
 
-  -- the step with this word, two texts and one more argument
-  abbrev pub step_of_three : List ℕ → List ℕ → List ℕ → Data → Option Step
-  step_of_three word text other d = if bytes_eq word (codes "set") then option_map (set text other) (value_of_data d) else None
+  -- the change with this word and these arguments, by how many there are
+  abbrev pub change_with : List ℕ → List Data → Option WrittenChange
+  change_with w [] = None
+  change_with w (d ∷ []) = option_and_then (change_of_text w) (as_str d)
+  change_with w (d ∷ e ∷ []) = option_and_then (λ text. change_of_two w text e) (as_str d)
+  change_with w (d ∷ e ∷ f ∷ []) = option_and_then (λ text. option_and_then (λ other. change_of_three w text other f) (as_str e)) (as_str d)
+  change_with w (d ∷ e ∷ f ∷ g ∷ ds) = None
 
-  -- the step with this word and these arguments, by how many there are
-  abbrev pub step_of : List ℕ → List Data → Option Step
-  step_of w [] = step_of_none w
-  step_of w (d ∷ []) = step_of_one w d
-  step_of w (d ∷ e ∷ []) = option_and_then (λ text. step_of_two w text e) (as_str d)
-  step_of w (d ∷ e ∷ f ∷ []) = option_and_then (λ text. option_and_then (λ other. step_of_three w text other f) (as_str e)) (as_str d)
-  step_of w (d ∷ e ∷ f ∷ g ∷ ds) = None
-
-  -- the step that a value is, where it holds no other
-  abbrev pub alone_in : Data → Option Step
-  alone_in d = option_and_then (λ p. step_of p.0 p.1) (words_in d)
+  -- the command with this word and these arguments
+  abbrev pub command_with : List ℕ → List Data → Option WrittenCommand
+  command_with w ds = if bytes_eq w (codes "create") then created_of ds else option_map command.change (change_with w ds)
 
   -- the command that a value is
   abbrev pub command_in : Data → Option WrittenCommand
-  command_in d = option_and_then command_in_step (alone_in d)
+  command_in d = option_and_then (λ p. command_with p.0 p.1) (words_in d)
 
   -- the commands that a value lists
   abbrev pub stage_in : Data → Option (List WrittenCommand)
@@ -198,51 +186,64 @@ module _ (edition : Edition) where
   abbrev pub stages_in : Data → Option (List (List WrittenCommand))
   stages_in d = option_and_then (each_in stage_in) (list_in d)
 
+  -- the step with this word, a text and one more argument
+  abbrev pub step_of_two : List ℕ → List ℕ → Data → Option WrittenStep
+  step_of_two word text d =
+      if bytes_eq word (codes "component") then option_map (component text) (number_in 1 (largest_arity edition) d)
+      else option_and_then (step_of_texts word text) (as_str d)
+
+  -- the step with this word and these arguments, by how many there are, which is no change and holds no other
+  abbrev pub step_of : List ℕ → List Data → Option WrittenStep
+  step_of w [] = step_of_none w
+  step_of w (d ∷ []) = step_of_one w d
+  step_of w (d ∷ e ∷ []) = option_and_then (λ text. step_of_two w text e) (as_str d)
+  step_of w (d ∷ e ∷ f ∷ ds) = None
+
   -- the merge with these arguments
-  abbrev pub merge_of_data : List Data → Option Step
+  abbrev pub merge_of_data : List Data → Option WrittenStep
   merge_of_data (admitted ∷ stages ∷ []) =
       option_and_then (λ n. option_map (merge n) (stages_in stages)) (number_in 0 1048576 admitted)
   merge_of_data _ = None
 
   -- the action with this word, a slot and one more argument
-  abbrev pub action_of_slot : List ℕ → ℕ → Data → Option Action
+  abbrev pub action_of_slot : List ℕ → ℕ → Data → Option WrittenAction
   action_of_slot word slot d =
       if bytes_eq word (codes "put") then option_map (action.put slot) (value_of_data d)
       else (if bytes_eq word (codes "sum") then option_map (action.sum slot) (slot_in d) else None)
 
   -- the action with this word and these arguments, by how many there are
-  abbrev pub action_of : List ℕ → List Data → Option Action
+  abbrev pub action_of : List ℕ → List Data → Option WrittenAction
   action_of w [] = action_of_none w
   action_of w (d ∷ []) = option_and_then (action_of_text w) (as_str d)
   action_of w (d ∷ e ∷ []) = option_and_then (λ slot. action_of_slot w slot e) (slot_in d)
   action_of w (d ∷ e ∷ f ∷ ds) = None
 
   -- the action that a value is
-  abbrev pub action_in : Data → Option Action
+  abbrev pub action_in : Data → Option WrittenAction
   action_in d = option_and_then (λ p. action_of p.0 p.1) (words_in d)
 
   -- the actions that a value lists
-  abbrev pub actions_in : Data → Option (List Action)
+  abbrev pub actions_in : Data → Option (List WrittenAction)
   actions_in d = option_and_then (each_in action_in) (list_in d)
 
   -- the system with this name and these further arguments
-  abbrev pub named_system_of_data : List ℕ → Data → Data → Data → Option Step
+  abbrev pub named_system_of_data : List ℕ → Data → Data → Data → Option WrittenStep
   named_system_of_data name phase text actions =
       option_and_then (λ p. option_and_then (λ t. option_map (system name p t) (actions_in actions)) (as_str text)) (option_and_then phase_of (as_str phase))
 
   -- the system with these arguments
-  abbrev pub system_of_data : List Data → Option Step
+  abbrev pub system_of_data : List Data → Option WrittenStep
   system_of_data (name ∷ phase ∷ text ∷ actions ∷ []) = option_and_then (λ n. named_system_of_data n phase text actions) (as_str name)
   system_of_data _ = None
 
   -- the step with this word and these arguments
-  abbrev pub step_with : List ℕ → List Data → Option Step
+  abbrev pub step_with : List ℕ → List Data → Option WrittenStep
   step_with w ds =
       if bytes_eq w (codes "merge") then merge_of_data ds
-      else (if bytes_eq w (codes "system") then system_of_data ds else step_of w ds)
+      else (if bytes_eq w (codes "system") then system_of_data ds else option_or (option_map change (change_with w ds)) (step_of w ds))
 
   -- the step that a value is
-  abbrev pub step_in : Data → Option Step
+  abbrev pub step_in : Data → Option WrittenStep
   step_in d = option_and_then (λ p. step_with p.0 p.1) (words_in d)
 
 -- the edition that a version stands for
@@ -275,9 +276,9 @@ abbrev pub parts_in : Data → Option Parts
 parts_in d = option_and_then parts_of (list_in d)
 
 -- the script of such parts
-abbrev pub script_of : Parts → Option Script
+abbrev pub script_of : Parts → Option WrittenScript
 script_of p = option_map (λ ss. record { edition = p.0; limit = p.1; steps = ss }) (each_in (step_in p.0) p.2)
 
 -- the script that a value is
-abbrev pub script_in : Data → Option Script
+abbrev pub script_in : Data → Option WrittenScript
 script_in d = option_and_then script_of (parts_in d)

@@ -11,35 +11,28 @@ use Rattle.eco_ids.specs.Edition.{largest_arity}
 use Rattle.eco_ids.specs.World.{padded}
 use Rattle.eco_systems.specs.declared.phase.Phase.{Phase}
 use Rattle.eco_systems.specs.declared.phase.Phase.TheVariants.{OnLoad, PostLoad, PreUpdate, OnUpdate, OnValidate, PostUpdate, PreStore, OnStore}
-use Rattle.eco_steps.specs.Actions.{Action}
+use Rattle.eco_steps.specs.Actions.{WrittenAction}
 use Rattle.eco_steps.specs.Actions as action
-use Rattle.eco_steps.specs.Commands.{WrittenCommand}
+use Rattle.eco_steps.specs.Commands.{WrittenChange, WrittenCommand, add, remove, set, clear, rename, delete, delete_with, remove_all}
 use Rattle.eco_steps.specs.Commands as command
 
 -- what a script may ask for, with its texts as they are written: an entity by its name or handle, an id likewise or a pair,
--- a name, or a query; a query that was added before, by its number; a merge of stages, with how many more indices it
+-- a name, or a query; a change; a query that was added before, by its number; a merge of stages, with how many more indices it
 -- makes known; a system with its name, its phase, its query and its actions; and a frame of the systems declared so far
-pub data Step : Type 0 where
-  create : Option (List ℕ) → Step
-  component : List ℕ → ℕ → Step
-  add : List ℕ → List ℕ → Step
-  remove : List ℕ → List ℕ → Step
-  set : List ℕ → List ℕ → Value → Step
-  clear : List ℕ → Step
-  remove_all : List ℕ → Step
-  delete : List ℕ → Step
-  delete_with : List ℕ → Step
-  rename : List ℕ → Option (List ℕ) → Step
-  has : List ℕ → List ℕ → Step
-  get : List ℕ → List ℕ → Step
-  show : List ℕ → Step
-  list : Step
-  query : List ℕ → Step
-  cache : List ℕ → Step
-  cached : ℕ → Step
-  merge : ℕ → List (List WrittenCommand) → Step
-  system : List ℕ → Phase → List ℕ → List Action → Step
-  frame : Step
+pub data WrittenStep : Type 0 where
+  create : Option (List ℕ) → WrittenStep
+  component : List ℕ → ℕ → WrittenStep
+  change : WrittenChange → WrittenStep
+  has : List ℕ → List ℕ → WrittenStep
+  get : List ℕ → List ℕ → WrittenStep
+  show : List ℕ → WrittenStep
+  list : WrittenStep
+  query : List ℕ → WrittenStep
+  cache : List ℕ → WrittenStep
+  cached : ℕ → WrittenStep
+  merge : ℕ → List (List WrittenCommand) → WrittenStep
+  system : List ℕ → Phase → List ℕ → List WrittenAction → WrittenStep
+  frame : WrittenStep
 
 -- a list of JSON values
 abbrev pub list_data : List Data → Data
@@ -86,18 +79,22 @@ IsSlotData d slot = (d ≡ number (unsigned slot)) × (slot ≤ 31)
 
 -- what a script of an edition may hold
 module _ (edition : Edition) where
-  -- the JSON value is this command: it is written as the step of the same name
+  -- the JSON value is this change
+  abbrev pub IsChangeData : Data → WrittenChange → Type 0
+  IsChangeData d (add entity id) = d ≡ written_list (codes "add") (string entity ∷ string id ∷ [])
+  IsChangeData d (remove entity id) = d ≡ written_list (codes "remove") (string entity ∷ string id ∷ [])
+  IsChangeData d (set entity id v) =
+      (value : Data) × (d ≡ written_list (codes "set") (string entity ∷ string id ∷ value ∷ [])) × IsValueData edition value v
+  IsChangeData d (clear entity) = d ≡ written_list (codes "clear") (string entity ∷ [])
+  IsChangeData d (rename entity name) = d ≡ written_list (codes "rename") (string entity ∷ name_data name ∷ [])
+  IsChangeData d (delete entity) = d ≡ written_list (codes "delete") (string entity ∷ [])
+  IsChangeData d (delete_with id) = d ≡ written_list (codes "delete_with") (string id ∷ [])
+  IsChangeData d (remove_all id) = d ≡ written_list (codes "remove_all") (string id ∷ [])
+
+  -- the JSON value is this command
   abbrev pub IsCommandData : Data → WrittenCommand → Type 0
   IsCommandData d (command.create handle) = d ≡ written_list (codes "create") (string handle ∷ [])
-  IsCommandData d (command.add entity id) = d ≡ written_list (codes "add") (string entity ∷ string id ∷ [])
-  IsCommandData d (command.remove entity id) = d ≡ written_list (codes "remove") (string entity ∷ string id ∷ [])
-  IsCommandData d (command.set entity id v) =
-      (value : Data) × (d ≡ written_list (codes "set") (string entity ∷ string id ∷ value ∷ [])) × IsValueData edition value v
-  IsCommandData d (command.clear entity) = d ≡ written_list (codes "clear") (string entity ∷ [])
-  IsCommandData d (command.rename entity name) = d ≡ written_list (codes "rename") (string entity ∷ name_data name ∷ [])
-  IsCommandData d (command.delete entity) = d ≡ written_list (codes "delete") (string entity ∷ [])
-  IsCommandData d (command.delete_with id) = d ≡ written_list (codes "delete_with") (string id ∷ [])
-  IsCommandData d (command.remove_all id) = d ≡ written_list (codes "remove_all") (string id ∷ [])
+  IsCommandData d (command.change c) = IsChangeData d c
 
   -- the JSON value is the list of these commands
   abbrev pub IsStageData : Data → List WrittenCommand → Type 0
@@ -108,7 +105,7 @@ module _ (edition : Edition) where
   IsStagesData d stages = (items : List Data) × (d ≡ list_data items) × AllZip IsStageData items stages
 
   -- the JSON value is this action
-  abbrev pub IsActionData : Data → Action → Type 0
+  abbrev pub IsActionData : Data → WrittenAction → Type 0
   IsActionData d (action.add id) = d ≡ written_list (codes "add") (string id ∷ [])
   IsActionData d (action.remove id) = d ≡ written_list (codes "remove") (string id ∷ [])
   IsActionData d (action.put slot v) =
@@ -120,23 +117,16 @@ module _ (edition : Edition) where
   IsActionData d (action.spawn (Some id)) = d ≡ written_list (codes "spawn") (string id ∷ [])
 
   -- the JSON value is the list of these actions
-  abbrev pub IsActionsData : Data → List Action → Type 0
+  abbrev pub IsActionsData : Data → List WrittenAction → Type 0
   IsActionsData d actions = (items : List Data) × (d ≡ list_data items) × AllZip IsActionData items actions
 
   -- the JSON value is this step
-  abbrev pub IsStepData : Data → Step → Type 0
+  abbrev pub IsStepData : Data → WrittenStep → Type 0
   IsStepData d (create None) = d ≡ written_list (codes "create") []
   IsStepData d (create (Some name)) = d ≡ written_list (codes "create") (string name ∷ [])
   IsStepData d (component name arity) =
       (d ≡ written_list (codes "component") (string name ∷ number (unsigned arity) ∷ [])) × (1 ≤ arity) × (arity ≤ largest_arity edition)
-  IsStepData d (add entity id) = d ≡ written_list (codes "add") (string entity ∷ string id ∷ [])
-  IsStepData d (remove entity id) = d ≡ written_list (codes "remove") (string entity ∷ string id ∷ [])
-  IsStepData d (set entity id v) = (value : Data) × (d ≡ written_list (codes "set") (string entity ∷ string id ∷ value ∷ [])) × IsValueData edition value v
-  IsStepData d (clear entity) = d ≡ written_list (codes "clear") (string entity ∷ [])
-  IsStepData d (remove_all id) = d ≡ written_list (codes "remove_all") (string id ∷ [])
-  IsStepData d (delete entity) = d ≡ written_list (codes "delete") (string entity ∷ [])
-  IsStepData d (delete_with id) = d ≡ written_list (codes "delete_with") (string id ∷ [])
-  IsStepData d (rename entity name) = d ≡ written_list (codes "rename") (string entity ∷ name_data name ∷ [])
+  IsStepData d (change c) = IsChangeData d c
   IsStepData d (has entity id) = d ≡ written_list (codes "has") (string entity ∷ string id ∷ [])
   IsStepData d (get entity id) = d ≡ written_list (codes "get") (string entity ∷ string id ∷ [])
   IsStepData d (show entity) = d ≡ written_list (codes "show") (string entity ∷ [])
@@ -151,6 +141,6 @@ module _ (edition : Edition) where
   IsStepData d frame = d ≡ written_list (codes "frame") []
 
 -- the arity of a component that the step makes is one that the edition allows
-abbrev pub KeepsTo : Edition → Step → Type 0
+abbrev pub KeepsTo : Edition → WrittenStep → Type 0
 KeepsTo edition (component name arity) = (1 ≤ arity) × (arity ≤ largest_arity edition)
 KeepsTo edition _ = ⊤

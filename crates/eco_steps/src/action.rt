@@ -12,7 +12,7 @@ use serde_json::Value;
 /// What a system of a script may do with a row of its query, with the texts of the value that it was read from. Slots are counted
 /// from 0, and are 31 at most.
 #[derive(Clone, Copy)]
-pub enum Action<'a> {
+pub enum WrittenAction<'a> {
     Add { id: &'a str },
     Remove { id: &'a str },
     Put { slot: usize, value: eco_ids::Value },
@@ -28,40 +28,45 @@ fn read_slot(value: &Value) -> Option<usize>
     Some(read_number(value, 0, 31)? as usize)
 }
 
-impl<'a> Action<'a> {
+impl<'a> WrittenAction<'a> {
     // An action without arguments.
-    fn of_none(word: &str) -> Option<Action<'a>>
+    fn of_none(word: &str) -> Option<WrittenAction<'a>>
         ensures { option_map action_view result ≡ action_of_none word.now }
     {
         match word {
-            "kill" => Some(Action::Kill),
-            "spawn" => Some(Action::Spawn { id: None }),
+            "kill" => Some(WrittenAction::Kill),
+            "spawn" => Some(WrittenAction::Spawn { id: None }),
             _ => None,
         }
     }
 
     // An action with one text.
-    fn of_text(word: &str, id: &'a str) -> Option<Action<'a>>
+    fn of_text(word: &str, id: &'a str) -> Option<WrittenAction<'a>>
         ensures { option_map action_view result ≡ action_of_text word.now id.entry.now }
     {
         match word {
-            "add" => Some(Action::Add { id }),
-            "remove" => Some(Action::Remove { id }),
-            "spawn" => Some(Action::Spawn { id: Some(id) }),
+            "add" => Some(WrittenAction::Add { id }),
+            "remove" => Some(WrittenAction::Remove { id }),
+            "spawn" => Some(WrittenAction::Spawn { id: Some(id) }),
             _ => None,
         }
     }
 
     // An action with a slot and another argument.
-    fn of_slot(edition: Edition, word: &str, slot: usize, argument: &Value) -> Option<Action<'a>>
+    fn of_slot(
+        edition: Edition,
+        word: &str,
+        slot: usize,
+        argument: &Value,
+    ) -> Option<WrittenAction<'a>>
         ensures { option_map action_view result ≡ action_of_slot edition word.now slot (view argument.now) }
     {
         match word {
-            "put" => Some(Action::Put {
+            "put" => Some(WrittenAction::Put {
                 slot,
                 value: read_value(edition, argument)?,
             }),
-            "sum" => Some(Action::Sum {
+            "sum" => Some(WrittenAction::Sum {
                 into: slot,
                 from: read_slot(argument)?,
             }),
@@ -70,22 +75,22 @@ impl<'a> Action<'a> {
     }
 
     // An action with these arguments.
-    fn of(edition: Edition, word: &str, arguments: &'a [Value]) -> Option<Action<'a>>
+    fn of(edition: Edition, word: &str, arguments: &'a [Value]) -> Option<WrittenAction<'a>>
         ensures { option_map action_view result ≡ action_of edition word.now (map view arguments.now) }
     {
         match arguments {
-            [] => Action::of_none(word),
-            [id] => Action::of_text(word, id.as_str()?),
-            [slot, argument] => Action::of_slot(edition, word, read_slot(slot)?, argument),
+            [] => WrittenAction::of_none(word),
+            [id] => WrittenAction::of_text(word, id.as_str()?),
+            [slot, argument] => WrittenAction::of_slot(edition, word, read_slot(slot)?, argument),
             _ => None,
         }
     }
 
     /// The action that a value is in a script of an edition, if it is one.
-    pub fn read(edition: Edition, value: &'a Value) -> Option<Action<'a>>
+    pub fn read(edition: Edition, value: &'a Value) -> Option<WrittenAction<'a>>
         ensures { option_map action_view result ≡ action_in edition (view value.now) }
     {
         let (word, arguments) = read_words(value)?;
-        Action::of(edition, word, arguments)
+        WrittenAction::of(edition, word, arguments)
     }
 }

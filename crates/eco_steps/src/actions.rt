@@ -5,7 +5,7 @@ ghost use Rattle.std.specs.List.{slice_get};
 ghost use Rattle.serde_json.specs.View.{view};
 ghost use Rattle.eco_steps.specs.Decode.{action_in, each_in, actions_in};
 
-use crate::action::Action;
+use crate::action::WrittenAction;
 use crate::arguments::read_list;
 use eco_ids::Edition;
 use serde_json::Value;
@@ -28,7 +28,7 @@ impl<'a> Actions<'a> {
     {
         let values = read_list(value)?;
         for item in values {
-            Action::read(edition, item)?;
+            WrittenAction::read(edition, item)?;
         }
         Some(Actions { edition, values })
     }
@@ -41,10 +41,10 @@ impl<'a> Actions<'a> {
     }
 
     /// The action at a place, counted from 0, if there is one.
-    pub fn get(&self, place: usize) -> Option<Action<'a>>
+    pub fn get(&self, place: usize) -> Option<WrittenAction<'a>>
         ensures { option_map action_view result ≡ slice_get (actions_view self.now) place }
     {
         let value = self.values.get(place)?;
-        Action::read(self.edition, value)
+        WrittenAction::read(self.edition, value)
     }
 }

@@ -1,75 +1,51 @@
 //! Commands of stages: which command a JSON value is.
 
-ghost use Rattle.std.specs.Prelude.{◌≡◌, option_map};
+ghost use Rattle.std.specs.Prelude.{◌≡◌, map, option_map};
 ghost use Rattle.serde_json.specs.View.{view};
-ghost use Rattle.eco_steps.specs.Decode.{command_in, command_in_step};
-ghost use Rattle.eco_steps.specs.Views.{command_view, step_view};
+ghost use Rattle.eco_steps.specs.Decode.{command_in, command_with, created_of};
+ghost use Rattle.eco_steps.specs.Views.{command_view};
 
-use crate::step::Step;
+use crate::arguments::read_words;
+use crate::change::WrittenChange;
 use eco_ids::Edition;
 use serde_json::Value;
 
 /// What a stage of a script may hold, with the texts of the value that it was read from.
 #[derive(Clone, Copy)]
-pub enum Command<'a> {
-    Create {
-        handle: &'a str,
-    },
-    Add {
-        entity: &'a str,
-        id: &'a str,
-    },
-    Remove {
-        entity: &'a str,
-        id: &'a str,
-    },
-    Set {
-        entity: &'a str,
-        id: &'a str,
-        value: eco_ids::Value,
-    },
-    Clear {
-        entity: &'a str,
-    },
-    Rename {
-        entity: &'a str,
-        name: Option<&'a str>,
-    },
-    Delete {
-        entity: &'a str,
-    },
-    DeleteWith {
-        id: &'a str,
-    },
-    RemoveAll {
-        id: &'a str,
-    },
+pub enum WrittenCommand<'a> {
+    Create { handle: &'a str },
+    Change(WrittenChange<'a>),
 }
 
-impl<'a> Command<'a> {
-    // The command that a step is, if a stage may hold it.
-    fn of_step(step: Step<'a>) -> Option<Command<'a>>
-        ensures { option_map command_view result ≡ command_in_step (step_view step.entry) }
+impl<'a> WrittenCommand<'a> {
+    // The command that makes a handle alive, with these arguments.
+    fn create(arguments: &'a [Value]) -> Option<WrittenCommand<'a>>
+        ensures { option_map command_view result ≡ created_of (map view arguments.now) }
     {
-        let command = match step {
-            Step::Create(Some(handle)) => Command::Create { handle },
-            Step::Add { entity, id } => Command::Add { entity, id },
-            Step::Remove { entity, id } => Command::Remove { entity, id },
-            Step::Set { entity, id, value } => Command::Set { entity, id, value },
-            Step::Clear { entity } => Command::Clear { entity },
-            Step::Rename { entity, name } => Command::Rename { entity, name },
-            Step::Delete { entity } => Command::Delete { entity },
-            Step::DeleteWith { id } => Command::DeleteWith { id },
-            Step::RemoveAll { id } => Command::RemoveAll { id },
-            _ => return None,
+        let [handle] = arguments else {
+            return None;
         };
-        Some(command)
+        Some(WrittenCommand::Create {
+            handle: handle.as_str()?,
+        })
+    }
+
+    // The command with these arguments.
+    fn of(edition: Edition, word: &str, arguments: &'a [Value]) -> Option<WrittenCommand<'a>>
+        ensures { option_map command_view result
+            ≡ command_with edition word.now (map view arguments.now) }
+    {
+        match word {
+            "create" => WrittenCommand::create(arguments),
+            _ => Some(WrittenCommand::Change(WrittenChange::of(edition, word, arguments)?)),
+        }
     }
 
     /// The command that a value is in a script of an edition, if it is one.
-    pub fn read(edition: Edition, value: &'a Value) -> Option<Command<'a>>
+    pub fn read(edition: Edition, value: &'a Value) -> Option<WrittenCommand<'a>>
         ensures { option_map command_view result ≡ command_in edition (view value.now) }
     {
-        Command::of_step(Step::read_alone(edition, value)?)
+        let (word, arguments) = read_words(value)?;
+        WrittenCommand::of(edition, word, arguments)
     }
 }

@@ -6,7 +6,7 @@ ghost use Rattle.serde_json.specs.View.{view};
 ghost use Rattle.eco_steps.specs.Decode.{command_in, each_in, stage_in};
 
 use crate::arguments::read_list;
-use crate::command::Command;
+use crate::command::WrittenCommand;
 use eco_ids::Edition;
 use serde_json::Value;
 
@@ -28,7 +28,7 @@ impl<'a> Commands<'a> {
     {
         let values = read_list(value)?;
         for item in values {
-            Command::read(edition, item)?;
+            WrittenCommand::read(edition, item)?;
         }
         Some(Commands { edition, values })
     }
@@ -50,10 +50,10 @@ impl<'a> Commands<'a> {
     }
 
     /// The command at a place, counted from 0, if there is one.
-    pub fn get(&self, place: usize) -> Option<Command<'a>>
+    pub fn get(&self, place: usize) -> Option<WrittenCommand<'a>>
         ensures { option_map command_view result ≡ slice_get (commands_view self.now) place }
     {
         let value = self.values.get(place)?;
-        Command::read(self.edition, value)
+        WrittenCommand::read(self.edition, value)
     }
 }

@@ -8,17 +8,17 @@ ghost use Rattle.eco_steps.specs.Views.{step_view};
 
 use crate::arguments::{read_limit, read_list, read_version};
 use crate::read_error::ReadError;
-use crate::step::Step;
+use crate::step::WrittenStep;
 use eco_ids::Edition;
 use serde_json::Value;
 use std::alloc::Global;
 
 /// The edition and the limit of a world, and the steps that are run on it.
 #[derive(Drop)]
-pub struct Script<'a> {
+pub struct WrittenScript<'a> {
     pub edition: Edition,
     pub limit: u32,
-    pub steps: Vec<Step<'a>>,
+    pub steps: Vec<WrittenStep<'a>>,
 }
 
 // The edition, the limit, and the list of the steps, of what has the three parts of a script.
@@ -33,7 +33,11 @@ fn read_parts(value: &Value) -> Option<(Edition, u32, &[Value])>
 }
 
 // The steps of a list, if each item is one.
-fn read_steps(alloc: Global, edition: Edition, values: &[Value]) -> Result<Vec<Step<'_>>, ReadError>
+fn read_steps(
+    alloc: Global,
+    edition: Edition,
+    values: &[Value],
+) -> Result<Vec<WrittenStep<'_>>, ReadError>
     ensures ok { IfOk result (λ v.
         each_in (step_in edition) (map view values.now) ≡ Some (map step_view v.items)) }
     ensures not_a_script { IsErrOf result ReadError.NotAScript
@@ -41,7 +45,7 @@ fn read_steps(alloc: Global, edition: Edition, values: &[Value]) -> Result<Vec<S
 {
     let mut steps = Vec::with_capacity(alloc, values.len())?;
     for value in values {
-        let Some(step) = Step::read(edition, value) else {
+        let Some(step) = WrittenStep::read(edition, value) else {
             return Err(ReadError::NotAScript);
         };
         steps.push(step)?;
@@ -49,24 +53,24 @@ fn read_steps(alloc: Global, edition: Edition, values: &[Value]) -> Result<Vec<S
     Ok(steps)
 }
 
-impl<'a> Script<'a> {
+impl<'a> WrittenScript<'a> {
     ghost use Rattle.eco_steps.specs.Script as spec;
     ghost use Rattle.eco_steps.specs.Script.{IsScriptData};
     ghost use Rattle.eco_steps.specs.Views.{script_view};
 
     /// The script that a value is. It is read whole before any step is run.
-    pub fn read(alloc: Global, value: &'a Value) -> Result<Script<'a>, ReadError>
+    pub fn read(alloc: Global, value: &'a Value) -> Result<WrittenScript<'a>, ReadError>
         ensures ok { IfOk result (λ s. IsScriptData (view value.now) (script_view s)) }
         ensures keeps { IfOk result (λ s.
             All (λ step. KeepsTo s.edition (step_view step)) s.steps.items) }
         ensures not_a_script { IsErrOf result ReadError.NotAScript
-            → (s : spec.Script) → ¬ IsScriptData (view value.now) s }
+            → (s : spec.WrittenScript) → ¬ IsScriptData (view value.now) s }
     {
         let Some((edition, limit, items)) = read_parts(value) else {
             return Err(ReadError::NotAScript);
         };
         let steps = read_steps(alloc, edition, items)?;
-        Ok(Script {
+        Ok(WrittenScript {
             edition,
             limit,
             steps,

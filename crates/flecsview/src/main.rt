@@ -14,7 +14,7 @@ ghost use Rattle.eco_steps.specs.Views.{step_view};
 
 use arguments::Request;
 use eco_bodies::Systems;
-use eco_steps::{ReadError, Script, read_list};
+use eco_steps::{ReadError, WrittenScript, read_list};
 use eco_world::World;
 use serde_json::Value;
 use std::process::ExitCode;
@@ -72,7 +72,7 @@ fn view_script<T: Threads + Sync>(
     rt: &HostRuntime,
     threads: &T,
     request: &Request<'_>,
-    script: &Script<'_>,
+    script: &WrittenScript<'_>,
     values: &[Value],
 ) -> Result<u8, Stopped>
     requires at_least { builtin_count script.now.edition ≤ script.now.limit }
@@ -109,7 +109,7 @@ fn view_bytes<T: Threads + Sync>(
         Err(e) if e.is_memory() => return Err(Stopped),
         Err(_) => return Ok(refuse(rt, "script not read", NOT_READ)),
     };
-    match Script::read(rt.alloc(), &value) {
+    match WrittenScript::read(rt.alloc(), &value) {
         Ok(script) => view_script(rt, threads, request, &script, step_values(&value)),
         Err(ReadError::NotAScript) => Ok(refuse(rt, "script not read", NOT_READ)),
         Err(ReadError::OutOfMemory) => Err(Stopped),

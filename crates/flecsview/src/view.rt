@@ -11,7 +11,7 @@ use eco_ids::Refusal;
 use eco_meaning::push_meaning;
 use eco_script::perform::perform;
 use eco_script::reply::push_step_lines;
-use eco_steps::Step;
+use eco_steps::WrittenStep;
 use eco_world::World;
 use serde_json::Value;
 use std::alloc::{AllocError, Global};
@@ -52,7 +52,7 @@ fn push_refusal(
     alloc: Global,
     text: &mut String,
     world: &World,
-    step: &Step<'_>,
+    step: &WrittenStep<'_>,
     refusal: &Refusal,
 ) -> Result<(), AllocError> {
     text.push_str("      means ")?;
@@ -66,7 +66,7 @@ fn view_step<T: Threads + Sync>(
     alloc: Global,
     world: &mut World,
     systems: &mut Systems,
-    step: &Step<'_>,
+    step: &WrittenStep<'_>,
     text: &mut String,
     has_names: bool,
 ) -> Result<(), AllocError>
@@ -89,7 +89,7 @@ pub fn view_steps<T: Threads + Sync>(
     threads: &T,
     world: &mut World,
     systems: &mut Systems,
-    steps: &[Step<'_>],
+    steps: &[WrittenStep<'_>],
     values: &[Value],
     has_names: bool,
 ) -> Result<(), Stopped>

@@ -3,7 +3,7 @@ use Rattle.std.proofs.lemmas.Result.{err_from_is_err_and}
 use Rattle.serde_json.specs.View.{view}
 use Rattle.eco_steps.specs.Views.{step_view}
 use Rattle.eco_steps.proofs.Decodes.{script_is, steps_keep, no_steps}
-use Rattle.eco_steps.proofs.script.Script.read.Goals as goal
+use Rattle.eco_steps.proofs.script.WrittenScript.read.Goals as goal
 
 pub returns-in_err-steps-clause-not_a_script : goal.returns-in_err-steps-clause-not_a_script
 returns-in_err-steps-clause-not_a_script c = λ e.

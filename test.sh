@@ -76,7 +76,19 @@ is_built() {
     [ -x "$program" ] && { [ "$prove" -eq 0 ] || [ "$program" -nt "$room/begun" ]; }
 }
 
-[ "$prove" -eq 0 ] || run rt ci
+# Each check on one processor, as many side by side as there are, if each has 5 GB: a check that is shared out among
+# several takes more of their time together.
+lanes() {
+    local most
+    most=$(awk '/^MemAvailable/ {print int($2 / 5000000)}' /proc/meminfo)
+    echo $(($(nproc) < most ? $(nproc) : most > 1 ? most : 1))
+}
+
+if [ "$prove" -eq 1 ]; then
+    RT_JOBS=${RT_JOBS:-$(lanes)}
+    export RT_JOBS
+    run rt ci
+fi
 run tools/growing_calls
 for part in faults:./faults.sh flecsrun:tools/rows flecsview:tools/views; do
     if is_built "${part%%:*}"; then

@@ -205,7 +205,7 @@ module _ (texts : TextsRead) where
     reads_both e i =
         let (x, is) = reads_entity w e in
         let (y, of) = reads_id w i in
-        (ok_both (λ a b. (a, b)) x y, x, y, is, of, refl)
+        (ok_both (λ a b. (a, b)) x y, (x, y, is, of, refl))
 
     change_ends : (c : WrittenChange) → Ends (Changes w c)
     change_ends (change.add e i) = named_ends _ _ (reads_both e i) (λ p. add_ends w p.0 p.1)

@@ -9,14 +9,15 @@
 mod answer;
 mod commands;
 mod dump;
+mod finding;
 mod scenario;
 mod scene;
 mod shared;
-mod verdict;
 mod worlds;
 
 use eco_ids::Refusal;
 use eco_shared::Blank;
+use finding::{Finding, judge};
 use scenario::{SCENARIOS, Scenario};
 use shared::judge_shared;
 use std::marker::Brand;
@@ -24,14 +25,13 @@ use std::process::ExitCode;
 use std::sync::Wait;
 use std::thread::Threads;
 use std::{env, io};
-use verdict::{Verdict, judge};
 
 // What comes of the call of a scenario. The registry of a shared world gets its name here: `Brand` stands for one that this call
 // picks (proofs/judge_any).
 fn judge_any<R: Eprint + Threads + Wait + Copy + Drop + Sync + AllocGlobal>(
     rt: &R,
     scenario: Scenario,
-) -> Result<Verdict, Refusal> {
+) -> Result<Finding, Refusal> {
     match scenario {
         Scenario::OpenShared | Scenario::MergeShared => {
             judge_shared::<Brand, R>(*rt, rt.alloc(), Blank::new(), scenario)

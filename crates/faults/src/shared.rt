@@ -4,9 +4,9 @@ ghost use Rattle.std.specs.Prelude.{◌≡◌};
 use crate::answer::{Answer, text_of};
 use crate::commands::ADMITTED;
 use crate::dump::dump_of;
+use crate::finding::{Finding, begin_call, conclude, difference, end_call};
 use crate::scenario::Scenario;
 use crate::scene::Scene;
-use crate::verdict::{Verdict, begin_call, conclude, difference, end_call};
 use eco_ids::Refusal;
 use eco_shared::{Blank, Merger, Naming, Registry, Viewer, open};
 use eco_world::{Report, World};
@@ -148,16 +148,16 @@ impl<J: Naming, R: Eprint + Threads + Wait + Sync + Drop> Shared<J, R> {
         &mut self,
         rt: &R,
         answer: &Result<Answer, Refusal>,
-    ) -> Result<Verdict, Refusal> {
+    ) -> Result<Finding, Refusal> {
         let expected = self.other.follow(rt, answer)?;
         match self.compare(rt, answer, &expected)? {
-            Some(found) => Ok(Verdict::Fault(found)),
+            Some(found) => Ok(Finding::Fault(found)),
             None => self.conclude(rt, answer),
         }
     }
 
     // Makes the call, and says what came of it.
-    fn judge_call(&mut self, rt: &R) -> Result<Verdict, Refusal> {
+    fn judge_call(&mut self, rt: &R) -> Result<Finding, Refusal> {
         self.other.arm()?;
         begin_call(rt);
         let answer = self.merge();
@@ -166,10 +166,10 @@ impl<J: Naming, R: Eprint + Threads + Wait + Sync + Drop> Shared<J, R> {
     }
 
     // What came of a merge that has another before it, which the merger makes once more.
-    fn judge_merge(&mut self, rt: &R) -> Result<Verdict, Refusal> {
+    fn judge_merge(&mut self, rt: &R) -> Result<Finding, Refusal> {
         self.other.arm_first()?;
         match self.merge_both(rt)? {
-            Some(found) => Ok(Verdict::Fault(found)),
+            Some(found) => Ok(Finding::Fault(found)),
             None => self.judge_call(rt),
         }
     }
@@ -179,17 +179,17 @@ impl<J: Naming, R: Eprint + Threads + Wait + Sync + Drop> Shared<J, R> {
         &mut self,
         rt: &R,
         answer: &Result<Answer, Refusal>,
-    ) -> Result<Verdict, Refusal> {
+    ) -> Result<Finding, Refusal> {
         match self.compare_worlds(rt)? {
-            Some(found) => Ok(Verdict::Fault(found)),
+            Some(found) => Ok(Finding::Fault(found)),
             None => self.conclude(rt, answer),
         }
     }
 
     // What came of a call that did as it is to do, once it is known what the next merges do.
-    fn conclude(&mut self, rt: &R, answer: &Result<Answer, Refusal>) -> Result<Verdict, Refusal> {
+    fn conclude(&mut self, rt: &R, answer: &Result<Answer, Refusal>) -> Result<Finding, Refusal> {
         match self.go_on(rt)? {
-            Some(found) => Ok(Verdict::Fault(found)),
+            Some(found) => Ok(Finding::Fault(found)),
             None => conclude(self.alloc, answer),
         }
     }
@@ -241,9 +241,9 @@ fn judge_refused<J: Naming, R: Eprint + Threads + Wait + Copy + Sync + Drop>(
     registry: &mut Registry<J>,
     (world, refusal): (World, Refusal),
     other: Scene,
-) -> Result<Verdict, Refusal> {
+) -> Result<Finding, Refusal> {
     if let Some(found) = compare_handed_back(alloc, &world, refusal, &other)? {
-        return Ok(Verdict::Fault(found));
+        return Ok(Finding::Fault(found));
     }
     let mut shared = share(rt, alloc, registry, world, other)?;
     shared.judge_opened(&rt, &Err(refusal))
@@ -256,7 +256,7 @@ fn judge_open<J: Naming, R: Eprint + Threads + Wait + Copy + Sync + Drop>(
     registry: &mut Registry<J>,
     world: World,
     other: Scene,
-) -> Result<Verdict, Refusal> {
+) -> Result<Finding, Refusal> {
     begin_call(&rt);
     let opened = open(rt, registry, alloc, world, VIEWERS);
     end_call(&rt);
@@ -281,7 +281,7 @@ fn judge_merged<J: Naming, R: Eprint + Threads + Wait + Copy + Sync + Drop>(
     registry: &mut Registry<J>,
     world: World,
     other: Scene,
-) -> Result<Verdict, Refusal> {
+) -> Result<Finding, Refusal> {
     let mut shared = share(rt, alloc, registry, world, other)?;
     shared.judge_merge(&rt)
 }
@@ -293,7 +293,7 @@ fn judge_copies<J: Naming, R: Eprint + Threads + Wait + Copy + Sync + Drop>(
     registry: &mut Registry<J>,
     first: &Scene,
     scenario: Scenario,
-) -> Result<Verdict, Refusal> {
+) -> Result<Finding, Refusal> {
     let other = first.try_copy()?;
     let world = first.copy_world()?;
     match scenario {
@@ -308,7 +308,7 @@ pub fn judge_shared<J: Naming, R: Eprint + Threads + Wait + Copy + Sync + Drop>(
     alloc: Global,
     blank: Blank,
     scenario: Scenario,
-) -> Result<Verdict, Refusal>
+) -> Result<Finding, Refusal>
     requires { blank.front.seen.book ≡ J.book }
 {
     let mut registry = blank.named::<J>();

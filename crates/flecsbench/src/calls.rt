@@ -1,6 +1,6 @@
 //! The calls that are measured.
 
-/// Calls whose time is measured. Those of a scene's work go through it in order.
+/// Calls whose time is measured. Those of a setting's work go through it in order.
 #[derive(Clone, Copy)]
 pub enum Calls {
     /// So many inserts into a hash map of std: the yardstick for the others.

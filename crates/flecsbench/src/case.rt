@@ -1,7 +1,7 @@
 //! The cases that are measured.
 use crate::calls::Calls;
-use crate::fault::Fault;
-use crate::scene::Scene;
+use crate::failure::Failure;
+use crate::setting::Setting;
 use crate::start::Start;
 use std::alloc::Global;
 use std::rt::Clock;
@@ -228,7 +228,7 @@ impl Case {
         alloc: Global,
         size: u32,
         repeat: u32,
-    ) -> Result<Duration, Fault> {
+    ) -> Result<Duration, Failure> {
         let mut best = self.time(clock, alloc, size)?;
         for _ in 1..repeat {
             best = best.min(self.time(clock, alloc, size)?);
@@ -237,37 +237,37 @@ impl Case {
     }
 
     // How long the measured part of one run took.
-    fn time<C: Clock>(&self, clock: &C, alloc: Global, size: u32) -> Result<Duration, Fault> {
-        let mut scene = Scene::of(alloc, self.3.world(alloc)?);
-        self.measure(clock, &mut scene, size)
+    fn time<C: Clock>(&self, clock: &C, alloc: Global, size: u32) -> Result<Duration, Failure> {
+        let mut setting = Setting::of(alloc, self.3.world(alloc)?);
+        self.measure(clock, &mut setting, size)
     }
 
     // How long the calls take. Neither what comes before nor giving up the world is timed.
     fn measure<C: Clock>(
         &self,
         clock: &C,
-        scene: &mut Scene,
+        setting: &mut Setting,
         size: u32,
-    ) -> Result<Duration, Fault> {
-        self.3.make(scene, size, self.2)?;
+    ) -> Result<Duration, Failure> {
+        self.3.make(setting, size, self.2)?;
         if self.4.only_ask() {
-            self.ask_before(scene, size)?;
+            self.ask_before(setting, size)?;
         }
         let start = Instant::now(clock)?;
-        let is_right = scene.call(self.4, size)?;
+        let is_right = setting.call(self.4, size)?;
         let time = start.elapsed(clock)?;
         if is_right {
             Ok(time)
         } else {
-            Err(Fault::WrongAnswer)
+            Err(Failure::WrongAnswer)
         }
     }
 
     // A query is asked again and again of a world: from the third answer on it needs no new pages of the system for its results.
-    fn ask_before(&self, scene: &mut Scene, size: u32) -> Result<(), Fault> {
+    fn ask_before(&self, setting: &mut Setting, size: u32) -> Result<(), Failure> {
         for _ in 0..2 {
-            let _is_right = scene.call(self.4, size)?;
-            scene.forget();
+            let _is_right = setting.call(self.4, size)?;
+            setting.forget();
         }
         Ok(())
     }

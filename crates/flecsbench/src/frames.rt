@@ -1,5 +1,5 @@
 //! The cases of frames: systems that run on a world.
-use crate::fault::Fault;
+use crate::failure::Failure;
 use crate::heavy::Heavy;
 use crate::simulation::Simulation;
 use eco_bodies::Script;
@@ -76,7 +76,7 @@ impl FrameCase {
         rt: &R,
         alloc: Global,
         repeat: u32,
-    ) -> Result<Duration, Fault> {
+    ) -> Result<Duration, Failure> {
         let mut best = self.time(rt, alloc)?;
         for _ in 1..repeat {
             best = best.min(self.time(rt, alloc)?);
@@ -85,7 +85,7 @@ impl FrameCase {
     }
 
     // How long one run took. Neither what comes before nor giving up the world and the pipeline is timed.
-    fn time<R: Clock + Threads + Sync>(&self, rt: &R, alloc: Global) -> Result<Duration, Fault> {
+    fn time<R: Clock + Threads + Sync>(&self, rt: &R, alloc: Global) -> Result<Duration, Failure> {
         if matches!(self.2, FrameStart::Heavy) {
             return self.time_heavy(rt, alloc);
         }
@@ -103,7 +103,7 @@ impl FrameCase {
         &self,
         rt: &R,
         alloc: Global,
-    ) -> Result<Duration, Fault> {
+    ) -> Result<Duration, Failure> {
         let mut simulation: Simulation<Heavy> = Simulation::new(alloc)?;
         simulation.make_heavy(self.1)?;
         simulation.time(rt, alloc, 1, self.3, self.4, self.1 as usize)
@@ -115,13 +115,13 @@ fn time_points<C: Clock>(
     clock: &C,
     alloc: Global,
     simulation: &Simulation<Script>,
-) -> Result<Duration, Fault> {
+) -> Result<Duration, Failure> {
     let start = Instant::now(clock)?;
     let batches = simulation.cut(alloc)?;
     let time = start.elapsed(clock)?;
     if batches == 10 {
         Ok(time)
     } else {
-        Err(Fault::WrongAnswer)
+        Err(Failure::WrongAnswer)
     }
 }

@@ -4,18 +4,18 @@
 mod arguments;
 mod calls;
 mod case;
-mod fault;
+mod failure;
 mod frames;
 mod group;
 mod heavy;
-mod scene;
+mod setting;
 mod simulation;
 mod start;
 mod work;
 
 use arguments::{Choice, HELP};
 use case::{CASES, Case, tenths_for_one};
-use fault::Fault;
+use failure::Failure;
 use frames::{FRAME_CASES, FrameCase};
 use std::process::ExitCode;
 use std::rt::Clock;
@@ -69,7 +69,7 @@ fn print_size<R: Print + Clock + AllocGlobal>(
     choice: &Choice,
     case: &Case,
     size: u32,
-) -> Result<(), Fault> {
+) -> Result<(), Failure> {
     let time = if choice.is_run {
         Some(case.best_time(rt, rt.alloc(), size, choice.repeat)?)
     } else {
@@ -83,7 +83,7 @@ fn print_case<R: Print + Clock + AllocGlobal>(
     rt: &R,
     choice: &Choice,
     case: &Case,
-) -> Result<(), Fault> {
+) -> Result<(), Failure> {
     for size in case.sizes() {
         if choice.takes(case.name(), *size) {
             print_size(rt, choice, case, *size)?;
@@ -97,7 +97,7 @@ fn print_frames<R: Print + Clock + Threads + Sync + AllocGlobal>(
     rt: &R,
     choice: &Choice,
     case: &FrameCase,
-) -> Result<(), Fault> {
+) -> Result<(), Failure> {
     if !choice.takes(case.name(), case.size()) {
         return Ok(());
     }
@@ -113,7 +113,7 @@ fn print_frames<R: Print + Clock + Threads + Sync + AllocGlobal>(
 fn print_cases<R: Print + Clock + Threads + Sync + AllocGlobal>(
     rt: &R,
     choice: &Choice,
-) -> Result<(), Fault> {
+) -> Result<(), Failure> {
     print_names(rt, choice)?;
     for case in CASES {
         print_case(rt, choice, case)?;
@@ -128,25 +128,25 @@ fn print_cases<R: Print + Clock + Threads + Sync + AllocGlobal>(
 fn answer<R: Print + Clock + Threads + Sync + AllocGlobal>(
     rt: &R,
     words: &[String],
-) -> Result<(), Fault> {
+) -> Result<(), Failure> {
     match arguments::read(words) {
         Some(choice) if choice.wants_help => Ok(rt.print(HELP)?),
         Some(choice) => print_cases(rt, &choice),
-        None => Err(Fault::BadArguments),
+        None => Err(Failure::BadArguments),
     }
 }
 
 fn main(rt: HostRuntime) -> ExitCode {
     let outcome = match words(&rt) {
         Ok(words) => answer(&rt, words.as_slice()),
-        Err(fault) => Err(Fault::from(fault)),
+        Err(failure) => Err(Failure::from(failure)),
     };
     match outcome {
         Ok(()) => ExitCode::from(0),
-        Err(fault) => {
+        Err(failure) => {
             // The status tells it too, so a standard error that is shut changes nothing.
-            let _ = eprintln!(rt; "flecsbench: {fault}");
-            ExitCode::from(fault.code())
+            let _ = eprintln!(rt; "flecsbench: {failure}");
+            ExitCode::from(failure.code())
         }
     }
 }

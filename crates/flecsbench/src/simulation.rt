@@ -1,7 +1,7 @@
 //! A world and its systems.
 ghost use Rattle.std.specs.Prelude.{◌≤◌};
 
-use crate::fault::Fault;
+use crate::failure::Failure;
 use crate::group::Group;
 use crate::heavy::Heavy;
 use eco_bodies::{Action, Script, SystemBody, Systems};
@@ -67,7 +67,7 @@ impl<B: SystemBody + Sync + Drop> Simulation<B> {
         frames: u32,
         workers: u32,
         least: usize,
-    ) -> Result<Duration, Fault> {
+    ) -> Result<Duration, Failure> {
         let workers = workers.clamp(1, 64);
         let mut pipeline = Pipeline::new(alloc, &self.world, &self.systems)?;
         run(&mut pipeline, rt, alloc, &mut self.world, before, workers)?;
@@ -77,7 +77,7 @@ impl<B: SystemBody + Sync + Drop> Simulation<B> {
         if commands >= least {
             Ok(time)
         } else {
-            Err(Fault::WrongAnswer)
+            Err(Failure::WrongAnswer)
         }
     }
 

@@ -1,6 +1,6 @@
 //! What the measured part of a case begins with: steps that make it in a new world.
 use crate::group::Group;
-use crate::scene::Scene;
+use crate::setting::Setting;
 use eco_ids::entity::{CHILD_OF, EXCLUSIVE, SYMMETRIC, WITH};
 use eco_ids::{Edition, Entity, Refusal, Value};
 use eco_world::World;
@@ -44,20 +44,20 @@ pub enum Pick {
 }
 
 impl Pick {
-    /// The group in a scene.
-    pub fn of(&self, scene: &Scene) -> Group {
+    /// The group in a setting.
+    pub fn of(&self, setting: &Setting) -> Group {
         match self {
             Pick::BuiltIn(entity) => Group::alone(*entity),
-            Pick::Made(number) => scene.group(*number),
-            Pick::Last(number) => scene.group(*number).last(),
-            Pick::FromSecond(number) => scene.group(*number).from_second(),
-            Pick::EighthsFromSecond(number) => scene.group(*number).with_turns(8).from_second(),
+            Pick::Made(number) => setting.group(*number),
+            Pick::Last(number) => setting.group(*number).last(),
+            Pick::FromSecond(number) => setting.group(*number).from_second(),
+            Pick::EighthsFromSecond(number) => setting.group(*number).with_turns(8).from_second(),
         }
     }
 }
 
-/// What a scene begins with is made by steps, one after the other.
-pub enum Step {
+/// What a setting begins with is made by steps, one after the other.
+pub enum Preparation {
     /// So many entities are made, which are a group.
     Make(Count),
     /// A component of two fields is made, which is a group.
@@ -94,37 +94,46 @@ pub enum Step {
     MakeNames(Count),
 }
 
-impl Step {
-    fn make(&self, scene: &mut Scene, size: u32, parts: u32) -> Result<(), Refusal> {
+impl Preparation {
+    fn make(&self, setting: &mut Setting, size: u32, parts: u32) -> Result<(), Refusal> {
         match self {
-            Step::Make(count) => scene.make(count.of(size, parts)),
-            Step::MakeComponent => scene.make_component(),
-            Step::Name(group, name) => scene.name(group, name),
-            Step::PlanOnes(count, group, ids) => scene.plan_ones(count.of(size, parts), group, ids),
-            Step::PlanTwos(count, group, first, second) => {
-                scene.plan_twos(count.of(size, parts), group, first, second)
+            Preparation::Make(count) => setting.make(count.of(size, parts)),
+            Preparation::MakeComponent => setting.make_component(),
+            Preparation::Name(group, name) => setting.name(group, name),
+            Preparation::PlanOnes(count, group, ids) => setting.plan_ones(
+                count.of(size, parts),
+                group,
+                ids,
+            ),
+            Preparation::PlanTwos(count, group, first, second) => {
+                setting.plan_twos(count.of(size, parts), group, first, second)
             }
-            Step::Reverse => scene.reverse(),
-            Step::Add => scene.add(),
-            Step::Set(fields) => scene.set(Value::of(*fields)),
-            Step::Delete => scene.delete(),
-            Step::RecordAdds => scene.record(None),
-            Step::RecordSets(fields) => scene.record(Some(Value::of(*fields))),
-            Step::RecordSpawns(count, tag, component) => {
-                scene.record_spawns(count.of(size, parts), tag, component)
+            Preparation::Reverse => setting.reverse(),
+            Preparation::Add => setting.add(),
+            Preparation::Set(fields) => setting.set(Value::of(*fields)),
+            Preparation::Delete => setting.delete(),
+            Preparation::RecordAdds => setting.record(None),
+            Preparation::RecordSets(fields) => setting.record(Some(Value::of(*fields))),
+            Preparation::RecordSpawns(count, tag, component) => {
+                setting.record_spawns(count.of(size, parts), tag, component)
             }
-            Step::Ask(text) => scene.ask(text),
-            Step::Keep(text) => scene.keep(text),
-            Step::ReadColumns => scene.read_columns(),
-            Step::MakeRows(count) => scene.make_rows(count.of(size, parts)),
-            Step::MakeNames(count) => scene.make_names(count.of(size, parts)),
+            Preparation::Ask(text) => setting.ask(text),
+            Preparation::Keep(text) => setting.keep(text),
+            Preparation::ReadColumns => setting.read_columns(),
+            Preparation::MakeRows(count) => setting.make_rows(count.of(size, parts)),
+            Preparation::MakeNames(count) => setting.make_names(count.of(size, parts)),
         }
     }
 }
 
-fn make_part(scene: &mut Scene, part: &[Step], size: u32, parts: u32) -> Result<(), Refusal> {
+fn make_part(
+    setting: &mut Setting,
+    part: &[Preparation],
+    size: u32,
+    parts: u32,
+) -> Result<(), Refusal> {
     for step in part {
-        step.make(scene, size, parts)?;
+        step.make(setting, size, parts)?;
     }
     Ok(())
 }
@@ -213,47 +222,47 @@ pub enum Start {
     Target,
 }
 
-const TAG: &[Step] = &[
-    Step::Make(Count::One),
-    Step::Make(Count::Each),
-    Step::PlanOnes(Count::Each, Pick::Made(1), Pick::Made(0)),
+const TAG: &[Preparation] = &[
+    Preparation::Make(Count::One),
+    Preparation::Make(Count::Each),
+    Preparation::PlanOnes(Count::Each, Pick::Made(1), Pick::Made(0)),
 ];
 
-const COMPONENT: &[Step] = &[
-    Step::MakeComponent,
-    Step::Make(Count::Each),
-    Step::PlanOnes(Count::Each, Pick::Made(1), Pick::Made(0)),
+const COMPONENT: &[Preparation] = &[
+    Preparation::MakeComponent,
+    Preparation::Make(Count::Each),
+    Preparation::PlanOnes(Count::Each, Pick::Made(1), Pick::Made(0)),
 ];
 
 // N entities have the component P and the tag Q, and stand in so many tables as the case has parts, by their pairs of the
 // relationship Group, whose targets take turns on them.
-const TABLES: &[Step] = &[
-    Step::MakeComponent,
-    Step::Make(Count::One),
-    Step::Make(Count::One),
-    Step::Name(Pick::Made(0), "P"),
-    Step::Name(Pick::Made(1), "Q"),
-    Step::Name(Pick::Made(2), "Group"),
-    Step::Make(Count::Parts),
-    Step::Make(Count::Each),
-    Step::PlanTwos(Count::Each, Pick::Made(4), Pick::Made(2), Pick::Made(3)),
-    Step::Add,
-    Step::PlanOnes(Count::Each, Pick::Made(4), Pick::Made(1)),
-    Step::Add,
-    Step::PlanOnes(Count::Each, Pick::Made(4), Pick::Made(0)),
-    Step::Add,
+const TABLES: &[Preparation] = &[
+    Preparation::MakeComponent,
+    Preparation::Make(Count::One),
+    Preparation::Make(Count::One),
+    Preparation::Name(Pick::Made(0), "P"),
+    Preparation::Name(Pick::Made(1), "Q"),
+    Preparation::Name(Pick::Made(2), "Group"),
+    Preparation::Make(Count::Parts),
+    Preparation::Make(Count::Each),
+    Preparation::PlanTwos(Count::Each, Pick::Made(4), Pick::Made(2), Pick::Made(3)),
+    Preparation::Add,
+    Preparation::PlanOnes(Count::Each, Pick::Made(4), Pick::Made(1)),
+    Preparation::Add,
+    Preparation::PlanOnes(Count::Each, Pick::Made(4), Pick::Made(0)),
+    Preparation::Add,
 ];
 
-const OWN_PAIR: &[Step] = &[
-    Step::Make(Count::One),
-    Step::Make(Count::Each),
-    Step::Make(Count::Each),
-    Step::PlanTwos(Count::Each, Pick::Made(2), Pick::Made(0), Pick::Made(1)),
+const OWN_PAIR: &[Preparation] = &[
+    Preparation::Make(Count::One),
+    Preparation::Make(Count::Each),
+    Preparation::Make(Count::Each),
+    Preparation::PlanTwos(Count::Each, Pick::Made(2), Pick::Made(0), Pick::Made(1)),
 ];
 
-const CHAIN: &[Step] = &[
-    Step::Make(Count::Each),
-    Step::PlanTwos(
+const CHAIN: &[Preparation] = &[
+    Preparation::Make(Count::Each),
+    Preparation::PlanTwos(
         Count::EachButOne,
         Pick::Made(0),
         Pick::BuiltIn(CHILD_OF),
@@ -261,108 +270,108 @@ const CHAIN: &[Step] = &[
     ),
 ];
 
-const ONE_LACKS_TAG: &[Step] = &[
-    Step::Make(Count::One),
-    Step::Make(Count::One),
-    Step::PlanOnes(Count::One, Pick::Made(1), Pick::Made(0)),
+const ONE_LACKS_TAG: &[Preparation] = &[
+    Preparation::Make(Count::One),
+    Preparation::Make(Count::One),
+    Preparation::PlanOnes(Count::One, Pick::Made(1), Pick::Made(0)),
 ];
 
-const RECORDED_SPAWNS: &[Step] = &[
-    Step::Make(Count::One),
-    Step::MakeComponent,
-    Step::RecordSpawns(Count::EachFourth, Pick::Made(0), Pick::Made(1)),
+const RECORDED_SPAWNS: &[Preparation] = &[
+    Preparation::Make(Count::One),
+    Preparation::MakeComponent,
+    Preparation::RecordSpawns(Count::EachFourth, Pick::Made(0), Pick::Made(1)),
 ];
 
-const HAVE_VALUES: &[Step] = &[
-    Step::MakeComponent,
-    Step::MakeComponent,
-    Step::Make(Count::One),
-    Step::Make(Count::Each),
-    Step::PlanOnes(Count::Each, Pick::Made(3), Pick::Made(0)),
-    Step::Set([1, 2]),
-    Step::PlanOnes(Count::Each, Pick::Made(3), Pick::Made(1)),
-    Step::Set([3, 4]),
-    Step::PlanOnes(Count::Each, Pick::Made(3), Pick::Made(2)),
+const HAVE_VALUES: &[Preparation] = &[
+    Preparation::MakeComponent,
+    Preparation::MakeComponent,
+    Preparation::Make(Count::One),
+    Preparation::Make(Count::Each),
+    Preparation::PlanOnes(Count::Each, Pick::Made(3), Pick::Made(0)),
+    Preparation::Set([1, 2]),
+    Preparation::PlanOnes(Count::Each, Pick::Made(3), Pick::Made(1)),
+    Preparation::Set([3, 4]),
+    Preparation::PlanOnes(Count::Each, Pick::Made(3), Pick::Made(2)),
 ];
 
-const ROWS: &[Step] = &[Step::MakeRows(Count::Each)];
+const ROWS: &[Preparation] = &[Preparation::MakeRows(Count::Each)];
 
-const NOBODY_HAS: &[Step] = &[
-    Step::Make(Count::One),
-    Step::Make(Count::Parts),
-    Step::Make(Count::Parts),
-    Step::PlanTwos(Count::Parts, Pick::Made(2), Pick::Made(0), Pick::Made(1)),
-    Step::Add,
-    Step::Make(Count::One),
-    Step::Name(Pick::Made(3), "Z"),
-    Step::Ask("Z, (ChildOf, *)"),
+const NOBODY_HAS: &[Preparation] = &[
+    Preparation::Make(Count::One),
+    Preparation::Make(Count::Parts),
+    Preparation::Make(Count::Parts),
+    Preparation::PlanTwos(Count::Parts, Pick::Made(2), Pick::Made(0), Pick::Made(1)),
+    Preparation::Add,
+    Preparation::Make(Count::One),
+    Preparation::Name(Pick::Made(3), "Z"),
+    Preparation::Ask("Z, (ChildOf, *)"),
 ];
 
-const LACK_PAIR: &[Step] = &[
-    Step::Make(Count::One),
-    Step::Make(Count::Parts),
-    Step::Make(Count::Each),
-    Step::PlanTwos(Count::Each, Pick::Made(2), Pick::Made(0), Pick::Made(1)),
+const LACK_PAIR: &[Preparation] = &[
+    Preparation::Make(Count::One),
+    Preparation::Make(Count::Parts),
+    Preparation::Make(Count::Each),
+    Preparation::PlanTwos(Count::Each, Pick::Made(2), Pick::Made(0), Pick::Made(1)),
 ];
 
-const SYMMETRIC_PAIR: &[Step] = &[
-    Step::Make(Count::One),
-    Step::PlanOnes(Count::One, Pick::Made(0), Pick::BuiltIn(SYMMETRIC)),
-    Step::Add,
-    Step::Make(Count::Parts),
-    Step::Make(Count::Each),
-    Step::PlanTwos(Count::Each, Pick::Made(2), Pick::Made(0), Pick::Made(1)),
+const SYMMETRIC_PAIR: &[Preparation] = &[
+    Preparation::Make(Count::One),
+    Preparation::PlanOnes(Count::One, Pick::Made(0), Pick::BuiltIn(SYMMETRIC)),
+    Preparation::Add,
+    Preparation::Make(Count::Parts),
+    Preparation::Make(Count::Each),
+    Preparation::PlanTwos(Count::Each, Pick::Made(2), Pick::Made(0), Pick::Made(1)),
 ];
 
-const ONE_LACKS_PAIRS: &[Step] = &[
-    Step::Make(Count::One),
-    Step::Make(Count::Each),
-    Step::Make(Count::One),
-    Step::PlanTwos(Count::Each, Pick::Made(2), Pick::Made(0), Pick::Made(1)),
+const ONE_LACKS_PAIRS: &[Preparation] = &[
+    Preparation::Make(Count::One),
+    Preparation::Make(Count::Each),
+    Preparation::Make(Count::One),
+    Preparation::PlanTwos(Count::Each, Pick::Made(2), Pick::Made(0), Pick::Made(1)),
 ];
 
-const NAMES: &[Step] = &[Step::MakeNames(Count::Each)];
+const NAMES: &[Preparation] = &[Preparation::MakeNames(Count::Each)];
 
-const LACK_WITH: &[Step] = &[
-    Step::Make(Count::One),
-    Step::Make(Count::Parts),
-    Step::PlanTwos(
+const LACK_WITH: &[Preparation] = &[
+    Preparation::Make(Count::One),
+    Preparation::Make(Count::Parts),
+    Preparation::PlanTwos(
         Count::Parts,
         Pick::Made(0),
         Pick::BuiltIn(WITH),
         Pick::Made(1),
     ),
-    Step::Add,
-    Step::Make(Count::Each),
-    Step::PlanOnes(Count::Each, Pick::Made(2), Pick::Made(0)),
+    Preparation::Add,
+    Preparation::Make(Count::Each),
+    Preparation::PlanOnes(Count::Each, Pick::Made(2), Pick::Made(0)),
 ];
 
-const ONE_LACKS_TAGS: &[Step] = &[
-    Step::Make(Count::One),
-    Step::Make(Count::Each),
-    Step::PlanOnes(Count::Each, Pick::Made(0), Pick::Made(1)),
+const ONE_LACKS_TAGS: &[Preparation] = &[
+    Preparation::Make(Count::One),
+    Preparation::Make(Count::Each),
+    Preparation::PlanOnes(Count::Each, Pick::Made(0), Pick::Made(1)),
 ];
 
-const LACK_TRAIT: &[Step] = &[
-    Step::Make(Count::One),
-    Step::Make(Count::Each),
-    Step::Make(Count::Each),
-    Step::PlanTwos(Count::Each, Pick::Made(2), Pick::Made(1), Pick::Made(0)),
-    Step::Add,
-    Step::PlanOnes(Count::One, Pick::Made(0), Pick::BuiltIn(EXCLUSIVE)),
+const LACK_TRAIT: &[Preparation] = &[
+    Preparation::Make(Count::One),
+    Preparation::Make(Count::Each),
+    Preparation::Make(Count::Each),
+    Preparation::PlanTwos(Count::Each, Pick::Made(2), Pick::Made(1), Pick::Made(0)),
+    Preparation::Add,
+    Preparation::PlanOnes(Count::One, Pick::Made(0), Pick::BuiltIn(EXCLUSIVE)),
 ];
 
-const NEXT_PARENT: &[Step] = &[
-    Step::Make(Count::Parts),
-    Step::Make(Count::Each),
-    Step::PlanTwos(
+const NEXT_PARENT: &[Preparation] = &[
+    Preparation::Make(Count::Parts),
+    Preparation::Make(Count::Each),
+    Preparation::PlanTwos(
         Count::Each,
         Pick::Made(1),
         Pick::BuiltIn(CHILD_OF),
         Pick::Made(0),
     ),
-    Step::Add,
-    Step::PlanTwos(
+    Preparation::Add,
+    Preparation::PlanTwos(
         Count::Each,
         Pick::Made(1),
         Pick::BuiltIn(CHILD_OF),
@@ -370,38 +379,38 @@ const NEXT_PARENT: &[Step] = &[
     ),
 ];
 
-const PARENT: &[Step] = &[
-    Step::Make(Count::One),
-    Step::Make(Count::Each),
-    Step::PlanTwos(
+const PARENT: &[Preparation] = &[
+    Preparation::Make(Count::One),
+    Preparation::Make(Count::Each),
+    Preparation::PlanTwos(
         Count::Each,
         Pick::Made(1),
         Pick::BuiltIn(CHILD_OF),
         Pick::Made(0),
     ),
-    Step::Add,
-    Step::PlanOnes(Count::One, Pick::Made(0), Pick::Made(0)),
+    Preparation::Add,
+    Preparation::PlanOnes(Count::One, Pick::Made(0), Pick::Made(0)),
 ];
 
-const TREE_ROOT: &[Step] = &[
-    Step::Make(Count::Each),
-    Step::PlanTwos(
+const TREE_ROOT: &[Preparation] = &[
+    Preparation::Make(Count::Each),
+    Preparation::PlanTwos(
         Count::EachButOne,
         Pick::FromSecond(0),
         Pick::BuiltIn(CHILD_OF),
         Pick::EighthsFromSecond(0),
     ),
-    Step::Add,
-    Step::PlanOnes(Count::One, Pick::Made(0), Pick::Made(0)),
+    Preparation::Add,
+    Preparation::PlanOnes(Count::One, Pick::Made(0), Pick::Made(0)),
 ];
 
-const TARGET: &[Step] = &[
-    Step::Make(Count::One),
-    Step::Make(Count::One),
-    Step::Make(Count::Each),
-    Step::PlanTwos(Count::Each, Pick::Made(2), Pick::Made(0), Pick::Made(1)),
-    Step::Add,
-    Step::PlanOnes(Count::One, Pick::Made(1), Pick::Made(1)),
+const TARGET: &[Preparation] = &[
+    Preparation::Make(Count::One),
+    Preparation::Make(Count::One),
+    Preparation::Make(Count::Each),
+    Preparation::PlanTwos(Count::Each, Pick::Made(2), Pick::Made(0), Pick::Made(1)),
+    Preparation::Add,
+    Preparation::PlanOnes(Count::One, Pick::Made(1), Pick::Made(1)),
 ];
 
 impl Start {
@@ -416,7 +425,7 @@ impl Start {
     }
 
     // What is made first, which some of them have in common.
-    fn first(&self) -> &'static [Step] {
+    fn first(&self) -> &'static [Preparation] {
         match self {
             Start::Nothing => &[],
             Start::Names => NAMES,
@@ -449,42 +458,49 @@ impl Start {
     }
 
     // What is made behind it.
-    fn behind(&self) -> &'static [Step] {
+    fn behind(&self) -> &'static [Preparation] {
         match self {
-            Start::HaveTag => &[Step::Add],
-            Start::Freed => &[Step::Delete],
-            Start::RecordedAdds => &[Step::RecordAdds],
-            Start::HaveValue => &[Step::Set([1, 2])],
-            Start::RecordedSets => &[Step::Set([1, 2]), Step::RecordSets([1, 2])],
-            Start::AskOne => &[Step::Ask("P")],
-            Start::AskTwo => &[Step::Ask("P, Q")],
-            Start::AskWild => &[Step::Ask("(Group, *)")],
-            Start::AskNot => &[Step::Ask("P, !(Group, ChildOf)")],
-            Start::Kept => &[Step::Ask("P, (Group, *)"), Step::Keep("P, (Group, *)")],
-            Start::Columns => &[Step::Ask("P"), Step::Set([1, 2]), Step::ReadColumns],
-            Start::HaveOwnPair | Start::HaveSymmetricPair => &[Step::Add],
-            Start::OneHasPairs => &[Step::Add, Step::Ask("(_, *)")],
+            Start::HaveTag => &[Preparation::Add],
+            Start::Freed => &[Preparation::Delete],
+            Start::RecordedAdds => &[Preparation::RecordAdds],
+            Start::HaveValue => &[Preparation::Set([1, 2])],
+            Start::RecordedSets => &[Preparation::Set([1, 2]), Preparation::RecordSets([1, 2])],
+            Start::AskOne => &[Preparation::Ask("P")],
+            Start::AskTwo => &[Preparation::Ask("P, Q")],
+            Start::AskWild => &[Preparation::Ask("(Group, *)")],
+            Start::AskNot => &[Preparation::Ask("P, !(Group, ChildOf)")],
+            Start::Kept => &[
+                Preparation::Ask("P, (Group, *)"),
+                Preparation::Keep("P, (Group, *)"),
+            ],
+            Start::Columns => &[
+                Preparation::Ask("P"),
+                Preparation::Set([1, 2]),
+                Preparation::ReadColumns,
+            ],
+            Start::HaveOwnPair | Start::HaveSymmetricPair => &[Preparation::Add],
+            Start::OneHasPairs => &[Preparation::Add, Preparation::Ask("(_, *)")],
             Start::Targets => &[
-                Step::Add,
-                Step::PlanOnes(Count::Each, Pick::Made(1), Pick::Made(1)),
+                Preparation::Add,
+                Preparation::PlanOnes(Count::Each, Pick::Made(1), Pick::Made(1)),
             ],
             Start::LackCommonPair => &[
-                Step::Add,
-                Step::Make(Count::One),
-                Step::PlanTwos(Count::Each, Pick::Made(2), Pick::Made(0), Pick::Made(3)),
+                Preparation::Add,
+                Preparation::Make(Count::One),
+                Preparation::PlanTwos(Count::Each, Pick::Made(2), Pick::Made(0), Pick::Made(3)),
             ],
-            Start::LackChainFromRoot => &[Step::Reverse],
+            Start::LackChainFromRoot => &[Preparation::Reverse],
             Start::ChainRoot => &[
-                Step::Add,
-                Step::PlanOnes(Count::One, Pick::Last(0), Pick::Last(0)),
+                Preparation::Add,
+                Preparation::PlanOnes(Count::One, Pick::Last(0), Pick::Last(0)),
             ],
             _ => &[],
         }
     }
 
     /// Makes it in a new world, where the size of a case is N, and the case has so many parts.
-    pub fn make(&self, scene: &mut Scene, size: u32, parts: u32) -> Result<(), Refusal> {
-        make_part(scene, self.first(), size, parts)?;
-        make_part(scene, self.behind(), size, parts)
+    pub fn make(&self, setting: &mut Setting, size: u32, parts: u32) -> Result<(), Refusal> {
+        make_part(setting, self.first(), size, parts)?;
+        make_part(setting, self.behind(), size, parts)
     }
 }

@@ -1,5 +1,5 @@
 //! A copy of a world lists the same as it, and then lives on its own.
-use crate::draws::Draws;
+use crate::draws::RandomDraws;
 use crate::listings::{are_same, has_lines, lines};
 use crate::plans::prepare;
 use crate::steps::take_step;
@@ -9,7 +9,7 @@ use std::alloc::{AllocError, Global};
 
 // Takes 600 steps, which follow from the seed and the world. Those that are refused count too.
 fn run(alloc: Global, world: &mut World, seed: u64) -> Result<(), AllocError> {
-    let mut draws = Draws::new(seed);
+    let mut draws = RandomDraws::new(seed);
     for _ in 0..600 {
         let living = world.living()?;
         let _done_or_refused = take_step(alloc, world, &mut draws, &living);

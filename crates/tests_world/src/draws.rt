@@ -3,12 +3,12 @@ ghost use Rattle.std.specs.Prelude.{◌<◌};
 
 /// A linear congruence: the same numbers at each run.
 #[derive(Drop)]
-pub struct Draws(u64);
+pub struct RandomDraws(u64);
 
-impl Draws {
+impl RandomDraws {
     /// Those that follow the seed.
-    pub fn new(seed: u64) -> Draws {
-        Draws(seed)
+    pub fn new(seed: u64) -> RandomDraws {
+        RandomDraws(seed)
     }
 
     /// A number below the count.

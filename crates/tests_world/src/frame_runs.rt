@@ -3,7 +3,7 @@ ghost use Rattle.std.specs.Prelude.{◌≤◌};
 
 use crate::listings::are_same;
 use crate::one_by_one::{Done, number_of, run_one_by_one};
-use crate::plans::Plan;
+use crate::plans::FramePlan;
 use eco_bodies::{SystemBody, Systems};
 use eco_frame::{FrameReport, run_frame, sync_points};
 use eco_ids::Refusal;
@@ -64,7 +64,11 @@ fn has_outcomes(report: &FrameReport, done: &[Done]) -> bool {
 }
 
 /// A copy of the world after the systems of the plans one by one, and what became of their commands.
-pub fn expect(alloc: Global, world: &World, plans: &[Plan]) -> Result<(World, Vec<Done>), Refusal> {
+pub fn expect(
+    alloc: Global,
+    world: &World,
+    plans: &[FramePlan],
+) -> Result<(World, Vec<Done>), Refusal> {
     let mut copy = world.try_copy()?;
     let mut done = Vec::new(alloc);
     run_one_by_one(alloc, world, &mut copy, plans, &mut done)?;
@@ -78,7 +82,7 @@ pub fn frame_agrees<R: Threads + Sync, B: SystemBody + Sync + Drop>(
     alloc: Global,
     world: &mut World,
     systems: &Systems<B>,
-    plans: &[Plan],
+    plans: &[FramePlan],
     workers: u32,
     totals: &mut Totals,
 ) -> Result<bool, Refusal>

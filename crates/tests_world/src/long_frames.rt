@@ -2,7 +2,7 @@
 //! whose.
 ghost use Rattle.std.specs.Prelude.{◌≤◌};
 
-use crate::draws::Draws;
+use crate::draws::RandomDraws;
 use crate::frame_runs::{Totals, frame_agrees};
 use crate::handles::at;
 use crate::plans::{declare_all, draw_id, draw_plans, prepare};
@@ -16,7 +16,7 @@ use std::thread::Threads;
 const NAMED: usize = 21;
 
 // Makes an entity with some ids, of which each may be refused.
-fn make_one(world: &mut World, draws: &mut Draws) -> Result<(), Refusal> {
+fn make_one(world: &mut World, draws: &mut RandomDraws) -> Result<(), Refusal> {
     let entity = world.create(None)?;
     for _ in 0..6 {
         let _may_be_refused = world.add(entity, draw_id(draws));
@@ -26,7 +26,7 @@ fn make_one(world: &mut World, draws: &mut Draws) -> Result<(), Refusal> {
 }
 
 /// Some three hundred entities live besides those with names: more die, and as many as lack are made.
-pub fn mend(world: &mut World, draws: &mut Draws) -> Result<(), Refusal> {
+pub fn mend(world: &mut World, draws: &mut RandomDraws) -> Result<(), Refusal> {
     let living = world.living()?;
     let count = living.len().saturating_sub(NAMED);
     for entity in living.iter().skip(NAMED + 300) {
@@ -43,7 +43,7 @@ fn run_one<R: Threads + Sync>(
     rt: &R,
     alloc: Global,
     world: &mut World,
-    draws: &mut Draws,
+    draws: &mut RandomDraws,
     workers: u32,
     totals: &mut Totals,
 ) -> Result<bool, Refusal>
@@ -74,7 +74,7 @@ fn are_right<R: Threads + Sync>(
 {
     let mut world = World::new(alloc, 1_048_576)?;
     prepare(&mut world)?;
-    let mut draws = Draws::new(seed);
+    let mut draws = RandomDraws::new(seed);
     let mut totals = Totals::new();
     for _ in 0..100 {
         if !run_one(rt, alloc, &mut world, &mut draws, workers, &mut totals)? {

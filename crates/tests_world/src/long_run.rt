@@ -1,7 +1,7 @@
 //! After each step of a long run a query answers what a plain filter finds, and the tables are those that a listing entity by entity
 //! gives, and lend the values that each has. After every second step all queries that are kept do so too, and those of a copy.
 use crate::answers::{count_asked, count_kept};
-use crate::draws::Draws;
+use crate::draws::RandomDraws;
 use crate::layout::{agrees, lends_all};
 use crate::questions::{Question, draw_question};
 use crate::steps::take_step;
@@ -40,7 +40,7 @@ fn are_kept(world: &World, kept: &[Question]) -> bool {
 fn keep(
     alloc: Global,
     world: &mut World,
-    draws: &mut Draws,
+    draws: &mut RandomDraws,
     kept: &mut Vec<Question>,
 ) -> Result<(), Refusal> {
     let question = draw_question(alloc, draws, &world.living()?)?;
@@ -54,7 +54,7 @@ fn keep(
 fn take_and_ask(
     alloc: Global,
     world: &mut World,
-    draws: &mut Draws,
+    draws: &mut RandomDraws,
 ) -> Result<Option<usize>, Refusal> {
     let living = world.living()?;
     let _done_or_refused = take_step(alloc, world, draws, &living);
@@ -67,7 +67,7 @@ fn take_and_ask(
 fn run(
     alloc: Global,
     world: &mut World,
-    draws: &mut Draws,
+    draws: &mut RandomDraws,
     kept: &mut Vec<Question>,
 ) -> Result<Option<usize>, Refusal> {
     for _ in 0..5 {
@@ -88,7 +88,7 @@ fn run(
 
 // Whether both halves of a run are right, and find more than 250 results each.
 fn is_right(alloc: Global, world: &mut World, seed: u64) -> Result<bool, Refusal> {
-    let mut draws = Draws::new(seed);
+    let mut draws = RandomDraws::new(seed);
     let mut kept = Vec::new(alloc);
     let first = run(alloc, world, &mut draws, &mut kept)?;
     let second = run(alloc, world, &mut draws, &mut kept)?;

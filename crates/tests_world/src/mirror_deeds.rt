@@ -1,5 +1,5 @@
 //! Deeds that look random, most of them about pairs of relationships that are symmetric.
-use crate::draws::Draws;
+use crate::draws::RandomDraws;
 use crate::handles::at;
 use crate::plain::{Deed, Had};
 use eco_ids::entity::{ACYCLIC, DELETE, EXCLUSIVE, SYMMETRIC, WITH};
@@ -17,17 +17,17 @@ fn made_at(living: &[Entity], place: u32) -> Entity {
 }
 
 // One of the first twelve who are no built-ins.
-fn draw_entity(draws: &mut Draws, living: &[Entity]) -> Entity {
+fn draw_entity(draws: &mut RandomDraws, living: &[Entity]) -> Entity {
     made_at(living, FIRST + draws.below(12))
 }
 
 // One of the first four, who serve as relationships.
-fn draw_relationship(draws: &mut Draws, living: &[Entity]) -> Entity {
+fn draw_relationship(draws: &mut RandomDraws, living: &[Entity]) -> Entity {
     made_at(living, FIRST + draws.below(4))
 }
 
 /// A trait: mostly Symmetric.
-pub fn draw_trait(draws: &mut Draws, living: &[Entity]) -> Id {
+pub fn draw_trait(draws: &mut RandomDraws, living: &[Entity]) -> Id {
     match draws.below(6) {
         0..=2 => Id::One(SYMMETRIC),
         3 => Id::One(EXCLUSIVE),
@@ -37,7 +37,7 @@ pub fn draw_trait(draws: &mut Draws, living: &[Entity]) -> Id {
 }
 
 /// A pair, now and then with a built-in, or a tag.
-pub fn draw_id(draws: &mut Draws, living: &[Entity]) -> Id {
+pub fn draw_id(draws: &mut RandomDraws, living: &[Entity]) -> Id {
     match draws.below(8) {
         0 => Id::One(draw_entity(draws, living)),
         1 => Id::Two(draw_relationship(draws, living), DELETE),
@@ -46,7 +46,7 @@ pub fn draw_id(draws: &mut Draws, living: &[Entity]) -> Id {
 }
 
 /// A deed to the living, or to a relationship and its traits.
-pub fn draw_deed(draws: &mut Draws, living: &[Entity]) -> Deed {
+pub fn draw_deed(draws: &mut RandomDraws, living: &[Entity]) -> Deed {
     let relationship = draw_relationship(draws, living);
     let holder = draw_entity(draws, living);
     let id = draw_id(draws, living);

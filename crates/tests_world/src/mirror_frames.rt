@@ -1,11 +1,11 @@
 //! Frames of systems that look random and write symmetric pairs, in a run that a plain list follows.
-use crate::draws::Draws;
+use crate::draws::RandomDraws;
 use crate::following::{Met, follow};
 use crate::frame_runs::{expect, frame_agrees};
 use crate::mirror_deeds::{FIRST, draw_id, draw_trait};
 use crate::one_by_one::Done;
 use crate::plain::{Deed, Had};
-use crate::plans::{Deeds, Plan, declare_all};
+use crate::plans::{Deeds, FramePlan, declare_all};
 use eco_bodies::{Action, Script, Systems};
 use eco_ids::{Entity, Refusal, Value};
 use eco_systems::PHASES;
@@ -90,7 +90,7 @@ fn name_all(world: &mut World) -> Result<(), Refusal> {
 }
 
 // What a system may do with a row, if its query allows it.
-fn draw_action(draws: &mut Draws, living: &[Entity]) -> Action {
+fn draw_action(draws: &mut RandomDraws, living: &[Entity]) -> Action {
     let slot = draws.below(2) as usize;
     match draws.below(40) {
         0..=15 => Action::AddId(draw_id(draws, living)),
@@ -110,14 +110,14 @@ fn draw_action(draws: &mut Draws, living: &[Entity]) -> Action {
 }
 
 // A system whose actions its query may not allow: now and then one that kills.
-fn draw_plan(draws: &mut Draws, living: &[Entity]) -> Plan {
+fn draw_plan(draws: &mut RandomDraws, living: &[Entity]) -> FramePlan {
     let phase = PHASES[draws.below(8) as usize];
     let action = draw_action(draws, living);
     let (text, other) = match draws.below(16) {
         0 => ("(R, c), (S, *)", Action::Kill),
         _ => (TEXTS[draws.below(16) as usize], draw_action(draws, living)),
     };
-    Plan {
+    FramePlan {
         phase,
         text,
         deeds: Deeds::Script([action, other]),
@@ -127,9 +127,9 @@ fn draw_plan(draws: &mut Draws, living: &[Entity]) -> Plan {
 // Up to eight plans.
 fn draw_plans(
     alloc: Global,
-    draws: &mut Draws,
+    draws: &mut RandomDraws,
     living: &[Entity],
-) -> Result<Vec<Plan>, AllocError> {
+) -> Result<Vec<FramePlan>, AllocError> {
     let mut plans = Vec::new(alloc);
     for _ in 0..2 + draws.below(7) {
         plans.push(draw_plan(draws, living))?;
@@ -158,7 +158,7 @@ fn follow_plans(
     alloc: Global,
     world: &World,
     list: &mut Vec<Had>,
-    plans: &[Plan],
+    plans: &[FramePlan],
     met: &mut Met,
 ) -> Result<bool, Refusal> {
     let (_copy, all) = expect(alloc, world, plans)?;
@@ -171,7 +171,7 @@ fn run_drawn<R: Threads + Sync>(
     alloc: Global,
     world: &mut World,
     list: &mut Vec<Had>,
-    drawn: &[Plan],
+    drawn: &[FramePlan],
     met: &mut Met,
 ) -> Result<bool, Refusal> {
     let mut systems: Systems<Script> = Systems::new(alloc);
@@ -187,7 +187,7 @@ pub fn run_mirrored<R: Threads + Sync>(
     alloc: Global,
     world: &mut World,
     list: &mut Vec<Had>,
-    draws: &mut Draws,
+    draws: &mut RandomDraws,
     met: &mut Met,
 ) -> Result<bool, Refusal> {
     populate(world)?;

@@ -1,7 +1,7 @@
 //! Symmetric relationships: after each of many steps that look random, frames among them, each of their pairs stands on both of its
 //! entities, and all who were made have the ids that a plain list has. A clash of traits is refused exactly where the list would
 //! have one, and a frame does what its systems do one by one.
-use crate::draws::Draws;
+use crate::draws::RandomDraws;
 use crate::following::{Met, follow};
 use crate::frame_runs::Totals;
 use crate::handles::at;
@@ -45,7 +45,7 @@ fn do_one(
     alloc: Global,
     world: &mut World,
     list: &mut Vec<Had>,
-    draws: &mut Draws,
+    draws: &mut RandomDraws,
     met: &mut Met,
 ) -> Result<bool, Refusal> {
     let deed = draw_deed(draws, &world.living()?);
@@ -59,7 +59,7 @@ fn step<R: Threads + Sync>(
     alloc: Global,
     world: &mut World,
     list: &mut Vec<Had>,
-    draws: &mut Draws,
+    draws: &mut RandomDraws,
     met: &mut Met,
 ) -> Result<bool, Refusal> {
     match draws.below(24) {
@@ -125,7 +125,7 @@ fn run<R: Threads + Sync>(
 ) -> Result<bool, Refusal> {
     let mut list = Vec::new(alloc);
     begin(world, &mut list)?;
-    let mut draws = Draws::new(seed);
+    let mut draws = RandomDraws::new(seed);
     for _ in 0..STEPS {
         if !step(rt, alloc, world, &mut list, &mut draws, met)? || !is_mirrored(world, &list, met) {
             return Ok(false);

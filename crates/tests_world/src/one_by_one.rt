@@ -1,6 +1,6 @@
 //! Systems run one by one, plainly: each asks the world as the one before it left it, records row by row, and is merged.
 use crate::plain::Deed;
-use crate::plans::{Deeds, Plan};
+use crate::plans::{Deeds, FramePlan};
 use eco_bodies::Action;
 use eco_ids::{Entity, FIELD_COUNT, Id, Refusal, Value};
 use eco_systems::PHASES;
@@ -112,7 +112,7 @@ fn record_one(
     alloc: Global,
     first: &World,
     world: &World,
-    plan: &Plan,
+    plan: &FramePlan,
 ) -> Result<Recording, Refusal> {
     let rows = rows_of(first, world, plan.text)?;
     let mut recording = Recording {
@@ -160,7 +160,7 @@ pub fn run_one_by_one(
     alloc: Global,
     first: &World,
     world: &mut World,
-    plans: &[Plan],
+    plans: &[FramePlan],
     done: &mut Vec<Done>,
 ) -> Result<(), Refusal> {
     for phase in PHASES {

@@ -1,5 +1,5 @@
 //! Systems that look random: when each runs, what it asks for, and what it does.
-use crate::draws::Draws;
+use crate::draws::RandomDraws;
 use crate::handles::at;
 use eco_bodies::{Action, Script, Systems};
 use eco_ids::entity::{CHILD_OF, EXCLUSIVE, WITH};
@@ -19,7 +19,7 @@ pub enum Deeds {
 
 /// A system.
 #[derive(Clone, Copy)]
-pub struct Plan {
+pub struct FramePlan {
     pub phase: Phase,
     pub text: &'static str,
     pub deeds: Deeds,
@@ -63,7 +63,7 @@ const TEXTS: [&str; 20] = [
 ];
 
 /// A component, a tag or a pair.
-pub fn draw_id(draws: &mut Draws) -> Id {
+pub fn draw_id(draws: &mut RandomDraws) -> Id {
     match draws.below(8) {
         0..=3 => Id::One(at(9 + draws.below(6))),
         4..=6 => Id::Two(at(15 + draws.below(2)), at(18 + draws.below(3))),
@@ -72,7 +72,7 @@ pub fn draw_id(draws: &mut Draws) -> Id {
 }
 
 // What a system may do with most entities, if its query allows it.
-fn draw_action(draws: &mut Draws) -> Action {
+fn draw_action(draws: &mut RandomDraws) -> Action {
     let slot = draws.below(2) as usize;
     match draws.below(12) {
         0..=3 => Action::AddId(draw_id(draws)),
@@ -90,7 +90,7 @@ fn draw_action(draws: &mut Draws) -> Action {
 }
 
 // What it may do with relationships: it gives them traits or takes them.
-fn draw_trait(draws: &mut Draws) -> Action {
+fn draw_trait(draws: &mut RandomDraws) -> Action {
     match draws.below(5) {
         0 => Action::AddId(Id::One(EXCLUSIVE)),
         1 => Action::RemoveId(Id::One(EXCLUSIVE)),
@@ -101,7 +101,7 @@ fn draw_trait(draws: &mut Draws) -> Action {
 }
 
 // A system whose actions its query may not allow.
-fn draw_plan(draws: &mut Draws) -> Plan {
+fn draw_plan(draws: &mut RandomDraws) -> FramePlan {
     let phase = PHASES[draws.below(8) as usize];
     let (text, actions) = match draws.below(12) {
         0 => ("Z", [Action::Kill, draw_action(draws)]),
@@ -112,7 +112,7 @@ fn draw_plan(draws: &mut Draws) -> Plan {
             [draw_action(draws), draw_action(draws)],
         ),
     };
-    Plan {
+    FramePlan {
         phase,
         text,
         deeds: Deeds::Script(actions),
@@ -135,7 +135,7 @@ fn declare(
     world: &World,
     systems: &mut Systems<Script>,
     name: &str,
-    plan: &Plan,
+    plan: &FramePlan,
 ) -> Result<bool, Refusal> {
     let query = world.read_query(plan.text)?;
     match script_of(alloc, &query, plan.deeds) {
@@ -148,9 +148,9 @@ fn declare(
 pub fn declare_all(
     alloc: Global,
     world: &World,
-    drawn: &[Plan],
+    drawn: &[FramePlan],
     systems: &mut Systems<Script>,
-) -> Result<Vec<Plan>, Refusal> {
+) -> Result<Vec<FramePlan>, Refusal> {
     let mut plans = Vec::new(alloc);
     for (name, plan) in NAMES.iter().zip(drawn) {
         if declare(alloc, world, systems, name, plan)? {
@@ -161,7 +161,7 @@ pub fn declare_all(
 }
 
 /// Eight plans, whose queries may not allow their actions.
-pub fn draw_plans(alloc: Global, draws: &mut Draws) -> Result<Vec<Plan>, AllocError> {
+pub fn draw_plans(alloc: Global, draws: &mut RandomDraws) -> Result<Vec<FramePlan>, AllocError> {
     let mut plans = Vec::new(alloc);
     for _ in 0..8 {
         plans.push(draw_plan(draws))?;

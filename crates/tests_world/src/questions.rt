@@ -1,5 +1,5 @@
 //! Queries that look random, of up to five slots.
-use crate::draws::Draws;
+use crate::draws::RandomDraws;
 use crate::steps::draw_id;
 use eco_ids::{Entity, Id, Part, Pattern};
 use eco_query::Term;
@@ -20,7 +20,7 @@ impl Drop for Question {
 
 const ACCESSES: [&str; 5] = ["", "[in] ", "[out]", "[ inout ]\t", "[none]\n"];
 
-fn draw_part(draws: &mut Draws, own: Entity) -> Part {
+fn draw_part(draws: &mut RandomDraws, own: Entity) -> Part {
     match draws.below(5) {
         0..=1 => Part::Each,
         2 => Part::Any,
@@ -29,7 +29,7 @@ fn draw_part(draws: &mut Draws, own: Entity) -> Part {
 }
 
 // What an id matches, and mostly others too.
-fn draw_pattern(draws: &mut Draws, living: &[Entity]) -> Pattern {
+fn draw_pattern(draws: &mut RandomDraws, living: &[Entity]) -> Pattern {
     match draw_id(draws, living) {
         Id::One(own) => Pattern::One(own),
         Id::Two(own, target) => Pattern::Two(draw_part(draws, own), draw_part(draws, target)),
@@ -39,7 +39,7 @@ fn draw_pattern(draws: &mut Draws, living: &[Entity]) -> Pattern {
 // Two or three ids.
 fn draw_alternatives(
     alloc: Global,
-    draws: &mut Draws,
+    draws: &mut RandomDraws,
     living: &[Entity],
 ) -> Result<Vec<Id>, AllocError> {
     let (first, second) = (draw_id(draws, living), draw_id(draws, living));
@@ -52,7 +52,7 @@ fn draw_alternatives(
 // A term of one of nine kinds, of which the first five ask that something is there.
 fn draw_term(
     alloc: Global,
-    draws: &mut Draws,
+    draws: &mut RandomDraws,
     living: &[Entity],
     kind: u32,
 ) -> Result<Term, AllocError> {
@@ -65,7 +65,11 @@ fn draw_term(
 }
 
 // One more term, in the text with some access.
-fn add_term(question: &mut Question, draws: &mut Draws, term: Term) -> Result<(), AllocError> {
+fn add_term(
+    question: &mut Question,
+    draws: &mut RandomDraws,
+    term: Term,
+) -> Result<(), AllocError> {
     let between = if question.terms.is_empty() { "" } else { " ," };
     let access = ACCESSES[draws.below(5) as usize];
     write!(&mut question.text, "{between}{access}{term}")?;
@@ -76,7 +80,7 @@ fn add_term(question: &mut Question, draws: &mut Draws, term: Term) -> Result<()
 /// A query about the living.
 pub fn draw_question(
     alloc: Global,
-    draws: &mut Draws,
+    draws: &mut RandomDraws,
     living: &[Entity],
 ) -> Result<Question, AllocError> {
     let mut question = Question {

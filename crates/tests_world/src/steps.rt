@@ -1,5 +1,5 @@
 //! Steps that look random, with all kinds of deletes: the histories of worlds.
-use crate::draws::Draws;
+use crate::draws::RandomDraws;
 use crate::handles::at;
 use eco_ids::entity::{
     ACYCLIC, CHILD_OF, DELETE, EXCLUSIVE, ON_DELETE, ON_DELETE_TARGET, PANIC, WITH,
@@ -9,7 +9,7 @@ use eco_world::{Command, Stage, World};
 use std::alloc::Global;
 
 // One of the living who is no built-in, or one who may be dead.
-fn draw_entity(draws: &mut Draws, living: &[Entity]) -> Entity {
+fn draw_entity(draws: &mut RandomDraws, living: &[Entity]) -> Entity {
     let place = 9 + draws.below(14);
     match living.get(place as usize) {
         Some(entity) => *entity,
@@ -18,7 +18,7 @@ fn draw_entity(draws: &mut Draws, living: &[Entity]) -> Entity {
 }
 
 // One of four relationships, as they happen to live.
-fn draw_relationship(draws: &mut Draws, living: &[Entity]) -> Entity {
+fn draw_relationship(draws: &mut RandomDraws, living: &[Entity]) -> Entity {
     let place = 8 + draws.below(4);
     match living.get(place as usize) {
         Some(entity) if place > 8 => *entity,
@@ -27,7 +27,7 @@ fn draw_relationship(draws: &mut Draws, living: &[Entity]) -> Entity {
 }
 
 // A trait, a policy, or what comes with an entity.
-fn draw_trait(draws: &mut Draws, living: &[Entity]) -> Id {
+fn draw_trait(draws: &mut RandomDraws, living: &[Entity]) -> Id {
     match draws.below(6) {
         0 => Id::One(EXCLUSIVE),
         1 => Id::One(ACYCLIC),
@@ -39,7 +39,7 @@ fn draw_trait(draws: &mut Draws, living: &[Entity]) -> Id {
 }
 
 /// A tag, a pair or now and then a trait.
-pub fn draw_id(draws: &mut Draws, living: &[Entity]) -> Id {
+pub fn draw_id(draws: &mut RandomDraws, living: &[Entity]) -> Id {
     match draws.below(12) {
         0 => draw_trait(draws, living),
         1..=5 => Id::One(draw_entity(draws, living)),
@@ -48,7 +48,7 @@ pub fn draw_id(draws: &mut Draws, living: &[Entity]) -> Id {
 }
 
 // A command about the living.
-fn draw_command(draws: &mut Draws, living: &[Entity]) -> Command {
+fn draw_command(draws: &mut RandomDraws, living: &[Entity]) -> Command {
     let entity = draw_entity(draws, living);
     let id = draw_id(draws, living);
     match draws.below(20) {
@@ -63,7 +63,11 @@ fn draw_command(draws: &mut Draws, living: &[Entity]) -> Command {
 }
 
 // Records up to three commands about the living.
-fn record_some(stage: &mut Stage, draws: &mut Draws, living: &[Entity]) -> Result<(), Command> {
+fn record_some(
+    stage: &mut Stage,
+    draws: &mut RandomDraws,
+    living: &[Entity],
+) -> Result<(), Command> {
     for _ in 0..1 + draws.below(3) {
         stage.record(draw_command(draws, living))?;
     }
@@ -71,7 +75,7 @@ fn record_some(stage: &mut Stage, draws: &mut Draws, living: &[Entity]) -> Resul
 }
 
 // A stage of such commands.
-fn draw_stage(alloc: Global, draws: &mut Draws, living: &[Entity]) -> Stage {
+fn draw_stage(alloc: Global, draws: &mut RandomDraws, living: &[Entity]) -> Stage {
     let mut stage = Stage::new(alloc);
     let _last_that_found_no_memory = record_some(&mut stage, draws, living);
     stage
@@ -83,7 +87,12 @@ fn merge(world: &mut World, stage: Stage) -> bool {
 }
 
 /// One step: somebody is made, or some are changed or die. Tells whether it was done.
-pub fn take_step(alloc: Global, world: &mut World, draws: &mut Draws, living: &[Entity]) -> bool {
+pub fn take_step(
+    alloc: Global,
+    world: &mut World,
+    draws: &mut RandomDraws,
+    living: &[Entity],
+) -> bool {
     match draws.below(24) {
         0..=3 => world.create(None).is_ok(),
         4 => world.component(None, 2).is_ok(),

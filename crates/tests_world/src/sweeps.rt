@@ -2,11 +2,11 @@
 ghost use Rattle.std.specs.Prelude.{◌∷◌, [], true, refl};
 ghost use Rattle.eco_ids.specs.Run as run;
 
-use crate::draws::Draws;
+use crate::draws::RandomDraws;
 use crate::frame_runs::{Totals, frame_agrees};
 use crate::handles::at;
 use crate::long_frames::mend;
-use crate::plans::{Deeds, Plan, prepare};
+use crate::plans::{Deeds, FramePlan, prepare};
 use eco_bodies::{BodyRow, Draws as Handles, SystemBody, Systems, record_command};
 use eco_ids::{Id, Pattern, Refusal};
 use eco_systems::Phase;
@@ -91,8 +91,8 @@ fn declare(world: &World, systems: &mut Systems<Sweep>) -> Result<bool, Refusal>
 }
 
 // What they are to do.
-fn plans() -> [Plan; 3] {
-    sweeps().map(|(phase, text, id)| Plan {
+fn plans() -> [FramePlan; 3] {
+    sweeps().map(|(phase, text, id)| FramePlan {
         phase,
         text,
         deeds: Deeds::Sweep(id),
@@ -105,7 +105,7 @@ fn are_right<R: Threads + Sync>(rt: &R, alloc: Global) -> Result<bool, Refusal> 
     prepare(&mut world)?;
     let mut systems = Systems::new(alloc);
     let mut is_right = declare(&world, &mut systems)?;
-    let mut draws = Draws::new(2026);
+    let mut draws = RandomDraws::new(2026);
     let mut totals = Totals::new();
     for _ in 0..30 {
         mend(&mut world, &mut draws)?;

@@ -7,7 +7,7 @@ use std::alloc::{AllocError, Global};
 use std::thread::Threads;
 
 /// What came of a call.
-pub enum Verdict {
+pub enum Finding {
     /// It did what it does with ample memory, and answered this.
     Done(String),
     /// It was refused for want of memory, all of it or a part, and of that part nothing was done.
@@ -17,29 +17,29 @@ pub enum Verdict {
 }
 
 // By hand, so that dropping it is one call: a derived drop is proved anew at each early return of whoever holds it.
-impl Drop for Verdict {
+impl Drop for Finding {
     fn drop(self) {
         match self {
-            Verdict::Done(_answer) => {}
-            Verdict::Refused(_answer) => {}
-            Verdict::Fault(_difference) => {}
+            Finding::Done(_answer) => {}
+            Finding::Refused(_answer) => {}
+            Finding::Fault(_difference) => {}
         }
     }
 }
 
-impl Verdict {
+impl Finding {
     /// The word for it, and what was answered or differs.
     pub fn parts(&self) -> (&str, &str) {
         match self {
-            Verdict::Done(answer) => ("done", answer.as_str()),
-            Verdict::Refused(answer) => ("refused", answer.as_str()),
-            Verdict::Fault(difference) => ("FAULT", difference.as_str()),
+            Finding::Done(answer) => ("done", answer.as_str()),
+            Finding::Refused(answer) => ("refused", answer.as_str()),
+            Finding::Fault(difference) => ("FAULT", difference.as_str()),
         }
     }
 
     /// Whether it is no fault.
     pub fn is_sound(&self) -> bool {
-        !matches!(self, Verdict::Fault(_))
+        !matches!(self, Finding::Fault(_))
     }
 }
 
@@ -114,12 +114,12 @@ fn call_marked<R: Eprint + Threads + Sync>(rt: &R, scene: &mut Scene) -> Result<
 }
 
 /// What came of a call of which nothing differs, by its answer.
-pub fn conclude(alloc: Global, answer: &Result<Answer, Refusal>) -> Result<Verdict, Refusal> {
+pub fn conclude(alloc: Global, answer: &Result<Answer, Refusal>) -> Result<Finding, Refusal> {
     let text = text_of(alloc, answer)?;
     if wanted_memory(answer) {
-        Ok(Verdict::Refused(text))
+        Ok(Finding::Refused(text))
     } else {
-        Ok(Verdict::Done(text))
+        Ok(Finding::Done(text))
     }
 }
 
@@ -195,12 +195,12 @@ fn judge_on<R: Eprint + Threads + Sync>(
     alloc: Global,
     scene: &mut Scene,
     other: &mut Scene,
-) -> Result<Verdict, Refusal> {
+) -> Result<Finding, Refusal> {
     scene.arm()?;
     other.arm()?;
     let answer = call_marked(rt, scene);
     match judge_text(rt, alloc, scene, other, &answer)? {
-        Some(found) => Ok(Verdict::Fault(found)),
+        Some(found) => Ok(Finding::Fault(found)),
         None => conclude(alloc, &answer),
     }
 }
@@ -210,7 +210,7 @@ fn judge_copies<R: Eprint + Threads + Sync>(
     rt: &R,
     alloc: Global,
     first: &Scene,
-) -> Result<Verdict, Refusal> {
+) -> Result<Finding, Refusal> {
     let mut scene = first.try_copy()?;
     let mut other = first.try_copy()?;
     judge_on(rt, alloc, &mut scene, &mut other)
@@ -221,7 +221,7 @@ fn judge_copies<R: Eprint + Threads + Sync>(
 pub fn judge<R: Eprint + Threads + Sync + AllocGlobal>(
     rt: &R,
     scenario: Scenario,
-) -> Result<Verdict, Refusal> {
+) -> Result<Finding, Refusal> {
     let first = Scene::new(rt.alloc(), scenario)?;
     judge_copies(rt, rt.alloc(), &first)
 }

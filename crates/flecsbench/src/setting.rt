@@ -10,7 +10,7 @@ use std::alloc::Global;
 use std::collections::HashMap;
 
 /// A world, and the entities and ids that a case is about, in the order of its calls, or the query that it asks.
-pub struct Scene {
+pub struct Setting {
     world: World,
     alloc: Global,
     // The entities that were made before the calls, in the order of their making.
@@ -34,9 +34,9 @@ pub struct Scene {
 }
 
 // By hand, so that dropping it is one call: a derived drop is proved anew at each early return of whoever holds it.
-impl Drop for Scene {
+impl Drop for Setting {
     fn drop(self) {
-        let Scene {
+        let Setting {
             world: _,
             alloc: _,
             groups: _,
@@ -90,10 +90,10 @@ fn record_all(stage: &mut Stage, work: &Work, value: Option<Value>) -> Result<()
     Ok(())
 }
 
-impl Scene {
+impl Setting {
     /// A world, and nothing besides.
-    pub fn of(alloc: Global, world: World) -> Scene {
-        Scene {
+    pub fn of(alloc: Global, world: World) -> Setting {
+        Setting {
             world,
             alloc,
             groups: Vec::new(alloc),

@@ -57,7 +57,7 @@ impl Pick {
 }
 
 /// What a setting begins with is made by steps, one after the other.
-pub enum Preparation {
+pub enum Setup {
     /// So many entities are made, which are a group.
     Make(Count),
     /// A component of two fields is made, which is a group.
@@ -94,44 +94,39 @@ pub enum Preparation {
     MakeNames(Count),
 }
 
-impl Preparation {
+impl Setup {
     fn make(&self, setting: &mut Setting, size: u32, parts: u32) -> Result<(), Refusal> {
         match self {
-            Preparation::Make(count) => setting.make(count.of(size, parts)),
-            Preparation::MakeComponent => setting.make_component(),
-            Preparation::Name(group, name) => setting.name(group, name),
-            Preparation::PlanOnes(count, group, ids) => setting.plan_ones(
+            Setup::Make(count) => setting.make(count.of(size, parts)),
+            Setup::MakeComponent => setting.make_component(),
+            Setup::Name(group, name) => setting.name(group, name),
+            Setup::PlanOnes(count, group, ids) => setting.plan_ones(
                 count.of(size, parts),
                 group,
                 ids,
             ),
-            Preparation::PlanTwos(count, group, first, second) => {
+            Setup::PlanTwos(count, group, first, second) => {
                 setting.plan_twos(count.of(size, parts), group, first, second)
             }
-            Preparation::Reverse => setting.reverse(),
-            Preparation::Add => setting.add(),
-            Preparation::Set(fields) => setting.set(Value::of(*fields)),
-            Preparation::Delete => setting.delete(),
-            Preparation::RecordAdds => setting.record(None),
-            Preparation::RecordSets(fields) => setting.record(Some(Value::of(*fields))),
-            Preparation::RecordSpawns(count, tag, component) => {
+            Setup::Reverse => setting.reverse(),
+            Setup::Add => setting.add(),
+            Setup::Set(fields) => setting.set(Value::of(*fields)),
+            Setup::Delete => setting.delete(),
+            Setup::RecordAdds => setting.record(None),
+            Setup::RecordSets(fields) => setting.record(Some(Value::of(*fields))),
+            Setup::RecordSpawns(count, tag, component) => {
                 setting.record_spawns(count.of(size, parts), tag, component)
             }
-            Preparation::Ask(text) => setting.ask(text),
-            Preparation::Keep(text) => setting.keep(text),
-            Preparation::ReadColumns => setting.read_columns(),
-            Preparation::MakeRows(count) => setting.make_rows(count.of(size, parts)),
-            Preparation::MakeNames(count) => setting.make_names(count.of(size, parts)),
+            Setup::Ask(text) => setting.ask(text),
+            Setup::Keep(text) => setting.keep(text),
+            Setup::ReadColumns => setting.read_columns(),
+            Setup::MakeRows(count) => setting.make_rows(count.of(size, parts)),
+            Setup::MakeNames(count) => setting.make_names(count.of(size, parts)),
         }
     }
 }
 
-fn make_part(
-    setting: &mut Setting,
-    part: &[Preparation],
-    size: u32,
-    parts: u32,
-) -> Result<(), Refusal> {
+fn make_part(setting: &mut Setting, part: &[Setup], size: u32, parts: u32) -> Result<(), Refusal> {
     for step in part {
         step.make(setting, size, parts)?;
     }
@@ -222,47 +217,47 @@ pub enum Start {
     Target,
 }
 
-const TAG: &[Preparation] = &[
-    Preparation::Make(Count::One),
-    Preparation::Make(Count::Each),
-    Preparation::PlanOnes(Count::Each, Pick::Made(1), Pick::Made(0)),
+const TAG: &[Setup] = &[
+    Setup::Make(Count::One),
+    Setup::Make(Count::Each),
+    Setup::PlanOnes(Count::Each, Pick::Made(1), Pick::Made(0)),
 ];
 
-const COMPONENT: &[Preparation] = &[
-    Preparation::MakeComponent,
-    Preparation::Make(Count::Each),
-    Preparation::PlanOnes(Count::Each, Pick::Made(1), Pick::Made(0)),
+const COMPONENT: &[Setup] = &[
+    Setup::MakeComponent,
+    Setup::Make(Count::Each),
+    Setup::PlanOnes(Count::Each, Pick::Made(1), Pick::Made(0)),
 ];
 
 // N entities have the component P and the tag Q, and stand in so many tables as the case has parts, by their pairs of the
 // relationship Group, whose targets take turns on them.
-const TABLES: &[Preparation] = &[
-    Preparation::MakeComponent,
-    Preparation::Make(Count::One),
-    Preparation::Make(Count::One),
-    Preparation::Name(Pick::Made(0), "P"),
-    Preparation::Name(Pick::Made(1), "Q"),
-    Preparation::Name(Pick::Made(2), "Group"),
-    Preparation::Make(Count::Parts),
-    Preparation::Make(Count::Each),
-    Preparation::PlanTwos(Count::Each, Pick::Made(4), Pick::Made(2), Pick::Made(3)),
-    Preparation::Add,
-    Preparation::PlanOnes(Count::Each, Pick::Made(4), Pick::Made(1)),
-    Preparation::Add,
-    Preparation::PlanOnes(Count::Each, Pick::Made(4), Pick::Made(0)),
-    Preparation::Add,
+const TABLES: &[Setup] = &[
+    Setup::MakeComponent,
+    Setup::Make(Count::One),
+    Setup::Make(Count::One),
+    Setup::Name(Pick::Made(0), "P"),
+    Setup::Name(Pick::Made(1), "Q"),
+    Setup::Name(Pick::Made(2), "Group"),
+    Setup::Make(Count::Parts),
+    Setup::Make(Count::Each),
+    Setup::PlanTwos(Count::Each, Pick::Made(4), Pick::Made(2), Pick::Made(3)),
+    Setup::Add,
+    Setup::PlanOnes(Count::Each, Pick::Made(4), Pick::Made(1)),
+    Setup::Add,
+    Setup::PlanOnes(Count::Each, Pick::Made(4), Pick::Made(0)),
+    Setup::Add,
 ];
 
-const OWN_PAIR: &[Preparation] = &[
-    Preparation::Make(Count::One),
-    Preparation::Make(Count::Each),
-    Preparation::Make(Count::Each),
-    Preparation::PlanTwos(Count::Each, Pick::Made(2), Pick::Made(0), Pick::Made(1)),
+const OWN_PAIR: &[Setup] = &[
+    Setup::Make(Count::One),
+    Setup::Make(Count::Each),
+    Setup::Make(Count::Each),
+    Setup::PlanTwos(Count::Each, Pick::Made(2), Pick::Made(0), Pick::Made(1)),
 ];
 
-const CHAIN: &[Preparation] = &[
-    Preparation::Make(Count::Each),
-    Preparation::PlanTwos(
+const CHAIN: &[Setup] = &[
+    Setup::Make(Count::Each),
+    Setup::PlanTwos(
         Count::EachButOne,
         Pick::Made(0),
         Pick::BuiltIn(CHILD_OF),
@@ -270,108 +265,108 @@ const CHAIN: &[Preparation] = &[
     ),
 ];
 
-const ONE_LACKS_TAG: &[Preparation] = &[
-    Preparation::Make(Count::One),
-    Preparation::Make(Count::One),
-    Preparation::PlanOnes(Count::One, Pick::Made(1), Pick::Made(0)),
+const ONE_LACKS_TAG: &[Setup] = &[
+    Setup::Make(Count::One),
+    Setup::Make(Count::One),
+    Setup::PlanOnes(Count::One, Pick::Made(1), Pick::Made(0)),
 ];
 
-const RECORDED_SPAWNS: &[Preparation] = &[
-    Preparation::Make(Count::One),
-    Preparation::MakeComponent,
-    Preparation::RecordSpawns(Count::EachFourth, Pick::Made(0), Pick::Made(1)),
+const RECORDED_SPAWNS: &[Setup] = &[
+    Setup::Make(Count::One),
+    Setup::MakeComponent,
+    Setup::RecordSpawns(Count::EachFourth, Pick::Made(0), Pick::Made(1)),
 ];
 
-const HAVE_VALUES: &[Preparation] = &[
-    Preparation::MakeComponent,
-    Preparation::MakeComponent,
-    Preparation::Make(Count::One),
-    Preparation::Make(Count::Each),
-    Preparation::PlanOnes(Count::Each, Pick::Made(3), Pick::Made(0)),
-    Preparation::Set([1, 2]),
-    Preparation::PlanOnes(Count::Each, Pick::Made(3), Pick::Made(1)),
-    Preparation::Set([3, 4]),
-    Preparation::PlanOnes(Count::Each, Pick::Made(3), Pick::Made(2)),
+const HAVE_VALUES: &[Setup] = &[
+    Setup::MakeComponent,
+    Setup::MakeComponent,
+    Setup::Make(Count::One),
+    Setup::Make(Count::Each),
+    Setup::PlanOnes(Count::Each, Pick::Made(3), Pick::Made(0)),
+    Setup::Set([1, 2]),
+    Setup::PlanOnes(Count::Each, Pick::Made(3), Pick::Made(1)),
+    Setup::Set([3, 4]),
+    Setup::PlanOnes(Count::Each, Pick::Made(3), Pick::Made(2)),
 ];
 
-const ROWS: &[Preparation] = &[Preparation::MakeRows(Count::Each)];
+const ROWS: &[Setup] = &[Setup::MakeRows(Count::Each)];
 
-const NOBODY_HAS: &[Preparation] = &[
-    Preparation::Make(Count::One),
-    Preparation::Make(Count::Parts),
-    Preparation::Make(Count::Parts),
-    Preparation::PlanTwos(Count::Parts, Pick::Made(2), Pick::Made(0), Pick::Made(1)),
-    Preparation::Add,
-    Preparation::Make(Count::One),
-    Preparation::Name(Pick::Made(3), "Z"),
-    Preparation::Ask("Z, (ChildOf, *)"),
+const NOBODY_HAS: &[Setup] = &[
+    Setup::Make(Count::One),
+    Setup::Make(Count::Parts),
+    Setup::Make(Count::Parts),
+    Setup::PlanTwos(Count::Parts, Pick::Made(2), Pick::Made(0), Pick::Made(1)),
+    Setup::Add,
+    Setup::Make(Count::One),
+    Setup::Name(Pick::Made(3), "Z"),
+    Setup::Ask("Z, (ChildOf, *)"),
 ];
 
-const LACK_PAIR: &[Preparation] = &[
-    Preparation::Make(Count::One),
-    Preparation::Make(Count::Parts),
-    Preparation::Make(Count::Each),
-    Preparation::PlanTwos(Count::Each, Pick::Made(2), Pick::Made(0), Pick::Made(1)),
+const LACK_PAIR: &[Setup] = &[
+    Setup::Make(Count::One),
+    Setup::Make(Count::Parts),
+    Setup::Make(Count::Each),
+    Setup::PlanTwos(Count::Each, Pick::Made(2), Pick::Made(0), Pick::Made(1)),
 ];
 
-const SYMMETRIC_PAIR: &[Preparation] = &[
-    Preparation::Make(Count::One),
-    Preparation::PlanOnes(Count::One, Pick::Made(0), Pick::BuiltIn(SYMMETRIC)),
-    Preparation::Add,
-    Preparation::Make(Count::Parts),
-    Preparation::Make(Count::Each),
-    Preparation::PlanTwos(Count::Each, Pick::Made(2), Pick::Made(0), Pick::Made(1)),
+const SYMMETRIC_PAIR: &[Setup] = &[
+    Setup::Make(Count::One),
+    Setup::PlanOnes(Count::One, Pick::Made(0), Pick::BuiltIn(SYMMETRIC)),
+    Setup::Add,
+    Setup::Make(Count::Parts),
+    Setup::Make(Count::Each),
+    Setup::PlanTwos(Count::Each, Pick::Made(2), Pick::Made(0), Pick::Made(1)),
 ];
 
-const ONE_LACKS_PAIRS: &[Preparation] = &[
-    Preparation::Make(Count::One),
-    Preparation::Make(Count::Each),
-    Preparation::Make(Count::One),
-    Preparation::PlanTwos(Count::Each, Pick::Made(2), Pick::Made(0), Pick::Made(1)),
+const ONE_LACKS_PAIRS: &[Setup] = &[
+    Setup::Make(Count::One),
+    Setup::Make(Count::Each),
+    Setup::Make(Count::One),
+    Setup::PlanTwos(Count::Each, Pick::Made(2), Pick::Made(0), Pick::Made(1)),
 ];
 
-const NAMES: &[Preparation] = &[Preparation::MakeNames(Count::Each)];
+const NAMES: &[Setup] = &[Setup::MakeNames(Count::Each)];
 
-const LACK_WITH: &[Preparation] = &[
-    Preparation::Make(Count::One),
-    Preparation::Make(Count::Parts),
-    Preparation::PlanTwos(
+const LACK_WITH: &[Setup] = &[
+    Setup::Make(Count::One),
+    Setup::Make(Count::Parts),
+    Setup::PlanTwos(
         Count::Parts,
         Pick::Made(0),
         Pick::BuiltIn(WITH),
         Pick::Made(1),
     ),
-    Preparation::Add,
-    Preparation::Make(Count::Each),
-    Preparation::PlanOnes(Count::Each, Pick::Made(2), Pick::Made(0)),
+    Setup::Add,
+    Setup::Make(Count::Each),
+    Setup::PlanOnes(Count::Each, Pick::Made(2), Pick::Made(0)),
 ];
 
-const ONE_LACKS_TAGS: &[Preparation] = &[
-    Preparation::Make(Count::One),
-    Preparation::Make(Count::Each),
-    Preparation::PlanOnes(Count::Each, Pick::Made(0), Pick::Made(1)),
+const ONE_LACKS_TAGS: &[Setup] = &[
+    Setup::Make(Count::One),
+    Setup::Make(Count::Each),
+    Setup::PlanOnes(Count::Each, Pick::Made(0), Pick::Made(1)),
 ];
 
-const LACK_TRAIT: &[Preparation] = &[
-    Preparation::Make(Count::One),
-    Preparation::Make(Count::Each),
-    Preparation::Make(Count::Each),
-    Preparation::PlanTwos(Count::Each, Pick::Made(2), Pick::Made(1), Pick::Made(0)),
-    Preparation::Add,
-    Preparation::PlanOnes(Count::One, Pick::Made(0), Pick::BuiltIn(EXCLUSIVE)),
+const LACK_TRAIT: &[Setup] = &[
+    Setup::Make(Count::One),
+    Setup::Make(Count::Each),
+    Setup::Make(Count::Each),
+    Setup::PlanTwos(Count::Each, Pick::Made(2), Pick::Made(1), Pick::Made(0)),
+    Setup::Add,
+    Setup::PlanOnes(Count::One, Pick::Made(0), Pick::BuiltIn(EXCLUSIVE)),
 ];
 
-const NEXT_PARENT: &[Preparation] = &[
-    Preparation::Make(Count::Parts),
-    Preparation::Make(Count::Each),
-    Preparation::PlanTwos(
+const NEXT_PARENT: &[Setup] = &[
+    Setup::Make(Count::Parts),
+    Setup::Make(Count::Each),
+    Setup::PlanTwos(
         Count::Each,
         Pick::Made(1),
         Pick::BuiltIn(CHILD_OF),
         Pick::Made(0),
     ),
-    Preparation::Add,
-    Preparation::PlanTwos(
+    Setup::Add,
+    Setup::PlanTwos(
         Count::Each,
         Pick::Made(1),
         Pick::BuiltIn(CHILD_OF),
@@ -379,38 +374,38 @@ const NEXT_PARENT: &[Preparation] = &[
     ),
 ];
 
-const PARENT: &[Preparation] = &[
-    Preparation::Make(Count::One),
-    Preparation::Make(Count::Each),
-    Preparation::PlanTwos(
+const PARENT: &[Setup] = &[
+    Setup::Make(Count::One),
+    Setup::Make(Count::Each),
+    Setup::PlanTwos(
         Count::Each,
         Pick::Made(1),
         Pick::BuiltIn(CHILD_OF),
         Pick::Made(0),
     ),
-    Preparation::Add,
-    Preparation::PlanOnes(Count::One, Pick::Made(0), Pick::Made(0)),
+    Setup::Add,
+    Setup::PlanOnes(Count::One, Pick::Made(0), Pick::Made(0)),
 ];
 
-const TREE_ROOT: &[Preparation] = &[
-    Preparation::Make(Count::Each),
-    Preparation::PlanTwos(
+const TREE_ROOT: &[Setup] = &[
+    Setup::Make(Count::Each),
+    Setup::PlanTwos(
         Count::EachButOne,
         Pick::FromSecond(0),
         Pick::BuiltIn(CHILD_OF),
         Pick::EighthsFromSecond(0),
     ),
-    Preparation::Add,
-    Preparation::PlanOnes(Count::One, Pick::Made(0), Pick::Made(0)),
+    Setup::Add,
+    Setup::PlanOnes(Count::One, Pick::Made(0), Pick::Made(0)),
 ];
 
-const TARGET: &[Preparation] = &[
-    Preparation::Make(Count::One),
-    Preparation::Make(Count::One),
-    Preparation::Make(Count::Each),
-    Preparation::PlanTwos(Count::Each, Pick::Made(2), Pick::Made(0), Pick::Made(1)),
-    Preparation::Add,
-    Preparation::PlanOnes(Count::One, Pick::Made(1), Pick::Made(1)),
+const TARGET: &[Setup] = &[
+    Setup::Make(Count::One),
+    Setup::Make(Count::One),
+    Setup::Make(Count::Each),
+    Setup::PlanTwos(Count::Each, Pick::Made(2), Pick::Made(0), Pick::Made(1)),
+    Setup::Add,
+    Setup::PlanOnes(Count::One, Pick::Made(1), Pick::Made(1)),
 ];
 
 impl Start {
@@ -425,7 +420,7 @@ impl Start {
     }
 
     // What is made first, which some of them have in common.
-    fn first(&self) -> &'static [Preparation] {
+    fn first(&self) -> &'static [Setup] {
         match self {
             Start::Nothing => &[],
             Start::Names => NAMES,
@@ -458,41 +453,34 @@ impl Start {
     }
 
     // What is made behind it.
-    fn behind(&self) -> &'static [Preparation] {
+    fn behind(&self) -> &'static [Setup] {
         match self {
-            Start::HaveTag => &[Preparation::Add],
-            Start::Freed => &[Preparation::Delete],
-            Start::RecordedAdds => &[Preparation::RecordAdds],
-            Start::HaveValue => &[Preparation::Set([1, 2])],
-            Start::RecordedSets => &[Preparation::Set([1, 2]), Preparation::RecordSets([1, 2])],
-            Start::AskOne => &[Preparation::Ask("P")],
-            Start::AskTwo => &[Preparation::Ask("P, Q")],
-            Start::AskWild => &[Preparation::Ask("(Group, *)")],
-            Start::AskNot => &[Preparation::Ask("P, !(Group, ChildOf)")],
-            Start::Kept => &[
-                Preparation::Ask("P, (Group, *)"),
-                Preparation::Keep("P, (Group, *)"),
-            ],
-            Start::Columns => &[
-                Preparation::Ask("P"),
-                Preparation::Set([1, 2]),
-                Preparation::ReadColumns,
-            ],
-            Start::HaveOwnPair | Start::HaveSymmetricPair => &[Preparation::Add],
-            Start::OneHasPairs => &[Preparation::Add, Preparation::Ask("(_, *)")],
+            Start::HaveTag => &[Setup::Add],
+            Start::Freed => &[Setup::Delete],
+            Start::RecordedAdds => &[Setup::RecordAdds],
+            Start::HaveValue => &[Setup::Set([1, 2])],
+            Start::RecordedSets => &[Setup::Set([1, 2]), Setup::RecordSets([1, 2])],
+            Start::AskOne => &[Setup::Ask("P")],
+            Start::AskTwo => &[Setup::Ask("P, Q")],
+            Start::AskWild => &[Setup::Ask("(Group, *)")],
+            Start::AskNot => &[Setup::Ask("P, !(Group, ChildOf)")],
+            Start::Kept => &[Setup::Ask("P, (Group, *)"), Setup::Keep("P, (Group, *)")],
+            Start::Columns => &[Setup::Ask("P"), Setup::Set([1, 2]), Setup::ReadColumns],
+            Start::HaveOwnPair | Start::HaveSymmetricPair => &[Setup::Add],
+            Start::OneHasPairs => &[Setup::Add, Setup::Ask("(_, *)")],
             Start::Targets => &[
-                Preparation::Add,
-                Preparation::PlanOnes(Count::Each, Pick::Made(1), Pick::Made(1)),
+                Setup::Add,
+                Setup::PlanOnes(Count::Each, Pick::Made(1), Pick::Made(1)),
             ],
             Start::LackCommonPair => &[
-                Preparation::Add,
-                Preparation::Make(Count::One),
-                Preparation::PlanTwos(Count::Each, Pick::Made(2), Pick::Made(0), Pick::Made(3)),
+                Setup::Add,
+                Setup::Make(Count::One),
+                Setup::PlanTwos(Count::Each, Pick::Made(2), Pick::Made(0), Pick::Made(3)),
             ],
-            Start::LackChainFromRoot => &[Preparation::Reverse],
+            Start::LackChainFromRoot => &[Setup::Reverse],
             Start::ChainRoot => &[
-                Preparation::Add,
-                Preparation::PlanOnes(Count::One, Pick::Last(0), Pick::Last(0)),
+                Setup::Add,
+                Setup::PlanOnes(Count::One, Pick::Last(0), Pick::Last(0)),
             ],
             _ => &[],
         }

@@ -16,7 +16,7 @@ use Rattle.eco_ids.specs.declared.entity.Entity.{Entity}
 use Rattle.eco_ids.specs.declared.id.Id.{Id}
 use Rattle.eco_tables.specs.Table.{TableState}
 use Rattle.eco_tables.specs.Tables.{no_table, slot_of, table_in}
-use Rattle.eco_index.specs.Caching.{AreOnly, choices_on}
+use Rattle.eco_caches.specs.Caching.{AreOnly, choices_on}
 use Rattle.eco_archetypes.specs.Archetypes.{type_at}
 use Rattle.eco_store.specs.declared.standing.Standing.{Standing}
 use Rattle.eco_entries.specs.Flat.{IsEven}

@@ -12,9 +12,9 @@ use Rattle.eco_tables.specs.Tables.{slot_of, table_in, no_table, SetsSlot, Moves
 use Rattle.eco_index.specs.TypeMap.{LeadAlike, IsTypeMap, same_ids}
 use Rattle.eco_index.specs.IdIndex.{Lists, any_matches, Turns}
 use Rattle.eco_index.specs.Edges.{toggled, Cuts, Links, SameEdges}
-use Rattle.eco_index.specs.Caching.{AreExact, AreTold, ChangesType}
-use Rattle.eco_index.specs.declared.cache.Cache.{Cache}
-use Rattle.eco_index.proofs.Caching.{exact_types}
+use Rattle.eco_caches.specs.Caching.{AreExact, AreTold, ChangesType}
+use Rattle.eco_caches.specs.declared.cache.Cache.{Cache}
+use Rattle.eco_caches.proofs.Caching.{exact_types}
 use Rattle.eco_index.proofs.Graphs.{graph_made, graph_cut, graph_linked}
 use Rattle.eco_index.proofs.TypeMaps.{type_map-insert, type_map-remove}
 use Rattle.eco_archetypes.specs.Archetypes.{type_at, type_matches, IsIdIndex, IsArchetypes, SameSlots, SameRows}

@@ -11,7 +11,7 @@ use Rattle.eco_ids.proofs.Facts.{or_left, or_right}
 use Rattle.eco_query.specs.Queries.{QuerySlot, matches_type}
 use Rattle.eco_tables.specs.Table.{TableState}
 use Rattle.eco_tables.specs.Tables.{slot_of, no_table}
-use Rattle.eco_index.specs.Caching.{AreThose, fulfils}
+use Rattle.eco_caches.specs.Caching.{AreThose, fulfils}
 use Rattle.eco_index.proofs.Listings.{distinct_filtered}
 use Rattle.eco_archetypes.specs.Archetypes.{type_at, passes_at, has_rows, is_found_by, ArePassing, FindsSome, IsAllFound}
 use Rattle.eco_archetypes.proofs.Copying.{taken_more, taken_past}

@@ -7,7 +7,7 @@ use Rattle.eco_ids.specs.Order.{id_cmp, is_ascending}
 use Rattle.eco_tables.specs.Table.{TableState}
 use Rattle.eco_tables.specs.Tables.{slot_of, table_in}
 use Rattle.eco_index.specs.IdIndex.{Lists}
-use Rattle.eco_index.specs.declared.cache.Cache.{Cache}
+use Rattle.eco_caches.specs.declared.cache.Cache.{Cache}
 use Rattle.eco_index.specs.Edges.{edge, toggled, IsGraph, IsTwofold, Links, SameEdges}
 use Rattle.eco_index.proofs.Toggles.{toggled_other, twice}
 use Rattle.eco_archetypes.specs.Archetypes.{type_at, IsArchetypes, KeepsTypes}

@@ -6,8 +6,8 @@ use Rattle.eco_ids.specs.declared.id.Id.{Id}
 use Rattle.eco_ids.specs.declared.pattern.Pattern.{Pattern}
 use Rattle.eco_tables.specs.Table.{TableState}
 use Rattle.eco_tables.specs.Tables.{slot_of, SetsSlot}
-use Rattle.eco_index.specs.declared.cache.Cache.{Cache}
-use Rattle.eco_index.specs.Caching.{AreExact, ChangesType}
+use Rattle.eco_caches.specs.declared.cache.Cache.{Cache}
+use Rattle.eco_caches.specs.Caching.{AreExact, ChangesType}
 use Rattle.eco_index.specs.Edges.{edge, toggled}
 use Rattle.eco_index.specs.IdIndex.{Lists}
 use Rattle.eco_index.specs.Sweeping.{has_table, kept_if, KeepsListed, KeepsEdges}

@@ -21,8 +21,8 @@ use Rattle.eco_tables.specs.Table.{TableState, paired, width_in}
 use Rattle.eco_tables.specs.Tables.{slot_of, table_in, no_table, turned, SetsSlot}
 use Rattle.eco_index.specs.Edges.{Cuts}
 use Rattle.eco_index.specs.IdIndex.{Lists, any_matches, matches_id, is_own, Turns, ListsSame}
-use Rattle.eco_index.specs.Caching.{AreTold}
-use Rattle.eco_index.specs.declared.cache.Cache.{Cache}
+use Rattle.eco_caches.specs.Caching.{AreTold}
+use Rattle.eco_caches.specs.declared.cache.Cache.{Cache}
 use Rattle.eco_index.specs.TypeMap.{same_ids, IsTypeMap, LeadAlike, TakesGrown}
 use Rattle.eco_index.proofs.Toggles.{lost_again}
 use Rattle.eco_index.proofs.Graphs.{graph_cut}

@@ -9,15 +9,17 @@ ghost use Rattle.eco_ids.specs.Order.{id_cmp};
 ghost use Rattle.eco_tables.specs.Table.{TableState, entities_of, empty_table};
 ghost use Rattle.eco_tables.specs.Tables.{slot_of, table_in, row_in, SetsSlot, SetsRoom, Moves, MovesAll};
 ghost use Rattle.eco_tables.specs.Tables.{cleared, new_row, with_row, with_written, without_row, rowless_type};
-ghost use Rattle.eco_index.specs.Caching.{HaveRoom, StayExact};
-ghost use Rattle.eco_index.specs.Contents.{cache_list, slots_by_type};
+ghost use Rattle.eco_caches.specs.Caching.{HaveRoom, StayExact};
+ghost use Rattle.eco_caches.specs.Contents.{cache_list};
+ghost use Rattle.eco_index.specs.Contents.{slots_by_type};
 ghost use Rattle.eco_index.specs.TypeMap.{same_ids};
 ghost use Rattle.eco_archetypes.specs.Archetypes.{type_at, SameSlots, KeepsTypes, KeepsRoom, RowlessIn, RowlessBut, SameRows};
 ghost use Rattle.eco_archetypes.specs.Widths.{FitsIn, KeepsWidths, StillCover};
 
+use eco_caches::Caches;
 use eco_entities::EntityIndex;
 use eco_ids::{Entity, Id, TypeList, Value};
-use eco_index::{Caches, Edges, IdIndex, Seed, TypeMap};
+use eco_index::{Edges, IdIndex, Seed, TypeMap};
 use eco_tables::{TableSlot, Tables};
 use std::alloc::{AllocError, Global};
 use std::marker::Model;
@@ -64,7 +66,8 @@ impl Drop for Archetypes {
 impl Model for Archetypes {
     ghost use Rattle.std.specs.Prelude.{List, Option};
     ghost use Rattle.eco_tables.specs.Table.{TableState};
-    ghost use Rattle.eco_index.specs.Contents.{cache_list, edge_lists, lists_in, slots_by_type};
+    ghost use Rattle.eco_caches.specs.Contents.{cache_list};
+    ghost use Rattle.eco_index.specs.Contents.{edge_lists, lists_in, slots_by_type};
     ghost use Rattle.eco_archetypes.specs.Archetypes.{IsArchetypes};
 
     ghost Value = { List (Option TableState) };

@@ -1,4 +1,3 @@
-pub mod Caching
 pub mod EdgeLists
 pub mod Graphs
 pub mod IndexCopies
@@ -6,7 +5,6 @@ pub mod Joinings
 pub mod Keys
 pub mod Listings
 pub mod Named
-pub mod Onlies
 mod Places
 pub mod Sweeping
 pub mod Toggles

@@ -2,8 +2,6 @@
 use Rattle.std.specs.Prelude.{ℕ, List}
 use Rattle.std.specs.HashMap.{HashMap}
 use Rattle.eco_ids.specs.declared.id.Id.{Id}
-use Rattle.eco_index.specs.declared.cache.Cache.{Cache}
-use Rattle.eco_index.specs.declared.caches.Caches.{Caches}
 use Rattle.eco_index.specs.declared.edges.Edges.{Edges}
 use Rattle.eco_index.specs.declared.id_index.IdIndex.{IdIndex}
 use Rattle.eco_index.specs.declared.seed.Seed.{Seed}
@@ -21,7 +19,3 @@ lists_in i = lists_of i.slots
 -- the edges of each slot
 abbrev pub edge_lists : Edges → List (HashMap Id ℕ Seed)
 edge_lists e = e.lists.items
-
--- the caches by their numbers
-abbrev pub cache_list : Caches → List Cache
-cache_list c = c.list.items

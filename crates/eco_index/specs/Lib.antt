@@ -2,7 +2,6 @@ pub mod IdIndex
 pub mod Marks
 pub mod TypeTests
 pub mod TypeMap
-pub mod Caching
 pub mod Edges
 pub mod Naming
 pub mod Sweeping

@@ -3,19 +3,15 @@
 //!
 //! A type leads to its slot ([`TypeMap`]), an id that comes or goes leads from a slot to the next ([`Edges`]), and a pattern to
 //! the slots of the types that have an id which it matches ([`IdIndex`]). Who asks for more than a pattern asks by a
-//! [`TypeTest`]. A query that is asked again and again has the slots of the types that fulfil it in a cache ([`Caches`]), which is
-//! told of each table that comes, turns or goes.
+//! [`TypeTest`].
 #![tactic(auto)]
 
-mod cache;
-mod caches;
 mod edges;
 mod id_index;
 mod seed;
 mod type_map;
 mod type_test;
 
-pub use caches::Caches;
 pub use edges::Edges;
 pub use id_index::IdIndex;
 pub use seed::Seed;

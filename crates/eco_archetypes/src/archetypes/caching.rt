@@ -1,7 +1,7 @@
 //! Queries that are asked again and again keep the slots of the tables whose types fulfil them.
 ghost use Rattle.std.specs.Prelude.{◌≡◌, ◌&&◌, ℕ, cond, true, filter, IfOk, IfSome, IsTrue, OnOk, OnErr, nat_eq};
 ghost use Rattle.std.specs.List.{list_any, IsDistinct};
-ghost use Rattle.eco_index.specs.Caching.{fulfils, AreKept, AreThose};
+ghost use Rattle.eco_caches.specs.Caching.{fulfils, AreKept, AreThose};
 ghost use Rattle.eco_archetypes.specs.Archetypes.{type_at, has_rows, ArePassing};
 
 use crate::archetypes::Archetypes;

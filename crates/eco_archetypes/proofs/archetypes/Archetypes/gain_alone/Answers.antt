@@ -6,7 +6,7 @@ use Rattle.eco_tables.specs.Table.{TableState}
 use Rattle.eco_tables.specs.Tables.{slot_of, table_in}
 use Rattle.eco_index.specs.IdIndex.{lists_of}
 use Rattle.eco_index.specs.TypeMap.{LeadAlike, TakesGrown, same_ids}
-use Rattle.eco_index.proofs.Caching.{exact_types, then_told}
+use Rattle.eco_caches.proofs.Caching.{exact_types, then_told}
 use Rattle.eco_archetypes.specs.Archetypes.{TakesType, type_at}
 use Rattle.eco_archetypes.proofs.ArchetypeLemmas.{found_alike, found_kept, type_there}
 use Rattle.eco_archetypes.proofs.Turnings.{found_turned, grown_back, grown_in, grown_is, grown_new, led_type, one, same_entries}

@@ -5,7 +5,7 @@ use Rattle.eco_tables.specs.Table.{TableState, empty_table}
 use Rattle.eco_tables.specs.Tables.{SetsSlot, no_table}
 use Rattle.eco_index.specs.TypeMap.{same_ids}
 use Rattle.eco_index.specs.IdIndex.{lists_of}
-use Rattle.eco_index.proofs.Caching.{exact_types, then_told}
+use Rattle.eco_caches.proofs.Caching.{exact_types, then_told}
 use Rattle.eco_archetypes.specs.Archetypes.{type_at}
 use Rattle.eco_archetypes.specs.Widths.{AreWidths}
 use Rattle.eco_archetypes.proofs.ArchetypeLemmas.{found_kept, found_made}

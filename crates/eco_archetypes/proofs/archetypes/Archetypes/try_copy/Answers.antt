@@ -1,6 +1,6 @@
 use Rattle.std.proofs.Common.{◌≡◌, ℕ, Option, Some, None, sym, ◌∙◌}
 use Rattle.eco_index.specs.IdIndex.{lists_of}
-use Rattle.eco_index.proofs.Caching.{exact_types}
+use Rattle.eco_caches.proofs.Caching.{exact_types}
 use Rattle.eco_archetypes.proofs.ArchetypeLemmas.{one_slot}
 use Rattle.eco_archetypes.specs.Archetypes.{type_at}
 use Rattle.eco_archetypes.proofs.Copying.{copied_kept, copied_matches, copied_types}

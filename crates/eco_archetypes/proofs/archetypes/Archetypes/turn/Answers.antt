@@ -5,7 +5,7 @@ use Rattle.eco_tables.specs.Table.{TableState}
 use Rattle.eco_tables.specs.Tables.{slot_of}
 use Rattle.eco_index.specs.IdIndex.{lists_of}
 use Rattle.eco_index.specs.TypeMap.{LeadsAlone, same_ids}
-use Rattle.eco_index.proofs.Caching.{then_told}
+use Rattle.eco_caches.proofs.Caching.{then_told}
 use Rattle.eco_archetypes.specs.Archetypes.{TakesType, type_at}
 use Rattle.eco_archetypes.proofs.ArchetypeLemmas.{found_kept}
 use Rattle.eco_archetypes.proofs.Turnings.{found_turned, one, same_entries}

@@ -1,5 +1,5 @@
 use Rattle.std.proofs.Common.{take}
-use Rattle.eco_index.specs.Caching.{AreThose}
+use Rattle.eco_caches.specs.Caching.{AreThose}
 use Rattle.eco_archetypes.specs.Archetypes.{type_at}
 use Rattle.eco_archetypes.proofs.archetypes.caching.fulfilling.Given as goal
 

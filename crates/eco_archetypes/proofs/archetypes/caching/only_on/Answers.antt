@@ -3,8 +3,8 @@ use Rattle.eco_ids.specs.Answer.{choices}
 use Rattle.eco_tables.specs.Table.{TableState}
 use Rattle.eco_entries.specs.Answers.{asks}
 use Rattle.eco_entries.specs.Flat.{ChoicesState}
-use Rattle.eco_index.specs.Caching.{choices_on}
-use Rattle.eco_index.proofs.Onlies.{all_kept, only_more}
+use Rattle.eco_caches.specs.Caching.{choices_on}
+use Rattle.eco_caches.proofs.Onlies.{all_kept, only_more}
 use Rattle.eco_archetypes.specs.Archetypes.{type_at}
 use Rattle.eco_archetypes.proofs.archetypes.caching.only_on.Goals as goal
 

@@ -1,6 +1,6 @@
 use Rattle.std.proofs.Common.{◌≡◌, take, length}
 use Rattle.eco_entries.specs.Answers.{asks}
-use Rattle.eco_index.specs.Caching.{AreOnly}
+use Rattle.eco_caches.specs.Caching.{AreOnly}
 use Rattle.eco_archetypes.specs.Archetypes.{type_at}
 use Rattle.eco_archetypes.proofs.archetypes.caching.only_on.Given as goal
 

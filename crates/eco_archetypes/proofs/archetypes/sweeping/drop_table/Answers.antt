@@ -1,6 +1,6 @@
 use Rattle.std.proofs.Common.{◌≡◌, false, true≢false, Option, Some, None, is_some, subst, sym, ◌∙◌}
 use Rattle.std.specs.Prelude.{IfNone}
-use Rattle.eco_index.specs.Caching.{AreExact}
+use Rattle.eco_caches.specs.Caching.{AreExact}
 use Rattle.eco_archetypes.specs.Archetypes.{type_at}
 use Rattle.eco_archetypes.proofs.Sweeping.{dropped_type}
 use Rattle.eco_archetypes.proofs.archetypes.sweeping.drop_table.Goals as goal

@@ -1,5 +1,5 @@
 use Rattle.std.proofs.Common.{ℕ, List, ◌++◌, take}
-use Rattle.eco_index.specs.Caching.{AreExact}
+use Rattle.eco_caches.specs.Caching.{AreExact}
 use Rattle.eco_archetypes.specs.Archetypes.{type_at, RowlessIn, SameRows}
 use Rattle.eco_archetypes.specs.Sweeping.{IsLess}
 use Rattle.eco_archetypes.proofs.archetypes.sweeping.drop_tables.Given as goal

@@ -1,0 +1,2 @@
+pub mod Caching
+pub mod Contents

@@ -6,6 +6,7 @@ ghost use Rattle.eco_entities.specs.Registration.{newcomer, placed, renamed};
 ghost use Rattle.eco_entities.specs.Slots.{arity_in, has_arity, is_free, is_living, is_named, place_in, state_of};
 
 use crate::place::Place;
+use eco_ids::Entity;
 use eco_ids::value::FIELD_COUNT;
 
 /// Whether an index is in use, and what its entity has besides.
@@ -124,10 +125,9 @@ impl Slot {
     pub(crate) fn raised(generation: u16) -> Slot
         ensures { (label : Option (List ℕ)) → state_of label result ≡ raised generation }
     {
-        if generation < u16::MAX {
-            Slot::free(generation + 1)
-        } else {
-            Slot::unplaced(0, 0, State::Retired)
+        match Entity::generation_after(generation) {
+            Some(next) => Slot::free(next),
+            None => Slot::unplaced(0, 0, State::Retired),
         }
     }
 

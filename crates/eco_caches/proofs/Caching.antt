@@ -142,17 +142,6 @@ told_all old items zs n o count len told is most types types' change was k c got
     let within = got_within items k c there in
     (told types types' change was k c there).0 (omega (arith, within, most))
 
--- the element that a loop is at
-pub got_item : {X : Type 0} (xs : List X) (i : ℕ) (x : X) → i < length xs → x ≡ get_or xs i x → slice_get xs i ≡ Some x
-got_item [] i x within is = absurd (omega (arith, within))
-got_item (y ∷ xs) zero x within is = ap Some (sym is)
-got_item (y ∷ xs) (suc i) x within is = got_item xs i x (omega (arith, within)) is
-
-pub got_default : {X : Type 0} (xs : List X) (i : ℕ) (d : X) → i < length xs → slice_get xs i ≡ Some (get_or xs i d)
-got_default [] i d within = absurd (omega (arith, within))
-got_default (y ∷ xs) zero d within = refl
-got_default (y ∷ xs) (suc i) d within = got_default xs i d (omega (arith, within))
-
 -- the same caches
 pub still_exact : (old new : List Cache) → new ≡ old → StayExact old new
 still_exact old new is types was = subst (AreExact types) (sym is) was

@@ -107,11 +107,11 @@ impl Cache {
         ensures only { IfOk result (λ c. c.only ≡ self.now.only) }
     {
         let query = self.query.try_copy(alloc)?;
-        let slots = self.slots.clone()?;
         let only = match &self.only {
             Some(only) => Some(only.try_copy(alloc)?),
             None => None,
         };
+        let slots = self.slots.clone()?;
         Ok(Cache { query, slots, only })
     }
 }

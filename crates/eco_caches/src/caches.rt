@@ -89,8 +89,9 @@ impl Caches {
             → IfSome only (AreKept types query slots.keys) → AreExact types (cache_list self.new) }
     {
         let number = self.list.len();
+        let cache = Cache { query, slots, only };
         self.list.reserve(1)?;
-        self.list.push_reserved(Cache { query, slots, only });
+        self.list.push_reserved(cache);
         Ok(number)
     }
 

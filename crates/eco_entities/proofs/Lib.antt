@@ -17,4 +17,3 @@ pub mod PageChanges
 pub mod PageLists
 pub mod PageNames
 pub mod Trees
-pub mod Results

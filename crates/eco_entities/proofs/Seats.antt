@@ -57,6 +57,7 @@ module _ {X : Type 0} where
 
   entry_here : (k : ℕ) (e : ℕ × X) (es : List (ℕ × X)) → k ≡ e.0 → below_all nat_cmp e.0 es ≡ true → IsEntry k (e ∷ es) 0
   entry_here k e es is h = record {
+    within = omega arith;
     found = rw (equal_is k e.0 is) refl;
     there = ap Some (sym is);
     put_is = λ x. rw (equal_is k e.0 is) (ap (λ j. (j, x) ∷ es) (sym is));
@@ -73,6 +74,7 @@ module _ {X : Type 0} where
 
   entry_later : (k : ℕ) (e : ℕ × X) (es : List (ℕ × X)) (n : ℕ) → e.0 < k → IsEntry k es n → IsEntry k (e ∷ es) (suc n)
   entry_later k e es n lt h = record {
+    within = omega (arith, h.within);
     found = rw (greater_is k e.0 lt) h.found;
     there = h.there;
     put_is = λ x. rw (greater_is k e.0 lt) (ap (λ r. e ∷ r) (h.put_is x));

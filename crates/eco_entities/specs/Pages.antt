@@ -1,5 +1,5 @@
 -- Names with their indices, in the order of the indices, and pages of them.
-use Rattle.std.specs.Prelude.{◌≡◌, ◌≤◌, ◌/◌, ℕ, not, List, length, set, slice_get, Option, Some, None, option_map, option_and_then}
+use Rattle.std.specs.Prelude.{◌≡◌, ◌≤◌, ◌<◌, ◌/◌, ℕ, not, List, length, set, slice_get, Option, Some, None, option_map, option_and_then}
 use Rattle.std.specs.List.{insert, remove}
 use Rattle.std.specs.Ordering.{nat_cmp, eq_by_cmp}
 use Rattle.std.specs.FinMap.Entries.{find, put, where_key}
@@ -20,6 +20,7 @@ name_at pages index = option_and_then (λ es. text_at es index) (slice_get pages
 
 -- the entry at a place is the index's
 pub record IsEntry {X : Type 0} (index : ℕ) (es : List (ℕ × X)) (place : ℕ) : Type 0 where
+  pub within : place < length es
   pub found : option_map (λ e. e.1) (slice_get es place) ≡ find nat_cmp index es
   pub there : option_map (λ e. e.0) (slice_get es place) ≡ Some index
   pub put_is : (x : X) → put nat_cmp index x es ≡ set es place (index, x)

@@ -7,7 +7,6 @@ use std::alloc::{AllocError, Global};
 use std::marker::Model;
 
 /// Which indices are free, as one flag for each index. The lowest free index is found in a few words.
-#[derive(Drop)]
 pub(crate) struct FreeSet {
     len: usize,
     // The bit of an index is set where it is free.
@@ -16,6 +15,18 @@ pub(crate) struct FreeSet {
     words: Level,
     // The bit of a word of `words` is set where that word has one.
     groups: Level,
+}
+
+// By hand, so that dropping it is one call: a derived drop is proved anew at each early return of whoever holds it.
+impl Drop for FreeSet {
+    fn drop(self) {
+        let FreeSet {
+            len: _,
+            indices: _,
+            words: _,
+            groups: _,
+        } = self;
+    }
 }
 
 impl Model for FreeSet {

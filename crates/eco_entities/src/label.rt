@@ -19,10 +19,18 @@ pub(crate) fn short(text: &str) -> Option<Short>
     }
 }
 
-#[derive(Drop)]
 pub(crate) enum Label {
     Short(Short),
     Long(String),
+}
+
+// By hand, so that dropping it is one call: a derived drop is proved anew at each early return of whoever holds it.
+impl Drop for Label {
+    fn drop(self) {
+        match self {
+            Label::Short(_) | Label::Long(_) => {}
+        }
+    }
 }
 
 impl Label {

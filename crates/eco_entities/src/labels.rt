@@ -10,9 +10,15 @@ use std::alloc::{AllocError, Global};
 
 /// The names stand in pages of so many indices. A page has entries only for those that have a name, and there are pages
 /// only up to the highest index that had one.
-#[derive(Drop)]
 pub(crate) struct Labels {
     pages: Vec<Page>,
+}
+
+// By hand, so that dropping it is one call: a derived drop is proved anew at each early return of whoever holds it.
+impl Drop for Labels {
+    fn drop(self) {
+        let Labels { pages: _ } = self;
+    }
 }
 
 // How many indices a page is for: few, since a search in it may go through all.

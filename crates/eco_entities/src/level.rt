@@ -10,9 +10,15 @@ use std::marker::Model;
 pub(crate) const WORD_BITS: usize = 64;
 
 /// A contract sees a level as the list of its words.
-#[derive(Drop)]
 pub(crate) struct Level {
     words: Vec<u64>,
+}
+
+// By hand, so that dropping it is one call: a derived drop is proved anew at each early return of whoever holds it.
+impl Drop for Level {
+    fn drop(self) {
+        let Level { words: _ } = self;
+    }
 }
 
 impl Model for Level {

@@ -9,11 +9,21 @@ use std::collections::BTreeMap;
 
 /// All are in ordered trees, so that no choice of names makes a look-up slow, as it would where the names of a hash map
 /// collide.
-#[derive(Drop)]
 pub(crate) struct Names {
     short: ShortNames,
     long: BTreeMap<String, Entity>,
     alloc: Global,
+}
+
+// By hand, so that dropping it is one call: a derived drop is proved anew at each early return of whoever holds it.
+impl Drop for Names {
+    fn drop(self) {
+        let Names {
+            short: _,
+            long: _,
+            alloc: _,
+        } = self;
+    }
 }
 
 impl Names {

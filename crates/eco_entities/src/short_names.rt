@@ -11,10 +11,16 @@ use std::collections::BTreeMap;
 
 /// A hash table whose buckets are ordered trees: names whose hashes are equal by choice make one tree large, and no
 /// look-up slow.
-#[derive(Drop)]
 pub(crate) struct ShortNames {
     // As many as were needed by now.
     trees: Vec<BTreeMap<Key, Entity>>,
+}
+
+// By hand, so that dropping it is one call: a derived drop is proved anew at each early return of whoever holds it.
+impl Drop for ShortNames {
+    fn drop(self) {
+        let ShortNames { trees: _ } = self;
+    }
 }
 
 impl ShortNames {

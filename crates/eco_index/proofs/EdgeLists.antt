@@ -1,14 +1,14 @@
 -- What a change of one list of edges leaves.
 use Rattle.std.proofs.Common.{◌≡◌, ◌≢◌, ℕ, zero, suc, get_or, ◌<◌, ◌≤◌, ◌&&◌, ◌||◌, Bool, true, false, cond, List, take, [], ◌∷◌, ◌++◌, length, set, Option}
-use Rattle.std.proofs.Common.{Some, None, nat_eq, refl, sym, ap, ◌∙◌, arith}
+use Rattle.std.proofs.Common.{Some, None, nat_eq, refl, sym, ap, ◌∙◌, arith, Result, Ok, Err, OnOk, OnErr}
 use Rattle.std.specs.List.{slice_get}
 use Rattle.std.specs.Map.{lookup}
 use Rattle.std.specs.HashMap.{HashMap, get}
-use Rattle.std.proofs.lemmas.Option.{slice_get_past}
+use Rattle.std.proofs.lemmas.Option.{none-some, same_Some, slice_get_past}
 use Rattle.std.proofs.lemmas.Bool.Decides.{Decides-eqb}
 use Rattle.eco_ids.proofs.Lists.{slice_get-set_same, slice_get-set_other}
 use Rattle.eco_ids.specs.declared.id.Id.{Id}
-use Rattle.eco_index.specs.Edges.{same_id, edge, edge_of, leads_to, IsTwofold, SameEdges, Puts, Cuts}
+use Rattle.eco_index.specs.Edges.{same_id, edge, edge_of, leads_to, IsTwofold, SameEdges, Puts, Links, Cuts}
 use Rattle.eco_ids.proofs.SameIds.{id_eq-Decides}
 
 -- the two ways of a test
@@ -206,6 +206,18 @@ module _ {S : Type 0} where
       ∙ sym (ap (λ k. edge lists k j) (same_slot n slot same) ∙ bare j))
       (λ other. ap (λ o. edge_of o j) (slice_get-set_other lists slot n m' (λ is. let bad = (Decides-eqb n slot).1 is in cc)))
 
+  -- a slot gets a list of the same edges
+  pub stayed_edges : (lists : List (HashMap Id ℕ S)) (slot : ℕ) (m m' : HashMap Id ℕ S) → slot < length lists → m ≡ get_or lists slot m
+      → m'.entries ≡ m.entries → SameEdges lists (set lists slot m')
+  stayed_edges lists slot m m' within is same n j = way (nat_eq n slot) (edge (set lists slot m') n j ≡ edge lists n j)
+      (λ here.
+      ap (λ k. edge (set lists slot m') k j) (same_slot n slot here)
+      ∙ ap (λ o. edge_of o j) (slice_get-set_same lists slot m' within)
+      ∙ ap (lookup (same_id j)) same
+      ∙ at_slot lists slot m within is j
+      ∙ sym (ap (λ k. edge lists k j) (same_slot n slot here)))
+      (λ other. ap (λ o. edge_of o j) (slice_get-set_other lists slot n m' (λ is. let bad = (Decides-eqb n slot).1 is in cc)))
+
   -- a slot that was cut has no edge
   pub cut_bare : (old new : List (HashMap Id ℕ S)) (slot : ℕ) → Cuts old new slot → (j : Id) → edge new slot j ≡ None
   cut_bare old new slot cuts j =
@@ -223,3 +235,62 @@ put_taken g g1 g2 g3 g4 n i to none covered put stayed taken k j =
     by true false e f = stayed k j ∙ put k j ∙ ap (λ c. cond (c && same_id i j) (Some to) (edge g1 k j)) e
         ∙ ap (λ c. cond c (Some to) (edge g1 k j)) f ∙ covered k j
     by false b e f = stayed k j ∙ put k j ∙ ap (λ c. cond (c && same_id i j) (Some to) (edge g1 k j)) e ∙ covered k j
+
+-- an edge either way more, where there was none: each still leads back
+module _ {S : Type 0} (old new : List (HashMap Id ℕ S)) (a b : ℕ) (i : Id) where
+  linked_twofold : a ≢ b → edge old a i ≡ None → edge old b i ≡ None → IsTwofold old → Links old new a i b → IsTwofold new
+  linked_twofold apart none_a none_b twofold links n m j leads = way (same_id i j) (edge new m j ≡ Some n)
+      (λ same.
+      let is = (id_eq-Decides i j).0 same in
+      let now : (k : ℕ) → edge new k j ≡ cond (nat_eq k b) (Some a) (cond (nat_eq k a) (Some b) (edge old k j)) =
+      λ k. links k j ∙ (λ t. cond (nat_eq k b && same t) (Some a) (cond (nat_eq k a && same t) (Some b) (edge old k j)))
+      ∙ plain (nat_eq k b) (nat_eq k a) (edge old k j) in
+      let at_b : edge new b j ≡ Some a = now b ∙ ap (λ p. cond p (Some a) (cond (nat_eq b a) (Some b) (edge old b j))) (itself b) in
+      let at_a : edge new a j ≡ Some b =
+      now a ∙ (λ t. cond (other a b apart t) (Some a) (cond (itself a t) (Some b) (edge old a j))) in
+      let bare : (k : ℕ) → edge old k i ≡ None → m ≡ k → edge old m j ≡ Some n → ⊥ =
+      λ k none here back. none-some n (sym none ∙ ap (edge old k) is ∙ ap (λ q. edge old q j) (sym here) ∙ back) in
+      way (nat_eq n b) (edge new m j ≡ Some n)
+      (λ here.
+      let from = same_slot n b here in
+      let to : m ≡ a = same_Some m a (sym leads ∙ ap (λ k. edge new k j) from ∙ at_b) in
+      ap (λ k. edge new k j) to ∙ at_a ∙ ap Some (sym from))
+      (λ not_b. way (nat_eq n a) (edge new m j ≡ Some n)
+      (λ here.
+      let from = same_slot n a here in
+      let to : m ≡ b = same_Some m b (sym leads ∙ ap (λ k. edge new k j) from ∙ at_a) in
+      ap (λ k. edge new k j) to ∙ at_b ∙ ap Some (sym from))
+      (λ not_a.
+      let was : edge old n j ≡ Some m =
+      sym (now n ∙ (λ t. cond (not_b t) (Some a) (cond (not_a t) (Some b) (edge old n j)))) ∙ leads in
+      let back = twofold n m j was in
+      now m ∙ (λ t. cond (other m b (λ e. bare b none_b e back) t) (Some a) (cond (other m a (λ e. bare a none_a e back) t) (Some b) (edge old m j)))
+      ∙ back)))
+      (λ different.
+      let now : (k : ℕ) → edge new k j ≡ edge old k j =
+      λ k. links k j ∙ (λ t. cond (nat_eq k b && different t) (Some a) (cond (nat_eq k a && different t) (Some b) (edge old k j)))
+      ∙ untouched (nat_eq k b) (nat_eq k a) (edge old k j) in
+      now m ∙ twofold n m j (sym (now n) ∙ leads))
+    where
+      itself : (k : ℕ) → nat_eq k k ≡ true
+      itself k = (Decides-eqb k k).1 refl
+
+      other : (k l : ℕ) → k ≢ l → nat_eq k l ≡ false
+      other k l differ = way (nat_eq k l) (nat_eq k l ≡ false) (λ e. absurd (differ (same_slot k l e))) (λ e. e)
+
+      plain : (p q : Bool) (o : Option ℕ) → cond (p && true) (Some a) (cond (q && true) (Some b) o) ≡ cond p (Some a) (cond q (Some b) o)
+      plain true q o = refl
+      plain false true o = refl
+      plain false false o = refl
+
+      untouched : (p q : Bool) (o : Option ℕ) → cond (p && false) (Some a) (cond (q && false) (Some b) o) ≡ o
+      untouched true true o = refl
+      untouched true false o = refl
+      untouched false true o = refl
+      untouched false false o = refl
+
+  -- whether it was done, or refused
+  pub link_twofold : {T E : Type 0} (r : Result T E) → a ≢ b → edge old a i ≡ None → edge old b i ≡ None → IsTwofold old
+      → OnOk r (Links old new a i b) → OnErr r (SameEdges old new) → IsTwofold new
+  link_twofold (Ok x) apart none_a none_b twofold links kept = linked_twofold apart none_a none_b twofold links
+  link_twofold (Err e) apart none_a none_b twofold links kept = λ n m j leads. kept m j ∙ twofold n m j (sym (kept n j) ∙ leads)

@@ -1,5 +1,6 @@
 -- What the index of a key's entry says of the slots that the key has.
 use Rattle.std.proofs.Common.{◌≡◌, ℕ, cond, get_or, position, slice_get, Option, None, Some, IfNone, IfSome, refl, sym, ap, subst, unwrap_or, ◌∙◌}
+use Rattle.std.proofs.Common.{Result, Ok, Err, OnOk, OnErr, true, false, true≢false}
 use Rattle.std.specs.Option.{option_map}
 use Rattle.std.specs.Map.{lookup}
 use Rattle.std.specs.HashMap.{HashMap, IsUnchanged, IsUnique, Updates, get, keys}
@@ -12,7 +13,7 @@ use Rattle.eco_index.specs.declared.id_index.marks.Marks.{Marks}
 use Rattle.eco_index.specs.declared.id_index.slots.Slots.{Slots}
 use Rattle.eco_index.specs.contracts.id_index.key.KeyEq.TheImpl.Laws as key_laws
 use Rattle.eco_index.specs.IdIndex.{KeepsNoEmpty, is_empty, same_key}
-use Rattle.eco_index.specs.Marks.{AreMarked, KeepsMarks}
+use Rattle.eco_index.specs.Marks.{AreMarked, KeepsMarks, may_be_kept}
 use Rattle.eco_index.proofs.Keys.{keys_same, more_marks, none_empty, still_marked}
 
 -- the key at the index where a key was looked up is that key
@@ -51,3 +52,16 @@ module _ {S : Type 0} (m m' : HashMap Key Slots S) where
       still_marked m m' e.0 None went.0 marks' (more_marks marks marks' m keeps were) (λ unmarked. refl)
   marked_without marks marks' were keeps None went same =
       λ q unmarked. ap (λ es. lookup (same_key q) es) same ∙ more_marks marks marks' m keeps were q unmarked
+
+-- a key that comes has slots, and may be kept; where it is refused, all is as it was
+module _ {S T E : Type 0} (m m' : HashMap Key Slots S) (k : Key) (o : Slots) where
+  pub full_with : KeepsNoEmpty m → is_empty (Some o) ≡ false → (r : Result T E) → OnOk r (Updates same_key m m' k (Some o))
+      → OnErr r (IsUnchanged m m') → KeepsNoEmpty m'
+  full_with full has (Ok x) came same = none_empty m m' k (Some o) came.0 full has
+  full_with full has (Err e) came same = λ q. ap (λ es. is_empty (lookup (same_key q) es)) same ∙ full q
+
+  pub marked_with : (marks : Marks) → AreMarked marks m → may_be_kept marks k ≡ true → (r : Result T E)
+      → OnOk r (Updates same_key m m' k (Some o)) → OnErr r (IsUnchanged m m') → AreMarked marks m'
+  marked_with marks were may (Ok x) came same =
+      still_marked m m' k (Some o) came.0 marks were (λ unmarked. absurd (true≢false (sym may ∙ unmarked)))
+  marked_with marks were may (Err e) came same = λ q unmarked. ap (λ es. lookup (same_key q) es) same ∙ were q unmarked

@@ -161,11 +161,11 @@ module _ {F : Type 0} (T : F → Key → Slots → Bool → Slots → F → Type
           later ∙ none_stays (same_key k e.0) (list_any (nat_eq n) (slots_of e.1)) (list_any (any_slot k n) es) (stays n) own
 
   -- a key that was not kept is not kept
-  swept_none : (es kept : List (Key × Slots)) → RetainsPairs T f es kept → (k : Key) → lookup (same_key k) es ≡ None → lookup (same_key k) kept ≡ None
-  swept_none [] kept is k none = ap (lookup (same_key k)) is
-  swept_none (e ∷ es) kept (b, w, f', rest, call, after, is) k none =
+  pub swept_absent : (es kept : List (Key × Slots)) → RetainsPairs T f es kept → (k : Key) → lookup (same_key k) es ≡ None → lookup (same_key k) kept ≡ None
+  swept_absent [] kept is k none = ap (lookup (same_key k)) is
+  swept_absent (e ∷ es) kept (b, w, f', rest, call, after, is) k none =
       ap (lookup (same_key k)) is
-      ∙ by (same_key k e.0) b none refl (swept_none es rest (subst (λ g. RetainsPairs T g es rest) (each e.0 e.1 b w f' call).2 after) k)
+      ∙ by (same_key k e.0) b none refl (swept_absent es rest (subst (λ g. RetainsPairs T g es rest) (each e.0 e.1 b w f' call).2 after) k)
     where
       by : (c b : Bool) → cond c (Some e.1) (lookup (same_key k) es) ≡ None → same_key k e.0 ≡ c
           → (lookup (same_key k) es ≡ None → lookup (same_key k) rest ≡ None)
@@ -175,12 +175,12 @@ module _ {F : Type 0} (T : F → Key → Slots → Bool → Slots → F → Type
       by false false none is later = later none
 
   -- each key that is kept has a slot
-  swept_full : (es kept : List (Key × Slots)) → RetainsPairs T f es kept → (k : Key) → is_empty (lookup (same_key k) kept) ≡ false
-  swept_full [] kept is k = ap (λ xs. is_empty (lookup (same_key k) xs)) is
-  swept_full (e ∷ es) kept (b, w, f', rest, call, after, is) k =
+  pub swept_filled : (es kept : List (Key × Slots)) → RetainsPairs T f es kept → (k : Key) → is_empty (lookup (same_key k) kept) ≡ false
+  swept_filled [] kept is k = ap (λ xs. is_empty (lookup (same_key k) xs)) is
+  swept_filled (e ∷ es) kept (b, w, f', rest, call, after, is) k =
       let own = each e.0 e.1 b w f' call in
       ap (λ xs. is_empty (lookup (same_key k) xs)) is
-      ∙ by b (same_key k e.0) own.1 refl (swept_full es rest (subst (λ g. RetainsPairs T g es rest) own.2 after) k)
+      ∙ by b (same_key k e.0) own.1 refl (swept_filled es rest (subst (λ g. RetainsPairs T g es rest) own.2 after) k)
     where
       by : (b c : Bool) → (b ≡ true → is_empty (Some w) ≡ false) → same_key k e.0 ≡ c → is_empty (lookup (same_key k) rest) ≡ false
           → is_empty (lookup (same_key k) (cond b ((e.0, w) ∷ rest) rest)) ≡ false
@@ -192,13 +192,6 @@ module _ {F : Type 0} (T : F → Key → Slots → Bool → Slots → F → Type
       → (k : Key) (n : ℕ) → has_slot (lookup (same_key k) kept) n ≡ (has_slot (lookup (same_key k) es) n && stays n)
   swept_listed es kept before after retains k n =
       listed_any k n kept after ∙ swept_any es kept retains k n ∙ ap (λ b. b && stays n) (sym (listed_any k n es before))
-
-  pub swept_absent : (es kept : List (Key × Slots)) → RetainsPairs T f es kept → (k : Key) → lookup (same_key k) es ≡ None
-      → lookup (same_key k) kept ≡ None
-  swept_absent = swept_none
-
-  pub swept_filled : (es kept : List (Key × Slots)) → RetainsPairs T f es kept → (k : Key) → is_empty (lookup (same_key k) kept) ≡ false
-  swept_filled = swept_full
 
 -- ---- edges
 

@@ -11,13 +11,9 @@ use Rattle.std.proofs.lemmas.Bool.Decides.{Decides-eqb}
 use Rattle.eco_ids.specs.declared.id.Id.{Id}
 use Rattle.eco_ids.specs.Order.{id_cmp, has_item, with_item}
 use Rattle.eco_index.specs.TypeMap.{LeadAlike, LeadsAlone, same_ids, IsTypeMap}
+use Rattle.eco_index.proofs.EdgeLists.{way}
 use Rattle.eco_index.proofs.Toggles.{grown_other}
 use Rattle.eco_ids.proofs.SameIds.{same_ids-Decides}
-
--- the two ways of a test
-way : (b : Bool) (P : Type 0) → (b ≡ true → P) → (b ≡ false → P) → P
-way true P f g = f refl
-way false P f g = g refl
 
 not_same : (t q : List Id) → same_ids t q ≡ false → t ≢ q
 not_same t q e h = let same : same_ids t q ≡ true = (same_ids-Decides t q).1 h in cc

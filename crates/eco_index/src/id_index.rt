@@ -17,7 +17,8 @@ use crate::id_index::key::Key;
 use crate::id_index::marks::Marks;
 use crate::id_index::slots::Slots;
 use crate::seed::Seed;
-use eco_ids::{Entity, Id, Part, Pattern};
+use eco_ids::{Entity, Id, Pattern};
+use eco_query::exactly;
 use eco_tables::TableSlot;
 use indexmap::IndexMap;
 use std::alloc::{AllocError, Global};
@@ -293,16 +294,6 @@ impl IdIndex {
             self.take_id(*id, before, slot);
             before = Some(*id);
         }
-    }
-}
-
-// The pattern that an id alone matches.
-fn exactly(id: Id) -> Pattern
-    ensures { result ≡ exactly id }
-{
-    match id {
-        Id::One(entity) => Pattern::One(entity),
-        Id::Two(relationship, target) => Pattern::Two(Part::Is(relationship), Part::Is(target)),
     }
 }
 

@@ -10,9 +10,10 @@ use Rattle.eco_ids.proofs.Lists.{map-replicate}
 use Rattle.eco_tables.specs.Column.{Fits}
 
 -- a row is taken out under a map
-pub map_swap_remove : {X Y : Type 0} (f : X → Y) (xs : List X) (i : ℕ) (d : X) (e : Y) → i < length xs
+pub map_swap_remove : {X Y : Type 0} (f : X → Y) (xs : List X) (i : ℕ) (d : X) (e : Y) → i < length (map f xs)
     → map f (swap_remove xs i d) ≡ swap_remove (map f xs) i e
 map_swap_remove f xs i d e within =
+    let inside : i < length xs = omega (arith, within, length-map xs f) in
     sym (take-map f (length xs - 1) (set xs i (get_or xs (length xs - 1) d)))
     ∙ ap (take (length xs - 1)) (map-set f xs i (get_or xs (length xs - 1) d))
     ∙ ap (λ y. take (length xs - 1) (set (map f xs) i y)) (sym (get_or-map f xs (length xs - 1) d e (omega arith)))

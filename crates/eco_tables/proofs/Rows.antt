@@ -490,7 +490,7 @@ pub removed_rows : (ids : List Id) (cs : List ColumnState) (es : List Entity) (r
     → rows_of ids (map (λ c. with_removed c row) cs) (swap_remove es row d) ≡ swap_remove (rows_of ids cs es) row r
 removed_rows ids cs es row d r even there =
     ap (map (retyped_row ids)) (swapped_rows cs es row d r even there)
-    ∙ map_swap_remove (retyped_row ids) (rows_from cs 0 es) row r r (rw (length-rows cs 0 es) there)
+    ∙ map_swap_remove (retyped_row ids) (rows_from cs 0 es) row r r (rw (length-map (rows_from cs 0 es) (retyped_row ids), length-rows cs 0 es) there)
 
 -- rows from elsewhere
 pub added_rows : (ids : List Id) (cs : List ColumnState) (es : List Entity) (rows : List TableRow) (to : TableRow → TableRow)

@@ -13,18 +13,14 @@ use Rattle.eco_ids.specs.World.{zeros}
 use Rattle.eco_ids.specs.Order.{id_cmp, id_eq, has_item, is_ascending, with_item, without_item}
 use Rattle.eco_ids.proofs.Ascending.{first, second, ascending_with, ascending_without}
 use Rattle.eco_ids.proofs.Exact.{id_eq_sym}
-use Rattle.eco_ids.proofs.Facts.{equal_tie}
-use Rattle.eco_ids.proofs.IdOrder.{id_cmp_total, same_id}
+use Rattle.eco_ids.proofs.IdOrder.{id_cmp_total}
 use Rattle.eco_ids.proofs.SetLaws.{joins_with, leaves_without}
 use Rattle.eco_tables.specs.Column.{ColumnState, held_in, value_in, kind_of, retyped, with_column, without_column}
 use Rattle.eco_tables.specs.Table.{TableState, rows_from, retyped_row, table_of, paired, width_among, width_in, AreKinds, HasShape}
 use Rattle.eco_tables.specs.Tables.{turned}
 use Rattle.eco_tables.proofs.Held.{above-other, above-none, same_eq, place_within, place_id}
 use Rattle.eco_tables.proofs.Rows.{ascends, within_ids, outside, no_column, zeros_held, held_value, ids_of_kinds}
-use Rattle.eco_tables.proofs.Widths.{same_within, width-each}
-
-is_same : (i j : Id) → id_eq i j ≡ true → i ≡ j
-is_same i j e = same_id i j (equal_tie _ e)
+use Rattle.eco_tables.proofs.Widths.{is_same, or_first, or_true, same_within, width-each}
 
 -- ---- where a new column stands
 
@@ -73,10 +69,6 @@ module _ (cs : List ColumnState) (c : ColumnState) (r : Option ℕ) (is : r ≡ 
   put_in_place n at = ap (λ m. insert cs m c) (place_is n at) ∙ (end_of c cs 0).1.1
 
 -- ---- what columns hold once one came or went
-
-or_first : (b c : Bool) → (b || c) ≡ false → b ≡ false
-or_first true c e = e
-or_first false c e = refl
 
 or_second : (b c : Bool) → (b || c) ≡ false → c ≡ false
 or_second true c e = absurd (true≢false e)
@@ -177,10 +169,6 @@ all_with P (d ∷ ds) c all here =
       | true ↦ All-cons P d (with_column ds c) (All-head P d ds all) (all_with P ds c (All-tail P d ds all) here)
       | false ↦ All-cons P c (d ∷ ds) here all
     ]
-
-or_true : (b c : Bool) → c ≡ true → (b || c) ≡ true
-or_true true c e = refl
-or_true false c e = e
 
 either : (b c d : Bool) → (c ≡ true → d ≡ true) → (b || c) ≡ true → (b || d) ≡ true
 either true c d f h = refl

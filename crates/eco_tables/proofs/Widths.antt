@@ -18,14 +18,14 @@ use Rattle.eco_tables.specs.Column.{value_in, retyped, with_held}
 use Rattle.eco_tables.specs.Table.{paired, kinds_of, width_among, AreKinds}
 use Rattle.eco_tables.proofs.Held.{above-none, same_eq}
 
-is_same : (i j : Id) → id_eq i j ≡ true → i ≡ j
+pub is_same : (i j : Id) → id_eq i j ≡ true → i ≡ j
 is_same i j e = same_id i j (equal_tie _ e)
 
-or_true : (b c : Bool) → c ≡ true → (b || c) ≡ true
+pub or_true : (b c : Bool) → c ≡ true → (b || c) ≡ true
 or_true true c e = refl
 or_true false c e = e
 
-or_first : (b c : Bool) → (b || c) ≡ false → b ≡ false
+pub or_first : (b c : Bool) → (b || c) ≡ false → b ≡ false
 or_first true c e = e
 or_first false c e = refl
 

@@ -1,5 +1,5 @@
 //! The values of one id, a place for each row, in as many fields as the id has.
-ghost use Rattle.std.specs.Prelude.{◌≡◌, ◌<◌, ◌≤◌, ◌+◌, ◌-◌, ◌++◌, ◌^◌, [], length, map, take, replicate, vec_len, vec_capacity, slice_index_or, ◌∷◌, OnOk, IfOk, ◌↔◌, IsTrue};
+ghost use Rattle.std.specs.Prelude.{◌≡◌, ◌<◌, ◌≤◌, ◌+◌, ◌-◌, ◌++◌, ◌^◌, [], length, map, take, replicate, vec_len, vec_capacity, slice_index_or, slice_set, ◌∷◌, OnOk, IfOk, ◌↔◌, IsTrue};
 ghost use Rattle.std.specs.List.{swap_remove};
 ghost use Rattle.eco_ids.specs.World.{padded, zeros};
 ghost use Rattle.eco_tables.specs.Column.{ColumnState, Fits, kind_of, pushed, lengthened, with_removed, column_with_value, emptied, contents};
@@ -76,10 +76,16 @@ macro_rules! at_equal_widths {
 
 /// A contract sees the id, how many fields are kept (`width`), the whole values, and how many more fit with no allocation
 /// (`room`).
-#[derive(Drop)]
 pub struct Column {
     id: Id,
     fields: Cells,
+}
+
+// By hand, so that dropping it is one call: a derived drop is proved anew at each early return of whoever holds it.
+impl Drop for Column {
+    fn drop(self) {
+        let Column { id: _, fields: _ } = self;
+    }
 }
 
 impl Model for Column {
@@ -132,10 +138,46 @@ fn whole<const N: usize>(fields: [i64; N]) -> Value
     Value::of(fields)
 }
 
+// The value in a row.
+#[inline(always)]
+fn read<const N: usize>(rows: &Vec<[i64; N]>, row: usize) -> Value
+    requires few { N ≤ FIELD_COUNT }
+    requires row { row < length (map padded rows.now.items) }
+    ensures value { result ≡ slice_index_or (map padded rows.now.items) row zeros }
+    ensures fits { Fits N result }
+{
+    whole(rows[row])
+}
+
+// Writes the value in a row, which is no wider than the fields.
+#[inline(always)]
+#[tactic(auto, using(crate::proofs::Packing::map_put))]
+fn put<const N: usize>(rows: &mut Vec<[i64; N]>, row: usize, value: Value)
+    requires few { N ≤ FIELD_COUNT }
+    requires row { row < length (map padded rows.old.items) }
+    requires fits { Fits N value }
+    ensures values { map padded rows.new.items ≡ slice_set (map padded rows.old.items) row value }
+    ensures room { vec_capacity rows.new - vec_len rows.new ≡ vec_capacity rows.old - vec_len rows.old }
+{
+    rows[row] = narrowed(value);
+}
+
+// The fields of a row of another column behind the own, in reserved room.
+#[inline(always)]
+fn push<const N: usize>(rows: &mut Vec<[i64; N]>, source: &Vec<[i64; N]>, row: usize)
+    requires room { 0 < vec_capacity rows.old - vec_len rows.old }
+    requires row { row < length (map padded source.now.items) }
+    ensures values { map padded rows.new.items
+        ≡ map padded rows.old.items ++ slice_index_or (map padded source.now.items) row zeros ∷ [] }
+    ensures room { vec_capacity rows.new - vec_len rows.new ≡ vec_capacity rows.old - vec_len rows.old - 1 }
+{
+    rows.push_reserved(source[row]);
+}
+
 // The row's fields go, and the last ones take their place.
 #[tactic(auto, using(crate::proofs::Packing::map_swap_remove))]
 fn take_out<const N: usize>(rows: &mut Vec<[i64; N]>, row: usize)
-    requires { row < vec_len rows.old }
+    requires { row < length (map padded rows.old.items) }
     ensures values { map padded rows.new.items ≡ swap_remove (map padded rows.old.items) row zeros }
     ensures room { vec_capacity rows.new - vec_len rows.new ≡ vec_capacity rows.old - vec_len rows.old + 1 }
 {
@@ -145,7 +187,7 @@ fn take_out<const N: usize>(rows: &mut Vec<[i64; N]>, row: usize)
 // Zeros behind the own fields, in reserved room.
 fn push_zeros<const N: usize>(rows: &mut Vec<[i64; N]>)
     requires few { N ≤ FIELD_COUNT }
-    requires room { vec_len rows.old < vec_capacity rows.old }
+    requires room { 0 < vec_capacity rows.old - vec_len rows.old }
     ensures values { map padded rows.new.items ≡ map padded rows.old.items ++ zeros ∷ [] }
     ensures room { vec_capacity rows.new - vec_len rows.new ≡ vec_capacity rows.old - vec_len rows.old - 1 }
 {
@@ -154,10 +196,10 @@ fn push_zeros<const N: usize>(rows: &mut Vec<[i64; N]>)
 
 // The fields of all rows of another column behind the own, in reserved room.
 fn join<const N: usize>(rows: &mut Vec<[i64; N]>, source: &Vec<[i64; N]>)
-    requires { vec_len rows.old + vec_len source.now ≤ vec_capacity rows.old }
+    requires { length (map padded source.now.items) ≤ vec_capacity rows.old - vec_len rows.old }
     ensures values { map padded rows.new.items ≡ map padded rows.old.items ++ map padded source.now.items }
-    ensures room { vec_capacity rows.old - vec_len rows.old - vec_len source.now
-        ≤ vec_capacity rows.new - vec_len rows.new }
+    ensures room { vec_capacity rows.old - vec_len rows.old
+        ≤ vec_capacity rows.new - vec_len rows.new + length (map padded source.now.items) }
 {
     let _room = rows.extend_from_slice(source.as_slice());
 }
@@ -165,10 +207,9 @@ fn join<const N: usize>(rows: &mut Vec<[i64; N]>, source: &Vec<[i64; N]>)
 // As many zeros behind the own fields, in reserved room.
 fn join_zeros<const N: usize>(rows: &mut Vec<[i64; N]>, count: usize)
     requires few { N ≤ FIELD_COUNT }
-    requires room { vec_len rows.old + count ≤ vec_capacity rows.old }
+    requires room { count ≤ vec_capacity rows.old - vec_len rows.old }
     ensures values { map padded rows.new.items ≡ map padded rows.old.items ++ replicate count zeros }
-    ensures room { vec_capacity rows.old - vec_len rows.old - count
-        ≤ vec_capacity rows.new - vec_len rows.new }
+    ensures room { vec_capacity rows.old - vec_len rows.old ≤ vec_capacity rows.new - vec_len rows.new + count }
 {
     let _room = rows.resize(rows.len() + count, [0; N]);
 }
@@ -293,7 +334,7 @@ impl Column {
         at_equal_widths!(
             &mut self.fields,
             &source.fields,
-            |rows, others| rows.push_reserved(others[row])
+            |rows, others| push(rows, others, row)
         )
     }
 
@@ -328,17 +369,16 @@ impl Column {
         ensures value { result ≡ slice_index_or self.now.values row zeros }
         ensures fits { Fits self.now.width result }
     {
-        at_each_width!(&self.fields, |rows| whole(rows[row]))
+        at_each_width!(&self.fields, |rows| read(rows, row))
     }
 
     /// Writes the value in a row.
-    #[tactic(auto, using(crate::proofs::Packing::map_put))]
     pub fn write(&mut self, row: usize, value: Value)
         requires row { row < length self.old.values }
         requires fits { Fits self.old.width value }
         ensures { self.new ≡ column_with_value self.old row value }
     {
-        at_each_width!(&mut self.fields, |rows| rows[row] = narrowed(value))
+        at_each_width!(&mut self.fields, |rows| put(rows, row, value))
     }
 
     /// The row's value goes, and the last one takes its place.

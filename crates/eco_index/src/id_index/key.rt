@@ -5,7 +5,7 @@ ghost use Rattle.eco_index.specs.IdIndex.{key_of, pattern_of};
 use eco_ids::{Entity, Part, Pattern};
 
 /// The ids that a pattern matches. Patterns that match the same ids have one key.
-#[derive(Clone, Copy, Debug, PartialEq, Eq, Hash)]
+#[derive(Clone, Copy, PartialEq, Eq, Hash)]
 pub enum Key {
     /// This single id.
     Single(Entity),

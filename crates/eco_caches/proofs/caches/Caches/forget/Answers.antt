@@ -1,6 +1,7 @@
 use Rattle.std.proofs.Common.{None, ap, arith, ◌∙◌}
 use Rattle.eco_caches.specs.Caching.{kept_queries}
-use Rattle.eco_caches.proofs.Caching.{got_default, queries_back, queries_kept, told_all, told_begun, told_more}
+use Rattle.eco_index.proofs.EdgeLists.{some_at}
+use Rattle.eco_caches.proofs.Caching.{queries_back, queries_kept, told_all, told_begun, told_more}
 use Rattle.eco_caches.proofs.caches.Caches.forget.Goals as goal
 
 pub loop-cache-init : goal.loop-cache-init
@@ -10,7 +11,7 @@ pub loop-cache-preserved : goal.loop-cache-preserved
 loop-cache-preserved c = (
   told_more c.loop-cache.cache-items c.loop-cache.cache-index _ c.forget.new.self c.args.self.now.list.items c.args.slot None
       c.loop-cache.invariant.0
-      (got_default c.loop-cache.cache-items c.loop-cache.cache-index c.cache-item.result (omega arith)) c.forget.ensures.told,
+      (some_at c.loop-cache.cache-items c.loop-cache.cache-index c.cache-item.result (omega arith)) c.forget.ensures.told,
   queries_kept c.loop-cache.cache-items c.loop-cache.cache-index _ c.cache-item.result c.forget.ensures.query ∙ c.loop-cache.invariant.1,
 )
 

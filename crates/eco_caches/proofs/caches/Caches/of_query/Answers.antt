@@ -1,11 +1,12 @@
-use Rattle.std.proofs.Common.{sym, ap, ◌∙◌, slice_get}
-use Rattle.eco_caches.proofs.Caching.{got_item, those_of}
+use Rattle.std.proofs.Common.{refl, sym, ap, ◌∙◌, slice_get}
+use Rattle.std.proofs.lemmas.Option.{slice_get_read}
+use Rattle.eco_caches.proofs.Caching.{those_of}
 use Rattle.eco_caches.proofs.caches.Caches.of_query.Goals as goal
 
 pub returns-then-is-clause-those : goal.returns-then-is-clause-those
 returns-then-is-clause-those c types was =
     those_of types c.args.self.now.list.items c.args.number c.in_ok-cache.cache.now c.args.query.now c.as_slice.result.now
     (ap (λ cs. slice_get cs c.args.number) (sym c.deref.ensures.value)
-    ∙ got_item c.deref.result.now c.args.number c.in_ok-cache.cache.now c.in_ok-cache.ensures.lookup.3.0 c.in_ok-cache.ensures.lookup.1)
+    ∙ slice_get_read c.deref.result.now _ c.args.number c.in_ok-cache.cache.now refl c.in_ok-cache.ensures.lookup.3.0 c.in_ok-cache.ensures.lookup.1)
     (c.is.ensures.0 c.if-is.true)
     c.as_slice.ensures.keys was

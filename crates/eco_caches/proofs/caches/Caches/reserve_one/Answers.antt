@@ -1,7 +1,8 @@
 use Rattle.std.proofs.Common.{ap, arith, ◌∙◌}
 use Rattle.std.proofs.lemmas.List.{length-set}
 use Rattle.eco_caches.specs.Caching.{cache_states}
-use Rattle.eco_caches.proofs.Caching.{got_default, queries_of, room_back, room_more, states_kept, stay_back, stay_more, still_exact, written_back}
+use Rattle.eco_index.proofs.EdgeLists.{some_at}
+use Rattle.eco_caches.proofs.Caching.{queries_of, room_back, room_more, states_kept, stay_back, stay_more, still_exact, written_back}
 use Rattle.eco_caches.proofs.caches.Caches.reserve_one.Goals as goal
 
 pub loop-cache-init : goal.loop-cache-init
@@ -18,7 +19,7 @@ returns-in_err-reserve_one-clause-same c =
     let i = c.loop-cache.cache-index in
     let long = length-set items i c.reserve_one.new.self in
     stay_back _ _ _ c.args.self.now.list.len (omega (arith, long))
-    (stay_more c.args.self.now.list.items items i _ _ (got_default items i c.cache-item.result (omega arith)) e.query e.slots e.only c.loop-cache.invariant.0)
+    (stay_more c.args.self.now.list.items items i _ _ (some_at items i c.cache-item.result (omega arith)) e.query e.slots e.only c.loop-cache.invariant.0)
 
 pub returns-in_err-reserve_one-clause-states : goal.returns-in_err-reserve_one-clause-states
 returns-in_err-reserve_one-clause-states c =
@@ -36,7 +37,7 @@ loop-cache-preserved c =
     let e = c.in_ok-reserve_one.ensures in
     let items = c.loop-cache.cache-items in
     let i = c.loop-cache.cache-index in (
-      stay_more c.args.self.now.list.items items i _ _ (got_default items i c.cache-item.result (omega arith)) e.query e.slots e.only
+      stay_more c.args.self.now.list.items items i _ _ (some_at items i c.cache-item.result (omega arith)) e.query e.slots e.only
           c.loop-cache.invariant.0,
       room_more c.args.self.now.list.items items i _ e.room c.loop-cache.invariant.1,
       states_kept items i c.reserve_one.new.self c.cache-item.result e.query e.slots e.only ∙ c.loop-cache.invariant.2,

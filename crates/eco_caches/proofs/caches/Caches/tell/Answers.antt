@@ -1,6 +1,7 @@
 use Rattle.std.proofs.Common.{Some, ap, arith, ◌∙◌}
 use Rattle.eco_caches.specs.Caching.{kept_queries}
-use Rattle.eco_caches.proofs.Caching.{got_default, queries_back, queries_kept, room_after, room_begun, told_all, told_begun, told_more}
+use Rattle.eco_index.proofs.EdgeLists.{some_at}
+use Rattle.eco_caches.proofs.Caching.{queries_back, queries_kept, room_after, room_begun, told_all, told_begun, told_more}
 use Rattle.eco_caches.proofs.caches.Caches.tell.Goals as goal
 
 pub loop-cache-init : goal.loop-cache-init
@@ -13,13 +14,13 @@ loop-cache-init c = (
 pub tell-requires : goal.tell-requires
 tell-requires c =
     c.loop-cache.invariant.1 c.loop-cache.cache-index _
-    (got_default c.loop-cache.cache-items c.loop-cache.cache-index c.cache-item.result (omega arith)) (omega arith)
+    (some_at c.loop-cache.cache-items c.loop-cache.cache-index c.cache-item.result (omega arith)) (omega arith)
 
 pub loop-cache-preserved : goal.loop-cache-preserved
 loop-cache-preserved c = (
   told_more c.loop-cache.cache-items c.loop-cache.cache-index _ c.tell.new.self c.args.self.now.list.items c.args.slot
       (Some c.args.type_list.now) c.loop-cache.invariant.0
-      (got_default c.loop-cache.cache-items c.loop-cache.cache-index c.cache-item.result (omega arith)) c.tell.ensures.told,
+      (some_at c.loop-cache.cache-items c.loop-cache.cache-index c.cache-item.result (omega arith)) c.tell.ensures.told,
   room_after c.loop-cache.cache-items c.loop-cache.cache-index c.cache-item.result c.tell.new.self c.loop-cache.invariant.1,
   queries_kept c.loop-cache.cache-items c.loop-cache.cache-index _ c.cache-item.result c.tell.ensures.query ∙ c.loop-cache.invariant.2,
 )

@@ -1,5 +1,6 @@
-use Rattle.std.proofs.Common.{ap, arith, length}
-use Rattle.eco_caches.proofs.Caching.{copied_all, copied_more, got_item, states_all, states_more}
+use Rattle.std.proofs.Common.{refl, ap, arith, length}
+use Rattle.std.proofs.lemmas.Option.{slice_get_read}
+use Rattle.eco_caches.proofs.Caching.{copied_all, copied_more, states_all, states_more}
 use Rattle.eco_caches.proofs.caches.Caches.try_copy.Goals as goal
 
 pub loop-cache-preserved : goal.loop-cache-preserved
@@ -10,7 +11,7 @@ loop-cache-preserved c =
     let own = ap length c.deref-cache-items.ensures.value in
     let is = rw c.deref-cache-items.ensures.value at c.cache-item.is in
     rw c.in_ok-push.ensures.items (
-      copied_more old c.loop-cache.list.items i c.cache-item.result c.in_ok-try_copy.field-0 (got_item old i c.cache-item.result (omega arith) is)
+      copied_more old c.loop-cache.list.items i c.cache-item.result c.in_ok-try_copy.field-0 (slice_get_read old _ i c.cache-item.result refl (omega arith) is)
           e.query e.slots e.only c.loop-cache.invariant.0,
       states_more old c.loop-cache.list.items i c.cache-item.result c.in_ok-try_copy.field-0 (omega arith) is e.query e.slots e.only
           c.loop-cache.invariant.1,

@@ -1,8 +1,9 @@
-use Rattle.std.proofs.Common.{◌≡◌, ◌∙◌, refl, ap, sym, subst, true, false, Some, is_some, option_map, Ok, rules}
+use Rattle.std.proofs.Common.{◌≡◌, ◌∙◌, refl, ap, sym, true, Some, is_some, option_map}
 use Rattle.std.proofs.lemmas.Option.{none-some}
 use Rattle.eco_ids.specs.Indices.{Indexed, changed, is_alive}
 use Rattle.eco_ids.specs.Names.{named_entity}
-use Rattle.eco_ids.specs.Renaming.{own_name, RenamesWith}
+use Rattle.eco_ids.specs.Renaming.{own_name}
+use Rattle.eco_ids.proofs.Results.{err_says}
 use Rattle.eco_entities.specs.Label.{label_text}
 use Rattle.eco_entities.specs.Registration.{Registration, given_name, renamed}
 use Rattle.eco_entities.specs.Registry.{entity_of}
@@ -10,24 +11,10 @@ use Rattle.eco_entities.proofs.NamedEntities.{registry_named_entity}
 use Rattle.eco_entities.proofs.Owners.{own-renamed}
 use Rattle.eco_entities.proofs.Registers.{keeps_undone, registry_exchange, registry_gain, registry_same}
 use Rattle.eco_entities.proofs.Renaming.{rename_free, rename_may, uncalled}
-use Rattle.eco_entities.proofs.Results.{at_err}
 use Rattle.eco_entities.proofs.entity_index.EntityIndex.give_name.Goals as goal
 
 pub invariant_of-self-in-Ok-Some : goal.invariant_of-self-in-Ok-Some
 invariant_of-self-in-Ok-Some c =
-    let e = c.args.entity in
-    let name = c.args.name.now in
-    let w = c.self.inside.slots in
-    let own = rw c.in-Some.is at c.in_ok-own.ensures.ok in
-    let alive : is_alive w e ≡ true = rw c.self.view_is c.requires.alive in
-    let named : own_name given_name w e ≡ Some c.as_str.result.now = sym c.in-Ok-Some.ensures.was
-    ∙ (ap (option_map label_text) c.in-Ok-Some.field-0-is ∙ ap Some (sym c.as_str.ensures)) in
-    rw (c.in-Ok-Some.ensures.ok, own.0)
-    (registry_exchange c.as_str.result.now name e c.self.invariant named own.1.free c.requires.proper own.1.claimed c.remove.ensures
-    (own-renamed w e (Some name) alive))
-
-pub invariant_of-self-in-Ok-Some-2 : goal.invariant_of-self-in-Ok-Some-2
-invariant_of-self-in-Ok-Some-2 c =
     let e = c.args.entity in
     let name = c.args.name.now in
     let w = c.self.inside.slots in
@@ -65,7 +52,7 @@ returns-in_err-own-clause-err c =
     let free = c.in_err-own.ensures.err.free in
     let found = registry_named_entity (entity_of c.self.inside.names) w name c.self.invariant in
     let other = uncalled w e name (λ h. none-some e (sym free ∙ c.self.invariant.listed name e h)) in
-    at_err c.from_residual.result (rw (← c.self.view_is) (rename_may w e name alive c.requires.proper other (sym found ∙ free)), c.self.view_is)
+    err_says c.from_residual.result (rw (← c.self.view_is) (rename_may w e name alive c.requires.proper other (sym found ∙ free)), c.self.view_is)
 
 pub returns-in_default-clause-ok : goal.returns-in_default-clause-ok
 returns-in_default-clause-ok c =
@@ -87,9 +74,7 @@ returns-in-Ok-Some-clause-ok c =
     ∙ ap (λ (w : Indexed Registration). named_entity given_name w name) c.self.view_is in
     let new = c.in-Ok-Some.ensures.ok ∙ (ap (λ n. changed c.self.inside.slots e (renamed (Some n))) own.0
     ∙ ap (λ (w : Indexed Registration). changed w e (renamed (Some name))) c.self.view_is) in
-    let done = rename_free v e name c.requires.alive c.requires.proper (sym found ∙ own.1.free) in
-    let same : c.match-old.self ≡ changed v e (renamed (Some name)) = search (rules, new) in
-    subst (RenamesWith given_name renamed v e false (Some name) (Ok tt)) (sym same) done
+    rw new (rename_free v e name c.requires.alive c.requires.proper (sym found ∙ own.1.free))
 
 pub returns-in-Ok-None-clause-ok : goal.returns-in-Ok-None-clause-ok
 returns-in-Ok-None-clause-ok c =

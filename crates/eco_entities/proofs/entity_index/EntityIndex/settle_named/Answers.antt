@@ -7,7 +7,7 @@ use Rattle.eco_entities.proofs.NamedEntities.{registry_named_entity}
 use Rattle.eco_entities.proofs.Owners.{own-new, own_of_next}
 use Rattle.eco_entities.proofs.Registers.{keeps_undone, registry_same, registry_gain}
 use Rattle.eco_entities.proofs.Renaming.{fit_free}
-use Rattle.eco_entities.proofs.Results.{at_err}
+use Rattle.eco_ids.proofs.Results.{err_says}
 use Rattle.eco_entities.proofs.entity_index.EntityIndex.settle_named.Goals as goal
 
 pub invariant_of-self-in-Ok : goal.invariant_of-self-in-Ok
@@ -32,7 +32,7 @@ returns-in_err-own-clause-err c =
     let found : entity_of c.self.inside.names name ≡ named_entity given_name c.args.self.now name =
     registry_named_entity (entity_of c.self.inside.names) c.self.inside.slots name c.self.invariant
     ∙ ap (λ (v : Indexed Registration). named_entity given_name v name) c.self.view_is in
-    at_err c.from_residual.result (fit_free c.args.self.now name c.requires.proper (sym found ∙ c.in_err-own.ensures.err.free), c.self.view_is)
+    err_says c.from_residual.result (fit_free c.args.self.now name c.requires.proper (sym found ∙ c.in_err-own.ensures.err.free), c.self.view_is)
 
 pub returns-in_default-clause-ok : goal.returns-in_default-clause-ok
 returns-in_default-clause-ok c =

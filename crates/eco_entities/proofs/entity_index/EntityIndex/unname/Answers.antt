@@ -13,14 +13,6 @@ invariant_of-self c =
     (registry_lose c.as_str.result.now c.args.entity c.self.invariant named c.remove.ensures
     (own-renamed c.self.inside.slots c.args.entity None (rw c.self.view_is c.requires)))
 
-pub invariant_of-self-in-Some-2 : goal.invariant_of-self-in-Some-2
-invariant_of-self-in-Some-2 c =
-    let named : own_name given_name c.self.inside.slots c.args.entity ≡ Some c.as_str.result.now = sym c.in-Some.ensures.was
-    ∙ ap Some (sym c.as_str.ensures) in
-    rw c.take_name.ensures.renamed
-    (registry_lose c.as_str.result.now c.args.entity c.self.invariant named c.remove.ensures
-    (own-renamed c.self.inside.slots c.args.entity None (rw c.self.view_is c.requires)))
-
 pub invariant_of-self-in_default : goal.invariant_of-self-in_default
 invariant_of-self-in_default c =
     rw c.take_name.ensures.renamed

@@ -1,10 +1,14 @@
-use Rattle.std.proofs.Common.{◌≡◌, length, slice_get, refl, sym, ap, ◌∙◌, Some, option_map, arith}
+use Rattle.std.proofs.Common.{◌≡◌, length, slice_get, refl, sym, ap, ◌∙◌, Some, option_map, arith, Result, Ok, Err, IfOk}
 use Rattle.std.proofs.lemmas.Option.{slice_get_read}
 use Rattle.eco_entities.specs.Label.{label_text}
 use Rattle.eco_entities.proofs.PageLists.{changes_then}
-use Rattle.eco_entities.proofs.Results.{if_ok, on_ok}
+use Rattle.eco_ids.proofs.Results.{on_ok}
 use Rattle.eco_entities.proofs.PageNames.{name_put, name_read}
 use Rattle.eco_entities.proofs.labels.Labels.insert.Goals as goal
+
+if_ok : {A E : Type 0} {P Q : A → Type 0} (r : Result A E) → ((x : A) → P x → Q x) → IfOk r P → IfOk r Q
+if_ok (Ok x) f h = f x h
+if_ok (Err e) f h = tt
 
 pub returns-clause-ok : goal.returns-clause-ok
 returns-clause-ok c =

@@ -2,7 +2,7 @@ use Rattle.std.proofs.Common.{◌≡◌, ◌+◌, ◌<◌, ◌%◌, length, slic
 use Rattle.std.proofs.lemmas.Option.{slice_get_read}
 use Rattle.eco_entities.specs.Keys.{found_in, hash_of}
 use Rattle.eco_entities.proofs.PageLists.{changes_then, keeps_then}
-use Rattle.eco_entities.proofs.Results.{at_err, on_err, on_ok}
+use Rattle.eco_ids.proofs.Results.{err_says, on_err, on_ok}
 use Rattle.eco_entities.proofs.Trees.{changes_tree, put_back, tree_changed, tree_finds, tree_kept, tree_read, tree_unchanged, treeless}
 use Rattle.eco_entities.proofs.short_names.ShortNames.claim.Goals as goal
 
@@ -11,7 +11,7 @@ returns-in_err-cover-clause-err c =
     let n = c.tree-place.result in
     let picked : n ≡ hash_of c.args.name.bytes % 128 = c.tree-place.ensures ∙ ap (λ h. h % 128) c.new-key.ensures.hash in
     let few : length c.args.self.now.trees.items < n + 1 = c.in_err-cover.ensures.wanting in
-    at_err c.from_residual.result
+    err_says c.from_residual.result
     (record { free = treeless c.args.self.now.trees.items c.args.name.bytes n picked (omega (arith, few)); same = c.cover.ensures.same })
 
 pub returns-in_err-bearer-clause-err : goal.returns-in_err-bearer-clause-err
@@ -26,7 +26,7 @@ returns-in_err-bearer-clause-err c =
     slice_get_read trees (length trees) n old refl (omega (arith, c.in_ok-cover.ensures.enough)) c.index_mut-tree.ensures.value in
     let free : found_in old bs ≡ None =
     tree_finds key.hash key.text.bytes bs c.new-key.ensures.hash (ap (λ t. t.bytes) c.new-key.ensures.text) old None c.in_err-bearer.ensures.absent in
-    at_err c.from_residual-in_err-bearer.result
+    err_says c.from_residual-in_err-bearer.result
     (record {
       free = sym (c.cover.ensures.same.all bs) ∙ (tree_read trees bs n old picked there ∙ free);
       same = keeps_then c.cover.ensures.same (tree_kept trees n old c.insert.new.self there (tree_unchanged old c.insert.new.self c.in_err-bearer.ensures.err));

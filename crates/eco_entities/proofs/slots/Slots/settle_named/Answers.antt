@@ -1,4 +1,3 @@
-use Rattle.std.proofs.lemmas.Grind.{common_steps}
 use Rattle.std.proofs.Common.{ap, ◌∙◌, Some, arith}
 use Rattle.eco_ids.specs.Indices.{Living}
 use Rattle.eco_entities.specs.Label.{label_text}
@@ -29,7 +28,13 @@ returns-in-Ok-clause-ok c =
     c.in-Ok.ensures.slots c.in-Ok.ensures.free).1
 
 pub invariant_of-self-in-Err : goal.invariant_of-self-in-Err
-invariant_of-self-in-Err c = grind (arith, common_steps, next_unlabelled)
+invariant_of-self-in-Err c =
+    let same = next_unlabelled c.self.inside c.args.self.now c.self.invariant c.self.view_is c.args.entity (label_of c.remove.new.self)
+    (λ k n. c.remove.ensures.removed.others k n ∙ c.in_ok-insert.ensures.ok.others k n) c.requires in
+    rw (c.in-Err.ensures.err_slots, c.in-Err.ensures.err_free, same) c.self.invariant
 
 pub returns-in-Err-clause-err : goal.returns-in-Err-clause-err
-returns-in-Err-clause-err c = grind (arith, common_steps, next_unlabelled)
+returns-in-Err-clause-err c =
+    let same = next_unlabelled c.self.inside c.args.self.now c.self.invariant c.self.view_is c.args.entity (label_of c.remove.new.self)
+    (λ k n. c.remove.ensures.removed.others k n ∙ c.in_ok-insert.ensures.ok.others k n) c.requires in
+    rw (c.in-Err.ensures.err_slots, same) c.self.view_is

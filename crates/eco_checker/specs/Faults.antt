@@ -1,5 +1,5 @@
 -- Which parts of a value keep it from being a script.
-use Rattle.std.specs.Prelude.{ℕ, ◌+◌, List, [], ◌∷◌, Option, Some, None}
+use Rattle.std.specs.Prelude.{ℕ, ◌+◌, Bool, true, false, List, [], ◌∷◌, Option, Some, None}
 use Rattle.std.specs.Option.{unwrap_or}
 use Rattle.serde_json.specs.Data.{Data}
 use Rattle.eco_ids.specs.declared.edition.Edition.{Edition}
@@ -33,3 +33,8 @@ unless_found n None ns = n ∷ ns
 abbrev pub numbers_without : {A : Type 0} → (Data → Option A) → ℕ → List Data → List ℕ
 numbers_without find n [] = []
 numbers_without find n (d ∷ ds) = unless_found n (find d) (numbers_without find (n + 1) ds)
+
+-- the number of a value, unless the value was read
+abbrev pub unless_read : Bool → ℕ → List ℕ
+unless_read true n = []
+unless_read false n = n ∷ []

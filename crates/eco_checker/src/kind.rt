@@ -8,7 +8,7 @@ use serde_json::Value;
 use std::alloc::AllocError;
 
 /// What an argument has to be.
-#[derive(Clone, Copy, Debug, PartialEq, Eq)]
+#[derive(Clone, Copy)]
 pub(crate) enum Kind {
     Text,
     TextOrNull,

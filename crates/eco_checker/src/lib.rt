@@ -1,6 +1,7 @@
-//! A checker of scripts: it finds each step that is none, and says in words what is wrong with it.
+//! What is wrong with a script, in words. A checker finds each step that is none, and says what is wrong with it; of a step that
+//! a world refuses, `push_meaning` says which of its texts the refusal means, and why.
 //!
-//! Which values are listed as faulty is proved; the words of the reports are not, but that they are always given.
+//! Which values are listed as faulty is proved; the words are not, but that they are always given.
 #![tactic(auto)]
 
 mod check;
@@ -8,16 +9,20 @@ mod faults;
 mod form;
 mod kind;
 pub mod laws;
+mod meaning;
 mod reasons;
+mod refusals;
 mod report;
 mod run;
 mod search;
 mod shown;
+mod texts;
 mod verdict;
 mod vocabulary;
 
 pub use check::check_bytes;
 pub use faults::Faults;
+pub use meaning::push_meaning;
 pub use run::check_script;
 pub use search::{actions_not_read, commands_not_read, steps_not_read};
 pub use verdict::Verdict;

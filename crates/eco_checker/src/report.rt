@@ -70,26 +70,51 @@ impl Lines<'_> {
         self.text.push_str("\n")
     }
 
-    // Adds the lines of a stage.
-    fn push_stage(&mut self, step: usize, stage: usize, value: &Value) -> Result<(), AllocError> {
-        let Some(items) = read_list(value) else {
-            self.count = self.count.saturating_add(1);
-            let place = Place::Stage { step, stage };
-            write!(self.text, "{place}: expected a list of commands, not ")?;
-            push_value(self.alloc, self.text, value, ARGUMENT_WIDTH)?;
-            return self.text.push_str("\n");
-        };
-        for command in &commands_not_read(self.alloc, self.edition, items)? {
+    // Adds the line of a stage that is no list.
+    fn push_no_stage(
+        &mut self,
+        step: usize,
+        stage: usize,
+        value: &Value,
+    ) -> Result<(), AllocError> {
+        self.count = self.count.saturating_add(1);
+        let place = Place::Stage { step, stage };
+        write!(self.text, "{place}: expected a list of commands, not ")?;
+        push_value(self.alloc, self.text, value, ARGUMENT_WIDTH)?;
+        self.text.push_str("\n")
+    }
+
+    // Adds the lines of the commands of a stage that have these numbers.
+    fn push_commands(
+        &mut self,
+        step: usize,
+        stage: usize,
+        items: &[Value],
+        numbers: &[usize],
+    ) -> Result<(), AllocError> {
+        for number in numbers {
+            let command = *number;
             let place = Place::Command {
                 step,
                 stage,
-                command: *command,
+                command,
             };
-            if let Some(value) = items.get(*command) {
+            if let Some(value) = items.get(command) {
                 self.push_fault(place, Vocabulary::Commands, value)?;
             }
         }
         Ok(())
+    }
+
+    // Adds the lines of a stage.
+    fn push_stage(&mut self, step: usize, stage: usize, value: &Value) -> Result<(), AllocError> {
+        match read_list(value) {
+            Some(items) => {
+                let numbers = commands_not_read(self.alloc, self.edition, items)?;
+                self.push_commands(step, stage, items, numbers.as_slice())
+            }
+            None => self.push_no_stage(step, stage, value),
+        }
     }
 
     // Adds the lines of the stages of a merge.
@@ -101,19 +126,28 @@ impl Lines<'_> {
         Ok(())
     }
 
-    // Adds the lines of the actions of a system.
-    fn push_actions(&mut self, step: usize, actions: &Value) -> Result<(), AllocError> {
-        let items = read_list(actions).unwrap_or(&[]);
-        for action in &actions_not_read(self.alloc, self.edition, items)? {
-            let place = Place::Action {
-                step,
-                action: *action,
-            };
-            if let Some(value) = items.get(*action) {
+    // Adds the lines of the actions of a system that have these numbers.
+    fn push_some_actions(
+        &mut self,
+        step: usize,
+        items: &[Value],
+        numbers: &[usize],
+    ) -> Result<(), AllocError> {
+        for number in numbers {
+            let action = *number;
+            let place = Place::Action { step, action };
+            if let Some(value) = items.get(action) {
                 self.push_fault(place, Vocabulary::Actions, value)?;
             }
         }
         Ok(())
+    }
+
+    // Adds the lines of the actions of a system.
+    fn push_actions(&mut self, step: usize, actions: &Value) -> Result<(), AllocError> {
+        let items = read_list(actions).unwrap_or(&[]);
+        let numbers = actions_not_read(self.alloc, self.edition, items)?;
+        self.push_some_actions(step, items, numbers.as_slice())
     }
 
     // Adds the lines of what a step holds.

@@ -71,7 +71,7 @@ fn edits(alloc: Global, word: &str, plain: &str, known: &str) -> Result<usize, A
 }
 
 /// Where a word stands, which says the words that there are.
-#[derive(Clone, Copy, Debug, PartialEq, Eq)]
+#[derive(Clone, Copy)]
 pub(crate) enum Vocabulary {
     Steps,
     Commands,
@@ -112,7 +112,7 @@ impl Vocabulary {
 
     /// What a word that it does not know names elsewhere, if it names something.
     pub(crate) fn elsewhere(self, word: &str) -> Option<&'static str> {
-        if self == Vocabulary::Phases {
+        if matches!(self, Vocabulary::Phases) {
             None
         } else if step_form(word).is_some() {
             Some("a step")

@@ -1,9 +1,9 @@
 -- Reading items from values, one after another.
 use Rattle.std.proofs.Common.{◌≡◌, ℕ, ◌+◌, ◌<◌, ◌≤◌, zero, suc, List, [], ◌∷◌, ◌++◌, length, map, drop, get_or, slice_get, Option}
-use Rattle.std.proofs.Common.{Some, None, option_map, option_and_then, refl, ap, sym, ◌∙◌, append_assoc}
-use Rattle.std.specs.Option.{IsSome, unwrap_or}
-use Rattle.std.specs.List.{AllZip}
-use Rattle.std.proofs.lemmas.List.{drop_all, drop_more}
+use Rattle.std.proofs.Common.{Some, None, option_map, option_and_then, ◌&&◌, false, refl, ap, sym, ◌∙◌, append_assoc}
+use Rattle.std.specs.Option.{is_some, IsSome, unwrap_or}
+use Rattle.std.specs.List.{AllZip, list_all}
+use Rattle.std.proofs.lemmas.List.{drop_more}
 use Rattle.std.proofs.lemmas.Option.{option_and_then_some}
 use Rattle.serde_json.specs.Data.{Data, Items, no_items, item}
 use Rattle.serde_json.specs.View.{items_of}
@@ -36,6 +36,11 @@ module _ {A : Type 0} (find : Data → Option A) (Is : Data → A → Type 0) wh
   each_is one (d ∷ ds) xs e =
       option_and_then_some (λ x. option_map (λ ys. x ∷ ys) (each_in find ds)) (find d) xs e
       (λ x is h. mapped (λ ys. x ∷ ys) (each_in find ds) xs h (λ ys n q. rw q (one d x is, each_is one ds ys n)))
+
+-- something was read where something is there
+pub some_read : {A B : Type 0} (see : B → A) (r : Option B) (o : Option A) → option_map see r ≡ o → is_some r ≡ is_some o
+some_read see None o e = ap is_some e
+some_read see (Some x) o e = ap is_some e
 
 -- what was found so far, and what is found in the rest, are all
 module _ {V A : Type 0} (view : V → Data) (find : Data → Option A) where
@@ -116,26 +121,22 @@ module _ {V A : Type 0} (view : V → Data) (find : Data → Option A) where
       others (Some x) None k = k
       others (Some x) (Some xs) k = refl
 
-  -- what was found so far, and what is found in the rest, are all
-  abbrev pub FoundSoFar : List V → ℕ → Type 0
-  FoundSoFar vs i = (xs : List A) × (each_in find (map view vs) ≡ option_map (λ ys. xs ++ ys) (each_in find (map view (drop i vs))))
+  -- something is found in all where it is found in each
+  pub all_found : (vs : List V) → is_some (each_in find (map view vs)) ≡ list_all (λ v. is_some (find (view v))) vs
+  all_found [] = refl
+  all_found (v ∷ vs) = both (find (view v)) (each_in find (map view vs)) ∙ ap (λ b. is_some (find (view v)) && b) (all_found vs) where
+    both : (o : Option A) (rest : Option (List A))
+        → is_some (option_and_then (λ x. option_map (λ xs. x ∷ xs) rest) o) ≡ (is_some o && is_some rest)
+    both None rest = refl
+    both (Some x) None = refl
+    both (Some x) (Some xs) = refl
 
-  none_yet : (o : Option (List A)) → o ≡ option_map (λ ys. [] ++ ys) o
-  none_yet None = refl
-  none_yet (Some ys) = refl
-
-  pub found_none_yet : (vs : List V) → FoundSoFar vs 0
-  found_none_yet vs = ([], none_yet (each_in find (map view vs)))
-
-  pub found_one_more : (vs : List V) (i : ℕ) (d : V) (x : A) → i < length vs → Some x ≡ find (view (get_or vs i d)) → FoundSoFar vs i → FoundSoFar vs (i + 1)
-  found_one_more vs i d x there found (xs, was) = (xs ++ x ∷ [], one_more view find vs i d xs (xs ++ x ∷ []) x there found refl was)
-
-  pub found_no_more : (vs : List V) (i : ℕ) (d : V) → i < length vs → None ≡ find (view (get_or vs i d)) → FoundSoFar vs i → each_in find (map view vs) ≡ None
-  found_no_more vs i d there missing (xs, was) = none_more view find vs i d xs there missing was
-
-  pub found_all : (vs : List V) (i : ℕ) → length vs ≤ i → FoundSoFar vs i → IsSome (each_in find (map view vs))
-  found_all vs i end (xs, was) =
-      rw (was ∙ ap (λ ws. option_map (λ ys. xs ++ ys) (each_in find (map view ws))) (drop_all i vs end)) refl
+  -- and else in none
+  pub not_all_found : (vs : List V) → list_all (λ v. is_some (find (view v))) vs ≡ false → each_in find (map view vs) ≡ None
+  not_all_found vs missing = none_is (each_in find (map view vs)) (all_found vs ∙ missing) where
+    none_is : (o : Option (List A)) → is_some o ≡ false → o ≡ None
+    none_is None e = refl
+    none_is (Some xs) e = cc
 
   some_kept : (o : Option (List A)) → IsSome o → Some (unwrap_or o []) ≡ o
   some_kept None some = cc

@@ -1,6 +1,7 @@
 //! Actions of systems: which action a JSON value is.
 
-ghost use Rattle.std.specs.Prelude.{◌≡◌, map, option_map};
+ghost use Rattle.std.specs.Prelude.{◌≡◌, map, option_and_then, option_map};
+ghost use Rattle.serde_json.specs.Find.{as_str};
 ghost use Rattle.serde_json.specs.View.{view};
 ghost use Rattle.eco_steps.specs.Decode.{action_in, action_of, action_of_none, action_of_slot, action_of_text, slot_in};
 ghost use Rattle.eco_steps.specs.Views.{action_view};
@@ -41,9 +42,11 @@ impl<'a> WrittenAction<'a> {
     }
 
     // An action with one text.
-    fn of_text(word: &str, id: &'a str) -> Option<WrittenAction<'a>>
-        ensures { option_map action_view result ≡ action_of_text word.now id.entry.now }
+    fn of_text(word: &str, argument: &'a Value) -> Option<WrittenAction<'a>>
+        ensures { option_map action_view result
+            ≡ option_and_then (action_of_text word.now) (as_str (view argument.now)) }
     {
+        let id = argument.as_str()?;
         match word {
             "add" => Some(WrittenAction::Add { id }),
             "remove" => Some(WrittenAction::Remove { id }),
@@ -56,11 +59,14 @@ impl<'a> WrittenAction<'a> {
     fn of_slot(
         edition: Edition,
         word: &str,
-        slot: usize,
+        first: &Value,
         argument: &Value,
     ) -> Option<WrittenAction<'a>>
-        ensures { option_map action_view result ≡ action_of_slot edition word.now slot (view argument.now) }
+        ensures { option_map action_view result
+            ≡ option_and_then (λ slot. action_of_slot edition word.now slot (view argument.now))
+            (slot_in (view first.now)) }
     {
+        let slot = read_slot(first)?;
         match word {
             "put" => Some(WrittenAction::Put {
                 slot,
@@ -80,8 +86,8 @@ impl<'a> WrittenAction<'a> {
     {
         match arguments {
             [] => WrittenAction::of_none(word),
-            [id] => WrittenAction::of_text(word, id.as_str()?),
-            [slot, argument] => WrittenAction::of_slot(edition, word, read_slot(slot)?, argument),
+            [id] => WrittenAction::of_text(word, id),
+            [slot, argument] => WrittenAction::of_slot(edition, word, slot, argument),
             _ => None,
         }
     }

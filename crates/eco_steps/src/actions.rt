@@ -1,7 +1,7 @@
 //! The actions of a system, as a script gives them.
 
-ghost use Rattle.std.specs.Prelude.{◌≡◌, length, map, IsSome, option_map};
-ghost use Rattle.std.specs.List.{slice_get};
+ghost use Rattle.std.specs.Prelude.{◌≡◌, length, map, is_some, IsSome, option_map};
+ghost use Rattle.std.specs.List.{list_all, slice_get};
 ghost use Rattle.serde_json.specs.View.{view};
 ghost use Rattle.eco_steps.specs.Decode.{action_in, each_in, actions_in};
 
@@ -19,6 +19,20 @@ pub struct Actions<'a> {
     ghost are_actions: { IsSome (each_in (action_in edition) (map view values.now)) },
 }
 
+// Whether a value is an action.
+fn is_action(edition: Edition, value: &Value) -> bool
+    ensures { result ≡ is_some (action_in edition (view value.now)) }
+{
+    WrittenAction::read(edition, value).is_some()
+}
+
+// Whether each of some values is one.
+fn are_actions(edition: Edition, values: &[Value]) -> bool
+    ensures { result ≡ list_all (λ v. is_some (action_in edition (view v))) values.now }
+{
+    values.iter().all(|value| is_action(edition, value))
+}
+
 impl<'a> Actions<'a> {
     ghost use Rattle.eco_steps.specs.Views.{action_view, actions_view};
 
@@ -27,10 +41,11 @@ impl<'a> Actions<'a> {
         ensures { option_map actions_view result ≡ actions_in edition (view value.now) }
     {
         let values = read_list(value)?;
-        for item in values {
-            WrittenAction::read(edition, item)?;
+        if are_actions(edition, values) {
+            Some(Actions { edition, values })
+        } else {
+            None
         }
-        Some(Actions { edition, values })
     }
 
     /// How many actions there are.

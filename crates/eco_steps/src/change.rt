@@ -1,6 +1,7 @@
 //! Changes of a world: which change a JSON value asks for.
 
-ghost use Rattle.std.specs.Prelude.{◌≡◌, map, option_map};
+ghost use Rattle.std.specs.Prelude.{◌≡◌, map, option_and_then, option_map};
+ghost use Rattle.serde_json.specs.Find.{as_str};
 ghost use Rattle.serde_json.specs.View.{view};
 ghost use Rattle.eco_steps.specs.Decode.{change_with, change_of_text, change_of_texts, change_of_three, change_of_two};
 ghost use Rattle.eco_steps.specs.Views.{change_view};
@@ -45,9 +46,11 @@ pub enum WrittenChange<'a> {
 
 impl<'a> WrittenChange<'a> {
     // A change with one text.
-    fn of_text(word: &str, text: &'a str) -> Option<WrittenChange<'a>>
-        ensures { option_map change_view result ≡ change_of_text word.now text.entry.now }
+    fn of_text(word: &str, argument: &'a Value) -> Option<WrittenChange<'a>>
+        ensures { option_map change_view result
+            ≡ option_and_then (change_of_text word.now) (as_str (view argument.now)) }
     {
+        let text = argument.as_str()?;
         let change = match word {
             "clear" => WrittenChange::Clear { entity: text },
             "delete" => WrittenChange::Delete { entity: text },
@@ -71,10 +74,12 @@ impl<'a> WrittenChange<'a> {
     }
 
     // A change with a text and another argument.
-    fn of_two(word: &str, entity: &'a str, argument: &'a Value) -> Option<WrittenChange<'a>>
+    fn of_two(word: &str, first: &'a Value, argument: &'a Value) -> Option<WrittenChange<'a>>
         ensures { option_map change_view result
-            ≡ change_of_two word.now entity.entry.now (view argument.now) }
+            ≡ option_and_then (λ text. change_of_two word.now text (view argument.now))
+            (as_str (view first.now)) }
     {
+        let entity = first.as_str()?;
         match word {
             "rename" => Some(WrittenChange::Rename {
                 entity,
@@ -88,13 +93,16 @@ impl<'a> WrittenChange<'a> {
     fn of_three(
         edition: Edition,
         word: &str,
-        entity: &'a str,
-        id: &'a str,
+        first: &'a Value,
+        second: &'a Value,
         argument: &'a Value,
     ) -> Option<WrittenChange<'a>>
         ensures { option_map change_view result
-            ≡ change_of_three edition word.now entity.entry.now id.entry.now (view argument.now) }
+            ≡ option_and_then (λ text. option_and_then (λ other.
+            change_of_three edition word.now text other (view argument.now)) (as_str (view second.now)))
+            (as_str (view first.now)) }
     {
+        let (entity, id) = (first.as_str()?, second.as_str()?);
         match word {
             "set" => Some(WrittenChange::Set {
                 entity,
@@ -115,15 +123,11 @@ impl<'a> WrittenChange<'a> {
             ≡ change_with edition word.now (map view arguments.now) }
     {
         match arguments {
-            [text] => WrittenChange::of_text(word, text.as_str()?),
-            [entity, argument] => WrittenChange::of_two(word, entity.as_str()?, argument),
-            [entity, id, argument] => WrittenChange::of_three(
-                edition,
-                word,
-                entity.as_str()?,
-                id.as_str()?,
-                argument,
-            ),
+            [text] => WrittenChange::of_text(word, text),
+            [text, argument] => WrittenChange::of_two(word, text, argument),
+            [text, other, argument] => {
+                WrittenChange::of_three(edition, word, text, other, argument)
+            }
             _ => None,
         }
     }

@@ -1,7 +1,7 @@
 //! The commands of a stage, as a script gives them.
 
-ghost use Rattle.std.specs.Prelude.{◌≡◌, length, map, IsSome, option_map};
-ghost use Rattle.std.specs.List.{slice_get};
+ghost use Rattle.std.specs.Prelude.{◌≡◌, length, map, is_some, IsSome, option_map};
+ghost use Rattle.std.specs.List.{list_all, slice_get};
 ghost use Rattle.serde_json.specs.View.{view};
 ghost use Rattle.eco_steps.specs.Decode.{command_in, each_in, stage_in};
 
@@ -19,6 +19,20 @@ pub struct Commands<'a> {
     ghost are_commands: { IsSome (each_in (command_in edition) (map view values.now)) },
 }
 
+// Whether a value is a command.
+fn is_command(edition: Edition, value: &Value) -> bool
+    ensures { result ≡ is_some (command_in edition (view value.now)) }
+{
+    WrittenCommand::read(edition, value).is_some()
+}
+
+// Whether each of some values is one.
+fn are_commands(edition: Edition, values: &[Value]) -> bool
+    ensures { result ≡ list_all (λ v. is_some (command_in edition (view v))) values.now }
+{
+    values.iter().all(|value| is_command(edition, value))
+}
+
 impl<'a> Commands<'a> {
     ghost use Rattle.eco_steps.specs.Views.{command_view, commands_view};
 
@@ -27,10 +41,11 @@ impl<'a> Commands<'a> {
         ensures { option_map commands_view result ≡ stage_in edition (view value.now) }
     {
         let values = read_list(value)?;
-        for item in values {
-            WrittenCommand::read(edition, item)?;
+        if are_commands(edition, values) {
+            Some(Commands { edition, values })
+        } else {
+            None
         }
-        Some(Commands { edition, values })
     }
 
     /// The same of a value that was read before, so that they aren't looked through again.

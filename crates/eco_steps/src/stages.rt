@@ -1,7 +1,7 @@
 //! The stages of a merge, as a script gives them.
 
-ghost use Rattle.std.specs.Prelude.{◌≡◌, length, map, IsSome, option_map};
-ghost use Rattle.std.specs.List.{slice_get};
+ghost use Rattle.std.specs.Prelude.{◌≡◌, length, map, is_some, IsSome, option_map};
+ghost use Rattle.std.specs.List.{list_all, slice_get};
 ghost use Rattle.serde_json.specs.View.{view};
 ghost use Rattle.eco_steps.specs.Decode.{each_in, stage_in, stages_in};
 
@@ -18,6 +18,20 @@ pub struct Stages<'a> {
     ghost are_stages: { IsSome (each_in (stage_in edition) (map view values.now)) },
 }
 
+// Whether a value is a stage.
+fn is_stage(edition: Edition, value: &Value) -> bool
+    ensures { result ≡ is_some (stage_in edition (view value.now)) }
+{
+    Commands::read(edition, value).is_some()
+}
+
+// Whether each of some values is one.
+fn are_stages(edition: Edition, values: &[Value]) -> bool
+    ensures { result ≡ list_all (λ v. is_some (stage_in edition (view v))) values.now }
+{
+    values.iter().all(|value| is_stage(edition, value))
+}
+
 impl<'a> Stages<'a> {
     ghost use Rattle.eco_steps.specs.Views.{commands_view, stages_view};
 
@@ -26,10 +40,11 @@ impl<'a> Stages<'a> {
         ensures { option_map stages_view result ≡ stages_in edition (view value.now) }
     {
         let values = read_list(value)?;
-        for item in values {
-            Commands::read(edition, item)?;
+        if are_stages(edition, values) {
+            Some(Stages { edition, values })
+        } else {
+            None
         }
-        Some(Stages { edition, values })
     }
 
     /// How many stages there are.

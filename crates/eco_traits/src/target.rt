@@ -1,5 +1,5 @@
 //! The type that an add leads to.
-ghost use Rattle.std.specs.Prelude.{◌≡◌, ◌↔◌, ◌&&◌, false, IfOk, IfSome, IsFalse, IsTrue, Some, filter, find, fold, is_some, not, OnOk, option_map, true, unwrap_or};
+ghost use Rattle.std.specs.Prelude.{◌≡◌, ◌↔◌, ◌&&◌, false, IfOk, IfSome, IsFalse, IsTrue, Some, filter, find, fold, is_some, not, option_map, true, unwrap_or};
 ghost use Rattle.std.specs.List.{list_any};
 ghost use Rattle.eco_ids.specs.Outcome.{is_out_of_memory};
 ghost use Rattle.eco_ids.specs.World.{has, is_alive as lives, record_of};
@@ -338,21 +338,17 @@ fn joined(ids: &TypeList, coming: TypeList) -> Result<TypeList, AllocError>
 {
     let own = ids.as_slice();
     if own.len() < coming.as_slice().len() {
-        let mut all = coming;
-        insert_all(&mut all, own)?;
-        return Ok(all);
+        return with_all(coming, own);
     }
-    let mut all = ids.try_copy()?;
-    insert_all(&mut all, coming.as_slice())?;
-    Ok(all)
+    with_all(ids.try_copy()?, coming.as_slice())
 }
 
-// Each of the ids joins the list in its place.
-fn insert_all(list: &mut TypeList, ids: &[Id]) -> Result<(), AllocError>
-    ensures { OnOk result (list.new ≡ fold (with_item id_cmp) list.old ids.now) }
+// The list with each of the ids in its place.
+fn with_all(mut list: TypeList, ids: &[Id]) -> Result<TypeList, AllocError>
+    ensures { IfOk result (λ all. all ≡ fold (with_item id_cmp) list ids.now) }
 {
     for id in ids {
         list.insert(*id)?;
     }
-    Ok(())
+    Ok(list)
 }

@@ -1,32 +1,24 @@
-use Rattle.std.proofs.Common.{◌∙◌, ap, option_map}
+use Rattle.std.proofs.Common.{◌∙◌, map, sym}
+use Rattle.std.specs.Option.{IsSome}
 use Rattle.serde_json.specs.View.{view}
-use Rattle.eco_steps.specs.Decode.{action_in}
-use Rattle.eco_steps.specs.Views.{action_view, actions_view}
-use Rattle.eco_steps.proofs.Values.{found_none_yet, found_one_more, found_no_more, found_all, kept_found, none_found}
+use Rattle.eco_steps.specs.Decode.{each_in, action_in}
+use Rattle.eco_steps.proofs.Values.{kept_found, none_found, all_found, not_all_found}
 use Rattle.eco_steps.proofs.actions.Actions.read.Goals as goal
 
-pub loop-item-init : goal.loop-item-init
-loop-item-init c = found_none_yet view (action_in c.args.edition) c.in_ok-values.values.now
-
-pub loop-item-preserved : goal.loop-item-preserved
-loop-item-preserved c =
-    found_one_more view (action_in c.args.edition) c.in_ok-values.values.now c.loop-item.item-index c.item-item.result
-    (action_view c.in_ok-read.field-0) c.loop-item-test.true
-    (c.in_ok-read.ensures ∙ ap (λ v. action_in c.args.edition (view v)) c.item-item.is) c.loop-item.invariant
-
-pub returns-in_err-read : goal.returns-in_err-read
-returns-in_err-read c =
-    ap (option_map actions_view) c.from_residual-in_err-read.ensures
-    ∙ none_found view (action_in c.args.edition) c.in_ok-values.values.now (view c.args.value.now) c.in_ok-values.ensures
-    (found_no_more view (action_in c.args.edition) c.in_ok-values.values.now c.loop-item.item-index c.item-item.result c.loop-item-test.true
-    (c.in_err-read.ensures ∙ ap (λ v. action_in c.args.edition (view v)) c.item-item.is) c.loop-item.invariant)
+pub returns-else-are_actions : goal.returns-else-are_actions
+returns-else-are_actions c =
+    let values = c.in_ok-values.values.now in
+    none_found view (action_in c.args.edition) values (view c.args.value.now) c.in_ok-values.ensures
+    (not_all_found view (action_in c.args.edition) values (sym c.are_actions.ensures ∙ c.if-are_actions.false))
 
 pub invariant_of-result : goal.invariant_of-result
 invariant_of-result c = record {
-  are_actions = found_all view (action_in c.args.edition) c.in_ok-values.values.now c.loop-item.item-index c.loop-item-test.false c.loop-item.invariant;
+  are_actions = all_found view (action_in c.args.edition) c.in_ok-values.values.now ∙ sym c.are_actions.ensures ∙ c.if-are_actions.true;
 }
 
-pub returns : goal.returns
-returns c =
-    kept_found view (action_in c.args.edition) c.in_ok-values.values.now (view c.args.value.now) c.in_ok-values.ensures
-    (found_all view (action_in c.args.edition) c.in_ok-values.values.now c.loop-item.item-index c.loop-item-test.false c.loop-item.invariant)
+pub returns-then-are_actions : goal.returns-then-are_actions
+returns-then-are_actions c =
+    let values = c.in_ok-values.values.now in
+    let all : IsSome (each_in (action_in c.args.edition) (map view values)) =
+    all_found view (action_in c.args.edition) values ∙ sym c.are_actions.ensures ∙ c.if-are_actions.true in
+    kept_found view (action_in c.args.edition) values (view c.args.value.now) c.in_ok-values.ensures all

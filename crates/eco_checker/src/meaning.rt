@@ -1,6 +1,6 @@
 //! What a refusal means: which of a step's texts, and why.
 
-use crate::reasons::reason;
+use crate::refusals::reason;
 use crate::texts::{Texts, texts_of_action, texts_of_command, texts_of_step};
 use eco_grammar::{Names, read_id, read_query, read_ref};
 use eco_ids::{Edition, Refusal};

@@ -3,7 +3,7 @@
 use eco_ids::Refusal;
 
 // What each refusal says, by its number.
-const REASONS: [(u8, &str); 24] = [
+static REASONS: [(u8, &str); 24] = [
     (1, "it is nobody living"),
     (2, "it names nobody living"),
     (
@@ -48,8 +48,8 @@ const REASONS: [(u8, &str); 24] = [
 /// What a refusal says, in words.
 pub fn reason(refusal: &Refusal) -> &'static str {
     let number = refusal.number();
-    for (known, words) in REASONS {
-        if known == number {
+    for (known, words) in &REASONS {
+        if *known == number {
             return words;
         }
     }

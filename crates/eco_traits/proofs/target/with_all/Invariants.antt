@@ -1,6 +1,6 @@
 use Rattle.std.proofs.Common.{◌≡◌, fold, take}
 use Rattle.eco_ids.specs.Order.{id_cmp, with_item}
-use Rattle.eco_traits.proofs.target.insert_all.Given as goal
+use Rattle.eco_traits.proofs.target.with_all.Given as goal
 
 abbrev pub invariant-loop-id : goal.invariant-loop-id
 invariant-loop-id l = l.list ≡ fold (with_item id_cmp) l.initial.list (take l.id-index l.ids)

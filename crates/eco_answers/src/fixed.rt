@@ -7,10 +7,11 @@ ghost use Rattle.eco_answers.specs.Fixed.{AreFixed, Ascends, IsFixed};
 ghost use Rattle.eco_query.specs.Queries.{exactly, term_view};
 
 use eco_entries::Choices;
-use eco_ids::{Id, Part, Pattern};
+use eco_ids::{INLINE_IDS, Id, Part, Pattern};
 use eco_query::{Slot, Term};
 use eco_store::Tables;
 use eco_tables::TableSlot;
+use smallvec::SmallVec;
 use std::alloc::{AllocError, Global};
 
 // The only id that a pattern matches: none, where it may match several.
@@ -41,11 +42,14 @@ fn fixed_entry(slot: &Slot) -> Option<Option<Id>>
     }
 }
 
+/// An entry for each of some slots, which takes memory only where there are more than [`INLINE_IDS`].
+pub type FixedChoice = SmallVec<Option<Id>, INLINE_IDS>;
+
 /// The entries that the slots have on each type on which they hold, where they are the same on all.
-pub fn fixed_choice(alloc: Global, slots: &[Slot]) -> Result<Option<Vec<Option<Id>>>, AllocError>
+pub fn fixed_choice(alloc: Global, slots: &[Slot]) -> Result<Option<FixedChoice>, AllocError>
     ensures { IfOk result (λ o. IfSome o (λ c. AreFixed (asks slots.now) c.items)) }
 {
-    let mut choice = Vec::with_capacity(alloc, slots.len())?;
+    let mut choice = SmallVec::new(alloc);
     for slot in slots {
         let Some(entry) = fixed_entry(slot) else {
             return Ok(None);

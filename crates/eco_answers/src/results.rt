@@ -11,7 +11,7 @@ ghost use Rattle.eco_store.specs.Worlds.{world_of};
 
 use crate::asking::Asking;
 use crate::blocks::{Blocks, blocks_of, rows_of};
-use crate::fixed::{fixed_choice, once_each};
+use crate::fixed::{FixedChoice, fixed_choice, once_each};
 use crate::iter::ResultIter;
 use eco_entries::Choices;
 use eco_ids::{Entity, Id};
@@ -125,7 +125,7 @@ fn results_in(
 {
     query.is_positive();
     match fixed_for(alloc, query.slots(), cache)? {
-        Some(choice) => fixed_in(alloc, found, query, &choice),
+        Some(choice) => fixed_in(alloc, found, query, choice.as_slice()),
         None => own_in(alloc, found, query, cache),
     }
 }
@@ -175,7 +175,7 @@ fn fixed_for(
     alloc: Global,
     slots: &[Slot],
     cache: Option<usize>,
-) -> Result<Option<Vec<Option<Id>>>, AllocError>
+) -> Result<Option<FixedChoice>, AllocError>
     ensures { IfOk result (λ o. IfSome o (λ c. AreFixed (asks slots.now) c.items)) }
 {
     match cache {

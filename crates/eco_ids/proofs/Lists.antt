@@ -7,6 +7,12 @@ use Rattle.std.proofs.lemmas.List.{get_or_default}
 
 -- ---- an element written, or one more at the end
 
+-- an element that is within, whatever the default of the read
+pub some_at : {X : Type 0} (xs : List X) (i : ℕ) (d : X) → i < length xs → slice_get xs i ≡ Some (get_or xs i d)
+some_at [] i d within = absurd (omega arith)
+some_at (x ∷ xs) zero d within = refl
+some_at (x ∷ xs) (suc i) d within = some_at xs i d (omega arith)
+
 pub slice_get-set_same : {X : Type 0} (xs : List X) (i : ℕ) (v : X) → i < length xs → slice_get (set xs i v) i ≡ Some v
 slice_get-set_same [] i v l = absurd (omega arith)
 slice_get-set_same (x ∷ xs) zero v l = refl

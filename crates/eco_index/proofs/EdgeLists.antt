@@ -6,7 +6,7 @@ use Rattle.std.specs.Map.{lookup}
 use Rattle.std.specs.HashMap.{HashMap, get}
 use Rattle.std.proofs.lemmas.Option.{none-some, same_Some, slice_get_past}
 use Rattle.std.proofs.lemmas.Bool.Decides.{Decides-eqb}
-use Rattle.eco_ids.proofs.Lists.{slice_get-set_same, slice_get-set_other}
+use Rattle.eco_ids.proofs.Lists.{slice_get-set_same, slice_get-set_other, some_at}
 use Rattle.eco_ids.specs.declared.id.Id.{Id}
 use Rattle.eco_index.specs.Edges.{same_id, edge, edge_of, leads_to, IsTwofold, SameEdges, Puts, Links, Cuts}
 use Rattle.eco_ids.proofs.SameIds.{id_eq-Decides}
@@ -28,11 +28,6 @@ popped (e ∷ es) i to none = by (same_id i e.0) refl (λ rest. popped es i to r
         → lookup (same_id i) ((e ∷ es) ++ (i, to) ∷ []) ≡ Some to
     by true e' rest = let bad = rw e' at none in cc
     by false e' rest = let later = rw e' at none in rw e' (rest later)
-
-pub some_at : {X : Type 0} (xs : List X) (i : ℕ) (d : X) → i < length xs → slice_get xs i ≡ Some (get_or xs i d)
-some_at [] i d within = absurd (omega arith)
-some_at (x ∷ xs) zero d within = refl
-some_at (x ∷ xs) (suc i) d within = some_at xs i d (omega arith)
 
 -- an entry that is looked for, and none before it
 pub lookup_here : (t : Id → Bool) (es : List (Id × ℕ)) (k : ℕ) (e : Id × ℕ) → lookup t (take k es) ≡ None → slice_get es k ≡ Some e → t e.0 ≡ true →

@@ -103,7 +103,8 @@ fn set_of_two(
     ensures { IfOk result (λ slots. slots.keys ≡ one ∷ other ∷ []) }
 {
     let mut slots = IndexSet::with_capacity(alloc, 2)?;
-    slots.insert(one)?;
-    slots.insert(other)?;
+    // There is room for both.
+    slots.insert(one).unwrap();
+    slots.insert(other).unwrap();
     Ok(slots)
 }

@@ -12,9 +12,15 @@ use std::marker::Model;
 use std::mem::replace;
 
 /// A contract sees the names with their indices, which ascend.
-#[derive(Drop)]
 pub(crate) struct Page {
     entries: Vec<(u32, Label)>,
+}
+
+// By hand, so that dropping it is one call: a derived drop is proved anew at each early return of whoever holds it.
+impl Drop for Page {
+    fn drop(self) {
+        let Page { entries: _ } = self;
+    }
 }
 
 impl Model for Page {

@@ -4,7 +4,8 @@ use Rattle.std.proofs.Common.{Some, None, nat_eq, refl, sym, ap, ◌∙◌, arit
 use Rattle.std.specs.List.{slice_get}
 use Rattle.std.specs.Map.{lookup}
 use Rattle.std.specs.HashMap.{HashMap, get}
-use Rattle.std.proofs.lemmas.Option.{none-some, same_Some, slice_get_past}
+use Rattle.std.proofs.lemmas.Grind.{common_steps}
+use Rattle.std.proofs.lemmas.Option.{slice_get_past}
 use Rattle.std.proofs.lemmas.Bool.Decides.{Decides-eqb}
 use Rattle.eco_ids.proofs.Lists.{slice_get-set_same, slice_get-set_other, some_at}
 use Rattle.eco_ids.specs.declared.id.Id.{Id}
@@ -233,56 +234,9 @@ put_taken g g1 g2 g3 g4 n i to none covered put stayed taken k j =
 
 -- an edge either way more, where there was none: each still leads back
 module _ {S : Type 0} (old new : List (HashMap Id ℕ S)) (a b : ℕ) (i : Id) where
-  linked_twofold : a ≢ b → edge old a i ≡ None → edge old b i ≡ None → IsTwofold old → Links old new a i b → IsTwofold new
-  linked_twofold apart none_a none_b twofold links n m j leads = way (same_id i j) (edge new m j ≡ Some n)
-      (λ same.
-      let is = (id_eq-Decides i j).0 same in
-      let now : (k : ℕ) → edge new k j ≡ cond (nat_eq k b) (Some a) (cond (nat_eq k a) (Some b) (edge old k j)) =
-      λ k. links k j ∙ (λ t. cond (nat_eq k b && same t) (Some a) (cond (nat_eq k a && same t) (Some b) (edge old k j)))
-      ∙ plain (nat_eq k b) (nat_eq k a) (edge old k j) in
-      let at_b : edge new b j ≡ Some a = now b ∙ ap (λ p. cond p (Some a) (cond (nat_eq b a) (Some b) (edge old b j))) (itself b) in
-      let at_a : edge new a j ≡ Some b =
-      now a ∙ (λ t. cond (other a b apart t) (Some a) (cond (itself a t) (Some b) (edge old a j))) in
-      let bare : (k : ℕ) → edge old k i ≡ None → m ≡ k → edge old m j ≡ Some n → ⊥ =
-      λ k none here back. none-some n (sym none ∙ ap (edge old k) is ∙ ap (λ q. edge old q j) (sym here) ∙ back) in
-      way (nat_eq n b) (edge new m j ≡ Some n)
-      (λ here.
-      let from = same_slot n b here in
-      let to : m ≡ a = same_Some m a (sym leads ∙ ap (λ k. edge new k j) from ∙ at_b) in
-      ap (λ k. edge new k j) to ∙ at_a ∙ ap Some (sym from))
-      (λ not_b. way (nat_eq n a) (edge new m j ≡ Some n)
-      (λ here.
-      let from = same_slot n a here in
-      let to : m ≡ b = same_Some m b (sym leads ∙ ap (λ k. edge new k j) from ∙ at_a) in
-      ap (λ k. edge new k j) to ∙ at_b ∙ ap Some (sym from))
-      (λ not_a.
-      let was : edge old n j ≡ Some m =
-      sym (now n ∙ (λ t. cond (not_b t) (Some a) (cond (not_a t) (Some b) (edge old n j)))) ∙ leads in
-      let back = twofold n m j was in
-      now m ∙ (λ t. cond (other m b (λ e. bare b none_b e back) t) (Some a) (cond (other m a (λ e. bare a none_a e back) t) (Some b) (edge old m j)))
-      ∙ back)))
-      (λ different.
-      let now : (k : ℕ) → edge new k j ≡ edge old k j =
-      λ k. links k j ∙ (λ t. cond (nat_eq k b && different t) (Some a) (cond (nat_eq k a && different t) (Some b) (edge old k j)))
-      ∙ untouched (nat_eq k b) (nat_eq k a) (edge old k j) in
-      now m ∙ twofold n m j (sym (now n) ∙ leads))
-    where
-      itself : (k : ℕ) → nat_eq k k ≡ true
-      itself k = (Decides-eqb k k).1 refl
-
-      other : (k l : ℕ) → k ≢ l → nat_eq k l ≡ false
-      other k l differ = way (nat_eq k l) (nat_eq k l ≡ false) (λ e. absurd (differ (same_slot k l e))) (λ e. e)
-
-      plain : (p q : Bool) (o : Option ℕ) → cond (p && true) (Some a) (cond (q && true) (Some b) o) ≡ cond p (Some a) (cond q (Some b) o)
-      plain true q o = refl
-      plain false true o = refl
-      plain false false o = refl
-
-      untouched : (p q : Bool) (o : Option ℕ) → cond (p && false) (Some a) (cond (q && false) (Some b) o) ≡ o
-      untouched true true o = refl
-      untouched true false o = refl
-      untouched false true o = refl
-      untouched false false o = refl
+  linked_twofold : a ≢ b → edge old a i ≡ None → edge old b i ≡ None → IsTwofold old → Links old new a i b → (n m : ℕ) (j : Id) →
+      edge new n j ≡ Some m → edge new m j ≡ Some n
+  linked_twofold apart none_a none_b twofold links n m j leads = grind (arith, common_steps, links n j, links m j, twofold n m j, Decides-eqb, id_eq-Decides)
 
   -- whether it was done, or refused
   pub link_twofold : {T E : Type 0} (r : Result T E) → a ≢ b → edge old a i ≡ None → edge old b i ≡ None → IsTwofold old

@@ -9,13 +9,25 @@ use std::alloc::{AllocError, Global};
 /// Marks for the indices of the entities that a key was ever kept of, by what they are in the key. A mark is one more than the place
 /// of the last key that it was made for. It stays when the keys go, and for all entities that use the index later: that may cost a
 /// look into the map, and never an answer.
-#[derive(Drop)]
 pub struct Marks {
     singles: Numbers,
     pairs: Numbers,
     relationships: Numbers,
     targets: Numbers,
     any_pair: u32,
+}
+
+// By hand, so that dropping it is one call: a derived drop is proved anew at each early return of whoever holds it.
+impl Drop for Marks {
+    fn drop(self) {
+        let Marks {
+            singles: _,
+            pairs: _,
+            relationships: _,
+            targets: _,
+            any_pair: _,
+        } = self;
+    }
 }
 
 // Places from here on have one mark.

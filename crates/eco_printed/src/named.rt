@@ -8,9 +8,9 @@ use std::fmt;
 
 /// An entity, by its name, or by its handle where it has none.
 #[derive(Clone, Copy)]
-struct Named<'a> {
-    world: &'a World,
-    entity: Entity,
+pub struct Named<'a> {
+    pub world: &'a World,
+    pub entity: Entity,
 }
 
 impl fmt::Display for Named<'_> {

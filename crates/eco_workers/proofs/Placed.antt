@@ -265,6 +265,13 @@ module _ {S : Type 0} (commands : S → List ℕ → List Command) (taken : S �
             ap (λ (l : List Entry). ascends (concat (map draws l))) same ∙ ap ascends (concat_map log) ∙ up.1);
       }
 
+  -- a batch of so many seats is one of the workers that have them, where one worker has one
+  pub batch_by : {pieces : List S} {seats base base' n : ℕ} {stages : List (List Command)} (workers : ℕ) → (workers ≡ 1 → seats ≡ 1) → base ≡ base'
+      → IsBatch commands taken seats pieces base n stages → IsBatch commands taken workers pieces base' n stages
+  batch_by {pieces = pieces} {n = n} {stages = stages} workers few same made =
+      subst (λ b. IsBatch commands taken workers pieces b n stages) same
+      (record { draws = made.draws; recorded = made.recorded; ascend = made.ascend; each = made.each; alone = λ one. made.alone (few one) })
+
   pub within_pieces : (pieces : List S) (log : List Entry) (pushed : List Collected) (count : ℕ) → length pieces ≡ count
       → pushed ≡ map piece_of_entry log
       → All (λ (e : Entry). IsGood commands taken pieces e) log

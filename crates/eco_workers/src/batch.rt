@@ -3,7 +3,7 @@ ghost use Rattle.std.specs.Prelude.{◌≡◌, ℕ, ◌+◌, ◌<◌, ◌≤◌,
 ghost use Rattle.std.specs.Prelude.{length};
 ghost use Rattle.std.specs.List.{All, Contains};
 ghost use Rattle.eco_ids.specs.declared.refusal.Refusal.TheVariants.{NoMoreIds, OutOfMemory};
-ghost use Rattle.eco_workers.specs.Rounds.{is_done, piece_count, IsSeatOf};
+ghost use Rattle.eco_workers.specs.Rounds.{base_of, is_done, limit_of, piece_count, seats_of, IsSeatOf};
 ghost use Rattle.eco_workers.specs.declared.end.End.{End};
 ghost use Rattle.eco_workers.specs.declared.end.End.TheVariants.{Done, Refused};
 ghost use Rattle.eco_stages.specs.Taking.{by_index, IsStopped};
@@ -217,6 +217,79 @@ fn gather<P: Piece>(
     Ok((seats, all))
 }
 
+// The stages of workers that did all that there was to do, in the order of the pieces, and how many handles were drawn.
+fn collect<P: Piece>(
+    alloc: Global,
+    round: Round,
+    pieces: &[P],
+    worked: Vec<Worked>,
+) -> Result<(Vec<Stage>, u32), AllocError>
+    requires count { piece_count round ≡ length pieces.now }
+    requires all { (vec_len worked ≡ seats_of round) × (0 < seats_of round) }
+    requires worked { All (IsWorked (by_index P.commands) (by_index P.taken) pieces.now round) worked.items }
+    requires done { All (λ w. w.end ≡ Done) worked.items }
+    ensures batch { IfOk result (λ r. IsBatch (by_index P.commands) (by_index P.taken) (seats_of round)
+        pieces.now (base_of round) r.1 r.0.items) }
+    ensures most { IfOk result (λ r. base_of round + r.1 ≤ limit_of round) }
+{
+    let count = round.pieces();
+    let (seats, collected) = gather(alloc, &round, pieces, worked)?;
+    let (_, drawn) = round.close(seats);
+    let stages = place(alloc, count, collected)?;
+    Ok((stages, drawn))
+}
+
+// What a batch answers once all workers have ended. The room is for the seats of those of whom some stopped.
+fn finish<P: Piece>(
+    alloc: Global,
+    round: Round,
+    pieces: &[P],
+    worked: Vec<Worked>,
+    room: Vec<Seat>,
+) -> Result<(Vec<Stage>, u32), Refusal>
+    requires count { piece_count round ≡ length pieces.now }
+    requires all { (vec_len worked ≡ seats_of round) × (0 < seats_of round) }
+    requires worked { All (IsWorked (by_index P.commands) (by_index P.taken) pieces.now round) worked.items }
+    requires room { (room.items ≡ []) × (vec_len worked ≤ room.cap) }
+    ensures batch { IfOk result (λ r. IsBatch (by_index P.commands) (by_index P.taken) (seats_of round)
+        pieces.now (base_of round) r.1 r.0.items) }
+    ensures most { IfOk result (λ r. base_of round + r.1 ≤ limit_of round) }
+    ensures why { IfErr result (λ e. IsStopped e) }
+    ensures out { IfErr result (λ e. e ≡ NoMoreIds
+        → IsOut (by_index P.commands) (by_index P.taken) pieces.now (base_of round) (limit_of round)) }
+{
+    match first_refusal(worked.as_slice()) {
+        Some(refusal) => {
+            let seats = all_seats(&round, pieces, worked, room);
+            round.close(seats);
+            Err(refusal)
+        }
+        None => Ok(collect(alloc, round, pieces, worked)?),
+    }
+}
+
+// A round of so many seats, and a job for each.
+fn prepare(
+    alloc: Global,
+    spare: Vec<Stage>,
+    base: u32,
+    limit: u32,
+    count: u32,
+    seats: u32,
+) -> Result<(Round, Vec<Job>), Refusal>
+    requires indices { (base ≤ limit) × (limit ≤ 1048576) }
+    requires pieces { count ≤ 16777216 }
+    requires seats { (1 ≤ seats) × (seats ≤ 64) }
+    ensures work { IfOk result (λ r. (piece_count r.0 ≡ count) × (seats_of r.0 ≡ seats)) }
+    ensures indices { IfOk result (λ r. (base_of r.0 ≡ base) × (limit_of r.0 ≡ limit)) }
+    ensures jobs { IfOk result (λ r. (vec_len r.1 ≡ seats) × All (IsNewJobOf r.0) r.1.items) }
+    ensures err { IfErr result (λ e. e ≡ OutOfMemory) }
+{
+    let (round, seats) = Round::open(alloc, base, limit, count, seats)?;
+    let jobs = share_out(alloc, &round, spare, seats)?;
+    Ok((round, jobs))
+}
+
 /// Records the pieces of a batch, by at most so many threads, 1 to 64, the caller's among them; a thread that can't be started is
 /// done without, and a batch of few pieces starts few: none for one piece. Fresh handles are drawn from `base` on, to below
 /// `limit`, which is at most 1,048,576. Answers the stages in the order of the pieces, and how many handles were drawn. The memory
@@ -243,17 +316,9 @@ pub fn run_batch<P: Piece + Sync, R: Threads + Sync>(
         → IsOut (by_index P.commands) (by_index P.taken) pieces.now base limit) }
 {
     let count = count_pieces(pieces)?;
-    let (round, seats) = Round::open(alloc, base, limit, count, workers.min(count).max(1))?;
-    let room = Vec::with_capacity(alloc, seats.len())?;
-    let jobs = share_out(alloc, &round, spare, seats)?;
+    let seats = workers.min(count).max(1);
+    let room = Vec::with_capacity(alloc, seats as usize)?;
+    let (round, jobs) = prepare(alloc, spare, base, limit, count, seats)?;
     let worked = work_all(rt, alloc, &round, pieces, jobs)?;
-    if let Some(refusal) = first_refusal(worked.as_slice()) {
-        let seats = all_seats(&round, pieces, worked, room);
-        round.close(seats);
-        return Err(refusal);
-    }
-    let (seats, collected) = gather(alloc, &round, pieces, worked)?;
-    let (_, drawn) = round.close(seats);
-    let stages = place(alloc, count, collected)?;
-    Ok((stages, drawn))
+    finish(alloc, round, pieces, worked, room)
 }

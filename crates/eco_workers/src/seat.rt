@@ -6,10 +6,16 @@ use crate::word::Hand;
 
 /// One thread's part in a round: it remembers whether it was refused a piece, and whether an index. Contracts see also what it
 /// has claimed and drawn, each list in order; nothing of these lists is there at run time.
-#[derive(Drop)]
 pub struct Seat {
     pub(crate) claim: Ticket,
     pub(crate) draw: Ticket,
+}
+
+// By hand, as a round's.
+impl Drop for Seat {
+    fn drop(self) {
+        let Seat { claim: _, draw: _ } = self;
+    }
 }
 
 impl Seat {

@@ -3,16 +3,8 @@ use Rattle.std.proofs.lemmas.List.{append-nil, nil_from_length}
 use Rattle.std.specs.Vec.Iter.{into_iter_items}
 use Rattle.eco_ids.specs.Run.{Command}
 use Rattle.eco_workers.specs.Batches.{placed_stages}
-use Rattle.eco_workers.proofs.Placed.{empty_more, number_within, placed_push}
+use Rattle.eco_workers.proofs.Placed.{number_within, placed_push}
 use Rattle.eco_workers.proofs.order.place.Goals as goal
-
-pub loop-preserved : goal.loop-preserved
-loop-preserved c =
-    let i = c.loop.invariant in
-    record {
-      room = omega (arith, i.room, c.push_reserved.ensures.capacity);
-      empty = empty_more c.loop.counter c.new.result c.loop.stages.items c.push_reserved.new.self.items i.empty c.new.ensures c.push_reserved.ensures.items;
-    }
 
 pub index_mut-requires : goal.index_mut-requires
 index_mut-requires c =

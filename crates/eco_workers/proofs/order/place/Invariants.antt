@@ -1,13 +1,7 @@
-use Rattle.std.proofs.Common.{◌≡◌, ◌++◌, ◌≤◌, [], replicate}
+use Rattle.std.proofs.Common.{◌≡◌, ◌++◌, [], replicate}
 use Rattle.std.specs.Vec.Iter.{into_iter_items}
 use Rattle.eco_workers.specs.Batches.{placed_stages}
 use Rattle.eco_workers.proofs.order.place.Given as goal
-
-abbrev pub invariant-loop : goal.invariant-loop
-invariant-loop l = record {
-  room : l.count ≤ l.stages.cap;
-  empty : l.stages.items ≡ replicate l.counter [];
-}
 
 abbrev pub invariant-loop-piece : goal.invariant-loop-piece
 invariant-loop-piece l = record {

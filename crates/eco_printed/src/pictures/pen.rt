@@ -1,18 +1,29 @@
 //! What draws a picture of a world.
 
-use crate::names::{push_entity, push_pattern};
+use crate::pictures::names::{push_entity, push_pattern};
+use crate::svg::{Ink, Sheet};
 use eco_ids::{Entity, Id, Part, Pattern};
-use eco_svg::{Ink, Sheet};
 use eco_world::World;
 use std::alloc::{AllocError, Global};
 
 /// What draws a picture of a world: a sheet, and the text that is written next.
-#[derive(Drop)]
 pub(crate) struct Pen<'a> {
     pub world: &'a World,
     pub alloc: Global,
     pub sheet: Sheet,
     pub text: String,
+}
+
+// By hand, so that dropping it is one call: a derived drop is proved anew at each early return of whoever holds it.
+impl Drop for Pen<'_> {
+    fn drop(self) {
+        let Pen {
+            world: _,
+            alloc: _,
+            sheet: _,
+            text: _,
+        } = self;
+    }
 }
 
 // The pattern that an id alone matches.

@@ -1,10 +1,10 @@
 //! Pictures of batches.
 
-use crate::pen::Pen;
-use crate::reason::Reason;
+use crate::pictures::pen::Pen;
+use crate::pictures::reason::Reason;
+use crate::svg::Ink;
 use eco_batches::{Declared, sync_points};
 use eco_ids::Pattern;
-use eco_svg::Ink;
 use eco_world::World;
 use std::alloc::{AllocError, Global};
 

@@ -1,7 +1,6 @@
 //! Pictures of a world: its tables, the pairs between its named entities, and the batches of systems on it.
 //!
 //! That a picture is drawn safely and comes to an end is proved; how it looks was looked at.
-#![tactic(auto)]
 
 mod batches;
 mod graph;

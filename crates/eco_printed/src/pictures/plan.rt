@@ -1,8 +1,8 @@
 //! Where the named entities of a world and their pairs are drawn.
 
+use crate::svg::width_of;
 use eco_ids::entity::BUILTIN_COUNT;
 use eco_ids::{Entity, Id};
-use eco_svg::width_of;
 use eco_world::World;
 use std::alloc::{AllocError, Global};
 
@@ -14,12 +14,23 @@ pub(crate) const LOW: u64 = 18;
 
 /// Where entities and pairs are drawn: who has a pair or is the target of one, ascending, the middle of the line of each, in
 /// pixels, the targets alone, ascending, and where their lanes begin.
-#[derive(Drop)]
 pub(crate) struct Plan {
     pub nodes: Vec<Entity>,
     pub middles: Vec<u64>,
     pub targets: Vec<Entity>,
     pub lanes: u64,
+}
+
+// By hand, as a pen's.
+impl Drop for Plan {
+    fn drop(self) {
+        let Plan {
+            nodes: _,
+            middles: _,
+            targets: _,
+            lanes: _,
+        } = self;
+    }
 }
 
 /// The name of an entity, which is drawn only where it has one.

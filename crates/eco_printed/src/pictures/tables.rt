@@ -1,8 +1,8 @@
 //! Pictures of tables.
 
-use crate::pen::Pen;
+use crate::pictures::pen::Pen;
+use crate::svg::Ink;
 use eco_ids::{Entity, Id};
-use eco_svg::Ink;
 use eco_world::{TableRows, World};
 use std::alloc::{AllocError, Global};
 

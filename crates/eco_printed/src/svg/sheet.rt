@@ -1,17 +1,17 @@
 //! A sheet that is written from the top down.
 
-use crate::ink::Ink;
-use crate::marks::{push_escaped, push_mark};
+use crate::svg::ink::Ink;
+use crate::svg::marks::{push_escaped, push_mark};
 use std::alloc::{AllocError, Global};
 
-/// How wide a letter is, in pixels. Each text says its own width, so it has it whatever the font.
-pub const LETTER: u64 = 7;
+// How wide a letter is, in pixels. Each text says its own width, so it has it whatever the font.
+const LETTER: u64 = 7;
 
-/// How high a line is, in pixels.
-pub const LINE: u64 = 18;
+// How high a line is, in pixels.
+const LINE: u64 = 18;
 
-/// How wide a sheet is, in pixels, unless something is drawn further to the right. A telephone's screen shows it whole.
-pub const WIDTH: u64 = 372;
+// How wide a sheet is, in pixels, unless something is drawn further to the right. A telephone's screen shows it whole.
+const WIDTH: u64 = 372;
 
 // How far the frames are from the edges, in pixels, and how far a text from the frame round it.
 const MARGIN: u64 = 8;
@@ -36,12 +36,23 @@ text { font: 12px monospace; fill: #1c2733 }
 ";
 
 /// A picture that is being drawn. Its lines stand one below another; texts and ties may be put anywhere besides.
-#[derive(Drop)]
 pub struct Sheet {
     alloc: Global,
     body: String,
     width: u64,
     height: u64,
+}
+
+// By hand, as a pen's.
+impl Drop for Sheet {
+    fn drop(self) {
+        let Sheet {
+            alloc: _,
+            body: _,
+            width: _,
+            height: _,
+        } = self;
+    }
 }
 
 /// How wide a text is, in pixels.

@@ -1,6 +1,6 @@
 //! What is drawn between lines.
 
-use crate::sheet::Sheet;
+use crate::svg::sheet::Sheet;
 use std::alloc::AllocError;
 
 // How the marks of ties begin, by lanes: each has another colour than the one beside it.

@@ -1,9 +1,9 @@
 //! Pictures of the pairs between named entities.
 
-use crate::pen::Pen;
-use crate::plan::{HIGH, LOW, Plan, drawn_ids, named_pair, shown};
+use crate::pictures::pen::Pen;
+use crate::pictures::plan::{HIGH, LOW, Plan, drawn_ids, named_pair, shown};
+use crate::svg::{Ink, width_of};
 use eco_ids::Entity;
-use eco_svg::{Ink, width_of};
 use eco_world::World;
 use std::alloc::{AllocError, Global};
 

@@ -1,5 +1,6 @@
 //! How entities and patterns are called.
 
+use crate::named::Named;
 use eco_ids::{Entity, Part, Pattern};
 use eco_world::World;
 use std::alloc::AllocError;
@@ -10,10 +11,8 @@ pub(crate) fn push_entity(
     world: &World,
     entity: Entity,
 ) -> Result<(), AllocError> {
-    match world.name_of(entity) {
-        Some(name) => text.push_str(name),
-        None => write!(text, "{entity}"),
-    }
+    let named = Named { world, entity };
+    write!(text, "{named}")
 }
 
 // Adds how a part is written.

@@ -1,6 +1,6 @@
 //! What ships have, by Rust types.
-use crate::position::Position;
-use crate::velocity::Velocity;
+use super::position::Position;
+use super::velocity::Velocity;
 use anyhow::Result;
 use eco_ids::{Entity, Refusal};
 use eco_typed::TypedId;

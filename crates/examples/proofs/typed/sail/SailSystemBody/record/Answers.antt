@@ -2,8 +2,8 @@ use Rattle.std.proofs.Common.{[], ◌∷◌, ◌++◌, refl, sym, ap, ◌∙◌}
 use Rattle.std.proofs.lemmas.List.{append-nil}
 use Rattle.eco_ids.specs.Run.{Set}
 use Rattle.eco_typed.specs.Fields.{two}
-use Rattle.typed_example.proofs.Sailing.{if_ok, recorded_here}
-use Rattle.typed_example.proofs.sail.SailSystemBody.record.Goals as goal
+use Rattle.examples.proofs.Sailing.{if_ok, recorded_here}
+use Rattle.examples.proofs.typed.sail.SailSystemBody.record.Goals as goal
 
 pub returns-clause-ok : goal.returns-clause-ok
 returns-clause-ok g c =

@@ -1,15 +1,13 @@
 //! Typed components by example: where ships are and how they sail are Rust types with named fields. They are set and read by
 //! them, the columns of a query are looped over as their values, and a system's body reads its rows so. At last the whole world
 //! is printed.
-#![tactic(auto)]
-
 mod position;
 mod sail;
 mod ship_components;
 mod velocity;
 
-use crate::sail::Sail;
-use crate::ship_components::ShipComponents;
+use self::sail::Sail;
+use self::ship_components::ShipComponents;
 use anyhow::Result;
 use eco_frame::run_frame;
 use eco_ids::Refusal;
@@ -40,7 +38,7 @@ fn print_world<R: Print>(rt: &R, alloc: Global, world: &World) -> Result<()> {
 }
 
 // The world is passed on by reference: a function that owns it would have its end to prove at each way out.
-fn show<R: Print + Threads + Sync>(rt: &R, alloc: Global, world: &mut World) -> Result<()> {
+fn show_all<R: Print + Threads + Sync>(rt: &R, alloc: Global, world: &mut World) -> Result<()> {
     let components = ShipComponents::declare(world)?;
     let (heron, teal) = components.launch(world)?;
     components.print_place(rt, world, heron)?;
@@ -51,7 +49,8 @@ fn show<R: Print + Threads + Sync>(rt: &R, alloc: Global, world: &mut World) -> 
     print_world(rt, alloc, world)
 }
 
-fn main(rt: HostRuntime) -> Result<()> {
-    let mut world = World::new(rt.alloc(), 64)?;
-    show(&rt, rt.alloc(), &mut world)
+/// Shows typed components in a world of their own.
+pub fn show<R: Print + Threads + Sync>(rt: &R, alloc: Global) -> Result<()> {
+    let mut world = World::new(alloc, 64)?;
+    show_all(rt, alloc, &mut world)
 }

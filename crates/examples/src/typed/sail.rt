@@ -2,11 +2,11 @@
 ghost use Rattle.std.specs.Prelude.{◌≡◌, ◌∷◌, [], false, refl};
 ghost use Rattle.eco_query.specs.Queries.{exactly};
 ghost use Rattle.eco_typed.specs.Typing.{value_found_at};
-ghost use Rattle.typed_example.specs.Ships.{recorded, recorded_is_declared};
+ghost use Rattle.examples.specs.Ships.{recorded, recorded_is_declared};
 
-use crate::position::Position;
-use crate::ship_components::ShipComponents;
-use crate::velocity::Velocity;
+use super::position::Position;
+use super::ship_components::ShipComponents;
+use super::velocity::Velocity;
 use eco_frame::{BodyRow, Draws, Phase, SystemBody, Systems, record_command};
 use eco_ids::{Pattern, Refusal};
 use eco_query::exactly;

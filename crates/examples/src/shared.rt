@@ -1,7 +1,5 @@
 //! A shared world by example: a simulation merges frame after frame, while two viewers in threads of their own look on, and at the
 //! end are told of all.
-#![tactic(auto)]
-
 ghost use Rattle.std.specs.Prelude.{◌≡◌};
 
 use anyhow::Result;
@@ -95,7 +93,7 @@ fn print_told<J: Naming, R: Wait + Print + Drop>(
 }
 
 // Shares a world with two viewers, and sails.
-fn show<
+fn share<
     J: Naming + Send + 'static,
     R: Threads + Wait + Print + Copy + Drop + Send + Sync + 'static,
 >(rt: R, alloc: Global, blank: Blank) -> Result<()>
@@ -123,7 +121,11 @@ fn show<
     Ok(())
 }
 
-fn main(rt: HostRuntime) -> Result<()> {
-    // The registry gets its name here: `Brand` stands for one that this call picks (proofs/main).
-    show::<Brand, _>(rt, rt.alloc(), Blank::new())
+/// Shows a world that is shared.
+pub fn show<R: Threads + Wait + Print + Copy + Drop + Send + Sync + 'static>(
+    rt: R,
+    alloc: Global,
+) -> Result<()> {
+    // The registry gets its name here: `Brand` stands for one that this call picks (proofs/shared/show).
+    share::<Brand, R>(rt, alloc, Blank::new())
 }

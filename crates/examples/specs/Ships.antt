@@ -11,8 +11,8 @@ use Rattle.eco_systems.specs.Systems.{IsDeclared}
 use Rattle.eco_bodies.specs.Own.{is_only_written}
 use Rattle.eco_bodies.specs.Sums.{bounded_sum}
 use Rattle.eco_typed.specs.Fields.{field, two}
-use Rattle.typed_example.specs.declared.position.Position.{Position}
-use Rattle.typed_example.specs.declared.velocity.Velocity.{Velocity}
+use Rattle.examples.specs.declared.typed.position.Position.{Position}
+use Rattle.examples.specs.declared.typed.velocity.Velocity.{Velocity}
 
 -- the position of a value's fields
 abbrev pub position_of : Value → Position

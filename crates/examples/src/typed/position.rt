@@ -1,9 +1,9 @@
 //! Where a ship is.
 ghost use Rattle.std.specs.Prelude.{◌≡◌, refl};
 ghost use Rattle.eco_typed.specs.Fields.{two, two_is};
-ghost use Rattle.typed_example.specs.Ships.{position_of, sailed};
+ghost use Rattle.examples.specs.Ships.{position_of, sailed};
 
-use crate::velocity::Velocity;
+use super::velocity::Velocity;
 use eco_ids::Value;
 use eco_typed::Component;
 

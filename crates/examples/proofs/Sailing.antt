@@ -6,9 +6,9 @@ use Rattle.eco_ids.specs.declared.id.Id.{Id}
 use Rattle.eco_ids.specs.declared.value.Value.{Value}
 use Rattle.eco_ids.specs.Run.{Set}
 use Rattle.eco_typed.specs.Fields.{two}
-use Rattle.typed_example.specs.declared.position.Position.{Position}
-use Rattle.typed_example.specs.declared.velocity.Velocity.{Velocity}
-use Rattle.typed_example.specs.Ships.{position_of, recorded, sailed, velocity_of}
+use Rattle.examples.specs.declared.typed.position.Position.{Position}
+use Rattle.examples.specs.declared.typed.velocity.Velocity.{Velocity}
+use Rattle.examples.specs.Ships.{position_of, recorded, sailed, velocity_of}
 
 pub recorded_here : (i : Id) (e : Entity) (o p : Option Value) (at : Position) (by : Velocity) → option_map position_of o ≡ Some at
     → option_map velocity_of p ≡ Some by → recorded i e o p ≡ Set e i (two (sailed at by).east (sailed at by).north) ∷ []

@@ -1,7 +1,7 @@
 //! How a ship sails.
 ghost use Rattle.std.specs.Prelude.{refl};
 ghost use Rattle.eco_typed.specs.Fields.{two, two_is};
-ghost use Rattle.typed_example.specs.Ships.{velocity_of};
+ghost use Rattle.examples.specs.Ships.{velocity_of};
 
 use eco_ids::Value;
 use eco_typed::Component;

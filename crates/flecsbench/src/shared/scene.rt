@@ -1,4 +1,5 @@
 //! Worlds to share, and stages to merge into them.
+use crate::setting::LIMIT;
 use eco_ids::{Entity, Id, Refusal, Value};
 use eco_stages::{Command, Stage};
 use eco_world::World;
@@ -17,7 +18,7 @@ const COMMANDS: u32 = 100;
 
 /// A world of so many entities with a component of two fields, in two groups by a pair.
 pub fn opening(alloc: Global, count: u32) -> Result<World, Refusal> {
-    let mut world = World::new(alloc, 1_048_576)?;
+    let mut world = World::new(alloc, LIMIT)?;
     let place = world.component(Some("Place"), 2)?;
     let group = world.create(Some("Group"))?;
     let left = world.create(Some("Left"))?;

@@ -1,5 +1,5 @@
 //! Systems by example: ships sail, and each of them lowers a boat; then a body in Rust notes where they are.
-use crate::find;
+use crate::calls::find;
 use crate::wake::Wake;
 use anyhow::Result;
 use eco_frame::{Action, Phase, Script, SystemBody, Systems, run_frame};

@@ -1,6 +1,8 @@
 //! The cases of frames: systems that run on a world.
+use crate::arguments::Choice;
 use crate::failure::Failure;
 use crate::heavy::Heavy;
+use crate::per_call::tenths_for_one;
 use crate::simulation::Simulation;
 use eco_bodies::Script;
 use eco_ids::Refusal;
@@ -24,23 +26,24 @@ enum FrameStart {
     Points,
 }
 
-/// A case: its name, its size, what is there before, how many frames are measured, and how many workers record.
+/// A case: its name, its sizes, what is there before, how many frames are measured, and how many workers record. The size says how
+/// many rows are recorded, or how many systems there are.
 #[derive(Clone, Copy)]
-pub struct FrameCase(&'static str, u32, FrameStart, u32, u32);
+pub struct FrameCase(&'static str, &'static [u32], FrameStart, u32, u32);
 
 /// All cases of frames, in the order of their lines.
 pub const FRAME_CASES: &[FrameCase] = &[
-    FrameCase("frame_sum/1", 100_000, FrameStart::Sum, 1, 1),
-    FrameCase("frame_sum/2", 100_000, FrameStart::Sum, 1, 2),
-    FrameCase("frame_sum/4", 100_000, FrameStart::Sum, 1, 4),
-    FrameCase("frame_many/1", 6_500, FrameStart::Many, 100, 1),
-    FrameCase("frame_many/2", 6_500, FrameStart::Many, 100, 2),
-    FrameCase("frame_many/4", 6_500, FrameStart::Many, 100, 4),
-    FrameCase("frame_spawn", 100_000, FrameStart::Spawn, 1, 1),
-    FrameCase("frame_heavy/1", 100_000, FrameStart::Heavy, 1, 1),
-    FrameCase("frame_heavy/2", 100_000, FrameStart::Heavy, 1, 2),
-    FrameCase("frame_heavy/4", 100_000, FrameStart::Heavy, 1, 4),
-    FrameCase("sync_points_1000", 1_000, FrameStart::Points, 1, 1),
+    FrameCase("frame_sum/1", &[100_000], FrameStart::Sum, 1, 1),
+    FrameCase("frame_sum/2", &[100_000], FrameStart::Sum, 1, 2),
+    FrameCase("frame_sum/4", &[100_000], FrameStart::Sum, 1, 4),
+    FrameCase("frame_many/1", &[6_500], FrameStart::Many, 100, 1),
+    FrameCase("frame_many/2", &[6_500], FrameStart::Many, 100, 2),
+    FrameCase("frame_many/4", &[6_500], FrameStart::Many, 100, 4),
+    FrameCase("frame_spawn", &[100_000], FrameStart::Spawn, 1, 1),
+    FrameCase("frame_heavy/1", &[100_000], FrameStart::Heavy, 1, 1),
+    FrameCase("frame_heavy/2", &[100_000], FrameStart::Heavy, 1, 2),
+    FrameCase("frame_heavy/4", &[100_000], FrameStart::Heavy, 1, 4),
+    FrameCase("sync_points_1000", &[1_000], FrameStart::Points, 1, 1),
 ];
 
 // Makes what is there before the frames of scripts.
@@ -60,41 +63,61 @@ fn make(
 }
 
 impl FrameCase {
-    /// As the line of the case begins.
+    /// As its lines begin.
     pub fn name(&self) -> &'static str {
         self.0
     }
 
-    /// How many rows are recorded, or how many systems there are.
-    pub fn size(&self) -> u32 {
+    /// The sizes at which it is measured.
+    pub fn sizes(&self) -> &'static [u32] {
         self.1
     }
 
-    /// The least time of so many runs, each in a fresh world; of one run at least.
-    pub fn best_time<R: Clock + Threads + Sync>(
+    /// The least time of one call of the runs that are chosen, in tenths of a nanosecond: each run is in a fresh world, and there is
+    /// one at least. None where nothing is to be measured.
+    pub fn best_tenths<R: Clock + Threads + Sync>(
         &self,
         rt: &R,
         alloc: Global,
-        repeat: u32,
-    ) -> Result<Duration, Failure> {
-        let mut best = self.time(rt, alloc)?;
-        for _ in 1..repeat {
-            best = best.min(self.time(rt, alloc)?);
+        choice: &Choice<'_>,
+        size: u32,
+    ) -> Result<Option<u64>, Failure> {
+        if !choice.is_run {
+            return Ok(None);
         }
-        Ok(best)
+        let mut best = self.tenths(rt, alloc, size)?;
+        for _ in 1..choice.repeat {
+            best = best.min(self.tenths(rt, alloc, size)?);
+        }
+        Ok(Some(best))
     }
 
-    // How long one run took. Neither what comes before nor giving up the world and the pipeline is timed.
-    fn time<R: Clock + Threads + Sync>(&self, rt: &R, alloc: Global) -> Result<Duration, Failure> {
+    // The time of one run.
+    fn tenths<R: Clock + Threads + Sync>(
+        &self,
+        rt: &R,
+        alloc: Global,
+        size: u32,
+    ) -> Result<u64, Failure> {
+        Ok(tenths_for_one(self.time(rt, alloc, size)?, size))
+    }
+
+    // How long the frames of one run took. Neither what comes before nor giving up the world and the pipeline is timed.
+    fn time<R: Clock + Threads + Sync>(
+        &self,
+        rt: &R,
+        alloc: Global,
+        size: u32,
+    ) -> Result<Duration, Failure> {
         if matches!(self.2, FrameStart::Heavy) {
-            return self.time_heavy(rt, alloc);
+            return self.time_heavy(rt, alloc, size);
         }
         let mut simulation = Simulation::new(alloc)?;
-        make(&mut simulation, alloc, self.2, self.1)?;
+        make(&mut simulation, alloc, self.2, size)?;
         match self.2 {
             FrameStart::Points => time_points(rt, alloc, &simulation),
-            FrameStart::Spawn => { simulation.time(rt, alloc, 0, self.3, self.4, self.1 as usize) }
-            _ => simulation.time(rt, alloc, 1, self.3, self.4, self.1 as usize),
+            FrameStart::Spawn => simulation.time(rt, alloc, 0, self.3, self.4, size as usize),
+            _ => simulation.time(rt, alloc, 1, self.3, self.4, size as usize),
         }
     }
 
@@ -103,10 +126,11 @@ impl FrameCase {
         &self,
         rt: &R,
         alloc: Global,
+        size: u32,
     ) -> Result<Duration, Failure> {
         let mut simulation: Simulation<Heavy> = Simulation::new(alloc)?;
-        simulation.make_heavy(self.1)?;
-        simulation.time(rt, alloc, 1, self.3, self.4, self.1 as usize)
+        simulation.make_heavy(size)?;
+        simulation.time(rt, alloc, 1, self.3, self.4, size as usize)
     }
 }
 

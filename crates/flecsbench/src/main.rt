@@ -1,26 +1,33 @@
-//! Measures the calls of a world, each case with so many entities, and prints how long one call takes.
+//! Measures the calls of a world, frames of systems, and a shared world, each case with so many entities, and prints how long one
+//! call takes.
 #![tactic(auto)]
 
 mod arguments;
+mod call_case;
 mod calls;
-mod case;
+mod each;
 mod failure;
 mod frames;
 mod group;
 mod heavy;
+mod per_call;
 mod setting;
+mod setup;
+mod shared;
 mod simulation;
 mod start;
 mod work;
 
 use arguments::{Choice, HELP};
-use case::{CASES, Case, tenths_for_one};
+use call_case::{CALL_CASES, CallCase};
 use failure::Failure;
 use frames::{FRAME_CASES, FrameCase};
+use shared::{SHARED_CASES, SharedCase};
+use std::alloc::Global;
 use std::process::ExitCode;
 use std::rt::Clock;
+use std::sync::Wait;
 use std::thread::Threads;
-use std::time::Duration;
 use std::{env, io};
 
 // The words behind the program's name.
@@ -37,19 +44,18 @@ fn between(choice: &Choice<'_>) -> &'static str {
     if choice.is_csv { "," } else { " " }
 }
 
-// The line of a case at one size: what one call took, or where nothing is measured the size alone.
+// The line of a case at one size: what one call took, in tenths of a nanosecond, or where nothing is measured the size alone.
 fn print_line<R: Print>(
     rt: &R,
     choice: &Choice<'_>,
     name: &str,
     size: u32,
-    time: Option<Duration>,
+    tenths: Option<u64>,
 ) -> io::Result<()> {
     let between = between(choice);
-    let Some(time) = time else {
+    let Some(tenths) = tenths else {
         return println!(rt; "{name}{between}{size}");
     };
-    let tenths = tenths_for_one(time, size);
     let (whole, rest) = (tenths / 10, tenths % 10);
     println!(rt; "{name}{between}{size}{between}{whole}.{rest}")
 }
@@ -63,82 +69,89 @@ fn print_names<R: Print>(rt: &R, choice: &Choice<'_>) -> io::Result<()> {
     }
 }
 
-// The line of a case at one size.
-fn print_size<R: Print + Clock + AllocGlobal>(
+// The lines of a case of calls at each of its sizes that is chosen.
+fn print_calls<R: Print + Clock>(
     rt: &R,
+    alloc: Global,
     choice: &Choice,
-    case: &Case,
-    size: u32,
-) -> Result<(), Failure> {
-    let time = if choice.is_run {
-        Some(case.best_time(rt, rt.alloc(), size, choice.repeat)?)
-    } else {
-        None
-    };
-    Ok(print_line(rt, choice, case.name(), size, time)?)
-}
-
-// The lines of a case at each of its sizes that is chosen.
-fn print_case<R: Print + Clock + AllocGlobal>(
-    rt: &R,
-    choice: &Choice,
-    case: &Case,
+    case: &CallCase,
 ) -> Result<(), Failure> {
     for size in case.sizes() {
         if choice.takes(case.name(), *size) {
-            print_size(rt, choice, case, *size)?;
+            let tenths = case.best_tenths(rt, alloc, choice, *size)?;
+            print_line(rt, choice, case.name(), *size, tenths)?;
         }
     }
     Ok(())
 }
 
-// The line of a case of frames, if it is chosen.
-fn print_frames<R: Print + Clock + Threads + Sync + AllocGlobal>(
+// The lines of a case of frames at each of its sizes that is chosen.
+fn print_frames<R: Print + Clock + Threads + Sync>(
     rt: &R,
+    alloc: Global,
     choice: &Choice,
     case: &FrameCase,
 ) -> Result<(), Failure> {
-    if !choice.takes(case.name(), case.size()) {
-        return Ok(());
+    for size in case.sizes() {
+        if choice.takes(case.name(), *size) {
+            let tenths = case.best_tenths(rt, alloc, choice, *size)?;
+            print_line(rt, choice, case.name(), *size, tenths)?;
+        }
     }
-    let time = if choice.is_run {
-        Some(case.best_time(rt, rt.alloc(), choice.repeat)?)
-    } else {
-        None
-    };
-    Ok(print_line(rt, choice, case.name(), case.size(), time)?)
+    Ok(())
+}
+
+// The lines of a case of a shared world at each of its sizes that is chosen.
+fn print_shared<R: Print + Clock + Threads + Wait + Copy + Drop + Send + Sync + 'static>(
+    rt: R,
+    alloc: Global,
+    choice: &Choice,
+    case: &SharedCase,
+) -> Result<(), Failure> {
+    for size in case.sizes() {
+        if choice.takes(case.name(), *size) {
+            let tenths = case.best_tenths(rt, alloc, choice, *size)?;
+            print_line(&rt, choice, case.name(), *size, tenths)?;
+        }
+    }
+    Ok(())
 }
 
 // The lines of all cases that are chosen.
-fn print_cases<R: Print + Clock + Threads + Sync + AllocGlobal>(
-    rt: &R,
+fn print_all<R: Print + Clock + Threads + Wait + Copy + Drop + Send + Sync + 'static>(
+    rt: R,
+    alloc: Global,
     choice: &Choice,
 ) -> Result<(), Failure> {
-    print_names(rt, choice)?;
-    for case in CASES {
-        print_case(rt, choice, case)?;
+    print_names(&rt, choice)?;
+    for case in CALL_CASES {
+        print_calls(&rt, alloc, choice, case)?;
     }
     for case in FRAME_CASES {
-        print_frames(rt, choice, case)?;
+        print_frames(&rt, alloc, choice, case)?;
+    }
+    for case in SHARED_CASES {
+        print_shared(rt, alloc, choice, case)?;
     }
     Ok(())
 }
 
 // Does what the words ask for.
-fn answer<R: Print + Clock + Threads + Sync + AllocGlobal>(
-    rt: &R,
+fn answer<R: Print + Clock + Threads + Wait + Copy + Drop + Send + Sync + 'static>(
+    rt: R,
+    alloc: Global,
     words: &[String],
 ) -> Result<(), Failure> {
     match arguments::read(words) {
         Some(choice) if choice.wants_help => Ok(rt.print(HELP)?),
-        Some(choice) => print_cases(rt, &choice),
+        Some(choice) => print_all(rt, alloc, &choice),
         None => Err(Failure::BadArguments),
     }
 }
 
 fn main(rt: HostRuntime) -> ExitCode {
     let outcome = match words(&rt) {
-        Ok(words) => answer(&rt, words.as_slice()),
+        Ok(words) => answer(rt, rt.alloc(), words.as_slice()),
         Err(failure) => Err(Failure::from(failure)),
     };
     match outcome {

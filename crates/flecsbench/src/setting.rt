@@ -1,13 +1,19 @@
 //! The worlds that cases are about.
 use crate::calls::Calls;
+use crate::each::{
+    add_each, count_each, create_each, create_named_each, delete_each, record_each, record_life,
+    remove_each, set_each, sum_each, sum_first, sum_tables, toggle_each,
+};
 use crate::group::{Group, Ids};
-use crate::start::Pick;
+use crate::setup::Pick;
 use crate::work::Work;
-use eco_bodies::record_command;
-use eco_ids::{Entity, Id, Refusal, Value};
-use eco_world::{Command, Query, QueryId, Results, Stage, Values, World};
+use eco_ids::{Edition, Id, Refusal, Value};
+use eco_world::{Query, QueryId, Results, Stage, World};
 use std::alloc::Global;
 use std::collections::HashMap;
+
+/// All indices of a world lie below it.
+pub const LIMIT: u32 = 1_048_576;
 
 /// A world, and the entities and ids that a case is about, in the order of its calls, or the query that it asks.
 pub struct Setting {
@@ -54,40 +60,10 @@ impl Drop for Setting {
     }
 }
 
-// The sum of the first fields.
-fn sum_first(rows: &[[i64; 2]]) -> i64 {
-    let mut sum: i64 = 0;
-    for row in rows {
-        sum = sum.wrapping_add(row[0]);
-    }
-    sum
-}
-
-// A fresh entity lives, gets the tag and a value of the component, and dies.
-fn record_life(stage: &mut Stage, entity: Entity, tag: Id, component: Id) -> Result<(), Refusal> {
-    let value = Value::of([1, 2]);
-    record_command(stage, Command::Create(entity))?;
-    record_command(stage, Command::Add(entity, tag))?;
-    record_command(stage, Command::Set(entity, component, value))?;
-    record_command(stage, Command::Delete(entity))
-}
-
-// What is recorded of an entity and an id: an add where there is no value.
-fn command_of(entity: Entity, id: Id, value: Option<Value>) -> Command {
-    match value {
-        Some(value) => Command::Set(entity, id, value),
-        None => Command::Add(entity, id),
-    }
-}
-
-// The stage adds each id to its entity, or sets it to the value.
-fn record_all(stage: &mut Stage, work: &Work, value: Option<Value>) -> Result<(), Refusal> {
-    for (turn, entity) in work.entities().iter().enumerate() {
-        if let Some(id) = work.id(turn) {
-            record_command(stage, command_of(*entity, id, value))?;
-        }
-    }
-    Ok(())
+// That calls found what was put in, where all of them were done.
+fn is_done(done: Result<(), Refusal>) -> Result<bool, Refusal> {
+    done?;
+    Ok(true)
 }
 
 impl Setting {
@@ -110,32 +86,37 @@ impl Setting {
         }
     }
 
+    /// Begins with a world of the second edition in place of the one that is there.
+    pub fn begin_second_edition(&mut self) -> Result<(), Refusal> {
+        self.world = World::of_edition(self.alloc, Edition::Second, LIMIT)?;
+        Ok(())
+    }
+
     /// Makes the calls, and answers whether they found what was put in.
     pub fn call(&mut self, calls: Calls, size: u32) -> Result<bool, Refusal> {
         match calls {
-            Calls::InsertNumbers => return self.insert_numbers(size),
-            Calls::Get => return Ok(self.sum() == i64::from(size)),
-            Calls::SumSlice => return Ok(sum_first(&self.rows) == i64::from(size)),
-            Calls::SumColumns => return Ok(self.sum_columns()? == i64::from(size)),
-            Calls::Merge => return Ok(self.merge()? == size as usize),
-            Calls::Results => return Ok(self.find()? == size as usize),
-            Calls::ManyResults => return Ok(self.find()? >= size as usize),
-            Calls::Cached => return Ok(self.find_kept()? == size as usize),
-            Calls::NoResults => return Ok(self.find_often(size)? == 0),
-            Calls::Rows => return Ok(self.count_rows()? == size as usize),
-            Calls::ReadEach => return Ok(self.count_by_texts()? == size as usize),
-            Calls::Copy => return Ok(self.copy()? == self.world.high()),
-            Calls::Create => self.create(size)?,
-            Calls::CreateNamed => self.create_named()?,
-            Calls::Add => self.add()?,
-            Calls::Remove => self.remove()?,
-            Calls::Toggle => self.toggle(size / 2)?,
-            Calls::Set => self.set(Value::of([5, 6]))?,
-            Calls::RemoveAll => self.remove_from_all()?,
-            Calls::Delete => self.delete()?,
-            Calls::DeleteWith => self.delete_with()?,
+            Calls::InsertNumbers => self.insert_numbers(size),
+            Calls::Create => is_done(create_each(&mut self.world, size)),
+            Calls::CreateNamed => is_done(create_named_each(&mut self.world, &self.names)),
+            Calls::Add => is_done(self.add()),
+            Calls::Remove => is_done(remove_each(&mut self.world, &self.work)),
+            Calls::Toggle => is_done(toggle_each(&mut self.world, &self.work, size / 2)),
+            Calls::Set => is_done(self.set(Value::of([5, 6]))),
+            Calls::Get => Ok(sum_each(&self.world, &self.work) == i64::from(size)),
+            Calls::SumSlice => Ok(sum_first(&self.rows) == i64::from(size)),
+            Calls::SumColumns => self.sum_columns(size),
+            Calls::RemoveAll => is_done(self.remove_from_all()),
+            Calls::Delete => is_done(self.delete()),
+            Calls::DeleteWith => is_done(self.delete_with()),
+            Calls::Merge => self.merge(size),
+            Calls::Results => self.find(size, size),
+            Calls::ManyResults => self.find(size, u32::MAX),
+            Calls::Cached => self.find_kept(size),
+            Calls::NoResults => self.find_often(size),
+            Calls::Rows => self.count_rows(size),
+            Calls::ReadEach => self.count_by_texts(size),
+            Calls::Copy => self.copy(),
         }
-        Ok(true)
     }
 
     /// Gives up the results that were found.
@@ -154,7 +135,7 @@ impl Setting {
     /// Makes so many entities, which are a group.
     pub fn make(&mut self, count: u32) -> Result<(), Refusal> {
         let first = self.world.high();
-        self.create(count)?;
+        create_each(&mut self.world, count)?;
         self.groups.push(Group::new(first, count))?;
         Ok(())
     }
@@ -234,27 +215,17 @@ impl Setting {
 
     /// Adds each id to its entity.
     pub fn add(&mut self) -> Result<(), Refusal> {
-        for (turn, entity) in self.work.entities().iter().enumerate() {
-            if let Some(id) = self.work.id(turn) {
-                self.world.add(*entity, id)?;
-            }
-        }
-        Ok(())
+        add_each(&mut self.world, &self.work)
     }
 
     /// Sets each id of its entity to the value.
     pub fn set(&mut self, value: Value) -> Result<(), Refusal> {
-        for (turn, entity) in self.work.entities().iter().enumerate() {
-            if let Some(id) = self.work.id(turn) {
-                self.world.set(*entity, id, value)?;
-            }
-        }
-        Ok(())
+        set_each(&mut self.world, &self.work, value)
     }
 
     /// Records that each id is added to its entity, or set to the value.
     pub fn record(&mut self, value: Option<Value>) -> Result<(), Refusal> {
-        record_all(&mut self.stages[0], &self.work, value)
+        record_each(&mut self.stages[0], &self.work, value)
     }
 
     /// Records that so many fresh entities live, get the tag and the value, and die.
@@ -274,43 +245,15 @@ impl Setting {
         Ok(())
     }
 
-    // Merges the stage, and answers how many commands ran.
-    fn merge(&mut self) -> Result<usize, Refusal> {
-        Ok(self.world.merge(self.admitted, &self.stages)?.len())
+    // Merges the stage, and answers whether so many commands ran.
+    fn merge(&mut self, count: u32) -> Result<bool, Refusal> {
+        let report = self.world.merge(self.admitted, &self.stages)?;
+        Ok(report.len() == count as usize)
     }
 
     /// Deletes each entity.
     pub fn delete(&mut self) -> Result<(), Refusal> {
-        for entity in self.work.entities() {
-            self.world.delete(*entity)?;
-        }
-        Ok(())
-    }
-
-    // Makes so many entities, which no call need be about.
-    fn create(&mut self, count: u32) -> Result<(), Refusal> {
-        for _ in 0..count {
-            self.world.create(None)?;
-        }
-        Ok(())
-    }
-
-    // Makes an entity of each of the names.
-    fn create_named(&mut self) -> Result<(), Refusal> {
-        for name in &self.names {
-            self.world.create(Some(name.as_str()))?;
-        }
-        Ok(())
-    }
-
-    // Removes each id from its entity.
-    fn remove(&mut self) -> Result<(), Refusal> {
-        for (turn, entity) in self.work.entities().iter().enumerate() {
-            if let Some(id) = self.work.id(turn) {
-                self.world.remove(*entity, id)?;
-            }
-        }
-        Ok(())
+        delete_each(&mut self.world, &self.work)
     }
 
     // Removes the first id from all entities by one call.
@@ -329,115 +272,70 @@ impl Setting {
         }
     }
 
-    // Adds the ids to their entities and removes them, so many times.
-    fn toggle(&mut self, times: u32) -> Result<(), Refusal> {
-        for _ in 0..times {
-            self.add()?;
-            self.remove()?;
+    // Whether the first fields of the first id's values, of all tables of the query, have this sum.
+    fn sum_columns(&self, sum: u32) -> Result<bool, Refusal> {
+        match (&self.query, self.work.id(0)) {
+            (Some(query), Some(id)) => Ok(sum_tables(&self.world, query, id)? == i64::from(sum)),
+            _ => Ok(false),
         }
-        Ok(())
-    }
-
-    // The sum of the first fields of the first id's values, entity by entity.
-    fn sum(&self) -> i64 {
-        let Some(id) = self.work.id(0) else {
-            return 0;
-        };
-        let mut sum: i64 = 0;
-        for entity in self.work.entities() {
-            if let Some(value) = self.world.get(*entity, id) {
-                sum = sum.wrapping_add(value.0[0]);
-            }
-        }
-        sum
-    }
-
-    // The sum of the first fields of the first id's values, of all tables of the query.
-    fn sum_columns(&self) -> Result<i64, Refusal> {
-        let Some(query) = &self.query else {
-            return Ok(0);
-        };
-        let Some(id) = self.work.id(0) else {
-            return Ok(0);
-        };
-        let mut sum: i64 = 0;
-        for table in &self.world.tables_of(query)? {
-            if let Some(Values::Two(rows)) = table.values(id) {
-                sum = sum.wrapping_add(sum_first(rows));
-            }
-        }
-        Ok(sum)
     }
 
     /// Reads all values of the query's tables once.
     pub fn read_columns(&self) -> Result<(), Refusal> {
-        let _sum = self.sum_columns()?;
+        let _is_right = self.sum_columns(0)?;
         Ok(())
     }
 
-    // How many results the query has, which are all made.
-    fn find(&mut self) -> Result<usize, Refusal> {
+    // Whether the query has so many results, from the least number to the greatest. They are all made.
+    fn find(&mut self, least: u32, most: u32) -> Result<bool, Refusal> {
         let Some(query) = &self.query else {
-            return Ok(0);
+            return Ok(false);
         };
         let results = self.world.results(query)?;
         let count = results.len();
         self.results = Some(results);
-        Ok(count)
+        Ok(least as usize <= count && count <= most as usize)
     }
 
-    // How many results the query that was added has, which are all made.
-    fn find_kept(&mut self) -> Result<usize, Refusal> {
+    // Whether the query that was added has so many results, which are all made.
+    fn find_kept(&mut self, count: u32) -> Result<bool, Refusal> {
         let Some(query) = self.kept else {
-            return Ok(0);
+            return Ok(false);
         };
         let results = self.world.answer_results(query)?;
-        let count = results.len();
+        let found = results.len();
         self.results = Some(results);
-        Ok(count)
+        Ok(found == count as usize)
     }
 
-    // How many results the query has together, each time it is asked.
-    fn find_often(&mut self, times: u32) -> Result<usize, Refusal> {
-        let mut found = 0usize;
+    // Whether the query has no result, each time it is asked.
+    fn find_often(&mut self, times: u32) -> Result<bool, Refusal> {
+        let mut is_right = true;
         for _ in 0..times {
-            found = found.saturating_add(self.find()?);
+            is_right = self.find(0, 0)? && is_right;
         }
-        Ok(found)
+        Ok(is_right)
     }
 
-    // How many rows the query has.
-    fn count_rows(&self) -> Result<usize, Refusal> {
+    // Whether the query has so many rows.
+    fn count_rows(&self, count: u32) -> Result<bool, Refusal> {
         match &self.query {
-            Some(query) => Ok(self.world.query(query)?.len()),
-            None => Ok(0),
+            Some(query) => Ok(self.world.query(query)?.len() == count as usize),
+            None => Ok(false),
         }
     }
 
-    // How many entities have the id, by a query that is read first.
-    fn count(&self, id: Id) -> Result<usize, Refusal> {
-        let text = format!(in self.alloc; "{id}")?;
-        let query = self.world.read_query(text.as_str())?;
-        Ok(self.world.results(&query)?.len())
+    // Whether queries for each of the ids have so many results together.
+    fn count_by_texts(&self, count: u32) -> Result<bool, Refusal> {
+        Ok(count_each(&self.world, self.alloc, &self.work)? == count as usize)
     }
 
-    // How many results queries for each of the ids have together.
-    fn count_by_texts(&self) -> Result<usize, Refusal> {
-        let mut found = 0usize;
-        for turn in 0..self.work.entities().len() {
-            if let Some(id) = self.work.id(turn) {
-                found = found.saturating_add(self.count(id)?);
-            }
-        }
-        Ok(found)
-    }
-
-    // Copies the world, and answers how many indices the copy knows.
-    fn copy(&mut self) -> Result<u32, Refusal> {
+    // Copies the world, and answers whether the copy knows as many indices.
+    fn copy(&mut self) -> Result<bool, Refusal> {
         let copy = self.world.try_copy()?;
-        let known = copy.high();
+        let is_right = copy.high() == self.world.high();
         self.copy = Some(copy);
-        Ok(known)
+        Ok(is_right)
     }
 
     // Inserts so many numbers into a map, and answers whether all of them are in it.

@@ -4,6 +4,7 @@ ghost use Rattle.std.specs.Prelude.{◌≤◌};
 use crate::failure::Failure;
 use crate::group::Group;
 use crate::heavy::Heavy;
+use crate::setting::LIMIT;
 use eco_bodies::{Action, Script, SystemBody, Systems};
 use eco_frame::{Pipeline, sync_points};
 use eco_ids::{Entity, Id, Refusal, Value};
@@ -13,9 +14,6 @@ use std::alloc::{AllocError, Global};
 use std::rt::Clock;
 use std::thread::Threads;
 use std::time::{Duration, Instant};
-
-// All indices of a world lie below it.
-const LIMIT: u32 = 1_048_576;
 
 // How many terms the query of a system has in the case of sync points.
 const TERMS: u32 = 10;

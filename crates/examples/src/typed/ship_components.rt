@@ -1,0 +1,89 @@
+//! What ships have, by Rust types.
+use super::position::Position;
+use super::velocity::Velocity;
+use anyhow::Result;
+use eco_ids::{Entity, Refusal};
+use eco_typed::TypedId;
+use eco_world::{TableRows, World};
+use std::io;
+
+/// The components of ships. No call says how many fields they have.
+#[derive(Clone, Copy)]
+pub struct ShipComponents {
+    pub position: TypedId<Position>,
+    pub velocity: TypedId<Velocity>,
+}
+
+impl ShipComponents {
+    /// Makes the components.
+    pub fn declare(world: &mut World) -> Result<ShipComponents, Refusal> {
+        Ok(ShipComponents {
+            position: TypedId::create(world, Some("Position"))?,
+            velocity: TypedId::create(world, Some("Velocity"))?,
+        })
+    }
+
+    // Makes a ship that is at sea.
+    fn make(
+        self,
+        world: &mut World,
+        name: &str,
+        at: Position,
+        by: Velocity,
+    ) -> Result<Entity, Refusal> {
+        let ship = world.create(Some(name))?;
+        self.position.set(world, ship, &at)?;
+        self.velocity.set(world, ship, &by)?;
+        Ok(ship)
+    }
+
+    /// Makes two ships, Heron and Teal.
+    pub fn launch(self, world: &mut World) -> Result<(Entity, Entity), Refusal> {
+        let (at, by) = (
+            Position { east: 3, north: -4 },
+            Velocity { east: 1, north: 2 },
+        );
+        let heron = self.make(world, "Heron", at, by)?;
+        let (at, by) = (
+            Position { east: 5, north: 6 },
+            Velocity { east: -2, north: 0 },
+        );
+        let teal = self.make(world, "Teal", at, by)?;
+        Ok((heron, teal))
+    }
+
+    // The ships of a table: the columns side by side are rows of an entity, a position and a velocity.
+    fn print_table<R: Print>(self, rt: &R, world: &World, table: &TableRows<'_>) -> io::Result<()> {
+        let (Some(positions), Some(velocities)) = (
+            self.position.column(table),
+            self.velocity.column(table),
+        ) else {
+            return Ok(());
+        };
+        for ((ship, at), by) in table.entities.iter().zip(positions).zip(velocities) {
+            let name = world.name_of(*ship).unwrap_or("-");
+            let later = at.sailed(by);
+            let (east, north) = (later.east, later.north);
+            println!(rt; "{name} will be at {east} {north}")?;
+        }
+        Ok(())
+    }
+
+    /// Says of all ships where they will be, table by table.
+    pub fn print_courses<R: Print>(self, rt: &R, world: &World) -> Result<()> {
+        let query = world.read_query("Position, Velocity")?;
+        for table in &world.tables_of(&query)? {
+            self.print_table(rt, world, table)?;
+        }
+        Ok(())
+    }
+
+    /// Says where one entity is.
+    pub fn print_place<R: Print>(self, rt: &R, world: &World, ship: Entity) -> io::Result<()> {
+        if let Some(Position { east, north }) = self.position.get(world, ship) {
+            let name = world.name_of(ship).unwrap_or("-");
+            println!(rt; "{name} is at {east} {north}")?;
+        }
+        Ok(())
+    }
+}

@@ -6,8 +6,6 @@ mod answers;
 #[cfg(test)]
 mod bodies;
 #[cfg(test)]
-mod chains;
-#[cfg(test)]
 mod copying;
 #[cfg(test)]
 mod draws;
@@ -20,11 +18,7 @@ mod frame_runs;
 #[cfg(test)]
 mod frames;
 #[cfg(test)]
-mod generations;
-#[cfg(test)]
 mod handles;
-#[cfg(test)]
-mod hostile;
 #[cfg(test)]
 mod layout;
 #[cfg(test)]
@@ -55,7 +49,5 @@ mod steps;
 mod store;
 #[cfg(test)]
 mod sweeps;
-#[cfg(test)]
-mod symmetric;
 #[cfg(test)]
 mod twins;

@@ -1,14 +1,20 @@
-//! Tests of a store and of a world: long runs, and each call that may want memory, where there is enough of it.
+//! Tests of a store and of a world, of frames, of typed components and of the shared world: long runs, threads, and each call that
+//! may want memory, where there is enough of it.
 #![tactic(auto)]
 
 #[cfg(test)]
 mod answers;
 #[cfg(test)]
 mod bodies;
+pub mod bounds;
+#[cfg(test)]
+mod called;
 #[cfg(test)]
 mod copying;
 #[cfg(test)]
 mod draws;
+#[cfg(test)]
+mod entering;
 #[cfg(test)]
 mod filter;
 #[cfg(test)]
@@ -28,6 +34,8 @@ mod long_frames;
 #[cfg(test)]
 mod long_run;
 #[cfg(test)]
+mod looking;
+#[cfg(test)]
 mod mirror_deeds;
 #[cfg(test)]
 mod mirror_frames;
@@ -44,10 +52,14 @@ mod questions;
 #[cfg(test)]
 mod rounds;
 #[cfg(test)]
+mod ships;
+#[cfg(test)]
 mod steps;
 #[cfg(test)]
 mod store;
 #[cfg(test)]
 mod sweeps;
+#[cfg(test)]
+mod telling;
 #[cfg(test)]
 mod twins;

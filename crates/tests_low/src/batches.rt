@@ -11,6 +11,17 @@ use std::alloc::Global;
 use std::sync::atomic::{AtomicU64, Ordering};
 use std::thread::Threads;
 
+// Makes an entity of a fresh handle.
+fn make_one(made: Entity, stage: &mut Stage) -> Result<(), Refusal>
+    ensures ok { OnOk result (stage.new ≡ stage.old ++ Create made ∷ []) }
+    ensures err { IfErr result (λ why. why ≡ OutOfMemory) }
+{
+    match stage.record(Command::Create(made)) {
+        Ok(()) => Ok(()),
+        Err(_) => Err(Refusal::OutOfMemory),
+    }
+}
+
 // Makes one entity.
 #[derive(Clone, Copy, Drop)]
 struct Made;
@@ -22,10 +33,7 @@ impl Piece for Made {
 
     fn record<D: Draws>(&self, draws: &mut D, stage: &mut Stage) -> Result<(), Refusal> {
         let made = draws.draw()?;
-        match stage.record(Command::Create(made)) {
-            Ok(()) => Ok(()),
-            Err(_) => Err(Refusal::OutOfMemory),
-        }
+        make_one(made, stage)
     }
 }
 
@@ -128,17 +136,6 @@ impl Twice<'_> {
             }
         }
         self.missed.store(1, Ordering::SeqCst);
-    }
-}
-
-// Makes an entity of a fresh handle.
-fn make_one(made: Entity, stage: &mut Stage) -> Result<(), Refusal>
-    ensures ok { OnOk result (stage.new ≡ stage.old ++ Create made ∷ []) }
-    ensures err { IfErr result (λ why. why ≡ OutOfMemory) }
-{
-    match stage.record(Command::Create(made)) {
-        Ok(()) => Ok(()),
-        Err(_) => Err(Refusal::OutOfMemory),
     }
 }
 

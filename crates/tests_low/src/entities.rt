@@ -57,14 +57,29 @@ fn a_copy_goes_its_own_way(rt: HostRuntime) {
 
 // Whether the entities made next are those of one generation at these indices.
 fn come_next(index: &mut EntityIndex, indices: &[u32], generation: u16) -> bool {
-    indices.iter().all(|expected| next(index, None) == Some(at(*expected, generation)))
+    for expected in indices {
+        if next(index, None) != Some(at(*expected, generation)) {
+            return false;
+        }
+    }
+    true
+}
+
+// Whether the entities made next are those at the first indices.
+fn come_in_order(index: &mut EntityIndex, count: u32) -> bool {
+    for expected in 0..count {
+        if next(index, None) != Some(at(expected, 0)) {
+            return false;
+        }
+    }
+    true
 }
 
 // Whether the lowest of many free indices is used first.
 fn lowest_comes_first(alloc: Global) -> bool {
     let mut index = EntityIndex::new(alloc, 5000);
     let is_admitted = index.admit(4096).is_ok();
-    let are_made = (0..5000).all(|expected| come_next(&mut index, &[expected], 0));
+    let are_made = come_in_order(&mut index, 5000);
     for killed in [4999, 4096, 63, 4095] {
         kill(&mut index, at(killed, 0));
     }

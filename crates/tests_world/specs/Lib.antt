@@ -1,1 +1,2 @@
+pub mod Ships
 pub mod Twins

@@ -1,52 +1,64 @@
 //! What queries answer, held against what a plain filter finds.
 use crate::filter::{count_choices, is_choice};
+use eco_ids::{Entity, Id};
 use eco_query::Term;
 use eco_world::{Query, QueryId, Results, Row, TableRows, World};
 
-// How many choices all who live have.
-fn count_all(world: &World, terms: &[Term]) -> Option<usize> {
-    let living = world.living().ok()?;
-    Some(
-        living.iter().fold(0usize, |count, entity| {
-            count.saturating_add(count_choices(world, *entity, terms))
-        }),
-    )
+// How many choices these have.
+fn count_of(world: &World, living: &[Entity], terms: &[Term]) -> usize {
+    let mut count = 0usize;
+    for entity in living {
+        count = count.saturating_add(count_choices(world, *entity, terms));
+    }
+    count
+}
+
+// Whether all who live have so many choices.
+fn have_choices(world: &World, terms: &[Term], count: usize) -> bool {
+    match world.living() {
+        Ok(living) => count_of(world, &living, terms) == count,
+        Err(_) => false,
+    }
+}
+
+// Whether a result comes behind the last one, if there is one.
+fn is_next(last: Option<(Entity, &[Option<Id>])>, next: (Entity, &[Option<Id>])) -> bool {
+    match last {
+        Some(last) => last < next,
+        None => true,
+    }
+}
+
+// Whether a result is a choice of a living entity.
+fn is_one(world: &World, terms: &[Term], (entity, entries): (Entity, &[Option<Id>])) -> bool {
+    world.is_alive(entity) && is_choice(world, entity, terms, entries)
 }
 
 // Whether the results are choices, each of a living entity, and ascend.
 fn are_choices(world: &World, terms: &[Term], results: &Results) -> bool {
     let mut last = None;
-    for (entity, entries) in results.iter() {
-        let is_next = last.is_none_or(|last| last < (entity, entries));
-        if !is_next || !world.is_alive(entity) || !is_choice(world, entity, terms, entries) {
+    for result in results.iter() {
+        if !is_next(last, result) || !is_one(world, terms, result) {
             return false;
         }
-        last = Some((entity, entries));
+        last = Some(result);
     }
     true
 }
 
 // Whether the rows are the results, one after the other.
 fn are_rows(results: &Results, rows: &[Row]) -> bool {
+    for ((entity, entries), row) in results.iter().zip(rows) {
+        if !entity.is(row.entity) || entries != row.entries.as_slice() {
+            return false;
+        }
+    }
     rows.len() == results.len()
-        && results.iter().zip(rows).all(|((entity, entries), row)| entity.is(row.entity)
-            && entries == row.entries.as_slice())
 }
 
-// How many results there are, if they are all choices, each once, and the rows are the results.
-fn count_right(
-    world: &World,
-    terms: &[Term],
-    results: Option<Results>,
-    rows: Option<Vec<Row>>,
-) -> Option<usize> {
-    let (Some(results), Some(rows)) = (results, rows) else {
-        return None;
-    };
-    let is_right = count_all(world, terms) == Some(results.len())
-        && are_choices(world, terms, &results)
-        && are_rows(&results, &rows);
-    is_right.then_some(results.len())
+// Whether the results are all choices, each once.
+fn are_all(world: &World, terms: &[Term], results: &Results) -> bool {
+    have_choices(world, terms, results.len()) && are_choices(world, terms, results)
 }
 
 // Whether there is a choice for each term on those who stand in the table.
@@ -70,37 +82,79 @@ fn are_chosen(
     tables: &[TableRows<'_>],
 ) -> bool {
     let mut rest = tables;
-    for table in listed.iter().filter(|table| is_chosen(world, terms, table)) {
-        match rest {
-            [first, others @ ..] if is_same(first, table) => rest = others,
-            _ => return false,
+    for table in listed {
+        if is_chosen(world, terms, table) {
+            match rest {
+                [first, others @ ..] if is_same(first, table) => rest = others,
+                _ => return false,
+            }
         }
     }
     rest.is_empty()
 }
 
-// Whether they are.
-fn are_tables(world: &World, terms: &[Term], tables: Option<Vec<TableRows<'_>>>) -> bool {
-    match (world.tables(), tables) {
-        (Ok(listed), Some(tables)) => are_chosen(world, terms, &listed, &tables),
-        _ => false,
+// Whether they are those of the world that have choices.
+fn are_tables(world: &World, terms: &[Term], tables: &[TableRows<'_>]) -> bool {
+    match world.tables() {
+        Ok(listed) => are_chosen(world, terms, &listed, tables),
+        Err(_) => false,
+    }
+}
+
+// Whether the rows of a query are the results.
+fn has_rows(world: &World, query: &Query, results: &Results) -> bool {
+    match world.query(query) {
+        Ok(rows) => are_rows(results, &rows),
+        Err(_) => false,
+    }
+}
+
+// Whether the tables of a query are those that have choices.
+fn has_tables(world: &World, terms: &[Term], query: &Query) -> bool {
+    match world.tables_of(query) {
+        Ok(tables) => are_tables(world, terms, &tables),
+        Err(_) => false,
     }
 }
 
 /// How many results the query of the terms has, if they, the rows and the tables are what the filter finds.
 pub fn count_asked(world: &World, terms: &[Term], query: &Query) -> Option<usize> {
-    let count = count_right(
-        world,
-        terms,
-        world.results(query).ok(),
-        world.query(query).ok(),
-    );
-    count.filter(|_| are_tables(world, terms, world.tables_of(query).ok()))
+    match world.results(query) {
+        Ok(results) => {
+            let is_right = are_all(world, terms, &results)
+                && has_rows(world, query, &results)
+                && has_tables(world, terms, query);
+            is_right.then_some(results.len())
+        }
+        Err(_) => None,
+    }
+}
+
+// Whether the rows of a query that the world keeps are the results.
+fn keeps_rows(world: &World, number: QueryId, results: &Results) -> bool {
+    match world.answer(number) {
+        Ok(rows) => are_rows(results, &rows),
+        Err(_) => false,
+    }
+}
+
+// Whether the tables of a query that the world keeps are those that have choices.
+fn keeps_tables(world: &World, terms: &[Term], number: QueryId) -> bool {
+    match world.tables_of_query(number) {
+        Ok(tables) => are_tables(world, terms, &tables),
+        Err(_) => false,
+    }
 }
 
 /// The same of a query that the world keeps.
 pub fn count_kept(world: &World, terms: &[Term], number: QueryId) -> Option<usize> {
-    let results = world.answer_results(number).ok();
-    let count = count_right(world, terms, results, world.answer(number).ok());
-    count.filter(|_| are_tables(world, terms, world.tables_of_query(number).ok()))
+    match world.answer_results(number) {
+        Ok(results) => {
+            let is_right = are_all(world, terms, &results)
+                && keeps_rows(world, number, &results)
+                && keeps_tables(world, terms, number);
+            is_right.then_some(results.len())
+        }
+        Err(_) => None,
+    }
 }

@@ -27,8 +27,7 @@ impl Draws for Dry {
 }
 
 // A script that adds one value to another, and then makes an entity.
-fn script(alloc: Global) -> Result<Script, Refusal> {
-    let world = World::new(alloc, 9)?;
+fn script(alloc: Global, world: &World) -> Result<Script, Refusal> {
     let query = world.read_query("[inout] #9.0, [in] #10.0")?;
     let actions = [Action::Sum { into: 0, from: 1 }, Action::Spawn(None)];
     Script::new(alloc, &query, Vec::from_slice(alloc, &actions)?)
@@ -54,15 +53,28 @@ fn has_set(stage: &Stage) -> bool {
 }
 
 // Whether the set is recorded before the draw is refused.
-fn stops(alloc: Global) -> bool {
+fn stops(alloc: Global, script: &Script) -> bool {
     let mut stage = Stage::new(alloc);
-    match script(alloc) {
-        Ok(script) => record(&script, &mut stage) == Err(Refusal::NoMoreIds) && has_set(&stage),
+    record(script, &mut stage) == Err(Refusal::NoMoreIds) && has_set(&stage)
+}
+
+// Whether it is so of the script.
+fn script_stops(alloc: Global, world: &World) -> bool {
+    match script(alloc, world) {
+        Ok(script) => stops(alloc, &script),
+        Err(_) => false,
+    }
+}
+
+// Whether it is so of one whose query is read in a new world.
+fn is_stopped(alloc: Global) -> bool {
+    match World::new(alloc, 9) {
+        Ok(world) => script_stops(alloc, &world),
         Err(_) => false,
     }
 }
 
 #[test]
 fn a_refused_draw_stops_a_body(rt: HostRuntime) {
-    assert!(rt; stops(rt.alloc()));
+    assert!(rt; is_stopped(rt.alloc()));
 }

@@ -42,18 +42,39 @@ fn filled_part(part: Part, entity: Entity) -> Part {
     }
 }
 
-// Whether the id is the least of those that match with its filling.
-fn is_least(pattern: Pattern, ids: &[Id], id: Id) -> bool {
-    let alike = filled(pattern, id);
-    is_match(pattern, id)
-        && !ids
-            .iter()
-            .any(|other| *other < id && is_match(alike, *other))
+// Whether one of the ids matches.
+fn is_any_match(pattern: Pattern, ids: &[Id]) -> bool {
+    for id in ids {
+        if is_match(pattern, *id) {
+            return true;
+        }
+    }
+    false
 }
 
-// The first of the ids that the entity has.
-fn first_had(world: &World, entity: Entity, ids: &[Id]) -> Option<Id> {
-    ids.iter().copied().find(|id| world.has(entity, *id))
+// Whether one of the ids matches and is less than this one.
+fn is_less_match(pattern: Pattern, ids: &[Id], id: Id) -> bool {
+    for other in ids {
+        if *other < id && is_match(pattern, *other) {
+            return true;
+        }
+    }
+    false
+}
+
+// Whether the id is the least of those that match with its filling.
+fn is_least(pattern: Pattern, ids: &[Id], id: Id) -> bool {
+    is_match(pattern, id) && !is_less_match(filled(pattern, id), ids, id)
+}
+
+// Whether the id, which the entity has, is the first of these that it has.
+fn is_first_had(world: &World, entity: Entity, ids: &[Id], id: Id) -> bool {
+    for own in ids {
+        if world.has(entity, *own) {
+            return own.is(id);
+        }
+    }
+    false
 }
 
 // Whether the id, which the entity has, is an entry of the term.
@@ -62,9 +83,7 @@ fn is_found(world: &World, entity: Entity, term: &Term, id: Id) -> bool {
         Term::And(pattern) => is_least(*pattern, world.ids_of(entity), id),
         Term::Not(_) => false,
         Term::Optional(own) => own.is(id),
-        Term::Or(alternatives) => {
-            first_had(world, entity, alternatives).is_some_and(|own| own.is(id))
-        }
+        Term::Or(alternatives) => is_first_had(world, entity, alternatives, id),
     }
 }
 
@@ -72,22 +91,20 @@ fn is_found(world: &World, entity: Entity, term: &Term, id: Id) -> bool {
 fn is_without(world: &World, entity: Entity, term: &Term) -> bool {
     match term {
         Term::And(_) | Term::Or(_) => false,
-        Term::Not(pattern) => !world
-            .ids_of(entity)
-            .iter()
-            .any(|id| is_match(*pattern, *id)),
+        Term::Not(pattern) => !is_any_match(*pattern, world.ids_of(entity)),
         Term::Optional(id) => !world.has(entity, *id),
     }
 }
 
 // How many entries the term has on the entity.
 fn count_entries(world: &World, entity: Entity, term: &Term) -> usize {
-    let ids = world.ids_of(entity);
-    let found = ids
-        .iter()
-        .filter(|id| is_found(world, entity, term, **id))
-        .count();
-    found.saturating_add(usize::from(is_without(world, entity, term)))
+    let mut count = usize::from(is_without(world, entity, term));
+    for id in world.ids_of(entity) {
+        if is_found(world, entity, term, *id) {
+            count = count.saturating_add(1);
+        }
+    }
+    count
 }
 
 // Whether the entry is one of those.
@@ -100,16 +117,19 @@ fn fits(world: &World, entity: Entity, term: &Term, entry: Option<Id>) -> bool {
 
 /// How many results the entity is: so many as there are choices of an entry for each term.
 pub fn count_choices(world: &World, entity: Entity, terms: &[Term]) -> usize {
-    terms.iter().fold(1usize, |count, term| {
-        count.saturating_mul(count_entries(world, entity, term))
-    })
+    let mut count = 1usize;
+    for term in terms {
+        count = count.saturating_mul(count_entries(world, entity, term));
+    }
+    count
 }
 
 /// Whether the entries are such a choice.
 pub fn is_choice(world: &World, entity: Entity, terms: &[Term], entries: &[Option<Id>]) -> bool {
+    for (term, entry) in terms.iter().zip(entries) {
+        if !fits(world, entity, term, *entry) {
+            return false;
+        }
+    }
     terms.len() == entries.len()
-        && terms
-            .iter()
-            .zip(entries)
-            .all(|(term, entry)| fits(world, entity, term, *entry))
 }

@@ -2,11 +2,10 @@
 ghost use Rattle.std.specs.Prelude.{◌≤◌};
 
 use crate::listings::are_same;
-use crate::one_by_one::{Done, number_of, run_one_by_one};
+use crate::one_by_one::{Done, OneByOne, number_of};
 use crate::plans::FramePlan;
 use eco_bodies::{SystemBody, Systems};
 use eco_frame::{FrameReport, run_frame, sync_points};
-use eco_ids::Refusal;
 use eco_world::World;
 use std::alloc::Global;
 use std::thread::Threads;
@@ -35,15 +34,15 @@ impl Totals {
 
     // One frame more.
     fn count(&mut self, systems: usize, report: &FrameReport, done: &[Done]) {
-        let refused = done
-            .iter()
-            .filter(|command| command.outcome.is_err())
-            .count();
         self.systems = self.systems.saturating_add(systems);
         self.batches = self.batches.saturating_add(report.batches());
         self.commands = self.commands.saturating_add(report.commands());
-        self.refused = self.refused.saturating_add(refused);
         self.drawn = self.drawn.saturating_add(report.drawn());
+        for command in done {
+            if command.outcome.is_err() {
+                self.refused = self.refused.saturating_add(1);
+            }
+        }
     }
 }
 
@@ -63,43 +62,61 @@ fn has_outcomes(report: &FrameReport, done: &[Done]) -> bool {
     rest.is_empty()
 }
 
-/// A copy of the world after the systems of the plans one by one, and what became of their commands.
-pub fn expect(
+// How many batches the systems have on the world; as many as can be, where that found no memory.
+fn count_batches<B: SystemBody + Drop>(
     alloc: Global,
     world: &World,
-    plans: &[FramePlan],
-) -> Result<(World, Vec<Done>), Refusal> {
-    let mut copy = world.try_copy()?;
-    let mut done = Vec::new(alloc);
-    run_one_by_one(alloc, world, &mut copy, plans, &mut done)?;
-    Ok((copy, done))
+    systems: &Systems<B>,
+) -> usize {
+    match sync_points(alloc, world, systems) {
+        Ok(batches) => batches.len(),
+        Err(_) => usize::MAX,
+    }
 }
 
-/// Runs a frame of the systems, and tells whether it is the run of their plans one by one on a copy of the world, but for which
-/// fresh index is whose. One worker draws as they do.
+/// Runs a frame of the systems, and tells whether it is what is expected, but for which fresh index is whose. One worker draws as is
+/// expected.
+pub fn runs_as<R: Threads + Sync, B: SystemBody + Sync + Drop>(
+    rt: &R,
+    alloc: Global,
+    world: &mut World,
+    systems: &Systems<B>,
+    workers: u32,
+    expected: &OneByOne,
+    totals: &mut Totals,
+) -> bool
+    requires { (1 ≤ workers) × (workers ≤ 64) }
+{
+    let known = if workers == 1 { u32::MAX } else { world.high() };
+    let batches = count_batches(alloc, world, systems);
+    match run_frame(rt, alloc, world, systems, workers) {
+        Ok(report) => {
+            totals.count(systems.as_slice().len(), &report, &expected.done);
+            report.batches() == batches
+                && has_outcomes(&report, &expected.done)
+                && are_same(alloc, world, &expected.world, known)
+        }
+        Err(_) => false,
+    }
+}
+
+/// Runs a frame of the systems, and tells whether it is the run of their plans one by one on a copy of the world.
 pub fn frame_agrees<R: Threads + Sync, B: SystemBody + Sync + Drop>(
     rt: &R,
     alloc: Global,
     world: &mut World,
     systems: &Systems<B>,
-    plans: &[FramePlan],
     workers: u32,
+    plans: &[FramePlan],
     totals: &mut Totals,
-) -> Result<bool, Refusal>
+) -> bool
     requires { (1 ≤ workers) × (workers ≤ 64) }
 {
-    let known = if workers == 1 { u32::MAX } else { world.high() };
-    let batches = sync_points(alloc, world, systems)?.len();
-    let (copy, done) = expect(alloc, world, plans)?;
-    match run_frame(rt, alloc, world, systems, workers) {
-        Ok(report) => {
-            totals.count(plans.len(), &report, &done);
-            Ok(
-                report.batches() == batches
-                    && has_outcomes(&report, &done)
-                    && are_same(alloc, world, &copy, known),
-            )
+    match OneByOne::begin(alloc, world) {
+        Ok(mut expected) => {
+            expected.run(world, plans)
+                && runs_as(rt, alloc, world, systems, workers, &expected, totals)
         }
-        Err(stop) => Err(stop.refusal),
+        Err(_) => false,
     }
 }

@@ -112,25 +112,34 @@ fn has_one_batch<R: Threads + Sync>(
     requires { (1 ≤ workers) × (workers ≤ 64) }
 {
     let mut systems = Systems::new(alloc);
-    systems.add("gate", Phase::OnUpdate, query, gate).is_ok()
-        && run_frame(rt, alloc, world, &systems, workers).is_ok_and(|report| report.batches() == 1)
+    if systems.add("gate", Phase::OnUpdate, query, gate).is_err() {
+        return false;
+    }
+    match run_frame(rt, alloc, world, &systems, workers) {
+        Ok(report) => report.batches() == 1,
+        Err(_) => false,
+    }
 }
 
 // Whether as many workers as so many rows have pieces are inside of one each at the same time: each piece but the last waits at
 // its first row for the first row of the last.
-fn overlap<R: Threads + Sync>(
+fn overlap_in<R: Threads + Sync>(
     rt: &R,
     alloc: Global,
+    world: &mut World,
     rows: u32,
     pieces: u32,
-) -> Result<bool, Refusal>
+) -> bool
     requires { (1 ≤ pieces) × (pieces ≤ 64) }
 {
     let opened = AtomicU64::new(0);
     let passed = AtomicU64::new(0);
-    let mut world = World::new(alloc, 1024)?;
-    let first = prepare(&mut world, rows)?;
-    let query = world.read_query("T")?;
+    let Ok(first) = prepare(world, rows) else {
+        return false;
+    };
+    let Ok(query) = world.read_query("T") else {
+        return false;
+    };
     let gate = Gate {
         first,
         pieces,
@@ -138,16 +147,22 @@ fn overlap<R: Threads + Sync>(
         opened: &opened,
         passed: &passed,
     };
-    let is_one = has_one_batch(rt, alloc, &mut world, query, gate, pieces);
-    Ok(is_one && passed.load(Ordering::SeqCst) == u64::from(pieces))
+    has_one_batch(rt, alloc, world, query, gate, pieces)
+        && passed.load(Ordering::SeqCst) == u64::from(pieces)
+}
+
+// Whether they are so in a new world.
+fn overlap<R: Threads + Sync>(rt: &R, alloc: Global, rows: u32, pieces: u32) -> bool
+    requires { (1 ≤ pieces) × (pieces ≤ 64) }
+{
+    match World::new(alloc, 1024) {
+        Ok(mut world) => overlap_in(rt, alloc, &mut world, rows, pieces),
+        Err(_) => false,
+    }
 }
 
 #[test]
-fn two_workers_of_a_frame_overlap(rt: HostRuntime) {
-    assert!(rt; overlap(&rt, rt.alloc(), 65, 2) == Ok(true));
-}
-
-#[test]
-fn eight_workers_of_a_frame_overlap(rt: HostRuntime) {
-    assert!(rt; overlap(&rt, rt.alloc(), 512, 8) == Ok(true));
+fn workers_of_a_frame_overlap(rt: HostRuntime) {
+    assert!(rt; overlap(&rt, rt.alloc(), 65, 2));
+    assert!(rt; overlap(&rt, rt.alloc(), 512, 8));
 }

@@ -2,63 +2,138 @@
 use eco_ids::{Entity, Id, Value};
 use eco_world::{TableRows, Values, World};
 
-// Whether no table is empty and the types ascend, all different.
-fn are_in_order(tables: &[TableRows<'_>]) -> bool {
-    tables.iter().all(|table| !table.entities.is_empty())
-        && tables.windows(2).all(|pair| match pair {
-            [before, after] => before.ids < after.ids,
-            _ => false,
-        })
+// Whether no table is empty.
+fn have_rows(tables: &[TableRows<'_>]) -> bool {
+    for table in tables {
+        if table.entities.is_empty() {
+            return false;
+        }
+    }
+    true
+}
+
+// Whether the type of the first table comes before that of the second.
+fn is_ascent(pair: &[TableRows<'_>]) -> bool {
+    match pair {
+        [before, after] => before.ids < after.ids,
+        _ => false,
+    }
+}
+
+// Whether the types ascend, all different.
+fn ascend(tables: &[TableRows<'_>]) -> bool {
+    for pair in tables.windows(2) {
+        if !is_ascent(pair) {
+            return false;
+        }
+    }
+    true
 }
 
 // How many entities the tables have.
 fn count_rows(tables: &[TableRows<'_>]) -> usize {
-    tables.iter().fold(0usize, |count, table| {
-        count.saturating_add(table.entities.len())
-    })
+    let mut count = 0usize;
+    for table in tables {
+        count = count.saturating_add(table.entities.len());
+    }
+    count
+}
+
+// Whether the entity is one of these.
+fn is_among(entities: &[Entity], entity: Entity) -> bool {
+    for own in entities {
+        if own.is(entity) {
+            return true;
+        }
+    }
+    false
 }
 
 // Whether the entity stands in a table of its ids.
 fn is_listed(world: &World, tables: &[TableRows<'_>], entity: Entity) -> bool {
     let ids = world.ids_of(entity);
-    tables.iter().any(|table| table.ids == ids && table.entities.iter().any(|own| own.is(entity)))
+    for table in tables {
+        if table.ids == ids && is_among(table.entities, entity) {
+            return true;
+        }
+    }
+    false
+}
+
+// Whether the entities have these values of two fields.
+fn have_values(world: &World, entities: &[Entity], id: Id, rows: &[[i64; 2]]) -> bool {
+    for (entity, row) in entities.iter().zip(rows) {
+        if world.get(*entity, id) != Some(Value::of(*row)) {
+            return false;
+        }
+    }
+    rows.len() == entities.len()
 }
 
 // Whether the table lends the values of an id as those of the entities: two fields of each, or nothing where it is no data.
 fn lends(world: &World, table: &TableRows<'_>, id: Id) -> bool {
     match table.values(id) {
-        Some(Values::Two(rows)) => {
-            rows.len() == table.entities.len()
-                && table.entities.iter().zip(rows).all(|(entity, row)| {
-                    world.get(*entity, id) == Some(Value::of(*row))
-                })
-        }
+        Some(Values::Two(rows)) => have_values(world, table.entities, id, rows),
         Some(_) => false,
         None => world.arity(id).is_none(),
     }
 }
 
+// Whether the table lends the values of each of its ids so.
+fn lends_each(world: &World, table: &TableRows<'_>) -> bool {
+    for id in table.ids {
+        if !lends(world, table, *id) {
+            return false;
+        }
+    }
+    true
+}
+
+// Whether each of the tables does so.
+fn lend_each(world: &World, tables: &[TableRows<'_>]) -> bool {
+    for table in tables {
+        if !lends_each(world, table) {
+            return false;
+        }
+    }
+    true
+}
+
 /// Whether each table lends the values of each of its ids so.
 pub fn lends_all(world: &World) -> bool {
     match world.tables() {
-        Ok(tables) => tables.iter().all(|table| table
-            .ids
-            .iter()
-            .all(|id| lends(world, table, *id))),
+        Ok(tables) => lend_each(world, &tables),
+        Err(_) => false,
+    }
+}
+
+// Whether the tables list each of these, by the own ids.
+fn list_each(world: &World, tables: &[TableRows<'_>], living: &[Entity]) -> bool {
+    for entity in living {
+        if !is_listed(world, tables, *entity) {
+            return false;
+        }
+    }
+    true
+}
+
+// Whether the world's tables are in order, and list each of these once.
+fn are_listed(world: &World, living: &[Entity]) -> bool {
+    match world.tables() {
+        Ok(tables) => {
+            have_rows(&tables)
+                && ascend(&tables)
+                && count_rows(&tables) == living.len()
+                && list_each(world, &tables, living)
+        }
         Err(_) => false,
     }
 }
 
 /// Whether the tables list each who lives once, by the own ids.
 pub fn agrees(world: &World) -> bool {
-    match (world.tables(), world.living()) {
-        (Ok(tables), Ok(living)) => {
-            are_in_order(&tables)
-                && count_rows(&tables) == living.len()
-                && living
-                    .iter()
-                    .all(|entity| is_listed(world, &tables, *entity))
-        }
-        _ => false,
+    match world.living() {
+        Ok(living) => are_listed(world, &living),
+        Err(_) => false,
     }
 }

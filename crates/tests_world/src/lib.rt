@@ -1,16 +1,20 @@
-//! Tests of a store and of a world: long runs, and each call that may want memory, where there is enough of it.
+//! Tests of a store and of a world, of frames, of typed components and of the shared world: long runs, threads, and each call that
+//! may want memory, where there is enough of it.
 #![tactic(auto)]
 
 #[cfg(test)]
 mod answers;
 #[cfg(test)]
 mod bodies;
+pub mod bounds;
 #[cfg(test)]
-mod chains;
+mod called;
 #[cfg(test)]
 mod copying;
 #[cfg(test)]
 mod draws;
+#[cfg(test)]
+mod entering;
 #[cfg(test)]
 mod filter;
 #[cfg(test)]
@@ -20,11 +24,7 @@ mod frame_runs;
 #[cfg(test)]
 mod frames;
 #[cfg(test)]
-mod generations;
-#[cfg(test)]
 mod handles;
-#[cfg(test)]
-mod hostile;
 #[cfg(test)]
 mod layout;
 #[cfg(test)]
@@ -33,6 +33,8 @@ mod listings;
 mod long_frames;
 #[cfg(test)]
 mod long_run;
+#[cfg(test)]
+mod looking;
 #[cfg(test)]
 mod mirror_deeds;
 #[cfg(test)]
@@ -50,12 +52,14 @@ mod questions;
 #[cfg(test)]
 mod rounds;
 #[cfg(test)]
+mod ships;
+#[cfg(test)]
 mod steps;
 #[cfg(test)]
 mod store;
 #[cfg(test)]
 mod sweeps;
 #[cfg(test)]
-mod symmetric;
+mod telling;
 #[cfg(test)]
 mod twins;

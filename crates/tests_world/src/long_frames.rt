@@ -5,11 +5,11 @@ ghost use Rattle.std.specs.Prelude.{◌≤◌};
 use crate::draws::RandomDraws;
 use crate::frame_runs::{Totals, frame_agrees};
 use crate::handles::at;
-use crate::plans::{declare_all, draw_id, draw_plans, prepare};
+use crate::plans::{FramePlan, declare_all, draw_id, draw_plans, prepare};
 use eco_bodies::{Script, Systems};
 use eco_ids::{Id, Refusal, Value};
 use eco_world::World;
-use std::alloc::Global;
+use std::alloc::{AllocError, Global};
 use std::thread::Threads;
 
 // How many indices are there from the start: of the built-ins, and of what the systems are about.
@@ -25,17 +25,40 @@ fn make_one(world: &mut World, draws: &mut RandomDraws) -> Result<(), Refusal> {
     world.set(entity, Id::One(at(9)), Value::of([field, 2]))
 }
 
-/// Some three hundred entities live besides those with names: more die, and as many as lack are made.
-pub fn mend(world: &mut World, draws: &mut RandomDraws) -> Result<(), Refusal> {
+// All but the first three hundred of those without names die, and so many are left.
+fn thin(world: &mut World) -> Result<usize, AllocError> {
     let living = world.living()?;
-    let count = living.len().saturating_sub(NAMED);
     for entity in living.iter().skip(NAMED + 300) {
         let _may_be_refused = world.delete(*entity);
     }
+    Ok(living.len().saturating_sub(NAMED))
+}
+
+/// Some three hundred entities live besides those with names: more die, and as many as lack are made.
+pub fn mend(world: &mut World, draws: &mut RandomDraws) -> Result<(), Refusal> {
+    let count = thin(world)?;
     for _ in count..300 {
         make_one(world, draws)?;
     }
     Ok(())
+}
+
+// Declares those of the drawn plans that are allowed, runs a frame of them, and tells whether it is right.
+fn run_drawn<R: Threads + Sync>(
+    rt: &R,
+    alloc: Global,
+    world: &mut World,
+    drawn: &[FramePlan],
+    workers: u32,
+    totals: &mut Totals,
+) -> bool
+    requires { (1 ≤ workers) × (workers ≤ 64) }
+{
+    let mut systems: Systems<Script> = Systems::new(alloc);
+    match declare_all(alloc, world, drawn, &mut systems) {
+        Ok(plans) => frame_agrees(rt, alloc, world, &systems, workers, &plans, totals),
+        Err(_) => false,
+    }
 }
 
 // Runs a frame of systems that look random, and tells whether it is right.
@@ -46,13 +69,13 @@ fn run_one<R: Threads + Sync>(
     draws: &mut RandomDraws,
     workers: u32,
     totals: &mut Totals,
-) -> Result<bool, Refusal>
+) -> bool
     requires { (1 ≤ workers) × (workers ≤ 64) }
 {
-    mend(world, draws)?;
-    let mut systems: Systems<Script> = Systems::new(alloc);
-    let plans = declare_all(alloc, world, &draw_plans(alloc, draws)?, &mut systems)?;
-    frame_agrees(rt, alloc, world, &systems, &plans, workers, totals)
+    match draw_plans(alloc, draws) {
+        Ok(drawn) => run_drawn(rt, alloc, world, &drawn, workers, totals),
+        Err(_) => false,
+    }
 }
 
 // Whether the frames did enough of everything: some shared batches, and some commands were refused.
@@ -63,33 +86,37 @@ fn is_enough(totals: &Totals) -> bool {
         && totals.drawn > 500
 }
 
-// Whether a hundred frames of a new world are right, and did enough.
-fn are_right<R: Threads + Sync>(
-    rt: &R,
-    alloc: Global,
-    seed: u64,
-    workers: u32,
-) -> Result<bool, Refusal>
+// Whether a hundred frames are right, and did enough.
+fn run<R: Threads + Sync>(rt: &R, alloc: Global, world: &mut World, seed: u64, workers: u32) -> bool
     requires { (1 ≤ workers) × (workers ≤ 64) }
 {
-    let mut world = World::new(alloc, 1_048_576)?;
-    prepare(&mut world)?;
     let mut draws = RandomDraws::new(seed);
     let mut totals = Totals::new();
+    let mut are_right = prepare(world).is_ok();
     for _ in 0..100 {
-        if !run_one(rt, alloc, &mut world, &mut draws, workers, &mut totals)? {
-            return Ok(false);
-        }
+        are_right = are_right
+            && mend(world, &mut draws).is_ok()
+            && run_one(rt, alloc, world, &mut draws, workers, &mut totals);
     }
-    Ok(is_enough(&totals))
+    are_right && is_enough(&totals)
+}
+
+// Whether they are so in a new world.
+fn are_right<R: Threads + Sync>(rt: &R, alloc: Global, seed: u64, workers: u32) -> bool
+    requires { (1 ≤ workers) × (workers ≤ 64) }
+{
+    match World::new(alloc, 1_048_576) {
+        Ok(mut world) => run(rt, alloc, &mut world, seed, workers),
+        Err(_) => false,
+    }
 }
 
 #[test]
 fn frames_are_their_systems_one_by_one(rt: HostRuntime) {
-    assert!(rt; are_right(&rt, rt.alloc(), 2026, 1) == Ok(true));
-    assert!(rt; are_right(&rt, rt.alloc(), 7, 1) == Ok(true));
-    assert!(rt; are_right(&rt, rt.alloc(), 2026, 2) == Ok(true));
-    assert!(rt; are_right(&rt, rt.alloc(), 7, 2) == Ok(true));
-    assert!(rt; are_right(&rt, rt.alloc(), 2026, 8) == Ok(true));
-    assert!(rt; are_right(&rt, rt.alloc(), 7, 8) == Ok(true));
+    assert!(rt; are_right(&rt, rt.alloc(), 2026, 1));
+    assert!(rt; are_right(&rt, rt.alloc(), 7, 1));
+    assert!(rt; are_right(&rt, rt.alloc(), 2026, 2));
+    assert!(rt; are_right(&rt, rt.alloc(), 7, 2));
+    assert!(rt; are_right(&rt, rt.alloc(), 2026, 8));
+    assert!(rt; are_right(&rt, rt.alloc(), 7, 8));
 }

@@ -5,9 +5,9 @@ use crate::draws::RandomDraws;
 use crate::layout::{agrees, lends_all};
 use crate::questions::{Question, draw_question};
 use crate::steps::take_step;
-use eco_ids::Refusal;
+use eco_ids::Entity;
 use eco_world::{QueryId, World};
-use std::alloc::Global;
+use std::alloc::{AllocError, Global};
 
 // How many results the question has, if all is what the filter finds.
 fn count_answers(world: &World, question: &Question) -> Option<usize> {
@@ -25,83 +25,133 @@ fn is_kept(world: &World, copy: &World, place: usize, question: &Question) -> bo
         && count == count_kept(copy, &question.terms, QueryId(place))
 }
 
-// Whether it is so of each query that the world keeps.
+// Whether it is so of each query that both keep.
+fn keep_each(world: &World, copy: &World, kept: &[Question]) -> bool {
+    for (place, question) in kept.iter().enumerate() {
+        if !is_kept(world, copy, place, question) {
+            return false;
+        }
+    }
+    true
+}
+
+// Whether it is so of each query that the world and a copy of it keep.
 fn are_kept(world: &World, kept: &[Question]) -> bool {
     match world.try_copy() {
-        Ok(copy) => kept
-            .iter()
-            .enumerate()
-            .all(|(place, question)| is_kept(world, &copy, place, question)),
+        Ok(copy) => keep_each(world, &copy, kept),
         Err(_) => false,
     }
 }
 
-// Draws a question about the living, and adds its query behind those that the world keeps.
-fn keep(
-    alloc: Global,
-    world: &mut World,
-    draws: &mut RandomDraws,
-    kept: &mut Vec<Question>,
-) -> Result<(), Refusal> {
-    let question = draw_question(alloc, draws, &world.living()?)?;
-    let query = world.read_query(question.text.as_str())?;
-    kept.push(question)?;
-    world.add_query(query)?;
-    Ok(())
-}
-
-// Takes a step, and tells how many results a question then has, if that is right, and the tables too.
-fn take_and_ask(
-    alloc: Global,
-    world: &mut World,
-    draws: &mut RandomDraws,
-) -> Result<Option<usize>, Refusal> {
+// A question about the living.
+fn draw(alloc: Global, world: &World, draws: &mut RandomDraws) -> Result<Question, AllocError> {
     let living = world.living()?;
-    let _done_or_refused = take_step(alloc, world, draws, &living);
-    let question = draw_question(alloc, draws, &living)?;
-    let count = count_answers(world, &question);
-    Ok(count.filter(|_| agrees(world) && lends_all(world)))
+    draw_question(alloc, draws, &living)
 }
 
-// Adds five queries and takes 500 steps, and tells how many results were found, if all was right after each of them.
-fn run(
+// Adds a question's query behind those that the world keeps.
+fn keep(world: &mut World, kept: &mut Vec<Question>, question: Question) -> bool {
+    match world.read_query(question.text.as_str()) {
+        Ok(query) => kept.push(question).is_ok() & world.add_query(query).is_ok(),
+        Err(_) => false,
+    }
+}
+
+// Draws a question and adds its query.
+fn keep_one(
     alloc: Global,
     world: &mut World,
     draws: &mut RandomDraws,
     kept: &mut Vec<Question>,
-) -> Result<Option<usize>, Refusal> {
-    for _ in 0..5 {
-        keep(alloc, world, draws, kept)?;
+) -> bool {
+    match draw(alloc, world, draws) {
+        Ok(question) => keep(world, kept, question),
+        Err(_) => false,
     }
+}
+
+// How many results a question about these has, if that is right, and the tables too.
+fn ask(alloc: Global, world: &World, draws: &mut RandomDraws, living: &[Entity]) -> Option<usize> {
+    match draw_question(alloc, draws, living) {
+        Ok(question) => {
+            if agrees(world) && lends_all(world) {
+                count_answers(world, &question)
+            } else {
+                None
+            }
+        }
+        Err(_) => None,
+    }
+}
+
+// Takes a step, and tells how many results a question about those who lived before then has, if all is right.
+fn take_and_ask(alloc: Global, world: &mut World, draws: &mut RandomDraws) -> Option<usize> {
+    match world.living() {
+        Ok(living) => {
+            let _done_or_refused = take_step(alloc, world, draws, &living);
+            ask(alloc, world, draws, &living)
+        }
+        Err(_) => None,
+    }
+}
+
+// Adds five queries, and tells whether that was done.
+fn keep_five(
+    alloc: Global,
+    world: &mut World,
+    draws: &mut RandomDraws,
+    kept: &mut Vec<Question>,
+) -> bool {
+    let mut are_kept = true;
+    for _ in 0..5 {
+        are_kept &= keep_one(alloc, world, draws, kept);
+    }
+    are_kept
+}
+
+// Takes 500 steps, and tells how many results were found, if all was right after each of them.
+fn take_steps(
+    alloc: Global,
+    world: &mut World,
+    draws: &mut RandomDraws,
+    kept: &[Question],
+) -> Option<usize> {
     let mut found = 0usize;
     for step in 0..500 {
-        match take_and_ask(alloc, world, draws)? {
-            Some(count) => found = found.saturating_add(count),
-            None => return Ok(None),
-        }
+        let count = take_and_ask(alloc, world, draws)?;
+        found = found.saturating_add(count);
         if step % 2 == 0 && !are_kept(world, kept) {
-            return Ok(None);
+            return None;
         }
     }
-    Ok(Some(found))
+    Some(found)
 }
 
-// Whether both halves of a run are right, and find more than 250 results each.
-fn is_right(alloc: Global, world: &mut World, seed: u64) -> Result<bool, Refusal> {
+// Whether all is right once five queries more are kept, and more than 250 results are found.
+fn is_right(
+    alloc: Global,
+    world: &mut World,
+    draws: &mut RandomDraws,
+    kept: &mut Vec<Question>,
+) -> bool {
+    keep_five(alloc, world, draws, kept) && take_steps(alloc, world, draws, kept).unwrap_or(0) > 250
+}
+
+// Whether both halves of a run are right in a new world.
+fn are_right(alloc: Global, seed: u64) -> bool {
     let mut draws = RandomDraws::new(seed);
     let mut kept = Vec::new(alloc);
-    let first = run(alloc, world, &mut draws, &mut kept)?;
-    let second = run(alloc, world, &mut draws, &mut kept)?;
-    Ok(first.is_some_and(|count| count > 250) && second.is_some_and(|count| count > 250))
-}
-
-// Whether they are right in a new world.
-fn is_right_from(alloc: Global, seed: u64) -> bool {
-    World::new(alloc, 48).is_ok_and(|mut world| is_right(alloc, &mut world, seed) == Ok(true))
+    match World::new(alloc, 48) {
+        Ok(mut world) => {
+            is_right(alloc, &mut world, &mut draws, &mut kept)
+                && is_right(alloc, &mut world, &mut draws, &mut kept)
+        }
+        Err(_) => false,
+    }
 }
 
 #[test]
 fn a_long_run_answers_what_a_filter_finds(rt: HostRuntime) {
-    assert!(rt; is_right_from(rt.alloc(), 2026));
-    assert!(rt; is_right_from(rt.alloc(), 7));
+    assert!(rt; are_right(rt.alloc(), 2026));
+    assert!(rt; are_right(rt.alloc(), 7));
 }

@@ -1,10 +1,10 @@
 //! Frames of systems that look random and write symmetric pairs, in a run that a plain list follows.
 use crate::draws::RandomDraws;
-use crate::following::{Met, follow};
-use crate::frame_runs::{expect, frame_agrees};
+use crate::following::Followed;
+use crate::frame_runs::runs_as;
 use crate::mirror_deeds::{FIRST, draw_id, draw_trait};
-use crate::one_by_one::Done;
-use crate::plain::{Deed, Had};
+use crate::one_by_one::OneByOne;
+use crate::plain::Deed;
 use crate::plans::{Deeds, FramePlan, declare_all};
 use eco_bodies::{Action, Script, Systems};
 use eco_ids::{Entity, Refusal, Value};
@@ -49,20 +49,21 @@ fn populate(world: &mut World) -> Result<(), Refusal> {
     Ok(())
 }
 
-// Whoever is one too many dies, in the list too. Tells whether that was right.
-fn thin(
-    alloc: Global,
-    world: &mut World,
-    list: &mut Vec<Had>,
-    met: &mut Met,
-) -> Result<bool, Refusal> {
+// Whoever is one too many of these dies, in the list too. Tells whether that was right.
+fn thin(run: &mut Followed, living: &[Entity]) -> bool {
     let mut is_right = true;
-    for entity in world.living()?.iter().skip(MOST + FIRST as usize) {
-        let deed = Deed::Delete(*entity);
-        let outcome = deed.apply(world);
-        is_right = follow(alloc, list, deed, outcome, met)? && is_right;
+    for entity in living.iter().skip(MOST + FIRST as usize) {
+        is_right &= run.apply(Deed::Delete(*entity));
     }
-    Ok(is_right)
+    is_right
+}
+
+// The same of all who live.
+fn thin_all(run: &mut Followed) -> bool {
+    match run.world.living() {
+        Ok(living) => thin(run, &living),
+        Err(_) => false,
+    }
 }
 
 // Takes the names of all of these off.
@@ -82,11 +83,14 @@ fn name(world: &mut World, living: &[Entity]) -> Result<(), Refusal> {
 }
 
 // Names those at the first places behind the built-ins, and nobody else.
-fn name_all(world: &mut World) -> Result<(), Refusal> {
-    let living = world.living()?;
-    let made = living.get(FIRST as usize..).unwrap_or(&[]);
-    unname(world, made)?;
-    name(world, made)
+fn name_all(world: &mut World) -> bool {
+    match world.living() {
+        Ok(living) => {
+            let made = living.get(FIRST as usize..).unwrap_or(&[]);
+            unname(world, made).is_ok() && name(world, made).is_ok()
+        }
+        Err(_) => false,
+    }
 }
 
 // What a system may do with a row, if its query allows it.
@@ -137,62 +141,64 @@ fn draw_plans(
     Ok(plans)
 }
 
-// Does to the list what these did, in their order. Tells whether clashes were refused as they should be.
-fn follow_all(
-    alloc: Global,
-    list: &mut Vec<Had>,
-    all: &[Done],
-    met: &mut Met,
-) -> Result<bool, AllocError> {
-    let mut is_right = true;
-    for done in all {
-        if let Some(deed) = done.deed {
-            is_right = follow(alloc, list, deed, done.outcome, met)? && is_right;
-        }
-    }
-    Ok(is_right)
+// Up to eight plans about the living.
+fn draw_frame(alloc: Global, run: &mut Followed) -> Result<Vec<FramePlan>, AllocError> {
+    let living = run.world.living()?;
+    draw_plans(alloc, &mut run.draws, &living)
 }
 
-// Does to the list what the systems of the plans do one by one.
-fn follow_plans(
+// Lets the list follow the plans of these systems, which run one by one, and runs a frame.
+fn run_declared<R: Threads + Sync>(
+    rt: &R,
     alloc: Global,
-    world: &World,
-    list: &mut Vec<Had>,
+    run: &mut Followed,
+    systems: &Systems<Script>,
     plans: &[FramePlan],
-    met: &mut Met,
-) -> Result<bool, Refusal> {
-    let (_copy, all) = expect(alloc, world, plans)?;
-    Ok(follow_all(alloc, list, &all, met)?)
+) -> bool {
+    match OneByOne::begin(alloc, &run.world) {
+        Ok(mut expected) => {
+            expected.run(&run.world, plans)
+                && run.follow_all(&expected.done)
+                && runs_as(
+                    rt,
+                    alloc,
+                    &mut run.world,
+                    systems,
+                    1,
+                    &expected,
+                    &mut run.met.frames,
+                )
+        }
+        Err(_) => false,
+    }
 }
 
-// Declares those of the drawn plans that are allowed, lets the list follow them, and runs a frame.
+// The same of those of the drawn plans that are allowed.
 fn run_drawn<R: Threads + Sync>(
     rt: &R,
     alloc: Global,
-    world: &mut World,
-    list: &mut Vec<Had>,
+    run: &mut Followed,
     drawn: &[FramePlan],
-    met: &mut Met,
-) -> Result<bool, Refusal> {
+) -> bool {
     let mut systems: Systems<Script> = Systems::new(alloc);
-    let plans = declare_all(alloc, world, drawn, &mut systems)?;
-    let is_followed = follow_plans(alloc, world, list, &plans, met)?;
-    let agrees = frame_agrees(rt, alloc, world, &systems, &plans, 1, &mut met.frames)?;
-    Ok(is_followed && agrees)
+    match declare_all(alloc, &run.world, drawn, &mut systems) {
+        Ok(plans) => run_declared(rt, alloc, run, &systems, &plans),
+        Err(_) => false,
+    }
+}
+
+// The same of plans that are drawn now.
+fn run_frame<R: Threads + Sync>(rt: &R, alloc: Global, run: &mut Followed) -> bool {
+    match draw_frame(alloc, run) {
+        Ok(drawn) => run_drawn(rt, alloc, run, &drawn),
+        Err(_) => false,
+    }
 }
 
 /// Runs a frame by one worker, and tells whether it is the run of its systems one by one. The list does what that run does.
-pub fn run_mirrored<R: Threads + Sync>(
-    rt: &R,
-    alloc: Global,
-    world: &mut World,
-    list: &mut Vec<Had>,
-    draws: &mut RandomDraws,
-    met: &mut Met,
-) -> Result<bool, Refusal> {
-    populate(world)?;
-    let is_thinned = thin(alloc, world, list, met)?;
-    name_all(world)?;
-    let drawn = draw_plans(alloc, draws, &world.living()?)?;
-    Ok(run_drawn(rt, alloc, world, list, &drawn, met)? && is_thinned)
+pub fn run_mirrored<R: Threads + Sync>(rt: &R, alloc: Global, run: &mut Followed) -> bool {
+    populate(&mut run.world).is_ok()
+        && thin_all(run)
+        && name_all(&mut run.world)
+        && run_frame(rt, alloc, run)
 }

@@ -1,17 +1,16 @@
 //! Symmetric relationships: after each of many steps that look random, frames among them, each of their pairs stands on both of its
 //! entities, and all who were made have the ids that a plain list has. A clash of traits is refused exactly where the list would
 //! have one, and a frame does what its systems do one by one.
-use crate::draws::RandomDraws;
-use crate::following::{Met, follow};
+use crate::following::{Followed, Met};
 use crate::frame_runs::Totals;
 use crate::handles::at;
 use crate::mirror_deeds::{FIRST, draw_deed};
 use crate::mirror_frames::run_mirrored;
-use crate::plain::{Had, agrees};
+use crate::plain::{Deed, Had, agrees};
 use eco_ids::entity::{ON_DELETE, PANIC, SYMMETRIC};
 use eco_ids::{Edition, Entity, Id, Refusal};
 use eco_world::World;
-use std::alloc::Global;
+use std::alloc::{AllocError, Global};
 use std::thread::Threads;
 
 // How many steps a run has.
@@ -40,35 +39,26 @@ fn begin(world: &mut World, list: &mut Vec<Had>) -> Result<(), Refusal> {
     Ok(())
 }
 
-// Does a deed, and tells whether a clash was refused as it should be.
-fn do_one(
-    alloc: Global,
-    world: &mut World,
-    list: &mut Vec<Had>,
-    draws: &mut RandomDraws,
-    met: &mut Met,
-) -> Result<bool, Refusal> {
-    let deed = draw_deed(draws, &world.living()?);
-    let outcome = deed.apply(world);
-    Ok(follow(alloc, list, deed, outcome, met)?)
+// The next deed.
+fn draw(run: &mut Followed) -> Result<Deed, AllocError> {
+    let living = run.world.living()?;
+    Ok(draw_deed(&mut run.draws, &living))
+}
+
+// Does it, and tells whether a clash was refused as it should be.
+fn do_one(run: &mut Followed) -> bool {
+    match draw(run) {
+        Ok(deed) => run.apply(deed),
+        Err(_) => false,
+    }
 }
 
 // Makes somebody, runs a frame or does a deed, and tells whether that was right.
-fn step<R: Threads + Sync>(
-    rt: &R,
-    alloc: Global,
-    world: &mut World,
-    list: &mut Vec<Had>,
-    draws: &mut RandomDraws,
-    met: &mut Met,
-) -> Result<bool, Refusal> {
-    match draws.below(24) {
-        0..=1 => {
-            world.create(None)?;
-            Ok(true)
-        }
-        2..=3 => run_mirrored(rt, alloc, world, list, draws, met),
-        _ => do_one(alloc, world, list, draws, met),
+fn step<R: Threads + Sync>(rt: &R, alloc: Global, run: &mut Followed) -> bool {
+    match run.draws.below(24) {
+        0..=1 => run.world.create(None).is_ok(),
+        2..=3 => run_mirrored(rt, alloc, run),
+        _ => do_one(run),
     }
 }
 
@@ -96,50 +86,52 @@ fn count_on(world: &World, entity: Entity) -> Option<usize> {
     Some(count)
 }
 
-// How many all have.
-fn count_mirrored(world: &World) -> Option<usize> {
-    let living = world.living().ok()?;
+// How many these have.
+fn count_on_all(world: &World, living: &[Entity]) -> Option<usize> {
     let mut count = 0usize;
-    for entity in &living {
+    for entity in living {
         count = count.saturating_add(count_on(world, *entity)?);
     }
     Some(count)
 }
 
+// How many all have.
+fn count_mirrored(world: &World) -> Option<usize> {
+    match world.living() {
+        Ok(living) => count_on_all(world, &living),
+        Err(_) => None,
+    }
+}
+
 // Whether mirrors are there, and the world has just what the list has.
-fn is_mirrored(world: &World, list: &[Had], met: &mut Met) -> bool {
-    let Some(count) = count_mirrored(world) else {
+fn is_mirrored(run: &mut Followed) -> bool {
+    let Some(count) = count_mirrored(&run.world) else {
         return false;
     };
-    met.mirrored = met.mirrored.saturating_add(count);
-    agrees(world, list)
+    run.met.mirrored = run.met.mirrored.saturating_add(count);
+    agrees(&run.world, &run.list.now)
 }
 
 // Whether all is so after each step of a run.
-fn run<R: Threads + Sync>(
-    rt: &R,
-    alloc: Global,
-    world: &mut World,
-    seed: u64,
-    met: &mut Met,
-) -> Result<bool, Refusal> {
-    let mut list = Vec::new(alloc);
-    begin(world, &mut list)?;
-    let mut draws = RandomDraws::new(seed);
+fn take_steps<R: Threads + Sync>(rt: &R, alloc: Global, run: &mut Followed) -> bool {
+    let mut is_right = begin(&mut run.world, &mut run.list.now).is_ok();
     for _ in 0..STEPS {
-        if !step(rt, alloc, world, &mut list, &mut draws, met)? || !is_mirrored(world, &list, met) {
-            return Ok(false);
-        }
+        is_right = is_right && step(rt, alloc, run) && is_mirrored(run);
     }
-    Ok(true)
+    is_right
 }
 
 // Whether it is so in a new world.
 fn is_right<R: Threads + Sync>(rt: &R, alloc: Global, seed: u64, met: &mut Met) -> bool {
-    let Ok(mut world) = World::of_edition(alloc, Edition::Second, LIMIT) else {
-        return false;
-    };
-    run(rt, alloc, &mut world, seed, met) == Ok(true)
+    match World::of_edition(alloc, Edition::Second, LIMIT) {
+        Ok(world) => {
+            let mut run = Followed::new(alloc, world, seed, *met);
+            let is_right = take_steps(rt, alloc, &mut run);
+            *met = run.met;
+            is_right
+        }
+        Err(_) => false,
+    }
 }
 
 // Whether the runs met enough: clashes, symmetric pairs, and frames of several batches, of which some have several systems.

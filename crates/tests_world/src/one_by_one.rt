@@ -3,7 +3,7 @@ use crate::plain::Deed;
 use crate::plans::{Deeds, FramePlan};
 use eco_bodies::Action;
 use eco_ids::{Entity, FIELD_COUNT, Id, Refusal, Value};
-use eco_systems::PHASES;
+use eco_systems::{PHASES, Phase};
 use eco_world::{Command, Report, Row, Stage, World};
 use std::alloc::{AllocError, Global};
 
@@ -14,16 +14,21 @@ pub struct Done {
     pub outcome: Result<(), Refusal>,
 }
 
-// What a system records on a world, and how many fresh indices it draws.
-struct Recording {
+/// Systems that run one by one on a copy of a world: the copy, what became of each command, and what a system records, with how many
+/// fresh indices it draws.
+pub struct OneByOne {
+    pub world: World,
+    pub done: Vec<Done>,
     stages: [Stage; 1],
     drawn: u32,
 }
 
 // By hand, so that dropping it is one call: a derived drop is proved anew at each early return of whoever holds it.
-impl Drop for Recording {
+impl Drop for OneByOne {
     fn drop(self) {
-        let Recording {
+        let OneByOne {
+            world: _,
+            done: _,
             stages: _,
             drawn: _,
         } = self;
@@ -33,6 +38,12 @@ impl Drop for Recording {
 // The entry of a slot.
 fn entry_at(row: &Row, slot: usize) -> Option<Id> {
     *row.entries.get(slot)?
+}
+
+// The set of a slot to a value.
+fn put_at(row: &Row, slot: usize, value: Value) -> Option<Command> {
+    let id = entry_at(row, slot)?;
+    Some(Command::Set(row.entity, id, value))
 }
 
 // Field by field, within the bounds of a field.
@@ -52,77 +63,10 @@ fn sum_at(world: &World, row: &Row, into: usize, from: usize) -> Option<Command>
     Some(Command::Set(row.entity, id, sum_of(value, other)))
 }
 
-impl Recording {
-    // Puts a command behind the others, if there is one.
-    fn record(&mut self, command: Option<Command>) {
-        if let Some(command) = command {
-            let _handed_back = self.stages[0].record(command);
-        }
-    }
-
-    // A fresh entity lives, and has the id if one is given.
-    fn spawn(&mut self, world: &World, id: Option<Id>) {
-        let fresh = Entity {
-            index: world.high().wrapping_add(self.drawn),
-            generation: 0,
-        };
-        self.drawn = self.drawn.wrapping_add(1);
-        self.record(Some(Command::Create(fresh)));
-        self.record(id.map(|id| Command::Add(fresh, id)));
-    }
-
-    // Records an action for a row.
-    fn act(&mut self, world: &World, row: &Row, action: Action) {
-        let entity = row.entity;
-        match action {
-            Action::AddId(id) => self.record(Some(Command::Add(entity, id))),
-            Action::RemoveId(id) => self.record(Some(Command::Remove(entity, id))),
-            Action::Put { slot, value } => {
-                self.record(entry_at(row, slot).map(|id| Command::Set(entity, id, value)))
-            }
-            Action::Sum { into, from } => self.record(sum_at(world, row, into, from)),
-            Action::Kill => self.record(Some(Command::Delete(entity))),
-            Action::Spawn(id) => self.spawn(world, id),
-        }
-    }
-
-    // Records what a system does with a row.
-    fn act_all(&mut self, world: &World, row: &Row, deeds: Deeds) {
-        match deeds {
-            Deeds::Script(actions) => {
-                self.act(world, row, actions[0]);
-                self.act(world, row, actions[1]);
-            }
-            Deeds::Sweep(id) => {
-                self.record(Some(Command::Clear(row.entity)));
-                self.record(Some(Command::DeleteWith(id)));
-            }
-        }
-    }
-}
-
 // Who answers the query of a text, whose names are those of the first world.
 fn rows_of(first: &World, world: &World, text: &str) -> Result<Vec<Row>, Refusal> {
     let query = first.read_query(text)?;
     world.query(&query)
-}
-
-// What a system records on the world.
-fn record_one(
-    alloc: Global,
-    first: &World,
-    world: &World,
-    plan: &FramePlan,
-) -> Result<Recording, Refusal> {
-    let rows = rows_of(first, world, plan.text)?;
-    let mut recording = Recording {
-        stages: [Stage::new(alloc)],
-        drawn: 0,
-    };
-    for row in &rows {
-        recording.act_all(world, row, plan.deeds);
-    }
-    Ok(recording)
 }
 
 /// The number of a refusal, and 0 for what was done.
@@ -133,41 +77,128 @@ pub fn number_of(outcome: Result<(), Refusal>) -> u8 {
     }
 }
 
-// Puts what was recorded behind others, with the outcomes of its report.
-fn add_done(
-    done: &mut Vec<Done>,
-    recording: &Recording,
-    report: &Report,
-) -> Result<(), AllocError> {
-    let mut commands = recording.stages[0].commands().iter();
+// What a command does, if there is one and that is a deed.
+fn deed_of(command: Option<&Command>) -> Option<Deed> {
+    Deed::of(command?)
+}
+
+// Puts the commands of a stage behind others, with the outcomes of their report.
+fn add_done(done: &mut Vec<Done>, stages: &[Stage; 1], report: &Report) -> Result<(), AllocError> {
+    let mut commands = stages[0].commands().iter();
     for outcome in report.iter() {
-        let deed = commands.next().and_then(|command| Deed::of(command));
+        let deed = deed_of(commands.next());
         done.push(Done { deed, outcome })?;
     }
     Ok(())
 }
 
-// Merges what was recorded.
-fn merge(world: &mut World, recording: &Recording, done: &mut Vec<Done>) -> Result<(), Refusal> {
-    let report = world.merge(recording.drawn, &recording.stages)?;
-    add_done(done, recording, &report)?;
-    Ok(())
-}
+impl OneByOne {
+    /// None has run yet.
+    pub fn begin(alloc: Global, first: &World) -> Result<OneByOne, AllocError> {
+        let world = first.try_copy()?;
+        Ok(OneByOne {
+            world,
+            done: Vec::new(alloc),
+            stages: [Stage::new(alloc)],
+            drawn: 0,
+        })
+    }
 
-/// Runs the systems, which were declared on the first world, phase by phase and in their order, on a copy of it. Answers what became
-/// of each command.
-pub fn run_one_by_one(
-    alloc: Global,
-    first: &World,
-    world: &mut World,
-    plans: &[FramePlan],
-    done: &mut Vec<Done>,
-) -> Result<(), Refusal> {
-    for phase in PHASES {
-        for plan in plans.iter().filter(|plan| plan.phase == phase) {
-            let recording = record_one(alloc, first, world, plan)?;
-            merge(world, &recording, done)?;
+    // Puts a command behind the others, if there is one.
+    fn record(&mut self, command: Option<Command>) {
+        if let Some(command) = command {
+            let _handed_back = self.stages[0].record(command);
         }
     }
-    Ok(())
+
+    // A fresh entity lives, and has the id if one is given.
+    fn spawn(&mut self, id: Option<Id>) {
+        let fresh = Entity {
+            index: self.world.high().wrapping_add(self.drawn),
+            generation: 0,
+        };
+        self.drawn = self.drawn.wrapping_add(1);
+        self.record(Some(Command::Create(fresh)));
+        if let Some(id) = id {
+            self.record(Some(Command::Add(fresh, id)));
+        }
+    }
+
+    // Records an action for a row.
+    fn act(&mut self, row: &Row, action: Action) {
+        let entity = row.entity;
+        match action {
+            Action::AddId(id) => self.record(Some(Command::Add(entity, id))),
+            Action::RemoveId(id) => self.record(Some(Command::Remove(entity, id))),
+            Action::Put { slot, value } => self.record(put_at(row, slot, value)),
+            Action::Sum { into, from } => {
+                let sum = sum_at(&self.world, row, into, from);
+                self.record(sum)
+            }
+            Action::Kill => self.record(Some(Command::Delete(entity))),
+            Action::Spawn(id) => self.spawn(id),
+        }
+    }
+
+    // Records what a system does with a row.
+    fn act_all(&mut self, row: &Row, deeds: Deeds) {
+        match deeds {
+            Deeds::Script(actions) => {
+                self.act(row, actions[0]);
+                self.act(row, actions[1]);
+            }
+            Deeds::Sweep(id) => {
+                self.record(Some(Command::Clear(row.entity)));
+                self.record(Some(Command::DeleteWith(id)));
+            }
+        }
+    }
+
+    // Records what a system does with all of its rows.
+    fn record_all(&mut self, rows: &[Row], deeds: Deeds) {
+        self.stages[0].clear();
+        self.drawn = 0;
+        for row in rows {
+            self.act_all(row, deeds);
+        }
+    }
+
+    // Merges what was recorded.
+    fn merge(&mut self) -> bool {
+        match self.world.merge(self.drawn, &self.stages) {
+            Ok(report) => add_done(&mut self.done, &self.stages, &report).is_ok(),
+            Err(_) => false,
+        }
+    }
+
+    // Runs a system, which was declared on the first world.
+    fn run_plan(&mut self, first: &World, plan: &FramePlan) -> bool {
+        match rows_of(first, &self.world, plan.text) {
+            Ok(rows) => {
+                self.record_all(&rows, plan.deeds);
+                self.merge()
+            }
+            Err(_) => false,
+        }
+    }
+
+    // Runs those of a phase, in their order.
+    fn run_phase(&mut self, first: &World, plans: &[FramePlan], phase: Phase) -> bool {
+        let mut are_run = true;
+        for plan in plans {
+            if plan.phase == phase {
+                are_run &= self.run_plan(first, plan);
+            }
+        }
+        are_run
+    }
+
+    /// Runs the systems, which were declared on the first world, phase by phase and in their order, and tells whether that was done.
+    pub fn run(&mut self, first: &World, plans: &[FramePlan]) -> bool {
+        let mut are_run = true;
+        for phase in PHASES {
+            are_run &= self.run_phase(first, plans, phase);
+        }
+        are_run
+    }
 }

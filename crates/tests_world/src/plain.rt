@@ -3,6 +3,7 @@ use eco_ids::entity::{ACYCLIC, EXCLUSIVE, SYMMETRIC, WITH};
 use eco_ids::{Entity, Id, Refusal, Value};
 use eco_world::{Command, World};
 use std::alloc::{AllocError, Global};
+use std::mem;
 
 // How many live from the start in a world of the second edition.
 const BUILT_IN: usize = 10;
@@ -37,6 +38,16 @@ impl Had {
             Id::One(_) => None,
         }
     }
+}
+
+// Whether it goes with one of those who have the id.
+fn is_about_any(list: &[Had], own: Had, id: Id) -> bool {
+    for other in list {
+        if other.id.is(id) && own.is_about(other.holder) {
+            return true;
+        }
+    }
+    false
 }
 
 /// What may be done to a world, and to such a list.
@@ -96,16 +107,28 @@ impl Deed {
             Deed::Clear(entity) => own.holder.is(entity),
             Deed::RemoveAll(id) => own.id.is(id),
             Deed::Delete(entity) => own.is_about(entity),
-            Deed::DeleteWith(id) => list
-                .iter()
-                .any(|other| { other.id.is(id) && own.is_about(other.holder) }),
+            Deed::DeleteWith(id) => is_about_any(list, own, id),
+        }
+    }
+
+    // Whether it takes this one's mirror.
+    fn takes_mirror(self, list: &[Had], own: Had) -> bool {
+        match own.mirror() {
+            Some(mirror) => self.takes(list, mirror),
+            None => false,
         }
     }
 }
 
 // Whether the entity has the id.
 fn has(list: &[Had], holder: Entity, id: Id) -> bool {
-    list.iter().any(|own| own.is(Had { holder, id }))
+    let wanted = Had { holder, id };
+    for own in list {
+        if own.is(wanted) {
+            return true;
+        }
+    }
+    false
 }
 
 // Whether it is a pair of a symmetric relationship.
@@ -143,7 +166,12 @@ fn brought_by_any(ids: &[Id], tie: Had) -> Option<Id> {
 
 // Whether the id is among them.
 fn is_among(ids: &[Id], id: Id) -> bool {
-    ids.iter().any(|own| own.is(id))
+    for own in ids {
+        if own.is(id) {
+            return true;
+        }
+    }
+    false
 }
 
 // Puts what these bring along behind them.
@@ -158,17 +186,36 @@ fn spread(list: &[Had], ids: &mut Vec<Id>) -> Result<(), AllocError> {
     Ok(())
 }
 
-// The id and all that comes along.
-fn closure(alloc: Global, list: &[Had], id: Id) -> Result<Vec<Id>, AllocError> {
-    let mut ids = Vec::from_slice(alloc, &[id])?;
+// Makes the ids this one and all that comes along.
+fn close(list: &[Had], ids: &mut Vec<Id>, id: Id) -> Result<(), AllocError> {
+    ids.clear();
+    ids.push(id)?;
     for _ in 0..LONGEST {
         let count = ids.len();
-        spread(list, &mut ids)?;
+        spread(list, ids)?;
         if ids.len() == count {
             break;
         }
     }
-    Ok(ids)
+    Ok(())
+}
+
+// Whether it is a pair of the relationship.
+fn is_pair_of(id: Id, relationship: Entity) -> bool {
+    match id {
+        Id::Two(own, _) => own.is(relationship),
+        Id::One(_) => false,
+    }
+}
+
+// Whether one of the ids is such a pair.
+fn has_pair_of(ids: &[Id], relationship: Entity) -> bool {
+    for id in ids {
+        if is_pair_of(*id, relationship) {
+            return true;
+        }
+    }
+    false
 }
 
 // Whether the pair gives way to one of those that come: its relationship is exclusive.
@@ -178,7 +225,7 @@ fn gives_way(list: &[Had], coming: &[Id], own: Id) -> bool {
     };
     has(list, relationship, Id::One(EXCLUSIVE))
         && !is_among(coming, own)
-        && coming.iter().any(|id| matches!(id, Id::Two(other, _) if other.is(relationship)))
+        && has_pair_of(coming, relationship)
 }
 
 // Puts it into the list, where it isn't there.
@@ -202,37 +249,61 @@ fn gain(list: &[Had], new: &mut Vec<Had>, holder: Entity, coming: &[Id]) -> Resu
     Ok(())
 }
 
-// The list where one more has come, with all that comes along, and the mirror.
-fn list_with(alloc: Global, list: &[Had], new: Had) -> Result<Vec<Had>, AllocError> {
-    if has(list, new.holder, new.id) {
-        return Vec::from_slice(alloc, list);
-    }
-    let coming = closure(alloc, list, new.id)?;
-    let mut after = Vec::new(alloc);
-    gain(list, &mut after, new.holder, &coming)?;
-    if let Some(mirror) = new.mirror().filter(|_| is_symmetric(list, new.id)) {
-        put(&mut after, mirror)?;
-    }
-    Ok(after)
-}
-
-// The list without what the deed takes, each with its mirror.
-fn list_without(alloc: Global, list: &[Had], deed: Deed) -> Result<Vec<Had>, AllocError> {
-    let mut after = Vec::new(alloc);
+// Copies into the new list what stays where the deed is done: all but what it takes, each with its mirror.
+fn lose(list: &[Had], new: &mut Vec<Had>, deed: Deed) -> Result<(), AllocError> {
     for own in list {
-        let other_goes = own.mirror().is_some_and(|mirror| deed.takes(list, mirror));
-        if !deed.takes(list, *own) && !(other_goes && is_symmetric(list, own.id)) {
-            after.push(*own)?;
+        if !deed.takes(list, *own)
+            && !(is_symmetric(list, own.id) && deed.takes_mirror(list, *own))
+        {
+            new.push(*own)?;
         }
     }
-    Ok(after)
+    Ok(())
 }
 
-/// The list once the deed is done.
-pub fn list_after(alloc: Global, list: &[Had], deed: Deed) -> Result<Vec<Had>, AllocError> {
-    match deed {
-        Deed::Add(new) | Deed::Set(new) => list_with(alloc, list, new),
-        _ => list_without(alloc, list, deed),
+/// A list, what it is once a deed is done, and room for what an id brings along.
+#[derive(Drop)]
+pub struct PlainList {
+    pub now: Vec<Had>,
+    pub next: Vec<Had>,
+    coming: Vec<Id>,
+}
+
+impl PlainList {
+    /// Nobody has anything.
+    pub fn new(alloc: Global) -> PlainList {
+        PlainList {
+            now: Vec::new(alloc),
+            next: Vec::new(alloc),
+            coming: Vec::new(alloc),
+        }
+    }
+
+    // Makes the next list the one where one more has come, with all that comes along, and the mirror.
+    fn add(&mut self, new: Had) -> Result<(), AllocError> {
+        if has(&self.now, new.holder, new.id) {
+            return self.next.extend_from_slice(&self.now);
+        }
+        close(&self.now, &mut self.coming, new.id)?;
+        gain(&self.now, &mut self.next, new.holder, &self.coming)?;
+        match new.mirror() {
+            Some(mirror) if is_symmetric(&self.now, new.id) => put(&mut self.next, mirror),
+            _ => Ok(()),
+        }
+    }
+
+    /// Makes the next list the one where the deed is done.
+    pub fn foresee(&mut self, deed: Deed) -> Result<(), AllocError> {
+        self.next.clear();
+        match deed {
+            Deed::Add(new) | Deed::Set(new) => self.add(new),
+            _ => lose(&self.now, &mut self.next, deed),
+        }
+    }
+
+    /// The deed is done: the next list is the one that holds now.
+    pub fn accept(&mut self) {
+        mem::swap(&mut self.now, &mut self.next);
     }
 }
 
@@ -248,25 +319,77 @@ fn bars(own: Had, entity: Entity) -> bool {
     }
 }
 
-/// Whether somebody is symmetric who may not be.
-pub fn clashes(list: &[Had]) -> bool {
-    list.iter().any(|own| {
-        own.id.is(Id::One(SYMMETRIC)) && list.iter().any(|other| bars(*other, own.holder))
-    })
+// Whether anything in the list does so.
+fn is_barred(list: &[Had], entity: Entity) -> bool {
+    for own in list {
+        if bars(*own, entity) {
+            return true;
+        }
+    }
+    false
 }
 
-// Whether the entity has in the world just what it has in the list.
-fn has_just(world: &World, list: &[Had], entity: Entity) -> bool {
-    let ids = world.ids_of(entity);
-    let count = list.iter().filter(|own| own.holder.is(entity)).count();
-    ids.len() == count && ids.iter().all(|id| has(list, entity, *id))
+/// Whether somebody is symmetric who may not be.
+pub fn clashes(list: &[Had]) -> bool {
+    for own in list {
+        if own.id.is(Id::One(SYMMETRIC)) && is_barred(list, own.holder) {
+            return true;
+        }
+    }
+    false
+}
+
+// How many ids the entity has in the list.
+fn count_had(list: &[Had], entity: Entity) -> usize {
+    let mut count = 0usize;
+    for own in list {
+        if own.holder.is(entity) {
+            count = count.saturating_add(1);
+        }
+    }
+    count
+}
+
+// Whether the entity has all of these in the list.
+fn has_all(list: &[Had], entity: Entity, ids: &[Id]) -> bool {
+    for id in ids {
+        if !has(list, entity, *id) {
+            return false;
+        }
+    }
+    true
+}
+
+// Whether each of these has in the world just what it has in the list.
+fn have_just(world: &World, list: &[Had], living: &[Entity]) -> bool {
+    for entity in living {
+        let ids = world.ids_of(*entity);
+        if ids.len() != count_had(list, *entity) || !has_all(list, *entity, ids) {
+            return false;
+        }
+    }
+    true
+}
+
+// Whether it is so of all who were made.
+fn are_just(world: &World, list: &[Had]) -> bool {
+    match world.living() {
+        Ok(living) => have_just(world, list, living.get(BUILT_IN..).unwrap_or(&[])),
+        Err(_) => false,
+    }
+}
+
+// Whether nobody dead is in the list.
+fn are_alive(world: &World, list: &[Had]) -> bool {
+    for own in list {
+        if !world.is_alive(own.holder) {
+            return false;
+        }
+    }
+    true
 }
 
 /// Whether all who were made have in the world just what they have in the list, and nobody dead is in it.
 pub fn agrees(world: &World, list: &[Had]) -> bool {
-    list.iter().all(|own| world.is_alive(own.holder))
-        && world.living().is_ok_and(|living| living
-            .iter()
-            .skip(BUILT_IN)
-            .all(|entity| has_just(world, list, *entity)))
+    are_alive(world, list) && are_just(world, list)
 }

@@ -64,16 +64,44 @@ fn draw_term(
     }
 }
 
-// One more term, in the text with some access.
+// Puts a term behind those of the text, with some access.
+fn push_term(
+    text: &mut String,
+    draws: &mut RandomDraws,
+    between: &str,
+    term: &Term,
+) -> Result<(), AllocError> {
+    let access = ACCESSES[draws.below(5) as usize];
+    write!(text, "{between}{access}{term}")
+}
+
+// One more term, of this kind.
 fn add_term(
+    alloc: Global,
     question: &mut Question,
     draws: &mut RandomDraws,
-    term: Term,
+    living: &[Entity],
+    kind: u32,
 ) -> Result<(), AllocError> {
+    let term = draw_term(alloc, draws, living, kind)?;
     let between = if question.terms.is_empty() { "" } else { " ," };
-    let access = ACCESSES[draws.below(5) as usize];
-    write!(&mut question.text, "{between}{access}{term}")?;
+    push_term(&mut question.text, draws, between, &term)?;
     question.terms.push(term)?;
+    Ok(())
+}
+
+// Up to five terms, of which the first asks that something is there.
+fn add_terms(
+    alloc: Global,
+    question: &mut Question,
+    draws: &mut RandomDraws,
+    living: &[Entity],
+) -> Result<(), AllocError> {
+    for place in 0..1 + draws.below(5) {
+        let kinds = if place == 0 { 5 } else { 9 };
+        let kind = draws.below(kinds);
+        add_term(alloc, question, draws, living, kind)?;
+    }
     Ok(())
 }
 
@@ -87,11 +115,6 @@ pub fn draw_question(
         terms: Vec::new(alloc),
         text: String::new(alloc),
     };
-    for place in 0..1 + draws.below(5) {
-        let kinds = if place == 0 { 5 } else { 9 };
-        let kind = draws.below(kinds);
-        let term = draw_term(alloc, draws, living, kind)?;
-        add_term(&mut question, draws, term)?;
-    }
+    add_terms(alloc, &mut question, draws, living)?;
     Ok(question)
 }

@@ -37,23 +37,39 @@ fn fill(store: &mut Store, nothing: &TypeList) -> Result<(), Refusal> {
     store.rename(TAG, Some("Tag"))
 }
 
-// How many tables there are before the holder gets the tag, and how many once it did. Nobody has the other handle, which goes
-// nowhere, and leaves no table behind.
-fn moved(store: &mut Store, tagged: TypeList) -> Result<[usize; 2], AllocError> {
+// How many tables there are before these moves, and how many behind them.
+fn moved(store: &mut Store, moves: &[Move]) -> Result<[usize; 2], AllocError> {
     let before = store.tables().len();
-    let other = tagged.without(Id::One(TAG))?;
-    let moves = [
-        Move {
-            entity: HOLDER,
-            type_list: tagged,
-        },
-        Move {
-            entity: NOBODY,
-            type_list: other,
-        },
-    ];
-    store.retype_all(&moves)?;
+    store.retype_all(moves)?;
     Ok([before, store.tables().len()])
+}
+
+// Whether a table comes where the holder gets this type. Nobody has the other handle, which goes nowhere, and leaves no table behind.
+fn moves_to(store: &mut Store, tagged: TypeList) -> bool {
+    match tagged.without(Id::One(TAG)) {
+        Ok(other) => {
+            let moves = [
+                Move {
+                    entity: HOLDER,
+                    type_list: tagged,
+                },
+                Move {
+                    entity: NOBODY,
+                    type_list: other,
+                },
+            ];
+            moved(store, &moves) == Ok([1, 2])
+        }
+        Err(_) => false,
+    }
+}
+
+// Whether a table comes where the holder gets the tag.
+fn is_moved(alloc: Global, store: &mut Store) -> bool {
+    match tagged(alloc) {
+        Ok(tagged) => moves_to(store, tagged),
+        Err(_) => false,
+    }
 }
 
 // How many tables, entities and types have the tag, and how many tables have both ids.
@@ -71,25 +87,23 @@ fn found(store: &Store) -> Result<[usize; 4], AllocError> {
     ])
 }
 
-// What is found once the holder has lost the tag, and the tag's own entity has got it.
-fn handed_over(store: &mut Store) -> Result<[usize; 4], AllocError> {
-    if store.is_alive(HOLDER) && store.is_alive(TAG) {
-        store.step_both((HOLDER, Id::One(TAG)), (TAG, Id::One(TAG)))?;
-    }
-    found(store)
+// Whether the holder loses the tag, and the tag's own entity gets it.
+fn is_handed_over(store: &mut Store) -> bool {
+    store.is_alive(HOLDER)
+        && store.is_alive(TAG)
+        && store
+            .step_both((HOLDER, Id::One(TAG)), (TAG, Id::One(TAG)))
+            .is_ok()
 }
 
-// What is made of a new store, and what is found in it before and after the tag is handed over.
-fn used(alloc: Global, store: &mut Store) -> Result<([usize; 2], [usize; 4], [usize; 4]), Refusal> {
-    fill(store, &TypeList::empty(alloc))?;
-    let tables = moved(store, tagged(alloc)?)?;
-    Ok((tables, found(store)?, handed_over(store)?))
-}
-
-// Whether all is made and found in a new store.
+// Whether all is made in a new store, and found in it before and after the tag is handed over.
 fn is_used(alloc: Global) -> bool {
-    used(alloc, &mut Store::new(alloc, 16, Seed::new(0)))
-        == Ok(([1, 2], [1, 1, 1, 1], [1, 1, 1, 0]))
+    let mut store = Store::new(alloc, 16, Seed::new(0));
+    fill(&mut store, &TypeList::empty(alloc)).is_ok()
+        && is_moved(alloc, &mut store)
+        && found(&store) == Ok([1, 1, 1, 1])
+        && is_handed_over(&mut store)
+        && found(&store) == Ok([1, 1, 1, 0])
 }
 
 #[test]

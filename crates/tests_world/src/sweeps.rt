@@ -69,53 +69,75 @@ fn sweeps() -> [(Phase, &'static str, Id); 3] {
     ]
 }
 
-// Adds a system of one of them.
+// Adds a system of one of them, and tells whether that was done.
 fn add(
     world: &World,
     systems: &mut Systems<Sweep>,
     name: &str,
     (phase, text, id): (Phase, &str, Id),
-) -> Result<bool, Refusal> {
-    let query = world.read_query(text)?;
-    Ok(systems.add(name, phase, query, Sweep { id }).is_ok())
+) -> bool {
+    match world.read_query(text) {
+        Ok(query) => systems.add(name, phase, query, Sweep { id }).is_ok(),
+        Err(_) => false,
+    }
 }
 
 // Declares them, and tells whether that was done.
-fn declare(world: &World, systems: &mut Systems<Sweep>) -> Result<bool, Refusal> {
+fn declare(world: &World, systems: &mut Systems<Sweep>) -> bool {
     let [first, second, third] = sweeps();
-    Ok(
-        add(world, systems, "first", first)?
-            && add(world, systems, "second", second)?
-            && add(world, systems, "third", third)?,
-    )
+    add(world, systems, "first", first)
+        && add(world, systems, "second", second)
+        && add(world, systems, "third", third)
+}
+
+// What one of them is to do.
+fn plan((phase, text, id): (Phase, &'static str, Id)) -> FramePlan {
+    FramePlan {
+        phase,
+        text,
+        deeds: Deeds::Sweep(id),
+    }
 }
 
 // What they are to do.
 fn plans() -> [FramePlan; 3] {
-    sweeps().map(|(phase, text, id)| FramePlan {
-        phase,
-        text,
-        deeds: Deeds::Sweep(id),
-    })
+    let [first, second, third] = sweeps();
+    [plan(first), plan(second), plan(third)]
 }
 
 // Whether thirty frames of them are right, between which others come to live, and have three batches each.
-fn are_right<R: Threads + Sync>(rt: &R, alloc: Global) -> Result<bool, Refusal> {
-    let mut world = World::new(alloc, 65_536)?;
-    prepare(&mut world)?;
-    let mut systems = Systems::new(alloc);
-    let mut is_right = declare(&world, &mut systems)?;
+fn run<R: Threads + Sync>(
+    rt: &R,
+    alloc: Global,
+    world: &mut World,
+    systems: &Systems<Sweep>,
+) -> bool {
     let mut draws = RandomDraws::new(2026);
     let mut totals = Totals::new();
+    let mut is_right = true;
     for _ in 0..30 {
-        mend(&mut world, &mut draws)?;
         is_right = is_right
-            && frame_agrees(rt, alloc, &mut world, &systems, &plans(), 8, &mut totals)?;
+            && mend(world, &mut draws).is_ok()
+            && frame_agrees(rt, alloc, world, systems, 8, &plans(), &mut totals);
     }
-    Ok(is_right && totals.batches == 90)
+    is_right && totals.batches == 90
+}
+
+// Whether they are so once they are declared.
+fn run_declared<R: Threads + Sync>(rt: &R, alloc: Global, world: &mut World) -> bool {
+    let mut systems = Systems::new(alloc);
+    prepare(world).is_ok() && declare(world, &mut systems) && run(rt, alloc, world, &systems)
+}
+
+// Whether they are so in a new world.
+fn are_right<R: Threads + Sync>(rt: &R, alloc: Global) -> bool {
+    match World::new(alloc, 65_536) {
+        Ok(mut world) => run_declared(rt, alloc, &mut world),
+        Err(_) => false,
+    }
 }
 
 #[test]
 fn frames_that_kill_are_one_by_one(rt: HostRuntime) {
-    assert!(rt; are_right(&rt, rt.alloc()) == Ok(true));
+    assert!(rt; are_right(&rt, rt.alloc()));
 }

@@ -9,8 +9,8 @@ use eco_frame::run_frame;
 use eco_ids::{Entity, Id, Pattern, Refusal, Value};
 use eco_stages::{Command, Stage};
 use eco_systems::Phase;
-use eco_world::World;
-use std::alloc::Global;
+use eco_world::{Query, World};
+use std::alloc::{AllocError, Global};
 use std::sync::atomic::{AtomicU64, Ordering};
 use std::thread::Threads;
 
@@ -101,24 +101,45 @@ fn prepare(world: &mut World) -> Result<Entity, Refusal> {
     Ok(twin)
 }
 
-// Runs a frame of one system.
-fn run_twins<R: Threads + Sync>(
+// Runs a frame of one system, and tells whether that was done.
+fn runs<R: Threads + Sync>(
     rt: &R,
     alloc: Global,
     world: &mut World,
+    query: Query,
     body: Twins<'_>,
     workers: u32,
-) -> Result<(), Refusal>
+) -> bool
     requires { (1 ≤ workers) × (workers ≤ 64) }
 {
-    let query = world.read_query("[in] Number")?;
     let mut systems = Systems::new(alloc);
-    if let Err(refused) = systems.add("twins", Phase::OnUpdate, query, body) {
-        return Err(refused.refusal);
-    }
-    match run_frame(rt, alloc, world, &systems, workers) {
-        Ok(_) => Ok(()),
-        Err(stop) => Err(stop.refusal),
+    systems.add("twins", Phase::OnUpdate, query, body).is_ok()
+        && run_frame(rt, alloc, world, &systems, workers).is_ok()
+}
+
+// Runs a frame of so many workers in which each row draws a twin.
+fn draws_twins<R: Threads + Sync>(
+    rt: &R,
+    alloc: Global,
+    world: &mut World,
+    twin: Entity,
+    workers: u32,
+) -> bool
+    requires { (1 ≤ workers) × (workers ≤ 64) }
+{
+    let begun = AtomicU64::new(0);
+    match world.read_query("[in] Number") {
+        Ok(query) => {
+            let body = Twins {
+                twin,
+                writes: [Pattern::One(twin)],
+                together: u64::from(workers),
+                turns: 2_000_000_000,
+                begun: &begun,
+            };
+            runs(rt, alloc, world, query, body, workers)
+        }
+        Err(_) => false,
     }
 }
 
@@ -128,34 +149,22 @@ fn row_of(world: &World, entity: Entity, twin: Entity) -> Option<usize> {
     usize::try_from(number.0[0]).ok()
 }
 
-// The index of the twin of each row, in the order of rows; 0 where there is none.
-fn twins_of(alloc: Global, world: &World, twin: Entity) -> Result<Vec<u32>, Refusal> {
-    let mut twins = vec![in alloc; 0u32; ROWS as usize]?;
-    for entity in world.living()? {
-        let row = row_of(world, entity, twin).unwrap_or(usize::MAX);
+// Writes the indices of the twins among the living, each at its row.
+fn fill(twins: &mut Vec<u32>, world: &World, living: &[Entity], twin: Entity) {
+    for entity in living {
+        let row = row_of(world, *entity, twin).unwrap_or(usize::MAX);
         if row < twins.len() {
             twins[row] = entity.index;
         }
     }
-    Ok(twins)
 }
 
-// The twins of a frame by so many workers.
-fn draw_twins<R: Threads + Sync>(rt: &R, alloc: Global, workers: u32) -> Result<Vec<u32>, Refusal>
-    requires { (1 ≤ workers) × (workers ≤ 64) }
-{
-    let begun = AtomicU64::new(0);
-    let mut world = World::new(alloc, 2048)?;
-    let twin = prepare(&mut world)?;
-    let body = Twins {
-        twin,
-        writes: [Pattern::One(twin)],
-        together: u64::from(workers),
-        turns: 2_000_000_000,
-        begun: &begun,
-    };
-    run_twins(rt, alloc, &mut world, body, workers)?;
-    twins_of(alloc, &world, twin)
+// The index of the twin of each row, in the order of rows; 0 where there is none.
+fn twins_of(alloc: Global, world: &World, twin: Entity) -> Result<Vec<u32>, AllocError> {
+    let living = world.living()?;
+    let mut twins = vec![in alloc; 0u32; ROWS as usize]?;
+    fill(&mut twins, world, &living, twin);
+    Ok(twins)
 }
 
 // Whether indices ascend from each to the next, but from the last of so many to the first of the next so many.
@@ -174,11 +183,13 @@ fn ascend_by(rows: usize, twins: &[u32]) -> bool
 
 // Whether the first index of each of so many pieces is below a bound.
 fn begin_below(pieces: usize, bound: u32, twins: &[u32]) -> bool {
-    twins
-        .iter()
-        .step_by(ROWS_OF_A_PIECE)
-        .take(pieces)
-        .all(|twin| *twin < bound)
+    for (row, twin) in twins.iter().enumerate() {
+        let is_first = row % ROWS_OF_A_PIECE == 0 && row / ROWS_OF_A_PIECE < pieces;
+        if is_first && *twin >= bound {
+            return false;
+        }
+    }
+    true
 }
 
 // Whether they are the indices from one on.
@@ -193,26 +204,59 @@ fn are_from(base: u32, sorted: &[u32]) -> bool {
     true
 }
 
-// Whether the rows draw the indices from 523 on, each once, whether those of each so many rows ascend, and whether as many pieces as
-// there are workers draw one before any of them draws its second.
-fn draws_each_once<R: Threads + Sync>(
+// Whether the rows drew the indices from 523 on, each once, whether those of each so many rows ascend, and whether as many pieces as
+// there are workers drew one before any of them drew its second.
+fn are_drawn(twins: &mut Vec<u32>, workers: u32, rows: usize) -> bool
+    requires { (workers ≤ 64) × (1 ≤ rows) }
+{
+    ascend_by(rows, twins.as_slice())
+        && begin_below(workers as usize, 523 + workers, twins.as_slice())
+        && twins.sort().is_ok()
+        && twins.len() == 512
+        && are_from(523, twins.as_slice())
+}
+
+// Whether it is so of a world's twins.
+fn drew(alloc: Global, world: &World, twin: Entity, workers: u32, rows: usize) -> bool
+    requires { (workers ≤ 64) × (1 ≤ rows) }
+{
+    match twins_of(alloc, world, twin) {
+        Ok(mut twins) => are_drawn(&mut twins, workers, rows),
+        Err(_) => false,
+    }
+}
+
+// Whether it is so of a frame of this world.
+fn draws_in<R: Threads + Sync>(
     rt: &R,
     alloc: Global,
+    world: &mut World,
     workers: u32,
     rows: usize,
-) -> Result<bool, Refusal>
+) -> bool
     requires { (1 ≤ workers) × (workers ≤ 64) × (1 ≤ rows) }
 {
-    let mut twins = draw_twins(rt, alloc, workers)?;
-    let in_pieces = ascend_by(rows, twins.as_slice());
-    let at_once = begin_below(workers as usize, 523 + workers, twins.as_slice());
-    twins.sort()?;
-    Ok(in_pieces && at_once && twins.len() == 512 && are_from(523, twins.as_slice()))
+    match prepare(world) {
+        Ok(twin) => {
+            draws_twins(rt, alloc, world, twin, workers) && drew(alloc, world, twin, workers, rows)
+        }
+        Err(_) => false,
+    }
+}
+
+// Whether it is so of a frame of a new world.
+fn draws_each_once<R: Threads + Sync>(rt: &R, alloc: Global, workers: u32, rows: usize) -> bool
+    requires { (1 ≤ workers) × (workers ≤ 64) × (1 ≤ rows) }
+{
+    match World::new(alloc, 2048) {
+        Ok(mut world) => draws_in(rt, alloc, &mut world, workers, rows),
+        Err(_) => false,
+    }
 }
 
 #[test]
 fn a_frame_draws_each_handle_once(rt: HostRuntime) {
-    assert!(rt; draws_each_once(&rt, rt.alloc(), 1, 512) == Ok(true));
-    assert!(rt; draws_each_once(&rt, rt.alloc(), 2, 64) == Ok(true));
-    assert!(rt; draws_each_once(&rt, rt.alloc(), 8, 64) == Ok(true));
+    assert!(rt; draws_each_once(&rt, rt.alloc(), 1, 512));
+    assert!(rt; draws_each_once(&rt, rt.alloc(), 2, 64));
+    assert!(rt; draws_each_once(&rt, rt.alloc(), 8, 64));
 }

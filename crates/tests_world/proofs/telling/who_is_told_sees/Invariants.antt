@@ -1,4 +1,4 @@
-use Rattle.tests_shared.proofs.telling.who_is_told_sees.Given as goal
+use Rattle.tests_world.proofs.telling.who_is_told_sees.Given as goal
 
 abbrev pub ghosts-tell : goal.ghosts-tell
 ghosts-tell g a = record { book = a.blank.front.seen.book }

@@ -1,7 +1,0 @@
-//! Tests of typed components.
-#![tactic(auto)]
-
-pub mod bounds;
-pub mod position;
-#[cfg(test)]
-mod ships;

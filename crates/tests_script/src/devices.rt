@@ -102,9 +102,9 @@ impl io::Write for Full {
     }
 }
 
-// Runs the script over a writer with room for so many bytes. It gives the status, and whether so many bytes of the front of
-// the text were written.
-fn run_into<R: Threads + Sync>(rt: &R, alloc: Global, room: usize) -> (Status, bool) {
+// Whether a run of the script over a writer with room for so many bytes ends with the status, and writes so many bytes of the front
+// of the text.
+fn fills<R: Threads + Sync>(rt: &R, alloc: Global, room: usize, expected: Status) -> bool {
     let mut reader = Counted::new(SCRIPT.as_bytes());
     let mut writer = Counted::new(Full {
         bytes: Vec::new(alloc),
@@ -112,19 +112,26 @@ fn run_into<R: Threads + Sync>(rt: &R, alloc: Global, room: usize) -> (Status, b
     });
     let status = run_script(rt, alloc, &mut reader, &mut writer, 1);
     let written = writer.inner().bytes.as_slice();
-    (
-        status,
-        written.len() == room && TEXT.as_bytes().starts_with(written),
-    )
+    status == expected && written.len() == room && TEXT.as_bytes().starts_with(written)
 }
 
-// Runs the script over devices that fail at these calls, and gives the status and what was written.
+// Whether a run stops at a full writer wherever it is full, and not where there is just room for the text.
+fn stops_where_full<R: Threads + Sync>(rt: &R, alloc: Global) -> bool {
+    let mut are_stopped = true;
+    for room in 0..TEXT.len() {
+        are_stopped &= fills(rt, alloc, room, Status::Stopped);
+    }
+    are_stopped && fills(rt, alloc, TEXT.len(), Status::Ran)
+}
+
+// Runs the script over devices that fail at these calls. It gives the status, and how many bytes were written, if they are a front of
+// the text.
 fn run_over<R: Threads + Sync>(
     rt: &R,
     alloc: Global,
     read_fails_at: u64,
     write_fails_at: u32,
-) -> (Status, Vec<u8>) {
+) -> (Status, Option<usize>) {
     let mut reader = Slow {
         rest: SCRIPT.as_bytes(),
         calls: 0,
@@ -138,58 +145,58 @@ fn run_over<R: Threads + Sync>(
         failures: 0,
     };
     let status = run_script(rt, alloc, &mut reader, &mut writer, 1);
-    (status, writer.bytes)
+    let written = writer.bytes.as_slice();
+    let is_front = TEXT.as_bytes().starts_with(written);
+    (status, is_front.then_some(written.len()))
+}
+
+// Whether a run stops wherever a read fails, and writes nothing.
+fn stops_at_reads<R: Threads + Sync>(rt: &R, alloc: Global) -> bool {
+    let mut are_stopped = true;
+    for call in 0..29u64 {
+        are_stopped &= run_over(rt, alloc, call, u32::MAX) == (Status::Stopped, Some(0));
+    }
+    are_stopped
+}
+
+// Whether a run stops wherever a write fails, and has written a front of the text.
+fn stops_at_writes<R: Threads + Sync>(rt: &R, alloc: Global) -> bool {
+    let mut are_stopped = true;
+    for call in 0..43u32 {
+        let (status, written) = run_over(rt, alloc, u64::MAX, call);
+        are_stopped &= status == Status::Stopped && written.is_some();
+    }
+    are_stopped
 }
 
 #[test]
 fn writes_in_small_parts(rt: HostRuntime) {
-    let (status, bytes) = run_over(&rt, rt.alloc(), u64::MAX, u32::MAX);
-    assert_eq!(rt; status, Status::Ran);
-    assert!(rt; bytes.as_slice() == TEXT.as_bytes());
+    let run = run_over(&rt, rt.alloc(), u64::MAX, u32::MAX);
+    assert!(rt; run == (Status::Ran, Some(TEXT.len())));
 }
 
 #[test]
-fn stops_where_a_read_fails(rt: HostRuntime) {
-    for call in 0..29u64 {
-        let (status, bytes) = run_over(&rt, rt.alloc(), call, u32::MAX);
-        assert_eq!(rt; status, Status::Stopped, "at {call}");
-        assert!(rt; bytes.is_empty(), "at {call}");
-    }
-}
-
-#[test]
-fn stops_where_a_write_fails(rt: HostRuntime) {
-    for call in 0..43u32 {
-        let (status, bytes) = run_over(&rt, rt.alloc(), u64::MAX, call);
-        assert_eq!(rt; status, Status::Stopped, "at {call}");
-        assert!(rt; TEXT.as_bytes().starts_with(bytes.as_slice()), "at {call}");
-    }
+fn stops_where_a_device_fails(rt: HostRuntime) {
+    assert!(rt; stops_at_reads(&rt, rt.alloc()));
+    assert!(rt; stops_at_writes(&rt, rt.alloc()));
 }
 
 #[test]
 fn stops_where_a_writer_is_full(rt: HostRuntime) {
-    for room in 0..TEXT.len() {
-        let (status, is_front) = run_into(&rt, rt.alloc(), room);
-        assert_eq!(rt; status, Status::Stopped, "at {room}");
-        assert!(rt; is_front, "at {room}");
-    }
-    let (status, is_whole) = run_into(&rt, rt.alloc(), TEXT.len());
-    assert_eq!(rt; status, Status::Ran);
-    assert!(rt; is_whole);
+    assert!(rt; stops_where_full(&rt, rt.alloc()));
 }
 
-// The status of a run of some bytes, and whether it wrote nothing.
-fn run<R: Threads + Sync>(rt: &R, alloc: Global, bytes: &[u8]) -> (Status, bool) {
+// Whether a run of these bytes finds no script, and writes nothing.
+fn is_not_read<R: Threads + Sync>(rt: &R, alloc: Global, bytes: &[u8]) -> bool {
     let mut reader = Counted::new(bytes);
     let mut writer = Counted::new(Vec::new(alloc));
-    let status = run_script(rt, alloc, &mut reader, &mut writer, 1);
-    (status, writer.inner().as_slice().is_empty())
+    run_script(rt, alloc, &mut reader, &mut writer, 1) == Status::NotRead
+        && writer.inner().as_slice().is_empty()
 }
 
 #[test]
 fn other_bytes_than_a_text_are_not_read(rt: HostRuntime) {
-    let run = run(&rt, rt.alloc(), b"[1, 64, [[\"create\", \"\xff\"]]]");
-    assert_eq!(rt; run, (Status::NotRead, true));
+    assert!(rt; is_not_read(&rt, rt.alloc(), b"[1, 64, [[\"create\", \"\xff\"]]]"));
 }
 
 // A reader that gives one space at every call, without end.
@@ -215,12 +222,16 @@ impl ScriptReader for Spaces {
     }
 }
 
+// Whether a run stops once it has read so often as a run may, and writes nothing.
+fn stops_in_time<R: Threads + Sync>(rt: &R, alloc: Global) -> bool {
+    let mut reader = Spaces(0);
+    let mut writer = Counted::new(Vec::new(alloc));
+    run_script(rt, alloc, &mut reader, &mut writer, 1) == Status::Stopped
+        && reader.0 == 16_777_216
+        && writer.inner().as_slice().is_empty()
+}
+
 #[test]
 fn an_endless_input_stops_a_run(rt: HostRuntime) {
-    let mut reader = Spaces(0);
-    let mut writer = Counted::new(Vec::new(rt.alloc()));
-    let status = run_script(&rt, rt.alloc(), &mut reader, &mut writer, 1);
-    assert_eq!(rt; status, Status::Stopped);
-    assert_eq!(rt; reader.0, 16_777_216);
-    assert!(rt; writer.inner().as_slice().is_empty());
+    assert!(rt; stops_in_time(&rt, rt.alloc()));
 }

@@ -1,21 +1,58 @@
 //! Worlds as texts: all that a world tells.
-use crate::answer::push_rows;
 use eco_ids::{Entity, FIELD_COUNT, Refusal, Value};
-use eco_world::{QueryId, TableRows, World};
+use eco_world::{QueryId, Row, TableRows, World};
 use std::alloc::{AllocError, Global};
+use std::fmt::{Debug, Display};
 
 // More than any world here keeps: beyond them a world answers that there is no such query.
 const QUERIES: usize = 4;
+
+/// Writes something behind a space.
+pub fn push<T: Display>(text: &mut String, word: &T) -> Result<(), AllocError> {
+    write!(text, " {word}")
+}
+
+/// Writes all that a value has on a line of its own.
+pub fn push_debug<T: Debug>(text: &mut String, value: &T) -> Result<(), AllocError> {
+    write!(text, "{value:?}\n")
+}
+
+// A row of a query: who it is, and its entries, `-` for none.
+fn push_row(text: &mut String, row: &Row) -> Result<(), AllocError> {
+    push(text, &row.entity)?;
+    for entry in &row.entries {
+        match entry {
+            Some(id) => push(text, id)?,
+            None => text.push_str(" -")?,
+        }
+    }
+    Ok(())
+}
+
+/// The rows of a query.
+pub fn push_rows(text: &mut String, rows: &[Row]) -> Result<(), AllocError> {
+    for row in rows {
+        push_row(text, row)?;
+    }
+    Ok(())
+}
 
 // An entity: its handle, its name, its arity, and its ids, each with all fields of its value where it is data.
 fn push_entity(text: &mut String, world: &World, entity: Entity) -> Result<(), AllocError> {
     let name = world.name_of(entity).unwrap_or("-");
     let arity = world.arity_of(entity).unwrap_or(0);
-    write!(text, "{entity} {name} {arity}")?;
+    push(text, &entity)?;
+    push(text, &name)?;
+    push(text, &arity)?;
     for id in world.ids_of(entity) {
-        let value = world.get(entity, *id).unwrap_or(Value::ZERO);
-        let fields = value.fields(FIELD_COUNT);
-        write!(text, " {id}={fields}")?;
+        push(text, id)?;
+        push(
+            text,
+            &world
+                .get(entity, *id)
+                .unwrap_or(Value::ZERO)
+                .fields(FIELD_COUNT),
+        )?;
     }
     text.push_str("\n")
 }
@@ -24,13 +61,20 @@ fn push_entity(text: &mut String, world: &World, entity: Entity) -> Result<(), A
 fn push_table(text: &mut String, alloc: Global, table: &TableRows<'_>) -> Result<(), AllocError> {
     let mut entities = Vec::from_slice(alloc, table.entities)?;
     entities.sort_unstable();
-    text.push_str("table")?;
-    for id in table.ids {
-        write!(text, " {id}")?;
-    }
-    text.push_str(" has")?;
-    for entity in &entities {
-        write!(text, " {entity}")?;
+    push_debug(text, &table.ids)?;
+    push_debug(text, &entities)
+}
+
+// The answer of the query of this number, and how many tables it has.
+fn push_query(text: &mut String, world: &World, number: usize) -> Result<(), AllocError> {
+    let tables = world
+        .tables_of_query(QueryId(number))
+        .map_or(0, |tables| tables.len());
+    push(text, &number)?;
+    push(text, &tables)?;
+    match world.answer(QueryId(number)) {
+        Ok(rows) => push_rows(text, &rows)?,
+        Err(refusal) => push(text, &refusal)?,
     }
     text.push_str("\n")
 }
@@ -51,48 +95,14 @@ fn push_entities(text: &mut String, world: &World) -> Result<(), AllocError> {
     Ok(())
 }
 
-// How many tables the query of this number has.
-fn push_table_count(text: &mut String, world: &World, number: usize) -> Result<(), AllocError> {
-    match world.tables_of_query(QueryId(number)) {
-        Ok(tables) => {
-            let count = tables.len();
-            write!(text, " tables {count}\n")
-        }
-        Err(_) => text.push_str("\n"),
-    }
-}
-
-// The rows of the query of this number.
-fn push_answer(text: &mut String, world: &World, number: usize) -> Result<(), AllocError> {
-    match world.answer(QueryId(number)) {
-        Ok(rows) => push_rows(text, &rows),
-        Err(refusal) => write!(text, " {refusal}"),
-    }
-}
-
-// The answer of the query of this number.
-fn push_query(text: &mut String, world: &World, number: usize) -> Result<(), AllocError> {
-    write!(text, "query {number}")?;
-    push_answer(text, world, number)?;
-    push_table_count(text, world, number)
-}
-
-// The lines of a world.
-fn push_world(text: &mut String, alloc: Global, world: &World) -> Result<(), AllocError> {
-    let high = world.high();
-    write!(text, "high {high}\n")?;
+/// All that a world tells: who lives, with names, arities, ids and values; how many indices are known; its tables; and what the
+/// queries answer that were added to it.
+pub fn push_world(text: &mut String, alloc: Global, world: &World) -> Result<(), AllocError> {
+    push(text, &world.high())?;
     push_entities(text, world)?;
     push_tables(text, alloc, world)?;
     for number in 0..QUERIES {
         push_query(text, world, number)?;
     }
     Ok(())
-}
-
-/// All that a world tells: who lives, with names, arities, ids and values; how many indices are known; its tables; and what the
-/// queries answer that were added to it.
-pub fn dump_of(alloc: Global, world: &World) -> Result<String, Refusal> {
-    let mut text = String::new(alloc);
-    push_world(&mut text, alloc, world)?;
-    Ok(text)
 }

@@ -6,70 +6,63 @@
 //! was no memory beside the call, and 64 where there is no call of the name.
 #![tactic(auto)]
 
-mod answer;
-mod commands;
+mod deed;
 mod dump;
-mod finding;
+mod judge;
+mod lack;
+mod mark;
+mod order;
 mod scenario;
 mod scene;
 mod shared;
-mod worlds;
+mod systems;
 
 use eco_ids::Refusal;
 use eco_shared::Blank;
-use finding::{Finding, judge};
-use scenario::{SCENARIOS, Scenario};
+use judge::judge;
+use scenario::{Call, SCENARIOS, Scenario};
 use shared::judge_shared;
+use std::alloc::Global;
 use std::marker::Brand;
 use std::process::ExitCode;
 use std::sync::Wait;
 use std::thread::Threads;
 use std::{env, io};
 
-// What comes of the call of a scenario. The registry of a shared world gets its name here: `Brand` stands for one that this call
-// picks (proofs/judge_any).
-fn judge_any<R: Eprint + Threads + Wait + Copy + Drop + Sync + AllocGlobal>(
-    rt: &R,
-    scenario: Scenario,
-) -> Result<Finding, Refusal> {
-    match scenario {
-        Scenario::OpenShared | Scenario::MergeShared => {
-            judge_shared::<Brand, R>(*rt, rt.alloc(), Blank::new(), scenario)
+// Makes the call of a scenario, writes what came of it, and answers whether it was no fault. The registry of a shared world gets
+// its name here: `Brand` stands for one that this call picks (proofs/show).
+fn show<R: Print + Eprint + Threads + Wait + Copy + Drop + Sync>(
+    rt: R,
+    alloc: Global,
+    scenario: &Scenario,
+) -> Result<bool, Refusal> {
+    match scenario.call {
+        Call::OpenShared | Call::MergeShared => {
+            judge_shared::<Brand, R>(rt, alloc, Blank::new(), scenario)
         }
-        _ => judge(rt, scenario),
+        _ => judge(&rt, alloc, scenario),
     }
 }
 
-// Makes the call of a scenario, writes what came of it, and answers whether it was no fault.
-fn show<R: Print + Eprint + Threads + Wait + Copy + Drop + Sync + AllocGlobal>(
-    rt: &R,
-    scenario: Scenario,
-) -> Result<bool, Refusal> {
-    let name = scenario.name();
-    let verdict = judge_any(rt, scenario)?;
-    let (word, text) = verdict.parts();
-    let _written = println!(rt; "{name} {word} {text}");
-    Ok(verdict.is_sound())
-}
-
 // The scenarios that a word names; all, where there is none.
-fn is_asked(scenario: Scenario, word: Option<&String>) -> bool {
+fn is_asked(scenario: &Scenario, word: &Option<String>) -> bool {
     match word {
-        Some(word) => scenario.name() == word.as_str(),
+        Some(word) => scenario.name == word.as_str(),
         None => true,
     }
 }
 
 // The status that the program ends with.
-fn run<R: Print + Eprint + Threads + Wait + Copy + Drop + Sync + AllocGlobal>(
-    rt: &R,
-    word: Option<&String>,
+fn run<R: Print + Eprint + Threads + Wait + Copy + Drop + Sync>(
+    rt: R,
+    alloc: Global,
+    word: &Option<String>,
 ) -> u8 {
     let (mut calls, mut faults) = (0u32, 0u32);
     for scenario in SCENARIOS {
         if is_asked(scenario, word) {
             calls = calls.saturating_add(1);
-            match show(rt, scenario) {
+            match show(rt, alloc, scenario) {
                 Ok(true) => {}
                 Ok(false) => faults = faults.saturating_add(1),
                 Err(_) => return 2,
@@ -83,18 +76,14 @@ fn run<R: Print + Eprint + Threads + Wait + Copy + Drop + Sync + AllocGlobal>(
     }
 }
 
-// The words of the command line, the first of which is the program's name.
-fn words(rt: &HostRuntime) -> io::Result<Vec<String>> {
-    let mut words = Vec::new(rt.alloc());
-    for word in env::args(rt)? {
-        words.push(word)?;
-    }
-    Ok(words)
+// The word behind the program's name, if there is one.
+fn word(rt: &HostRuntime) -> io::Result<Option<String>> {
+    Ok(env::args(rt)?.nth(1))
 }
 
 fn main(rt: HostRuntime) -> ExitCode {
-    match words(&rt) {
-        Ok(words) => ExitCode::from(run(&rt, words.get(1))),
+    match word(&rt) {
+        Ok(word) => ExitCode::from(run(rt, rt.alloc(), &word)),
         Err(_) => ExitCode::from(2),
     }
 }

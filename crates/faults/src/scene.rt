@@ -1,43 +1,41 @@
 //! A world, and what a call on it takes.
-use crate::answer::Answer;
-use crate::commands::{ADMITTED, first, record_all, record_first, rename};
-use crate::dump::dump_of;
-use crate::scenario::Scenario;
-use crate::worlds::{self, Subject};
-use eco_bodies::{Action, Script, Systems};
-use eco_frame::{FrameReport, FrameStop, Pipeline, run_frame};
+use crate::deed::{first, make_all};
+use crate::dump::{push, push_debug, push_rows, push_world};
+use crate::lack::{Lack, NOTHING, conclude, push_merge, push_run, push_stop};
+use crate::mark::{begin_call, end_call};
+use crate::order::{Marks, NONE, ORDERS, record_all, record_one};
+use crate::scenario::{Call, Scenario};
+use crate::systems::{SYSTEMS, declare_first};
+use eco_bodies::{Script, Systems};
+use eco_frame::{Pipeline, run_frame};
 use eco_ids::entity::{ON_DELETE, REMOVE};
-use eco_ids::{Edition, Id, Refusal, Value};
-use eco_systems::Phase;
-use eco_world::{Command, Query, Report, Stage, World};
+use eco_ids::{Id, Refusal};
+use eco_world::{Command, Query, Stage, World};
 use std::alloc::{AllocError, Global};
 use std::thread::Threads;
 
 // All indices of the worlds lie below it.
 const LIMIT: u32 = 256;
 
-// The query that is added, read or answered.
-const ASKED: &str = "[in] T";
+/// How many indices a merge admits.
+pub const ADMITTED: u32 = 3;
 
-// Names of more than 24 bytes have memory of their own.
-const FRESH: &str = "fresh_name_with_memory_of_its_own";
-
-const ANOTHER: &str = "another_name_with_memory_of_its_own";
-
-const WIDE: &str = "Position, ?Frozen, (Likes, *)";
+/// More than the answer of any call takes.
+pub const ROOM: usize = 1_000;
 
 /// A world, and what a call on it takes.
 pub struct Scene {
-    alloc: Global,
-    scenario: Scenario,
+    pub alloc: Global,
+    call: Call,
     world: World,
-    subject: Subject,
     // The query that is added or answered, and the command that is recorded: the call may use it up.
     query: Option<Query>,
     command: Option<Command>,
-    // What a merge does, or a command is recorded behind.
-    stages: [Stage; 2],
+    /// What a merge does, or a command is recorded behind.
+    pub stages: [Stage; 2],
     systems: Systems<Script>,
+    /// What calls answered, and what the world told behind them.
+    pub text: String,
 }
 
 // By hand, so that dropping it is one call: a derived drop is proved anew at each early return of whoever holds it.
@@ -45,269 +43,185 @@ impl Drop for Scene {
     fn drop(self) {
         let Scene {
             alloc: _,
-            scenario: _,
+            call: _,
             world: _,
-            subject: _,
             query: _,
             command: _,
             stages: _,
             systems: _,
+            text: _,
         } = self;
     }
 }
 
-// A world without more than what lives from the start. Relationships are symmetric in the second edition alone.
-fn first_world(alloc: Global, scenario: Scenario) -> Result<World, Refusal> {
-    match scenario {
-        Scenario::SetMirrored => World::of_edition(alloc, Edition::Second, LIMIT),
-        _ => World::new(alloc, LIMIT),
-    }
-}
-
-// Adds a system of one action.
-fn declare(
-    alloc: Global,
-    world: &World,
-    systems: &mut Systems<Script>,
-    (name, text, action): (&str, &str, Action),
-) -> Result<(), Refusal> {
-    let query = world.read_query(text)?;
-    let actions = Vec::from_slice(alloc, &[action])?;
-    let body = Script::new(alloc, &query, actions)?;
-    systems
-        .add(name, Phase::OnUpdate, query, body)
-        .map_err(|refused| refused.refusal)
-}
-
-// What the first system does, whose query reads what the second one's body writes of nobody.
-const MOVE: (&str, &str, Action) = (
-    "move",
-    "[inout] Position, [in] Velocity",
-    Action::Sum { into: 0, from: 1 },
-);
-
-const WATCH: (&str, &str, Action) = (
-    "watch",
-    "[in] Position, [inout] Mass",
-    Action::Put {
-        slot: 1,
-        value: Value([5, 0, 0, 0, 0, 0, 0, 0]),
-    },
-);
-
-// The first systems, so many.
-fn first_systems(alloc: Global, world: &World, count: usize) -> Result<Systems<Script>, Refusal> {
-    let mut systems = Systems::new(alloc);
-    if count > 0 {
-        declare(alloc, world, &mut systems, MOVE)?;
-    }
-    if count > 1 {
-        declare(alloc, world, &mut systems, WATCH)?;
-    }
-    Ok(systems)
-}
-
-// What a change answers.
-fn done(outcome: Result<(), Refusal>) -> Result<Answer, Refusal> {
-    match outcome {
-        Ok(()) => Ok(Answer::Done),
-        Err(refusal) => Err(refusal),
-    }
-}
-
-// What a frame answers.
-fn answer_of(outcome: Result<FrameReport, FrameStop>) -> Answer {
-    match outcome {
-        Ok(report) => Answer::Framed(report),
-        Err(stop) => Answer::Stopped(stop),
-    }
+/// The world of a scenario.
+pub fn make_world(alloc: Global, scenario: &Scenario) -> Result<World, Refusal> {
+    let mut world = World::of_edition(alloc, scenario.edition, LIMIT)?;
+    make_all(&mut world, scenario.deeds)?;
+    Ok(world)
 }
 
 impl Scene {
-    /// The world of a scenario, and nothing besides.
-    pub fn new(alloc: Global, scenario: Scenario) -> Result<Scene, Refusal> {
-        let mut world = first_world(alloc, scenario)?;
-        worlds::make(&mut world, scenario)?;
-        Ok(Scene::of(alloc, scenario, world))
-    }
-
-    // A world, and nothing besides.
-    fn of(alloc: Global, scenario: Scenario, world: World) -> Scene {
-        Scene {
+    /// A call on a copy of the world. Copies have no room to spare, so what grows asks for it.
+    pub fn new(alloc: Global, call: Call, world: &World) -> Result<Scene, AllocError> {
+        let world = world.try_copy()?;
+        Ok(Scene {
             alloc,
-            scenario,
+            call,
             world,
-            subject: worlds::make_subject(scenario),
             query: None,
             command: None,
             stages: [Stage::new(alloc), Stage::new(alloc)],
             systems: Systems::new(alloc),
-        }
+            text: String::new(alloc),
+        })
     }
 
-    /// A copy of the world, and nothing besides.
-    pub fn try_copy(&self) -> Result<Scene, AllocError> {
-        let world = self.world.try_copy()?;
-        Ok(Scene::of(self.alloc, self.scenario, world))
-    }
-
-    /// A copy of the world alone.
-    pub fn copy_world(&self) -> Result<World, AllocError> {
-        self.world.try_copy()
-    }
-
-    /// What a merge does.
-    pub fn stages(&self) -> &[Stage; 2] {
-        &self.stages
-    }
-
-    /// Makes what a merge takes that comes before the call.
-    pub fn arm_first(&mut self) -> Result<(), AllocError> {
-        record_first(self.alloc, &mut self.stages)
-    }
-
-    /// Makes what the call takes.
-    pub fn arm(&mut self) -> Result<(), Refusal> {
-        match self.scenario {
-            Scenario::AddQuery => self.query = Some(self.world.read_query(ASKED)?),
-            Scenario::Query => self.query = Some(self.world.read_query(WIDE)?),
-            Scenario::Record => {
-                self.command = Some(rename(self.alloc, self.subject.entity, "name")?);
+    /// Makes what the call takes. Of a merge these commands are left out.
+    pub fn arm(&mut self, left_out: &Marks) -> Result<(), Refusal> {
+        match self.call {
+            Call::AddQuery(text) | Call::Query(text) => {
+                self.query = Some(self.world.read_query(text)?);
             }
-            Scenario::Merge | Scenario::OpenShared | Scenario::MergeShared => {
-                record_all(self.alloc, &mut self.stages, None)?;
+            Call::Record(order) => self.command = Some(order.command(self.alloc)?),
+            Call::Merge | Call::OpenShared | Call::MergeShared => {
+                record_all(self.alloc, &mut self.stages, ORDERS, left_out)?;
             }
-            Scenario::Frame | Scenario::Pipeline => {
-                self.systems = first_systems(self.alloc, &self.world, 2)?;
+            Call::Frame | Call::Pipeline => {
+                declare_first(self.alloc, &self.world, &mut self.systems, SYSTEMS)?;
             }
-            _ => {}
+            Call::Change(_) | Call::Create(_) | Call::ReadQuery(_) => {}
         }
         Ok(())
     }
 
-    // Makes a call that answers nothing but that it is done.
-    fn change(&mut self) -> Result<(), Refusal> {
-        let Subject { entity, id } = self.subject;
-        match self.scenario {
-            Scenario::Set | Scenario::SetMirrored => self.world.set(entity, id, Value::of([5])),
-            Scenario::Rename => self.world.rename(entity, Some(ANOTHER)),
-            Scenario::Delete => self.world.delete(entity),
-            Scenario::DeleteWith => self.world.delete_with(id),
-            _ => self.world.add(entity, id),
-        }
+    // Makes an entity.
+    fn create(&mut self, name: &str) -> Result<(), Refusal> {
+        let entity = self.world.create(Some(name))?;
+        Ok(push(&mut self.text, &entity)?)
     }
 
-    /// Makes the call.
-    pub fn call<R: Threads + Sync>(&mut self, rt: &R) -> Result<Answer, Refusal> {
-        match self.scenario {
-            Scenario::Create => self.create(),
-            Scenario::ReadQuery => self.read_query(),
-            Scenario::AddQuery => self.add_query(),
-            Scenario::Query => self.find(),
-            Scenario::Merge | Scenario::OpenShared | Scenario::MergeShared => self.merge(),
-            Scenario::Frame => Ok(self.run_systems(rt)),
-            Scenario::Pipeline => self.run_pipeline(rt),
-            Scenario::Record => self.record(),
-            _ => done(self.change()),
-        }
+    // Reads a query's text.
+    fn read_query(&mut self, text: &str) -> Result<(), Refusal> {
+        let query = self.world.read_query(text)?;
+        Ok(push(&mut self.text, &query)?)
     }
 
-    /// Does what the same call left on an equal world, of which this is the answer, and answers what it is to have answered: a
-    /// call that was refused for want of memory left all as it was, a merge did what found memory, and a frame that stopped
-    /// the batches before.
-    pub fn follow<R: Threads + Sync>(
-        &mut self,
-        rt: &R,
-        answer: &Result<Answer, Refusal>,
-    ) -> Result<Result<Answer, Refusal>, Refusal> {
-        match answer {
-            Err(Refusal::OutOfMemory) => return Ok(Err(Refusal::OutOfMemory)),
-            Ok(Answer::Merged(report)) => self.leave_out(report)?,
-            Ok(Answer::Stopped(stop)) => {
-                self.systems = first_systems(self.alloc, &self.world, stop.batches)?;
-                let _shorter = self.run_systems(rt);
-                return Ok(Ok(Answer::Stopped(*stop)));
+    // Adds the query.
+    fn add_query(&mut self) -> Result<(), Refusal> {
+        if let Some(query) = self.query.take() {
+            let number = self.world.add_query(query)?.0;
+            push(&mut self.text, &number)?;
+        }
+        Ok(())
+    }
+
+    // Answers the query.
+    fn find(&mut self) -> Result<(), Refusal> {
+        if let Some(query) = &self.query {
+            let rows = self.world.query(query)?;
+            self.text.push_str(" rows")?;
+            push_rows(&mut self.text, &rows)?;
+        }
+        Ok(())
+    }
+
+    // Makes a pipeline of the systems, and runs a frame of it by one worker.
+    fn run_pipeline<R: Threads + Sync>(&mut self, rt: &R) -> Result<Lack, Refusal> {
+        let mut pipeline = Pipeline::new(self.alloc, &self.world, &self.systems)?;
+        push_run(
+            &mut self.text,
+            pipeline.run(rt, self.alloc, &mut self.world, 1),
+        )
+    }
+
+    // Makes the call, and writes what it answers.
+    fn make<R: Threads + Sync>(&mut self, rt: &R) -> Result<Lack, Refusal> {
+        match self.call {
+            Call::Merge | Call::OpenShared | Call::MergeShared => {
+                return push_merge(&mut self.text, self.world.merge(ADMITTED, &self.stages));
             }
-            _ => {}
+            Call::Frame => {
+                let outcome = run_frame(rt, self.alloc, &mut self.world, &self.systems, 1);
+                return push_run(&mut self.text, outcome);
+            }
+            Call::Pipeline => return self.run_pipeline(rt),
+            Call::Change(deed) => deed.make(&mut self.world)?,
+            Call::Create(name) => self.create(name)?,
+            Call::ReadQuery(text) => self.read_query(text)?,
+            Call::AddQuery(_) => self.add_query()?,
+            Call::Query(_) => self.find()?,
+            Call::Record(_) => record_one(&mut self.stages, &mut self.command)?,
         }
-        Ok(self.call(rt))
+        Ok(NOTHING)
     }
 
-    /// Makes a table that no kept query asks for, where no entity or handle is made and nobody's death is another. What a
-    /// refused call left behind of a table that it was to make is met by this one.
-    pub fn disturb(&mut self) {
+    /// Makes the call, writes what it answers, and says what of it was refused for want of memory.
+    pub fn call<R: Threads + Sync>(&mut self, rt: &R) -> Lack {
+        let outcome = self.make(rt);
+        conclude(&mut self.text, outcome)
+    }
+
+    /// The same between the two lines on standard error. Its answer is written into room that was there before.
+    pub fn call_marked<R: Eprint + Threads + Sync>(&mut self, rt: &R) -> Result<Lack, Refusal> {
+        self.text.reserve(ROOM)?;
+        begin_call(rt);
+        let lack = self.call(rt);
+        end_call(rt);
+        Ok(lack)
+    }
+
+    // Runs the first systems, so many.
+    fn run_first<R: Threads + Sync>(&mut self, rt: &R, count: usize) -> Result<Lack, Refusal> {
+        declare_first(self.alloc, &self.world, &mut self.systems, count)?;
+        let _shorter = run_frame(rt, self.alloc, &mut self.world, &self.systems, 1);
+        Ok(push_stop(&mut self.text, count)?)
+    }
+
+    /// Does what the same call left on an equal world, of which this was refused for want of memory, and writes what it is to
+    /// have answered: a call that was refused left all as it was, a merge did what found memory, and a frame that stopped the
+    /// batches before.
+    pub fn follow<R: Threads + Sync>(&mut self, rt: &R, lack: Lack) -> Result<(), Refusal> {
+        let outcome = match lack {
+            Lack::All => {
+                self.arm(&NONE)?;
+                Err(Refusal::OutOfMemory)
+            }
+            Lack::Behind(count) => self.run_first(rt, count),
+            Lack::Commands(left_out) => {
+                self.arm(&left_out)?;
+                self.make(rt)
+            }
+        };
+        conclude(&mut self.text, outcome);
+        Ok(())
+    }
+
+    // Makes a table that no kept query asks for, where no entity or handle is made and nobody's death is another. What a
+    // refused call left behind of a table that it was to make is met by this one.
+    fn disturb(&mut self) {
         let made_first = first(self.world.edition().builtin_count());
         let _done_or_refused = self.world.add(made_first, Id::Two(ON_DELETE, REMOVE));
     }
 
-    // The merge is to do only what found memory.
-    fn leave_out(&mut self, report: &Report) -> Result<(), AllocError> {
-        record_all(self.alloc, &mut self.stages, Some(report))
-    }
-
-    // Makes an entity with a name.
-    fn create(&mut self) -> Result<Answer, Refusal> {
-        Ok(Answer::Made(self.world.create(Some(FRESH))?))
-    }
-
-    // Reads a query's text.
-    fn read_query(&self) -> Result<Answer, Refusal> {
-        Ok(Answer::Read(self.world.read_query(WIDE)?))
-    }
-
-    // Adds the query.
-    fn add_query(&mut self) -> Result<Answer, Refusal> {
-        match self.query.take() {
-            Some(query) => Ok(Answer::Kept(self.world.add_query(query)?)),
-            None => Ok(Answer::Done),
+    /// Writes all that the world tells, and of a command that is recorded where it stands.
+    pub fn show(&mut self) -> Result<(), AllocError> {
+        push_world(&mut self.text, self.alloc, &self.world)?;
+        if let Call::Record(_) = self.call {
+            push_debug(&mut self.text, &self.stages)?;
+            push_debug(&mut self.text, &self.command)?;
         }
+        Ok(())
     }
 
-    // Answers the query.
-    fn find(&self) -> Result<Answer, Refusal> {
-        match &self.query {
-            Some(query) => Ok(Answer::Found(self.world.query(query)?)),
-            None => Ok(Answer::Done),
-        }
-    }
-
-    // Merges the stages.
-    fn merge(&mut self) -> Result<Answer, Refusal> {
-        Ok(Answer::Merged(self.world.merge(ADMITTED, &self.stages)?))
-    }
-
-    // Runs a frame of the systems, by one worker.
-    fn run_systems<R: Threads + Sync>(&mut self, rt: &R) -> Answer {
-        answer_of(run_frame(rt, self.alloc, &mut self.world, &self.systems, 1))
-    }
-
-    // The same by a pipeline.
-    fn run_pipeline<R: Threads + Sync>(&mut self, rt: &R) -> Result<Answer, Refusal> {
-        let mut pipeline = Pipeline::new(self.alloc, &self.world, &self.systems)?;
-        Ok(answer_of(pipeline.run(rt, self.alloc, &mut self.world, 1)))
-    }
-
-    // Records the command. One that is refused is handed back, and stands where it stood.
-    fn record(&mut self) -> Result<Answer, Refusal> {
-        let Some(command) = self.command.take() else {
-            return Ok(Answer::Done);
-        };
-        match self.stages[0].record(command) {
-            Ok(()) => Ok(Answer::Done),
-            Err(command) => {
-                self.command = Some(command);
-                Err(Refusal::OutOfMemory)
-            }
-        }
-    }
-
-    /// All that the world tells, and of a command that is recorded where it stands.
-    pub fn dump(&self) -> Result<String, Refusal> {
-        let mut text = dump_of(self.alloc, &self.world)?;
-        if let Scenario::Record = self.scenario {
-            let (commands, command) = (self.stages[0].commands(), &self.command);
-            write!(&mut text, "stage {commands:?} {command:?}\n")?;
-        }
-        Ok(text)
+    /// Writes what the world tells, now and when it was changed, and makes the call once more.
+    pub fn go_on<R: Threads + Sync>(&mut self, rt: &R) -> Result<(), Refusal> {
+        self.show()?;
+        self.disturb();
+        self.show()?;
+        self.arm(&NONE)?;
+        self.call(rt);
+        self.show()?;
+        Ok(())
     }
 }

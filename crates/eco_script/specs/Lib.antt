@@ -1,4 +1,5 @@
 pub mod Answers
+pub mod Changes
 pub mod Laws
 pub mod Lines
 pub mod Recording

@@ -1,75 +1,88 @@
-//! Makes the change of a world that texts ask for.
+//! Changes of a world that texts ask for: read on the world, and made.
 
 ghost use Rattle.std.specs.Prelude.{option_map};
+ghost use Rattle.eco_grammar.specs.Readings.{ok_map};
+ghost use Rattle.eco_ids.specs.Outcome.{Meets};
+ghost use Rattle.eco_ids.specs.Run as run;
+ghost use Rattle.eco_script.specs.Changes.{named_command};
+ghost use Rattle.eco_script.specs.Recording.{ReadsChange};
 ghost use Rattle.eco_script.specs.Replies.{Changes};
-ghost use Rattle.eco_steps.specs.Commands as changes;
+ghost use Rattle.eco_steps.specs.Commands as texts;
 ghost use Rattle.eco_steps.specs.Views.{change_view};
 
 use crate::references::{read_both, read_entity, read_id};
-use eco_ids::{Refusal, Value};
+use eco_ids::{Entity, Id, Refusal, Value};
 use eco_steps::WrittenChange;
 use eco_world::World;
 
-fn add(world: &mut World, entity: &str, id: &str) -> Result<(), Refusal>
-    ensures { Changes world.old (changes.add entity.now id.now) result world.new }
+/// A change, with what its texts name. Each is the call of a world of the same name.
+#[derive(Clone, Copy)]
+pub enum Change<'a> {
+    Add(Entity, Id),
+    Remove(Entity, Id),
+    Set(Entity, Id, Value),
+    Clear(Entity),
+    Rename(Entity, Option<&'a str>),
+    Delete(Entity),
+    DeleteWith(Id),
+    RemoveAll(Id),
+}
+
+fn add<'a>(world: &World, entity: &str, id: &str) -> Result<Change<'a>, Refusal>
+    ensures { ReadsChange world.now (texts.add entity.now id.now) (ok_map named_command result) }
 {
     let (entity, id) = read_both(entity, id, world)?;
-    world.add(entity, id)
+    Ok(Change::Add(entity, id))
 }
 
-fn remove(world: &mut World, entity: &str, id: &str) -> Result<(), Refusal>
-    ensures { Changes world.old (changes.remove entity.now id.now) result world.new }
+fn remove<'a>(world: &World, entity: &str, id: &str) -> Result<Change<'a>, Refusal>
+    ensures { ReadsChange world.now (texts.remove entity.now id.now) (ok_map named_command result) }
 {
     let (entity, id) = read_both(entity, id, world)?;
-    world.remove(entity, id)
+    Ok(Change::Remove(entity, id))
 }
 
-fn set(world: &mut World, entity: &str, id: &str, value: Value) -> Result<(), Refusal>
-    ensures { Changes world.old (changes.set entity.now id.now value) result world.new }
+fn set<'a>(world: &World, entity: &str, id: &str, value: Value) -> Result<Change<'a>, Refusal>
+    ensures { ReadsChange world.now (texts.set entity.now id.now value) (ok_map named_command result) }
 {
     let (entity, id) = read_both(entity, id, world)?;
-    world.set(entity, id, value)
+    Ok(Change::Set(entity, id, value))
 }
 
-fn clear(world: &mut World, entity: &str) -> Result<(), Refusal>
-    ensures { Changes world.old (changes.clear entity.now) result world.new }
+fn clear<'a>(world: &World, entity: &str) -> Result<Change<'a>, Refusal>
+    ensures { ReadsChange world.now (texts.clear entity.now) (ok_map named_command result) }
 {
-    let entity = read_entity(entity, world)?;
-    world.clear(entity)
+    Ok(Change::Clear(read_entity(entity, world)?))
 }
 
-fn rename(world: &mut World, entity: &str, name: Option<&str>) -> Result<(), Refusal>
-    ensures { Changes world.old (changes.rename entity.now (option_map (λ s. s.now) name.entry))
-        result world.new }
+fn rename<'a>(world: &World, entity: &str, name: Option<&'a str>) -> Result<Change<'a>, Refusal>
+    ensures { ReadsChange world.now (texts.rename entity.now (option_map (λ s. s.now) name.entry))
+        (ok_map named_command result) }
 {
-    let entity = read_entity(entity, world)?;
-    world.rename(entity, name)
+    Ok(Change::Rename(read_entity(entity, world)?, name))
 }
 
-fn delete(world: &mut World, entity: &str) -> Result<(), Refusal>
-    ensures { Changes world.old (changes.delete entity.now) result world.new }
+fn delete<'a>(world: &World, entity: &str) -> Result<Change<'a>, Refusal>
+    ensures { ReadsChange world.now (texts.delete entity.now) (ok_map named_command result) }
 {
-    let entity = read_entity(entity, world)?;
-    world.delete(entity)
+    Ok(Change::Delete(read_entity(entity, world)?))
 }
 
-fn delete_with(world: &mut World, id: &str) -> Result<(), Refusal>
-    ensures { Changes world.old (changes.delete_with id.now) result world.new }
+fn delete_with<'a>(world: &World, id: &str) -> Result<Change<'a>, Refusal>
+    ensures { ReadsChange world.now (texts.delete_with id.now) (ok_map named_command result) }
 {
-    let id = read_id(id, world)?;
-    world.delete_with(id)
+    Ok(Change::DeleteWith(read_id(id, world)?))
 }
 
-fn remove_all(world: &mut World, id: &str) -> Result<(), Refusal>
-    ensures { Changes world.old (changes.remove_all id.now) result world.new }
+fn remove_all<'a>(world: &World, id: &str) -> Result<Change<'a>, Refusal>
+    ensures { ReadsChange world.now (texts.remove_all id.now) (ok_map named_command result) }
 {
-    let id = read_id(id, world)?;
-    world.remove_all(id)
+    Ok(Change::RemoveAll(read_id(id, world)?))
 }
 
-/// Makes the call of a change, whichever it is.
-pub fn make_change(world: &mut World, change: WrittenChange<'_>) -> Result<(), Refusal>
-    ensures { Changes world.old (change_view change.entry) result world.new }
+/// The change that texts ask for on a world.
+pub fn read_change<'a>(world: &World, change: WrittenChange<'a>) -> Result<Change<'a>, Refusal>
+    ensures { ReadsChange world.now (change_view change.entry) (ok_map named_command result) }
 {
     match change {
         WrittenChange::Add { entity, id } => add(world, entity, id),
@@ -81,4 +94,29 @@ pub fn make_change(world: &mut World, change: WrittenChange<'_>) -> Result<(), R
         WrittenChange::DeleteWith { id } => delete_with(world, id),
         WrittenChange::RemoveAll { id } => remove_all(world, id),
     }
+}
+
+// Makes the call of a change.
+fn apply(world: &mut World, change: Change<'_>) -> Result<(), Refusal>
+    ensures { Meets (run.Applies (named_command change.entry) world.old)
+        (run.may_want (named_command change.entry) world.old) world.old result world.new }
+{
+    match change {
+        Change::Add(entity, id) => world.add(entity, id),
+        Change::Remove(entity, id) => world.remove(entity, id),
+        Change::Set(entity, id, value) => world.set(entity, id, value),
+        Change::Clear(entity) => world.clear(entity),
+        Change::Rename(entity, name) => world.rename(entity, name),
+        Change::Delete(entity) => world.delete(entity),
+        Change::DeleteWith(id) => world.delete_with(id),
+        Change::RemoveAll(id) => world.remove_all(id),
+    }
+}
+
+/// Makes the call of a change, whichever it is.
+pub fn make_change(world: &mut World, change: WrittenChange<'_>) -> Result<(), Refusal>
+    ensures { Changes world.old (change_view change.entry) result world.new }
+{
+    let named = read_change(world, change)?;
+    apply(world, named)
 }

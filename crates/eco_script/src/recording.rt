@@ -3,6 +3,7 @@
 ghost use Rattle.std.specs.Prelude.{◌≡◌, Some, IfOk, IsFalse, IsTrue, flat_map, option_map, string_bytes};
 ghost use Rattle.eco_ids.specs.Outcome.{is_out_of_memory};
 ghost use Rattle.eco_grammar.specs.Readings.{ok_map};
+ghost use Rattle.eco_script.specs.Changes.{named_command};
 ghost use Rattle.eco_script.specs.Recording.{ReadsAction, ReadsActions, ReadsChange, ReadsCommand, ReadsCommands, has_stages};
 ghost use Rattle.eco_stages.specs.Commands.{command_of};
 ghost use Rattle.eco_steps.specs.Actions as actions;
@@ -10,9 +11,10 @@ ghost use Rattle.eco_steps.specs.Commands as texts;
 ghost use Rattle.eco_steps.specs.Views.{action_view, actions_view, change_view, command_view, commands_view, stages_view};
 ghost use Rattle.eco_world.specs.Merging.{all_commands};
 
-use crate::references::{read_both, read_entity, read_id};
+use crate::changes::{Change, read_change};
+use crate::references::{read_entity, read_id};
 use eco_bodies::Action;
-use eco_ids::{Refusal, Value};
+use eco_ids::Refusal;
 use eco_steps::{Actions, Commands, Stages, WrittenAction, WrittenChange, WrittenCommand};
 use eco_world::{Command, Stage, World};
 use std::alloc::{AllocError, Global};
@@ -21,33 +23,6 @@ fn create(world: &World, handle: &str) -> Result<Command, Refusal>
     ensures { ReadsCommand world.now (texts.create handle.now) (ok_map command_of result) }
 {
     Ok(Command::Create(read_entity(handle, world)?))
-}
-
-fn add(world: &World, entity: &str, id: &str) -> Result<Command, Refusal>
-    ensures { ReadsChange world.now (texts.add entity.now id.now) (ok_map command_of result) }
-{
-    let (entity, id) = read_both(entity, id, world)?;
-    Ok(Command::Add(entity, id))
-}
-
-fn remove(world: &World, entity: &str, id: &str) -> Result<Command, Refusal>
-    ensures { ReadsChange world.now (texts.remove entity.now id.now) (ok_map command_of result) }
-{
-    let (entity, id) = read_both(entity, id, world)?;
-    Ok(Command::Remove(entity, id))
-}
-
-fn set(world: &World, entity: &str, id: &str, value: Value) -> Result<Command, Refusal>
-    ensures { ReadsChange world.now (texts.set entity.now id.now value) (ok_map command_of result) }
-{
-    let (entity, id) = read_both(entity, id, world)?;
-    Ok(Command::Set(entity, id, value))
-}
-
-fn clear(world: &World, entity: &str) -> Result<Command, Refusal>
-    ensures { ReadsChange world.now (texts.clear entity.now) (ok_map command_of result) }
-{
-    Ok(Command::Clear(read_entity(entity, world)?))
 }
 
 // A name of the command's own.
@@ -60,53 +35,33 @@ fn own_name(alloc: Global, name: Option<&str>) -> Result<Option<String>, AllocEr
     }
 }
 
-// An `Err` comes also where memory is refused for the name.
-fn rename(
-    alloc: Global,
-    world: &World,
-    entity: &str,
-    name: Option<&str>,
-) -> Result<Command, Refusal>
-    ensures { IsFalse (is_out_of_memory result) → ReadsChange world.now
-        (texts.rename entity.now (option_map (λ s. s.now) name.entry)) (ok_map command_of result) }
+// The command that is a change. An `Err` comes where memory is refused for the name.
+fn as_command(alloc: Global, change: Change<'_>) -> Result<Command, AllocError>
+    ensures { IfOk result (λ command. command_of command ≡ named_command change.entry) }
 {
-    let entity = read_entity(entity, world)?;
-    Ok(Command::Rename(entity, own_name(alloc, name)?))
-}
-
-fn delete(world: &World, entity: &str) -> Result<Command, Refusal>
-    ensures { ReadsChange world.now (texts.delete entity.now) (ok_map command_of result) }
-{
-    Ok(Command::Delete(read_entity(entity, world)?))
-}
-
-fn delete_with(world: &World, id: &str) -> Result<Command, Refusal>
-    ensures { ReadsChange world.now (texts.delete_with id.now) (ok_map command_of result) }
-{
-    Ok(Command::DeleteWith(read_id(id, world)?))
-}
-
-fn remove_all(world: &World, id: &str) -> Result<Command, Refusal>
-    ensures { ReadsChange world.now (texts.remove_all id.now) (ok_map command_of result) }
-{
-    Ok(Command::RemoveAll(read_id(id, world)?))
+    Ok(match change {
+        Change::Add(entity, id) => Command::Add(entity, id),
+        Change::Remove(entity, id) => Command::Remove(entity, id),
+        Change::Set(entity, id, value) => Command::Set(entity, id, value),
+        Change::Clear(entity) => Command::Clear(entity),
+        Change::Rename(entity, name) => Command::Rename(entity, own_name(alloc, name)?),
+        Change::Delete(entity) => Command::Delete(entity),
+        Change::DeleteWith(id) => Command::DeleteWith(id),
+        Change::RemoveAll(id) => Command::RemoveAll(id),
+    })
 }
 
 // The command that the texts of a change name on a world.
-fn read_change(alloc: Global, world: &World, change: WrittenChange<'_>) -> Result<Command, Refusal>
+fn record_change(
+    alloc: Global,
+    world: &World,
+    change: WrittenChange<'_>,
+) -> Result<Command, Refusal>
     ensures { IsFalse (is_out_of_memory result)
         → ReadsChange world.now (change_view change.entry) (ok_map command_of result) }
 {
-    match change {
-        WrittenChange::Add { entity, id } => add(world, entity, id),
-        WrittenChange::Remove { entity, id } => remove(world, entity, id),
-        WrittenChange::Set { entity, id, value } => set(world, entity, id, value),
-        WrittenChange::Clear { entity } => clear(world, entity),
-        WrittenChange::Rename { entity, name } => rename(alloc, world, entity, name),
-        WrittenChange::Delete { entity } => delete(world, entity),
-        WrittenChange::DeleteWith { id } => delete_with(world, id),
-        WrittenChange::RemoveAll { id } => remove_all(world, id),
-    }
+    let named = read_change(world, change)?;
+    Ok(as_command(alloc, named)?)
 }
 
 // The command that texts name on a world.
@@ -120,7 +75,7 @@ fn read_command(
 {
     match command {
         WrittenCommand::Create { handle } => create(world, handle),
-        WrittenCommand::Change(change) => read_change(alloc, world, change),
+        WrittenCommand::Change(change) => record_change(alloc, world, change),
     }
 }
 

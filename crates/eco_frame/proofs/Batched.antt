@@ -15,7 +15,7 @@ use Rattle.eco_batches.specs.Outlines.{no_system}
 use Rattle.eco_bodies.specs.declared.systems.System.{System}
 use Rattle.eco_workers.specs.Batches.{AreStages, IsBatch, IsOut}
 use Rattle.eco_stages.specs.Taking.{by_index, fresh}
-use Rattle.eco_world.specs.Merging.{all_commands}
+use Rattle.eco_stages.specs.Merging.{all_commands}
 use Rattle.eco_frame.specs.Models.{model_at, model_of}
 use Rattle.eco_frame.specs.Pieces.{IsRecorded, Settled, part_at, body_with_rows, piece_commands, piece_taken, pieces_at, pieces_in}
 use Rattle.eco_frame.proofs.Fresh.{ascending_batch, fresh_batch}

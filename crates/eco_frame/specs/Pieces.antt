@@ -11,7 +11,7 @@ use Rattle.eco_bodies.specs.Taking.{commands_in_turn, taken_of}
 use Rattle.eco_bodies.specs.declared.systems.System.{System}
 use Rattle.eco_workers.specs.Batches.{IsBatch, IsOut}
 use Rattle.eco_stages.specs.Taking.{by_index}
-use Rattle.eco_world.specs.Merging.{all_commands}
+use Rattle.eco_stages.specs.Merging.{all_commands}
 use Rattle.eco_frame.specs.declared.part.Part.{Part}
 use Rattle.eco_frame.specs.declared.piece.RowsPiece.{RowsPiece}
 

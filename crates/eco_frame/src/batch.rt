@@ -5,7 +5,7 @@ ghost use Rattle.eco_ids.specs.declared.refusal.Refusal.TheVariants.{NoMoreIds};
 ghost use Rattle.eco_workers.specs.Alone.{IsInTurn, IsOutInTurn};
 ghost use Rattle.eco_workers.specs.Batches.{IsOut};
 ghost use Rattle.eco_stages.specs.Taking.{by_index, IsStopped};
-ghost use Rattle.eco_world.specs.Merging.{all_commands};
+ghost use Rattle.eco_stages.specs.Merging.{all_commands};
 ghost use Rattle.eco_frame.specs.Models.{model_at, model_of};
 ghost use Rattle.eco_frame.specs.Pieces.{AreGiven, IsRecorded, IsRunOut, Settled};
 ghost use Rattle.eco_frame.specs.Progresses.{HasRun};

@@ -1,6 +1,6 @@
 //! What a frame has done so far.
 ghost use Rattle.std.specs.Prelude.{◌≡◌, ◌+◌, ◌≤◌, ◌<◌, ◌++◌, ◌∷◌, [], length, vec_capacity, vec_len, IfOk, IfSome};
-ghost use Rattle.eco_world.specs.Merging.{all_commands};
+ghost use Rattle.eco_stages.specs.Merging.{all_commands};
 ghost use Rattle.eco_frame.specs.Progresses.{CountsReport, CommandsAreCounted, done_of};
 
 use crate::report::FrameReport;

@@ -9,7 +9,7 @@ ghost use Rattle.eco_stages.specs.Commands.{command_of};
 ghost use Rattle.eco_steps.specs.Actions as actions;
 ghost use Rattle.eco_steps.specs.Commands as texts;
 ghost use Rattle.eco_steps.specs.Views.{action_view, actions_view, change_view, command_view, commands_view, stages_view};
-ghost use Rattle.eco_world.specs.Merging.{all_commands};
+ghost use Rattle.eco_stages.specs.Merging.{all_commands};
 
 use crate::changes::{Change, read_change};
 use crate::references::{read_entity, read_id};

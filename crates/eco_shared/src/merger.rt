@@ -7,7 +7,7 @@ ghost use Rattle.eco_histories.specs.Rules.{book_head};
 ghost use Rattle.eco_ids.specs.Births.{may_admit};
 ghost use Rattle.eco_ids.specs.World.{entities};
 ghost use Rattle.eco_ids.specs.declared.refusal.Refusal.TheVariants.{OutOfMemory};
-ghost use Rattle.eco_world.specs.Merging.{all_commands};
+ghost use Rattle.eco_stages.specs.Merging.{all_commands};
 ghost use Rattle.eco_shared.specs.Histories.{IsMerged, merge, mark_of};
 ghost use Rattle.eco_shared.specs.Repeating.{KeepsUp, merge_of};
 ghost use Rattle.eco_shared.specs.Sharing.{shown_world, shown_state, history, Follows, GoesOn};

@@ -1,7 +1,8 @@
 //! The merger's own world, which nobody is to enter while it is changed.
 ghost use Rattle.std.specs.Prelude.{◌≡◌, ◌++◌, ◌∷◌, [], Ok, Some, IfOk, IfSome, IfNone};
 ghost use Rattle.std.specs.Arc.{arc_value};
-ghost use Rattle.eco_world.specs.Merging.{Merges, all_commands};
+ghost use Rattle.eco_stages.specs.Merging.{all_commands};
+ghost use Rattle.eco_world.specs.Merging.{Merges};
 ghost use Rattle.eco_shared.specs.Repeating.{Leads};
 
 use crossbeam_utils::Backoff;

@@ -1,1 +1,2 @@
 pub mod Counted
+pub mod Merges

@@ -1,3 +1,4 @@
 pub mod Commands
+pub mod Merging
 pub mod Outcomes
 pub mod Taking

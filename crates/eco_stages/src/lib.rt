@@ -1,10 +1,11 @@
-//! Stages: commands that are recorded now and merged into a world later, what they answered then, and where who records draws
-//! fresh handles.
+//! Stages: commands that are recorded now and done later by the world into which they are merged, what they answered then, and
+//! where who records draws fresh handles.
 #![tactic(auto)]
 
 mod command;
 mod draws;
 mod iter;
+mod merging;
 mod outcomes;
 mod report;
 mod stage;
@@ -12,6 +13,7 @@ mod stage;
 pub use command::Command;
 pub use draws::Draws;
 pub use iter::Iter;
+pub use merging::{MergeTarget, apply_stages, room_for};
 pub use outcomes::Outcomes;
 pub use report::Report;
 pub use stage::Stage;

@@ -25,7 +25,8 @@ use Rattle.eco_stages.specs.Outcomes.{Outcomes}
 use Rattle.eco_world.specs.Cached.{OfQuery, RefusesQuery}
 use Rattle.eco_world.specs.Laws.{AddedQueriesAreFound, EmptyMergesWantNone, RefusedMergesChangeNothing, StandWhere, ValuesAreLent}
 use Rattle.eco_world.specs.Layouts.{ListsBy}
-use Rattle.eco_world.specs.Merging.{Merges, RunsAdmitted, has_commands, may_merge}
+use Rattle.eco_stages.specs.Merging.{has_commands}
+use Rattle.eco_world.specs.Merging.{Merges, RunsAdmitted, may_merge}
 use Rattle.eco_world.proofs.Layouts.{element_cases, here, no_element, there}
 
 -- ---- listings

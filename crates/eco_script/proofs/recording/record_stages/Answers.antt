@@ -1,7 +1,7 @@
 use Rattle.std.proofs.Common.{◌≡◌, ◌+◌, Ok, Some, refl, ap, sym, ◌∙◌, arith, option_map, slice_get, subst, take, flat_map}
 use Rattle.std.proofs.lemmas.Result.{err_from_is_err_and}
 use Rattle.eco_steps.specs.Views.{commands_view, stages_view}
-use Rattle.eco_world.specs.Merging.{all_commands}
+use Rattle.eco_stages.specs.Merging.{all_commands}
 use Rattle.eco_script.specs.Recording.{ReadsCommands}
 use Rattle.eco_script.proofs.Recorded.{flat_more, stage_more, stage_refused, some_within}
 use Rattle.eco_script.proofs.recording.record_stages.Goals as goal

@@ -1,6 +1,6 @@
 use Rattle.std.proofs.Common.{◌≡◌, ◌≤◌, Ok, length, take, flat_map, vec_len, vec_capacity}
 use Rattle.eco_steps.specs.Views.{stages_view}
-use Rattle.eco_world.specs.Merging.{all_commands}
+use Rattle.eco_stages.specs.Merging.{all_commands}
 use Rattle.eco_script.specs.Recording.{ReadsCommands}
 use Rattle.eco_script.proofs.recording.record_stages.Given as goal
 

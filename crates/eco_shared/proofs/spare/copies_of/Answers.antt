@@ -1,7 +1,7 @@
 use Rattle.std.proofs.Common.{◌≡◌, ℕ, ◌+◌, ◌<◌, List, [], ◌++◌, length, get_or, take, sym, ap, ◌∙◌}
 use Rattle.std.proofs.lemmas.List.{flat_map_more, take_more}
 use Rattle.eco_ids.specs.Run.{Command}
-use Rattle.eco_world.specs.Merging.{all_commands}
+use Rattle.eco_stages.specs.Merging.{all_commands}
 use Rattle.eco_shared.proofs.spare.copies_of.Goals as goal
 
 -- the commands of so many stages, and of one more

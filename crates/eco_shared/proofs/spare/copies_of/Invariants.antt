@@ -1,5 +1,5 @@
 use Rattle.std.proofs.Common.{◌≡◌, take}
-use Rattle.eco_world.specs.Merging.{all_commands}
+use Rattle.eco_stages.specs.Merging.{all_commands}
 use Rattle.eco_shared.proofs.spare.copies_of.Given as goal
 
 abbrev pub invariant-loop-stage : goal.invariant-loop-stage

@@ -1,9 +1,9 @@
 use Rattle.std.proofs.Common.{◌≡◌, ◌≤◌, ◌<◌, length, get_or, ap, subst}
 use Rattle.std.proofs.lemmas.List.{take_all}
 use native.Mathlib.Omega.{arith}
-use Rattle.eco_world.specs.Merging.{all_commands}
-use Rattle.eco_world.proofs.Merging.{count_more, some_there, all_fit}
-use Rattle.eco_world.proofs.world.merging.room_for.Goals as goal
+use Rattle.eco_stages.specs.Merging.{all_commands}
+use Rattle.eco_stages.proofs.Merges.{count_more, some_there, all_fit}
+use Rattle.eco_stages.proofs.merging.room_for.Goals as goal
 
 pub loop-stage-preserved : goal.loop-stage-preserved
 loop-stage-preserved c =

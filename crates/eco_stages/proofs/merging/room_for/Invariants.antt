@@ -1,6 +1,6 @@
 use Rattle.std.proofs.Common.{◌≤◌, ◌<◌, ◌-◌, ◌^◌, length, take}
-use Rattle.eco_world.specs.Merging.{all_commands}
-use Rattle.eco_world.proofs.world.merging.room_for.Given as goal
+use Rattle.eco_stages.specs.Merging.{all_commands}
+use Rattle.eco_stages.proofs.merging.room_for.Given as goal
 
 abbrev pub invariant-loop-stage : goal.invariant-loop-stage
 invariant-loop-stage l = record {

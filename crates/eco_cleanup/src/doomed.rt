@@ -9,9 +9,15 @@ use indexmap::IndexSet;
 
 /// The roots, the tables all of whose rows die, and the tables that name one who dies. Whoever dies is a root or stands in a
 /// table that falls.
-#[derive(Drop)]
 pub struct Doomed {
     pub nodes: IndexSet<Node>,
+}
+
+// By hand, so that dropping it is one call: a derived drop is proved anew at each early return of whoever holds it.
+impl Drop for Doomed {
+    fn drop(self) {
+        let Doomed { nodes: _ } = self;
+    }
 }
 
 impl Doomed {

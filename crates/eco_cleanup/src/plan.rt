@@ -19,10 +19,19 @@ use eco_tables::{Table, TableSlot};
 use std::alloc::{AllocError, Global};
 
 /// Who dies, and the changes that take the ids which name the dead out of the types of the others.
-#[derive(Drop)]
 pub struct DeletePlan {
     pub dead: Vec<Entity>,
     pub changes: Vec<TypeChange>,
+}
+
+// By hand, so that dropping it is one call: a derived drop is proved anew at each early return of whoever holds it.
+impl Drop for DeletePlan {
+    fn drop(self) {
+        let DeletePlan {
+            dead: _,
+            changes: _,
+        } = self;
+    }
 }
 
 impl Ties<'_> {

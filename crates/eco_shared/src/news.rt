@@ -7,7 +7,7 @@ use crate::merge::Merge;
 use crate::registry::{Naming, Title};
 use eco_histories::front::Front;
 
-/// A history of the shared world of this title.
+/// What a merger tells viewers: a history of the shared world of this title.
 pub struct News<J: Naming> {
     pub title: Title<J>,
     pub front: Front<Merge>,
@@ -25,7 +25,7 @@ impl<J: Naming> Drop for News<J> {
 }
 
 impl<J: Naming> News<J> {
-    /// A copy.
+    /// The same news once more. It takes no memory.
     pub fn again(&self) -> News<J>
         ensures { (result.front ≡ self.now.front) × (result.title.number ≡ self.now.title.number) }
     {
@@ -45,7 +45,10 @@ impl<J: Naming> News<J> {
 
     /// Whether both are of one shared world.
     pub fn is_of_same(&self, other: &News<J>) -> bool
-        ensures { MatchBool result ((other.now.title.number ≡ self.now.title.number) × (other.now.front.seen.book ≡ self.now.front.seen.book)) (other.now.title.number ≢ self.now.title.number) }
+        ensures { MatchBool result
+            ((other.now.title.number ≡ self.now.title.number)
+            × (other.now.front.seen.book ≡ self.now.front.seen.book))
+            (other.now.title.number ≢ self.now.title.number) }
     {
         let mut both = self.title.marks.seen.again();
         both.learn(&other.title.marks.seen);

@@ -28,7 +28,8 @@ use std::sync::{Arc, Wait};
 // The two copies, with no merge yet.
 fn copies(alloc: Global, front: &Front<Merge>, world: World) -> Result<(Shown, Shown), AllocError>
     requires { front.now.seen.log ≡ [] }
-    ensures { IfOk result (λ c. (shown_state c.0 ≡ shown_state c.1) × (shown_world c.0 ≡ world) × (c.0.front ≡ front.now) × (history c.0 ≡ [])) }
+    ensures { IfOk result (λ c. (shown_state c.0 ≡ shown_state c.1) × (shown_world c.0 ≡ world)
+        × (c.0.front ≡ front.now) × (history c.0 ≡ [])) }
 {
     let world = owned(alloc, world)?;
     let first = Shown {
@@ -49,8 +50,10 @@ fn publish_opening<R: Wait>(
     requires same { shown_state again.value ≡ shown_state writer.desk.shown.value }
     requires none { history writer.desk.shown.value ≡ [] }
     ensures pending { IfOk result.1 (λ _. drop result.0.behind result.0.log.items ≡ []) }
-    ensures same { IfOk result.1 (λ _. shown_state result.0.desk.shown.value ≡ shown_state writer.desk.shown.value) }
-    ensures known { IfOk result.1 (λ _. view result.0.desk.place ≡ knows (shown_world writer.desk.shown.value) (mark_of writer.desk.shown.value.front.seen.book)) }
+    ensures same { IfOk result.1 (λ _. shown_state result.0.desk.shown.value
+        ≡ shown_state writer.desk.shown.value) }
+    ensures known { IfOk result.1 (λ _. view result.0.desk.place ≡ knows
+        (shown_world writer.desk.shown.value) (mark_of writer.desk.shown.value.front.seen.book)) }
 {
     let _ = again;
     writer.publish_as::<Opening, R>(rt)
@@ -101,7 +104,8 @@ fn open_merger<J: Naming, R: Wait + Drop>(
     ensures world { IfOk result (λ m. shown_world m.writer.desk.shown.value ≡ world) }
     ensures start { IfOk result (λ m. (view m.writer.desk.place).start ≡ world) }
     ensures history { IfOk result (λ m. history m.writer.desk.shown.value ≡ []) }
-    ensures title { IfOk result (λ m. (m.title.number ≡ length registry.old.front.seen.log) × (length registry.old.front.seen.log < length registry.new.front.seen.log)) }
+    ensures title { IfOk result (λ m. (m.title.number ≡ length registry.old.front.seen.log)
+        × (length registry.old.front.seen.log < length registry.new.front.seen.log)) }
     ensures registry { IsPrefix registry.old.front.seen.log registry.new.front.seen.log }
 {
     let keeper = new_keeper(alloc)?;
@@ -120,9 +124,11 @@ fn open_merger<J: Naming, R: Wait + Drop>(
     })
 }
 
-/// Shares a copy of the world with so many viewers. Where it is refused, the world comes back.
+/// Shares a world with 1 to 64 viewers: answers who merges into it, and the viewers, one for each thread that reads. All of them
+/// show that world until the first merge. The merger keeps a copy besides, so that no merge makes one.
 ///
-/// Refused with `OutOfMemory` alone.
+/// Refused with `OutOfMemory` alone, where memory for the copies or for a viewer is refused; the world comes back as it was, and
+/// the number that the registry had given stays unused.
 pub fn open<J: Naming, R: Wait + Drop>(
     rt: R,
     registry: &mut Registry<J>,
@@ -131,9 +137,12 @@ pub fn open<J: Naming, R: Wait + Drop>(
     viewers: usize,
 ) -> Result<(Merger<J, R>, Vec<Viewer<J, R>>), (World, Refusal)>
     requires viewers { (0 < viewers) × (viewers ≤ 64) }
-    ensures merger { IfOk result (λ r. (shown_world r.0.writer.desk.shown.value ≡ world) × ((view r.0.writer.desk.place).start ≡ world) × (history r.0.writer.desk.shown.value ≡ [])) }
-    ensures viewers { IfOk result (λ r. (length r.1.items ≡ viewers) × All (IsNew world r.0.title.number) r.1.items) }
-    ensures title { IfOk result (λ r. (r.0.title.number ≡ length registry.old.front.seen.log) × (length registry.old.front.seen.log < length registry.new.front.seen.log)) }
+    ensures merger { IfOk result (λ r. (shown_world r.0.writer.desk.shown.value ≡ world)
+        × ((view r.0.writer.desk.place).start ≡ world) × (history r.0.writer.desk.shown.value ≡ [])) }
+    ensures viewers { IfOk result (λ r. (length r.1.items ≡ viewers)
+        × All (IsNew world r.0.title.number) r.1.items) }
+    ensures title { IfOk result (λ r. (r.0.title.number ≡ length registry.old.front.seen.log)
+        × (length registry.old.front.seen.log < length registry.new.front.seen.log)) }
     ensures registry { IsPrefix registry.old.front.seen.log registry.new.front.seen.log }
     ensures err { IfErr result (λ r. (r.0 ≡ world) × (r.1 ≡ OutOfMemory)) }
 {

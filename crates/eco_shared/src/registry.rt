@@ -9,7 +9,8 @@ use eco_histories::front::{Front, Head, begin};
 use logbook::Plain;
 use std::marker::{Brand, PhantomData};
 
-/// Which registry it is. Each call of a program picks it.
+/// Which registry it is: its name in types, so that mergers, viewers and news of one registry can't be taken for another's. A
+/// program gets one from `std::marker::Brand`.
 pub trait Naming {
     ghost use Rattle.logbook.specs.Pages.{Book};
 
@@ -30,6 +31,7 @@ pub struct Blank {
 }
 
 impl Blank {
+    /// A registry of no shared world. It takes no memory.
     pub fn new() -> Blank {
         let (head, front) = begin::<HistoryMark>();
         Blank { head, front }
@@ -49,7 +51,7 @@ impl Blank {
     }
 }
 
-/// The shared worlds that were opened.
+/// The shared worlds that were opened, each under a number of its own.
 pub struct Registry<J: Naming> {
     head: Head<HistoryMark>,
     pub front: Front<HistoryMark>,
@@ -69,6 +71,7 @@ impl<J: Naming> Drop for Registry<J> {
     }
 }
 
+/// The entry that a shared world gets in the registry: which history is its.
 pub struct Enrols;
 
 impl Plain<Front<Merge>, HistoryMark, u64> for Enrols {
@@ -90,9 +93,12 @@ pub struct Title<J: Naming> {
 }
 
 impl<J: Naming> Registry<J> {
-    /// A number that no shared world had before.
+    /// A number that no shared world of the registry had before: how many there were. There is none only where numbers are used
+    /// up, after 2^62 of them.
     pub fn enrol(&mut self, front: &Front<Merge>) -> Option<Title<J>>
-        ensures some { IfSome result (λ t. (t.number ≡ length self.old.front.seen.log) × (slice_get t.marks.seen.log t.number ≡ Some (mark_of front.now.seen.book)) × (self.new.front.seen.log ≡ self.old.front.seen.log ++ mark_of front.now.seen.book ∷ [])) }
+        ensures some { IfSome result (λ t. (t.number ≡ length self.old.front.seen.log)
+            × (slice_get t.marks.seen.log t.number ≡ Some (mark_of front.now.seen.book))
+            × (self.new.front.seen.log ≡ self.old.front.seen.log ++ mark_of front.now.seen.book ∷ [])) }
         ensures none { IfNone result (self.new.front ≡ self.old.front) }
         ensures grown { IsPrefix self.old.front.seen.log self.new.front.seen.log }
     {
@@ -110,7 +116,7 @@ impl<J: Naming> Registry<J> {
 }
 
 impl<J: Naming> Title<J> {
-    /// A copy.
+    /// The same title once more. It takes no memory.
     pub fn again(&self) -> Title<J>
         ensures { (result.number ≡ self.now.number) × (result.marks ≡ self.now.marks) }
     {

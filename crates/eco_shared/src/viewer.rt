@@ -1,5 +1,5 @@
 //! Who reads the shared world. An entry owns its version, so that no merge waits for it.
-ghost use Rattle.std.specs.Prelude.{◌≡◌, ◌≢◌, true, IfSome, MatchBool};
+ghost use Rattle.std.specs.Prelude.{◌≡◌, true, IfSome};
 ghost use mathlib.Core.List.{IsPrefix};
 ghost use Rattle.left_right.specs.Sides.{view};
 ghost use Rattle.eco_shared.specs.Histories.{IsAfter, mark_of};
@@ -14,7 +14,8 @@ use core::mem::replace_with;
 use eco_world::World;
 use std::sync::Wait;
 
-/// A reader of the shared world.
+/// A reader of the shared world, for one thread. It enters whole versions, and none before a version that it has seen or was told
+/// of.
 pub struct Viewer<J: Naming, R: Wait + Drop> {
     pub(crate) reader: TheReader,
     /// The longest history that it has seen or was told of.
@@ -36,7 +37,8 @@ impl<J: Naming, R: Wait + Drop> Drop for Viewer<J, R> {
     }
 }
 
-/// An entry: one version.
+/// An entry: one version, a whole world. It stays as it is however long it is held: a merge that finds it held for long leaves it
+/// to its holder, and copies the world.
 pub struct View {
     shown: Shown,
 }
@@ -64,12 +66,16 @@ fn look_once(reader: TheReader) -> (TheReader, Option<Shown>)
 }
 
 impl<J: Naming, R: Wait + Drop> Viewer<J, R> {
+    ghost use Rattle.eco_shared.specs.Views.{Learns, number};
+
     /// Enters the version that was published last. Its history begins with all that this viewer has seen or was told of.
     pub fn enter(&mut self, rt: &impl Wait) -> View
         ensures history { IsPrefix self.old.news.front.seen.log (history result.shown) }
         ensures seen { self.new.news.front.seen.log ≡ history result.shown }
-        ensures world { IsAfter (view self.old.reader.place).start (history result.shown) (shown_world result.shown) }
-        ensures same { (view self.new.reader.place ≡ view self.old.reader.place) × (self.new.news.title.number ≡ self.old.news.title.number) }
+        ensures world { IsAfter (view self.old.reader.place).start (history result.shown)
+            (shown_world result.shown) }
+        ensures same { (view self.new.reader.place ≡ view self.old.reader.place)
+            × (number self.new ≡ number self.old) }
     {
         for _ in rt.forever() {
             if let Some(shown) = self.look() {
@@ -82,10 +88,11 @@ impl<J: Naming, R: Wait + Drop> Viewer<J, R> {
         unreachable!()
     }
 
-    /// Takes in the news, and says whether they are of this shared world.
+    /// Takes in what a merger tells, so that the next entry shows that version or a later one. Answers whether the news are of this
+    /// viewer's shared world; news of another change nothing.
     pub fn learn(&mut self, news: &News<J>) -> bool
-        ensures learned { MatchBool result ((news.now.title.number ≡ self.old.news.title.number) × IsPrefix self.old.news.front.seen.log self.new.news.front.seen.log × IsPrefix news.now.front.seen.log self.new.news.front.seen.log) ((news.now.title.number ≢ self.old.news.title.number) × (self.new.news ≡ self.old.news)) }
-        ensures same { (self.new.reader ≡ self.old.reader) × (self.new.news.title.number ≡ self.old.news.title.number) }
+        ensures learned { Learns self.old news.now result self.new }
+        ensures same { (self.new.reader ≡ self.old.reader) × (number self.new ≡ number self.old) }
     {
         if !self.news.is_of_same(news) {
             return false;
@@ -95,8 +102,10 @@ impl<J: Naming, R: Wait + Drop> Viewer<J, R> {
         true
     }
 
+    // One entry, if it finds a version.
     fn look(&mut self) -> Option<Shown>
-        ensures same { (view self.new.reader.place ≡ view self.old.reader.place) × (self.new.news ≡ self.old.news) }
+        ensures same { (view self.new.reader.place ≡ view self.old.reader.place)
+            × (self.new.news ≡ self.old.news) }
         ensures shown { IfSome result (KnowsOf (view self.old.reader.place)) }
     {
         replace_with(&mut self.reader, (), |reader, _x| look_once(reader))

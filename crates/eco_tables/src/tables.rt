@@ -10,12 +10,14 @@ ghost use Rattle.eco_tables.specs.Table.{TableState, TableRow, entities_of, empt
 ghost use Rattle.eco_tables.specs.Tables.{slot_of, table_in, row_in, no_row, SetsSlot, SetsRoom, Moves, MovesAll, cleared, new_row, with_room, with_row, with_rows, with_written, without_row, without_rows, no_table, rowless_type, AllHaveIds};
 
 use crate::table::Table;
+use crate::tables::lending::{table_mut, two_mut};
 use eco_ids::{Entity, Id, TypeList, Value};
 use std::alloc::{AllocError, Global};
 use std::marker::Model;
 use std::slice;
 
 mod copies;
+mod lending;
 mod turning;
 
 /// The number of the slot in which a table stands: a plain number, which counts from 0 and means nothing beyond the tables
@@ -200,10 +202,7 @@ impl Tables {
         ensures room { OnOk result (more ≤ (table_in self.new slot).room) }
         ensures ready { more ≤ (table_in self.old slot).room → IsOk result }
     {
-        let Some(table) = &mut self.slots[slot] else {
-            unreachable!()
-        };
-        table.reserve(more)
+        table_mut(&mut self.slots, slot).reserve(more)
     }
 
     /// Room for so many rows more than a table had room for. An `Err` keeps all rows and the room that was there.
@@ -214,10 +213,7 @@ impl Tables {
         ensures room { OnOk result ((table_in self.old slot).room + more ≤ (table_in self.new slot).room) }
         ensures ready { more ≡ 0 → IsOk result }
     {
-        let Some(table) = &mut self.slots[slot] else {
-            unreachable!()
-        };
-        table.reserve_more(more)
+        table_mut(&mut self.slots, slot).reserve_more(more)
     }
 
     /// Takes the promise of room in a table back. Its memory stays.
@@ -225,10 +221,7 @@ impl Tables {
         requires { IsSome (slot_of self.old slot) }
         ensures { SetsSlot self.old self.new slot (Some (with_room (table_in self.old slot) 0)) }
     {
-        let Some(table) = &mut self.slots[slot] else {
-            unreachable!()
-        };
-        table.waive();
+        table_mut(&mut self.slots, slot).waive();
     }
 
     /// Writes the value of an id in a row, and takes no memory. The answer is whether the table's type has the id; where it
@@ -240,10 +233,7 @@ impl Tables {
             (Some (with_written (table_in self.old slot) row id value)) }
         ensures had { result ≡ is_some (find id_cmp id (row_in self.old slot row).held) }
     {
-        let Some(table) = &mut self.slots[slot] else {
-            unreachable!()
-        };
-        table.set_value(row, id, value)
+        table_mut(&mut self.slots, slot).set_value(row, id, value)
     }
 
     /// A row for a new entity, with zeros, in room that was reserved.
@@ -252,10 +242,7 @@ impl Tables {
         ensures { SetsSlot self.old self.new slot
             (Some (with_row (table_in self.old slot) (new_row entity))) }
     {
-        let Some(table) = &mut self.slots[slot] else {
-            unreachable!()
-        };
-        table.push_row(entity);
+        table_mut(&mut self.slots, slot).push_row(entity);
     }
 
     /// Takes a row out, and takes no memory. The answer is the entity that stands in its place now: none where the row was
@@ -265,10 +252,7 @@ impl Tables {
         ensures rows { SetsSlot self.old self.new slot (Some (without_row (table_in self.old slot) row)) }
         ensures moved { result ≡ slice_get (entities_of (table_in self.new slot).rows) row }
     {
-        let Some(table) = &mut self.slots[slot] else {
-            unreachable!()
-        };
-        table.swap_out(row)
+        table_mut(&mut self.slots, slot).swap_out(row)
     }
 
     /// All rows of a table go, and their room is won. The table stays, and so does its memory. It takes no memory.
@@ -276,10 +260,7 @@ impl Tables {
         requires { IsSome (slot_of self.old slot) }
         ensures { SetsSlot self.old self.new slot (Some (cleared (table_in self.old slot))) }
     {
-        let Some(table) = &mut self.slots[slot] else {
-            unreachable!()
-        };
-        table.clear();
+        table_mut(&mut self.slots, slot).clear();
     }
 
     /// Moves a row into room that was reserved in another table, where it is the last row. Values of ids that both types
@@ -293,7 +274,8 @@ impl Tables {
         ensures moves { Moves self.old self.new from row to }
         ensures moved { result ≡ slice_get (entities_of (table_in self.new from).rows) row }
     {
-        move_in(self.slots.as_mut_slice(), from, row, to)
+        let (source, target) = two_mut(self.slots.as_mut_slice(), from, to);
+        move_between(source, row, target)
     }
 
     /// Moves all rows of a table, in their order, to the end of another, into room that was reserved. Values of ids that both
@@ -306,7 +288,8 @@ impl Tables {
         requires widths { Agree (table_in self.old to) (table_in self.old from) }
         ensures { MovesAll self.old self.new from to }
     {
-        move_all_in(self.slots.as_mut_slice(), from, to);
+        let (source, target) = two_mut(self.slots.as_mut_slice(), from, to);
+        move_all_between(source, target);
     }
 }
 
@@ -315,31 +298,6 @@ fn is_rowless(table: &Table) -> bool
     ensures { result ≡ is_some (rowless_type (Some table.now)) }
 {
     table.rows().is_empty()
-}
-
-// What `move_row` does to the slots.
-#[inline(always)]
-fn move_in(
-    slots: &mut [Option<Table>],
-    from: TableSlot,
-    row: usize,
-    to: TableSlot,
-) -> Option<Entity>
-    requires apart { from ≢ to }
-    requires row { row < length (table_in slots.old from).rows }
-    requires room { 0 < (table_in slots.old to).room }
-    requires widths { Agree (table_in slots.old to) (table_in slots.old from) }
-    ensures slots { slots.new ≡ slice_set
-        (slice_set slots.old from (Some (without_row (table_in slots.old from) row)))
-        to (Some (with_row (table_in slots.old to) (row_in slots.old from row))) }
-    ensures moved { result ≡ slice_get (entities_of (without_row (table_in slots.old from) row).rows) row }
-{
-    if from < to {
-        let (low, high) = slots.split_at_mut(to);
-        return move_between(&mut low[from], row, &mut high[0]);
-    }
-    let (low, high) = slots.split_at_mut(from);
-    move_between(&mut high[0], row, &mut low[to])
 }
 
 // A row goes from the table of one slot to that of another.
@@ -364,26 +322,6 @@ fn move_between(
             source.swap_out(row)
         }
         _ => unreachable!(),
-    }
-}
-
-// What `move_rows` does to the slots.
-fn move_all_in(slots: &mut [Option<Table>], from: TableSlot, to: TableSlot)
-    requires apart { from ≢ to }
-    requires source { IsSome (slot_of slots.old from) }
-    requires target { IsSome (slot_of slots.old to) }
-    requires room { length (table_in slots.old from).rows ≤ (table_in slots.old to).room }
-    requires widths { Agree (table_in slots.old to) (table_in slots.old from) }
-    ensures { slots.new ≡ slice_set
-        (slice_set slots.old from (Some (without_rows (table_in slots.old from))))
-        to (Some (with_rows (table_in slots.old to) (table_in slots.old from).rows)) }
-{
-    if from < to {
-        let (low, high) = slots.split_at_mut(to);
-        move_all_between(&mut low[from], &mut high[0]);
-    } else {
-        let (low, high) = slots.split_at_mut(from);
-        move_all_between(&mut high[0], &mut low[to]);
     }
 }
 

@@ -3,6 +3,7 @@ ghost use Rattle.std.specs.Prelude.{◌≡◌, ◌≤◌, false, Some, IsSome, O
 ghost use Rattle.eco_ids.specs.Order.{id_cmp, has_item, with_item, without_item};
 ghost use Rattle.eco_tables.specs.Tables.{slot_of, table_in, turned, SetsSlot};
 
+use crate::tables::lending::table_mut;
 use crate::tables::{TableSlot, Tables};
 use eco_ids::Id;
 use eco_ids::value::FIELD_COUNT;
@@ -20,10 +21,7 @@ impl Tables {
             (with_item id_cmp (table_in self.old slot).ids id) id width))) }
         ensures err { OnErr result (SetsSlot self.old self.new slot (slot_of self.old slot)) }
     {
-        let Some(table) = &mut self.slots[slot] else {
-            unreachable!()
-        };
-        table.gain(self.alloc, id, width)?;
+        table_mut(&mut self.slots, slot).gain(self.alloc, id, width)?;
         Ok(())
     }
 
@@ -34,9 +32,6 @@ impl Tables {
             (Some (turned (table_in self.old slot)
             (without_item id_cmp (table_in self.old slot).ids id) id 0)) }
     {
-        let Some(table) = &mut self.slots[slot] else {
-            unreachable!()
-        };
-        table.lose(id);
+        table_mut(&mut self.slots, slot).lose(id);
     }
 }

@@ -1,20 +1,16 @@
-use Rattle.std.proofs.Common.{◌∷◌, [], sym, subst}
+use Rattle.std.proofs.Common.{◌∷◌, []}
 use Rattle.eco_tables.specs.Tables.{new_row, with_row}
-use Rattle.eco_tables.specs.Table.{RowsHaveIds}
 use Rattle.eco_tables.proofs.RowIds.{joined_have}
-use Rattle.eco_tables.proofs.Slots.{at_slot, room_within, still, wrote}
+use Rattle.eco_tables.proofs.Slots.{room_some, still, wrote}
 use Rattle.eco_tables.proofs.tables.Tables.push_row.Goals as goal
+
+pub table_mut-requires : goal.table_mut-requires
+table_mut-requires c = room_some c.self.inside.slots.items c.args.slot (rw (← c.self.view_is) at c.requires)
 
 pub invariant_of-self : goal.invariant_of-self
 invariant_of-self c =
-    let within = room_within c.self.inside.slots.items c.args.slot (rw (← c.self.view_is) at c.requires) in
-    let there = at_slot c.self.inside.slots.items c.args.slot c.index_mut.result.now c.in-Some.table c.index_mut.ensures.value within c.in-Some.is in
-    still _ _ _ c.self.invariant c.args.slot c.in-Some.table c.push_row.new.self there
-    (λ has. subst RowsHaveIds (sym c.push_row.ensures) (joined_have c.in-Some.table (new_row c.args.entity ∷ []) has))
+    still _ _ _ c.self.invariant c.args.slot _ _ c.table_mut.ensures.value (λ t. with_row t (new_row c.args.entity)) c.push_row.ensures
+    (λ has. joined_have c.table_mut.result.now (new_row c.args.entity ∷ []) has)
 
 pub returns : goal.returns
-returns c =
-    let within = room_within c.self.inside.slots.items c.args.slot (rw (← c.self.view_is) at c.requires) in
-    let there = at_slot c.self.inside.slots.items c.args.slot c.index_mut.result.now c.in-Some.table c.index_mut.ensures.value within c.in-Some.is in
-    wrote c.args.self.now c.self.inside.slots.items c.args.slot c.in-Some.table c.push_row.new.self c.self.view_is there
-    (λ t. with_row t (new_row c.args.entity)) c.push_row.ensures
+returns c = wrote _ _ c.args.slot _ _ c.self.view_is c.table_mut.ensures.value (λ t. with_row t (new_row c.args.entity)) c.push_row.ensures

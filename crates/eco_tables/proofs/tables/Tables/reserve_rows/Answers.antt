@@ -1,52 +1,22 @@
-use Rattle.std.proofs.Common.{◌≤◌, IsOk, OnOk, ap, arith, sym, subst}
-use Rattle.eco_tables.specs.Table.{RowsHaveIds, TableState}
-use Rattle.eco_tables.proofs.Slots.{at_slot, new_is, not_empty, own_is, some_within, still, roomed}
+use Rattle.eco_tables.specs.Tables.{with_room}
+use Rattle.eco_tables.proofs.Slots.{new_is, own_is, roomed, still}
 use Rattle.eco_tables.proofs.tables.Tables.reserve_rows.Goals as goal
+
+pub table_mut-requires : goal.table_mut-requires
+table_mut-requires c = rw c.self.view_is c.requires
 
 pub invariant_of-self : goal.invariant_of-self
 invariant_of-self c =
-    let within = some_within c.self.inside.slots.items c.args.slot (rw (← c.self.view_is) at c.requires) in
-    let there = at_slot c.self.inside.slots.items c.args.slot c.index_mut.result.now c.in-Some.table c.index_mut.ensures.value within c.in-Some.is in
-    still _ _ _ c.self.invariant c.args.slot c.in-Some.table c.reserve.new.self there (λ has. subst RowsHaveIds (sym c.reserve.ensures.same) has)
+    let room = c.reserve.new.self.room in
+    still _ _ _ c.self.invariant c.args.slot _ _ c.table_mut.ensures.value (λ t. with_room t room) c.reserve.ensures.same (λ has. has)
 
-pub returns-clause-sets : goal.returns-clause-sets
-returns-clause-sets c =
-    let within = some_within c.self.inside.slots.items c.args.slot (rw (← c.self.view_is) at c.requires) in
-    let there = at_slot c.self.inside.slots.items c.args.slot c.index_mut.result.now c.in-Some.table c.index_mut.ensures.value within c.in-Some.is in
-    roomed c.args.self.now c.self.inside.slots.items c.args.slot c.in-Some.table c.reserve.new.self c.self.view_is there c.reserve.ensures.same
-
-pub index_mut-requires : goal.index_mut-requires
-index_mut-requires c =
-    let within = some_within c.self.inside.slots.items c.args.slot (rw (← c.self.view_is) at c.requires) in
-    omega (arith, within, c.self.inside.slots.ok.0)
-
-pub unreachable-requires : goal.unreachable-requires
-unreachable-requires c =
-    let slots = c.self.inside.slots.items in
-    let some = rw (← c.self.view_is) at c.requires in
-    not_empty slots c.args.slot c.index_mut.result.now c.index_mut.ensures.value (some_within slots c.args.slot some) some c.in_default.is
-
-pub returns-clause-kept : goal.returns-clause-kept
-returns-clause-kept c =
-    let slots = c.self.inside.slots.items in
-    let within = some_within slots c.args.slot (rw (← c.self.view_is) at c.requires) in
-    let there = at_slot slots c.args.slot c.index_mut.result.now c.in-Some.table c.index_mut.ensures.value within c.in-Some.is in
-    let own = ap (λ (t : TableState). t.room) (own_is c.args.self.now slots c.args.slot c.in-Some.table c.reserve.new.self c.self.view_is there) in
-    let new = ap (λ (t : TableState). t.room) (new_is c.args.self.now slots c.args.slot c.in-Some.table c.reserve.new.self c.self.view_is there) in
-    omega (arith, own, new, c.reserve.ensures.kept)
-
-pub returns-clause-room : goal.returns-clause-room
-returns-clause-room c =
-    let slots = c.self.inside.slots.items in
-    let within = some_within slots c.args.slot (rw (← c.self.view_is) at c.requires) in
-    let there = at_slot slots c.args.slot c.index_mut.result.now c.in-Some.table c.index_mut.ensures.value within c.in-Some.is in
-    subst (λ (t : TableState). OnOk c.reserve.result (c.args.more ≤ t.room))
-    (sym (new_is c.args.self.now slots c.args.slot c.in-Some.table c.reserve.new.self c.self.view_is there)) c.reserve.ensures.room
-
-pub returns-clause-ready : goal.returns-clause-ready
-returns-clause-ready c =
-    let slots = c.self.inside.slots.items in
-    let within = some_within slots c.args.slot (rw (← c.self.view_is) at c.requires) in
-    let there = at_slot slots c.args.slot c.index_mut.result.now c.in-Some.table c.index_mut.ensures.value within c.in-Some.is in
-    subst (λ (t : TableState). c.args.more ≤ t.room → IsOk c.reserve.result)
-    (own_is c.args.self.now slots c.args.slot c.in-Some.table c.reserve.new.self c.self.view_is there) c.reserve.ensures.ready
+pub returns : goal.returns
+returns c =
+    let own = own_is _ _ c.args.slot _ c.self.view_is c.table_mut.ensures.value in
+    let new = new_is _ _ c.args.slot _ c.reserve.new.self c.self.view_is c.table_mut.ensures.value in
+    record {
+      sets = roomed _ _ c.args.slot _ _ c.self.view_is c.table_mut.ensures.value c.reserve.ensures.same;
+      kept = rw (← own, new) c.reserve.ensures.kept;
+      room = rw new c.reserve.ensures.room;
+      ready = rw (← own) c.reserve.ensures.ready;
+    }

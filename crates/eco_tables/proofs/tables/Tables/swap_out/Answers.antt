@@ -1,22 +1,20 @@
-use Rattle.std.proofs.Common.{◌<◌, length, sym, subst, unwrap_or}
-use Rattle.eco_tables.specs.Table.{RowsHaveIds}
-use Rattle.eco_tables.specs.Tables.{no_table, without_row}
+use Rattle.eco_tables.specs.Tables.{without_row}
 use Rattle.eco_tables.proofs.RowIds.{removed_has}
-use Rattle.eco_tables.proofs.Slots.{at_slot, row_within, still, wrote}
+use Rattle.eco_tables.proofs.Slots.{row_some, row_there, still, wrote}
 use Rattle.eco_tables.proofs.tables.Tables.swap_out.Goals as goal
+
+pub table_mut-requires : goal.table_mut-requires
+table_mut-requires c = row_some c.self.inside.slots.items c.args.slot c.args.row (rw (← c.self.view_is) at c.requires)
+
+pub swap_out-requires : goal.swap_out-requires
+swap_out-requires c = row_there c.self.inside.slots.items c.args.slot c.args.row _ c.table_mut.ensures.value (rw (← c.self.view_is) at c.requires)
 
 pub invariant_of-self : goal.invariant_of-self
 invariant_of-self c =
-    let asked = rw (← c.self.view_is) at c.requires in
-    let within = row_within c.self.inside.slots.items c.args.slot c.args.row asked in
-    let there = at_slot c.self.inside.slots.items c.args.slot c.index_mut.result.now c.in-Some.table c.index_mut.ensures.value within c.in-Some.is in
-    let row : c.args.row < length c.in-Some.table.rows = subst (λ o. c.args.row < length (unwrap_or o no_table).rows) there asked in
-    still _ _ _ c.self.invariant c.args.slot c.in-Some.table c.swap_out.new.self there
-    (λ has. subst RowsHaveIds (sym c.swap_out.ensures.rows) (removed_has c.in-Some.table c.args.row row has))
+    let there = c.table_mut.ensures.value in
+    let row = row_there c.self.inside.slots.items c.args.slot c.args.row _ there (rw (← c.self.view_is) at c.requires) in
+    still _ _ _ c.self.invariant c.args.slot _ _ there (λ t. without_row t c.args.row) c.swap_out.ensures.rows
+    (removed_has c.table_mut.result.now c.args.row row)
 
 pub returns-clause-rows : goal.returns-clause-rows
-returns-clause-rows c =
-    let within = row_within c.self.inside.slots.items c.args.slot c.args.row (rw (← c.self.view_is) at c.requires) in
-    let there = at_slot c.self.inside.slots.items c.args.slot c.index_mut.result.now c.in-Some.table c.index_mut.ensures.value within c.in-Some.is in
-    wrote c.args.self.now c.self.inside.slots.items c.args.slot c.in-Some.table c.swap_out.new.self c.self.view_is there
-    (λ t. without_row t c.args.row) c.swap_out.ensures.rows
+returns-clause-rows c = wrote _ _ c.args.slot _ _ c.self.view_is c.table_mut.ensures.value (λ t. without_row t c.args.row) c.swap_out.ensures.rows

@@ -1,18 +1,12 @@
 use Rattle.eco_tables.specs.Tables.{with_room}
-use Rattle.std.proofs.Common.{sym, subst}
-use Rattle.eco_tables.specs.Table.{RowsHaveIds}
-use Rattle.eco_tables.proofs.Slots.{at_slot, some_within, still, wrote}
+use Rattle.eco_tables.proofs.Slots.{still, wrote}
 use Rattle.eco_tables.proofs.tables.Tables.waive.Goals as goal
 
+pub table_mut-requires : goal.table_mut-requires
+table_mut-requires c = rw c.self.view_is c.requires
+
 pub invariant_of-self : goal.invariant_of-self
-invariant_of-self c =
-    let within = some_within c.self.inside.slots.items c.args.slot (rw (← c.self.view_is) at c.requires) in
-    let there = at_slot c.self.inside.slots.items c.args.slot c.index_mut.result.now c.in-Some.table c.index_mut.ensures.value within c.in-Some.is in
-    still _ _ _ c.self.invariant c.args.slot c.in-Some.table c.waive.new.self there (λ has. subst RowsHaveIds (sym c.waive.ensures) has)
+invariant_of-self c = still _ _ _ c.self.invariant c.args.slot _ _ c.table_mut.ensures.value (λ t. with_room t 0) c.waive.ensures (λ has. has)
 
 pub returns : goal.returns
-returns c =
-    let within = some_within c.self.inside.slots.items c.args.slot (rw (← c.self.view_is) at c.requires) in
-    let there = at_slot c.self.inside.slots.items c.args.slot c.index_mut.result.now c.in-Some.table c.index_mut.ensures.value within c.in-Some.is in
-    wrote c.args.self.now c.self.inside.slots.items c.args.slot c.in-Some.table c.waive.new.self c.self.view_is there
-    (λ t. with_room t 0) c.waive.ensures
+returns c = wrote _ _ c.args.slot _ _ c.self.view_is c.table_mut.ensures.value (λ t. with_room t 0) c.waive.ensures

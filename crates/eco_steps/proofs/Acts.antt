@@ -1,5 +1,5 @@
 -- What is found in a value is exactly the phase, or the actions, that it is.
-use Rattle.std.proofs.Common.{◌≡◌, ℕ, List, [], ◌∷◌, Some, None, option_and_then, refl, codes, arith}
+use Rattle.std.proofs.Common.{◌≡◌, ℕ, List, [], ◌∷◌, map, Some, None, option_and_then, refl, codes, arith}
 use Rattle.std.specs.Str.{bytes_eq}
 use Rattle.std.proofs.lemmas.Option.{option_and_then_some}
 use Rattle.serde_json.specs.Data.{Data, string}
@@ -7,11 +7,12 @@ use Rattle.serde_json.specs.Find.{as_str}
 use Rattle.eco_ids.specs.declared.edition.Edition.{Edition}
 use Rattle.eco_systems.specs.declared.phase.Phase.{Phase}
 use Rattle.eco_systems.specs.declared.phase.Phase.TheVariants.{OnLoad, PostLoad, PreUpdate, OnUpdate, OnValidate, PostUpdate, PreStore, OnStore}
+use Rattle.eco_systems.specs.Phases.{phases}
 use Rattle.eco_steps.specs.Actions.{WrittenAction, add, remove, put, sum, kill, spawn}
-use Rattle.eco_steps.specs.Decode.{list_in, each_in, value_of_data, slot_in, phase_of, action_of_none, action_of_text, action_of_slot, action_of}
+use Rattle.eco_steps.specs.Decode.{list_in, each_in, value_of_data, slot_in, phase_of, bare_actions, text_actions, action_of_none, action_of_text, action_of_slot, action_of}
 use Rattle.eco_steps.specs.Decode.{action_in, actions_in, words_in}
 use Rattle.eco_steps.specs.Steps.{IsSlotData, IsActionData, IsActionsData, phase_word, written_list}
-use Rattle.eco_steps.proofs.Parts.{number_in_range, value_found, chosen, word_is, str_is, number_is, list_is, value_is, words_is}
+use Rattle.eco_steps.proofs.Parts.{number_in_range, value_found, chosen, of_table, word_is, str_is, number_is, list_is, value_is, words_is}
 use Rattle.eco_steps.proofs.Values.{mapped, items_list-items_of, each_found, each_is}
 
 -- ---- phases
@@ -27,15 +28,7 @@ phase_found PreStore = refl
 phase_found OnStore = refl
 
 word_of : (w : List ℕ) (p : Phase) → phase_of w ≡ Some p → w ≡ phase_word p
-word_of w p e =
-    chosen _ (bytes_eq w (phase_word OnLoad)) _ _ p e (λ t h. let q : p ≡ OnLoad = cc in rw q (word_is w _ t))
-    (λ f. chosen _ (bytes_eq w (phase_word PostLoad)) _ _ p f (λ t h. let q : p ≡ PostLoad = cc in rw q (word_is w _ t))
-    (λ g. chosen _ (bytes_eq w (phase_word PreUpdate)) _ _ p g (λ t h. let q : p ≡ PreUpdate = cc in rw q (word_is w _ t))
-    (λ k. chosen _ (bytes_eq w (phase_word OnUpdate)) _ _ p k (λ t h. let q : p ≡ OnUpdate = cc in rw q (word_is w _ t))
-    (λ l. chosen _ (bytes_eq w (phase_word OnValidate)) _ _ p l (λ t h. let q : p ≡ OnValidate = cc in rw q (word_is w _ t))
-    (λ m. chosen _ (bytes_eq w (phase_word PostUpdate)) _ _ p m (λ t h. let q : p ≡ PostUpdate = cc in rw q (word_is w _ t))
-    (λ n. chosen _ (bytes_eq w (phase_word PreStore)) _ _ p n (λ t h. let q : p ≡ PreStore = cc in rw q (word_is w _ t))
-    (λ o. chosen _ (bytes_eq w (phase_word OnStore)) _ _ p o (λ t h. let q : p ≡ OnStore = cc in rw q (word_is w _ t)) (λ r. cc))))))))
+word_of = of_table (λ w p. w ≡ phase_word p) (map (λ p. (phase_word p, p)) phases) (refl, (refl, (refl, (refl, (refl, (refl, (refl, (refl, tt))))))))
 
 pub phase_is : (d : Data) (p : Phase) → option_and_then phase_of (as_str d) ≡ Some p → d ≡ string (phase_word p)
 phase_is d p e = option_and_then_some phase_of (as_str d) p e (λ w is h. rw (← word_of w p h) (str_is d w is))
@@ -65,15 +58,10 @@ module _ (edition : Edition) where
 
   -- what is found is what is written
   none_is : (w : List ℕ) (a : WrittenAction) → action_of_none w ≡ Some a → IsActionData edition (written_list w []) a
-  none_is w a e =
-      chosen _ (bytes_eq w (codes "kill")) _ _ a e (λ t h. let q : a ≡ kill = cc in rw (q, word_is w _ t) refl)
-      (λ f. chosen _ (bytes_eq w (codes "spawn")) _ _ a f (λ t h. let q : a ≡ spawn None = cc in rw (q, word_is w _ t) refl) (λ h. cc))
+  none_is = of_table (λ w. IsActionData edition (written_list w [])) bare_actions (refl, (refl, tt))
 
   text_is : (w x : List ℕ) (a : WrittenAction) → action_of_text w x ≡ Some a → IsActionData edition (written_list w (string x ∷ [])) a
-  text_is w x a e =
-      chosen _ (bytes_eq w (codes "add")) _ _ a e (λ t h. let q : a ≡ add x = cc in rw (q, word_is w _ t) refl)
-      (λ f. chosen _ (bytes_eq w (codes "remove")) _ _ a f (λ t h. let q : a ≡ remove x = cc in rw (q, word_is w _ t) refl)
-      (λ g. chosen _ (bytes_eq w (codes "spawn")) _ _ a g (λ t h. let q : a ≡ spawn (Some x) = cc in rw (q, word_is w _ t) refl) (λ h. cc)))
+  text_is w x = of_table (λ v. IsActionData edition (written_list v (string x ∷ []))) (text_actions x) (refl, (refl, (refl, tt))) w
 
   slots_are : (w : List ℕ) (d e : Data) (n : ℕ) (a : WrittenAction) → IsSlotData d n → action_of_slot edition w n e ≡ Some a
       → IsActionData edition (written_list w (d ∷ e ∷ [])) a

@@ -12,6 +12,7 @@ use Rattle.eco_ids.specs.declared.edition.Edition.{Edition}
 use Rattle.eco_ids.specs.declared.edition.Edition.TheVariants.{First, Second}
 use Rattle.eco_ids.specs.Edition.{builtin_count, largest_arity}
 use Rattle.eco_steps.specs.Decode.{list_in, each_in, name_in, number_in, value_of_data, change_with, change_of_text, change_of_texts, change_of_two, change_of_three}
+use Rattle.eco_steps.specs.Decode.{text_changes, texts_changes, bare_steps, text_steps, texts_steps}
 use Rattle.eco_steps.specs.Decode.{created_of, command_with, command_in, stage_in, stages_in, step_of_none, step_of_one, step_of_text, step_of_texts, step_of_two, step_of}
 use Rattle.eco_steps.specs.Decode.{words_in, merge_of_data, phase_of, actions_in, named_system_of_data, system_of_data, step_with}
 use Rattle.eco_steps.specs.Decode.{step_in, Parts, edition_of, limit_in, parts_of, parts_in, parts_with, script_of, script_in, version_in}
@@ -21,7 +22,7 @@ use Rattle.eco_steps.specs.Commands.{WrittenChange, WrittenCommand, add, remove,
 use Rattle.eco_steps.specs.Commands as command
 use Rattle.eco_steps.specs.Steps.{IsChangeData, IsCommandData, IsStageData, IsStagesData, IsStepData, KeepsTo, written_list, list_data}
 use Rattle.eco_steps.proofs.Values.{mapped, items_list-items_of, each_found, each_is}
-use Rattle.eco_steps.proofs.Parts.{number_in_range, value_found, chosen, word_is, str_is, name_is, number_is, list_is, value_is, words_is}
+use Rattle.eco_steps.proofs.Parts.{number_in_range, value_found, chosen, of_table, word_is, str_is, name_is, number_is, list_is, value_is, words_is}
 use Rattle.eco_steps.proofs.Acts.{phase_found, phase_is, actions_found, actions_are}
 
 module _ (edition : Edition) where
@@ -71,17 +72,11 @@ module _ (edition : Edition) where
   -- ---- what is found is what is written
 
   text_change : (w x : List ℕ) (c : WrittenChange) → change_of_text w x ≡ Some c → IsChangeData edition (written_list w (string x ∷ [])) c
-  text_change w x c e =
-      chosen _ (bytes_eq w (codes "clear")) _ _ c e (λ t h. let q : c ≡ clear x = cc in rw (q, word_is w _ t) refl)
-      (λ f. chosen _ (bytes_eq w (codes "delete")) _ _ c f (λ t h. let q : c ≡ delete x = cc in rw (q, word_is w _ t) refl)
-      (λ g. chosen _ (bytes_eq w (codes "delete_with")) _ _ c g (λ t h. let q : c ≡ delete_with x = cc in rw (q, word_is w _ t) refl)
-      (λ k. chosen _ (bytes_eq w (codes "remove_all")) _ _ c k (λ t h. let q : c ≡ remove_all x = cc in rw (q, word_is w _ t) refl) (λ l. cc))))
+  text_change w x = of_table (λ v. IsChangeData edition (written_list v (string x ∷ []))) (text_changes x) (refl, (refl, (refl, (refl, tt)))) w
 
   texts_change : (w x y : List ℕ) (c : WrittenChange) → change_of_texts w x y ≡ Some c
       → IsChangeData edition (written_list w (string x ∷ string y ∷ [])) c
-  texts_change w x y c e =
-      chosen _ (bytes_eq w (codes "add")) _ _ c e (λ t h. let q : c ≡ add x y = cc in rw (q, word_is w _ t) refl)
-      (λ f. chosen _ (bytes_eq w (codes "remove")) _ _ c f (λ t h. let q : c ≡ remove x y = cc in rw (q, word_is w _ t) refl) (λ g. cc))
+  texts_change w x y = of_table (λ v. IsChangeData edition (written_list v (string x ∷ string y ∷ []))) (texts_changes x y) (refl, (refl, tt)) w
 
   two_change : (w x : List ℕ) (d : Data) (c : WrittenChange) → change_of_two w x d ≡ Some c
       → IsChangeData edition (written_list w (string x ∷ d ∷ [])) c
@@ -111,9 +106,8 @@ module _ (edition : Edition) where
   -- or as the command
   created_is : (w : List ℕ) (ds : List Data) (c : WrittenCommand) → bytes_eq w (codes "create") ≡ true → created_of ds ≡ Some c
       → IsCommandData edition (written_list w ds) c
-  created_is w [] c t e = cc
-  created_is w (a ∷ b ∷ ds) c t e = cc
   created_is w (a ∷ []) c t e = mapped command.create (as_str a) c e (λ x n q. rw (str_is a x n, q, word_is w _ t) refl)
+  created_is w _ c t e = cc
 
   command_with_is : (w : List ℕ) (ds : List Data) (c : WrittenCommand) → command_with edition w ds ≡ Some c → IsCommandData edition (written_list w ds) c
   command_with_is w ds c e =
@@ -137,13 +131,11 @@ module _ (edition : Edition) where
 
   merge_is : (w : List ℕ) (ds : List Data) (s : WrittenStep) → bytes_eq w (codes "merge") ≡ true → merge_of_data edition ds ≡ Some s
       → IsStepData edition (written_list w ds) s
-  merge_is w [] s t e = cc
-  merge_is w (a ∷ []) s t e = cc
-  merge_is w (a ∷ b ∷ c ∷ ds) s t e = cc
   merge_is w (a ∷ b ∷ []) s t e =
       option_and_then_some (λ n. option_map (merge n) (stages_in edition b)) (number_in 0 1048576 a) s e
       (λ n at h. mapped (merge n) (stages_in edition b) s h (λ stages k q.
       let (is, low, high) = number_is 0 1048576 a n at in rw (is, q, word_is w _ t) (b, refl, high, stages_is b stages k)))
+  merge_is w _ s t e = cc
 
   system_with_is : (w n : List ℕ) (a b c : Data) (s : WrittenStep) → bytes_eq w (codes "system") ≡ true → named_system_of_data edition n a b c ≡ Some s
       → IsStepData edition (written_list w (string n ∷ a ∷ b ∷ c ∷ [])) s
@@ -155,26 +147,15 @@ module _ (edition : Edition) where
 
   system_is : (w : List ℕ) (ds : List Data) (s : WrittenStep) → bytes_eq w (codes "system") ≡ true → system_of_data edition ds ≡ Some s
       → IsStepData edition (written_list w ds) s
-  system_is w [] s t e = cc
-  system_is w (a ∷ []) s t e = cc
-  system_is w (a ∷ b ∷ []) s t e = cc
-  system_is w (a ∷ b ∷ c ∷ []) s t e = cc
-  system_is w (a ∷ b ∷ c ∷ d ∷ f ∷ ds) s t e = cc
   system_is w (a ∷ b ∷ c ∷ d ∷ []) s t e =
       option_and_then_some (λ n. named_system_of_data edition n b c d) (as_str a) s e (λ n at h. rw (str_is a n at) (system_with_is w n b c d s t h))
+  system_is w _ s t e = cc
 
   none_is : (w : List ℕ) (s : WrittenStep) → step_of_none w ≡ Some s → IsStepData edition (written_list w []) s
-  none_is w s e =
-      chosen _ (bytes_eq w (codes "create")) _ _ s e (λ t h. let q : s ≡ create None = cc in rw (q, word_is w _ t) refl)
-      (λ f. chosen _ (bytes_eq w (codes "list")) _ _ s f (λ t h. let q : s ≡ list = cc in rw (q, word_is w _ t) refl)
-      (λ g. chosen _ (bytes_eq w (codes "frame")) _ _ s g (λ t h. let q : s ≡ frame = cc in rw (q, word_is w _ t) refl) (λ h. cc)))
+  none_is = of_table (λ w. IsStepData edition (written_list w [])) bare_steps (refl, (refl, (refl, tt)))
 
   text_is : (w x : List ℕ) (s : WrittenStep) → step_of_text w x ≡ Some s → IsStepData edition (written_list w (string x ∷ [])) s
-  text_is w x s e =
-      chosen _ (bytes_eq w (codes "create")) _ _ s e (λ t h. let q : s ≡ create (Some x) = cc in rw (q, word_is w _ t) refl)
-      (λ f. chosen _ (bytes_eq w (codes "show")) _ _ s f (λ t h. let q : s ≡ show x = cc in rw (q, word_is w _ t) refl)
-      (λ g. chosen _ (bytes_eq w (codes "query")) _ _ s g (λ t h. let q : s ≡ query x = cc in rw (q, word_is w _ t) refl)
-      (λ k. chosen _ (bytes_eq w (codes "cache")) _ _ s k (λ t h. let q : s ≡ cache x = cc in rw (q, word_is w _ t) refl) (λ l. cc))))
+  text_is w x = of_table (λ v. IsStepData edition (written_list v (string x ∷ []))) (text_steps x) (refl, (refl, (refl, (refl, tt)))) w
 
   one_is : (w : List ℕ) (d : Data) (s : WrittenStep) → step_of_one w d ≡ Some s → IsStepData edition (written_list w (d ∷ [])) s
   one_is w d s e =
@@ -184,9 +165,7 @@ module _ (edition : Edition) where
       (λ f. option_and_then_some (step_of_text w) (as_str d) s f (λ x is h. rw (str_is d x is) (text_is w x s h)))
 
   texts_are : (w x y : List ℕ) (s : WrittenStep) → step_of_texts w x y ≡ Some s → IsStepData edition (written_list w (string x ∷ string y ∷ [])) s
-  texts_are w x y s e =
-      chosen _ (bytes_eq w (codes "has")) _ _ s e (λ t h. let q : s ≡ has x y = cc in rw (q, word_is w _ t) refl)
-      (λ f. chosen _ (bytes_eq w (codes "get")) _ _ s f (λ t h. let q : s ≡ get x y = cc in rw (q, word_is w _ t) refl) (λ g. cc))
+  texts_are w x y = of_table (λ v. IsStepData edition (written_list v (string x ∷ string y ∷ []))) (texts_steps x y) (refl, (refl, tt)) w
 
   two_is : (w x : List ℕ) (d : Data) (s : WrittenStep) → step_of_two edition w x d ≡ Some s → IsStepData edition (written_list w (string x ∷ d ∷ [])) s
   two_is w x d s e =
@@ -260,10 +239,6 @@ with_items edition l items = (edition, l, items)
 
 -- what has the parts of a script is written so
 parts_are : (ds : List Data) (edition : Edition) (l : ℕ) (items : List Data) → parts_of ds ≡ Some (edition, l, items) → ArePartsOf ds edition l items
-parts_are [] edition l items e = cc
-parts_are (a ∷ []) edition l items e = cc
-parts_are (a ∷ b ∷ []) edition l items e = cc
-parts_are (a ∷ b ∷ c ∷ d ∷ ds) edition l items e = cc
 parts_are (a ∷ b ∷ c ∷ []) edition l items e =
     option_and_then_some (λ v. parts_with v b c) (version_in a) (edition, l, items) e
     (λ v is h. option_and_then_some (λ k. option_map (with_items v k) (list_in c)) (limit_in v b) (edition, l, items) h
@@ -273,6 +248,7 @@ parts_are (a ∷ b ∷ c ∷ []) edition l items e =
     let q : l ≡ k = ap (λ (t : Parts). t.1) same in
     let r : items ≡ ds = ap (λ (t : Parts). t.2) same in
     rw (p, q, r, version_is a v is, at_limit, list_is c ds told) (refl, least, most))))
+parts_are _ edition l items e = cc
 
 -- the script of a value with such parts
 pub script_is : (d : Data) (edition : Edition) (l : ℕ) (items : List Data) (ss : List WrittenStep) → parts_in d ≡ Some (edition, l, items)

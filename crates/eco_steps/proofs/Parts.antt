@@ -3,12 +3,12 @@ use Rattle.std.proofs.Common.{◌≡◌, ◌+◌, ◌≤◌, ◌^◌, ◌<◌, �
 use Rattle.std.proofs.Common.{nat_lt, nat_le, ◌&&◌, Option, Some, None, option_map, if◌then◌else◌, refl, ap, sym, ◌∙◌, arith}
 use Rattle.std.proofs.Common.{get_or, set as set_at, to_z, of_z}
 use Rattle.std.specs.Int.{w64}
-use Rattle.std.specs.List.{AllZip}
 use Rattle.std.specs.Str.{bytes_eq}
 use Rattle.std.proofs.lemmas.Int.{to_z-of_z}
 use Rattle.std.proofs.lemmas.List.{append-nil, drop_all, drop-drop, drop-replicate, drop-set-lt, length-drop, length-map, length-replicate, take-append-drop}
 use Rattle.std.proofs.lemmas.List.{take_more_set}
 use Rattle.std.proofs.lemmas.Slice.Eq.{bytes_eq-Decides}
+use Rattle.std.proofs.lemmas.Slice.Zip.{AllZip-long}
 use Rattle.std.proofs.lemmas.Option.{option_and_then_some}
 use Rattle.serde_json.specs.Data.{Data, null, boolean, number, string, array, object, unsigned, negative, float}
 use Rattle.serde_json.specs.Find.{as_str}
@@ -19,7 +19,7 @@ use Rattle.eco_ids.specs.declared.value.Value.{Value}
 use Rattle.eco_ids.specs.Edition.{largest_arity}
 use Rattle.eco_ids.specs.World.{padded}
 use Rattle.eco_steps.specs.Decode.{items_list, list_in, each_in, name_in, number_in, integer_in, value_of_items, value_of_data}
-use Rattle.eco_steps.specs.Decode.{words_of, words_in}
+use Rattle.eco_steps.specs.Decode.{Words, at_word, words_of, words_in}
 use Rattle.eco_steps.specs.Steps.{IsIntegerData, IsValueData, written_list, list_data, name_data}
 use Rattle.eco_steps.proofs.Values.{mapped, items_list-items_of, items_of-items_list, each_found, each_is, one_more}
 
@@ -32,13 +32,6 @@ integer_found : (d : Data) (z : ℤ) → IsIntegerData d z → integer_in d ≡ 
 integer_found d (pos n) (is, fits) = let small : n < 2 ^ 63 = fits.sfits in rw is (grind arith)
 integer_found d (negsuc n) (is, fits) = let small : n < 2 ^ 63 = fits.sfits in rw is (grind arith)
 
--- a list of as many items is that long
-same_length : {A B : Type 0} (R : A → B → Type 0) (xs : List A) (ys : List B) → AllZip R xs ys → length xs ≡ length ys
-same_length R [] [] are = refl
-same_length R [] (y ∷ ys) are = absurd are
-same_length R (x ∷ xs) [] are = absurd are
-same_length R (x ∷ xs) (y ∷ ys) are = grind (arith, same_length R xs ys are.1)
-
 module _ (edition : Edition) where
   -- as many items as there may be fields are read
   pub items_read : (ds : List Data) → 1 ≤ length ds → length ds ≤ largest_arity edition
@@ -47,7 +40,7 @@ module _ (edition : Edition) where
 
   pub value_found : (d : Data) (v : Value) → IsValueData edition d v → value_of_data edition d ≡ Some v
   value_found d v is =
-      let long = same_length IsIntegerData is.items is.fields is.are_integers in
+      let long = AllZip-long IsIntegerData is.items is.fields is.are_integers in
       rw (is.is_list, items_list-items_of is.items, is.filled)
       (items_read is.items (omega arith) (omega arith)
       ∙ ap (option_map padded) (each_found integer_in IsIntegerData integer_found is.items is.fields is.are_integers))
@@ -63,39 +56,32 @@ chosen P false x y z e at_true at_false = at_false e
 pub word_is : (w c : List ℕ) → bytes_eq w c ≡ true → w ≡ c
 word_is w c e = (bytes_eq-Decides w c).0 e
 
+-- what stands in a table of words, if it is so of each of its rows
+abbrev IsOfAll : {A : Type 0} → (List ℕ → A → Type 0) → Words A → Type 0
+IsOfAll P [] = Unit {0}
+IsOfAll P (row ∷ rows) = P row.0 row.1 × IsOfAll P rows
+
+pub of_table : {A : Type 0} (P : List ℕ → A → Type 0) (rows : Words A) → IsOfAll P rows → (w : List ℕ) (x : A) → at_word rows w ≡ Some x → P w x
+of_table P [] all w x e = cc
+of_table P (row ∷ rows) (is, others) w x e =
+    chosen _ (bytes_eq w row.0) _ _ x e (λ t h. let same : row.1 ≡ x = cc in rw (word_is w row.0 t, ← same) is) (of_table P rows others w x)
+
 pub str_is : (d : Data) (t : List ℕ) → as_str d ≡ Some t → d ≡ string t
 str_is (string s) t e = grind arith
-str_is null t e = cc
-str_is (boolean b) t e = cc
-str_is (number n) t e = cc
-str_is (array ds) t e = cc
-str_is (object ms) t e = cc
+str_is _ t e = cc
 
 pub name_is : (d : Data) (n : Option (List ℕ)) → name_in d ≡ Some n → d ≡ name_data n
 name_is null n e = grind arith
 name_is (string s) n e = grind arith
-name_is (boolean b) n e = cc
-name_is (number m) n e = cc
-name_is (array ds) n e = cc
-name_is (object ms) n e = cc
+name_is _ n e = cc
 
 pub number_is : (low high : ℕ) (d : Data) (n : ℕ) → number_in low high d ≡ Some n → (d ≡ number (unsigned n)) × (low ≤ n) × (n ≤ high)
 number_is low high (number (unsigned m)) n e = grind arith
-number_is low high (number (negative z)) n e = cc
-number_is low high (number (float x)) n e = cc
-number_is low high null n e = cc
-number_is low high (boolean b) n e = cc
-number_is low high (string s) n e = cc
-number_is low high (array ds) n e = cc
-number_is low high (object ms) n e = cc
+number_is low high _ n e = cc
 
 pub list_is : (d : Data) (ds : List Data) → list_in d ≡ Some ds → d ≡ list_data ds
 list_is (array is) ds e = let q : items_list is ≡ ds = cc in rw (← q, items_of-items_list is) refl
-list_is null ds e = cc
-list_is (boolean b) ds e = cc
-list_is (number n) ds e = cc
-list_is (string s) ds e = cc
-list_is (object ms) ds e = cc
+list_is _ ds e = cc
 
 -- a number below a limit, and the whole number that it makes
 small_is : (make : ℕ → ℤ) (n : ℕ) (z : ℤ) → (if nat_lt n (2 ^ 63) then Some (make n) else None) ≡ Some z → (make n ≡ z) × (n < 2 ^ 63)
@@ -104,15 +90,9 @@ small_is make n z e = grind arith
 integer_is : (d : Data) (z : ℤ) → integer_in d ≡ Some z → IsIntegerData d z
 integer_is (number (unsigned n)) z e =
     let (is, small) = small_is (λ k. pos k) n z e in rw (← is) (refl, record { sfits = small })
-integer_is (number (negative (pos n))) z e = cc
 integer_is (number (negative (negsuc n))) z e =
     let (is, small) = small_is (λ k. negsuc k) n z e in rw (← is) (refl, record { sfits = small })
-integer_is (number (float x)) z e = cc
-integer_is null z e = cc
-integer_is (boolean b) z e = cc
-integer_is (string s) z e = cc
-integer_is (array ds) z e = cc
-integer_is (object ms) z e = cc
+integer_is _ z e = cc
 
 module _ (edition : Edition) where
   -- a list of as many items as there may be fields
@@ -127,7 +107,7 @@ module _ (edition : Edition) where
       let (low, high, h) = few ds (option_map padded (each_in integer_in ds)) v e in
       mapped padded (each_in integer_in ds) v h (λ fields n q.
       let are = each_is integer_in IsIntegerData integer_is ds fields n in
-      let long = same_length IsIntegerData ds fields are in
+      let long = AllZip-long IsIntegerData ds fields are in
       record { items = ds; fields = fields; is_list = refl; are_integers = are; at_least = omega arith; at_most = omega arith; filled = q })
 
   pub value_is : (d : Data) (v : Value) → value_of_data edition d ≡ Some v → IsValueData edition d v
@@ -142,10 +122,9 @@ arity_fits Second n h = h
 fields_read : (ds : List Data) (fields : List ℤ) (i : ℕ) → i ≡ length ds → each_in integer_in ds ≡ Some (take i fields)
     → drop i fields ≡ replicate (FIELD_COUNT - i) (pos 0) → Some (record { 0 = fields }) ≡ option_map padded (each_in integer_in ds)
 fields_read ds fields i count found zeros =
-    let long : length ds ≡ length (take i fields) = same_length IsIntegerData ds (take i fields)
-    (each_is integer_in IsIntegerData integer_is ds (take i fields) found) in
+    let long = AllZip-long IsIntegerData ds (take i fields) (each_is integer_in IsIntegerData integer_is ds (take i fields) found) in
     let whole : take i fields ++ replicate (FIELD_COUNT - length (take i fields)) (pos 0) ≡ fields =
-    ap (λ n. take i fields ++ replicate (FIELD_COUNT - n) (pos 0)) (sym long ∙ sym count) ∙ ap (λ t. take i fields ++ t) (sym zeros)
+    ap (λ n. take i fields ++ replicate (FIELD_COUNT - n) (pos 0)) (long ∙ sym count) ∙ ap (λ t. take i fields ++ t) (sym zeros)
     ∙ take-append-drop i fields in
     ap (λ fs. let v : Value = record { 0 = fs } in Some v) (sym whole) ∙ ap (option_map padded) (sym found)
 

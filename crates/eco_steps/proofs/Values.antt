@@ -1,10 +1,10 @@
 -- Reading items from values, one after another.
 use Rattle.std.proofs.Common.{◌≡◌, ℕ, ◌+◌, ◌<◌, ◌≤◌, zero, suc, List, [], ◌∷◌, ◌++◌, length, map, drop, get_or, slice_get, Option}
-use Rattle.std.proofs.Common.{Some, None, option_map, option_and_then, ◌&&◌, false, refl, ap, sym, ◌∙◌, append_assoc}
+use Rattle.std.proofs.Common.{Some, None, option_map, option_and_then, ◌&&◌, Bool, true, false, refl, ap, sym, ◌∙◌, append_assoc}
 use Rattle.std.specs.Option.{is_some, IsSome, unwrap_or}
 use Rattle.std.specs.List.{AllZip, list_all}
 use Rattle.std.proofs.lemmas.List.{drop_more}
-use Rattle.std.proofs.lemmas.Option.{option_and_then_some}
+use Rattle.std.proofs.lemmas.Slice.Zip.{AllZip-long}
 use Rattle.serde_json.specs.Data.{Data, Items, no_items, item}
 use Rattle.serde_json.specs.View.{items_of}
 use Rattle.eco_steps.specs.Decode.{items_list, list_in, each_in}
@@ -22,6 +22,15 @@ pub items_of-items_list : (is : Items) → items_of (items_list is) ≡ is
 items_of-items_list no_items = refl
 items_of-items_list (item d is) = ap (λ js. item d js) (items_of-items_list is)
 
+-- what is found in a first value, and in those behind it
+each_more : {A : Type 0} (find : Data → Option A) (d : Data) (ds : List Data) (xs : List A) → each_in find (d ∷ ds) ≡ Some xs
+    → (x : A) × (ys : List A) × (find d ≡ Some x) × (each_in find ds ≡ Some ys) × (xs ≡ x ∷ ys)
+each_more {A} find d ds xs = both (find d) (each_in find ds) where
+  both : (o : Option A) (rest : Option (List A)) → option_and_then (λ x. option_map (λ ys. x ∷ ys) rest) o ≡ Some xs
+      → (x : A) × (ys : List A) × (o ≡ Some x) × (rest ≡ Some ys) × (xs ≡ x ∷ ys)
+  both (Some x) (Some ys) e = (x, ys, refl, refl, cc)
+  both _ _ e = cc
+
 module _ {A : Type 0} (find : Data → Option A) (Is : Data → A → Type 0) where
   -- what is written in each is found
   pub each_found : ((d : Data) (x : A) → Is d x → find d ≡ Some x) → (ds : List Data) (xs : List A) → AllZip Is ds xs → each_in find ds ≡ Some xs
@@ -33,9 +42,7 @@ module _ {A : Type 0} (find : Data → Option A) (Is : Data → A → Type 0) wh
   -- what is found in each is written there
   pub each_is : ((d : Data) (x : A) → find d ≡ Some x → Is d x) → (ds : List Data) (xs : List A) → each_in find ds ≡ Some xs → AllZip Is ds xs
   each_is one [] xs e = let q : xs ≡ [] = cc in rw q tt
-  each_is one (d ∷ ds) xs e =
-      option_and_then_some (λ x. option_map (λ ys. x ∷ ys) (each_in find ds)) (find d) xs e
-      (λ x is h. mapped (λ ys. x ∷ ys) (each_in find ds) xs h (λ ys n q. rw q (one d x is, each_is one ds ys n)))
+  each_is one (d ∷ ds) xs e = let (x, ys, is, are, q) = each_more find d ds xs e in rw q (one d x is, each_is one ds ys are)
 
 -- something was read where something is there
 pub some_read : {A B : Type 0} (see : B → A) (r : Option B) (o : Option A) → option_map see r ≡ o → is_some r ≡ is_some o
@@ -72,85 +79,73 @@ module _ {V A : Type 0} (view : V → Data) (find : Data → Option A) where
       let rest = each_in find (map view (drop (i + 1) vs)) in
       was ∙ ap (option_map (λ xs. old ++ xs)) (next_of vs i d there ∙ ap (option_and_then (λ y. option_map (λ ys. y ∷ ys) rest)) (sym missing))
 
--- what was found in each of some values, and the values that it was found in
-module _ {V A : Type 0} (view : V → Data) (find : Data → Option A) where
-  each_length : (vs : List V) (xs : List A) → each_in find (map view vs) ≡ Some xs → length xs ≡ length vs
-  each_length [] xs e = let q : xs ≡ [] = cc in rw q refl
-  each_length (v ∷ vs) xs e =
-      option_and_then_some (λ x. option_map (λ ys. x ∷ ys) (each_in find (map view vs))) (find (view v)) xs e
-      (λ x is h. mapped (λ ys. x ∷ ys) (each_in find (map view vs)) xs h (λ ys n q. rw q (ap suc (each_length vs ys n))))
-
-  each_get : (vs : List V) (xs : List A) (i : ℕ) → each_in find (map view vs) ≡ Some xs
-      → slice_get xs i ≡ option_and_then (λ v. find (view v)) (slice_get vs i)
-  each_get [] xs i e = let q : xs ≡ [] = cc in rw q refl
-  each_get (v ∷ vs) xs zero e =
-      option_and_then_some (λ x. option_map (λ ys. x ∷ ys) (each_in find (map view vs))) (find (view v)) xs e
-      (λ x is h. mapped (λ ys. x ∷ ys) (each_in find (map view vs)) xs h (λ ys n q. rw (q, is) refl))
-  each_get (v ∷ vs) xs (suc i) e =
-      option_and_then_some (λ x. option_map (λ ys. x ∷ ys) (each_in find (map view vs))) (find (view v)) xs e
-      (λ x is h. mapped (λ ys. x ∷ ys) (each_in find (map view vs)) xs h (λ ys n q. rw q (each_get vs ys i n)))
-
-  with_all : (P : List A → Type 0) (o : Option (List A)) → IsSome o → ((xs : List A) → o ≡ Some xs → P xs) → P (unwrap_or o [])
-  with_all P None some k = cc
-  with_all P (Some xs) some k = k xs refl
+-- what was found in each of some values
+module _ {A : Type 0} (find : Data → Option A) where
+  found : (o : Option (List A)) → IsSome o → (xs : List A) × (o ≡ Some xs)
+  found None some = cc
+  found (Some xs) some = (xs, refl)
 
   -- as many as there are values
-  pub kept_length : (vs : List V) → IsSome (each_in find (map view vs)) → length (unwrap_or (each_in find (map view vs)) []) ≡ length vs
-  kept_length vs some = with_all (λ xs. length xs ≡ length vs) (each_in find (map view vs)) some (each_length vs)
+  pub kept_length : (ds : List Data) → IsSome (each_in find ds) → length (unwrap_or (each_in find ds) []) ≡ length ds
+  kept_length ds some =
+      let (xs, e) = found (each_in find ds) some in
+      rw e (AllZip-long (λ d x. find d ≡ Some x) ds xs (each_is find (λ d x. find d ≡ Some x) (λ d x is. is) ds xs e))
 
-  -- each in its place
-  pub kept_get : (vs : List V) (i : ℕ) → IsSome (each_in find (map view vs))
-      → slice_get (unwrap_or (each_in find (map view vs)) []) i ≡ option_and_then (λ v. find (view v)) (slice_get vs i)
-  kept_get vs i some =
-      with_all (λ xs. slice_get xs i ≡ option_and_then (λ v. find (view v)) (slice_get vs i)) (each_in find (map view vs)) some
-      (λ xs e. each_get vs xs i e)
+  each_get : (ds : List Data) (xs : List A) (i : ℕ) → each_in find ds ≡ Some xs → slice_get xs i ≡ option_and_then find (slice_get ds i)
+  each_get [] xs i e = let q : xs ≡ [] = cc in rw q refl
+  each_get (d ∷ ds) xs zero e = let (x, ys, is, are, q) = each_more find d ds xs e in rw (q, is) refl
+  each_get (d ∷ ds) xs (suc i) e = let (x, ys, is, are, q) = each_more find d ds xs e in rw q (each_get ds ys i are)
+
+  -- each in its place, or none
+  pub kept_get : (ds : List Data) (i : ℕ) (o : Option Data) → IsSome (each_in find ds) → o ≡ slice_get ds i
+      → option_and_then find o ≡ slice_get (unwrap_or (each_in find ds) []) i
+  kept_get ds i o some at = let (xs, e) = found (each_in find ds) some in rw (e, at) (sym (each_get ds xs i e))
+
+  each_there : (ds : List Data) (xs : List A) (i : ℕ) (d : Data) → each_in find ds ≡ Some xs → Some d ≡ slice_get ds i → IsSome (find d)
+  each_there [] xs i d e at = cc
+  each_there (c ∷ ds) xs zero d e at =
+      let (x, ys, is, are, q) = each_more find c ds xs e in
+      let same : d ≡ c = cc in
+      rw (same, is) refl
+  each_there (c ∷ ds) xs (suc i) d e at = let (x, ys, is, are, q) = each_more find c ds xs e in each_there ds ys i d are at
 
   -- something was found in each
-  pub kept_each : (vs : List V) (i : ℕ) (v : V) → IsSome (each_in find (map view vs)) → slice_get vs i ≡ Some v → IsSome (find (view v))
-  kept_each [] i v some at = cc
-  kept_each (w ∷ ws) zero v some at =
-      let same : w ≡ v = cc in rw (sym same) (first (find (view w)) some)
-    where
-      first : (o : Option A) → IsSome (option_and_then (λ x. option_map (λ xs. x ∷ xs) (each_in find (map view ws))) o) → IsSome o
-      first None k = k
-      first (Some x) k = refl
-  kept_each (w ∷ ws) (suc i) v some at = kept_each ws i v (others (find (view w)) (each_in find (map view ws)) some) at
-    where
-      others : (o : Option A) (rest : Option (List A)) → IsSome (option_and_then (λ x. option_map (λ xs. x ∷ xs) rest) o) → IsSome rest
-      others None rest k = cc
-      others (Some x) None k = k
-      others (Some x) (Some xs) k = refl
+  pub kept_each : (ds : List Data) (i : ℕ) (d : Data) → IsSome (each_in find ds) → Some d ≡ slice_get ds i → IsSome (find d)
+  kept_each ds i d some at = let (xs, e) = found (each_in find ds) some in each_there ds xs i d e at
 
-  -- something is found in all where it is found in each
-  pub all_found : (vs : List V) → is_some (each_in find (map view vs)) ≡ list_all (λ v. is_some (find (view v))) vs
-  all_found [] = refl
-  all_found (v ∷ vs) = both (find (view v)) (each_in find (map view vs)) ∙ ap (λ b. is_some (find (view v)) && b) (all_found vs) where
-    both : (o : Option A) (rest : Option (List A))
-        → is_some (option_and_then (λ x. option_map (λ xs. x ∷ xs) rest) o) ≡ (is_some o && is_some rest)
-    both None rest = refl
-    both (Some x) None = refl
-    both (Some x) (Some xs) = refl
+  -- the list of some values is that of what was found in them
+  pub kept_found : (ds : List Data) (d : Data) → Some ds ≡ list_in d → IsSome (each_in find ds)
+      → Some (unwrap_or (each_in find ds) []) ≡ option_and_then (each_in find) (list_in d)
+  kept_found ds d is some = let (xs, e) = found (each_in find ds) some in rw (← is, e) refl
 
-  -- and else in none
-  pub not_all_found : (vs : List V) → list_all (λ v. is_some (find (view v))) vs ≡ false → each_in find (map view vs) ≡ None
-  not_all_found vs missing = none_is (each_in find (map view vs)) (all_found vs ∙ missing) where
-    none_is : (o : Option (List A)) → is_some o ≡ false → o ≡ None
-    none_is None e = refl
-    none_is (Some xs) e = cc
+  pub some_found : (ds : List Data) (d : Data) → Some ds ≡ list_in d → IsSome (option_and_then (each_in find) (list_in d)) → IsSome (each_in find ds)
+  some_found ds d is some = rw (← is) at some
 
-  some_kept : (o : Option (List A)) → IsSome o → Some (unwrap_or o []) ≡ o
-  some_kept None some = cc
-  some_kept (Some xs) some = refl
+  -- by whether something is found in each of them
+  module _ {V : Type 0} (view : V → Data) (vs : List V) (b : Bool) (looked : b ≡ list_all (λ v. is_some (find (view v))) vs) where
+    all_found : is_some (each_in find (map view vs)) ≡ b
+    all_found = each vs ∙ sym looked where
+      both : (o : Option A) (rest : Option (List A))
+          → is_some (option_and_then (λ x. option_map (λ ys. x ∷ ys) rest) o) ≡ (is_some o && is_some rest)
+      both None rest = refl
+      both (Some x) None = refl
+      both (Some x) (Some xs) = refl
 
-  -- the list of the values is that of what was found in them
-  pub kept_found : (vs : List V) (d : Data) → Some (map view vs) ≡ list_in d → IsSome (each_in find (map view vs))
-      → Some (unwrap_or (each_in find (map view vs)) []) ≡ option_and_then (each_in find) (list_in d)
-  kept_found vs d is some = some_kept (each_in find (map view vs)) some ∙ ap (option_and_then (each_in find)) is
+      each : (vs : List V) → is_some (each_in find (map view vs)) ≡ list_all (λ v. is_some (find (view v))) vs
+      each [] = refl
+      each (v ∷ vs) = both (find (view v)) (each_in find (map view vs)) ∙ ap (λ b. is_some (find (view v)) && b) (each vs)
 
-  pub some_found : (vs : List V) (d : Data) → Some (map view vs) ≡ list_in d → IsSome (option_and_then (each_in find) (list_in d))
-      → IsSome (each_in find (map view vs))
-  some_found vs d is some = rw (ap (option_and_then (each_in find)) is) some
+    pub all_kept : b ≡ true → IsSome (each_in find (map view vs))
+    all_kept is = all_found ∙ is
 
-  pub none_found : (vs : List V) (d : Data) → Some (map view vs) ≡ list_in d → each_in find (map view vs) ≡ None
-      → None ≡ option_and_then (each_in find) (list_in d)
-  none_found vs d is missing = sym missing ∙ ap (option_and_then (each_in find)) is
+    -- all of them are kept
+    pub read_all : (d : Data) → Some (map view vs) ≡ list_in d → b ≡ true
+        → Some (unwrap_or (each_in find (map view vs)) []) ≡ option_and_then (each_in find) (list_in d)
+    read_all d is all = kept_found (map view vs) d is (all_kept all)
+
+    -- or none is
+    pub read_none : (d : Data) → Some (map view vs) ≡ list_in d → b ≡ false → None ≡ option_and_then (each_in find) (list_in d)
+    read_none d is not_all = rw (← is) (none (each_in find (map view vs)) (all_found ∙ not_all)) where
+      none : (o : Option (List A)) → is_some o ≡ false → None ≡ o
+      none None e = refl
+      none (Some xs) e = cc

@@ -1,6 +1,6 @@
 -- How the program finds the script that a JSON value is, if it is one. The contracts of private functions speak of it;
 -- that it finds exactly the scripts is proved over it.
-use Rattle.std.specs.Prelude.{ℕ, ◌^◌, ◌==◌, ◌&&◌, ℤ, pos, negsuc, List, [], ◌∷◌, length, codes, Option, Some, None, option_map, option_and_then, nat_le, nat_lt}
+use Rattle.std.specs.Prelude.{ℕ, ◌^◌, ◌==◌, ◌&&◌, ℤ, pos, negsuc, List, [], ◌∷◌, length, codes, Option, Some, None, option_map, option_and_then, map, nat_le, nat_lt}
 use Rattle.std.specs.Prelude.{if◌then◌else◌}
 use Rattle.std.specs.Option.{option_or}
 use Rattle.std.specs.Str.{bytes_eq}
@@ -12,7 +12,7 @@ use Rattle.eco_ids.specs.declared.value.Value.{Value}
 use Rattle.eco_ids.specs.Edition.{builtin_count, largest_arity}
 use Rattle.eco_ids.specs.World.{padded}
 use Rattle.eco_systems.specs.declared.phase.Phase.{Phase}
-use Rattle.eco_systems.specs.declared.phase.Phase.TheVariants.{OnLoad, PostLoad, PreUpdate, OnUpdate, OnValidate, PostUpdate, PreStore, OnStore}
+use Rattle.eco_systems.specs.Phases.{phases}
 use Rattle.eco_steps.specs.Steps.{WrittenStep, create, component, change, has, get, show, list, query, cache, cached, merge, system, frame, phase_word}
 use Rattle.eco_steps.specs.Actions.{WrittenAction}
 use Rattle.eco_steps.specs.Actions as action
@@ -58,19 +58,29 @@ name_in (string s) = Some (Some s)
 name_in (array ds) = None
 name_in (object ms) = None
 
--- the change with this word and one text
-abbrev pub change_of_text : List ℕ → List ℕ → Option WrittenChange
-change_of_text word text =
-    if bytes_eq word (codes "clear") then Some (clear text)
-    else (if bytes_eq word (codes "delete") then Some (delete text)
-    else (if bytes_eq word (codes "delete_with") then Some (delete_with text)
-    else (if bytes_eq word (codes "remove_all") then Some (remove_all text) else None)))
+-- words, and what each stands for
+abbrev pub Words : Type 0 → Type 0
+Words A = List (List ℕ × A)
 
--- the change with this word and two texts
+-- what a word stands for, if it is one of these
+abbrev pub at_word : {A : Type 0} → Words A → List ℕ → Option A
+at_word [] word = None
+at_word (row ∷ rows) word = if bytes_eq word row.0 then Some row.1 else at_word rows word
+
+-- the changes with one text, and that of a word
+abbrev pub text_changes : List ℕ → Words WrittenChange
+text_changes text =
+    (codes "clear", clear text) ∷ (codes "delete", delete text) ∷ (codes "delete_with", delete_with text) ∷ (codes "remove_all", remove_all text) ∷ []
+
+abbrev pub change_of_text : List ℕ → List ℕ → Option WrittenChange
+change_of_text word text = at_word (text_changes text) word
+
+-- the changes with two texts, and that of a word
+abbrev pub texts_changes : List ℕ → List ℕ → Words WrittenChange
+texts_changes text other = (codes "add", add text other) ∷ (codes "remove", remove text other) ∷ []
+
 abbrev pub change_of_texts : List ℕ → List ℕ → List ℕ → Option WrittenChange
-change_of_texts word text other =
-    if bytes_eq word (codes "add") then Some (add text other)
-    else (if bytes_eq word (codes "remove") then Some (remove text other) else None)
+change_of_texts word text other = at_word (texts_changes text other) word
 
 -- the change with this word, a text and one more argument
 abbrev pub change_of_two : List ℕ → List ℕ → Data → Option WrittenChange
@@ -83,20 +93,20 @@ abbrev pub created_of : List Data → Option WrittenCommand
 created_of (handle ∷ []) = option_map command.create (as_str handle)
 created_of _ = None
 
--- the step with this word and no argument
-abbrev pub step_of_none : List ℕ → Option WrittenStep
-step_of_none word =
-    if bytes_eq word (codes "create") then Some (create None)
-    else (if bytes_eq word (codes "list") then Some list
-    else (if bytes_eq word (codes "frame") then Some frame else None))
+-- the steps without arguments, and that of a word
+abbrev pub bare_steps : Words WrittenStep
+bare_steps = (codes "create", create None) ∷ (codes "list", list) ∷ (codes "frame", frame) ∷ []
 
--- the step with this word and one text
+abbrev pub step_of_none : List ℕ → Option WrittenStep
+step_of_none word = at_word bare_steps word
+
+-- the steps with one text, and that of a word
+abbrev pub text_steps : List ℕ → Words WrittenStep
+text_steps text =
+    (codes "create", create (Some text)) ∷ (codes "show", show text) ∷ (codes "query", query text) ∷ (codes "cache", cache text) ∷ []
+
 abbrev pub step_of_text : List ℕ → List ℕ → Option WrittenStep
-step_of_text word text =
-    if bytes_eq word (codes "create") then Some (create (Some text))
-    else (if bytes_eq word (codes "show") then Some (show text)
-    else (if bytes_eq word (codes "query") then Some (query text)
-    else (if bytes_eq word (codes "cache") then Some (cache text) else None)))
+step_of_text word text = at_word (text_steps text) word
 
 -- the step with this word and one argument
 abbrev pub step_of_one : List ℕ → Data → Option WrittenStep
@@ -104,11 +114,12 @@ step_of_one word d =
     if bytes_eq word (codes "cached") then option_map cached (number_in 0 4294967295 d)
     else option_and_then (step_of_text word) (as_str d)
 
--- the step with this word and two texts
+-- the steps with two texts, and that of a word
+abbrev pub texts_steps : List ℕ → List ℕ → Words WrittenStep
+texts_steps text other = (codes "has", has text other) ∷ (codes "get", get text other) ∷ []
+
 abbrev pub step_of_texts : List ℕ → List ℕ → List ℕ → Option WrittenStep
-step_of_texts word text other =
-    if bytes_eq word (codes "has") then Some (has text other)
-    else (if bytes_eq word (codes "get") then Some (get text other) else None)
+step_of_texts word text other = at_word (texts_steps text other) word
 
 -- a word, and what stands behind it in its list
 abbrev pub words_of : List Data → Option (List ℕ × List Data)
@@ -121,28 +132,21 @@ words_in d = option_and_then words_of (list_in d)
 
 -- the phase of a word
 abbrev pub phase_of : List ℕ → Option Phase
-phase_of word =
-    if bytes_eq word (phase_word OnLoad) then Some OnLoad
-    else (if bytes_eq word (phase_word PostLoad) then Some PostLoad
-    else (if bytes_eq word (phase_word PreUpdate) then Some PreUpdate
-    else (if bytes_eq word (phase_word OnUpdate) then Some OnUpdate
-    else (if bytes_eq word (phase_word OnValidate) then Some OnValidate
-    else (if bytes_eq word (phase_word PostUpdate) then Some PostUpdate
-    else (if bytes_eq word (phase_word PreStore) then Some PreStore
-    else (if bytes_eq word (phase_word OnStore) then Some OnStore else None)))))))
+phase_of word = at_word (map (λ p. (phase_word p, p)) phases) word
 
--- the action with this word and no argument
+-- the actions without arguments, and that of a word
+abbrev pub bare_actions : Words WrittenAction
+bare_actions = (codes "kill", action.kill) ∷ (codes "spawn", action.spawn None) ∷ []
+
 abbrev pub action_of_none : List ℕ → Option WrittenAction
-action_of_none word =
-    if bytes_eq word (codes "kill") then Some action.kill
-    else (if bytes_eq word (codes "spawn") then Some (action.spawn None) else None)
+action_of_none word = at_word bare_actions word
 
--- the action with this word and one text
+-- the actions with one text, and that of a word
+abbrev pub text_actions : List ℕ → Words WrittenAction
+text_actions text = (codes "add", action.add text) ∷ (codes "remove", action.remove text) ∷ (codes "spawn", action.spawn (Some text)) ∷ []
+
 abbrev pub action_of_text : List ℕ → List ℕ → Option WrittenAction
-action_of_text word text =
-    if bytes_eq word (codes "add") then Some (action.add text)
-    else (if bytes_eq word (codes "remove") then Some (action.remove text)
-    else (if bytes_eq word (codes "spawn") then Some (action.spawn (Some text)) else None))
+action_of_text word text = at_word (text_actions text) word
 
 -- the number of a slot
 abbrev pub slot_in : Data → Option ℕ

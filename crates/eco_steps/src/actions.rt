@@ -6,7 +6,7 @@ ghost use Rattle.serde_json.specs.View.{view};
 ghost use Rattle.eco_steps.specs.Decode.{action_in, each_in, actions_in};
 
 use crate::action::WrittenAction;
-use crate::arguments::read_list;
+use crate::arguments::{item_at, read_list};
 use eco_ids::Edition;
 use serde_json::Value;
 
@@ -59,7 +59,7 @@ impl<'a> Actions<'a> {
     pub fn get(&self, place: usize) -> Option<WrittenAction<'a>>
         ensures { option_map action_view result ≡ slice_get (actions_view self.now) place }
     {
-        let value = self.values.get(place)?;
+        let value = item_at(self.values, place)?;
         WrittenAction::read(self.edition, value)
     }
 }

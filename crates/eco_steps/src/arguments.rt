@@ -1,6 +1,7 @@
 //! The arguments of steps: which numbers, names and values a JSON value is.
 
 ghost use Rattle.std.specs.Prelude.{◌≡◌, ◌≤◌, length, map, option_map};
+ghost use Rattle.std.specs.List.{slice_get};
 ghost use Rattle.serde_json.specs.View.{view};
 ghost use Rattle.eco_ids.specs.declared.value.TheConstants.{FIELD_COUNT};
 ghost use Rattle.eco_ids.specs.Edition.{largest_arity};
@@ -63,6 +64,13 @@ pub fn read_list(value: &Value) -> Option<&[Value]>
         Some(items) => Some(items.as_slice()),
         None => None,
     }
+}
+
+/// The item of a list at a place, counted from 0, if there is one.
+pub(crate) fn item_at(items: &[Value], place: usize) -> Option<&Value>
+    ensures { option_map (λ item. view item.now) result ≡ slice_get (map view items.now) place }
+{
+    items.get(place)
 }
 
 /// A word, and what stands behind it in its list.

@@ -5,7 +5,7 @@ ghost use Rattle.std.specs.List.{list_all, slice_get};
 ghost use Rattle.serde_json.specs.View.{view};
 ghost use Rattle.eco_steps.specs.Decode.{command_in, each_in, stage_in};
 
-use crate::arguments::read_list;
+use crate::arguments::{item_at, read_list};
 use crate::command::WrittenCommand;
 use eco_ids::Edition;
 use serde_json::Value;
@@ -68,7 +68,7 @@ impl<'a> Commands<'a> {
     pub fn get(&self, place: usize) -> Option<WrittenCommand<'a>>
         ensures { option_map command_view result ≡ slice_get (commands_view self.now) place }
     {
-        let value = self.values.get(place)?;
+        let value = item_at(self.values, place)?;
         WrittenCommand::read(self.edition, value)
     }
 }

@@ -5,7 +5,7 @@ ghost use Rattle.std.specs.List.{list_all, slice_get};
 ghost use Rattle.serde_json.specs.View.{view};
 ghost use Rattle.eco_steps.specs.Decode.{each_in, stage_in, stages_in};
 
-use crate::arguments::read_list;
+use crate::arguments::{item_at, read_list};
 use crate::commands::Commands;
 use eco_ids::Edition;
 use serde_json::Value;
@@ -58,7 +58,7 @@ impl<'a> Stages<'a> {
     pub fn get(&self, place: usize) -> Option<Commands<'a>>
         ensures { option_map commands_view result ≡ slice_get (stages_view self.now) place }
     {
-        let value = self.values.get(place)?;
+        let value = item_at(self.values, place)?;
         Commands::read_again(self.edition, value)
     }
 }

@@ -1,5 +1,4 @@
-use Rattle.std.proofs.Common.{option_map, option_and_then, ◌∙◌, ap, sym, refl, arith}
-use Rattle.std.proofs.lemmas.Option.{slice_get_past, slice_get_read}
+use Rattle.std.proofs.Common.{map, None, Some, option_map, ap, ◌∙◌}
 use Rattle.serde_json.specs.View.{view}
 use Rattle.eco_steps.specs.Decode.{command_in}
 use Rattle.eco_steps.specs.Views.{command_view}
@@ -8,15 +7,12 @@ use Rattle.eco_steps.proofs.commands.Commands.get.Goals as goal
 
 pub returns : goal.returns
 returns c =
-    let values = c.args.self.now.values.now in
-    let (there, is) = c.in_ok-value.ensures.lookup.3 in
-    let at = slice_get_read values _ c.args.place c.in_ok-value.value.now refl there (is c.in_ok-value.value.now) in
-    c.read.ensures ∙ ap (option_and_then (λ v. command_in c.args.self.now.edition (view v))) (sym at)
-    ∙ sym (kept_get view (command_in c.args.self.now.edition) values c.args.place c.args.self.now.are_commands)
+    let self = c.args.self.now in
+    c.read.ensures ∙ kept_get (command_in self.edition) (map view self.values.now) c.args.place (Some (view c.in_ok-value.value.now)) self.are_commands
+    c.in_ok-value.ensures
 
 pub returns-in_err-value : goal.returns-in_err-value
 returns-in_err-value c =
-    let values = c.args.self.now.values.now in
-    let none = slice_get_past values c.args.place (grind (arith, c.in_err-value.ensures.lookup.0)) in
-    ap (option_map command_view) c.from_residual.ensures ∙ ap (option_and_then (λ v. command_in c.args.self.now.edition (view v))) (sym none)
-    ∙ sym (kept_get view (command_in c.args.self.now.edition) values c.args.place c.args.self.now.are_commands)
+    let self = c.args.self.now in
+    ap (option_map command_view) c.from_residual.ensures
+    ∙ kept_get (command_in self.edition) (map view self.values.now) c.args.place None self.are_commands c.in_err-value.ensures

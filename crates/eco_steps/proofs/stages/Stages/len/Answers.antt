@@ -1,8 +1,10 @@
-use Rattle.std.proofs.Common.{sym}
+use Rattle.std.proofs.Common.{map, sym, ◌∙◌}
+use Rattle.std.proofs.lemmas.List.{length-map}
 use Rattle.serde_json.specs.View.{view}
 use Rattle.eco_steps.specs.Decode.{stage_in}
 use Rattle.eco_steps.proofs.Values.{kept_length}
 use Rattle.eco_steps.proofs.stages.Stages.len.Goals as goal
 
 pub returns : goal.returns
-returns c = sym (kept_length view (stage_in c.args.self.now.edition) c.args.self.now.values.now c.args.self.now.are_stages)
+returns c =
+    sym (kept_length (stage_in c.args.self.now.edition) (map view c.args.self.now.values.now) c.args.self.now.are_stages ∙ length-map _ view)

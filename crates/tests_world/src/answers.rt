@@ -46,10 +46,18 @@ fn are_choices(world: &World, terms: &[Term], results: &Results) -> bool {
     true
 }
 
+// Whether there is a row, and it is this result.
+fn is_row(row: Option<&Row>, (entity, entries): (Entity, &[Option<Id>])) -> bool {
+    match row {
+        Some(row) => entity.is(row.entity) && entries == row.entries.as_slice(),
+        None => false,
+    }
+}
+
 // Whether the rows are the results, one after the other.
 fn are_rows(results: &Results, rows: &[Row]) -> bool {
-    for ((entity, entries), row) in results.iter().zip(rows) {
-        if !entity.is(row.entity) || entries != row.entries.as_slice() {
+    for place in 0..results.len() {
+        if !is_row(rows.get(place), results.get(place)) {
             return false;
         }
     }

@@ -44,10 +44,18 @@ fn record(script: &Script, stage: &mut Stage) -> Result<(), Refusal> {
     script.record(&row, &mut Dry(false), stage)
 }
 
+// Whether the command is the set of that row.
+fn is_set(command: &Command) -> bool {
+    match command {
+        Command::Set(entity, _, value) => entity.is(at(13)) && *value == Value::of([7]),
+        _ => false,
+    }
+}
+
 // Whether the stage has the set of that row alone.
 fn has_set(stage: &Stage) -> bool {
     match stage.commands() {
-        [Command::Set(entity, _, value)] => { entity.is(at(13)) && *value == Value::of([7]) }
+        [command] => is_set(command),
         _ => false,
     }
 }

@@ -4,7 +4,7 @@ use eco_ids::{Edition, Entity, Id, Part, Pattern, Refusal, TypeList};
 use eco_query::Query;
 use eco_store::{Seed, Store};
 use eco_traits::{Target, target_type};
-use eco_world::World;
+use eco_world::{TableRows, World};
 use std::alloc::{AllocError, Global};
 
 // `Position` is #9.0, a component, `Frozen` #10.0 and `Likes` #11.0.
@@ -53,9 +53,9 @@ fn shows(alloc: Global, world: &World, (text, expected): (&str, &str)) -> bool {
     }
 }
 
-// The tables with an id that the pattern matches: the ids of each, and how many entities it has.
-fn list(text: &mut String, world: &World, pattern: Pattern) -> Result<(), AllocError> {
-    for table in &world.tables_with(pattern)? {
+// Puts these tables behind a text: the ids of each, and how many entities it has.
+fn list(text: &mut String, tables: &[TableRows<'_>]) -> Result<(), AllocError> {
+    for table in tables {
         for id in table.ids {
             write!(text, "{id} ")?;
         }
@@ -65,28 +65,39 @@ fn list(text: &mut String, world: &World, pattern: Pattern) -> Result<(), AllocE
     Ok(())
 }
 
-// Whether the tables are listed so in this world.
-fn lists(alloc: Global, world: &World, pattern: Pattern, expected: &str) -> bool {
+// Whether the tables are listed so.
+fn are_listed(alloc: Global, tables: &[TableRows<'_>], expected: &str) -> bool {
     let mut text = String::new(alloc);
-    list(&mut text, world, pattern).is_ok() && text.as_str() == expected
+    list(&mut text, tables).is_ok() && text.as_str() == expected
+}
+
+// Whether the tables of this world with an id that the pattern matches are listed so.
+fn lists(alloc: Global, world: &World, pattern: Pattern, expected: &str) -> bool {
+    match world.tables_with(pattern) {
+        Ok(tables) => are_listed(alloc, &tables, expected),
+        Err(_) => false,
+    }
 }
 
 // Whether each query is shown and tables are listed so in a world with a component and two tags.
-fn are_shown(alloc: Global) -> bool {
+fn shows_all(alloc: Global, world: &mut World) -> bool {
     let panics = Pattern::Two(Part::Each, Part::Is(PANIC));
+    make(world).is_ok()
+        && shows(alloc, world, SHOWN[0])
+        && shows(alloc, world, SHOWN[1])
+        && lists(
+            alloc,
+            world,
+            Pattern::One(EXCLUSIVE),
+            "#1.0 has 2; #1.0 #2.0 (#5.0, #7.0) has 1; ",
+        )
+        && lists(alloc, world, panics, "(#4.0, #8.0) has 1; ")
+}
+
+// Whether it is so in a new world.
+fn are_shown(alloc: Global) -> bool {
     match World::new(alloc, 64) {
-        Ok(mut world) => {
-            make(&mut world).is_ok()
-                && shows(alloc, &world, SHOWN[0])
-                && shows(alloc, &world, SHOWN[1])
-                && lists(
-                    alloc,
-                    &world,
-                    Pattern::One(EXCLUSIVE),
-                    "#1.0 has 2; #1.0 #2.0 (#5.0, #7.0) has 1; ",
-                )
-                && lists(alloc, &world, panics, "(#4.0, #8.0) has 1; ")
-        }
+        Ok(mut world) => shows_all(alloc, &mut world),
         Err(_) => false,
     }
 }
@@ -138,7 +149,9 @@ fn brings_along(alloc: Global) -> bool {
 // Makes an entity that has a tag, and tells whether it alone holds the tag, and nobody holds it.
 fn holds_alone(store: &mut Store, tag: Entity, tagged: &TypeList) -> Result<bool, Refusal> {
     let holder = store.create(None, None, tagged)?;
-    Ok(store.holders(tag)?.as_slice() == [holder].as_slice() && store.holders(holder)?.is_empty())
+    let is_alone = store.holders(tag)?.as_slice() == [holder].as_slice();
+    let is_held = !store.holders(holder)?.is_empty();
+    Ok(is_alone && !is_held)
 }
 
 // Whether an entity that is made with a tag does so.

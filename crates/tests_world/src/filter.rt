@@ -107,11 +107,12 @@ fn count_entries(world: &World, entity: Entity, term: &Term) -> usize {
     count
 }
 
-// Whether the entry is one of those.
-fn fits(world: &World, entity: Entity, term: &Term, entry: Option<Id>) -> bool {
+// Whether there is an entry, and it is one of those.
+fn fits(world: &World, entity: Entity, term: &Term, entry: Option<&Option<Id>>) -> bool {
     match entry {
-        Some(id) => world.has(entity, id) && is_found(world, entity, term, id),
-        None => is_without(world, entity, term),
+        Some(Some(id)) => world.has(entity, *id) && is_found(world, entity, term, *id),
+        Some(None) => is_without(world, entity, term),
+        None => false,
     }
 }
 
@@ -126,8 +127,8 @@ pub fn count_choices(world: &World, entity: Entity, terms: &[Term]) -> usize {
 
 /// Whether the entries are such a choice.
 pub fn is_choice(world: &World, entity: Entity, terms: &[Term], entries: &[Option<Id>]) -> bool {
-    for (term, entry) in terms.iter().zip(entries) {
-        if !fits(world, entity, term, *entry) {
+    for (place, term) in terms.iter().enumerate() {
+        if !fits(world, entity, term, entries.get(place)) {
             return false;
         }
     }

@@ -60,10 +60,18 @@ fn is_listed(world: &World, tables: &[TableRows<'_>], entity: Entity) -> bool {
     false
 }
 
+// Whether the entity has the value of two fields, if there is one.
+fn has_value(world: &World, entity: Entity, id: Id, row: Option<&[i64; 2]>) -> bool {
+    match row {
+        Some(row) => world.get(entity, id) == Some(Value::of(*row)),
+        None => false,
+    }
+}
+
 // Whether the entities have these values of two fields.
 fn have_values(world: &World, entities: &[Entity], id: Id, rows: &[[i64; 2]]) -> bool {
-    for (entity, row) in entities.iter().zip(rows) {
-        if world.get(*entity, id) != Some(Value::of(*row)) {
+    for (place, entity) in entities.iter().enumerate() {
+        if !has_value(world, *entity, id, rows.get(place)) {
             return false;
         }
     }

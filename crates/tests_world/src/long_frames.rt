@@ -55,10 +55,9 @@ fn run_drawn<R: Threads + Sync>(
     requires { (1 ≤ workers) × (workers ≤ 64) }
 {
     let mut systems: Systems<Script> = Systems::new(alloc);
-    match declare_all(alloc, world, drawn, &mut systems) {
-        Ok(plans) => frame_agrees(rt, alloc, world, &systems, workers, &plans, totals),
-        Err(_) => false,
-    }
+    let mut allowed = Vec::new(alloc);
+    declare_all(alloc, world, drawn, &mut systems, &mut allowed).is_ok()
+        && frame_agrees(rt, alloc, world, &systems, workers, &allowed, totals)
 }
 
 // Runs a frame of systems that look random, and tells whether it is right.

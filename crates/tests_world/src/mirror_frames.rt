@@ -76,8 +76,8 @@ fn unname(world: &mut World, living: &[Entity]) -> Result<(), Refusal> {
 
 // Gives the first of these their names.
 fn name(world: &mut World, living: &[Entity]) -> Result<(), Refusal> {
-    for (entity, name) in living.iter().zip(NAMES) {
-        world.rename(*entity, Some(name))?;
+    for (place, entity) in living.iter().enumerate() {
+        world.rename(*entity, NAMES.get(place).copied())?;
     }
     Ok(())
 }
@@ -181,10 +181,9 @@ fn run_drawn<R: Threads + Sync>(
     drawn: &[FramePlan],
 ) -> bool {
     let mut systems: Systems<Script> = Systems::new(alloc);
-    match declare_all(alloc, &run.world, drawn, &mut systems) {
-        Ok(plans) => run_declared(rt, alloc, run, &systems, &plans),
-        Err(_) => false,
-    }
+    let mut allowed = Vec::new(alloc);
+    declare_all(alloc, &run.world, drawn, &mut systems, &mut allowed).is_ok()
+        && run_declared(rt, alloc, run, &systems, &allowed)
 }
 
 // The same of plans that are drawn now.

@@ -144,20 +144,23 @@ fn declare(
     }
 }
 
-/// Declares the systems of the first eight of these plans, those that are allowed, and answers these plans.
+/// Declares the systems of the first eight of these plans, those that are allowed, and puts these plans behind the allowed ones.
 pub fn declare_all(
     alloc: Global,
     world: &World,
     drawn: &[FramePlan],
     systems: &mut Systems<Script>,
-) -> Result<Vec<FramePlan>, Refusal> {
-    let mut plans = Vec::new(alloc);
-    for (name, plan) in NAMES.iter().zip(drawn) {
+    allowed: &mut Vec<FramePlan>,
+) -> Result<(), Refusal> {
+    for (place, name) in NAMES.iter().enumerate() {
+        let Some(plan) = drawn.get(place) else {
+            break;
+        };
         if declare(alloc, world, systems, name, plan)? {
-            plans.push(*plan)?;
+            allowed.push(*plan)?;
         }
     }
-    Ok(plans)
+    Ok(())
 }
 
 /// Eight plans, whose queries may not allow their actions.

@@ -79,12 +79,11 @@ fn found(store: &Store) -> Result<[usize; 4], AllocError> {
         first: pattern,
         others: &[Pattern::One(HOLDER)],
     };
-    Ok([
-        store.tables_with(pattern)?.slots.len(),
-        store.entities_with(pattern)?.len(),
-        store.types_with(pattern)?.len(),
-        store.tables_by(&both)?.slots.len(),
-    ])
+    let tables = store.tables_with(pattern)?.slots.len();
+    let entities = store.entities_with(pattern)?.len();
+    let types = store.types_with(pattern)?.len();
+    let tables_of_both = store.tables_by(&both)?.slots.len();
+    Ok([tables, entities, types, tables_of_both])
 }
 
 // Whether the holder loses the tag, and the tag's own entity gets it.

@@ -153,7 +153,8 @@ impl<J: Naming, R: Wait + Drop> Merger<J, R> {
         requires goes { GoesOn self.old.writer.desk.shown.value op }
         ensures ok { IfOk result (λ _. (shown_state self.new.writer.desk.shown.value ≡ shown_state op)
             × (self.new.stopped ≡ false)) }
-        ensures err { IfErr result (λ _. self.new.writer.desk.shown.value ≡ self.old.writer.desk.shown.value) }
+        ensures err { IfErr result (λ _. self.new.writer.desk.shown.value
+            ≡ self.old.writer.desk.shown.value) }
         ensures view { view self.new.writer.desk.place ≡ view self.old.writer.desk.place }
         ensures same { (self.new.title ≡ self.old.title) × (self.new.spare ≡ None) }
     {
@@ -181,7 +182,8 @@ impl<J: Naming, R: Wait + Drop> Merger<J, R> {
         requires running { self.old.stopped ≡ false }
         ensures ok { IfOk result (λ a. (arc_value a ≡ shown_world self.new.writer.desk.shown.value)
             × (self.new.stopped ≡ false)) }
-        ensures shown { shown_state self.new.writer.desk.shown.value ≡ shown_state self.old.writer.desk.shown.value }
+        ensures shown { shown_state self.new.writer.desk.shown.value
+            ≡ shown_state self.old.writer.desk.shown.value }
         ensures view { view self.new.writer.desk.place ≡ view self.old.writer.desk.place }
         ensures same { (self.new.title ≡ self.old.title) × (self.new.spare ≡ None) }
     {
@@ -205,11 +207,13 @@ impl<J: Naming, R: Wait + Drop> Merger<J, R> {
     fn show(&mut self, world: Arc<World>, last: Last) -> Result<(), AllocError>
         requires running { self.old.stopped ≡ false }
         requires none { self.old.spare ≡ None }
-        requires merged { IsMerged (shown_world self.old.writer.desk.shown.value) (merge_of last) (arc_value world) }
+        requires merged { IsMerged (shown_world self.old.writer.desk.shown.value) (merge_of last)
+            (arc_value world) }
         ensures history { IfOk result (λ _. history self.new.writer.desk.shown.value
             ≡ history self.old.writer.desk.shown.value ++ merge_of last ∷ []) }
         ensures world { IfOk result (λ _. shown_world self.new.writer.desk.shown.value ≡ arc_value world) }
-        ensures err { IfErr result (λ _. self.new.writer.desk.shown.value ≡ self.old.writer.desk.shown.value) }
+        ensures err { IfErr result (λ _. self.new.writer.desk.shown.value
+            ≡ self.old.writer.desk.shown.value) }
         ensures view { view self.new.writer.desk.place ≡ view self.old.writer.desk.place }
         ensures same { self.new.title ≡ self.old.title }
     {

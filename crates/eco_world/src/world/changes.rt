@@ -220,7 +220,8 @@ impl World {
     // Whether the id may come to the entity: it lives, and no built-in would be changed.
     #[inline(always)]
     pub(crate) fn check_holder(&self, entity: Entity, id: Id) -> Result<(), Refusal>
-        ensures ok { OnOk result ((is_alive self.now entity ≡ true) × (is_reserved self.now entity id ≡ false)) }
+        ensures ok { OnOk result ((is_alive self.now entity ≡ true)
+            × (is_reserved self.now entity id ≡ false)) }
         ensures err { IfErr result (IsUnfit self.now entity (is_reserved self.now entity id)) }
     {
         if !self.is_alive(entity) {

@@ -268,7 +268,8 @@ impl World {
     pub(crate) fn clear_mirrored(&mut self, entity: Entity) -> Result<(), AllocError>
         requires alive { is_alive self.old entity ≡ true }
         requires lawful { IsLawful (without self.old nobody (goes_too self.old (takes (All entity)))) }
-        ensures ok { OnOk result (self.new ≡ without self.old nobody (goes_too self.old (takes (All entity)))) }
+        ensures ok { OnOk result (self.new
+            ≡ without self.old nobody (goes_too self.old (takes (All entity)))) }
         ensures err { OnErr result (self.new ≡ self.old) }
     {
         self.is_lawful();
@@ -290,7 +291,8 @@ impl World {
     pub(crate) fn remove_all_mirrored(&mut self, id: Id, target: Entity) -> Result<(), AllocError>
         requires lawful { IsLawful (without self.old nobody (goes_too self.old (takes (Everywhere id)))) }
         requires target { losses.symmetric_target self.old id ≡ Some target }
-        ensures ok { OnOk result (self.new ≡ without self.old nobody (goes_too self.old (takes (Everywhere id)))) }
+        ensures ok { OnOk result (self.new
+            ≡ without self.old nobody (goes_too self.old (takes (Everywhere id)))) }
         ensures err { OnErr result (self.new ≡ self.old) }
     {
         self.is_lawful();

@@ -1,9 +1,18 @@
-//! Calls of a world or of a stage, one for each entity of some work at its turn.
+//! Calls of a world or of a stage, one for each entity of some work at its turn, and what yardsticks do so often.
 use crate::work::Work;
 use eco_bodies::record_command;
 use eco_ids::{Entity, Id, Refusal, Value};
 use eco_world::{Command, Query, Stage, Values, World};
 use std::alloc::Global;
+use std::collections::HashMap;
+
+/// Inserts so many numbers.
+pub fn insert_each(numbers: &mut HashMap<u32, u32>, count: u32) -> Result<(), Refusal> {
+    for number in 0..count {
+        numbers.insert(number, number)?;
+    }
+    Ok(())
+}
 
 /// Makes so many entities.
 pub fn create_each(world: &mut World, count: u32) -> Result<(), Refusal> {
@@ -134,10 +143,9 @@ pub fn sum_tables(world: &World, query: &Query, id: Id) -> Result<i64, Refusal> 
     Ok(sum)
 }
 
-// How many entities have the id, by a query that is read first.
-fn count_by_text(world: &World, alloc: Global, id: Id) -> Result<usize, Refusal> {
-    let text = format!(in alloc; "{id}")?;
-    let query = world.read_query(text.as_str())?;
+// How many results a query has, which is read first.
+fn count_by_text(world: &World, text: &str) -> Result<usize, Refusal> {
+    let query = world.read_query(text)?;
     Ok(world.results(&query)?.len())
 }
 
@@ -146,7 +154,8 @@ pub fn count_each(world: &World, alloc: Global, work: &Work) -> Result<usize, Re
     let mut found = 0usize;
     for turn in 0..work.entities().len() {
         if let Some(id) = work.id(turn) {
-            found = found.saturating_add(count_by_text(world, alloc, id)?);
+            let text = format!(in alloc; "{id}")?;
+            found = found.saturating_add(count_by_text(world, &text)?);
         }
     }
     Ok(found)

@@ -1,5 +1,4 @@
 //! The cases of frames: systems that run on a world.
-use crate::arguments::Choice;
 use crate::failure::Failure;
 use crate::heavy::Heavy;
 use crate::per_call::tenths_for_one;
@@ -73,27 +72,8 @@ impl FrameCase {
         self.1
     }
 
-    /// The least time of one call of the runs that are chosen, in tenths of a nanosecond: each run is in a fresh world, and there is
-    /// one at least. None where nothing is to be measured.
-    pub fn best_tenths<R: Clock + Threads + Sync>(
-        &self,
-        rt: &R,
-        alloc: Global,
-        choice: &Choice<'_>,
-        size: u32,
-    ) -> Result<Option<u64>, Failure> {
-        if !choice.is_run {
-            return Ok(None);
-        }
-        let mut best = self.tenths(rt, alloc, size)?;
-        for _ in 1..choice.repeat {
-            best = best.min(self.tenths(rt, alloc, size)?);
-        }
-        Ok(Some(best))
-    }
-
-    // The time of one run.
-    fn tenths<R: Clock + Threads + Sync>(
+    /// The time of one call of one run, in tenths of a nanosecond.
+    pub fn tenths<R: Clock + Threads + Sync>(
         &self,
         rt: &R,
         alloc: Global,

@@ -5,6 +5,7 @@
 mod arguments;
 mod call_case;
 mod calls;
+mod case;
 mod each;
 mod failure;
 mod frames;
@@ -19,10 +20,11 @@ mod start;
 mod work;
 
 use arguments::{Choice, HELP};
-use call_case::{CALL_CASES, CallCase};
+use call_case::CALL_CASES;
+use case::Case;
 use failure::Failure;
-use frames::{FRAME_CASES, FrameCase};
-use shared::{SHARED_CASES, SharedCase};
+use frames::FRAME_CASES;
+use shared::SHARED_CASES;
 use std::alloc::Global;
 use std::process::ExitCode;
 use std::rt::Clock;
@@ -69,44 +71,12 @@ fn print_names<R: Print>(rt: &R, choice: &Choice<'_>) -> io::Result<()> {
     }
 }
 
-// The lines of a case of calls at each of its sizes that is chosen.
-fn print_calls<R: Print + Clock>(
-    rt: &R,
-    alloc: Global,
-    choice: &Choice,
-    case: &CallCase,
-) -> Result<(), Failure> {
-    for size in case.sizes() {
-        if choice.takes(case.name(), *size) {
-            let tenths = case.best_tenths(rt, alloc, choice, *size)?;
-            print_line(rt, choice, case.name(), *size, tenths)?;
-        }
-    }
-    Ok(())
-}
-
-// The lines of a case of frames at each of its sizes that is chosen.
-fn print_frames<R: Print + Clock + Threads + Sync>(
-    rt: &R,
-    alloc: Global,
-    choice: &Choice,
-    case: &FrameCase,
-) -> Result<(), Failure> {
-    for size in case.sizes() {
-        if choice.takes(case.name(), *size) {
-            let tenths = case.best_tenths(rt, alloc, choice, *size)?;
-            print_line(rt, choice, case.name(), *size, tenths)?;
-        }
-    }
-    Ok(())
-}
-
-// The lines of a case of a shared world at each of its sizes that is chosen.
-fn print_shared<R: Print + Clock + Threads + Wait + Copy + Drop + Send + Sync + 'static>(
+// The lines of a case at each of its sizes that is chosen.
+fn print_case<R: Print + Clock + Threads + Wait + Copy + Drop + Send + Sync + 'static>(
     rt: R,
     alloc: Global,
     choice: &Choice,
-    case: &SharedCase,
+    case: Case,
 ) -> Result<(), Failure> {
     for size in case.sizes() {
         if choice.takes(case.name(), *size) {
@@ -125,13 +95,13 @@ fn print_all<R: Print + Clock + Threads + Wait + Copy + Drop + Send + Sync + 'st
 ) -> Result<(), Failure> {
     print_names(&rt, choice)?;
     for case in CALL_CASES {
-        print_calls(&rt, alloc, choice, case)?;
+        print_case(rt, alloc, choice, Case::Call(case))?;
     }
     for case in FRAME_CASES {
-        print_frames(&rt, alloc, choice, case)?;
+        print_case(rt, alloc, choice, Case::Frame(case))?;
     }
     for case in SHARED_CASES {
-        print_shared(rt, alloc, choice, case)?;
+        print_case(rt, alloc, choice, Case::Shared(case))?;
     }
     Ok(())
 }

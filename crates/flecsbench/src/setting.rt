@@ -1,8 +1,8 @@
 //! The worlds that cases are about.
 use crate::calls::Calls;
 use crate::each::{
-    add_each, count_each, create_each, create_named_each, delete_each, record_each, record_life,
-    remove_each, set_each, sum_each, sum_first, sum_tables, toggle_each,
+    add_each, count_each, create_each, create_named_each, delete_each, insert_each, record_each,
+    record_life, remove_each, set_each, sum_each, sum_first, sum_tables, toggle_each,
 };
 use crate::group::{Group, Ids};
 use crate::setup::Pick;
@@ -155,9 +155,7 @@ impl Setting {
 
     /// Makes so many plain rows.
     pub fn make_rows(&mut self, count: u32) -> Result<(), Refusal> {
-        for _ in 0..count {
-            self.rows.push([1, 2])?;
-        }
+        self.rows.resize(count as usize, [1, 2])?;
         Ok(())
     }
 
@@ -340,9 +338,7 @@ impl Setting {
 
     // Inserts so many numbers into a map, and answers whether all of them are in it.
     fn insert_numbers(&mut self, count: u32) -> Result<bool, Refusal> {
-        for number in 0..count {
-            self.numbers.insert(number, number)?;
-        }
+        insert_each(&mut self.numbers, count)?;
         Ok(self.numbers.len() == count as usize)
     }
 }

@@ -8,7 +8,6 @@ ghost use Rattle.std.specs.Prelude.{◌≡◌};
 use self::entries::{time_beside, time_entries};
 use self::merges::{time_plain, time_shared};
 use self::scene::opening;
-use crate::arguments::Choice;
 use crate::failure::Failure;
 use eco_shared::{Blank, Merger, Naming, Viewer, open};
 use std::alloc::Global;
@@ -61,27 +60,8 @@ impl SharedCase {
         SIZES
     }
 
-    /// The least time of one call of the runs that are chosen, in tenths of a nanosecond: each run is in a fresh world, and there is
-    /// one at least. None where nothing is to be measured.
-    pub fn best_tenths<R: Clock + Threads + Wait + Copy + Drop + Send + Sync + 'static>(
-        &self,
-        rt: R,
-        alloc: Global,
-        choice: &Choice<'_>,
-        size: u32,
-    ) -> Result<Option<u64>, Failure> {
-        if !choice.is_run {
-            return Ok(None);
-        }
-        let mut best = self.tenths(rt, alloc, size)?;
-        for _ in 1..choice.repeat {
-            best = best.min(self.tenths(rt, alloc, size)?);
-        }
-        Ok(Some(best))
-    }
-
-    // The time of one run. The making of the worlds is not timed.
-    fn tenths<R: Clock + Threads + Wait + Copy + Drop + Send + Sync + 'static>(
+    /// The time of one call of one run, in tenths of a nanosecond. The making of the worlds is not timed.
+    pub fn tenths<R: Clock + Threads + Wait + Copy + Drop + Send + Sync + 'static>(
         &self,
         rt: R,
         alloc: Global,
@@ -110,10 +90,17 @@ fn share<
 {
     let world = opening(alloc, size)?;
     let mut registry = blank.named::<J>();
-    let (mut merger, mut viewers) = open(rt, &mut registry, alloc, world, VIEWERS).map_err(
-        |refused| refused.1,
-    )?;
-    measure(rt, alloc, &mut merger, &mut viewers, measured, size)
+    match open(rt, &mut registry, alloc, world, VIEWERS) {
+        Ok((mut merger, mut viewers)) => measure(
+            rt,
+            alloc,
+            &mut merger,
+            &mut viewers,
+            measured,
+            size,
+        ),
+        Err((_, refusal)) => Err(Failure::Refused(refusal)),
+    }
 }
 
 // The time of one call of those that are measured, in tenths of a nanosecond.

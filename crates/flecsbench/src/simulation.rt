@@ -9,7 +9,7 @@ use eco_bodies::{Action, Script, SystemBody, Systems};
 use eco_frame::{Pipeline, sync_points};
 use eco_ids::{Entity, Id, Refusal, Value};
 use eco_systems::Phase;
-use eco_world::World;
+use eco_world::{Query, World};
 use std::alloc::{AllocError, Global};
 use std::rt::Clock;
 use std::thread::Threads;
@@ -43,6 +43,14 @@ impl<B: SystemBody + Sync + Drop> Simulation<B> {
         })
     }
 
+    // Adds a system.
+    fn add(&mut self, name: &str, query: Query, body: B) -> Result<(), Refusal> {
+        match self.systems.add(name, Phase::OnUpdate, query, body) {
+            Ok(()) => Ok(()),
+            Err(refused) => Err(refused.refusal),
+        }
+    }
+
     // So many entities, each with these values of the components.
     fn make_entities(&mut self, count: u32, values: &[(Entity, Value)]) -> Result<(), Refusal> {
         for _ in 0..count {
@@ -69,9 +77,14 @@ impl<B: SystemBody + Sync + Drop> Simulation<B> {
         let workers = workers.clamp(1, 64);
         let mut pipeline = Pipeline::new(alloc, &self.world, &self.systems)?;
         run(&mut pipeline, rt, alloc, &mut self.world, before, workers)?;
-        let start = Instant::now(rt)?;
-        let commands = run(&mut pipeline, rt, alloc, &mut self.world, frames, workers)?;
-        let time = start.elapsed(rt)?;
+        let (time, commands) = time_run(
+            &mut pipeline,
+            rt,
+            alloc,
+            &mut self.world,
+            frames,
+            workers,
+        )?;
         if commands >= least {
             Ok(time)
         } else {
@@ -106,6 +119,22 @@ fn run<B: SystemBody + Sync + Drop, R: Threads + Sync>(
     Ok(commands)
 }
 
+// Runs so many frames, and answers how long they took and how many commands they ran.
+fn time_run<B: SystemBody + Sync + Drop, R: Clock + Threads + Sync>(
+    pipeline: &mut Pipeline<'_, B>,
+    rt: &R,
+    alloc: Global,
+    world: &mut World,
+    frames: u32,
+    workers: u32,
+) -> Result<(Duration, usize), Failure>
+    requires { (1 ≤ workers) × (workers ≤ 64) }
+{
+    let start = Instant::now(rt)?;
+    let commands = run(pipeline, rt, alloc, world, frames, workers)?;
+    Ok((start.elapsed(rt)?, commands))
+}
+
 // The query of a system that asks for ten components, from one on each hundredth, and writes the first.
 fn text_of_ten(alloc: Global, components: Group, number: u32) -> Result<String, AllocError> {
     let first = components.at(number);
@@ -118,6 +147,12 @@ fn text_of_ten(alloc: Global, components: Group, number: u32) -> Result<String, 
     Ok(text)
 }
 
+// A body of one action.
+fn script_of(alloc: Global, query: &Query, action: Action) -> Result<Script, Refusal> {
+    let actions = Vec::from_slice(alloc, &[action])?;
+    Script::new(alloc, query, actions)
+}
+
 impl Simulation<Script> {
     // Adds a system of one action, which is named by a number.
     fn add_system(
@@ -127,14 +162,10 @@ impl Simulation<Script> {
         text: &str,
         action: Action,
     ) -> Result<(), Refusal> {
-        let name = format!(in alloc; "s{number}")?;
         let query = self.world.read_query(text)?;
-        let actions = Vec::from_slice(alloc, &[action])?;
-        let body = Script::new(alloc, &query, actions)?;
-        match self.systems.add(&name, Phase::OnUpdate, query, body) {
-            Ok(()) => Ok(()),
-            Err(refused) => Err(refused.refusal),
-        }
+        let body = script_of(alloc, &query, action)?;
+        let name = format!(in alloc; "s{number}")?;
+        self.add(&name, query, body)
     }
 
     /// So many entities have values of two components, and a system adds the second to the first.
@@ -196,10 +227,6 @@ impl Simulation<Heavy> {
         let component = self.world.component(Some("P"), 1)?;
         self.make_entities(size, &[(component, Value::of([1]))])?;
         let query = self.world.read_query("P")?;
-        let body = Heavy::new(component);
-        match self.systems.add("mix", Phase::OnUpdate, query, body) {
-            Ok(()) => Ok(()),
-            Err(refused) => Err(refused.refusal),
-        }
+        self.add("mix", query, Heavy::new(component))
     }
 }

@@ -4,23 +4,89 @@ use crate::setup::{Count, Pick, Setup};
 use eco_ids::Refusal;
 use eco_ids::entity::{CHILD_OF, EXCLUSIVE, SYMMETRIC, WITH};
 
-/// What is there before the time is taken, and which calls are planned: all steps of the one list, and then those of the other. The
-/// calls are about what is lacking, or else about what is there. The size of the case is N.
-pub struct Start(&'static [Setup], &'static [Setup]);
-
-fn make_part(setting: &mut Setting, part: &[Setup], size: u32, parts: u32) -> Result<(), Refusal> {
-    for step in part {
-        step.make(setting, size, parts)?;
-    }
-    Ok(())
-}
-
-impl Start {
-    /// Makes it in a new world, where the size of a case is N, and the case has so many parts.
-    pub fn make(&self, setting: &mut Setting, size: u32, parts: u32) -> Result<(), Refusal> {
-        make_part(setting, self.0, size, parts)?;
-        make_part(setting, self.1, size, parts)
-    }
+/// What is there before the time is taken, and which calls are planned. The calls are about what is lacking, or else about what is
+/// there. The size of the case is N.
+#[derive(Clone, Copy)]
+pub enum Start {
+    /// What lives in each new world.
+    Nothing,
+    /// The same, and N names that nobody has.
+    Names,
+    /// One entity lacks a tag.
+    OneLacksTag,
+    /// N entities lack a tag.
+    LackTag,
+    /// N entities have a tag.
+    HaveTag,
+    /// N indices are free, each of an entity that was deleted.
+    Freed,
+    /// A stage adds a tag to each of N entities.
+    RecordedAdds,
+    /// N entities lack a component of two fields.
+    LackValue,
+    /// N entities have a value of a component of two fields, and the first field is 1.
+    HaveValue,
+    /// A stage sets the value of each of N entities that have one.
+    RecordedSets,
+    /// A stage makes N/4 entities, and gives each a tag and a value before it deletes it.
+    RecordedSpawns,
+    /// N entities have values of two components, and lack a tag.
+    HaveValues,
+    /// N entities have the component P and the tag Q, and stand in so many tables as the case has parts; P is asked.
+    AskOne,
+    /// The same, and P and Q are asked.
+    AskTwo,
+    /// The same, and the pairs by which they stand in tables are asked.
+    AskWild,
+    /// The same, and P is asked without a pair that nobody has.
+    AskNot,
+    /// The same, and a query of P and the pairs is added to the world.
+    Kept,
+    /// The entities stand so, and the first field of each value of P is 1; P is asked. All values were read once.
+    Columns,
+    /// A plain list has N rows of two numbers, and the first one of each is 1.
+    Rows,
+    /// So many entities as the case has parts each have a pair of one plain relationship with a target of its own; who has a parent
+    /// and a certain tag is asked, and nobody has that tag.
+    NobodyHas,
+    /// N entities each lack a pair of one plain relationship; so many targets as the case has parts take turns.
+    LackPair,
+    /// N entities each lack a pair of one symmetric relationship; so many targets as the case has parts take turns.
+    LackSymmetricPair,
+    /// The same, and the entities have the pairs.
+    HaveSymmetricPair,
+    /// N entities each lack a pair of one plain relationship with a target of its own.
+    LackOwnPair,
+    /// N entities each have a pair of one plain relationship with a target of its own.
+    HaveOwnPair,
+    /// The same, and the entities lack the pair with a further target.
+    LackCommonPair,
+    /// One entity lacks N pairs of one plain relationship.
+    OneLacksPairs,
+    /// One entity has N pairs of one plain relationship, and whatever pair somebody has is asked.
+    OneHasPairs,
+    /// The N targets of the pairs that one entity has.
+    Targets,
+    /// N entities lack a tag that brings by With as many others as the case has parts.
+    LackWith,
+    /// One entity lacks N tags.
+    OneLacksTags,
+    /// One entity lacks a trait of relationships, and is the target of N pairs of a relationship each. It is no relationship itself.
+    LackTrait,
+    /// N children of so many parents as the case has parts, who take turns; each child lacks the next parent.
+    NextParent,
+    /// N entities, each but the last of which lacks the one after it as parent, from the first on.
+    LackChain,
+    /// The same, from the last on.
+    LackChainFromRoot,
+    /// The root of such a chain, where each has its parent.
+    ChainRoot,
+    /// The parent of N entities.
+    Parent,
+    /// The first of N entities, each of the others of which is a child of the one at the eighth part of its place.
+    TreeRoot,
+    /// A target, of which N entities have the pair of a plain relationship.
+    Target,
 }
 
 const TAG: &[Setup] = &[
@@ -88,280 +154,226 @@ const PAIRS_OF_ONE: &[Setup] = &[
     Setup::PlanTwos(Count::Each, Pick::Made(2), Pick::Made(0), Pick::Made(1)),
 ];
 
-/// What lives in each new world.
-pub const NOTHING: Start = Start(&[], &[]);
+const ONE_LACKS_TAG: &[Setup] = &[
+    Setup::Make(Count::One),
+    Setup::Make(Count::One),
+    Setup::PlanOnes(Count::One, Pick::Made(1), Pick::Made(0)),
+];
 
-/// The same, and N names that nobody has.
-pub const NAMES: Start = Start(&[Setup::MakeNames(Count::Each)], &[]);
+const RECORDED_SPAWNS: &[Setup] = &[
+    Setup::Make(Count::One),
+    Setup::MakeComponent,
+    Setup::RecordSpawns(Count::EachFourth, Pick::Made(0), Pick::Made(1)),
+];
 
-/// One entity lacks a tag.
-pub const ONE_LACKS_TAG: Start = Start(
-    &[
-        Setup::Make(Count::One),
-        Setup::Make(Count::One),
-        Setup::PlanOnes(Count::One, Pick::Made(1), Pick::Made(0)),
-    ],
-    &[],
-);
+const HAVE_VALUES: &[Setup] = &[
+    Setup::MakeComponent,
+    Setup::MakeComponent,
+    Setup::Make(Count::One),
+    Setup::Make(Count::Each),
+    Setup::PlanOnes(Count::Each, Pick::Made(3), Pick::Made(0)),
+    Setup::Set([1, 2]),
+    Setup::PlanOnes(Count::Each, Pick::Made(3), Pick::Made(1)),
+    Setup::Set([3, 4]),
+    Setup::PlanOnes(Count::Each, Pick::Made(3), Pick::Made(2)),
+];
 
-/// N entities lack a tag.
-pub const LACK_TAG: Start = Start(TAG, &[]);
+const KEPT: &[Setup] = &[Setup::Ask("P, (Group, *)"), Setup::Keep("P, (Group, *)")];
 
-/// N entities have a tag.
-pub const HAVE_TAG: Start = Start(TAG, &[Setup::Add]);
+const COLUMNS: &[Setup] = &[Setup::Ask("P"), Setup::Set([1, 2]), Setup::ReadColumns];
 
-/// N indices are free, each of an entity that was deleted.
-pub const FREED: Start = Start(TAG, &[Setup::Delete]);
+const NOBODY_HAS: &[Setup] = &[
+    Setup::Make(Count::One),
+    Setup::Make(Count::Parts),
+    Setup::Make(Count::Parts),
+    Setup::PlanTwos(Count::Parts, Pick::Made(2), Pick::Made(0), Pick::Made(1)),
+    Setup::Add,
+    Setup::Make(Count::One),
+    Setup::Name(Pick::Made(3), "Z"),
+    Setup::Ask("Z, (ChildOf, *)"),
+];
 
-/// A stage adds a tag to each of N entities.
-pub const RECORDED_ADDS: Start = Start(TAG, &[Setup::RecordAdds]);
+const LACK_PAIR: &[Setup] = &[
+    Setup::Make(Count::One),
+    Setup::Make(Count::Parts),
+    Setup::Make(Count::Each),
+    Setup::PlanTwos(Count::Each, Pick::Made(2), Pick::Made(0), Pick::Made(1)),
+];
 
-/// N entities lack a component of two fields.
-pub const LACK_VALUE: Start = Start(COMPONENT, &[]);
+const LACK_COMMON_PAIR: &[Setup] = &[
+    Setup::Add,
+    Setup::Make(Count::One),
+    Setup::PlanTwos(Count::Each, Pick::Made(2), Pick::Made(0), Pick::Made(3)),
+];
 
-/// N entities have a value of a component of two fields, and the first field is 1.
-pub const HAVE_VALUE: Start = Start(COMPONENT, &[Setup::Set([1, 2])]);
+const TARGETS: &[Setup] = &[
+    Setup::Add,
+    Setup::PlanOnes(Count::Each, Pick::Made(1), Pick::Made(1)),
+];
 
-/// A stage sets the value of each of N entities that have one.
-pub const RECORDED_SETS: Start = Start(COMPONENT, &[Setup::Set([1, 2]), Setup::RecordSets([1, 2])]);
+const LACK_WITH: &[Setup] = &[
+    Setup::Make(Count::One),
+    Setup::Make(Count::Parts),
+    Setup::PlanTwos(
+        Count::Parts,
+        Pick::Made(0),
+        Pick::BuiltIn(WITH),
+        Pick::Made(1),
+    ),
+    Setup::Add,
+    Setup::Make(Count::Each),
+    Setup::PlanOnes(Count::Each, Pick::Made(2), Pick::Made(0)),
+];
 
-/// A stage makes N/4 entities, and gives each a tag and a value before it deletes it.
-pub const RECORDED_SPAWNS: Start = Start(
-    &[
-        Setup::Make(Count::One),
-        Setup::MakeComponent,
-        Setup::RecordSpawns(Count::EachFourth, Pick::Made(0), Pick::Made(1)),
-    ],
-    &[],
-);
+const ONE_LACKS_TAGS: &[Setup] = &[
+    Setup::Make(Count::One),
+    Setup::Make(Count::Each),
+    Setup::PlanOnes(Count::Each, Pick::Made(0), Pick::Made(1)),
+];
 
-/// N entities have values of two components, and lack a tag.
-pub const HAVE_VALUES: Start = Start(
-    &[
-        Setup::MakeComponent,
-        Setup::MakeComponent,
-        Setup::Make(Count::One),
-        Setup::Make(Count::Each),
-        Setup::PlanOnes(Count::Each, Pick::Made(3), Pick::Made(0)),
-        Setup::Set([1, 2]),
-        Setup::PlanOnes(Count::Each, Pick::Made(3), Pick::Made(1)),
-        Setup::Set([3, 4]),
-        Setup::PlanOnes(Count::Each, Pick::Made(3), Pick::Made(2)),
-    ],
-    &[],
-);
+const LACK_TRAIT: &[Setup] = &[
+    Setup::Make(Count::One),
+    Setup::Make(Count::Each),
+    Setup::Make(Count::Each),
+    Setup::PlanTwos(Count::Each, Pick::Made(2), Pick::Made(1), Pick::Made(0)),
+    Setup::Add,
+    Setup::PlanOnes(Count::One, Pick::Made(0), Pick::BuiltIn(EXCLUSIVE)),
+];
 
-/// N entities have the component P and the tag Q, and stand in so many tables as the case has parts; P is asked.
-pub const ASK_ONE: Start = Start(TABLES, &[Setup::Ask("P")]);
+const NEXT_PARENT: &[Setup] = &[
+    Setup::Make(Count::Parts),
+    Setup::Make(Count::Each),
+    Setup::PlanTwos(
+        Count::Each,
+        Pick::Made(1),
+        Pick::BuiltIn(CHILD_OF),
+        Pick::Made(0),
+    ),
+    Setup::Add,
+    Setup::PlanTwos(
+        Count::Each,
+        Pick::Made(1),
+        Pick::BuiltIn(CHILD_OF),
+        Pick::FromSecond(0),
+    ),
+];
 
-/// The same, and P and Q are asked.
-pub const ASK_TWO: Start = Start(TABLES, &[Setup::Ask("P, Q")]);
+const CHAIN_ROOT: &[Setup] = &[
+    Setup::Add,
+    Setup::PlanOnes(Count::One, Pick::Last(0), Pick::Last(0)),
+];
 
-/// The same, and the pairs by which they stand in tables are asked.
-pub const ASK_WILD: Start = Start(TABLES, &[Setup::Ask("(Group, *)")]);
+const PARENT: &[Setup] = &[
+    Setup::Make(Count::One),
+    Setup::Make(Count::Each),
+    Setup::PlanTwos(
+        Count::Each,
+        Pick::Made(1),
+        Pick::BuiltIn(CHILD_OF),
+        Pick::Made(0),
+    ),
+    Setup::Add,
+    Setup::PlanOnes(Count::One, Pick::Made(0), Pick::Made(0)),
+];
 
-/// The same, and P is asked without a pair that nobody has.
-pub const ASK_NOT: Start = Start(TABLES, &[Setup::Ask("P, !(Group, ChildOf)")]);
+const TREE_ROOT: &[Setup] = &[
+    Setup::Make(Count::Each),
+    Setup::PlanTwos(
+        Count::EachButOne,
+        Pick::FromSecond(0),
+        Pick::BuiltIn(CHILD_OF),
+        Pick::EighthsFromSecond(0),
+    ),
+    Setup::Add,
+    Setup::PlanOnes(Count::One, Pick::Made(0), Pick::Made(0)),
+];
 
-/// The same, and a query of P and the pairs is added to the world.
-pub const KEPT: Start = Start(
-    TABLES,
-    &[Setup::Ask("P, (Group, *)"), Setup::Keep("P, (Group, *)")],
-);
+const TARGET: &[Setup] = &[
+    Setup::Make(Count::One),
+    Setup::Make(Count::One),
+    Setup::Make(Count::Each),
+    Setup::PlanTwos(Count::Each, Pick::Made(2), Pick::Made(0), Pick::Made(1)),
+    Setup::Add,
+    Setup::PlanOnes(Count::One, Pick::Made(1), Pick::Made(1)),
+];
 
-/// The entities stand so, and the first field of each value of P is 1; P is asked. All values were read once.
-pub const COLUMNS: Start = Start(
-    TABLES,
-    &[Setup::Ask("P"), Setup::Set([1, 2]), Setup::ReadColumns],
-);
+const ASK_ONE: &[Setup] = &[Setup::Ask("P")];
 
-/// A plain list has N rows of two numbers, and the first one of each is 1.
-pub const ROWS: Start = Start(&[Setup::MakeRows(Count::Each)], &[]);
+const ASK_TWO: &[Setup] = &[Setup::Ask("P, Q")];
 
-/// So many entities as the case has parts each have a pair of one plain relationship with a target of its own; who has a parent
-/// and a certain tag is asked, and nobody has that tag.
-pub const NOBODY_HAS: Start = Start(
-    &[
-        Setup::Make(Count::One),
-        Setup::Make(Count::Parts),
-        Setup::Make(Count::Parts),
-        Setup::PlanTwos(Count::Parts, Pick::Made(2), Pick::Made(0), Pick::Made(1)),
-        Setup::Add,
-        Setup::Make(Count::One),
-        Setup::Name(Pick::Made(3), "Z"),
-        Setup::Ask("Z, (ChildOf, *)"),
-    ],
-    &[],
-);
+const ASK_WILD: &[Setup] = &[Setup::Ask("(Group, *)")];
 
-/// N entities each lack a pair of one plain relationship; so many targets as the case has parts take turns.
-pub const LACK_PAIR: Start = Start(
-    &[
-        Setup::Make(Count::One),
-        Setup::Make(Count::Parts),
-        Setup::Make(Count::Each),
-        Setup::PlanTwos(Count::Each, Pick::Made(2), Pick::Made(0), Pick::Made(1)),
-    ],
-    &[],
-);
+const ASK_NOT: &[Setup] = &[Setup::Ask("P, !(Group, ChildOf)")];
 
-/// N entities each lack a pair of one symmetric relationship; so many targets as the case has parts take turns.
-pub const LACK_SYMMETRIC_PAIR: Start = Start(SYMMETRIC_PAIR, &[]);
+const ONE_HAS_PAIRS: &[Setup] = &[Setup::Add, Setup::Ask("(_, *)")];
 
-/// The same, and the entities have the pairs.
-pub const HAVE_SYMMETRIC_PAIR: Start = Start(SYMMETRIC_PAIR, &[Setup::Add]);
+fn make_all(setting: &mut Setting, steps: &[Setup], size: u32, parts: u32) -> Result<(), Refusal> {
+    for step in steps {
+        step.make(setting, size, parts)?;
+    }
+    Ok(())
+}
 
-/// N entities each lack a pair of one plain relationship with a target of its own.
-pub const LACK_OWN_PAIR: Start = Start(OWN_PAIR, &[]);
+impl Start {
+    /// Makes it in a new world, where the size of a case is N, and the case has so many parts.
+    pub fn make(self, setting: &mut Setting, size: u32, parts: u32) -> Result<(), Refusal> {
+        make_all(setting, self.first(), size, parts)?;
+        make_all(setting, self.further(), size, parts)
+    }
 
-/// N entities each have a pair of one plain relationship with a target of its own.
-pub const HAVE_OWN_PAIR: Start = Start(OWN_PAIR, &[Setup::Add]);
+    // The steps with which several begin.
+    fn first(self) -> &'static [Setup] {
+        match self {
+            Start::LackTag | Start::HaveTag | Start::Freed | Start::RecordedAdds => TAG,
+            Start::LackValue | Start::HaveValue | Start::RecordedSets => COMPONENT,
+            Start::AskOne
+            | Start::AskTwo
+            | Start::AskWild
+            | Start::AskNot
+            | Start::Kept
+            | Start::Columns => TABLES,
+            Start::LackSymmetricPair | Start::HaveSymmetricPair => SYMMETRIC_PAIR,
+            Start::LackOwnPair | Start::HaveOwnPair | Start::LackCommonPair => OWN_PAIR,
+            Start::OneLacksPairs | Start::OneHasPairs | Start::Targets => PAIRS_OF_ONE,
+            Start::LackChain | Start::LackChainFromRoot | Start::ChainRoot => CHAIN,
+            _ => &[],
+        }
+    }
 
-/// The same, and the entities lack the pair with a further target.
-pub const LACK_COMMON_PAIR: Start = Start(
-    OWN_PAIR,
-    &[
-        Setup::Add,
-        Setup::Make(Count::One),
-        Setup::PlanTwos(Count::Each, Pick::Made(2), Pick::Made(0), Pick::Made(3)),
-    ],
-);
-
-/// One entity lacks N pairs of one plain relationship.
-pub const ONE_LACKS_PAIRS: Start = Start(PAIRS_OF_ONE, &[]);
-
-/// One entity has N pairs of one plain relationship, and whatever pair somebody has is asked.
-pub const ONE_HAS_PAIRS: Start = Start(PAIRS_OF_ONE, &[Setup::Add, Setup::Ask("(_, *)")]);
-
-/// The N targets of the pairs that one entity has.
-pub const TARGETS: Start = Start(
-    PAIRS_OF_ONE,
-    &[
-        Setup::Add,
-        Setup::PlanOnes(Count::Each, Pick::Made(1), Pick::Made(1)),
-    ],
-);
-
-/// N entities lack a tag that brings by With as many others as the case has parts.
-pub const LACK_WITH: Start = Start(
-    &[
-        Setup::Make(Count::One),
-        Setup::Make(Count::Parts),
-        Setup::PlanTwos(
-            Count::Parts,
-            Pick::Made(0),
-            Pick::BuiltIn(WITH),
-            Pick::Made(1),
-        ),
-        Setup::Add,
-        Setup::Make(Count::Each),
-        Setup::PlanOnes(Count::Each, Pick::Made(2), Pick::Made(0)),
-    ],
-    &[],
-);
-
-/// One entity lacks N tags.
-pub const ONE_LACKS_TAGS: Start = Start(
-    &[
-        Setup::Make(Count::One),
-        Setup::Make(Count::Each),
-        Setup::PlanOnes(Count::Each, Pick::Made(0), Pick::Made(1)),
-    ],
-    &[],
-);
-
-/// One entity lacks a trait of relationships, and is the target of N pairs of a relationship each. It is no relationship itself.
-pub const LACK_TRAIT: Start = Start(
-    &[
-        Setup::Make(Count::One),
-        Setup::Make(Count::Each),
-        Setup::Make(Count::Each),
-        Setup::PlanTwos(Count::Each, Pick::Made(2), Pick::Made(1), Pick::Made(0)),
-        Setup::Add,
-        Setup::PlanOnes(Count::One, Pick::Made(0), Pick::BuiltIn(EXCLUSIVE)),
-    ],
-    &[],
-);
-
-/// N children of so many parents as the case has parts, who take turns; each child lacks the next parent.
-pub const NEXT_PARENT: Start = Start(
-    &[
-        Setup::Make(Count::Parts),
-        Setup::Make(Count::Each),
-        Setup::PlanTwos(
-            Count::Each,
-            Pick::Made(1),
-            Pick::BuiltIn(CHILD_OF),
-            Pick::Made(0),
-        ),
-        Setup::Add,
-        Setup::PlanTwos(
-            Count::Each,
-            Pick::Made(1),
-            Pick::BuiltIn(CHILD_OF),
-            Pick::FromSecond(0),
-        ),
-    ],
-    &[],
-);
-
-/// N entities, each but the last of which lacks the one after it as parent, from the first on.
-pub const LACK_CHAIN: Start = Start(CHAIN, &[]);
-
-/// The same, from the last on.
-pub const LACK_CHAIN_FROM_ROOT: Start = Start(CHAIN, &[Setup::Reverse]);
-
-/// The root of such a chain, where each has its parent.
-pub const CHAIN_ROOT: Start = Start(
-    CHAIN,
-    &[
-        Setup::Add,
-        Setup::PlanOnes(Count::One, Pick::Last(0), Pick::Last(0)),
-    ],
-);
-
-/// The parent of N entities.
-pub const PARENT: Start = Start(
-    &[
-        Setup::Make(Count::One),
-        Setup::Make(Count::Each),
-        Setup::PlanTwos(
-            Count::Each,
-            Pick::Made(1),
-            Pick::BuiltIn(CHILD_OF),
-            Pick::Made(0),
-        ),
-        Setup::Add,
-        Setup::PlanOnes(Count::One, Pick::Made(0), Pick::Made(0)),
-    ],
-    &[],
-);
-
-/// The first of N entities, each of the others of which is a child of the one at the eighth part of its place.
-pub const TREE_ROOT: Start = Start(
-    &[
-        Setup::Make(Count::Each),
-        Setup::PlanTwos(
-            Count::EachButOne,
-            Pick::FromSecond(0),
-            Pick::BuiltIn(CHILD_OF),
-            Pick::EighthsFromSecond(0),
-        ),
-        Setup::Add,
-        Setup::PlanOnes(Count::One, Pick::Made(0), Pick::Made(0)),
-    ],
-    &[],
-);
-
-/// A target, of which N entities have the pair of a plain relationship.
-pub const TARGET: Start = Start(
-    &[
-        Setup::Make(Count::One),
-        Setup::Make(Count::One),
-        Setup::Make(Count::Each),
-        Setup::PlanTwos(Count::Each, Pick::Made(2), Pick::Made(0), Pick::Made(1)),
-        Setup::Add,
-        Setup::PlanOnes(Count::One, Pick::Made(1), Pick::Made(1)),
-    ],
-    &[],
-);
+    // The steps behind these.
+    fn further(self) -> &'static [Setup] {
+        match self {
+            Start::Names => &[Setup::MakeNames(Count::Each)],
+            Start::OneLacksTag => ONE_LACKS_TAG,
+            Start::HaveTag | Start::HaveSymmetricPair | Start::HaveOwnPair => &[Setup::Add],
+            Start::Freed => &[Setup::Delete],
+            Start::RecordedAdds => &[Setup::RecordAdds],
+            Start::HaveValue => &[Setup::Set([1, 2])],
+            Start::RecordedSets => &[Setup::Set([1, 2]), Setup::RecordSets([1, 2])],
+            Start::RecordedSpawns => RECORDED_SPAWNS,
+            Start::HaveValues => HAVE_VALUES,
+            Start::AskOne => ASK_ONE,
+            Start::AskTwo => ASK_TWO,
+            Start::AskWild => ASK_WILD,
+            Start::AskNot => ASK_NOT,
+            Start::Kept => KEPT,
+            Start::Columns => COLUMNS,
+            Start::Rows => &[Setup::MakeRows(Count::Each)],
+            Start::NobodyHas => NOBODY_HAS,
+            Start::LackPair => LACK_PAIR,
+            Start::LackCommonPair => LACK_COMMON_PAIR,
+            Start::OneHasPairs => ONE_HAS_PAIRS,
+            Start::Targets => TARGETS,
+            Start::LackWith => LACK_WITH,
+            Start::OneLacksTags => ONE_LACKS_TAGS,
+            Start::LackTrait => LACK_TRAIT,
+            Start::NextParent => NEXT_PARENT,
+            Start::LackChainFromRoot => &[Setup::Reverse],
+            Start::ChainRoot => CHAIN_ROOT,
+            Start::Parent => PARENT,
+            Start::TreeRoot => TREE_ROOT,
+            Start::Target => TARGET,
+            _ => &[],
+        }
+    }
+}

@@ -1,5 +1,6 @@
 //! Worlds to share, and stages to merge into them.
 use crate::setting::LIMIT;
+use eco_bodies::record_command;
 use eco_ids::{Entity, Id, Refusal, Value};
 use eco_stages::{Command, Stage};
 use eco_world::World;
@@ -16,9 +17,8 @@ const FIRST: u32 = 13;
 // So many commands has each merge.
 const COMMANDS: u32 = 100;
 
-/// A world of so many entities with a component of two fields, in two groups by a pair.
-pub fn opening(alloc: Global, count: u32) -> Result<World, Refusal> {
-    let mut world = World::new(alloc, LIMIT)?;
+// Makes so many entities with a component of two fields, in two groups by a pair.
+fn fill(world: &mut World, count: u32) -> Result<(), Refusal> {
     let place = world.component(Some("Place"), 2)?;
     let group = world.create(Some("Group"))?;
     let left = world.create(Some("Left"))?;
@@ -29,20 +29,32 @@ pub fn opening(alloc: Global, count: u32) -> Result<World, Refusal> {
         world.set(entity, Id::One(place), Value::of([i64::from(k), 1]))?;
         world.add(entity, Id::Two(group, side))?;
     }
+    Ok(())
+}
+
+/// A world of so many entities with a component of two fields, in two groups by a pair.
+pub fn opening(alloc: Global, count: u32) -> Result<World, Refusal> {
+    let mut world = World::new(alloc, LIMIT)?;
+    fill(&mut world, count)?;
     Ok(world)
 }
 
-/// Sets the component of a hundred entities of `count`, others at each turn.
-pub fn stage_of(alloc: Global, count: u32, turn: u32) -> Result<Stage, Refusal> {
-    let mut stage = Stage::new(alloc);
+// Sets the component of a hundred entities of `count`, others at each turn.
+fn record(stage: &mut Stage, count: u32, turn: u32) -> Result<(), Refusal> {
     for k in 0..COMMANDS {
         let entity = Entity {
             index: FIRST + (turn % 1024 * 977 + k * 131) % count.clamp(1, 1_000_000),
             generation: 0,
         };
         let value = Value::of([i64::from(turn), i64::from(k)]);
-        let command = Command::Set(entity, Id::One(PLACE), value);
-        stage.record(command).map_err(|_| Refusal::OutOfMemory)?;
+        record_command(stage, Command::Set(entity, Id::One(PLACE), value))?;
     }
+    Ok(())
+}
+
+/// A stage that sets the component of a hundred entities of `count`, others at each turn.
+pub fn stage_of(alloc: Global, count: u32, turn: u32) -> Result<Stage, Refusal> {
+    let mut stage = Stage::new(alloc);
+    record(&mut stage, count, turn)?;
     Ok(stage)
 }

@@ -81,12 +81,7 @@ shape name phase slots acts writes kills =
 shaped : (s : System Script) (name : List ℕ) (phase : Phase) (slots : List QuerySlot) (acts : List Action) (writes : List Pattern) (kills : Bool)
     → string_bytes s.name ≡ name → s.phase ≡ phase → s.query ≡ slots → s.body.actions.items ≡ acts → s.body.writes.items ≡ writes → s.body.kills ≡ kills
     → named s ≡ shape name phase slots acts writes kills
-shaped s name phase slots acts writes kills n p q a w k =
-    ap (λ x. shape x s.phase s.query s.body.actions.items s.body.writes.items s.body.kills) n
-    ∙ ap (λ x. shape name x s.query s.body.actions.items s.body.writes.items s.body.kills) p
-    ∙ ap (λ x. shape name phase x s.body.actions.items s.body.writes.items s.body.kills) q
-    ∙ ap (λ x. shape name phase slots x s.body.writes.items s.body.kills) a
-    ∙ ap (λ x. shape name phase slots acts x s.body.kills) w ∙ ap (λ x. shape name phase slots acts writes x) k
+shaped s name phase slots acts writes kills n p q a w k = rw (n, p, q, a, w, k) refl
 
 module _ (w : WorldState) (old : List (System Script)) (name : List ℕ) (phase : Phase) (text : List ℕ) (acts : List texts.WrittenAction) where
   -- one of the texts was refused, or memory was wanting

@@ -1,6 +1,7 @@
 -- Where memory is never wanting, each step has one answer and leads to one world.
 use Rattle.std.proofs.Common.{◌≡◌, ◌≢◌, ℕ, Bool, true, false, true≢false, inl, inr, List, [], ◌∷◌, ◌++◌, Option, Some, None, Result, Ok, Err, refl, ap, ◌∙◌}
-use Rattle.std.proofs.Common.{sym, flat_map, slice_get, ◌||◌, subst, IsFalse, MatchResult, MatchBool}
+use Rattle.std.proofs.Common.{sym, flat_map, slice_get, ◌||◌, subst, IsFalse, IsTrue, MatchResult, MatchBool}
+use Rattle.std.proofs.lemmas.Bool.{or_parts}
 use Rattle.eco_ids.specs.declared.entity.Entity.{Entity}
 use Rattle.eco_ids.specs.declared.id.Id.{Id}
 use Rattle.eco_ids.specs.declared.refusal.Refusal.{Refusal}
@@ -37,15 +38,20 @@ use Rattle.eco_stages.specs.Outcomes.{Outcomes}
 use Rattle.eco_world.specs.Merging.{Merges, RunsAdmitted, may_merge}
 use Rattle.eco_script.specs.Text.{DoesInMemory, Text, TextInMemory, has_wanted, step_lines}
 
--- what neither side of is true
-neither_is : (a b : Bool) → IsFalse (a || b) → IsFalse a × IsFalse b
-neither_is true b e = cc
-neither_is false b e = (refl, e)
-
--- one answer and one end at most, where it is not that memory was wanting
-abbrev Once : {A S : Type 0} → (Result A Refusal → S → Type 0) → Type 0
-Once {A} {S} Step = (r q : Result A Refusal) (new other : S) → IsFalse (is_out_of_memory r) → IsFalse (is_out_of_memory q)
+-- one answer and one end at most, where memory was not wanting, as this tells of an answer
+abbrev OnceBy : {A S : Type 0} → (Result A Refusal → Bool) → (Result A Refusal → S → Type 0) → Type 0
+OnceBy {A} {S} wanted Step = (r q : Result A Refusal) (new other : S) → IsFalse (wanted r) → IsFalse (wanted q)
     → Step r new → Step q other → (r ≡ q) × (new ≡ other)
+
+abbrev Once : {A S : Type 0} → (Result A Refusal → S → Type 0) → Type 0
+Once = OnceBy is_out_of_memory
+
+-- likewise, where memory was wanting for no command of a merge either
+abbrev OnceInMemory : {S : Type 0} → (Result Reply Refusal → S → Type 0) → Type 0
+OnceInMemory = OnceBy has_wanted
+
+plainly : {S : Type 0} (Step : Result Reply Refusal → S → Type 0) → Once Step → OnceInMemory Step
+plainly Step one r q new other f g p h = one r q new other (or_parts (is_out_of_memory r) _ f).0 (or_parts (is_out_of_memory q) _ g).0 p h
 
 meets_once : {A S : Type 0} (Step : Result A Refusal → S → Type 0) (may : Bool) (w : S)
     → ((r q : Result A Refusal) (new other : S) → Step r new → Step q other → (r ≡ q) × (new ≡ other)) → Once (Meets Step may w)
@@ -55,50 +61,47 @@ answers_once : {A : Type 0} (x : A) (after : WorldState) (r q : Result A Refusal
     → Answers x after r new → Answers x after q other → (r ≡ q) × (new ≡ other)
 answers_once x after r q new other (a, b) (c, d) = (a ∙ sym c, b ∙ sym d)
 
+refuses_once : {A : Type 0} (why : Refusal) (w : WorldState) (r q : Result A Refusal) (new other : WorldState)
+    → Refuses why w r new → Refuses why w q other → (r ≡ q) × (new ≡ other)
+refuses_once why w r q new other (a, b) (c, d) = (a ∙ sym c, b ∙ sym d)
+
 replied_plain : {A : Type 0} (reply : A → Reply) (x : Result A Refusal) → is_out_of_memory x ≡ is_out_of_memory (replied reply x)
 replied_plain reply (Ok x) = refl
 replied_plain reply (Err OutOfMemory) = refl
 replied_plain reply (Err _) = refl
 
-calls_once : {A : Type 0} (Call : Result A Refusal → WorldState → Type 0) (reply : A → Reply) → Once Call → Once (Calls Call reply)
-calls_once Call reply one r q new other f g (x, c, is) (y, d, at) =
-    let (same, end) = one x y new other (replied_plain reply x ∙ ap is_out_of_memory (sym is) ∙ f)
-    (replied_plain reply y ∙ ap is_out_of_memory (sym at) ∙ g) c d in
+calls_once : {A : Type 0} (wanted : Result Reply Refusal → Bool) (Call : Result A Refusal → WorldState → Type 0) (reply : A → Reply)
+    → OnceBy (λ x. wanted (replied reply x)) Call → OnceBy wanted (Calls Call reply)
+calls_once wanted Call reply one r q new other f g (x, c, is) (y, d, at) =
+    let (same, end) = one x y new other (ap wanted (sym is) ∙ f) (ap wanted (sym at) ∙ g) c d in
     (is ∙ ap (replied reply) same ∙ sym at, end)
 
--- where a reading was refused for want of memory, so was the step
-wanted_none : {A B : Type 0} (w : WorldState) (Goes : A → Result B Refusal → WorldState → Type 0) (r : Result B Refusal) (new : WorldState)
-    → IsFalse (is_out_of_memory r) → (n : Result A Refusal) → MatchResult n (λ x. Goes x r new) (λ why. Refuses why w r new) → n ≡ Err OutOfMemory → ⊥
-wanted_none w Goes r new f n c none =
-    let (a, b) = subst (λ k. MatchResult k (λ x. Goes x r new) (λ why. Refuses why w r new)) none c in
-    true≢false (sym (ap is_out_of_memory a) ∙ f)
+plain_calls : {A : Type 0} (Call : Result A Refusal → WorldState → Type 0) (reply : A → Reply) → Once Call → Once (Calls Call reply)
+plain_calls Call reply one =
+    calls_once is_out_of_memory Call reply (λ x y new other f g. one x y new other (replied_plain reply x ∙ f) (replied_plain reply y ∙ g))
 
--- a text that is read in one way at most, where memory is never wanting for it
-on_once : {A B : Type 0} (Reads : Result A Refusal → Type 0) (w : WorldState) (Goes : A → Result B Refusal → WorldState → Type 0)
+-- a text that is read in one way at most, where memory is never wanting for it; where it is, it is for the step too
+on_once : {A B : Type 0} (wanted : Result B Refusal → Bool) → IsTrue (wanted (Err OutOfMemory)) → (Reads : Result A Refusal → Type 0) (w : WorldState)
+    (Goes : A → Result B Refusal → WorldState → Type 0)
     → ((n m : Result A Refusal) → n ≢ Err OutOfMemory → m ≢ Err OutOfMemory → Reads n → Reads m → n ≡ m)
-    → ((x : A) → Once (Goes x)) → Once (On Reads w Goes)
-on_once {A} Reads w Goes one goes r q new other f g (n, p, c) (m, h, d) =
-    same n c (subst (λ k. MatchResult k (λ x. Goes x q other) (λ why. Refuses why w q other))
-    (sym (one n m (wanted_none w Goes r new f n c) (wanted_none w Goes q other g m d) p h)) d) where
-      same : (n : Result A Refusal) → MatchResult n (λ x. Goes x r new) (λ why. Refuses why w r new)
-          → MatchResult n (λ x. Goes x q other) (λ why. Refuses why w q other) → (r ≡ q) × (new ≡ other)
+    → ((x : A) → OnceBy wanted (Goes x)) → OnceBy wanted (On Reads w Goes)
+on_once {A} {B} wanted wants Reads w Goes one goes r q new other f g (n, p, c) (m, h, d) =
+    same n c (subst (After q other) (sym (one n m (plain r new f n c) (plain q other g m d) p h)) d) where
+      After : Result B Refusal → WorldState → Result A Refusal → Type 0
+      After r new n = MatchResult n (λ x. Goes x r new) (λ why. Refuses why w r new)
+
+      plain : (r : Result B Refusal) (new : WorldState) → IsFalse (wanted r) → (n : Result A Refusal) → After r new n → n ≢ Err OutOfMemory
+      plain r new f n c none = true≢false (sym wants ∙ ap wanted (sym (subst (After r new) none c).0) ∙ f)
+
+      same : (n : Result A Refusal) → After r new n → After q other n → (r ≡ q) × (new ≡ other)
       same (Ok x) c d = goes x r q new other f g c d
-      same (Err why) (a, b) (c, d) = (a ∙ sym c, b ∙ sym d)
+      same (Err why) c d = refuses_once why w r q new other c d
 
 -- a reading that isn't refused for want of memory is one of the text alone
 in_memory : {X T : Type 0} {Spells : List ℕ → X → Type 0} {meaning : X → Result T Refusal} {text : List ℕ} (n : Result T Refusal) → n ≢ Err OutOfMemory
     → ReadsInMemory Spells meaning text n → Reads Spells meaning text n
 in_memory n some (inl read) = read
 in_memory n some (inr (x, spelled, is, none)) = absurd (some none)
-
--- likewise, where memory was wanting for no command of a merge either
-abbrev OnceInMemory : {S : Type 0} → (Result Reply Refusal → S → Type 0) → Type 0
-OnceInMemory {S} Step = (r q : Result Reply Refusal) (new other : S) → IsFalse (has_wanted r) → IsFalse (has_wanted q)
-    → Step r new → Step q other → (r ≡ q) × (new ≡ other)
-
-plainly : {S : Type 0} (Step : Result Reply Refusal → S → Type 0) → Once Step → OnceInMemory Step
-plainly Step one r q new other f g p h =
-    one r q new other (neither_is (is_out_of_memory r) _ f).0 (neither_is (is_out_of_memory q) _ g).0 p h
 
 names_once : {A C : Type 0} (Reads : Result A Refusal → Type 0) (make : A → C) → ((n m : Result A Refusal) → Reads n → Reads m → n ≡ m)
     → (r q : Result C Refusal) → MakesOfNamed Reads make r → MakesOfNamed Reads make q → r ≡ q
@@ -160,8 +163,8 @@ module _ (l : Laws) where
   runs_once (c ∷ cs) w [] qs new other f g p h = absurd p
   runs_once (c ∷ cs) w (r ∷ rs) [] new other f g p h = absurd h
   runs_once (c ∷ cs) w (r ∷ rs) (q ∷ qs) new other f g (mid, one, more) (way, two, rest) =
-      let (f0, fs) = neither_is (is_out_of_memory r) (list_any is_out_of_memory rs) f in
-      let (g0, gs) = neither_is (is_out_of_memory q) (list_any is_out_of_memory qs) g in
+      let (f0, fs) = or_parts (is_out_of_memory r) (list_any is_out_of_memory rs) f in
+      let (g0, gs) = or_parts (is_out_of_memory q) (list_any is_out_of_memory qs) g in
       let (same, at) = meets_once (run.Applies c w) (run.may_want c w) w (applies_once c w) r q mid way f0 g0 one two in
       let (others, end) = runs_once cs mid rs qs new other fs gs more (subst (λ v. run.Runs v cs qs other) (sym at) rest) in
       (ap (λ x. x ∷ rs) same ∙ ap (λ xs. q ∷ xs) others, end)
@@ -218,49 +221,36 @@ module _ (l : Laws) where
         (subst (λ z. IsFalse (has_wanted (replied merged z))) is f) (subst (λ z. IsFalse (has_wanted (replied merged z))) at g) p h in
         (is ∙ ap Ok same ∙ sym at, end)
 
-    -- what a merge does with the commands that its texts name
-    abbrev Goes : ℕ → Result Reply Refusal → WorldState → Result (List run.Command) Refusal → Type 0
-    Goes n r new named = MatchResult named (λ cs. Calls (Merges w n cs) merged r new) (λ why. Refuses why w r new)
-
-    goes_once : (n : ℕ) (r q : Result Reply Refusal) (new other : WorldState) → IsFalse (has_wanted r) → IsFalse (has_wanted q)
-        → (named : Result (List run.Command) Refusal) → Goes n r new named → Goes n q other named → (r ≡ q) × (new ≡ other)
-    goes_once n r q new other f g (Err why) (a, b) (c, d) = (a ∙ sym c, b ∙ sym d)
-    goes_once n r q new other f g (Ok cs) (x, one, is) (y, two, at) =
-        let (same, end) = merges_once n cs (may_admit (entities w) n) x y new other (subst (λ z. IsFalse (has_wanted z)) is f)
-        (subst (λ z. IsFalse (has_wanted z)) at g) one two in
-        (is ∙ ap (replied merged) same ∙ sym at, end)
-
     merge_once : (n : ℕ) (ss : List (List WrittenCommand)) (may : Bool)
         → OnceInMemory (Meets (OnCommands w (flat_map (λ s. s) ss) (λ cs. Calls (Merges w n cs) merged)) may w)
     merge_once n ss may r q new other f g p h =
-        let (f0, fs) = neither_is (is_out_of_memory r) _ f in
-        let (g0, gs) = neither_is (is_out_of_memory q) _ g in
-        let (x, one, goes) = rw f0 at p in
-        let (y, two, does) = rw g0 at h in
-        goes_once n r q new other f g x goes (subst (Goes n q other) (sym (commands_once (flat_map (λ s. s) ss) x y one two)) does)
+        on_once has_wanted refl (ReadsCommands w (flat_map (λ s. s) ss)) w (λ cs. Calls (Merges w n cs) merged)
+        (λ x y _ _. commands_once (flat_map (λ s. s) ss) x y)
+        (λ cs. calls_once has_wanted (Merges w n cs) merged (λ x y. merges_once n cs (may_admit (entities w) n) x y)) r q new other f g
+        (rw (or_parts (is_out_of_memory r) _ f).0 at p) (rw (or_parts (is_out_of_memory q) _ g).0 at h)
 
 module _ (l : Laws) (w : WorldState) where
   on_entity : (text : List ℕ) (Goes : Entity → Result Reply Refusal → WorldState → Type 0) → ((x : Entity) → Once (Goes x)) → Once (OnEntity w text Goes)
-  on_entity text Goes = on_once (ReadsEntity w text) w Goes (λ n m _ _. entity_once l w text n m)
+  on_entity text Goes = on_once is_out_of_memory refl (ReadsEntity w text) w Goes (λ n m _ _. entity_once l w text n m)
 
   on_id : (text : List ℕ) (Goes : Id → Result Reply Refusal → WorldState → Type 0) → ((x : Id) → Once (Goes x)) → Once (OnId w text Goes)
-  on_id text Goes = on_once (ReadsId w text) w Goes (λ n m _ _. id_once l w text n m)
+  on_id text Goes = on_once is_out_of_memory refl (ReadsId w text) w Goes (λ n m _ _. id_once l w text n m)
 
   on_query : (text : List ℕ) (Goes : List QuerySlot → Result Reply Refusal → WorldState → Type 0) → ((q : List QuerySlot) → Once (Goes q))
       → Once (OnQuery w text Goes)
   unfolding ReadsQuery
-  on_query text Goes goes = on_once (ReadsQuery w text) w Goes (λ n m p h a b. l.queries (lookup w) text n m (in_memory n p a) (in_memory m h b)) goes
+  on_query text Goes goes = on_once is_out_of_memory refl (ReadsQuery w text) w Goes (λ n m p h a b. l.queries (lookup w) text n m (in_memory n p a) (in_memory m h b)) goes
 
   meets : {A : Type 0} (Step : Result A Refusal → WorldState → Type 0) (may : Bool) (reply : A → Reply)
       → ((r q : Result A Refusal) (new other : WorldState) → Step r new → Step q other → (r ≡ q) × (new ≡ other)) → Once (Calls (Meets Step may w) reply)
-  meets Step may reply one = calls_once (Meets Step may w) reply (meets_once Step may w one)
+  meets Step may reply one = plain_calls (Meets Step may w) reply (meets_once Step may w one)
 
   answered : (x : Reply) → Once (Answers x w)
   answered x r q new other f g = answers_once x w r q new other
 
   show_once : (e : Entity) (alive : Bool) → Once (λ r new. MatchBool alive (Answers (shown e) w r new) (Refuses NotAlive w r new))
   show_once e true r q new other f g c d = answers_once (shown e) w r q new other c d
-  show_once e false r q new other f g (a, b) (c, d) = (a ∙ sym c, b ∙ sym d)
+  show_once e false r q new other f g c d = refuses_once NotAlive w r q new other c d
 
   added_once : (o : Option (List QueryTerm)) → Once (AnswersAdded w o)
   added_once None r q new other f g (a, b) (c, d) = (a ∙ sym c, b ∙ sym d)
@@ -270,7 +260,7 @@ module _ (l : Laws) (w : WorldState) where
   replies_once (step.create name) = plainly _ (meets _ _ _ (l.create name w))
   replies_once (step.component name n) = plainly _ (meets _ _ _ (l.component (Some name) n w))
   replies_once (step.change c) =
-      plainly _ (calls_once (Changes w c) (λ _. done) (on_once (ReadsChange w c) w _ (λ n m _ _. change_once l w c n m)
+      plainly _ (plain_calls (Changes w c) (λ _. done) (on_once is_out_of_memory refl (ReadsChange w c) w _ (λ n m _ _. change_once l w c n m)
       (λ x. meets_once (run.Applies x w) (run.may_want x w) w (applies_once l x w))))
   replies_once (step.has e i) = plainly _ (on_entity e _ (λ x. on_id i _ (λ y. answered _)))
   replies_once (step.get e i) = plainly _ (on_entity e _ (λ x. on_id i _ (λ y. answered _)))
@@ -344,7 +334,7 @@ pub text_once : (l : Laws) (s : ScriptState) (ss : List step.WrittenStep) (t u :
     → TextInMemory s ss t e → TextInMemory s ss u f → (t ≡ u) × (e ≡ f)
 text_once l s [] t u e f plain (p, q) (h, k) = (p ∙ sym h, q ∙ sym k)
 text_once l s (x ∷ xs) t u e f plain (a, rest, m, d, more, p) (b, other, n, g, less, h) =
-    let (one, others) = neither_is (is_frame x) (list_any is_frame xs) plain in
+    let (one, others) = or_parts (is_frame x) (list_any is_frame xs) plain in
     let (first, mid) = does_once l s x a b m n one d g in
     let (same, end) = text_once l m xs rest other e f others more (subst (λ v. TextInMemory v xs other f) (sym mid) less) in
     (p ∙ ap (λ v. v ++ rest) first ∙ ap (λ v. b ++ v) same ∙ sym h, end)

@@ -43,9 +43,20 @@ arity_allowed edition n h = grind arith
 edition_of : (new w : WorldState) → new ≡ w → new.edition ≡ w.edition
 edition_of new w e = ap (λ (v : WorldState). v.edition) e
 
--- where the step leads, the edition is that of this world
+-- where the step leads, the edition is that of this state, or of this world
+abbrev KeepsBy : {A S : Type 0} → (S → Edition) → S → (Result A Refusal → S → Type 0) → Type 0
+KeepsBy {A} {S} of s Step = (r : Result A Refusal) (new : S) → Step r new → of new ≡ of s
+
 abbrev Keeps : {A : Type 0} → WorldState → (Result A Refusal → WorldState → Type 0) → Type 0
-Keeps {A} w Step = (r : Result A Refusal) (new : WorldState) → Step r new → new.edition ≡ w.edition
+Keeps = KeepsBy (λ w. w.edition)
+
+meets_keep : {A S : Type 0} (of : S → Edition) (s : S) (Step : Result A Refusal → S → Type 0) (may : Bool) → KeepsBy of s Step
+    → KeepsBy of s (Meets Step may s)
+meets_keep of s Step may keeps r new =
+    elim (is_out_of_memory r) as (λ b. MatchBool b (IsTrue may × (new ≡ s)) (Step r new) → of new ≡ of s) [
+      | true ↦ λ h. ap of h.1
+      | false ↦ keeps r new
+    ]
 
 module _ (w : WorldState) where
   refuses_keeps : {A : Type 0} (why : Refusal) → Keeps w (Refuses {A = A} why w)
@@ -55,11 +66,7 @@ module _ (w : WorldState) where
   answers_keeps x r new h = edition_of new w h.1
 
   meets_keeps : {A : Type 0} (Step : Result A Refusal → WorldState → Type 0) (may : Bool) → Keeps w Step → Keeps w (Meets Step may w)
-  meets_keeps Step may keeps r new =
-      elim (is_out_of_memory r) as (λ b. MatchBool b (IsTrue may × (new ≡ w)) (Step r new) → new.edition ≡ w.edition) [
-        | true ↦ λ h. edition_of new w h.1
-        | false ↦ keeps r new
-      ]
+  meets_keeps Step may keeps = meets_keep (λ v. v.edition) w Step may keeps
 
   calls_keeps : {A : Type 0} (Call : Result A Refusal → WorldState → Type 0) (reply : A → Reply) → Keeps w Call → Keeps w (Calls Call reply)
   calls_keeps Call reply keeps r new (x, c, is) = keeps x new c
@@ -117,10 +124,6 @@ module _ (w : WorldState) where
   command_keeps : (c : run.Command) → Keeps w (Meets (run.Applies c w) (run.may_want c w) w)
   command_keeps c = meets_keeps (run.Applies c w) (run.may_want c w) (applies_keeps c)
 
-  show_keeps : (alive : Bool) (x : Reply) (why : Refusal) → Keeps w (λ r new. MatchBool alive (Answers x w r new) (Refuses why w r new))
-  show_keeps true x why r new h = edition_of new w h.1
-  show_keeps false x why r new h = edition_of new w h.1
-
   added_keeps : (o : Option (List QueryTerm)) → Keeps w (AnswersAdded w o)
   added_keeps None = refuses_keeps _
   added_keeps (Some slots) = meets_keeps _ _ (answers_keeps _)
@@ -146,7 +149,7 @@ replies_keep w (step.component name n) =
 replies_keep w (step.change c) = calls_keeps w _ _ (on_keeps w _ _ (command_keeps w))
 replies_keep w (step.has e i) = on_keeps w _ _ (λ x. on_keeps w _ _ (λ y. answers_keeps w _))
 replies_keep w (step.get e i) = on_keeps w _ _ (λ x. on_keeps w _ _ (λ y. answers_keeps w _))
-replies_keep w (step.show e) = on_keeps w _ _ (λ x. show_keeps w (is_alive w x) (shown x) _)
+replies_keep w (step.show e) = on_keeps w _ _ (λ x. bool_keeps w (is_alive w x) _ _ (answers_keeps w (shown x)) (refuses_keeps w _))
 replies_keep w step.list = meets_keeps w _ _ (answers_keeps w _)
 replies_keep w (step.query text) = on_keeps w _ _ (λ q. meets_keeps w _ _ (answers_keeps w _))
 replies_keep w (step.cache text) = on_keeps w _ _ (λ q. calls_keeps w _ _ (meets_keeps w _ _ (λ r new h. ap (λ (v : WorldState). v.edition) h.1)))
@@ -170,37 +173,24 @@ frames_keep : (w : WorldState) (systems : List SystemModel) (x : Result FrameDon
 frames_keep w systems (Ok r) new (draws, (batches, are, turns), count, drawn) = turns_keep batches draws w r.outcomes new turns
 frames_keep w systems (Err stop) new (draws, outcomes, (ran, rest, are, turns, none), count) = turns_keep ran draws w outcomes new turns
 
-frame_keeps : (s new : ScriptState) (x : Result FrameDone FrameStop) → RunsFrame s x new ⊎ StopsAtOnce s x new → new.world.edition ≡ s.world.edition
-frame_keeps s new x (inl h) = frames_keep s.world (map (λ d. d.system) s.systems) x new.world h.0
-frame_keeps s new x (inr h) = ap (λ (t : ScriptState). t.world.edition) h.1
-
--- the step is met, or nothing has changed
-met : {A S : Type 0} (Step : Result A Refusal → S → Type 0) (may : Bool) (old : S) (r : Result A Refusal) (new : S) → Meets Step may old r new
-    → (new ≡ old) ⊎ Step r new
-met Step may old r new = elim (is_out_of_memory r) as (λ b. MatchBool b (IsTrue may × (new ≡ old)) (Step r new) → (new ≡ old) ⊎ Step r new) [
-  | true ↦ λ h. inl h.1
-  | false ↦ λ h. inr h
-]
+declared_edition : (s : ScriptState) (d : Result NamedSystem Refusal) → (with_declared s d).world.edition ≡ s.world.edition
+declared_edition s (Ok system) = refl
+declared_edition s (Err why) = refl
 
 -- a system is declared, or refused
 abbrev Declared : ScriptState → List ℕ → Phase → List ℕ → List texts.WrittenAction → Result Reply Refusal → ScriptState → Type 0
 Declared s name phase text actions r new =
     (d : Result NamedSystem Refusal) × ReadsSystem s name phase text actions d × (r ≡ replied (λ _. done) d) × (new ≡ with_declared s d)
 
-declared_world : (s : ScriptState) (d : Result NamedSystem Refusal) → (with_declared s d).world ≡ s.world
-declared_world s (Ok system) = refl
-declared_world s (Err why) = refl
-
-declares_keep : (name : List ℕ) (phase : Phase) (text : List ℕ) (actions : List texts.WrittenAction) (s : ScriptState) (r : Result Reply Refusal)
-    (new : ScriptState) → (new ≡ s) ⊎ Declared s name phase text actions r new → new.world.edition ≡ s.world.edition
-declares_keep name phase text actions s r new (inl is) = ap (λ (t : ScriptState). t.world.edition) is
-declares_keep name phase text actions s r new (inr (d, reads, says, is)) =
-    ap (λ (t : ScriptState). t.world.edition) is ∙ edition_of (with_declared s d).world s.world (declared_world s d)
+declares_keep : (s : ScriptState) (name : List ℕ) (phase : Phase) (text : List ℕ) (actions : List texts.WrittenAction)
+    → KeepsBy (λ t. t.world.edition) s (Declared s name phase text actions)
+declares_keep s name phase text actions r new (d, reads, says, is) = ap (λ (t : ScriptState). t.world.edition) is ∙ declared_edition s d
 
 -- a step of a script, whichever it is
 pub step_keeps : (s : step.WrittenStep) (old : ScriptState) (r : Result Reply Refusal) (new : ScriptState) → StepReplies old s r new
     → new.world.edition ≡ old.world.edition
 step_keeps (step.system name phase text actions) old r new h =
-    declares_keep name phase text actions old r new (met (Declared old name phase text actions) true old r new h)
-step_keeps step.frame old r new h = frame_keeps old new h.0 h.1
+    meets_keep (λ t. t.world.edition) old (Declared old name phase text actions) true (declares_keep old name phase text actions) r new h
+step_keeps step.frame old r new (x, inl h, is) = frames_keep old.world (map (λ d. d.system) old.systems) x new.world h.0
+step_keeps step.frame old r new (x, inr h, is) = ap (λ (t : ScriptState). t.world.edition) h.1
 step_keeps s old r new h = replies_keep old.world s r new.world h.0

@@ -1,45 +1,38 @@
 -- Each step has some answer on every world: what it can't be done for, what it is done with, or that memory was wanting.
-use Rattle.std.proofs.Common.{◌≡◌, ℕ, Bool, true, false, not, ◌&&◌, List, [], ◌∷◌, map, Option, Some, None, Result, Ok, Err, is_some, inl, inr, refl, MatchBool}
-use Rattle.std.proofs.Common.{arith, slice_get}
+use Rattle.std.proofs.Common.{◌≡◌, ℕ, Bool, true, false, not, ◌&&◌, List, [], ◌∷◌, map, Option, Some, None, Result, Ok, Err, is_some, inr, refl, ap}
+use Rattle.std.proofs.Common.{arith, slice_get, inl, IsTrue, MatchBool, MatchOption}
 use Rattle.std.specs.List.{list_all}
 use Rattle.eco_ids.specs.declared.entity.Entity.{Entity}
 use Rattle.eco_ids.specs.declared.id.Id.{Id}
 use Rattle.eco_ids.specs.declared.refusal.Refusal.{Refusal}
-use Rattle.eco_ids.specs.declared.refusal.Refusal.TheVariants.{NotAlive, DeadId, Reserved, NotData, TooWide, BadName, NameTaken}
+use Rattle.eco_ids.specs.declared.refusal.Refusal.TheVariants.{NotAlive, DeadId, Reserved, NotData, TooWide, BadName, NameTaken, Taken}
 use Rattle.eco_ids.specs.declared.refusal.Refusal.TheVariants.{NoMoreIds, NoSuchQuery, OutOfMemory}
 use Rattle.eco_ids.specs.Answer.{answer}
 use Rattle.eco_answers.specs.Answers.{asked}
-use Rattle.eco_ids.specs.Births.{Creates, may_admit, may_create, MakesComponent, may_make_component, unfit_name}
-use Rattle.eco_ids.specs.Delete.{DeletesOne, may_delete, DeletesWith, may_delete_with}
-use Rattle.eco_ids.specs.Indices.{next_entity}
-use Rattle.eco_ids.specs.Indices as indexed
-use Rattle.eco_ids.specs.Losses.{without, nobody}
-use Rattle.eco_ids.specs.Mirrors.{goes_too}
-use Rattle.eco_ids.specs.Order.{entity_eq, id_eq}
-use Rattle.eco_ids.specs.Outcome.{first_refusal, is_out_of_memory, Refuses, Answers, Meets}
-use Rattle.eco_ids.specs.Step.{Adds, may_add, Sets, may_set, Removes, may_remove, Clears, may_clear, RemovesAll, may_remove_all, Renames, may_rename, is_reserved, unfit}
-use Rattle.eco_ids.specs.Step.{unfit_set, unfit_actor, unfit_rename, changed, with_value, with_name, own_name}
+use Rattle.eco_ids.specs.Births.{Makes, MakesAliveWith, bare, component_record, may_admit, may_make}
 use Rattle.eco_ids.specs.Builtin.{is_builtin, is_builtins}
 use Rattle.eco_ids.specs.Data.{arity, fits}
-use Rattle.eco_ids.specs.declared.value.Value.{Value}
+use Rattle.eco_ids.specs.Indices.{Indexed, admitted, is_free_at, next_entity, with_new}
+use Rattle.eco_ids.specs.Names.{lookup, is_borne, is_proper, is_taken, is_same_name}
+use Rattle.eco_ids.specs.Outcome.{first_refusal, is_out_of_memory, Refuses, Answers, Meets}
+use Rattle.eco_ids.specs.Renaming.{RenamesWith}
 use Rattle.eco_ids.specs.Run as run
+use Rattle.eco_ids.specs.Step.{Extends, changed, has_ids, is_held, is_reserved, own_name, unchanged, unfit_actor, with_name, with_value}
 use Rattle.eco_ids.specs.Terms.{QueryTerm}
-use Rattle.eco_ids.specs.World.{WorldState, has, names_living, is_alive, living, entities, with_entities}
+use Rattle.eco_ids.specs.World.{WorldState, Record, OnEntities, has, names_living, is_alive, living, entities, with_entities}
 use Rattle.eco_grammar.specs.Grammar.{SpellsId, SpellsQuery, SpellsRef}
 use Rattle.eco_query.specs.Queries.{QuerySlot}
-use Rattle.eco_grammar.specs.Readings.{ReadsAll, entity_of_placed, id_of, ok_both, query_of}
+use Rattle.eco_grammar.specs.Readings.{ReadsAll, entity_of_placed, id_of, ok_both, ok_map, query_of}
 use Rattle.eco_frame.specs.declared.stop.FrameStop.{FrameStop}
 use Rattle.eco_script.specs.States.{ScriptState}
-use Rattle.eco_script.specs.Recording.{MakesOfNamed}
+use Rattle.eco_script.specs.Recording.{MakesOfNamed, ReadsChange}
 use Rattle.eco_script.specs.References.{ReadsBoth, ReadsEntity, ReadsId, ReadsQuery}
-use Rattle.eco_script.specs.Replies.{Reply, truth, got, shown, listed, found, merged, stopped, replied, AnswersAdded, Calls, On, OnEntity, OnId, OnQuery}
-use Rattle.eco_script.specs.Replies.{Changes, Replies, StepReplies}
+use Rattle.eco_script.specs.Replies.{Reply, truth, got, shown, listed, found, merged, stopped, replied, AnswersAdded, Calls, On, Replies, StepReplies}
 use Rattle.eco_steps.specs.Commands.{WrittenChange}
 use Rattle.eco_steps.specs.Commands as change
 use Rattle.eco_steps.specs.Steps as step
 use Rattle.eco_script.specs.Text.{Does, step_lines}
 use Rattle.eco_script.specs.Values.{shown_value}
-use Rattle.eco_ids.specs.Names.{lookup, is_proper, is_taken, is_same_name}
 
 -- some answer, and some state after it
 abbrev Ends : {A S : Type 0} → (Result A Refusal → S → Type 0) → Type 0
@@ -59,92 +52,81 @@ plain_refusal [] p why e = cc
 plain_refusal ((true, x) ∷ cs) p why e = grind arith
 plain_refusal ((false, x) ∷ cs) p why e = grind (arith, plain_refusal cs)
 
--- the call is refused, or it goes on
-unless : {A : Type 0} (Step : Result A Refusal → WorldState → Type 0) (may : Bool) (w : WorldState) (o : Option Refusal)
-    → ((why : Refusal) → o ≡ Some why → is_plain why ≡ true)
-    → ((why : Refusal) → o ≡ Some why → Step (Err why) w)
-    → (o ≡ None → Ends (Meets Step may w)) → Ends (Meets Step may w)
-unless Step may w None plain refused goes = goes refl
-unless {A} Step may w (Some why) plain refused goes = (Err why, w, rw (plain_error A why (plain why refl)) (refused why refl))
+-- refused by the first of some tests, or it goes on
+first_ends : {A S : Type 0} (cs : List (Bool × Refusal)) → list_all (λ c. is_plain c.1) cs ≡ true → (Later : Result A Refusal → S → Type 0)
+    (may later : Bool) (s : S) → (first_refusal cs ≡ None → may ≡ later) → Ends (Meets Later later s)
+    → Ends (Meets (λ r new. MatchOption (first_refusal cs) (Later r new) (λ why. Refuses why s r new)) may s)
+first_ends {A} {S} cs plain Later may later s same ends = which (first_refusal cs) refl where
+  which : (o : Option Refusal) → first_refusal cs ≡ o → Ends (Meets (λ r new. MatchOption o (Later r new) (λ why. Refuses why s r new)) may s)
+  which None at = rw (same at) ends
+  which (Some why) at = (Err why, s, rw (plain_error A why (plain_refusal cs plain why at)) (refl, refl))
 
--- it may want memory, and finds none
-wanting : {A : Type 0} (Step : Result A Refusal → WorldState → Type 0) (may : Bool) (w : WorldState) → may ≡ true → Ends (Meets Step may w)
-wanting Step may w e = (Err OutOfMemory, w, (e, refl))
+-- likewise by a test of built-ins alone
+builtin_ends : (w : WorldState) (Later : Result (Unit {0}) Refusal → WorldState → Type 0) (builtin may later : Bool)
+    → (builtin ≡ false → may ≡ later) → Ends (Meets Later later w)
+    → Ends (Meets (λ r new. MatchBool builtin (Refuses Reserved w r new) (Later r new)) may w)
+builtin_ends w Later true may later same ends = (Err Reserved, w, (refl, refl))
+builtin_ends w Later false may later same ends = rw (same refl) ends
 
-create_ends : (w : WorldState) (name : Option (List ℕ)) → Ends (Meets (Creates w name) (may_create w name) w)
-create_ends w name =
-    unless (Creates w name) (may_create w name) w (unfit_name (λ r. r.name) (entities w) name)
-    (plain_refusal ((not (is_proper name), BadName) ∷ (is_taken w name, NameTaken) ∷ []) refl) (λ why e. (entities w, rw e (refl, refl), refl))
-    (λ fit. next (next_entity (entities w)) refl fit) where
-      next : (o : Option Entity) → next_entity (entities w) ≡ o → unfit_name (λ r. r.name) (entities w) name ≡ None
-          → Ends (Meets (Creates w name) (may_create w name) w)
-      next None e fit = (Err NoMoreIds, w, (entities w, rw (fit, e) (refl, refl), refl))
-      next (Some x) e fit = wanting (Creates w name) (may_create w name) w (rw (fit, e) refl)
+-- what is done at once, or may want memory and finds none
+once_ends : (w after : WorldState) (Later : Result (Unit {0}) Refusal → WorldState → Type 0) (b : Bool)
+    → Ends (Meets (λ r new. MatchBool b (Answers tt after r new) (Later r new)) (not b) w)
+once_ends w after Later true = (Ok tt, after, (refl, refl))
+once_ends w after Later false = (Err OutOfMemory, w, (refl, refl))
 
-component_ends : (w : WorldState) (name : Option (List ℕ)) (n : ℕ) → Ends (Meets (MakesComponent w name n) (may_make_component w name) w)
-component_ends w name n =
-    unless (MakesComponent w name n) (may_make_component w name) w (unfit_name (λ r. r.name) (entities w) name)
-    (plain_refusal ((not (is_proper name), BadName) ∷ (is_taken w name, NameTaken) ∷ []) refl) (λ why e. (entities w, rw e (refl, refl), refl))
-    (λ fit. next (next_entity (entities w)) refl fit) where
-      next : (o : Option Entity) → next_entity (entities w) ≡ o → unfit_name (λ r. r.name) (entities w) name ≡ None
-          → Ends (Meets (MakesComponent w name n) (may_make_component w name) w)
-      next None e fit = (Err NoMoreIds, w, (entities w, rw (fit, e) (refl, refl), refl))
-      next (Some x) e fit = wanting (MakesComponent w name n) (may_make_component w name) w (rw (fit, e) refl)
+-- what is done with the entities is done with the world
+entities_end : {A : Type 0} (Step : Indexed Record → Result A Refusal → Indexed Record → Type 0) (may : Bool) (w : WorldState)
+    → Ends (Meets (Step (entities w)) may (entities w)) → Ends (Meets (OnEntities Step w) may w)
+entities_end Step may w (r, new, met) = (
+  r,
+  with_entities w new,
+  elim (is_out_of_memory r) as (λ b. MatchBool b (IsTrue may × (new ≡ entities w)) (Step (entities w) r new)
+      → MatchBool b (IsTrue may × (with_entities w new ≡ w)) (OnEntities Step w r (with_entities w new))) [
+        | true ↦ λ h. (h.0, ap (with_entities w) h.1)
+        | false ↦ λ h. (new, h, refl)
+      ] met,
+)
 
-add_ends : (w : WorldState) (e : Entity) (i : Id) → Ends (Meets (Adds w e i) (may_add w e i) w)
-add_ends w e i =
-    unless (Adds w e i) (may_add w e i) w (unfit w e i)
-    (plain_refusal ((not (is_alive w e), NotAlive) ∷ (is_reserved w e i, Reserved) ∷ (not (names_living w i), DeadId) ∷ []) refl) (λ why eq. rw eq (refl, refl))
-    (λ fit. there (has w e i) refl fit) where
-      there : (b : Bool) → has w e i ≡ b → unfit w e i ≡ None → Ends (Meets (Adds w e i) (may_add w e i) w)
-      there true h fit = (Ok tt, w, rw (fit, h) (refl, refl))
-      there false h fit = wanting (Adds w e i) (may_add w e i) w (rw (fit, h) refl)
+makes_end : (v : Indexed Record) (d : Record) → Ends (Meets (Makes (λ r. r.name) v d) (may_make (λ r. r.name) v d.name) v)
+makes_end v d =
+    first_ends ((not (is_proper d.name), BadName) ∷ (is_borne (λ r. r.name) v d.name, NameTaken) ∷ []) refl
+    (λ r new. MatchOption (next_entity v) (Refuses NoMoreIds v r new) (λ e. Answers e (with_new v e d) r new)) _ (is_some (next_entity v)) v
+    (λ fit. rw fit refl) (next (next_entity v)) where
+      next : (o : Option Entity) → Ends (Meets (λ r new. MatchOption o (Refuses NoMoreIds v r new) (λ e. Answers e (with_new v e d) r new)) (is_some o) v)
+      next None = (Err NoMoreIds, v, (refl, refl))
+      next (Some x) = (Err OutOfMemory, v, (refl, refl))
 
-set_ends : (w : WorldState) (e : Entity) (i : Id) (v : Value) → Ends (Meets (Sets w e i v) (may_set w e i v) w)
-set_ends w e i v =
-    unless (Sets w e i v) (may_set w e i v) w (unfit_set w e i v)
-    (plain_refusal ((not (is_alive w e), NotAlive) ∷ (is_reserved w e i, Reserved) ∷ (not (names_living w i), DeadId)
-    ∷ (not (is_some (arity w i)), NotData) ∷ (not (fits w i v), TooWide) ∷ []) refl) (λ why eq. rw eq (refl, refl)) (λ fit. there (has w e i) refl fit) where
-      there : (b : Bool) → has w e i ≡ b → unfit_set w e i v ≡ None → Ends (Meets (Sets w e i v) (may_set w e i v) w)
-      there true h fit = (Ok tt, changed w e (with_value i v), rw (fit, h) (refl, refl))
-      there false h fit = wanting (Sets w e i v) (may_set w e i v) w (rw (fit, h) refl)
+alive_ends : (v after : Indexed Record) (free : Bool)
+    → Ends (Meets (λ r new. MatchBool free (Answers {A = Unit {0}} tt after r new) (Refuses Taken v r new)) free v)
+alive_ends v after true = (Err OutOfMemory, v, (refl, refl))
+alive_ends v after false = (Err Taken, v, (refl, refl))
 
-remove_ends : (w : WorldState) (e : Entity) (i : Id) → Ends (Meets (Removes w e i) (may_remove w e i) w)
-remove_ends w e i =
-    unless (Removes w e i) (may_remove w e i) w (unfit_actor w e)
-    (plain_refusal ((not (is_alive w e), NotAlive) ∷ (is_builtin w e, Reserved) ∷ []) refl) (λ why eq. rw eq (refl, refl))
-    (λ fit. (Ok tt, without w nobody (goes_too w (λ x j. entity_eq x e && id_eq j i)), rw fit (refl, refl)))
+actor_ends : (w : WorldState) (e : Entity) (Later : Result (Unit {0}) Refusal → WorldState → Type 0) (may later : Bool)
+    → (unfit_actor w e ≡ None → may ≡ later) → Ends (Meets Later later w)
+    → Ends (Meets (λ r new. MatchOption (unfit_actor w e) (Later r new) (λ why. Refuses why w r new)) may w)
+actor_ends w e Later may later = first_ends ((not (is_alive w e), NotAlive) ∷ (is_builtin w e, Reserved) ∷ []) refl Later may later w
 
-clear_ends : (w : WorldState) (e : Entity) → Ends (Meets (Clears w e) (may_clear w e) w)
-clear_ends w e =
-    unless (Clears w e) (may_clear w e) w (unfit_actor w e)
-    (plain_refusal ((not (is_alive w e), NotAlive) ∷ (is_builtin w e, Reserved) ∷ []) refl) (λ why eq. rw eq (refl, refl))
-    (λ fit. (Ok tt, without w nobody (goes_too w (λ x j. entity_eq x e)), rw fit (refl, refl)))
-
-remove_all_ends : (w : WorldState) (i : Id) → Ends (Meets (RemovesAll w i) (may_remove_all w i) w)
-remove_all_ends w i = which (is_builtins w i) refl where
-  which : (b : Bool) → is_builtins w i ≡ b → Ends (Meets (RemovesAll w i) (may_remove_all w i) w)
-  which true e = (Err Reserved, w, rw e (refl, refl))
-  which false e = (Ok tt, without w nobody (goes_too w (λ x j. id_eq j i)), rw e (refl, refl))
-
-delete_ends : (w : WorldState) (e : Entity) → Ends (Meets (DeletesOne w e) (may_delete w e) w)
-delete_ends w e =
-    unless (DeletesOne w e) (may_delete w e) w (unfit_actor w e)
-    (plain_refusal ((not (is_alive w e), NotAlive) ∷ (is_builtin w e, Reserved) ∷ []) refl) (λ why eq. rw eq (refl, refl))
-    (λ fit. wanting (DeletesOne w e) (may_delete w e) w (rw fit refl))
-
-delete_with_ends : (w : WorldState) (i : Id) → Ends (Meets (DeletesWith w i) (may_delete_with w i) w)
-delete_with_ends w i = which (is_builtins w i) refl where
-  which : (b : Bool) → is_builtins w i ≡ b → Ends (Meets (DeletesWith w i) (may_delete_with w i) w)
-  which true e = (Err Reserved, w, rw e (refl, refl))
-  which false e = wanting (DeletesWith w i) (may_delete_with w i) w (rw e refl)
-
-rename_ends : (w : WorldState) (e : Entity) (name : Option (List ℕ)) → Ends (Meets (Renames w e name) (may_rename w e name) w)
-rename_ends w e name =
-    unless (Renames w e name) (may_rename w e name) w (unfit_rename w e name)
-    (plain_refusal ((not (is_alive w e), NotAlive) ∷ (is_builtin w e, Reserved) ∷ (not (is_proper name), BadName)
-    ∷ (not (is_same_name (own_name w e) name) && is_taken w name, NameTaken) ∷ []) refl) (λ why eq. (entities w, rw eq (refl, refl), refl))
-    (λ fit. (Ok tt, changed w e (with_name name), (indexed.changed (entities w) e (with_name name), rw fit (refl, refl), refl)))
+applies_end : (w : WorldState) (c : run.Command) → Ends (Meets (run.Applies c w) (run.may_want c w) w)
+applies_end w (run.Create e) = entities_end (λ v. MakesAliveWith v e (bare None)) _ w (alive_ends (entities w) _ (is_free_at (entities w) e))
+applies_end w (run.Add e i) =
+    first_ends ((not (is_alive w e), NotAlive) ∷ (is_reserved w e i, Reserved) ∷ (not (names_living w i), DeadId) ∷ []) refl _ _ (not (has w e i)) w
+    (λ fit. rw fit refl) (once_ends w w (Extends w e i unchanged) (has w e i))
+applies_end w (run.Set e i v) =
+    first_ends
+    ((not (is_alive w e), NotAlive) ∷ (is_reserved w e i, Reserved) ∷ (not (names_living w i), DeadId) ∷ (not (is_some (arity w i)), NotData)
+    ∷ (not (fits w i v), TooWide) ∷ []) refl _ _ (not (has w e i)) w (λ fit. rw fit refl)
+    (once_ends w (changed w e (with_value i v)) (Extends w e i (with_value i v)) (has w e i))
+applies_end w (run.Remove e i) = actor_ends w e _ _ (has w e i) (λ fit. rw fit refl) (Ok tt, _, (refl, refl))
+applies_end w (run.Clear e) = actor_ends w e _ _ (has_ids w e) (λ fit. rw fit refl) (Ok tt, _, (refl, refl))
+applies_end w (run.Delete e) = actor_ends w e _ _ true (λ fit. rw fit refl) (Err OutOfMemory, w, (refl, refl))
+applies_end w (run.DeleteWith i) = builtin_ends w _ (is_builtins w i) _ true (λ is. rw is refl) (Err OutOfMemory, w, (refl, refl))
+applies_end w (run.RemoveAll i) = builtin_ends w _ (is_builtins w i) _ (is_held w i) (λ is. rw is refl) (Ok tt, _, (refl, refl))
+applies_end w (run.Rename e name) =
+    entities_end (λ v. RenamesWith (λ r. r.name) with_name v e (is_builtin w e) name) _ w
+    (first_ends
+    ((not (is_alive w e), NotAlive) ∷ (is_builtin w e, Reserved) ∷ (not (is_proper name), BadName)
+    ∷ (not (is_same_name (own_name w e) name) && is_taken w name, NameTaken) ∷ []) refl _ _
+    (is_some name && not (is_same_name (own_name w e) name)) (entities w) (λ fit. rw fit refl) (Ok tt, _, (refl, refl)))
 
 show_ends : (w : WorldState) (e : Entity) (b : Bool)
     → Ends (λ r new. MatchBool b (Answers (shown e) w r new) (Refuses NotAlive w r new))
@@ -166,10 +148,15 @@ on_ends Reads w Goes (Err why, is) goes = (Err why, w, (Err why, is, (refl, refl
 -- a merge of no stage only makes indices known
 empty_merge_ends : (w : WorldState) (n : ℕ) (b : Bool) → may_admit (entities w) n ≡ b → Ends (Replies w (step.merge n []))
 empty_merge_ends w n true e =
-    let after = with_entities w (indexed.admitted n (entities w)) in (Ok (merged []), after, (Ok [], refl, (Ok [], rw e ([], refl, refl), refl)))
+    let after = with_entities w (admitted n (entities w)) in (Ok (merged []), after, (Ok [], refl, (Ok [], rw e ([], refl, refl), refl)))
 empty_merge_ends w n false e = (Err NoMoreIds, w, (Ok [], refl, (Err NoMoreIds, rw e (refl, refl), refl)))
 
 -- a step on the world alone
+abbrev is_of_world : step.WrittenStep → Bool
+is_of_world (step.system name phase text actions) = false
+is_of_world step.frame = false
+is_of_world _ = true
+
 of_world : (old : ScriptState) (s : step.WrittenStep) → Ends (Replies old.world s)
     → Ends (λ r (new : ScriptState). Replies old.world s r new.world × (new.systems ≡ old.systems))
 of_world old s (r, new, p) = (r, record { world = new; systems = old.systems }, (p, refl))
@@ -193,61 +180,50 @@ module _ (texts : TextsRead) where
   unfolding ReadsQuery
   reads_query w text = let (n, is) = texts.queries (lookup w) text in (n, inl is)
 
-  -- a change whose texts were read in some way
-  module _ (w : WorldState) where
-    named_ends : {A : Type 0} (Reads : Result A Refusal → Type 0) (make : A → run.Command) → ((n : Result A Refusal) × Reads n)
-        → ((x : A) → Ends (Meets (run.Applies (make x) w) (run.may_want (make x) w) w))
-        → Ends (On (MakesOfNamed Reads make) w (λ c. Meets (run.Applies c w) (run.may_want c w) w))
-    named_ends Reads make (Ok x, is) ends = let (r, new, met) = ends x in (r, new, (Ok (make x), (Ok x, is, refl), met))
-    named_ends Reads make (Err why, is) ends = (Err why, w, (Err why, (Err why, is, refl), (refl, refl)))
+  reads_both : (w : WorldState) (e i : List ℕ) → (n : Result (Entity × Id) Refusal) × ReadsBoth w e i n
+  reads_both w e i =
+      let (x, is) = reads_entity w e in
+      let (y, of) = reads_id w i in
+      (ok_both (λ a b. (a, b)) x y, (x, y, is, of, refl))
 
-    reads_both : (e i : List ℕ) → (n : Result (Entity × Id) Refusal) × ReadsBoth w e i n
-    reads_both e i =
-        let (x, is) = reads_entity w e in
-        let (y, of) = reads_id w i in
-        (ok_both (λ a b. (a, b)) x y, (x, y, is, of, refl))
+  made : {A C : Type 0} (Reads : Result A Refusal → Type 0) (make : A → C) → ((n : Result A Refusal) × Reads n)
+      → (r : Result C Refusal) × MakesOfNamed Reads make r
+  made Reads make (n, is) = (ok_map make n, (n, is, refl))
 
-    change_ends : (c : WrittenChange) → Ends (Changes w c)
-    change_ends (change.add e i) = named_ends _ _ (reads_both e i) (λ p. add_ends w p.0 p.1)
-    change_ends (change.remove e i) = named_ends _ _ (reads_both e i) (λ p. remove_ends w p.0 p.1)
-    change_ends (change.set e i v) = named_ends _ _ (reads_both e i) (λ p. set_ends w p.0 p.1 v)
-    change_ends (change.clear e) = named_ends _ _ (reads_entity w e) (clear_ends w)
-    change_ends (change.rename e name) = named_ends _ _ (reads_entity w e) (λ x. rename_ends w x name)
-    change_ends (change.delete e) = named_ends _ _ (reads_entity w e) (delete_ends w)
-    change_ends (change.delete_with i) = named_ends _ _ (reads_id w i) (delete_with_ends w)
-    change_ends (change.remove_all i) = named_ends _ _ (reads_id w i) (remove_all_ends w)
+  reads_change : (w : WorldState) (c : WrittenChange) → (r : Result run.Command Refusal) × ReadsChange w c r
+  reads_change w (change.add e i) = made _ _ (reads_both w e i)
+  reads_change w (change.remove e i) = made _ _ (reads_both w e i)
+  reads_change w (change.set e i v) = made _ _ (reads_both w e i)
+  reads_change w (change.clear e) = made _ _ (reads_entity w e)
+  reads_change w (change.rename e name) = made _ _ (reads_entity w e)
+  reads_change w (change.delete e) = made _ _ (reads_entity w e)
+  reads_change w (change.delete_with i) = made _ _ (reads_id w i)
+  reads_change w (change.remove_all i) = made _ _ (reads_id w i)
 
-  on_entity : (w : WorldState) (text : List ℕ) (Goes : Entity → Result Reply Refusal → WorldState → Type 0)
-      → ((x : Entity) → Ends (Goes x)) → Ends (OnEntity w text Goes)
-  on_entity w text Goes goes = on_ends (ReadsEntity w text) w Goes (reads_entity w text) goes
-
-  on_id : (w : WorldState) (text : List ℕ) (Goes : Id → Result Reply Refusal → WorldState → Type 0)
-      → ((x : Id) → Ends (Goes x)) → Ends (OnId w text Goes)
-  on_id w text Goes goes = on_ends (ReadsId w text) w Goes (reads_id w text) goes
-
-  on_query : (w : WorldState) (text : List ℕ) (Goes : List QuerySlot → Result Reply Refusal → WorldState → Type 0)
-      → ((q : List QuerySlot) → Ends (Goes q)) → Ends (OnQuery w text Goes)
-  on_query w text Goes goes = on_ends (ReadsQuery w text) w Goes (reads_query w text) goes
+  replies_end : (w : WorldState) (s : step.WrittenStep) → IsTrue (is_of_world s) → Ends (Replies w s)
+  replies_end w (step.create name) _ = calls_end _ _ (entities_end (λ v. Makes (λ r. r.name) v (bare name)) _ w (makes_end (entities w) (bare name)))
+  replies_end w (step.component name n) _ =
+      let d = component_record (Some name) n in calls_end _ _ (entities_end (λ v. Makes (λ r. r.name) v d) _ w (makes_end (entities w) d))
+  replies_end w (step.change c) _ = calls_end _ _ (on_ends (ReadsChange w c) w _ (reads_change w c) (applies_end w))
+  replies_end w (step.has e i) _ =
+      on_ends _ w _ (reads_entity w e) (λ x. on_ends _ w _ (reads_id w i) (λ y. (Ok (truth (has w x y)), w, (refl, refl))))
+  replies_end w (step.get e i) _ =
+      on_ends _ w _ (reads_entity w e) (λ x. on_ends _ w _ (reads_id w i) (λ y. (Ok (got (shown_value w x y)), w, (refl, refl))))
+  replies_end w (step.show e) _ = on_ends _ w _ (reads_entity w e) (λ x. show_ends w x (is_alive w x))
+  replies_end w step.list _ = (Ok (listed (map (λ p. p.0) (living w))), w, (refl, refl))
+  replies_end w (step.query text) _ = on_ends _ w _ (reads_query w text) (λ q. (Ok (found (answer w (asked q))), w, (refl, refl)))
+  replies_end w (step.cache text) _ = on_ends _ w _ (reads_query w text) (λ q. calls_end _ _ (Err OutOfMemory, w, (refl, refl)))
+  replies_end w (step.cached n) _ = added_ends w (slice_get w.queries n)
+  replies_end w (step.merge n []) _ = empty_merge_ends w n (may_admit (entities w) n) refl
+  replies_end w (step.merge n (s ∷ ss)) _ = (Err OutOfMemory, w, (refl, refl))
+  replies_end w (step.system name phase text actions) never = cc
+  replies_end w step.frame never = cc
 
   step_ends : (old : ScriptState) (s : step.WrittenStep) → Ends (StepReplies old s)
-  step_ends old (step.create name) = of_world old (step.create name) (calls_end _ _ (create_ends old.world name))
-  step_ends old (step.component name n) = of_world old (step.component name n) (calls_end _ _ (component_ends old.world (Some name) n))
-  step_ends old (step.change c) = of_world old (step.change c) (calls_end _ _ (change_ends old.world c))
-  step_ends old (step.has e i) =
-      of_world old (step.has e i) (on_entity old.world e _ (λ x. on_id old.world i _ (λ y. (Ok (truth (has old.world x y)), old.world, (refl, refl)))))
-  step_ends old (step.get e i) =
-      of_world old (step.get e i) (on_entity old.world e _ (λ x. on_id old.world i _ (λ y. (Ok (got (shown_value old.world x y)), old.world, (refl, refl)))))
-  step_ends old (step.show e) = of_world old (step.show e) (on_entity old.world e _ (λ x. show_ends old.world x (is_alive old.world x)))
-  step_ends old step.list = of_world old step.list (Ok (listed (map (λ p. p.0) (living old.world))), old.world, (refl, refl))
-  step_ends old (step.query text) =
-      of_world old (step.query text) (on_query old.world text _ (λ q. (Ok (found (answer old.world (asked q))), old.world, (refl, refl))))
-  step_ends old (step.cache text) = of_world old (step.cache text) (on_query old.world text _ (λ q. calls_end _ _ (Err OutOfMemory, old.world, (refl, refl))))
-  step_ends old (step.cached n) = of_world old (step.cached n) (added_ends old.world (slice_get old.world.queries n))
-  step_ends old (step.merge n []) = of_world old (step.merge n []) (empty_merge_ends old.world n (may_admit (entities old.world) n) refl)
-  step_ends old (step.merge n (s ∷ ss)) = of_world old (step.merge n (s ∷ ss)) (Err OutOfMemory, old.world, (refl, refl))
   step_ends old (step.system name phase text actions) = (Err OutOfMemory, old, (refl, refl))
   step_ends old step.frame =
       let stop : FrameStop = record { batches = 0; refusal = OutOfMemory } in (Ok (stopped stop), old, (Err stop, inr (refl, refl), refl))
+  step_ends old s = of_world old s (replies_end old.world s refl)
 
   -- some lines, and some state after them
   pub some_step : (s : step.WrittenStep) (old : ScriptState) → (t : List ℕ) × (e : ScriptState) × Does old s t e

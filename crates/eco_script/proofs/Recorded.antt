@@ -30,10 +30,12 @@ pub was_ok : {T E P : Type 0} (r : Result T E) → false ≡ is_err r → OnOk r
 was_ok (Ok x) e p = p
 was_ok (Err why) e p = cc
 
--- one more of a list
-module _ {A : Type 0} (xs : List A) (k : ℕ) (x : A) (at : slice_get xs k ≡ Some x) where
-  pub front_more : take (k + 1) xs ≡ take k xs ++ x ∷ []
-  front_more = take_more xs k x (slice_get_within xs k x at) ∙ ap (λ y. take k xs ++ y ∷ []) (get_or_from_slice_get xs k x x at)
+-- one more of a list, which was found in it
+front_more : {A B : Type 0} (f : A → B) (xs : List B) (k : ℕ) (o : Option A) (x : A) → option_map f o ≡ slice_get xs k → o ≡ Some x
+    → take (k + 1) xs ≡ take k xs ++ f x ∷ []
+front_more f xs k o x got is =
+    let at : slice_get xs k ≡ Some (f x) = sym got ∙ ap (option_map f) is in
+    take_more xs k (f x) (slice_get_within xs k (f x) at) ∙ ap (λ y. take k xs ++ y ∷ []) (get_or_from_slice_get xs k (f x) (f x) at)
 
 -- the commands of some stages, and of one more
 pub flat_more : {A : Type 0} (ss : List (List A)) (s : List A) → flat_map (λ t. t) (ss ++ s ∷ []) ≡ flat_map (λ t. t) ss ++ s
@@ -67,35 +69,34 @@ module _ {T C : Type 0} (One : T → Result C Refusal → Type 0) where
   reads_refused (c ∷ cs) ds why (Ok x, read, (Ok ys, more, is)) = cc
   reads_refused (c ∷ cs) ds why (Ok x, read, (Err other, more, is)) = (Ok x, read, (Err other, reads_refused cs ds other more, is))
 
-  module _ (cs : List T) (k : ℕ) (c : T) (xs : List C) (at : slice_get cs k ≡ Some c) (read : ReadsEach One (take k cs) (Ok xs)) where
+  module _ {A : Type 0} (f : A → T) (cs : List T) (k : ℕ) (o : Option A) (c : A) (got : option_map f o ≡ slice_get cs k) (is : o ≡ Some c)
+      (xs : List C) (read : ReadsEach One (take k cs) (Ok xs)) where
     -- one more was read
-    pub one_more : (x : C) → One c (Ok x) → ReadsEach One (take (k + 1) cs) (Ok (xs ++ x ∷ []))
+    pub one_more : (x : C) → One (f c) (Ok x) → ReadsEach One (take (k + 1) cs) (Ok (xs ++ x ∷ []))
     one_more x p =
-        rw (front_more cs k c at) (reads_append (take k cs) (c ∷ []) xs (Ok (x ∷ [])) read (Ok x, p, (Ok [], refl, refl)))
+        rw (front_more f cs k o c got is) (reads_append (take k cs) (f c ∷ []) xs (Ok (x ∷ [])) read (Ok x, p, (Ok [], refl, refl)))
 
     -- one was refused
-    pub one_refused : (why : Refusal) → One c (Err why) → ReadsEach One cs (Err why)
+    pub one_refused : (why : Refusal) → One (f c) (Err why) → ReadsEach One cs (Err why)
     one_refused why p =
         let front : ReadsEach One (take (k + 1) cs) (Err why) =
-        rw (front_more cs k c at) (reads_append (take k cs) (c ∷ []) xs (Err why) read (Err why, p, refl)) in
+        rw (front_more f cs k o c got is) (reads_append (take k cs) (f c ∷ []) xs (Err why) read (Err why, p, refl)) in
         subst (λ ds. ReadsEach One ds (Err why)) (take-append-drop (k + 1) cs) (reads_refused (take (k + 1) cs) (drop (k + 1) cs) why front)
 
 module _ (w : WorldState) where
-  module _ (ss : List (List WrittenCommand)) (k : ℕ) (s : List WrittenCommand) (xs : List run.Command) (at : slice_get ss k ≡ Some s)
+  module _ {A : Type 0} (f : A → List WrittenCommand) (ss : List (List WrittenCommand)) (k : ℕ) (o : Option A) (s : A)
+      (got : option_map f o ≡ slice_get ss k) (is : o ≡ Some s) (xs : List run.Command)
       (read : ReadsCommands w (flat_map (λ t. t) (take k ss)) (Ok xs)) where
-    stage_read : (r : Result (List run.Command) Refusal) → ReadsCommands w s r
+    -- one more stage was read
+    pub stage_read : (r : Result (List run.Command) Refusal) → ReadsCommands w (f s) r
         → ReadsCommands w (flat_map (λ t. t) (take (k + 1) ss)) (ok_map (λ ys. xs ++ ys) r)
     stage_read r p =
         subst (λ cs. ReadsCommands w cs (ok_map (λ ys. xs ++ ys) r))
-        (sym (flat_more (take k ss) s) ∙ ap (λ ts. flat_map (λ t. t) ts) (sym (front_more ss k s at)))
-        (reads_append (ReadsCommand w) (flat_map (λ t. t) (take k ss)) s xs r read p)
-
-    -- one more stage was read
-    pub stage_more : (ys : List run.Command) → ReadsCommands w s (Ok ys) → ReadsCommands w (flat_map (λ t. t) (take (k + 1) ss)) (Ok (xs ++ ys))
-    stage_more ys p = stage_read (Ok ys) p
+        (sym (flat_more (take k ss) (f s)) ∙ ap (λ ts. flat_map (λ t. t) ts) (sym (front_more f ss k o s got is)))
+        (reads_append (ReadsCommand w) (flat_map (λ t. t) (take k ss)) (f s) xs r read p)
 
     -- one was refused
-    pub stage_refused : (why : Refusal) → ReadsCommands w s (Err why) → ReadsCommands w (flat_map (λ t. t) ss) (Err why)
+    pub stage_refused : (why : Refusal) → ReadsCommands w (f s) (Err why) → ReadsCommands w (flat_map (λ t. t) ss) (Err why)
     stage_refused why p =
         let whole : flat_map (λ t. t) (take (k + 1) ss) ++ flat_map (λ t. t) (drop (k + 1) ss) ≡ flat_map (λ t. t) ss =
         sym (flat_map-append (λ t. t) (take (k + 1) ss) (drop (k + 1) ss)) ∙ ap (λ ts. flat_map (λ t. t) ts) (take-append-drop (k + 1) ss) in

@@ -58,13 +58,11 @@ impl fmt::Display for Ids<'_> {
         (λ i. held_text i (shown_value ids.world.now ids.entity i)) ids.ids.now) };
 
     fn fmt<W: fmt::Write>(&self, f: &mut fmt::Formatter<W>) -> fmt::Result {
-        if let Some((first, rest)) = self.ids.split_first() {
-            let first = self.held(*first);
-            write!(f, "{first}")?;
-            for id in rest {
-                let held = self.held(*id);
-                write!(f, ", {held}")?;
-            }
+        let mut separator = "";
+        for id in self.ids {
+            let held = self.held(*id);
+            write!(f, "{separator}{held}")?;
+            separator = ", ";
         }
         Ok(())
     }
@@ -93,13 +91,11 @@ impl fmt::Display for Entries<'_> {
     ghost output = { λ entries. Some (joined_by_commas entry_text entries.0.now) };
 
     fn fmt<W: fmt::Write>(&self, f: &mut fmt::Formatter<W>) -> fmt::Result {
-        if let Some((first, rest)) = self.0.split_first() {
-            let first = Entry(*first);
-            write!(f, "{first}")?;
-            for entry in rest {
-                let entry = Entry(*entry);
-                write!(f, ", {entry}")?;
-            }
+        let mut separator = "";
+        for entry in self.0 {
+            let entry = Entry(*entry);
+            write!(f, "{separator}{entry}")?;
+            separator = ", ";
         }
         Ok(())
     }

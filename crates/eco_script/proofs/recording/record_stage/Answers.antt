@@ -1,4 +1,4 @@
-use Rattle.std.proofs.Common.{◌≡◌, Ok, Some, refl, ap, sym, ◌∙◌, option_map, slice_get, subst}
+use Rattle.std.proofs.Common.{Ok, refl, ap, subst}
 use Rattle.std.proofs.lemmas.List.{take_all}
 use Rattle.std.proofs.lemmas.Result.{err_from_is_err_and}
 use Rattle.eco_stages.specs.Commands.{command_of}
@@ -17,23 +17,18 @@ unwrap-requires c =
 
 pub loop-place-preserved : goal.loop-place-preserved
 loop-place-preserved c =
-    let cs = commands_view c.args.commands in
-    let at : slice_get cs c.loop-place.place ≡ Some (command_view c.unwrap.result) = sym c.get.ensures ∙ ap (option_map command_view) c.unwrap.ensures in
     rw (was_ok c.record.result c.if-is_err.ensures.value c.record.ensures.ok)
-    (one_more (ReadsCommand c.args.world.now) cs c.loop-place.place (command_view c.unwrap.result) c.loop-place.stage at c.loop-place.invariant
-    (command_of c.in_ok-command.command) (c.in_ok-command.ensures refl))
+    (one_more (ReadsCommand c.args.world.now) command_view (commands_view c.args.commands) c.loop-place.place _ _ c.get.ensures c.unwrap.ensures
+    c.loop-place.stage c.loop-place.invariant (command_of c.in_ok-command.command) (c.in_ok-command.ensures refl))
 
 pub returns-in_err-command : goal.returns-in_err-command
 returns-in_err-command c =
-    let cs = commands_view c.args.commands in
-    let at : slice_get cs c.loop-place.place ≡ Some (command_view c.unwrap.result) = sym c.get.ensures ∙ ap (option_map command_view) c.unwrap.ensures in
     let p = err_from_is_err_and c.from_residual.result c.from_residual.ensures.1 in
     rw (p.1, p.2) (λ plain.
-    one_refused (ReadsCommand c.args.world.now) cs c.loop-place.place (command_view c.unwrap.result) c.loop-place.stage at c.loop-place.invariant
-    c.in_err-command.field-0.0 (c.in_err-command.ensures plain))
+    one_refused (ReadsCommand c.args.world.now) command_view (commands_view c.args.commands) c.loop-place.place _ _ c.get.ensures c.unwrap.ensures
+    c.loop-place.stage c.loop-place.invariant c.in_err-command.field-0.0 (c.in_err-command.ensures plain))
 
 pub returns : goal.returns
 returns c = λ _.
-    let cs = commands_view c.args.commands in
     subst (λ xs. ReadsCommands c.args.world.now xs (Ok c.loop-place.stage))
-    (take_all c.loop-place.place cs (rw c.len-place-end.ensures at c.loop-place-test.false)) c.loop-place.invariant
+    (take_all c.loop-place.place (commands_view c.args.commands) (rw c.len-place-end.ensures at c.loop-place-test.false)) c.loop-place.invariant

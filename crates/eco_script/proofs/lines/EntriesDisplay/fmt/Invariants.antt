@@ -1,10 +1,12 @@
-use Rattle.std.proofs.Common.{◌++◌, codes, take, flat_map}
+use Rattle.std.proofs.Common.{◌≡◌, take}
 use Rattle.std.specs.Fmt.{HasWritten, IsPlainFormatter}
-use Rattle.eco_script.specs.Lines.{entry_text}
+use Rattle.eco_script.specs.Lines.{entry_text, joined_by_commas}
+use Rattle.eco_script.proofs.Joined.{separator}
 use Rattle.eco_script.proofs.lines.EntriesDisplay.fmt.Given as goal
 
--- the entries so far, each behind its comma
+-- the entries so far
 abbrev pub invariant-loop-entry : goal.invariant-loop-entry
-invariant-loop-entry g l =
-    IsPlainFormatter l.initial.f →
-    HasWritten g.W.Write.write_str_gives l.initial.f (flat_map (λ e. codes ", " ++ entry_text e) (take l.entry-index l.rest)) l.f
+invariant-loop-entry g l = record {
+  apart : l.separator ≡ separator (take l.entry-index l.self.0.now);
+  written : IsPlainFormatter l.initial.f → HasWritten g.W.Write.write_str_gives l.initial.f (joined_by_commas entry_text (take l.entry-index l.self.0.now)) l.f;
+}

@@ -12,36 +12,28 @@ use Rattle.eco_steps.proofs.Decodes.{no_parts, no_steps, script_is}
 use Rattle.eco_checker.specs.Faults.{edition_in, first_edition, items_in, numbers_without, third_items, unless_found}
 
 module _ {A : Type 0} (find : Data → Option A) where
-  all_cases : (n : ℕ) (ds : List Data) (ns : List ℕ) (o : Option A) → unless_found n o ns ≡ []
-      → (ns ≡ [] → (xs : List A) × (each_in find ds ≡ Some xs))
-      → (xs : List A) × (option_and_then (λ x. option_map (λ ys. x ∷ ys) (each_in find ds)) o ≡ Some xs)
-  all_cases n ds ns None h rest = cc
-  all_cases n ds ns (Some x) h rest = let (xs, more) = rest h in (x ∷ xs, ap (option_map (λ ys. x ∷ ys)) more)
-
   -- where no number is listed, something is found in each
   all_found : (n : ℕ) (ds : List Data) → numbers_without find n ds ≡ [] → (xs : List A) × (each_in find ds ≡ Some xs)
   all_found n [] e = ([], refl)
-  all_found n (d ∷ ds) e = all_cases n ds (numbers_without find (n + 1) ds) (find d) e (λ h. all_found (n + 1) ds h)
-
-  none_cases : (n : ℕ) (ns : List ℕ) (x : A) (o : Option (List A)) (xs : List A) (p : Option A) → p ≡ Some x
-      → option_map (λ ys. x ∷ ys) o ≡ Some xs → ((ys : List A) → o ≡ Some ys → ns ≡ []) → unless_found n p ns ≡ []
-  none_cases n ns x None xs p is h rest = cc
-  none_cases n ns x (Some ys) xs p is h rest = rw is (rest ys refl)
+  all_found n (d ∷ ds) e = which (find d) (λ e. all_found (n + 1) ds e) e where
+    which : (o : Option A) → (numbers_without find (n + 1) ds ≡ [] → (xs : List A) × (each_in find ds ≡ Some xs))
+        → unless_found n o (numbers_without find (n + 1) ds) ≡ []
+        → (xs : List A) × (option_and_then (λ x. option_map (λ ys. x ∷ ys) (each_in find ds)) o ≡ Some xs)
+    which None rest e = cc
+    which (Some x) rest e = let (xs, more) = rest e in (x ∷ xs, ap (option_map (λ ys. x ∷ ys)) more)
 
   -- and no number is listed where it is
   none_left : (n : ℕ) (ds : List Data) (xs : List A) → each_in find ds ≡ Some xs → numbers_without find n ds ≡ []
   none_left n [] xs e = refl
-  none_left n (d ∷ ds) xs e =
-      option_and_then_some (λ x. option_map (λ ys. x ∷ ys) (each_in find ds)) (find d) xs e
-      (λ x is h. none_cases n (numbers_without find (n + 1) ds) x (each_in find ds) xs (find d) is h (λ ys at. none_left (n + 1) ds ys at))
+  none_left n (d ∷ ds) xs e = which (find d) (each_in find ds) (λ ys at. none_left (n + 1) ds ys at) e where
+    which : (o : Option A) (rest : Option (List A)) → ((ys : List A) → rest ≡ Some ys → numbers_without find (n + 1) ds ≡ [])
+        → option_and_then (λ x. option_map (λ ys. x ∷ ys) rest) o ≡ Some xs → unless_found n o (numbers_without find (n + 1) ds) ≡ []
+    which (Some x) (Some ys) left e = left ys refl
+    which _ _ left e = cc
 
 -- the edition and the items of what has the three parts of a script
 third_of_parts : (ds : List Data) (edition : Edition) (l : ℕ) (items : List Data) → parts_of ds ≡ Some (edition, l, items)
     → (first_edition ds ≡ edition) × (third_items ds ≡ items)
-third_of_parts [] edition l items e = cc
-third_of_parts (a ∷ []) edition l items e = cc
-third_of_parts (a ∷ b ∷ []) edition l items e = cc
-third_of_parts (a ∷ b ∷ c ∷ d ∷ ds) edition l items e = cc
 third_of_parts (a ∷ b ∷ c ∷ []) edition l items e =
     option_and_then_some (λ v. parts_with v b c) (version_in a) (edition, l, items) e
     (λ v is h. option_and_then_some (λ k. option_map (λ ds. (v, k, ds)) (list_in c)) (limit_in v b) (edition, l, items) h
@@ -53,6 +45,7 @@ third_of_parts (a ∷ b ∷ c ∷ []) edition l items e =
       whole v told k (Some ds) is h =
           let same : (v, k, ds) ≡ (edition, l, items) = cc in
           (ap (λ o. unwrap_or o Second) told ∙ ap (λ (p : Parts). p.0) same, ap (λ (p : Parts). p.2) same)
+third_of_parts _ edition l items e = cc
 
 told_by_parts : (d : Data) (edition : Edition) (l : ℕ) (items : List Data) → parts_in d ≡ Some (edition, l, items)
     → (edition_in d ≡ edition) × (items_in d ≡ items)

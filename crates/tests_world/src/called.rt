@@ -1,4 +1,5 @@
 //! Calls that may want memory and that no step of a script makes: each answers what its row says, where there is enough.
+use crate::handles::at;
 use eco_ids::entity::{EXCLUSIVE, PANIC, WITH};
 use eco_ids::{Edition, Entity, Id, Part, Pattern, Refusal, TypeList};
 use eco_query::Query;
@@ -122,18 +123,10 @@ fn lead(alloc: Global, world: &mut World) -> Result<Target, Refusal> {
     Err(Refusal::NotAlive)
 }
 
-// The first handle of an index.
-fn first(index: u32) -> Id {
-    Id::One(Entity {
-        index,
-        generation: 0,
-    })
-}
-
 // Whether it leads to the type of both.
 fn leads_to_both(alloc: Global, world: &mut World) -> bool {
     match lead(alloc, world) {
-        Ok(Target::Other(ids)) => ids.as_slice() == [first(9), first(10)].as_slice(),
+        Ok(Target::Other(ids)) => ids.as_slice() == [Id::One(at(9)), Id::One(at(10))].as_slice(),
         _ => false,
     }
 }

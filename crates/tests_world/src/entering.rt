@@ -1,7 +1,7 @@
 //! Viewers in threads of their own enter while the merger merges.
 ghost use Rattle.std.specs.Prelude.{◌≡◌};
 
-use crate::looking::{BEGIN, merge_one, opening, tagged};
+use crate::looking::{BEGIN, merge_each, opening, tagged};
 use eco_shared::{Blank, Merger, Naming, Viewer, open};
 use eco_world::World;
 use std::alloc::Global;
@@ -32,15 +32,6 @@ fn enter_all<J: Naming, R: Wait + Drop>(rt: &R, viewer: &mut Viewer<J, R>, times
 fn enters<J: Naming, R: Wait + Drop>(rt: &R, viewer: Viewer<J, R>, times: usize) -> bool {
     let mut viewer = viewer;
     enter_all(rt, &mut viewer, times)
-}
-
-// Whether a hundred merges are made.
-fn merges_all<J: Naming, R: Wait + Drop>(merger: &mut Merger<J, R>, alloc: Global) -> bool {
-    let mut are_made = true;
-    for k in 0..100 {
-        are_made &= merge_one(merger, alloc, BEGIN + k).is_ok();
-    }
-    are_made
 }
 
 // Starts a thread for each viewer, which enters a thousand times.
@@ -74,7 +65,7 @@ fn count_entered<
 >(rt: R, alloc: Global, merger: &mut Merger<J, R>, viewers: Vec<Viewer<J, R>>) -> usize {
     let mut handles = Vec::new(alloc);
     spawn_all(rt, &mut handles, viewers);
-    let are_merged = merges_all(merger, alloc);
+    let are_merged = merge_each(merger, alloc, BEGIN, BEGIN + 100);
     let whole = count_whole(&rt, handles);
     if are_merged { whole } else { 0 }
 }

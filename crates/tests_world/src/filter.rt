@@ -11,14 +11,21 @@ fn stands_for(part: Part, entity: Entity) -> bool {
     }
 }
 
-// Whether the pattern matches the id.
-fn is_match(pattern: Pattern, id: Id) -> bool {
-    match (pattern, id) {
-        (Pattern::One(own), Id::One(entity)) => own.is(entity),
-        (Pattern::Two(first, second), Id::Two(relationship, target)) => {
+// Whether the id is a pair for whose entities the parts may stand.
+fn are_parts(first: Part, second: Part, id: Id) -> bool {
+    match id {
+        Id::One(_) => false,
+        Id::Two(relationship, target) => {
             stands_for(first, relationship) && stands_for(second, target)
         }
-        _ => false,
+    }
+}
+
+// Whether the pattern matches the id.
+fn is_match(pattern: Pattern, id: Id) -> bool {
+    match pattern {
+        Pattern::One(entity) => id.is(Id::One(entity)),
+        Pattern::Two(first, second) => are_parts(first, second, id),
     }
 }
 
@@ -70,8 +77,11 @@ fn is_least(pattern: Pattern, ids: &[Id], id: Id) -> bool {
 // Whether the id, which the entity has, is the first of these that it has.
 fn is_first_had(world: &World, entity: Entity, ids: &[Id], id: Id) -> bool {
     for own in ids {
+        if own.is(id) {
+            return true;
+        }
         if world.has(entity, *own) {
-            return own.is(id);
+            return false;
         }
     }
     false

@@ -1,4 +1,4 @@
-//! A frame, held against the same systems run one by one.
+//! Runs of a frame: of one system alone, and of several, held against the same systems run one by one.
 ghost use Rattle.std.specs.Prelude.{◌≤◌};
 
 use crate::listings::are_same;
@@ -6,7 +6,8 @@ use crate::one_by_one::{Done, OneByOne, number_of};
 use crate::plans::FramePlan;
 use eco_bodies::{SystemBody, Systems};
 use eco_frame::{FrameReport, run_frame, sync_points};
-use eco_world::World;
+use eco_systems::Phase;
+use eco_world::{Query, World};
 use std::alloc::Global;
 use std::thread::Threads;
 
@@ -43,6 +44,27 @@ impl Totals {
                 self.refused = self.refused.saturating_add(1);
             }
         }
+    }
+}
+
+/// Runs a frame of this system alone, and tells whether it has one batch.
+pub fn runs_alone<R: Threads + Sync, B: SystemBody + Sync + Drop>(
+    rt: &R,
+    alloc: Global,
+    world: &mut World,
+    query: Query,
+    body: B,
+    workers: u32,
+) -> bool
+    requires { (1 ≤ workers) × (workers ≤ 64) }
+{
+    let mut systems = Systems::new(alloc);
+    if systems.add("alone", Phase::OnUpdate, query, body).is_err() {
+        return false;
+    }
+    match run_frame(rt, alloc, world, &systems, workers) {
+        Ok(report) => report.batches() == 1,
+        Err(_) => false,
     }
 }
 

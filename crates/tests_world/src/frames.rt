@@ -1,12 +1,11 @@
 //! Frames: as many workers as pieces are each inside of one at the same time.
 ghost use Rattle.std.specs.Prelude.{◌≤◌, false, refl, []};
 
-use eco_bodies::{BodyRow, Draws, SystemBody, Systems};
-use eco_frame::run_frame;
+use crate::frame_runs::runs_alone;
+use eco_bodies::{BodyRow, Draws, SystemBody};
 use eco_ids::{Entity, Id, Pattern, Refusal};
 use eco_stages::Stage;
-use eco_systems::Phase;
-use eco_world::{Query, World};
+use eco_world::World;
 use std::alloc::Global;
 use std::sync::atomic::{AtomicU64, Ordering};
 use std::thread::Threads;
@@ -100,27 +99,6 @@ fn prepare(world: &mut World, rows: u32) -> Result<u32, Refusal> {
     Ok(first)
 }
 
-// Whether a frame of one system has one batch.
-fn has_one_batch<R: Threads + Sync>(
-    rt: &R,
-    alloc: Global,
-    world: &mut World,
-    query: Query,
-    gate: Gate<'_>,
-    workers: u32,
-) -> bool
-    requires { (1 ≤ workers) × (workers ≤ 64) }
-{
-    let mut systems = Systems::new(alloc);
-    if systems.add("gate", Phase::OnUpdate, query, gate).is_err() {
-        return false;
-    }
-    match run_frame(rt, alloc, world, &systems, workers) {
-        Ok(report) => report.batches() == 1,
-        Err(_) => false,
-    }
-}
-
 // Whether as many workers as so many rows have pieces are inside of one each at the same time: each piece but the last waits at
 // its first row for the first row of the last.
 fn overlap_in<R: Threads + Sync>(
@@ -147,7 +125,7 @@ fn overlap_in<R: Threads + Sync>(
         opened: &opened,
         passed: &passed,
     };
-    has_one_batch(rt, alloc, world, query, gate, pieces)
+    runs_alone(rt, alloc, world, query, gate, pieces)
         && passed.load(Ordering::SeqCst) == u64::from(pieces)
 }
 

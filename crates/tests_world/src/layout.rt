@@ -2,30 +2,22 @@
 use eco_ids::{Entity, Id, Value};
 use eco_world::{TableRows, Values, World};
 
-// Whether no table is empty.
-fn have_rows(tables: &[TableRows<'_>]) -> bool {
+// Whether the ids come behind those of the table before, if there is one.
+fn is_next(before: Option<&TableRows<'_>>, ids: &[Id]) -> bool {
+    match before {
+        Some(table) => table.ids < ids,
+        None => true,
+    }
+}
+
+// Whether no table is empty, and the types ascend, all different.
+fn are_in_order(tables: &[TableRows<'_>]) -> bool {
+    let mut before = None;
     for table in tables {
-        if table.entities.is_empty() {
+        if table.entities.is_empty() || !is_next(before, table.ids) {
             return false;
         }
-    }
-    true
-}
-
-// Whether the type of the first table comes before that of the second.
-fn is_ascent(pair: &[TableRows<'_>]) -> bool {
-    match pair {
-        [before, after] => before.ids < after.ids,
-        _ => false,
-    }
-}
-
-// Whether the types ascend, all different.
-fn ascend(tables: &[TableRows<'_>]) -> bool {
-    for pair in tables.windows(2) {
-        if !is_ascent(pair) {
-            return false;
-        }
+        before = Some(table);
     }
     true
 }
@@ -125,15 +117,15 @@ fn list_each(world: &World, tables: &[TableRows<'_>], living: &[Entity]) -> bool
     true
 }
 
-// Whether the world's tables are in order, and list each of these once.
+// Whether the tables are in order, and list each of these once.
+fn list_once(world: &World, tables: &[TableRows<'_>], living: &[Entity]) -> bool {
+    are_in_order(tables) && count_rows(tables) == living.len() && list_each(world, tables, living)
+}
+
+// Whether the world's tables do so.
 fn are_listed(world: &World, living: &[Entity]) -> bool {
     match world.tables() {
-        Ok(tables) => {
-            have_rows(&tables)
-                && ascend(&tables)
-                && count_rows(&tables) == living.len()
-                && list_each(world, &tables, living)
-        }
+        Ok(tables) => list_once(world, &tables, living),
         Err(_) => false,
     }
 }

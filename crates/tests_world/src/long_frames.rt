@@ -7,7 +7,7 @@ use crate::frame_runs::{Totals, frame_agrees};
 use crate::handles::at;
 use crate::plans::{FramePlan, declare_all, draw_id, draw_plans, prepare};
 use eco_bodies::{Script, Systems};
-use eco_ids::{Id, Refusal, Value};
+use eco_ids::{Entity, Id, Refusal, Value};
 use eco_world::World;
 use std::alloc::{AllocError, Global};
 use std::thread::Threads;
@@ -25,12 +25,17 @@ fn make_one(world: &mut World, draws: &mut RandomDraws) -> Result<(), Refusal> {
     world.set(entity, Id::One(at(9)), Value::of([field, 2]))
 }
 
+// Deletes these, of whom some may be refused, and some have died with others.
+fn delete_all(world: &mut World, entities: &[Entity]) {
+    for entity in entities {
+        let _may_be_refused = world.delete(*entity);
+    }
+}
+
 // All but the first three hundred of those without names die, and so many are left.
 fn thin(world: &mut World) -> Result<usize, AllocError> {
     let living = world.living()?;
-    for entity in living.iter().skip(NAMED + 300) {
-        let _may_be_refused = world.delete(*entity);
-    }
+    delete_all(world, living.get(NAMED + 300..).unwrap_or(&[]));
     Ok(living.len().saturating_sub(NAMED))
 }
 

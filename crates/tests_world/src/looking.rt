@@ -1,6 +1,7 @@
 //! A world of tagged entities, merges that add one each, and what an entry finds.
 ghost use Rattle.std.specs.Prelude.{◌≤◌};
 
+use crate::handles::at;
 use crate::layout::agrees;
 use eco_ids::{Entity, Id, Refusal};
 use eco_shared::{Merger, Naming};
@@ -34,17 +35,6 @@ fn recorded(stage: &mut Stage, command: Command) -> Result<(), Refusal> {
     }
 }
 
-// Merges these commands, with one more index.
-fn merge<J: Naming, R: Wait + Drop>(
-    merger: &mut Merger<J, R>,
-    stages: &[Stage],
-) -> Result<(), Refusal> {
-    match merger.merge(1, stages) {
-        Ok(_) => Ok(()),
-        Err(refusal) => Err(refusal),
-    }
-}
-
 // Records that an entity lives, and that it has the tag.
 fn record_both(stage: &mut Stage, entity: Entity) -> Result<(), Refusal> {
     recorded(stage, Command::Create(entity))?;
@@ -57,13 +47,24 @@ pub fn merge_one<J: Naming, R: Wait + Drop>(
     alloc: Global,
     index: u32,
 ) -> Result<(), Refusal> {
-    let entity = Entity {
-        index,
-        generation: 0,
-    };
     let mut stage = Stage::new(alloc);
-    record_both(&mut stage, entity)?;
-    merge(merger, &[stage])
+    record_both(&mut stage, at(index))?;
+    merger.merge(1, &[stage])?;
+    Ok(())
+}
+
+/// Merges one such entity for each index of a range, and tells whether all were merged.
+pub fn merge_each<J: Naming, R: Wait + Drop>(
+    merger: &mut Merger<J, R>,
+    alloc: Global,
+    from: u32,
+    to: u32,
+) -> bool {
+    let mut are_merged = true;
+    for index in from..to {
+        are_merged &= merge_one(merger, alloc, index).is_ok();
+    }
+    are_merged
 }
 
 // How many live.

@@ -49,19 +49,19 @@ fn populate(world: &mut World) -> Result<(), Refusal> {
     Ok(())
 }
 
-// Whoever is one too many of these dies, in the list too. Tells whether that was right.
-fn thin(run: &mut Followed, living: &[Entity]) -> bool {
+// These die, in the list too. Tells whether that was right.
+fn delete_all(run: &mut Followed, entities: &[Entity]) -> bool {
     let mut is_right = true;
-    for entity in living.iter().skip(MOST + FIRST as usize) {
+    for entity in entities {
         is_right &= run.apply(Deed::Delete(*entity));
     }
     is_right
 }
 
-// The same of all who live.
-fn thin_all(run: &mut Followed) -> bool {
+// The same of whoever is one too many of all who live.
+fn thin(run: &mut Followed) -> bool {
     match run.world.living() {
-        Ok(living) => thin(run, &living),
+        Ok(living) => delete_all(run, living.get(MOST + FIRST as usize..).unwrap_or(&[])),
         Err(_) => false,
     }
 }
@@ -74,7 +74,7 @@ fn unname(world: &mut World, living: &[Entity]) -> Result<(), Refusal> {
     Ok(())
 }
 
-// Gives the first of these their names.
+// Gives the first of these their names; the others have none.
 fn name(world: &mut World, living: &[Entity]) -> Result<(), Refusal> {
     for (place, entity) in living.iter().enumerate() {
         world.rename(*entity, NAMES.get(place).copied())?;
@@ -197,7 +197,7 @@ fn run_frame<R: Threads + Sync>(rt: &R, alloc: Global, run: &mut Followed) -> bo
 /// Runs a frame by one worker, and tells whether it is the run of its systems one by one. The list does what that run does.
 pub fn run_mirrored<R: Threads + Sync>(rt: &R, alloc: Global, run: &mut Followed) -> bool {
     populate(&mut run.world).is_ok()
-        && thin_all(run)
+        && thin(run)
         && name_all(&mut run.world)
         && run_frame(rt, alloc, run)
 }

@@ -1,7 +1,7 @@
 //! Who was told of a merge sees it, news of another shared world are not taken in, and a view that is held stops no merge.
 ghost use Rattle.std.specs.Prelude.{◌≡◌};
 
-use crate::looking::{BEGIN, merge_one, opening, tagged};
+use crate::looking::{BEGIN, merge_each, merge_one, opening, tagged};
 use eco_ids::Refusal;
 use eco_shared::{Blank, Merger, Naming, Registry, Viewer, open};
 use eco_world::World;
@@ -9,6 +9,16 @@ use std::alloc::Global;
 use std::marker::Brand;
 use std::sync::Wait;
 use std::test::Fail;
+
+// Whether a viewer that is told of the last merge sees so many with the tag.
+fn sees<J: Naming, R: Wait + Drop>(
+    rt: &R,
+    merger: &Merger<J, R>,
+    viewer: &mut Viewer<J, R>,
+    count: usize,
+) -> bool {
+    viewer.learn(&merger.tell()) && tagged(viewer.enter(rt).world()) == Some(count)
+}
 
 // Each of a hundred merges is seen by who was told of it.
 fn sees_each<J: Naming, R: Wait + Drop>(
@@ -20,22 +30,12 @@ fn sees_each<J: Naming, R: Wait + Drop>(
     let mut are_seen = true;
     for k in 0..100 {
         are_seen &= merge_one(merger, alloc, BEGIN + k).is_ok()
-            && viewer.learn(&merger.tell())
-            && tagged(viewer.enter(rt).world()) == Some(k as usize + 1);
+            && sees(rt, merger, viewer, k as usize + 1);
     }
     are_seen
 }
 
-// Whether the next four merges are made.
-fn merges_four<J: Naming, R: Wait + Drop>(merger: &mut Merger<J, R>, alloc: Global) -> bool {
-    let mut are_made = true;
-    for k in 100..104 {
-        are_made &= merge_one(merger, alloc, BEGIN + k).is_ok();
-    }
-    are_made
-}
-
-// The thread that merges holds a view meanwhile, which keeps its version.
+// The thread that merges holds a view during the next four merges, which keeps its version.
 fn stays<J: Naming, R: Wait + Drop>(
     rt: &R,
     alloc: Global,
@@ -43,10 +43,9 @@ fn stays<J: Naming, R: Wait + Drop>(
     viewer: &mut Viewer<J, R>,
 ) -> bool {
     let held = viewer.enter(rt);
-    merges_four(merger, alloc)
-        && viewer.learn(&merger.tell())
+    merge_each(merger, alloc, BEGIN + 100, BEGIN + 104)
+        && sees(rt, merger, viewer, 104)
         && tagged(held.world()) == Some(100)
-        && tagged(viewer.enter(rt).world()) == Some(104)
 }
 
 // Of a world with room for one more a second merge is refused, and shows nothing; the next one is done.
@@ -58,8 +57,7 @@ fn is_full_after_one<J: Naming, R: Wait + Drop>(
 ) -> bool {
     merge_one(merger, alloc, BEGIN).is_ok()
         && merge_one(merger, alloc, BEGIN + 1).err() == Some(Refusal::NoMoreIds)
-        && viewer.learn(&merger.tell())
-        && tagged(viewer.enter(rt).world()) == Some(1)
+        && sees(rt, merger, viewer, 1)
         && merger.merge(0, &[]).is_ok()
 }
 

@@ -4,12 +4,11 @@ ghost use Rattle.eco_ids.specs.declared.pattern.Pattern.TheVariants as pattern;
 ghost use Rattle.eco_bodies.specs.Lent.{item_at};
 ghost use Rattle.tests_world.specs.Twins.{made, made_is_declared, made_is_settled, makes};
 
-use eco_bodies::{BodyRow, Draws, SystemBody, Systems, record_command};
-use eco_frame::run_frame;
+use crate::frame_runs::runs_alone;
+use eco_bodies::{BodyRow, Draws, SystemBody, record_command};
 use eco_ids::{Entity, Id, Pattern, Refusal, Value};
 use eco_stages::{Command, Stage};
-use eco_systems::Phase;
-use eco_world::{Query, World};
+use eco_world::World;
 use std::alloc::{AllocError, Global};
 use std::sync::atomic::{AtomicU64, Ordering};
 use std::thread::Threads;
@@ -101,22 +100,6 @@ fn prepare(world: &mut World) -> Result<Entity, Refusal> {
     Ok(twin)
 }
 
-// Runs a frame of one system, and tells whether that was done.
-fn runs<R: Threads + Sync>(
-    rt: &R,
-    alloc: Global,
-    world: &mut World,
-    query: Query,
-    body: Twins<'_>,
-    workers: u32,
-) -> bool
-    requires { (1 ≤ workers) × (workers ≤ 64) }
-{
-    let mut systems = Systems::new(alloc);
-    systems.add("twins", Phase::OnUpdate, query, body).is_ok()
-        && run_frame(rt, alloc, world, &systems, workers).is_ok()
-}
-
 // Runs a frame of so many workers in which each row draws a twin.
 fn draws_twins<R: Threads + Sync>(
     rt: &R,
@@ -137,7 +120,7 @@ fn draws_twins<R: Threads + Sync>(
                 turns: 2_000_000_000,
                 begun: &begun,
             };
-            runs(rt, alloc, world, query, body, workers)
+            runs_alone(rt, alloc, world, query, body, workers)
         }
         Err(_) => false,
     }

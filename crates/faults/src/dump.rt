@@ -41,18 +41,11 @@ pub fn push_rows(text: &mut String, rows: &[Row]) -> Result<(), AllocError> {
 fn push_entity(text: &mut String, world: &World, entity: Entity) -> Result<(), AllocError> {
     let name = world.name_of(entity).unwrap_or("-");
     let arity = world.arity_of(entity).unwrap_or(0);
-    push(text, &entity)?;
-    push(text, &name)?;
-    push(text, &arity)?;
+    write!(text, " {entity} {name} {arity}")?;
     for id in world.ids_of(entity) {
-        push(text, id)?;
-        push(
-            text,
-            &world
-                .get(entity, *id)
-                .unwrap_or(Value::ZERO)
-                .fields(FIELD_COUNT),
-        )?;
+        let value = world.get(entity, *id).unwrap_or(Value::ZERO);
+        let fields = value.fields(FIELD_COUNT);
+        write!(text, " {id} {fields}")?;
     }
     text.push_str("\n")
 }
@@ -67,11 +60,11 @@ fn push_table(text: &mut String, alloc: Global, table: &TableRows<'_>) -> Result
 
 // The answer of the query of this number, and how many tables it has.
 fn push_query(text: &mut String, world: &World, number: usize) -> Result<(), AllocError> {
-    let tables = world
-        .tables_of_query(QueryId(number))
-        .map_or(0, |tables| tables.len());
-    push(text, &number)?;
-    push(text, &tables)?;
+    let count = match world.tables_of_query(QueryId(number)) {
+        Ok(tables) => tables.len(),
+        Err(_) => 0,
+    };
+    write!(text, " {number} {count}")?;
     match world.answer(QueryId(number)) {
         Ok(rows) => push_rows(text, &rows)?,
         Err(refusal) => push(text, &refusal)?,

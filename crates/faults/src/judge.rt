@@ -1,25 +1,32 @@
 //! What comes of a call on a world.
-use crate::lack::Lack;
 use crate::mark::tell;
 use crate::order::NONE;
 use crate::scenario::Scenario;
-use crate::scene::{Scene, make_world};
+use crate::scene::Scene;
 use eco_ids::Refusal;
+use eco_world::World;
 use std::alloc::Global;
 use std::thread::Threads;
 
-// Makes the call on a world, which the other follows. Then both go on.
-fn call_both<R: Eprint + Threads + Sync>(
+// Makes the call on a world, which the other follows, and tells what came of it when both have gone on.
+fn judge_scenes<R: Print + Eprint + Threads + Sync>(
     rt: &R,
+    name: &str,
     scene: &mut Scene,
     other: &mut Scene,
-) -> Result<Lack, Refusal> {
+) -> Result<bool, Refusal> {
     scene.arm(&NONE)?;
     let lack = scene.call_marked(rt)?;
     other.follow(rt, lack)?;
     scene.go_on(rt)?;
     other.go_on(rt)?;
-    Ok(lack)
+    Ok(tell(
+        rt,
+        name,
+        (lack, 0),
+        scene.text.as_str(),
+        other.text.as_str(),
+    ))
 }
 
 /// Makes the call of a scenario on a copy of its world, and tells what came of it by another copy, on which it is made where
@@ -28,16 +35,9 @@ pub fn judge<R: Print + Eprint + Threads + Sync>(
     rt: &R,
     alloc: Global,
     scenario: &Scenario,
+    world: &World,
 ) -> Result<bool, Refusal> {
-    let world = make_world(alloc, scenario)?;
-    let mut scene = Scene::new(alloc, scenario.call, &world)?;
-    let mut other = Scene::new(alloc, scenario.call, &world)?;
-    let lack = call_both(rt, &mut scene, &mut other)?;
-    Ok(tell(
-        rt,
-        scenario.name,
-        (lack, 0),
-        scene.text.as_str(),
-        other.text.as_str(),
-    ))
+    let mut scene = Scene::new(alloc, scenario.call, world)?;
+    let mut other = Scene::new(alloc, scenario.call, world)?;
+    judge_scenes(rt, scenario.name, &mut scene, &mut other)
 }

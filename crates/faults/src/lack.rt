@@ -30,17 +30,19 @@ impl Lack {
     }
 }
 
-/// Writes the outcomes of the commands that found memory, and marks the others.
+// Writes the outcomes of the commands that found memory, and marks the others.
 fn push_outcomes(
     text: &mut String,
     report: &Report,
     lacking: &mut Marks,
 ) -> Result<(), AllocError> {
-    for (outcome, is_lacking) in report.iter().zip(lacking.iter_mut()) {
-        match outcome {
-            Ok(()) => text.push_str(" ok")?,
-            Err(Refusal::OutOfMemory) => *is_lacking = true,
-            Err(refusal) => push(text, &refusal)?,
+    let mut outcomes = report.iter();
+    for is_lacking in lacking {
+        match outcomes.next() {
+            Some(Ok(())) => text.push_str(" ok")?,
+            Some(Err(Refusal::OutOfMemory)) => *is_lacking = true,
+            Some(Err(refusal)) => push(text, &refusal)?,
+            None => break,
         }
     }
     Ok(())

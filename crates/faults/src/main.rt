@@ -21,6 +21,7 @@ use eco_ids::Refusal;
 use eco_shared::Blank;
 use judge::judge;
 use scenario::{Call, SCENARIOS, Scenario};
+use scene::make_world;
 use shared::judge_shared;
 use std::alloc::Global;
 use std::marker::Brand;
@@ -36,11 +37,12 @@ fn show<R: Print + Eprint + Threads + Wait + Copy + Drop + Sync>(
     alloc: Global,
     scenario: &Scenario,
 ) -> Result<bool, Refusal> {
+    let world = make_world(alloc, scenario)?;
     match scenario.call {
         Call::OpenShared | Call::MergeShared => {
-            judge_shared::<Brand, R>(rt, alloc, Blank::new(), scenario)
+            judge_shared::<Brand, R>(rt, alloc, Blank::new(), scenario, &world)
         }
-        _ => judge(&rt, alloc, scenario),
+        _ => judge(&rt, alloc, scenario, &world),
     }
 }
 

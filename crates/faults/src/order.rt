@@ -92,6 +92,12 @@ impl Order {
     }
 }
 
+// Records an order behind others.
+fn record_order(alloc: Global, stage: &mut Stage, order: Order) -> Result<(), Refusal> {
+    let command = order.command(alloc)?;
+    record_command(stage, command)
+}
+
 // Records the orders into a stage, in place of what it has, but for those that are to be left out.
 fn record(
     alloc: Global,
@@ -100,9 +106,9 @@ fn record(
     left_out: &[bool],
 ) -> Result<(), Refusal> {
     stage.clear();
-    for (order, is_left_out) in orders.iter().zip(left_out) {
-        if !is_left_out {
-            record_command(stage, order.command(alloc)?)?;
+    for (place, order) in orders.iter().enumerate() {
+        if !left_out.get(place).copied().unwrap_or(false) {
+            record_order(alloc, stage, *order)?;
         }
     }
     Ok(())
@@ -117,6 +123,12 @@ pub fn record_all(
 ) -> Result<(), Refusal> {
     record(alloc, &mut stages[0], orders[0], &left_out[..COUNT])?;
     record(alloc, &mut stages[1], orders[1], &left_out[COUNT..])
+}
+
+/// Makes the command that is recorded.
+pub fn arm_one(alloc: Global, command: &mut Option<Command>, order: Order) -> Result<(), Refusal> {
+    *command = Some(order.command(alloc)?);
+    Ok(())
 }
 
 /// Records a command, which is there no more then. One that is refused stands where it stood.

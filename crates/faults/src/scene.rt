@@ -3,14 +3,14 @@ use crate::deed::{first, make_all};
 use crate::dump::{push, push_debug, push_rows, push_world};
 use crate::lack::{Lack, NOTHING, conclude, push_merge, push_run, push_stop};
 use crate::mark::{begin_call, end_call};
-use crate::order::{Marks, NONE, ORDERS, record_all, record_one};
+use crate::order::{Marks, NONE, ORDERS, arm_one, record_all, record_one};
 use crate::scenario::{Call, Scenario};
 use crate::systems::{SYSTEMS, declare_first};
 use eco_bodies::{Script, Systems};
 use eco_frame::{Pipeline, run_frame};
 use eco_ids::entity::{ON_DELETE, REMOVE};
 use eco_ids::{Id, Refusal};
-use eco_world::{Command, Query, Stage, World};
+use eco_world::{Command, Query, Row, Stage, World};
 use std::alloc::{AllocError, Global};
 use std::thread::Threads;
 
@@ -61,6 +61,72 @@ pub fn make_world(alloc: Global, scenario: &Scenario) -> Result<World, Refusal> 
     Ok(world)
 }
 
+// Reads the text of the query that is added or answered.
+fn arm_query(query: &mut Option<Query>, world: &World, text: &str) -> Result<(), Refusal> {
+    *query = Some(world.read_query(text)?);
+    Ok(())
+}
+
+// Makes an entity.
+fn create(text: &mut String, world: &mut World, name: &str) -> Result<(), Refusal> {
+    let entity = world.create(Some(name))?;
+    Ok(push(text, &entity)?)
+}
+
+// Reads a query's text.
+fn read_query(text: &mut String, world: &World, read: &str) -> Result<(), Refusal> {
+    let query = world.read_query(read)?;
+    Ok(push(text, &query)?)
+}
+
+// Adds the query.
+fn add_query(
+    text: &mut String,
+    world: &mut World,
+    query: &mut Option<Query>,
+) -> Result<(), Refusal> {
+    if let Some(query) = query.take() {
+        let number = world.add_query(query)?.0;
+        push(text, &number)?;
+    }
+    Ok(())
+}
+
+// Writes what a query answered.
+fn push_found(text: &mut String, rows: &[Row]) -> Result<(), AllocError> {
+    text.push_str(" rows")?;
+    push_rows(text, rows)
+}
+
+// Answers the query.
+fn find(text: &mut String, world: &World, query: &Option<Query>) -> Result<(), Refusal> {
+    if let Some(query) = query {
+        let rows = world.query(query)?;
+        push_found(text, &rows)?;
+    }
+    Ok(())
+}
+
+// Makes a pipeline of the systems, and runs a frame of it by one worker.
+fn run_pipeline<R: Threads + Sync>(
+    rt: &R,
+    alloc: Global,
+    text: &mut String,
+    world: &mut World,
+    systems: &Systems<Script>,
+) -> Result<Lack, Refusal> {
+    let mut pipeline = Pipeline::new(alloc, world, systems)?;
+    push_run(text, pipeline.run(rt, alloc, world, 1))
+}
+
+// What of a call is lacking that is done or refused as a whole, where it is not refused.
+fn whole(outcome: Result<(), Refusal>) -> Result<Lack, Refusal> {
+    match outcome {
+        Ok(()) => Ok(NOTHING),
+        Err(refusal) => Err(refusal),
+    }
+}
+
 impl Scene {
     /// A call on a copy of the world. Copies have no room to spare, so what grows asks for it.
     pub fn new(alloc: Global, call: Call, world: &World) -> Result<Scene, AllocError> {
@@ -81,79 +147,43 @@ impl Scene {
     pub fn arm(&mut self, left_out: &Marks) -> Result<(), Refusal> {
         match self.call {
             Call::AddQuery(text) | Call::Query(text) => {
-                self.query = Some(self.world.read_query(text)?);
+                arm_query(&mut self.query, &self.world, text)
             }
-            Call::Record(order) => self.command = Some(order.command(self.alloc)?),
+            Call::Record(order) => arm_one(self.alloc, &mut self.command, order),
             Call::Merge | Call::OpenShared | Call::MergeShared => {
-                record_all(self.alloc, &mut self.stages, ORDERS, left_out)?;
+                record_all(self.alloc, &mut self.stages, ORDERS, left_out)
             }
             Call::Frame | Call::Pipeline => {
-                declare_first(self.alloc, &self.world, &mut self.systems, SYSTEMS)?;
+                declare_first(self.alloc, &self.world, &mut self.systems, SYSTEMS)
             }
-            Call::Change(_) | Call::Create(_) | Call::ReadQuery(_) => {}
+            Call::Change(_) | Call::Create(_) | Call::ReadQuery(_) => Ok(()),
         }
-        Ok(())
-    }
-
-    // Makes an entity.
-    fn create(&mut self, name: &str) -> Result<(), Refusal> {
-        let entity = self.world.create(Some(name))?;
-        Ok(push(&mut self.text, &entity)?)
-    }
-
-    // Reads a query's text.
-    fn read_query(&mut self, text: &str) -> Result<(), Refusal> {
-        let query = self.world.read_query(text)?;
-        Ok(push(&mut self.text, &query)?)
-    }
-
-    // Adds the query.
-    fn add_query(&mut self) -> Result<(), Refusal> {
-        if let Some(query) = self.query.take() {
-            let number = self.world.add_query(query)?.0;
-            push(&mut self.text, &number)?;
-        }
-        Ok(())
-    }
-
-    // Answers the query.
-    fn find(&mut self) -> Result<(), Refusal> {
-        if let Some(query) = &self.query {
-            let rows = self.world.query(query)?;
-            self.text.push_str(" rows")?;
-            push_rows(&mut self.text, &rows)?;
-        }
-        Ok(())
-    }
-
-    // Makes a pipeline of the systems, and runs a frame of it by one worker.
-    fn run_pipeline<R: Threads + Sync>(&mut self, rt: &R) -> Result<Lack, Refusal> {
-        let mut pipeline = Pipeline::new(self.alloc, &self.world, &self.systems)?;
-        push_run(
-            &mut self.text,
-            pipeline.run(rt, self.alloc, &mut self.world, 1),
-        )
     }
 
     // Makes the call, and writes what it answers.
     fn make<R: Threads + Sync>(&mut self, rt: &R) -> Result<Lack, Refusal> {
         match self.call {
             Call::Merge | Call::OpenShared | Call::MergeShared => {
-                return push_merge(&mut self.text, self.world.merge(ADMITTED, &self.stages));
+                push_merge(&mut self.text, self.world.merge(ADMITTED, &self.stages))
             }
             Call::Frame => {
                 let outcome = run_frame(rt, self.alloc, &mut self.world, &self.systems, 1);
-                return push_run(&mut self.text, outcome);
+                push_run(&mut self.text, outcome)
             }
-            Call::Pipeline => return self.run_pipeline(rt),
-            Call::Change(deed) => deed.make(&mut self.world)?,
-            Call::Create(name) => self.create(name)?,
-            Call::ReadQuery(text) => self.read_query(text)?,
-            Call::AddQuery(_) => self.add_query()?,
-            Call::Query(_) => self.find()?,
-            Call::Record(_) => record_one(&mut self.stages, &mut self.command)?,
+            Call::Pipeline => run_pipeline(
+                rt,
+                self.alloc,
+                &mut self.text,
+                &mut self.world,
+                &self.systems,
+            ),
+            Call::Change(deed) => whole(deed.make(&mut self.world)),
+            Call::Create(name) => whole(create(&mut self.text, &mut self.world, name)),
+            Call::ReadQuery(query) => whole(read_query(&mut self.text, &self.world, query)),
+            Call::AddQuery(_) => whole(add_query(&mut self.text, &mut self.world, &mut self.query)),
+            Call::Query(_) => whole(find(&mut self.text, &self.world, &self.query)),
+            Call::Record(_) => whole(record_one(&mut self.stages, &mut self.command)),
         }
-        Ok(NOTHING)
     }
 
     /// Makes the call, writes what it answers, and says what of it was refused for want of memory.

@@ -6,7 +6,7 @@ use crate::lack::{Lack, NOTHING, conclude, push_merge};
 use crate::mark::{begin_call, end_call, tell};
 use crate::order::{BEFORE, NONE, record_all};
 use crate::scenario::{Call, Scenario};
-use crate::scene::{ADMITTED, ROOM, Scene, make_world};
+use crate::scene::{ADMITTED, ROOM, Scene};
 use eco_ids::Refusal;
 use eco_shared::{Blank, Merger, Naming, Registry, Viewer, open};
 use eco_world::{Stage, World};
@@ -30,22 +30,24 @@ fn merge<J: Naming, R: Wait + Drop>(
     conclude(text, outcome)
 }
 
-// Writes all that a viewer finds who was told of what is published; nothing, where the news are not of its world.
+// Tells a viewer of what is published, and answers whether that is news of its world.
+fn inform<J: Naming, R: Wait + Drop>(merger: &Merger<J, R>, viewer: &mut Viewer<J, R>) -> bool {
+    let news = merger.tell();
+    viewer.learn(&news)
+}
+
+// Writes all that a viewer finds.
 fn show<J: Naming, R: Wait + Drop>(
     rt: &R,
     alloc: Global,
     text: &mut String,
-    merger: &Merger<J, R>,
     viewer: &mut Viewer<J, R>,
 ) -> Result<(), AllocError> {
-    if viewer.learn(&merger.tell()) {
-        push_world(text, alloc, viewer.enter(rt).world())
-    } else {
-        Ok(())
-    }
+    let view = viewer.enter(rt);
+    push_world(text, alloc, view.world())
 }
 
-// Writes what each viewer finds, and as often what the other world tells.
+// Writes what each viewer finds who was told, and as often what the other world tells.
 fn show_both<J: Naming, R: Wait + Drop>(
     rt: &R,
     text: &mut String,
@@ -53,7 +55,9 @@ fn show_both<J: Naming, R: Wait + Drop>(
     other: &mut Scene,
 ) -> Result<(), AllocError> {
     for viewer in viewers.iter_mut() {
-        show(rt, other.alloc, text, merger, viewer)?;
+        if inform(merger, viewer) {
+            show(rt, other.alloc, text, viewer)?;
+        }
         other.show()?;
     }
     Ok(())
@@ -86,7 +90,7 @@ fn go_on<J: Naming, R: Threads + Wait + Sync + Drop>(
     Ok(())
 }
 
-// Merges into both worlds, of which the second follows, and answers which line of their texts has the answer. Another merge comes
+// Merges into both worlds, of which the second follows, and answers where the line begins that has the answer. Another merge comes
 // before, which the merger makes once more.
 fn judge_merge<J: Naming, R: Eprint + Threads + Wait + Sync + Drop>(
     rt: &R,
@@ -97,14 +101,14 @@ fn judge_merge<J: Naming, R: Eprint + Threads + Wait + Sync + Drop>(
     record_all(other.alloc, &mut other.stages, BEFORE, &NONE)?;
     merge_both(rt, text, shared, other)?;
     other.arm(&NONE)?;
-    let line = text.lines().count();
+    let place = text.len();
     text.reserve(ROOM)?;
     begin_call(rt);
     let lack = merge(text, &mut shared.0, &other.stages);
     end_call(rt);
     other.follow(rt, lack)?;
     go_on(rt, text, shared, other)?;
-    Ok((lack, line))
+    Ok((lack, place))
 }
 
 // What comes of a merge.
@@ -121,6 +125,12 @@ fn judge_merged<J: Naming, R: Eprint + Threads + Wait + Copy + Sync + Drop>(
     }
 }
 
+// Writes what a world tells that was not shared, and what the other tells.
+fn show_unshared(text: &mut String, world: &World, other: &mut Scene) -> Result<(), AllocError> {
+    push_world(text, other.alloc, world)?;
+    other.show()
+}
+
 // What comes of an opening that was refused. The world that was handed back is shared after all.
 fn judge_refused<J: Naming, R: Threads + Wait + Copy + Sync + Drop>(
     rt: R,
@@ -129,12 +139,24 @@ fn judge_refused<J: Naming, R: Threads + Wait + Copy + Sync + Drop>(
     world: World,
     other: &mut Scene,
 ) -> Result<(), Refusal> {
-    push_world(text, other.alloc, &world)?;
-    other.show()?;
+    show_unshared(text, &world, other)?;
     match open(rt, registry, other.alloc, world, VIEWERS) {
         Ok(mut shared) => go_on(&rt, text, &mut shared, other),
         Err((_world, refusal)) => Err(refusal),
     }
+}
+
+// What comes of an opening that was done.
+fn judge_opened<J: Naming, R: Threads + Wait + Sync + Drop>(
+    rt: &R,
+    text: &mut String,
+    shared: &mut Shared<J, R>,
+    other: &mut Scene,
+) -> Result<(Lack, usize), Refusal> {
+    conclude(text, Ok(NOTHING));
+    conclude(&mut other.text, Ok(NOTHING));
+    go_on(rt, text, shared, other)?;
+    Ok((NOTHING, 0))
 }
 
 // What comes of an opening.
@@ -149,12 +171,7 @@ fn judge_open<J: Naming, R: Eprint + Threads + Wait + Copy + Sync + Drop>(
     let opened = open(rt, registry, other.alloc, world, VIEWERS);
     end_call(&rt);
     match opened {
-        Ok(mut shared) => {
-            conclude(text, Ok(NOTHING));
-            conclude(&mut other.text, Ok(NOTHING));
-            go_on(&rt, text, &mut shared, other)?;
-            Ok((NOTHING, 0))
-        }
+        Ok(mut shared) => judge_opened(&rt, text, &mut shared, other),
         Err((world, refusal)) => {
             let lack = conclude(text, Err(refusal));
             conclude(&mut other.text, Err(Refusal::OutOfMemory));
@@ -169,13 +186,13 @@ fn judge_copies<J: Naming, R: Print + Eprint + Threads + Wait + Copy + Sync + Dr
     rt: R,
     registry: &mut Registry<J>,
     scenario: &Scenario,
+    text: &mut String,
     copy: World,
     other: &mut Scene,
 ) -> Result<bool, Refusal> {
-    let mut text = String::new(other.alloc);
     let answer = match scenario.call {
-        Call::OpenShared => judge_open(rt, registry, &mut text, copy, other)?,
-        _ => judge_merged(rt, registry, &mut text, copy, other)?,
+        Call::OpenShared => judge_open(rt, registry, text, copy, other)?,
+        _ => judge_merged(rt, registry, text, copy, other)?,
     };
     Ok(tell(
         &rt,
@@ -186,18 +203,20 @@ fn judge_copies<J: Naming, R: Print + Eprint + Threads + Wait + Copy + Sync + Dr
     ))
 }
 
-/// Makes the call of a scenario of the shared world, and tells what came of it by an equal world that is not shared. Answers
-/// whether it was no fault.
+/// Makes the call of a scenario on a copy of its world that is shared, and tells what came of it by another copy that is not.
+/// Answers whether it was no fault.
 pub fn judge_shared<J: Naming, R: Print + Eprint + Threads + Wait + Copy + Sync + Drop>(
     rt: R,
     alloc: Global,
     blank: Blank,
     scenario: &Scenario,
+    world: &World,
 ) -> Result<bool, Refusal>
     requires { blank.front.seen.book ≡ J.book }
 {
     let mut registry = blank.named::<J>();
-    let world = make_world(alloc, scenario)?;
-    let mut other = Scene::new(alloc, scenario.call, &world)?;
-    judge_copies(rt, &mut registry, scenario, world.try_copy()?, &mut other)
+    let mut other = Scene::new(alloc, scenario.call, world)?;
+    let copy = world.try_copy()?;
+    let mut text = String::new(alloc);
+    judge_copies(rt, &mut registry, scenario, &mut text, copy, &mut other)
 }

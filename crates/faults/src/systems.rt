@@ -30,14 +30,15 @@ fn declare(
     alloc: Global,
     world: &World,
     systems: &mut Systems<Script>,
-    (name, text, action): (&str, &str, Action),
+    (name, text, action): &(&str, &str, Action),
 ) -> Result<(), Refusal> {
     let query = world.read_query(text)?;
-    let actions = Vec::from_slice(alloc, &[action])?;
+    let actions = Vec::from_slice(alloc, &[*action])?;
     let body = Script::new(alloc, &query, actions)?;
-    systems
-        .add(name, Phase::OnUpdate, query, body)
-        .map_err(|refused| refused.refusal)
+    match systems.add(name, Phase::OnUpdate, query, body) {
+        Ok(()) => Ok(()),
+        Err(refused) => Err(refused.refusal),
+    }
 }
 
 /// Adds the first systems, so many.
@@ -48,7 +49,7 @@ pub fn declare_first(
     count: usize,
 ) -> Result<(), Refusal> {
     *systems = Systems::new(alloc);
-    for system in DECLARED.into_iter().take(count) {
+    for system in DECLARED.get(..count).unwrap_or(&DECLARED) {
         declare(alloc, world, systems, system)?;
     }
     Ok(())

@@ -14,7 +14,11 @@ struct Terms {
     position: Entity,
     velocity: Entity,
     ship: Entity,
-    afloat: Entity,
+}
+
+// Where ships can lie.
+#[derive(Clone, Copy)]
+struct Harbor {
     moored_at: Entity,
     quay: Entity,
     buoy: Entity,
@@ -27,33 +31,45 @@ struct Fleet {
     teal: Entity,
 }
 
-// A component has values, here of two fields. Every entity can be used as a tag, or in a pair.
+// A component has values, here of two fields, and a tag has none.
 fn declare(world: &mut World) -> Result<Terms, Refusal> {
-    let terms = Terms {
-        position: world.component(Some("Position"), 2)?,
-        velocity: world.component(Some("Velocity"), 2)?,
-        ship: world.create(Some("Ship"))?,
-        afloat: world.create(Some("Afloat"))?,
+    let position = world.component(Some("Position"), 2)?;
+    let velocity = world.component(Some("Velocity"), 2)?;
+    let ship = world.create(Some("Ship"))?;
+    let afloat = world.create(Some("Afloat"))?;
+    // Whatever becomes a ship is afloat.
+    world.add(ship, Id::Two(WITH, afloat))?;
+    Ok(Terms {
+        position,
+        velocity,
+        ship,
+    })
+}
+
+// Every entity can be used as a tag, or in a pair.
+fn build(world: &mut World) -> Result<Harbor, Refusal> {
+    Ok(Harbor {
         moored_at: world.create(Some("MooredAt"))?,
         quay: world.create(Some("Quay"))?,
         buoy: world.create(Some("Buoy"))?,
-    };
-    // Whatever becomes a ship is afloat.
-    world.add(terms.ship, Id::Two(WITH, terms.afloat))?;
-    Ok(terms)
+    })
+}
+
+// A ship that is at a place.
+fn launch_at(world: &mut World, terms: Terms, name: &str, place: Value) -> Result<Entity, Refusal> {
+    let ship = world.create(Some(name))?;
+    world.add(ship, Id::One(terms.ship))?;
+    world.set(ship, Id::One(terms.position), place)?;
+    Ok(ship)
 }
 
 // Two ships: one is at sea, and the other lies at the quay and at a buoy.
-fn launch(world: &mut World, terms: Terms) -> Result<Fleet, Refusal> {
-    let heron = world.create(Some("Heron"))?;
-    let teal = world.create(Some("Teal"))?;
-    world.add(heron, Id::One(terms.ship))?;
-    world.add(teal, Id::One(terms.ship))?;
-    world.set(heron, Id::One(terms.position), Value::of([3, -4]))?;
-    world.set(teal, Id::One(terms.position), Value::of([5, 6]))?;
+fn launch(world: &mut World, terms: Terms, harbor: Harbor) -> Result<Fleet, Refusal> {
+    let heron = launch_at(world, terms, "Heron", Value::of([3, -4]))?;
+    let teal = launch_at(world, terms, "Teal", Value::of([5, 6]))?;
     world.set(heron, Id::One(terms.velocity), Value::of([1, 2]))?;
-    world.add(teal, Id::Two(terms.moored_at, terms.quay))?;
-    world.add(teal, Id::Two(terms.moored_at, terms.buoy))?;
+    world.add(teal, Id::Two(harbor.moored_at, harbor.quay))?;
+    world.add(teal, Id::Two(harbor.moored_at, harbor.buoy))?;
     Ok(Fleet { heron, teal })
 }
 
@@ -63,30 +79,47 @@ pub fn find(world: &World, text: &str) -> Result<Results, Refusal> {
     world.results(&query)
 }
 
+/// What an entity is called.
+pub fn name_of(world: &World, entity: Entity) -> &str {
+    world.name_of(entity).unwrap_or("-")
+}
+
 // A query finds who has an id; its results ascend by entity.
-fn print_afloat<R: Print>(rt: &R, world: &World) -> Result<()> {
-    let results = find(world, "Afloat")?;
-    for (entity, _) in results.iter() {
-        let name = world.name_of(entity).unwrap_or("-");
-        println!(rt; "{name} {entity} is afloat")?;
+fn print_afloat<R: Print>(rt: &R, world: &World, found: &Results) -> io::Result<()> {
+    for (ship, _) in found.iter() {
+        let name = name_of(world, ship);
+        println!(rt; "{name} {ship} is afloat")?;
     }
     Ok(())
 }
 
 // Of several terms each has an entry in each result, in their order. `*` has a result for each target.
-fn print_moorings<R: Print>(rt: &R, world: &World) -> Result<()> {
-    let results = find(world, "Ship, (MooredAt, *)")?;
-    for (entity, entries) in results.iter() {
+fn print_moorings<R: Print>(rt: &R, world: &World, found: &Results) -> io::Result<()> {
+    for (ship, entries) in found.iter() {
         if let [_, Some(Id::Two(_, place))] = entries {
-            let name = world.name_of(entity).unwrap_or("-");
-            let place = world.name_of(*place).unwrap_or("-");
-            println!(rt; "{name} is moored at {place}")?;
+            let (ship, place) = (name_of(world, ship), name_of(world, *place));
+            println!(rt; "{ship} is moored at {place}")?;
         }
     }
     Ok(())
 }
 
-// Where the ships of one table are an hour later: columns are slices, with the same place for an entity in each of them.
+// What queries find.
+fn print_found<R: Print>(rt: &R, world: &World) -> Result<()> {
+    let afloat = find(world, "Afloat")?;
+    print_afloat(rt, world, &afloat)?;
+    let moorings = find(world, "Ship, (MooredAt, *)")?;
+    print_moorings(rt, world, &moorings)?;
+    Ok(())
+}
+
+// Where a ship is an hour later.
+fn print_course<R: Print>(rt: &R, name: &str, at: &[i64; 2], by: &[i64; 2]) -> io::Result<()> {
+    let (east, north) = (at[0].wrapping_add(by[0]), at[1].wrapping_add(by[1]));
+    println!(rt; "{name} will be at {east} {north}")
+}
+
+// The ships of one table: columns are slices, with the same place for an entity in each of them.
 fn print_courses<R: Print>(
     rt: &R,
     world: &World,
@@ -99,10 +132,8 @@ fn print_courses<R: Print>(
     ) else {
         return Ok(());
     };
-    for ((entity, at), by) in table.entities.iter().zip(positions).zip(velocities) {
-        let name = world.name_of(*entity).unwrap_or("-");
-        let (east, north) = (at[0].wrapping_add(by[0]), at[1].wrapping_add(by[1]));
-        println!(rt; "{name} will be at {east} {north}")?;
+    for ((ship, at), by) in table.entities.iter().zip(positions).zip(velocities) {
+        print_course(rt, name_of(world, *ship), at, by)?;
     }
     Ok(())
 }
@@ -116,28 +147,40 @@ fn print_all_courses<R: Print>(rt: &R, world: &World, terms: Terms) -> Result<()
     Ok(())
 }
 
+// Where a ship is: a value is written with as many fields as its component has.
+fn print_place<R: Print>(rt: &R, world: &World, ship: Entity, position: Entity) -> io::Result<()> {
+    let Some(value) = world.get(ship, Id::One(position)) else {
+        return Ok(());
+    };
+    let (name, fields) = (name_of(world, ship), value.fields(2));
+    println!(rt; "{name} is at {fields}")
+}
+
 // What single entities have.
-fn print_ships<R: Print>(rt: &R, world: &World, terms: Terms, fleet: Fleet) -> io::Result<()> {
-    if let Some(value) = world.get(fleet.heron, Id::One(terms.position)) {
-        let fields = value.fields(2);
-        println!(rt; "Heron is at {fields}")?;
-    }
-    let moored = world.has(fleet.teal, Id::Two(terms.moored_at, terms.quay));
+fn print_ships<R: Print>(
+    rt: &R,
+    world: &World,
+    terms: Terms,
+    harbor: Harbor,
+    fleet: Fleet,
+) -> io::Result<()> {
+    print_place(rt, world, fleet.heron, terms.position)?;
+    let moored = world.has(fleet.teal, Id::Two(harbor.moored_at, harbor.quay));
     println!(rt; "Teal is moored at the quay: {moored}")
 }
 
 // A refusal says why, and changes nothing.
 fn print_refusal<R: Print>(rt: &R, world: &mut World) -> io::Result<()> {
-    if let Err(refusal) = world.create(Some("Teal")) {
-        println!(rt; "a second Teal is refused: {refusal}")?;
+    match world.create(Some("Teal")) {
+        Ok(_) => Ok(()),
+        Err(refusal) => println!(rt; "a second Teal is refused: {refusal}"),
     }
-    Ok(())
 }
 
 // A delete takes what the policies say (here nothing else), and no id names the dead: whoever had one loses it.
-fn close_quay<R: Print>(rt: &R, world: &mut World, terms: Terms, fleet: Fleet) -> Result<()> {
-    world.delete(terms.quay)?;
-    let moored = world.has(fleet.teal, Id::Two(terms.moored_at, terms.quay));
+fn close_quay<R: Print>(rt: &R, world: &mut World, harbor: Harbor, fleet: Fleet) -> Result<()> {
+    world.delete(harbor.quay)?;
+    let moored = world.has(fleet.teal, Id::Two(harbor.moored_at, harbor.quay));
     println!(rt; "the quay is gone, and Teal moored there: {moored}")?;
     Ok(())
 }
@@ -145,13 +188,13 @@ fn close_quay<R: Print>(rt: &R, world: &mut World, terms: Terms, fleet: Fleet) -
 // The world is passed on by reference: a function that owns it would have its end to prove at each way out.
 fn show_all<R: Print + Threads + Sync + AllocGlobal>(rt: &R, world: &mut World) -> Result<()> {
     let terms = declare(world)?;
-    let fleet = launch(world, terms)?;
-    print_afloat(rt, world)?;
-    print_moorings(rt, world)?;
-    print_ships(rt, world, terms, fleet)?;
+    let harbor = build(world)?;
+    let fleet = launch(world, terms, harbor)?;
+    print_found(rt, world)?;
+    print_ships(rt, world, terms, harbor, fleet)?;
     print_all_courses(rt, world, terms)?;
     print_refusal(rt, world)?;
-    close_quay(rt, world, terms, fleet)?;
+    close_quay(rt, world, harbor, fleet)?;
     frames::show(rt, world, fleet.heron, terms.position)
 }
 

@@ -1,10 +1,10 @@
 //! Systems by example: ships sail, and each of them lowers a boat; then a body in Rust notes where they are.
-use crate::calls::find;
+use crate::calls::{find, name_of};
 use crate::wake::Wake;
 use anyhow::Result;
 use eco_frame::{Action, Phase, Script, SystemBody, Systems, run_frame};
 use eco_ids::{Entity, Id, Refusal};
-use eco_world::World;
+use eco_world::{Results, World};
 use std::alloc::Global;
 use std::io;
 use std::thread::Threads;
@@ -64,17 +64,33 @@ fn run<R: Print + Threads + Sync + AllocGlobal, B: SystemBody + Sync + Drop>(
     }
 }
 
-// What the first ship has of a component, and who is a boat.
+// What the first ship has of a component.
+fn print_value<R: Print>(
+    rt: &R,
+    world: &World,
+    heron: Entity,
+    component: Entity,
+) -> io::Result<()> {
+    let Some(value) = world.get(heron, Id::One(component)) else {
+        return Ok(());
+    };
+    let (name, fields) = (name_of(world, component), value.fields(2));
+    println!(rt; "Heron's {name}: {fields}")
+}
+
+// Who is a boat.
+fn print_boats<R: Print>(rt: &R, boats: &Results) -> io::Result<()> {
+    for (boat, _) in boats.iter() {
+        println!(rt; "{boat} is a boat")?;
+    }
+    Ok(())
+}
+
+// What a frame leaves.
 fn print_all<R: Print>(rt: &R, world: &World, heron: Entity, component: Entity) -> Result<()> {
-    if let Some(value) = world.get(heron, Id::One(component)) {
-        let name = world.name_of(component).unwrap_or("-");
-        let fields = value.fields(2);
-        println!(rt; "Heron's {name}: {fields}")?;
-    }
-    let results = find(world, "Boat")?;
-    for (entity, _) in results.iter() {
-        println!(rt; "{entity} is a boat")?;
-    }
+    print_value(rt, world, heron, component)?;
+    let boats = find(world, "Boat")?;
+    print_boats(rt, &boats)?;
     Ok(())
 }
 

@@ -10,8 +10,8 @@ use eco_world::World;
 use std::alloc::Global;
 use std::marker::Brand;
 use std::sync::Wait;
-use std::thread;
-use std::thread::Threads;
+use std::thread::{JoinHandle, Threads};
+use std::{io, thread};
 
 // So many frames are merged, and so often each viewer looks.
 const FRAMES: i64 = 100;
@@ -85,10 +85,57 @@ fn print_told<J: Naming, R: Wait + Print + Drop>(
     merger: &Merger<J, R>,
     viewer: &mut Viewer<J, R>,
     ship: Ship,
-) -> Result<()> {
+) -> io::Result<()> {
     let told = viewer.learn(&merger.tell());
     let east = ship.east(viewer.enter(rt).world());
-    println!(rt; "told of it: {told}, and Heron is {east} miles to the east")?;
+    println!(rt; "told of it: {told}, and Heron is {east} miles to the east")
+}
+
+// Each viewer looks on in a thread of its own, where one can be had.
+fn start<J: Naming + Send + 'static, R: Threads + Wait + Copy + Drop + Send + Sync + 'static>(
+    rt: R,
+    alloc: Global,
+    viewers: Vec<Viewer<J, R>>,
+    ship: Ship,
+) -> Result<Vec<JoinHandle<(Viewer<J, R>, bool)>>, Refusal> {
+    let mut threads = Vec::new(alloc);
+    for viewer in viewers {
+        if let Ok(started) = thread::spawn(&rt, move || look_on(&rt, viewer, ship)) {
+            threads.push(started)?;
+        }
+    }
+    Ok(threads)
+}
+
+// What was seen in a thread, and what its viewer sees at the end.
+fn print_seen<J: Naming, R: Threads + Wait + Print + Drop>(
+    rt: &R,
+    merger: &Merger<J, R>,
+    started: JoinHandle<(Viewer<J, R>, bool)>,
+    ship: Ship,
+) -> io::Result<()> {
+    let (mut viewer, only_east) = started.join(rt);
+    println!(rt; "looked on, and Heron never sailed back: {only_east}")?;
+    print_told(rt, merger, &mut viewer, ship)
+}
+
+// Sails while the viewers look on.
+fn sail_seen<
+    J: Naming + Send + 'static,
+    R: Threads + Wait + Print + Copy + Drop + Send + Sync + 'static,
+>(
+    rt: R,
+    alloc: Global,
+    merger: &mut Merger<J, R>,
+    viewers: Vec<Viewer<J, R>>,
+    ship: Ship,
+) -> Result<()> {
+    let threads = start(rt, alloc, viewers, ship)?;
+    sail(alloc, merger, ship)?;
+    println!(&rt; "{FRAMES} frames were merged")?;
+    for started in threads {
+        print_seen(&rt, merger, started, ship)?;
+    }
     Ok(())
 }
 
@@ -105,20 +152,7 @@ fn share<
     let (mut merger, viewers) = open(rt, &mut registry, alloc, world, 2).map_err(
         |refused| refused.1,
     )?;
-    let mut threads = Vec::new(alloc);
-    for viewer in viewers {
-        if let Ok(started) = thread::spawn(&rt, move || look_on(&rt, viewer, ship)) {
-            threads.push(started)?;
-        }
-    }
-    sail(alloc, &mut merger, ship)?;
-    println!(&rt; "{FRAMES} frames were merged")?;
-    for started in threads {
-        let (mut viewer, only_east) = started.join(&rt);
-        println!(&rt; "looked on, and Heron never sailed back: {only_east}")?;
-        print_told(&rt, &merger, &mut viewer, ship)?;
-    }
-    Ok(())
+    sail_seen(rt, alloc, &mut merger, viewers, ship)
 }
 
 /// Shows a world that is shared.

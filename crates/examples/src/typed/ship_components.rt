@@ -1,11 +1,18 @@
 //! What ships have, by Rust types.
 use super::position::Position;
 use super::velocity::Velocity;
+use crate::calls::name_of;
 use anyhow::Result;
 use eco_ids::{Entity, Refusal};
 use eco_typed::TypedId;
 use eco_world::{TableRows, World};
 use std::io;
+
+// Where a ship will be.
+fn print_course<R: Print>(rt: &R, name: &str, later: Position) -> io::Result<()> {
+    let Position { east, north } = later;
+    println!(rt; "{name} will be at {east} {north}")
+}
 
 /// The components of ships. No call says how many fields they have.
 #[derive(Clone, Copy)]
@@ -61,10 +68,7 @@ impl ShipComponents {
             return Ok(());
         };
         for ((ship, at), by) in table.entities.iter().zip(positions).zip(velocities) {
-            let name = world.name_of(*ship).unwrap_or("-");
-            let later = at.sailed(by);
-            let (east, north) = (later.east, later.north);
-            println!(rt; "{name} will be at {east} {north}")?;
+            print_course(rt, name_of(world, *ship), at.sailed(by))?;
         }
         Ok(())
     }
@@ -80,10 +84,10 @@ impl ShipComponents {
 
     /// Says where one entity is.
     pub fn print_place<R: Print>(self, rt: &R, world: &World, ship: Entity) -> io::Result<()> {
-        if let Some(Position { east, north }) = self.position.get(world, ship) {
-            let name = world.name_of(ship).unwrap_or("-");
-            println!(rt; "{name} is at {east} {north}")?;
-        }
-        Ok(())
+        let Some(Position { east, north }) = self.position.get(world, ship) else {
+            return Ok(());
+        };
+        let name = name_of(world, ship);
+        println!(rt; "{name} is at {east} {north}")
     }
 }

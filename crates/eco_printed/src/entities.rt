@@ -1,7 +1,8 @@
 //! The lines of entities.
-ghost use Rattle.std.specs.Prelude.{◌≡◌, ◌++◌, OnOk, flat_map, string_bytes};
+ghost use Rattle.std.specs.Prelude.{◌≡◌, ◌++◌, OnOk, codes, flat_map, string_bytes};
 ghost use Rattle.std.specs.Option.{option_copied};
 ghost use Rattle.eco_ids.specs.Data.{arity, value_of};
+ghost use Rattle.eco_ids.specs.Text.{entity_text};
 ghost use Rattle.eco_printed.specs.Printed.{arity_behind, entity_lines, held_line, name_behind, value_behind};
 
 use crate::named::NamedId;
@@ -9,24 +10,25 @@ use eco_ids::{Entity, Id};
 use eco_world::World;
 use std::alloc::AllocError;
 
-// Adds the name, behind a space.
-fn push_name(text: &mut String, name: Option<&str>) -> Result<(), AllocError>
+// Adds a handle, and a name behind it.
+fn push_handle(text: &mut String, entity: Entity, name: Option<&str>) -> Result<(), AllocError>
     ensures { OnOk result (string_bytes text.new
-        ≡ string_bytes text.old ++ name_behind (option_copied name.entry)) }
+        ≡ string_bytes text.old ++ entity_text entity ++ name_behind (option_copied name.entry)) }
 {
     match name {
-        Some(name) => write!(text, " {name}"),
-        None => Ok(()),
+        Some(name) => write!(text, "{entity} {name}"),
+        None => write!(text, "{entity}"),
     }
 }
 
-// Adds how many fields the values of a component have.
+// Adds how many fields the values of a component have, and ends the line.
 fn push_arity(text: &mut String, arity: Option<u8>) -> Result<(), AllocError>
-    ensures { OnOk result (string_bytes text.new ≡ string_bytes text.old ++ arity_behind arity) }
+    ensures { OnOk result (string_bytes text.new
+        ≡ string_bytes text.old ++ arity_behind arity ++ codes "\n") }
 {
     match arity {
-        Some(fields) => write!(text, ", arity {fields}"),
-        None => Ok(()),
+        Some(fields) => write!(text, ", arity {fields}\n"),
+        None => text.push_str("\n"),
     }
 }
 
@@ -74,10 +76,8 @@ fn push_entity(text: &mut String, world: &World, entity: Entity) -> Result<(), A
     ensures { OnOk result (string_bytes text.new
         ≡ string_bytes text.old ++ entity_lines world.now entity) }
 {
-    write!(text, "{entity}")?;
-    push_name(text, world.name_of(entity))?;
+    push_handle(text, entity, world.name_of(entity))?;
     push_arity(text, world.arity_of(entity))?;
-    text.push_str("\n")?;
     push_all_held(text, world, entity, world.ids_of(entity))
 }
 

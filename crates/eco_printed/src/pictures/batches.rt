@@ -1,5 +1,6 @@
 //! Pictures of batches.
 
+use crate::pictures::names::push_pattern;
 use crate::pictures::pen::Pen;
 use crate::pictures::reason::Reason;
 use crate::svg::Ink;
@@ -24,17 +25,85 @@ impl<'a> NamedSystems<'a> {
     }
 }
 
+// Adds what a system does with patterns, and the patterns.
+fn push_patterns(
+    text: &mut String,
+    world: &World,
+    what: &str,
+    patterns: &[Pattern],
+) -> Result<(), AllocError> {
+    text.push_str(what)?;
+    for (place, pattern) in patterns.iter().enumerate() {
+        text.push_str(if place == 0 { " " } else { ", " })?;
+        push_pattern(text, world, *pattern)?;
+    }
+    Ok(())
+}
+
+// Adds that a system reads what another writes.
+fn push_writes(
+    text: &mut String,
+    world: &World,
+    (writer, reader): (&str, &str),
+    write: Pattern,
+    read: Pattern,
+) -> Result<(), AllocError> {
+    let besides = if write.overlaps(read) {
+        ""
+    } else {
+        ", and more by traits,"
+    };
+    write!(text, "{writer} writes ")?;
+    push_pattern(text, world, write)?;
+    write!(text, "{besides} and {reader} reads ")?;
+    push_pattern(text, world, read)
+}
+
+// Adds why there is a sync point before the system at a position.
+fn push_sync_point(
+    text: &mut String,
+    world: &World,
+    listed: NamedSystems<'_>,
+    reason: Option<Reason>,
+    at: usize,
+) -> Result<(), AllocError> {
+    text.push_str("sync point: ")?;
+    match reason {
+        Some(Reason::Kills(place)) => {
+            let name = listed.name(place);
+            write!(text, "{name} deletes or clears entities")
+        }
+        Some(Reason::Traits(place)) => {
+            let name = listed.name(place);
+            write!(
+                text,
+                "{name} writes traits, so it and each behind it run alone"
+            )
+        }
+        Some(
+            Reason::Writes {
+                writer,
+                write,
+                read,
+            },
+        ) => push_writes(
+            text,
+            world,
+            (listed.name(writer), listed.name(at)),
+            write,
+            read,
+        ),
+        None => Ok(()),
+    }
+}
+
 impl Pen<'_> {
     // Writes what a system reads or writes.
     fn write_patterns(&mut self, what: &str, patterns: &[Pattern]) -> Result<(), AllocError> {
         if patterns.is_empty() {
             return Ok(());
         }
-        self.say(what)?;
-        for (place, pattern) in patterns.iter().enumerate() {
-            self.say(if place == 0 { " " } else { ", " })?;
-            self.say_pattern(*pattern)?;
-        }
+        push_patterns(&mut self.text, self.world, what, patterns)?;
         self.write(14, Ink::Plain)
     }
 
@@ -64,62 +133,10 @@ impl Pen<'_> {
         self.sheet.close_frame(top)
     }
 
-    // Says that a system reads what another writes.
-    fn say_writes(
-        &mut self,
-        names: (&str, &str),
-        write: Pattern,
-        read: Pattern,
-    ) -> Result<(), AllocError> {
-        self.say(names.0)?;
-        self.say(" writes ")?;
-        self.say_pattern(write)?;
-        if !write.overlaps(read) {
-            self.say(", and more by traits,")?;
-        }
-        self.say(" and ")?;
-        self.say(names.1)?;
-        self.say(" reads ")?;
-        self.say_pattern(read)
-    }
-
-    // Says why the system at a position does not join the batch before it.
-    fn say_reason(
-        &mut self,
-        listed: NamedSystems<'_>,
-        reason: Reason,
-        at: usize,
-    ) -> Result<(), AllocError> {
-        match reason {
-            Reason::Kills(place) => {
-                self.say(listed.name(place))?;
-                self.say(" deletes or clears entities")
-            }
-            Reason::Traits(place) => {
-                self.say(listed.name(place))?;
-                self.say(" writes traits, so it and each behind it run alone")
-            }
-            Reason::Writes {
-                writer,
-                write,
-                read,
-            } => self.say_writes((listed.name(writer), listed.name(at)), write, read),
-        }
-    }
-
-    // Draws the sync point before the system at a position.
-    fn draw_sync_point(
-        &mut self,
-        listed: NamedSystems<'_>,
-        reason: Option<Reason>,
-        at: usize,
-    ) -> Result<(), AllocError> {
+    // Draws a sync point, with what the text says of it.
+    fn draw_sync_point(&mut self) -> Result<(), AllocError> {
         self.sheet.skip(8);
         self.sheet.rule(self.sheet.height())?;
-        self.say("sync point: ")?;
-        if let Some(reason) = reason {
-            self.say_reason(listed, reason, at)?;
-        }
         self.write(0, Ink::Warning)?;
         self.sheet.skip(6);
         Ok(())
@@ -137,11 +154,10 @@ impl Pen<'_> {
             return Ok(());
         };
         let reason = Reason::find(self.alloc, self.world, listed.declared, order, batch, *at)?;
-        self.draw_sync_point(listed, reason, *at)
+        push_sync_point(&mut self.text, self.world, listed, reason, *at)?;
+        self.draw_sync_point()
     }
-}
 
-impl Pen<'_> {
     // Draws all batches, with the sync points between them.
     fn draw_batches(
         &mut self,
@@ -160,6 +176,19 @@ impl Pen<'_> {
         }
         Ok(())
     }
+
+    // Draws all that there is to draw.
+    fn draw_frame(
+        &mut self,
+        listed: NamedSystems<'_>,
+        batches: &[Vec<usize>],
+    ) -> Result<(), AllocError> {
+        if batches.is_empty() {
+            self.sheet.line(0, Ink::Faint, "no system is declared")
+        } else {
+            self.draw_batches(listed, batches)
+        }
+    }
 }
 
 /// A picture of the batches that a frame on this world would have, as SVG: of each system its phase, its name, and what it reads
@@ -171,11 +200,8 @@ pub fn batches_svg(
     world: &World,
     systems: NamedSystems<'_>,
 ) -> Result<String, AllocError> {
-    let mut pen = Pen::new(alloc, world);
     let batches = sync_points(alloc, world, systems.declared)?;
-    if batches.is_empty() {
-        pen.sheet.line(0, Ink::Faint, "no system is declared")?;
-    }
-    pen.draw_batches(systems, batches.as_slice())?;
+    let mut pen = Pen::new(alloc, world);
+    pen.draw_frame(systems, batches.as_slice())?;
     pen.sheet.svg("The batches of a frame")
 }

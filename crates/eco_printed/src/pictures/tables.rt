@@ -1,5 +1,7 @@
 //! Pictures of tables.
 
+use crate::named::NamedId;
+use crate::pictures::names::push_entity;
 use crate::pictures::pen::Pen;
 use crate::svg::Ink;
 use eco_ids::{Entity, Id};
@@ -9,41 +11,44 @@ use std::alloc::{AllocError, Global};
 // How many entities of a table are named.
 const NAMED: usize = 8;
 
+// Adds who is in a table, the first of them by their names.
+fn push_rows(text: &mut String, world: &World, entities: &[Entity]) -> Result<(), AllocError> {
+    for (place, entity) in entities.iter().take(NAMED).enumerate() {
+        text.push_str(if place == 0 { "" } else { ", " })?;
+        push_entity(text, world, *entity)?;
+    }
+    let more = entities.len().saturating_sub(NAMED);
+    if more > 0 {
+        write!(text, " and {more} more")?;
+    }
+    Ok(())
+}
+
 impl Pen<'_> {
     // Writes how many rows a table has.
     fn write_count(&mut self, number: usize, count: usize) -> Result<(), AllocError> {
-        self.say("table ")?;
-        self.say_number(number)?;
-        self.say(": ")?;
-        self.say_number(count)?;
-        self.say(if count == 1 { " row" } else { " rows" })?;
+        let rows = if count == 1 { "row" } else { "rows" };
+        write!(self.text, "table {number}: {count} {rows}")?;
         self.write(0, Ink::Head)
     }
 
     // Writes the ids of a table, a line each.
     fn write_ids(&mut self, ids: &[Id]) -> Result<(), AllocError> {
         if ids.is_empty() {
-            self.sheet.line(14, Ink::Plain, "no ids")?;
+            return self.sheet.line(14, Ink::Plain, "no ids");
         }
+        let world = self.world;
         for id in ids {
-            self.say_id(*id)?;
+            let named = NamedId { world, id: *id };
+            write!(self.text, "{named}")?;
             self.write(14, Ink::Plain)?;
         }
         Ok(())
     }
 
-    // Writes who has a table's type, the first of them by their names.
+    // Writes who is in a table.
     fn write_rows(&mut self, entities: &[Entity]) -> Result<(), AllocError> {
-        for (place, entity) in entities.iter().take(NAMED).enumerate() {
-            self.say(if place == 0 { "" } else { ", " })?;
-            self.say_entity(*entity)?;
-        }
-        let more = entities.len().saturating_sub(NAMED);
-        if more > 0 {
-            self.say(" and ")?;
-            self.say_number(more)?;
-            self.say(" more")?;
-        }
+        push_rows(&mut self.text, self.world, entities)?;
         self.write(14, Ink::Faint)
     }
 
@@ -53,14 +58,13 @@ impl Pen<'_> {
         self.write_count(number, table.entities.len())?;
         self.write_ids(table.ids)?;
         self.write_rows(table.entities)?;
-        self.sheet.close_frame(top)?;
-        self.sheet.skip(8);
-        Ok(())
+        self.sheet.close_frame(top)
     }
 
     fn draw_tables(&mut self, tables: &[TableRows<'_>]) -> Result<(), AllocError> {
         for (number, table) in tables.iter().enumerate() {
             self.draw_table(number, table)?;
+            self.sheet.skip(8);
         }
         Ok(())
     }
@@ -71,8 +75,8 @@ impl Pen<'_> {
 ///
 /// `AllocError` comes where memory for it is refused.
 pub fn tables_svg(alloc: Global, world: &World) -> Result<String, AllocError> {
-    let mut pen = Pen::new(alloc, world);
     let tables = world.tables()?;
+    let mut pen = Pen::new(alloc, world);
     pen.draw_tables(tables.as_slice())?;
     pen.sheet.svg("The tables of a world")
 }

@@ -2,15 +2,23 @@
 
 use std::alloc::AllocError;
 
+// The name of a sign that XML has for itself.
+fn escape(character: char) -> Option<&'static str> {
+    match character {
+        '&' => Some("&amp;"),
+        '<' => Some("&lt;"),
+        '>' => Some("&gt;"),
+        '"' => Some("&quot;"),
+        _ => None,
+    }
+}
+
 /// Adds a text, with the names of XML in place of its own signs.
 pub fn push_escaped(svg: &mut String, text: &str) -> Result<(), AllocError> {
     for character in text.chars() {
-        match character {
-            '&' => svg.push_str("&amp;")?,
-            '<' => svg.push_str("&lt;")?,
-            '>' => svg.push_str("&gt;")?,
-            '"' => svg.push_str("&quot;")?,
-            _ => svg.push(character)?,
+        match escape(character) {
+            Some(name) => svg.push_str(name)?,
+            None => svg.push(character)?,
         }
     }
     Ok(())

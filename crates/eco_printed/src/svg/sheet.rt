@@ -177,9 +177,8 @@ impl Sheet {
             "\">\n<title>",
         )?;
         push_escaped(svg, title)?;
-        svg.push_str(STYLE)?;
-        svg.push_str(self.body.as_str())?;
-        svg.push_str("</svg>\n")
+        let body = self.body.as_str();
+        write!(svg, "{STYLE}{body}</svg>\n")
     }
 
     /// The picture as SVG, with a title for whoever does not see it.

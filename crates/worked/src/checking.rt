@@ -1,4 +1,5 @@
 //! What the checker says of a script.
+use crate::outcome::write_end;
 use eco_checker::check_script;
 use eco_devices::Counted;
 use std::alloc::Global;
@@ -9,6 +10,5 @@ pub fn show_check<W: Write>(alloc: Global, out: &mut W, script: &str) -> io::Res
     let mut reader = Counted::new(script.as_bytes());
     let mut writer = Counted::new(Vec::new(alloc));
     let verdict = check_script(alloc, &mut reader, &mut writer);
-    out.write_all(writer.inner().as_slice())?;
-    writeln!(out, "status {}", verdict.code())
+    write_end(out, writer.inner().as_slice(), verdict.code())
 }

@@ -42,7 +42,18 @@ impl Outcome {
 
     // Writes what the run wrote, and its status.
     pub(crate) fn write<W: Write>(&self, out: &mut W) -> io::Result<()> {
-        out.write_all(self.text.inner().as_slice())?;
-        writeln!(out, "status {}", self.status.code())
+        write_end(out, self.text.inner().as_slice(), self.status.code())
     }
+
+    // The same below a line that says with how many workers it ended otherwise.
+    pub(crate) fn write_apart<W: Write>(&self, out: &mut W, workers: u32) -> io::Result<()> {
+        writeln!(out, "with {workers} workers otherwise:")?;
+        self.write(out)
+    }
+}
+
+// Writes what a run or a check wrote, and the status that it ended with.
+pub(crate) fn write_end<W: Write>(out: &mut W, text: &[u8], status: u8) -> io::Result<()> {
+    out.write_all(text)?;
+    writeln!(out, "status {status}")
 }

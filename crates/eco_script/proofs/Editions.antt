@@ -1,5 +1,5 @@
 -- No step of a script changes the edition of the world.
-use Rattle.std.proofs.Common.{◌≡◌, ◌≤◌, ◌⊎◌, ◌&&◌, ◌||◌, inl, inr, nat_le, arith, ℕ, Bool, true, false, List, [], ◌∷◌, Option, Some, None, Result, map}
+use Rattle.std.proofs.Common.{◌≡◌, ◌≤◌, ◌&&◌, ◌||◌, inl, inr, nat_le, arith, ℕ, Bool, true, false, List, [], ◌∷◌, Option, Some, None, Result, map}
 use Rattle.std.proofs.Common.{Ok, Err, IsTrue, MatchBool, MatchOption, refl, ap, ◌∙◌}
 use Rattle.eco_ids.specs.declared.refusal.Refusal.{Refusal}
 use Rattle.eco_ids.specs.declared.refusal.Refusal.TheVariants.{NoMoreIds, Reserved}
@@ -28,7 +28,7 @@ use Rattle.eco_systems.specs.Systems.{SystemModel}
 use Rattle.eco_world.specs.Merging.{Merges, RunsAdmitted}
 use Rattle.eco_frame.specs.Reports.{FrameDone, Frames}
 use Rattle.eco_frame.specs.declared.stop.FrameStop.{FrameStop}
-use Rattle.eco_script.specs.Replies.{AnswersAdded, Calls, On, ReadsSystem, Replies, Reply, RunsFrame, StepReplies, StopsAtOnce}
+use Rattle.eco_script.specs.Replies.{AnswersAdded, Calls, On, ReadsSystem, Replies, Reply, StepReplies}
 use Rattle.eco_script.specs.Replies.{done, replied, shown, with_declared}
 use Rattle.eco_script.specs.States.{NamedSystem, ScriptState}
 use Rattle.eco_steps.specs.Actions as texts

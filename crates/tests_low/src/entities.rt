@@ -28,12 +28,17 @@ fn are_made(index: &mut EntityIndex) -> bool {
         && next(index, Some("a")) == Some(at(0, 0))
 }
 
+// Whether all is made, and an index is used again once its entity is killed.
+fn is_used_again(alloc: Global) -> bool {
+    let mut index = EntityIndex::new(alloc, 3);
+    let is_made = are_made(&mut index);
+    kill(&mut index, at(0, 0));
+    is_made && next(&mut index, None) == Some(at(0, 1))
+}
+
 #[test]
 fn each_call_succeeds(rt: HostRuntime) {
-    let mut index = EntityIndex::new(rt.alloc(), 3);
-    assert!(rt; are_made(&mut index));
-    kill(&mut index, at(0, 0));
-    assert_eq!(rt; next(&mut index, None), Some(at(0, 1)));
+    assert!(rt; is_used_again(rt.alloc()));
 }
 
 // Whether a copy knows names and indices, and goes its own way.

@@ -42,6 +42,14 @@ fn draw_in_turn(round: &Round, a: &mut Seat, b: &mut Seat) -> bool
     drawn == [Ok(fresh(10)), Ok(fresh(11)), none, none]
 }
 
+// Whether they do both.
+fn take_in_turn(round: &Round, a: &mut Seat, b: &mut Seat) -> bool
+    requires { IsSeatOf round.now a.old × IsSeatOf round.now b.old }
+    ensures { IsSeatOf round.now a.new × IsSeatOf round.now b.new }
+{
+    claim_in_turn(round, a, b) && draw_in_turn(round, a, b)
+}
+
 #[test]
 fn two_seats_in_turn(rt: HostRuntime) {
     let Ok((round, mut seats)) = Round::open(rt.alloc(), 10, 12, 3, 2) else {
@@ -50,11 +58,10 @@ fn two_seats_in_turn(rt: HostRuntime) {
     let (Some(mut b), Some(mut a)) = (seats.pop(), seats.pop()) else {
         panic!(rt; "two seats")
     };
-    assert!(rt; claim_in_turn(&round, &mut a, &mut b));
-    assert!(rt; draw_in_turn(&round, &mut a, &mut b));
+    assert!(rt; take_in_turn(&round, &mut a, &mut b));
     assert!(rt; seats.push(a).is_ok());
     assert!(rt; seats.push(b).is_ok());
-    assert_eq!(rt; round.close(seats), (3, 2));
+    assert!(rt; round.close(seats) == (3, 2));
 }
 
 // Counts what a seat claims until it is refused, of at most a thousand pieces.

@@ -5,7 +5,9 @@ use Rattle.eco_ids.proofs.Common.{common_steps}
 use Rattle.eco_ids.specs.declared.entity.Entity.{Entity}
 use Rattle.eco_ids.specs.declared.id.Id.{Id}
 use Rattle.eco_ids.specs.declared.refusal.Refusal.{Refusal}
-use Rattle.std.proofs.Common.{drop-cons}
+use Rattle.std.proofs.Math.Bool.{or-false, or-true}
+use Rattle.std.proofs.lemmas.List.{drop_all, drop_more}
+use Rattle.std.proofs.lemmas.List.Folds.{list_any-append}
 use Rattle.eco_ids.specs.Terms as terms
 use Rattle.eco_grammar.specs.Grammar.{WrittenAtom, alternatives, WrittenSlot, IsProperAtom}
 use Rattle.eco_grammar.specs.Reader.Machine.{body_of}
@@ -35,18 +37,13 @@ misplaced g (marks.Other a x ∷ ms) = has_wildcard (atom_view x) || misplaced t
 misplaced g (marks.Slot a h x ∷ ms) = misplaces_last h g (atom_view x) || misplaced false ms
 
 any-append : (p : WrittenAtom → Bool) (xs : List WrittenAtom) (x : WrittenAtom) → list_any p (xs ++ x ∷ []) ≡ (list_any p xs || p x)
-any-append p [] x = elim (p x) as (λ c. (c || false) ≡ (false || c)) [ true ↦ refl | false ↦ refl ]
-any-append p (y ∷ xs) x = grind (arith, common_steps, any-append p xs x)
+any-append p xs x = list_any-append p xs (x ∷ []) ∙ ap (λ c. list_any p xs || c) (or-false (p x))
 
 -- the slot is one of alternatives
 group_wildcards : (a : Access) (y : WrittenAtom) (ys : List WrittenAtom) (x : WrittenAtom)
     → misplaces_wildcard (record { access = a; body = alternatives ((y ∷ ys) ++ x ∷ []) }) ≡ (list_any has_wildcard (y ∷ ys) || has_wildcard x)
 group_wildcards a y [] x = any-append has_wildcard (y ∷ []) x
 group_wildcards a y (z ∷ ys) x = any-append has_wildcard (y ∷ z ∷ ys) x
-
-or_true : (b : Bool) → (b || true) ≡ true
-or_true true = refl
-or_true false = refl
 
 -- a wildcard in a pending alternative stands wrong in the slot that it leads to
 pending_wildcard : (xs : List WrittenAtom) (ms : List Mark) → some_of xs ≡ true → list_any has_wildcard xs ≡ true → grouping true ms ≡ Some false
@@ -85,7 +82,7 @@ wildcards xs (marks.Other a x ∷ ms) w g =
     elim (has_wildcard (atom_view x)) as
     (λ c. has_wildcard (atom_view x) ≡ c → (c || misplaced true ms) ≡ list_any misplaces_wildcard (slots_from (xs ++ atom_view x ∷ []) ms)) [
       | true ↦ λ e. sym (pending_wildcard (xs ++ atom_view x ∷ []) ms (some_of-more xs (atom_view x))
-          (any-append has_wildcard xs (atom_view x) ∙ ap (λ c. list_any has_wildcard xs || c) e ∙ or_true (list_any has_wildcard xs)) g)
+          (any-append has_wildcard xs (atom_view x) ∙ ap (λ c. list_any has_wildcard xs || c) e ∙ or-true (list_any has_wildcard xs)) g)
       | false ↦ λ e.
           let more = some_of-more xs (atom_view x) in
           ap (λ c. misplaced c ms) (sym more)
@@ -307,13 +304,7 @@ standing_left entity_named all xs ys group a h x l ms s e =
 -- ---- the atom at an index
 
 pub at_mark : (ms : List Mark) (i : ℕ) (m : Mark) → i < length ms → get_or ms i marks.Same ≡ m → drop i ms ≡ m ∷ drop (i + 1) ms
-at_mark ms i m lt e = rw (add-one, drop-cons ms i marks.Same) (ap (λ k. k ∷ drop (suc i) ms) e)
-
-past_end : (ms : List Mark) (i : ℕ) → length ms ≤ i → drop i ms ≡ []
-past_end [] zero le = refl
-past_end [] (suc i) le = refl
-past_end (m ∷ ms) zero le = absurd (let bad : length (m ∷ ms) ≤ 0 = le in omega arith)
-past_end (m ∷ ms) (suc i) le = past_end ms i (omega arith)
+at_mark ms i m lt e = drop_more ms i marks.Same lt ∙ ap (λ k. k ∷ drop (i + 1) ms) e
 
 pub wildcard_found : (ms : List Mark) (g : Bool) (i : ℕ) (m : Mark) → AreWhole ms → misplaced false ms ≡ misplaced g (drop i ms) → i < length ms
     → get_or ms i marks.Same ≡ m → misplaced g (m ∷ drop (i + 1) ms) ≡ true → true ≡ list_any misplaces_wildcard (slots_from [] ms)
@@ -321,7 +312,7 @@ wildcard_found ms g i m w inv lt e wrong = sym (sym (misplaced_is ms w) ∙ inv 
 
 pub wildcard_none : (ms : List Mark) (g : Bool) (i : ℕ) → AreWhole ms → misplaced false ms ≡ misplaced g (drop i ms) → length ms ≤ i
     → false ≡ list_any misplaces_wildcard (slots_from [] ms)
-wildcard_none ms g i w inv ge = sym (sym (misplaced_is ms w) ∙ inv ∙ ap (misplaced g) (past_end ms i ge))
+wildcard_none ms g i w inv ge = sym (sym (misplaced_is ms w) ∙ inv ∙ ap (misplaced g) (drop_all i ms ge))
 
 pub positive_found : (ms : List Mark) (i : ℕ) (m : Mark) → list_any ends_positive ms ≡ list_any ends_positive (drop i ms) → i < length ms
     → get_or ms i marks.Same ≡ m → ends_positive m ≡ true → true ≡ list_any (λ s. is_positive_body s.body) (slots_from [] ms)
@@ -330,7 +321,7 @@ positive_found ms i m inv lt e found = sym (sym (asks_is [] ms) ∙ inv ∙ ap (
 
 pub positive_none : (ms : List Mark) (i : ℕ) → list_any ends_positive ms ≡ list_any ends_positive (drop i ms) → length ms ≤ i
     → false ≡ list_any (λ s. is_positive_body s.body) (slots_from [] ms)
-positive_none ms i inv ge = sym (sym (asks_is [] ms) ∙ inv ∙ ap (list_any ends_positive) (past_end ms i ge))
+positive_none ms i inv ge = sym (sym (asks_is [] ms) ∙ inv ∙ ap (list_any ends_positive) (drop_all i ms ge))
 
 module _ (entity_named : List ℕ → Option Entity) (all : List Mark) (xs : List WrittenAtom) (ys : List QuerySlot) (group : List Id) (i : ℕ) where
   pub standing_at : (m : Mark) → Standing entity_named all xs ys group (drop i all) → i < length all → get_or all i marks.Same ≡ m
@@ -339,4 +330,4 @@ module _ (entity_named : List ℕ → Option Entity) (all : List Mark) (xs : Lis
 
   pub standing_end : Standing entity_named all xs ys group (drop i all) → length all ≤ i → slots_of_written entity_named (slots_from [] all) ≡ Ok ys
   standing_end s le =
-      s.whole ∙ ap (λ rest. joined entity_named ys (slots_of_written entity_named (slots_from xs rest))) (past_end all i le) ∙ ap (λ qs. Ok qs) (append-nil ys)
+      s.whole ∙ ap (λ rest. joined entity_named ys (slots_of_written entity_named (slots_from xs rest))) (drop_all i all le) ∙ ap (λ qs. Ok qs) (append-nil ys)

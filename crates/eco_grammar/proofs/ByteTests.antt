@@ -5,7 +5,7 @@ use Rattle.eco_ids.proofs.Common.{is_eq-slice_cmp, bytes_eq-Decides, may_follow,
 use Rattle.std.proofs.lemmas.Fmt.{decimal_digit, decimal_step}
 use Rattle.std.proofs.lemmas.Str.{IsUtf8-from_ascii}
 use Rattle.std.specs.Str.{IsAscii, IsUtf8}
-use Rattle.eco_query.proofs.Booleans.{and_left, and_right, and_both}
+use Rattle.std.proofs.lemmas.Bool.{and_from, and_parts, not-true}
 use Rattle.eco_grammar.specs.Tokens.{is_white, is_digit}
 use Rattle.eco_grammar.specs.Reader.Machine.{is_lone}
 
@@ -20,10 +20,10 @@ pub white_not_word : (b : ℕ) → is_white b ≡ true → may_follow b ≡ fals
 white_not_word b e = grind (arith, nat_tests)
 
 pub digit_is : (b : ℕ) → is_digit b ≡ true → (48 ≤ b) × (b ≤ 57)
-digit_is b e = (leb-true 48 b (and_left _ _ e), leb-true b 57 (and_right _ _ e))
+digit_is b e = (leb-true 48 b (and_parts _ _ e).0, leb-true b 57 (and_parts _ _ e).1)
 
 pub is_digit_of : (n : ℕ) → n < 10 → is_digit (48 + n) ≡ true
-is_digit_of n lt = and_both _ _ (le-leb 48 (48 + n) (omega arith)) (le-leb (48 + n) 57 (omega arith))
+is_digit_of n lt = and_from _ _ (le-leb 48 (48 + n) (omega arith)) (le-leb (48 + n) 57 (omega arith))
 
 pub not_lone : (n : List ℕ) → not (is_lone n) ≡ true → n ≢ codes "_"
 not_lone n e h = let same : is_lone n ≡ true = (bytes_eq-Decides n (codes "_")).1 h in cc
@@ -40,19 +40,15 @@ more_digits n b pos d small = grind (arith, common_steps, digit_is, decimal_step
 lone_is_text : (n : List ℕ) → is_text n (95 ∷ []) ≡ is_lone n
 lone_is_text n = is_eq-slice_cmp n (95 ∷ [])
 
-not_true : (a : Bool) → not a ≡ true → a ≡ false
-not_true true e = cc
-not_true false e = refl
-
 -- what a name is
 pub name_parts : (b : ℕ) (bs : List ℕ) → is_name (b ∷ bs) ≡ true
     → (may_begin b ≡ true) × (list_all may_follow bs ≡ true) × (length bs < 63) × (is_lone (b ∷ bs) ≡ false)
-name_parts b bs e = grind (arith, common_steps, and_right, leb-true, and_left, lone_is_text, not_true)
+name_parts b bs e = grind (arith, common_steps, and_parts, leb-true, lone_is_text, not-true)
 
 pub name_of_parts : (b : ℕ) (bs : List ℕ) → may_begin b ≡ true → list_all may_follow bs ≡ true → length bs < 63 → is_lone (b ∷ bs) ≡ false
     → is_name (b ∷ bs) ≡ true
 name_of_parts b bs letter words small lone =
-    and_both _ _ letter (and_both _ _ words (and_both _ _ (le-leb (length bs) 62 (omega arith)) (ap not (lone_is_text (b ∷ bs) ∙ lone))))
+    and_from _ _ letter (and_from _ _ words (and_from _ _ (le-leb (length bs) 62 (omega arith)) (ap not (lone_is_text (b ∷ bs) ∙ lone))))
 
 begins_follows : (b : ℕ) → may_begin b ≡ true → may_follow b ≡ true
 begins_follows b e = rw e refl
@@ -62,12 +58,12 @@ may_follow_ascii b e = grind (arith, nat_tests)
 
 words_ascii : (bs : List ℕ) → list_all may_follow bs ≡ true → IsAscii bs
 words_ascii [] e i = omega arith
-words_ascii (b ∷ bs) e zero = may_follow_ascii b (and_left _ _ e)
-words_ascii (b ∷ bs) e (suc i) = words_ascii bs (and_right _ _ e) i
+words_ascii (b ∷ bs) e zero = may_follow_ascii b (and_parts _ _ e).0
+words_ascii (b ∷ bs) e (suc i) = words_ascii bs (and_parts _ _ e).1 i
 
 -- a name is a text
 pub name_utf8 : (n : List ℕ) → is_name n ≡ true → IsUtf8 n
 name_utf8 [] e = cc
 name_utf8 (b ∷ bs) e =
     let (letter, words, small, lone) = name_parts b bs e in
-    IsUtf8-from_ascii (b ∷ bs) (words_ascii (b ∷ bs) (and_both _ _ (begins_follows b letter) words))
+    IsUtf8-from_ascii (b ∷ bs) (words_ascii (b ∷ bs) (and_from _ _ (begins_follows b letter) words))

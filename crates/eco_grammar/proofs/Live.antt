@@ -12,37 +12,19 @@ use Rattle.eco_query.specs.declared.access.Access.TheVariants.{InOut}
 use Rattle.eco_grammar.specs.declared.point.Head.{Head}
 use Rattle.eco_grammar.specs.declared.point.Head.TheVariants.{Plain, Not, Optional, Alone}
 use Rattle.eco_grammar.proofs.ByteTests.{if_some_cond}
-use Rattle.eco_query.proofs.Booleans.{and_left, and_right}
+use Rattle.std.proofs.lemmas.Bool.{and_parts, not-false, or_cases}
 use Rattle.eco_grammar.proofs.Tokens.{Sat}
 use Rattle.eco_grammar.proofs.Rest.{IsNamed, After, Follow, Rest, move_out}
 
-not_false : (a : Bool) → not a ≡ false → a ≡ true
-not_false true e = refl
-not_false false e = cc
-
 -- a wildcard is no reference
 abbrev pub FitsAt : Spot → Type 0
-FitsAt (slot ss) = Unit {0}
-FitsAt (word ss) = Unit {0}
-FitsAt (shut ss a) = Unit {0}
-FitsAt (body ss a) = Unit {0}
-FitsAt (atom c) = Unit {0}
-FitsAt (part o) = Unit {0}
-FitsAt (behind (whole c) p) = Unit {0}
-FitsAt (behind (first c) p) = Unit {0}
-FitsAt (behind (second c p) q) = Unit {0}
 FitsAt (behind (sole c) p) = IsNamed p
-FitsAt (after c x) = Unit {0}
+FitsAt _ = Unit {0}
 
 abbrev pub Fits : Point → Type 0
 Fits (at s) = FitsAt s
 Fits (letters ss m) = is_front m ≡ true
-Fits (bar c x) = Unit {0}
-Fits (name_of o from m) = Unit {0}
-Fits (hash o from) = Unit {0}
-Fits (index o from i) = Unit {0}
-Fits (dot o from i) = Unit {0}
-Fits (generation o from i g) = Unit {0}
+Fits _ = Unit {0}
 
 fits_if : (c : Bool) (x y : Option Point) → IfSome x Fits → IfSome y Fits → IfSome (if c then x else y) Fits
 fits_if true x y f g = f
@@ -53,23 +35,19 @@ fits_then None f h = tt
 fits_then (Some x) f h = h x
 
 fits_behind : (o : Role) (p : WrittenPart) → takes_wildcard o ≡ true → FitsAt (behind o p)
-fits_behind (whole c) p e = tt
-fits_behind (first c) p e = tt
-fits_behind (second c q) p e = tt
 fits_behind (sole c) p e = cc
+fits_behind _ p e = tt
 
 fits_named : (o : Role) (from : ℕ) (n : Reference) → FitsAt (behind o (named from n))
-fits_named (whole c) from n = tt
-fits_named (first c) from n = tt
-fits_named (second c q) from n = tt
 fits_named (sole c) from n = tt
+fits_named _ from n = tt
 
 fits_word : (o : Role) (from : ℕ) (m : List ℕ) → (is_lone m && not (takes_wildcard o)) ≡ false → FitsAt (behind o (part_of from m))
-fits_word o from m e = grind (arith, common_steps, fits_behind, not_false, fits_named)
+fits_word o from m e = grind (arith, common_steps, fits_behind, not-false, fits_named)
 
 fits_part : (n : ℕ) (o : Role) (b : ℕ) (y : Option Point) → IfSome y Fits → IfSome (part_or n o b y) Fits
 fits_part n o b y h = fits_if (may_begin b) _ _ tt (fits_if (b == 35) _ _ tt
-    (if_some_cond ((b == 42) && takes_wildcard o) _ _ Fits (λ e. fits_behind o each (and_right _ _ e)) (λ _. h)))
+    (if_some_cond ((b == 42) && takes_wildcard o) _ _ Fits (λ e. fits_behind o each (and_parts _ _ e).1) (λ _. h)))
 
 fits_atom : (n : ℕ) (c : Before) (b : ℕ) (y : Option Point) → IfSome y Fits → IfSome (atom_or n c b y) Fits
 fits_atom n c b y h = fits_part n (whole c) b _ (fits_if (b == 40) _ _ tt h)
@@ -166,10 +144,6 @@ front_rest (x ∷ k) (y ∷ w) e =
       | false ↦ λ f g. cc
     ] refl e
 
-or_cases : (a b : Bool) → (a || b) ≡ true → (a ≡ true) ⊎ (b ≡ true)
-or_cases true b e = inl refl
-or_cases false b e = inr e
-
 front_word : (m : List ℕ) → is_front m ≡ true → (a : Access) × (t : List ℕ) × (access_word a ≡ m ++ t)
 front_word m e = grind (arith, common_steps, or_cases, front_rest)
 
@@ -208,7 +182,7 @@ live_name n o from m =
     elim (is_lone m && not (takes_wildcard o)) as (λ c. (is_lone m && not (takes_wildcard o)) ≡ c → Live n (name_of o from m)) [
       | false ↦ λ e. live_word n o from m (fits_word o from m e)
       | true ↦ λ e.
-          let same : m ≡ 95 ∷ [] = (bytes_eq-Decides m (codes "_")).0 (and_left _ _ e) in
+          let same : m ≡ 95 ∷ [] = (bytes_eq-Decides m (codes "_")).0 (and_parts _ _ e).0 in
           subst (λ m. Live n (name_of o from m)) (sym same)
           (live_by n (name_of o from (95 ∷ [])) 97 (name_of o from (95 ∷ 97 ∷ [])) refl
           (live_word (n + 1) o from (95 ∷ 97 ∷ []) (fits_named o from (name (95 ∷ 97 ∷ [])))))

@@ -3,7 +3,7 @@ use Rattle.eco_ids.proofs.Common.{◌≡◌, ℕ, ◌+◌, ◌-◌, ◌^◌, ◌
 use Rattle.eco_ids.proofs.Common.{None, codes, decimal, Option, option_and_then, sym, refl, ap, ◌∙◌, subst, inl, inr, append_assoc, append-nil, arith}
 use Rattle.eco_ids.proofs.Common.{length-append, ltb-true, lt-ltb, list_all, cond-false, common_steps, bytes_eq-Decides, may_follow, may_begin}
 use Rattle.eco_grammar.proofs.ByteTests.{name_parts, name_of_parts}
-use Rattle.eco_query.proofs.Booleans.{and_left, and_right, and_both}
+use Rattle.std.proofs.lemmas.Bool.{and_from, and_parts}
 use Rattle.eco_grammar.specs.Tokens.{name, handle, is_white, is_digit}
 use Rattle.eco_grammar.specs.Reader.Machine.{with_digit, is_lone, Before, Role, whole, first, second, sole, takes_wildcard, Spot, slot, word, shut, body, atom, part}
 use Rattle.eco_grammar.specs.Reader.Machine.{behind, after, Point, at, letters, bar, name_of, hash, index, dot, generation, body_of, slots_with, others_with}
@@ -266,7 +266,7 @@ module _ (size : ℕ) (r : List WrittenSlot) where
         f,
       ))
       (λ _ s. sat_if ((b == 42) && takes_wildcard o) _ _ (λ q. Rest q u) _
-      (λ e (v, tok, f). inl (each, v, tok_uncons 42 [] b u v (same_byte b 42 (and_left _ _ e)) tok, f))
+      (λ e (v, tok, f). inl (each, v, tok_uncons 42 [] b u v (same_byte b 42 (and_parts _ _ e).0) tok, f))
       (λ _ s. inr s) s) s) s
 
   atom_in : (n : ℕ) (c : Before) (b : ℕ) (u : List ℕ) (y : Option Point) → n + length (b ∷ u) ≡ size → AtomThen c (b ∷ u)
@@ -363,11 +363,11 @@ module _ (size : ℕ) (r : List WrittenSlot) where
   skip_in n s b u place (v, (k ∷ white, w, e), t) =
       let same : b ≡ k = cc in
       let rest : u ≡ white ++ v = cc in
-      if_sat (is_white b) _ _ (λ q. Rest q u) (rw same (and_left _ _ w)) (v, (white, and_right _ _ w, rest), t)
+      if_sat (is_white b) _ _ (λ q. Rest q u) (rw same (and_parts _ _ w).0) (v, (white, (and_parts _ _ w).1, rest), t)
 
   skip_out : (n : ℕ) (s : Spot) (b : ℕ) (u : List ℕ) → n + length (b ∷ u) ≡ size → Sat (move_at n s b) (λ q. Rest q u) → Rest (at s) (b ∷ u)
   skip_out n s b u place h =
-      sat_if (is_white b) _ _ (λ q. Rest q u) _ (λ e (v, (white, w, f), t). (v, (b ∷ white, and_both _ _ e w, ap (λ s. b ∷ s) f), t))
+      sat_if (is_white b) _ _ (λ q. Rest q u) _ (λ e (v, (white, w, f), t). (v, (b ∷ white, and_from _ _ e w, ap (λ s. b ∷ s) f), t))
       (λ _ h. (b ∷ u, ([], refl, refl), enter_out n s b u place h)) h
 
   -- ---- at every point
@@ -407,9 +407,9 @@ module _ (size : ℕ) (r : List WrittenSlot) where
       let b_is : b ≡ k = p.0 in
       let longer : length (m ++ b ∷ []) ≡ length m + 1 = length-append m (b ∷ []) in
       let joins : m ++ k ∷ t ≡ (m ++ b ∷ []) ++ t = ap (λ x. m ++ x ∷ t) (sym b_is) ∙ sym (append_assoc m (b ∷ []) t) in
-      if_sat (may_follow b) _ _ (λ q. Rest q u) (rw b_is (and_left _ _ words))
+      if_sat (may_follow b) _ _ (λ q. Rest q u) (rw b_is (and_parts _ _ words).0)
       (if_sat (nat_lt (length m) 63) _ _ (λ q. Rest q u) (lt-ltb (length m) 63 (omega arith))
-      (t, v, and_right _ _ words, omega arith, p.1, subst (λ w. Follow o (part_of from w) v) joins f))
+      (t, v, (and_parts _ _ words).1, omega arith, p.1, subst (λ w. Follow o (part_of from w) v) joins f))
   move_in n (hash o from) b u place (i, g, v, small, least, tok, f) =
       let (c, t, e, d, run) = number_front 4294967295 i (omega arith) (omega arith) in
       let tok' : IsTok (c ∷ (t ++ (46 ∷ decimal g))) (b ∷ u) v = subst (λ w. IsTok (w ++ (46 ∷ decimal g)) (b ∷ u) v) e tok in
@@ -468,7 +468,7 @@ module _ (size : ℕ) (r : List WrittenSlot) where
       (λ l (t, v, words, small, tok, f).
       let less : length m < 63 = ltb-true (length m) 63 l in
       let longer : length (m ++ b ∷ []) ≡ length m + 1 = length-append m (b ∷ []) in
-      (b ∷ t, v, and_both _ _ w words, omega arith, tok_uncons b t b u v refl tok, subst (λ w. Follow o (part_of from w) v) (append_assoc m (b ∷ []) t) f))
+      (b ∷ t, v, and_from _ _ w words, omega arith, tok_uncons b t b u v refl tok, subst (λ w. Follow o (part_of from w) v) (append_assoc m (b ∷ []) t) f))
       (λ _ z. absurd z) h)
       (λ _ h. sat_if (is_lone m && not (takes_wildcard o)) _ _ (λ q. Rest q u) _ (λ _ z. absurd z)
       (λ _ h. let (v, tok, f) = skip_out n (behind o (part_of from m)) b u place h in

@@ -3,7 +3,7 @@ use Rattle.eco_ids.proofs.Common.{◌≡◌, ℕ, ◌+◌, ◌-◌, ◌*◌, ◌
 use Rattle.eco_ids.proofs.Common.{nat_le, ◌==◌, Some, None, codes, decimal, Option, option_and_then, sym, refl, ap, ◌∙◌, subst, append_assoc, append-nil, arith}
 use Rattle.eco_ids.proofs.Common.{ltb-true, lt-ltb, le-leb, leb-true, cond-false, cond-true, Decides-eqb, nat_tests, common_steps, bytes_eq-Decides, may_follow}
 use Rattle.eco_grammar.proofs.ByteTests.{white_not_word, digit_is, is_digit_of, one_digit, more_digits}
-use Rattle.eco_query.proofs.Booleans.{and_left, and_right, and_both}
+use Rattle.std.proofs.lemmas.Bool.{and_from, and_parts, or_left, or_right}
 use Rattle.std.proofs.lemmas.Fmt.{decimal_by_steps}
 use Rattle.eco_grammar.specs.Reader.Machine.{is_prefix, with_digit, Before, Role, whole, first, second, sole, Spot, slot, word, shut, body, atom, part, behind, after}
 use Rattle.eco_grammar.specs.Reader.Machine.{is_front, access_of, behind_atom, enter, move_at}
@@ -106,13 +106,6 @@ pub prefix_of : (k t : List ℕ) → is_prefix k (k ++ t) ≡ true
 prefix_of [] t = refl
 prefix_of (x ∷ k) t = cond-true (x == x) _ _ ((Decides-eqb x x).1 refl) ∙ prefix_of k t
 
-pub or_left : (a b : Bool) → a ≡ true → (a || b) ≡ true
-or_left a b e = rw e refl
-
-pub or_right : (a b : Bool) → b ≡ true → (a || b) ≡ true
-or_right true b e = refl
-or_right false b e = e
-
 pub front_of : (a : Access) (k t : List ℕ) → access_word a ≡ k ++ t → is_front k ≡ true
 front_of In k t e =
     let f : codes "inout" ≡ k ++ (t ++ codes "out") = ap (λ s. s ++ codes "out") e ∙ append_assoc k t (codes "out") in
@@ -171,7 +164,7 @@ number_front most n fits le =
     let pos : 0 < m / 10 = omega arith in
     let same : 10 * (m / 10) + ((48 + m % 10) - 48) ≡ m = omega arith in
     let test : (nat_lt 0 (m / 10) && nat_le (10 * (m / 10) + ((48 + m % 10) - 48)) most) ≡ true =
-    and_both _ _ (lt-ltb 0 (m / 10) pos) (le-leb (10 * (m / 10) + ((48 + m % 10) - 48)) most (omega arith)) in
+    and_from _ _ (lt-ltb 0 (m / 10) pos) (le-leb (10 * (m / 10) + ((48 + m % 10) - 48)) most (omega arith)) in
     let grows : with_digit most (m / 10) (48 + m % 10) ≡ Some m =
     cond-true (nat_lt 0 (m / 10) && nat_le (10 * (m / 10) + ((48 + m % 10) - 48)) most) _ _ test ∙ ap (λ k. Some k) same in
     let (c, t, e, d, run) = ih (omega arith) in (
@@ -184,7 +177,7 @@ number_front most n fits le =
     n (omega arith) le
 
 pub grown_is : (most i k n : ℕ) → with_digit most i k ≡ Some n → (0 < i) × (n ≡ 10 * i + (k - 48)) × (n ≤ most)
-grown_is most i k n e = grind (arith, common_steps, leb-true, and_right, ltb-true, and_left)
+grown_is most i k n e = grind (arith, common_steps, leb-true, ltb-true, and_parts)
 
 pub number_more : (most i j : ℕ) (t : List ℕ) → most < 2 ^ 64 → i ≤ most → digits most i t ≡ Some j → (decimal i ++ t ≡ decimal j) × (j ≤ most)
 number_more most i j [] fits le e = let same : i ≡ j = cc in (append-nil (decimal i) ∙ ap decimal same, omega arith)

@@ -48,25 +48,16 @@ group_wildcards a y (z ∷ ys) x = any-append has_wildcard (y ∷ z ∷ ys) x
 -- a wildcard in a pending alternative stands wrong in the slot that it leads to
 pending_wildcard : (xs : List WrittenAtom) (ms : List Mark) → some_of xs ≡ true → list_any has_wildcard xs ≡ true → grouping true ms ≡ Some false
     → list_any misplaces_wildcard (slots_from xs ms) ≡ true
-pending_wildcard xs [] s w g = cc
-pending_wildcard xs (marks.Same ∷ ms) s w g = cc
-pending_wildcard xs (marks.Begin ∷ ms) s w g = cc
 pending_wildcard xs (marks.Other a x ∷ ms) s w g =
     pending_wildcard (xs ++ atom_view x ∷ []) ms (some_of-more xs (atom_view x)) (any-append has_wildcard xs (atom_view x) ∙ rw w refl) g
-pending_wildcard [] (marks.Slot a Plain x ∷ ms) s w g = cc
 pending_wildcard (y ∷ ys) (marks.Slot a Plain x ∷ ms) s w g = rw (group_wildcards a y ys (atom_view x), w) refl
-pending_wildcard xs (marks.Slot a Not x ∷ ms) s w g = cc
-pending_wildcard xs (marks.Slot a Optional x ∷ ms) s w g = cc
-pending_wildcard xs (marks.Slot a Alone x ∷ ms) s w g = cc
+pending_wildcard _ _ s w g = cc
 
 last_wildcard : (a : Access) (h : Head) (xs : List WrittenAtom) (x : WrittenAtom) → list_any has_wildcard xs ≡ false → (some_of xs && is_bare_head h) ≡ false
     → misplaces_last h (some_of xs) x ≡ misplaces_wildcard (record { access = a; body = body_of h xs x })
-last_wildcard a Plain [] x w e = refl
 last_wildcard a Plain (y ∷ ys) x w e = sym (group_wildcards a y ys x ∙ rw w refl)
-last_wildcard a Not xs x w e = refl
-last_wildcard a Optional xs x w e = refl
-last_wildcard a Alone [] x w e = refl
 last_wildcard a Alone (y ∷ ys) x w e = cc
+last_wildcard a _ _ x w e = refl
 
 pub slot_grouped : (xs : List WrittenAtom) (a : Access) (h : Head) (ms : List Mark)
     → (if some_of xs && is_bare_head h then None else grouping false ms) ≡ Some false
@@ -100,14 +91,12 @@ misplaced_is ms g = wildcards [] ms refl g
 -- ---- slots that ask for something
 
 pub asks_is : (xs : List WrittenAtom) (ms : List Mark) → list_any ends_positive ms ≡ list_any (λ s. is_positive_body s.body) (slots_from xs ms)
-asks_is xs [] = refl
 asks_is xs (marks.Same ∷ ms) = asks_is xs ms
 asks_is xs (marks.Begin ∷ ms) = asks_is [] ms
 asks_is xs (marks.Other a x ∷ ms) = asks_is (xs ++ atom_view x ∷ []) ms
-asks_is xs (marks.Slot a Plain x ∷ ms) = refl
 asks_is xs (marks.Slot a Not x ∷ ms) = asks_is [] ms
 asks_is xs (marks.Slot a Optional x ∷ ms) = asks_is [] ms
-asks_is xs (marks.Slot a Alone x ∷ ms) = refl
+asks_is xs _ = refl
 
 -- ---- names
 
@@ -159,12 +148,9 @@ module _ (entity_named : List ℕ → Option Entity) where
   term_last : (h : Head) (xs : List WrittenAtom) (group : List Id) (x : WrittenAtom) → ids_of entity_named xs ≡ Ok group
       → (some_of xs && is_bare_head h) ≡ false
       → term_of_body entity_named (body_of h xs x) ≡ ok_map (term_with group) (last_of entity_named h (some_of xs) x)
-  term_last Plain [] group x d e = grind (arith, common_steps)
   term_last Plain (y ∷ ys) group x d e = term_group y ys group x d
-  term_last Not xs group x d e = grind (arith, common_steps)
-  term_last Optional xs group x d e = grind (arith, common_steps)
-  term_last Alone [] group x d e = grind (arith, common_steps)
   term_last Alone (y ∷ ys) group x d e = cc
+  term_last _ _ group x d e = grind (arith, common_steps)
 
   ids_unknown : (xs : List WrittenAtom) (f : Refusal) (x : WrittenAtom) → ids_of entity_named xs ≡ Err f → ids_of entity_named (xs ++ x ∷ []) ≡ Err f
   ids_unknown [] f x e = cc
@@ -188,18 +174,12 @@ module _ (entity_named : List ℕ → Option Entity) where
   -- an unknown name in a pending alternative is that of the slots
   pending_unknown : (xs : List WrittenAtom) (ms : List Mark) (f : Refusal) → some_of xs ≡ true → ids_of entity_named xs ≡ Err f → grouping true ms ≡ Some false
       → slots_of_written entity_named (slots_from xs ms) ≡ Err f
-  pending_unknown xs [] f s d g = cc
-  pending_unknown xs (marks.Same ∷ ms) f s d g = cc
-  pending_unknown xs (marks.Begin ∷ ms) f s d g = cc
   pending_unknown xs (marks.Other a x ∷ ms) f s d g =
       pending_unknown (xs ++ atom_view x ∷ []) ms f (some_of-more xs (atom_view x)) (ids_unknown xs f (atom_view x) d) g
-  pending_unknown [] (marks.Slot a Plain x ∷ ms) f s d g = cc
   pending_unknown (y ∷ ys) (marks.Slot a Plain x ∷ ms) f s d g =
       slot_unknown (record { access = a; body = alternatives ((y ∷ ys) ++ atom_view x ∷ []) }) (slots_from [] ms) f
       (term_two y ys (atom_view x) ∙ ap (λ r. ok_map (λ is. terms.Or is) r) (ids_unknown (y ∷ ys) f (atom_view x) d))
-  pending_unknown xs (marks.Slot a Not x ∷ ms) f s d g = cc
-  pending_unknown xs (marks.Slot a Optional x ∷ ms) f s d g = cc
-  pending_unknown xs (marks.Slot a Alone x ∷ ms) f s d g = cc
+  pending_unknown _ _ f s d g = cc
 
 -- where a loop stands that looks up names: the slots that it made, the alternatives that are pending, and the atoms that are left
 pub record Standing (entity_named : List ℕ → Option Entity) (all : List Mark) (xs : List WrittenAtom) (ys : List QuerySlot) (group : List Id)
@@ -283,16 +263,10 @@ no_other (Ok i) l none e = none i cc
 pub none_left : (entity_named : List ℕ → Option Entity) (h : Head) (xs : List WrittenAtom) (group : List Id) (x : WrittenAtom) (l : LastTerm)
     → ids_of entity_named xs ≡ Ok group
     → (some_of xs && is_bare_head h) ≡ false → last_of entity_named h (some_of xs) x ≡ Ok l → left_over group l ≡ []
-none_left entity_named h [] group x (last.And p) d b e = cc
-none_left entity_named h [] group x (last.Not p) d b e = cc
-none_left entity_named h [] group x (last.Optional i) d b e = cc
 none_left entity_named h xs group x (last.Alternative i) d b e = refl
-none_left entity_named Plain (y ∷ ys) group x (last.And p) d b e = no_other (id_of entity_named x) (last.And p) (λ i f. cc) e
-none_left entity_named Plain (y ∷ ys) group x (last.Not p) d b e = no_other (id_of entity_named x) (last.Not p) (λ i f. cc) e
-none_left entity_named Plain (y ∷ ys) group x (last.Optional p) d b e = no_other (id_of entity_named x) (last.Optional p) (λ i f. cc) e
-none_left entity_named Not (y ∷ ys) group x l d b e = cc
-none_left entity_named Optional (y ∷ ys) group x l d b e = cc
-none_left entity_named Alone (y ∷ ys) group x l d b e = cc
+none_left entity_named Plain (y ∷ ys) group x l d b e = no_other (id_of entity_named x) l (λ i f. cc) e
+none_left entity_named _ [] group x _ d b e = cc
+none_left entity_named _ (y ∷ ys) group x _ d b e = cc
 
 -- no alternatives are left behind the last atom of a slot
 pub standing_left : (entity_named : List ℕ → Option Entity) (all : List Mark) (xs : List WrittenAtom) (ys : List QuerySlot) (group : List Id)

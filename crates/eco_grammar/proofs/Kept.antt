@@ -48,11 +48,9 @@ module _ (entity_named : List ℕ → Option Entity) where
   -- ---- the slots that are made ask for something that is there where those that are written do
 
   body_positive : (k : WrittenBody) (t : QueryTerm) → term_of_body entity_named k ≡ Ok t → is_positive_body k ≡ asks_there t
-  body_positive (absent x) t e = let (p, known, same) = map_ok _ _ t e in ap asks_there same
-  body_positive (optional x) t e = let (i, known, same) = map_ok _ _ t e in ap asks_there same
   body_positive (alternatives []) t e = let same : terms.Or [] ≡ t = cc in ap asks_there same
   body_positive (alternatives (x ∷ [])) t e = let (p, known, same) = map_ok _ _ t e in ap asks_there same
-  body_positive (alternatives (x ∷ y ∷ xs)) t e = let (is, known, same) = map_ok _ _ t e in ap asks_there same
+  body_positive _ t e = let (made, known, same) = map_ok _ _ t e in ap asks_there same
 
   pub slots_positive : (ss : List WrittenSlot) (qs : List QuerySlot) → slots_of_written entity_named ss ≡ Ok qs
       → list_any (λ s. is_positive_body s.body) ss ≡ list_any (λ q. asks_there q.term) qs
@@ -70,13 +68,11 @@ module _ (entity_named : List ℕ → Option Entity) where
       sym (ap length same) ∙ ap (λ n. suc n) (ids_counted xs js more)
 
   body_counted : (k : WrittenBody) (t : QueryTerm) → term_of_body entity_named k ≡ Ok t → length (patterns_of t) ≡ length (atoms_of k)
-  body_counted (absent x) t e = let (p, known, same) = map_ok _ _ t e in sym (ap (λ k. length (patterns_of k)) same)
-  body_counted (optional x) t e = let (i, known, same) = map_ok _ _ t e in sym (ap (λ k. length (patterns_of k)) same)
   body_counted (alternatives []) t e = let same : terms.Or [] ≡ t = cc in sym (ap (λ k. length (patterns_of k)) same)
-  body_counted (alternatives (x ∷ [])) t e = let (p, known, same) = map_ok _ _ t e in sym (ap (λ k. length (patterns_of k)) same)
   body_counted (alternatives (x ∷ y ∷ xs)) t e =
       let (is, known, same) = map_ok _ _ t e in
       sym (ap (λ k. length (patterns_of k)) same) ∙ length-map is exactly ∙ ids_counted (x ∷ y ∷ xs) is known
+  body_counted _ t e = let (made, known, same) = map_ok _ _ t e in sym (ap (λ k. length (patterns_of k)) same)
 
   slots_counted : (ss : List WrittenSlot) (qs : List QuerySlot) → slots_of_written entity_named ss ≡ Ok qs → length (reads qs) ≡ count_atoms ss
   slots_counted [] qs e = let none : [] ≡ qs = cc in sym (ap (λ qs. length (reads qs)) none)
@@ -95,19 +91,15 @@ module _ (entity_named : List ℕ → Option Entity) where
   -- an alternative is the last of some
   lone : (h : Head) (x : WrittenAtom) (i : Id) → last_of entity_named h false x ≡ Ok (last.Alternative i) → ⊥
   lone Plain x i e = let (p, known, same) = map_ok _ _ _ e in cc
-  lone Not x i e = let (p, known, same) = map_ok _ _ _ e in cc
-  lone Optional x i e = let (j, known, same) = map_ok _ _ _ e in cc
-  lone Alone x i e = let (p, known, same) = map_ok _ _ _ e in cc
+  lone _ x i e = let (made, known, same) = map_ok _ _ _ e in cc
 
   last_kept : (h : Head) (xs : List WrittenAtom) (group : List Id) (x : WrittenAtom) (l : LastTerm) → ids_of entity_named xs ≡ Ok group
       → last_of entity_named h (some_of xs) x ≡ Ok l → AllByRecursion (λ i. IsPattern (exactly i)) group → IsLast l → IsTerm (term_with group l)
-  last_kept h xs group x (last.And p) d e g r = r
-  last_kept h xs group x (last.Not p) d e g r = r
-  last_kept h xs group x (last.Optional i) d e g r = r
   last_kept h [] group x (last.Alternative i) d e g r = absurd (lone h x i e)
   last_kept h (y ∷ xs) [] x (last.Alternative i) d e g r = let none : 0 ≡ length (y ∷ xs) = ids_counted entity_named (y ∷ xs) [] d in absurd (omega arith)
   last_kept h (y ∷ xs) (j ∷ js) x (last.Alternative i) d e g r =
       (let count = length-append (j ∷ js) (i ∷ []) in omega arith, all_more (λ i. IsPattern (exactly i)) (j ∷ js) i g r)
+  last_kept h xs group x _ d e g r = r
 
   module _ (all : List Mark) (xs : List WrittenAtom) (ys : List QuerySlot) (group : List Id) (rest : List Mark) where
     pub slot_kept : (s : Standing entity_named all xs ys group rest) (q : QuerySlot) (h : Head) (x : WrittenAtom) (l : LastTerm)

@@ -74,8 +74,6 @@ none_proper (x ∷ xs) e = cc
 marks_proper : (xs : List WrittenAtom) (ms : List Mark) → grouping (some_of xs) ms ≡ Some false → AreProperSlots (slots_from xs ms) → AreProperMarks ms
     × AreProperAtoms xs
 marks_proper xs [] g s = (tt, none_proper xs g)
-marks_proper xs (marks.Same ∷ ms) g s = cc
-marks_proper xs (marks.Begin ∷ ms) g s = cc
 marks_proper xs (marks.Other a x ∷ ms) g s =
     let (rest, all) = marks_proper (xs ++ atom_view x ∷ []) ms (ap (λ c. grouping c ms) (some_of-more xs (atom_view x)) ∙ g) s in
     let (before, last) = atoms_apart xs (atom_view x) all in
@@ -85,6 +83,7 @@ marks_proper xs (marks.Slot a h x ∷ ms) g s =
     let (before, last) = last_proper h xs (atom_view x) s.0 bare in
     let (rest, none) = marks_proper [] ms more s.1 in
     ((last, rest), before)
+marks_proper xs _ g s = cc
 
 pub held_proper : (text : List ℕ) (slots : List WrittenSlot) (ms : List Mark) → SpellsQuery text slots → HoldsSlots (Some ms) slots → AreProperMarks ms
 held_proper text slots ms s (same, whole, count) =

@@ -204,10 +204,8 @@ module _ (size : ℕ) (r : List WrittenSlot) where
   -- ---- a part
 
   each_taken : (o : Role) (v : List ℕ) → Follow o each v → takes_wildcard o ≡ true
-  each_taken (whole c) v f = refl
-  each_taken (first c) v f = refl
-  each_taken (second c p) v f = refl
   each_taken (sole c) v f = absurd f.0
+  each_taken _ v f = refl
 
   -- a lone `_` is taken where what follows it is there
   lone_taken : (o : Role) (from : ℕ) (m v : List ℕ) → Follow o (part_of from m) v → (is_lone m && not (takes_wildcard o)) ≡ false

@@ -54,11 +54,9 @@ draft_from-append d [] ns = refl
 draft_from-append d (m ∷ ms) ns = draft_from-append (marked m d) ms ns
 
 grouping-append : (g : Bool) (ms ns : List Mark) → grouping g (ms ++ ns) ≡ option_and_then (λ k. grouping k ns) (grouping g ms)
-grouping-append g [] ns = refl
-grouping-append g (marks.Same ∷ ms) ns = refl
-grouping-append g (marks.Begin ∷ ms) ns = refl
 grouping-append g (marks.Other a x ∷ ms) ns = grouping-append true ms ns
 grouping-append g (marks.Slot a h x ∷ ms) ns = grind (arith, common_steps, grouping-append false ms ns)
+grouping-append g _ ns = refl
 
 pub some_of-more : (xs : List WrittenAtom) (x : WrittenAtom) → some_of (xs ++ x ∷ []) ≡ true
 some_of-more [] x = refl
@@ -99,28 +97,17 @@ slot_atoms d a h x e = grind (arith, common_steps, count_atoms-append, atoms_of-
 -- what a byte puts down is held
 pub put_holds : (t : Option (List Mark)) (d : Draft) (m : Mark) (bare next : Bool) → HoldsDraft t d → (bare ≡ true → d.others ≡ [])
     → keeps_slots bare m next ≡ true → HoldsDraft (put_down t m) (marked m d) × (next ≡ true → (marked m d).others ≡ [])
-put_holds None d marks.Same bare next h empty e = (h, λ f. empty (sym (cond-true next bare true f) ∙ e))
-put_holds (Some ms) d marks.Same bare next h empty e = (h, λ f. empty (sym (cond-true next bare true f) ∙ e))
 put_holds None d marks.Begin bare next h empty e = (let o : d.others ≡ [] = empty e in let l : length d.others ≡ 0 = ap length o in omega arith, λ f. refl)
 put_holds (Some ms) d marks.Begin bare next h empty e =
     (subst (λ d. HoldsDraft (Some ms) d) (ap (λ (o : List WrittenAtom). let t : Draft = record { slots = d.slots; others = o } in t) (empty e)) h, λ f. refl)
-put_holds None d (marks.Other a x) bare next h empty e = (
-  store_holds None d (marks.Other a x) h (let l = length-append d.others (atom_view x ∷ []) in omega arith)
+put_holds t d marks.Same bare next h empty e = (h, λ f. empty (sym (cond-true next bare true f) ∙ e))
+put_holds t d (marks.Other a x) bare next h empty e = (
+  store_holds t d (marks.Other a x) h (let l = length-append d.others (atom_view x ∷ []) in omega arith)
       (sym (ap (λ c. Some c) (some_of-more d.others (atom_view x)))),
   λ f. cc,
 )
-put_holds (Some ms) d (marks.Other a x) bare next h empty e = (
-  store_holds (Some ms) d (marks.Other a x) h (let l = length-append d.others (atom_view x ∷ []) in omega arith)
-      (sym (ap (λ c. Some c) (some_of-more d.others (atom_view x)))),
-  λ f. cc,
-)
-put_holds None d (marks.Slot a h x) bare next holds empty e = (
-  store_holds None d (marks.Slot a h x) holds (slot_atoms d a h (atom_view x) (last_bare d h bare empty e))
-      (cond-false (some_of d.others && is_bare_head h) _ _ (last_bare d h bare empty e)),
-  λ f. refl,
-)
-put_holds (Some ms) d (marks.Slot a h x) bare next holds empty e = (
-  store_holds (Some ms) d (marks.Slot a h x) holds (slot_atoms d a h (atom_view x) (last_bare d h bare empty e))
+put_holds t d (marks.Slot a h x) bare next holds empty e = (
+  store_holds t d (marks.Slot a h x) holds (slot_atoms d a h (atom_view x) (last_bare d h bare empty e))
       (cond-false (some_of d.others && is_bare_head h) _ _ (last_bare d h bare empty e)),
   λ f. refl,
 )

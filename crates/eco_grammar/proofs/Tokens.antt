@@ -54,30 +54,20 @@ pub word_not : (b k : ℕ) → may_follow b ≡ true → may_follow k ≡ false 
 word_not b k w f = grind (arith, common_steps, same_byte)
 
 pub behind_white : (h : Head) (c : Before) (x : WrittenAtom) (b : ℕ) → is_white b ≡ true → behind_atom h c x b ≡ None
-behind_white Plain c x b w = white_elim (λ b. behind_atom Plain c x b ≡ None) refl refl refl refl b w
-behind_white Not c x b w = white_elim (λ b. behind_atom Not c x b ≡ None) refl refl refl refl b w
-behind_white Optional c x b w = white_elim (λ b. behind_atom Optional c x b ≡ None) refl refl refl refl b w
 behind_white Alone c x b w = refl
+behind_white h c x b w = white_elim (λ b. behind_atom h c x b ≡ None) refl refl refl refl b w
 
 pub behind_word : (h : Head) (c : Before) (x : WrittenAtom) (b : ℕ) → may_follow b ≡ true → behind_atom h c x b ≡ None
 behind_word Plain c x b w = cond-false (b == 124) _ _ (word_not b 124 w refl) ∙ cond-false (b == 44) _ _ (word_not b 44 w refl)
-behind_word Not c x b w = cond-false (b == 44) _ _ (word_not b 44 w refl)
-behind_word Optional c x b w = cond-false (b == 44) _ _ (word_not b 44 w refl)
 behind_word Alone c x b w = refl
+behind_word _ c x b w = cond-false (b == 44) _ _ (word_not b 44 w refl)
 
 -- no white space goes on
 pub enter_white : (n : ℕ) (s : Spot) (b : ℕ) → is_white b ≡ true → enter n s b ≡ None
-enter_white n (slot ss) b w = white_elim (λ b. enter n (slot ss) b ≡ None) refl refl refl refl b w
-enter_white n (word ss) b w = white_elim (λ b. enter n (word ss) b ≡ None) refl refl refl refl b w
-enter_white n (shut ss a) b w = white_elim (λ b. enter n (shut ss a) b ≡ None) refl refl refl refl b w
-enter_white n (body ss a) b w = white_elim (λ b. enter n (body ss a) b ≡ None) refl refl refl refl b w
-enter_white n (atom c) b w = white_elim (λ b. enter n (atom c) b ≡ None) refl refl refl refl b w
-enter_white n (part o) b w = white_elim (λ b. enter n (part o) b ≡ None) refl refl refl refl b w
 enter_white n (behind (whole c) p) b w = behind_white c.head c (single p) b w
-enter_white n (behind (first c) p) b w = white_elim (λ b. enter n (behind (first c) p) b ≡ None) refl refl refl refl b w
-enter_white n (behind (second c p) q) b w = white_elim (λ b. enter n (behind (second c p) q) b ≡ None) refl refl refl refl b w
 enter_white n (behind (sole c) p) b w = refl
 enter_white n (after c x) b w = behind_white c.head c x b w
+enter_white n s b w = white_elim (λ b. enter n s b ≡ None) refl refl refl refl b w
 
 -- behind a name no letter or digit goes on
 pub word_stops : (n : ℕ) (o : Role) (p : WrittenPart) (b : ℕ) → may_follow b ≡ true → move_at n (behind o p) b ≡ None

@@ -1,5 +1,5 @@
 -- The atoms that a text puts down, and the slots that they make.
-use Rattle.std.specs.Prelude.{◌≡◌, ◌<◌, ◌≤◌, Bool, true, false, ◌&&◌, List, [], ◌∷◌, ◌++◌, length, Option, Some, None, nat_lt, if◌then◌else◌}
+use Rattle.std.specs.Prelude.{◌≡◌, ◌<◌, ◌≤◌, Bool, true, false, ◌&&◌, List, [], ◌∷◌, ◌++◌, length, Option, Some, None, option_and_then, nat_lt, if◌then◌else◌}
 use Rattle.eco_grammar.specs.Grammar.{WrittenAtom, WrittenSlot, IsProperAtom}
 use Rattle.eco_grammar.specs.Readings.{count_atoms}
 use Rattle.eco_grammar.specs.Reader.Machine.{body_of}
@@ -13,11 +13,9 @@ with_mark ms m = if nat_lt (length ms) 32 then Some (ms ++ m ∷ []) else None
 
 -- one atom more; none, where they are too many
 abbrev pub put_down : Option (List Mark) → Mark → Option (List Mark)
-put_down None m = None
-put_down (Some ms) marks.Same = Some ms
-put_down (Some ms) marks.Begin = Some ms
-put_down (Some ms) (marks.Other a x) = with_mark ms (marks.Other a x)
-put_down (Some ms) (marks.Slot a h x) = with_mark ms (marks.Slot a h x)
+put_down held marks.Same = held
+put_down held marks.Begin = held
+put_down held m = option_and_then (λ ms. with_mark ms m) held
 
 -- the slots that the atoms make, with some alternatives before them
 abbrev pub slots_from : List WrittenAtom → List Mark → List WrittenSlot

@@ -1,7 +1,9 @@
 -- Stages whose commands are done, one after another.
-use Rattle.std.specs.Prelude.{◌≡◌, Bool, true, false, List, [], ◌∷◌, ◌++◌, flat_map}
-use Rattle.eco_ids.specs.Run.{Command, Runs}
+use Rattle.std.specs.Prelude.{◌≡◌, ◌+◌, Bool, true, false, List, [], ◌∷◌, ◌++◌, flat_map, length, Result}
+use Rattle.eco_ids.specs.Outcome.{Meets}
+use Rattle.eco_ids.specs.Run.{Applies, Command, Runs, may_want}
 use Rattle.eco_ids.specs.World.{WorldState}
+use Rattle.eco_ids.specs.declared.refusal.Refusal.{Refusal}
 use Rattle.eco_stages.specs.Outcomes.{Outcomes, Written}
 
 -- the commands of all stages, in order
@@ -19,3 +21,26 @@ pub record AreDone (w : WorldState) (commands : List Command) (before after : Wr
   pub appended : after.outcomes ≡ before.outcomes ++ outcomes
   pub room : after.room ≡ before.room
   pub ran : Runs w commands outcomes new
+
+-- before the first command none is done
+abbrev pub NoneAreDone : Type 0
+NoneAreDone = (w : WorldState) (before : Written) → AreDone w [] before before w
+
+-- one is, where it met its step and its outcome was written
+abbrev pub OneIsDone : Type 0
+OneIsDone =
+    (w new : WorldState) (c : Command) (r : Result (Unit {0}) Refusal) (before after : Written)
+    → after.outcomes ≡ before.outcomes ++ r ∷ [] → after.room ≡ before.room → Meets (Applies c w) (may_want c w) w r new
+    → AreDone w (c ∷ []) before after new
+
+-- commands are, and others after them
+abbrev pub BothAreDone : Type 0
+BothAreDone =
+    (w mid new : WorldState) (cs ds : List Command) (before between after : Written)
+    → AreDone w cs before between mid → AreDone mid ds between after new → AreDone w (cs ++ ds) before after new
+
+-- there are as many outcomes more as commands
+abbrev pub DoneAreCounted : Type 0
+DoneAreCounted =
+    (w new : WorldState) (cs : List Command) (before after : Written)
+    → AreDone w cs before after new → length after.outcomes ≡ length before.outcomes + length cs

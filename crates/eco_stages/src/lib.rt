@@ -5,6 +5,7 @@
 mod command;
 mod draws;
 mod iter;
+pub mod laws;
 mod merging;
 mod outcomes;
 mod report;

@@ -73,7 +73,7 @@ impl MergeTarget for World {
     // Apart, so that what sets keep takes no room where others are done.
     #[inline(never)]
     fn apply_sets(&mut self, commands: &[Command], outcomes: &mut Outcomes) -> usize {
-        eco_ids::laws::runs_keep_lawful();
+        eco_stages::laws::commands_are_done_in_turn();
         let mut known = None;
         let mut count = 0;
         while count < commands.len() {

@@ -3,35 +3,36 @@ use Rattle.std.proofs.lemmas.List.{length-map, length-take-le, map_more}
 use native.Mathlib.Omega.{arith}
 use Rattle.eco_ids.specs.Run as run
 use Rattle.eco_stages.specs.Commands.{command_of, commands_of}
-use Rattle.eco_stages.proofs.Merges.{both_done, grown, none_done, one_done}
 use Rattle.eco_world.proofs.world.merging.WorldMergeTarget.apply_sets.Goals as goal
 
 pub loop-count-init : goal.loop-count-init
-loop-count-init c = record { within = omega arith; are_done = none_done c.args.self.now c.args.outcomes.now; known = tt }
+loop-count-init c = record { within = omega arith; are_done = c.commands_are_done_in_turn.ensures.none c.args.self.now c.args.outcomes.now; known = tt }
 
 pub push-requires : goal.push-requires
 push-requires c =
+    let laws = c.commands_are_done_in_turn.ensures in
     let i = c.loop-count.count in
     let cs = c.args.commands.now in
     let was = c.loop-count.invariant.are_done in
-    let more = grown c.args.self.now c.loop-count.self (commands_of (take i cs)) c.args.outcomes.now c.loop-count.outcomes was in
+    let more = laws.counted c.args.self.now c.loop-count.self (commands_of (take i cs)) c.args.outcomes.now c.loop-count.outcomes was in
     omega (arith, more, was.room, length-map (take i cs) command_of, length-take-le i cs c.loop-count.invariant.within, c.loop-count-test.true, c.requires)
 
 pub loop-count-preserved : goal.loop-count-preserved
 loop-count-preserved c =
+    let laws = c.commands_are_done_in_turn.ensures in
     let i = c.loop-count.count in
     let cs = c.args.commands.now in
     let was = c.loop-count.invariant in
     let set = run.Set c.in-Set.entity c.in-Set.id c.in-Set.value in
     let more = map_more command_of cs i c.index-commands-count.result c.loop-count-test.true
     ∙ ap (λ y. commands_of (take i cs) ++ command_of y ∷ []) (sym c.index-commands-count.is ∙ c.in-Set.is) in
-    let one = one_done c.loop-count.self c.set_after-outcome.new.self set c.set_after-outcome.result c.loop-count.outcomes c.push.new.self
+    let one = laws.one c.loop-count.self c.set_after-outcome.new.self set c.set_after-outcome.result c.loop-count.outcomes c.push.new.self
     c.push.ensures.written c.push.ensures.room c.set_after-outcome.ensures.met in
     record {
       within = omega (arith, c.loop-count-test.true);
       are_done =
           rw more
-          (both_done c.runs_keep_lawful.ensures.compose c.args.self.now c.loop-count.self c.set_after-outcome.new.self (commands_of (take i cs)) (set ∷ [])
+          (laws.both c.args.self.now c.loop-count.self c.set_after-outcome.new.self (commands_of (take i cs)) (set ∷ [])
           c.args.outcomes.now c.loop-count.outcomes c.push.new.self was.are_done one);
       known = c.set_after-outcome.ensures.known;
     }

@@ -239,7 +239,8 @@ module _ (l : Laws) (w : WorldState) where
   on_query : (text : List ℕ) (Goes : List QuerySlot → Result Reply Refusal → WorldState → Type 0) → ((q : List QuerySlot) → Once (Goes q))
       → Once (OnQuery w text Goes)
   unfolding ReadsQuery
-  on_query text Goes goes = on_once is_out_of_memory refl (ReadsQuery w text) w Goes (λ n m p h a b. l.queries (lookup w) text n m (in_memory n p a) (in_memory m h b)) goes
+  on_query text Goes goes =
+      on_once is_out_of_memory refl (ReadsQuery w text) w Goes (λ n m p h a b. l.queries (lookup w) text n m (in_memory n p a) (in_memory m h b)) goes
 
   meets : {A : Type 0} (Step : Result A Refusal → WorldState → Type 0) (may : Bool) (reply : A → Reply)
       → ((r q : Result A Refusal) (new other : WorldState) → Step r new → Step q other → (r ≡ q) × (new ≡ other)) → Once (Calls (Meets Step may w) reply)

@@ -14,7 +14,8 @@ loop-id-preserved g c =
           c.loop-id-test.true;
       written = λ plain.
           let before = c.loop-id.invariant.written plain in
-          joined_more (λ i. held_text i (shown_value self.world.now self.entity i)) self.ids.now c.loop-id.id-index _ c.loop-id-test.true g.W.Write.write_str_gives _ _ _ _ _ c.loop-id.invariant.apart
+          joined_more (λ i. held_text i (shown_value self.world.now self.entity i)) self.ids.now c.loop-id.id-index _ c.loop-id-test.true
+          g.W.Write.write_str_gives _ _ _ _ _ c.loop-id.invariant.apart
           (same_held _ _ _ _ c.held-held.ensures.id c.held-held.ensures.value) before (c.in_ok-write.ensures.writes before.plain (refl {a = true}));
     }
 

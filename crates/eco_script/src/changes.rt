@@ -28,6 +28,8 @@ pub enum Change<'a> {
     RemoveAll(Id),
 }
 
+// Each of these eight reads the texts of the change of its name, and is refused as the first of them is that can't be read.
+
 fn add<'a>(world: &World, entity: &str, id: &str) -> Result<Change<'a>, Refusal>
     ensures { ReadsChange world.now (texts.add entity.now id.now) (ok_map named_command result) }
 {

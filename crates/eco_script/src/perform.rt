@@ -23,6 +23,8 @@ use eco_world::{Query, QueryId, World};
 use std::alloc::Global;
 use std::thread::Threads;
 
+// Each of these does the step of its name, and answers what its line is to tell.
+
 fn create(world: &mut World, name: Option<&str>) -> Result<Reply, Refusal>
     ensures { Replies world.old (steps.create (option_map (λ s. s.now) name.entry))
         (answer_view result) world.new }

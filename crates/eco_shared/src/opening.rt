@@ -125,7 +125,7 @@ fn open_merger<J: Naming, R: Wait + Drop>(
 }
 
 /// Shares a world with 1 to 64 viewers: answers who merges into it, and the viewers, one for each thread that reads. All of them
-/// show that world until the first merge. The merger keeps a copy besides, so that no merge makes one.
+/// show that world until the first merge. The merger keeps a copy besides, so that most merges make none.
 ///
 /// Refused with `OutOfMemory` alone, where memory for the copies or for a viewer is refused; the world comes back as it was, and
 /// the number that the registry had given stays unused.

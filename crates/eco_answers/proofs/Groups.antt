@@ -1,5 +1,6 @@
 -- A type that fulfils all slots has an id for each that asks for something to be there.
-use Rattle.eco_ids.proofs.Common.{◌≡◌, ℕ, zero, suc, ◌+◌, ◌<◌, nat_eq, nat_tests, Bool, true, false, true≢false, cond, ◌&&◌, ◌||◌, IsTrue, List, [], ◌∷◌, map, filter, length}
+use Rattle.eco_ids.proofs.Common.{◌≡◌, ℕ, zero, suc, ◌+◌, ◌<◌, nat_eq, nat_tests, Bool, true, false, true≢false, cond, ◌&&◌, ◌||◌, IsTrue, List, [], ◌∷◌, map}
+use Rattle.eco_ids.proofs.Common.{filter, length}
 use Rattle.eco_ids.proofs.Common.{slice_get, length-map, none-some, same_Some, option_copied}
 use Rattle.std.proofs.Common.{Bor}
 use Rattle.eco_ids.proofs.Common.{Option, Some, None, refl, sym, ap, ◌∙◌, subst, arith, list_any, option_to_list}

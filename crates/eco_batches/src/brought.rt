@@ -117,6 +117,7 @@ fn is_with(id: Id) -> bool
     }
 }
 
+// Whether one of the ids is a pair of With.
 fn any_with(ids: &[Id]) -> bool
     ensures { result ≡ list_any traits.is_pair_of_with ids.now }
 {
@@ -135,6 +136,7 @@ pub(crate) fn bring_nothing<H: Holdings>(holdings: &H, patterns: &[Pattern]) -> 
     true
 }
 
+// The key of each pattern, in their order.
 fn keys_of(alloc: Global, patterns: &[Pattern]) -> Result<Vec<Key>, AllocError>
     ensures { IfOk result (λ keys. keys.items ≡ map pattern_key patterns.now) }
 {

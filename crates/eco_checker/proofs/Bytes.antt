@@ -7,7 +7,8 @@ use Rattle.serde_json.specs.Read.{read}
 use Rattle.eco_steps.specs.Script.{WrittenScript, IsScript, IsScriptData}
 use Rattle.eco_checker.specs.Told.{AreNoScript, AreScript}
 
-pub script_bytes : (bytes : List ℕ) (d : Data) → IsUtf8 bytes → read bytes ≡ Some d → ((s : WrittenScript) × IsScriptData d s) → (s : WrittenScript) × IsScript bytes s
+pub script_bytes : (bytes : List ℕ) (d : Data) → IsUtf8 bytes → read bytes ≡ Some d → ((s : WrittenScript) × IsScriptData d s) → (s : WrittenScript)
+    × IsScript bytes s
 script_bytes bytes d utf8 at (s, is) = (s, (utf8, d, at, is))
 
 pub no_script_bytes : (bytes : List ℕ) (d : Data) → read bytes ≡ Some d → ((s : WrittenScript) → ¬ IsScriptData d s) → (s : WrittenScript) → ¬ IsScript bytes s

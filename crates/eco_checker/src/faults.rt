@@ -75,7 +75,8 @@ impl<'a> Faults<'a> {
         ensures items { IfOk result (λ f. map view f.items.now ≡ items_in (view value.now)) }
         ensures steps { IfOk result (λ f. f.steps.items
             ≡ numbers_without (step_in (edition_in (view value.now))) 0 (items_in (view value.now))) }
-        ensures script { IfOk result (λ f. IsClean f → (s : WrittenScript) × IsScriptData (view value.now) s) }
+        ensures script { IfOk result (λ f. IsClean f
+            → (s : WrittenScript) × IsScriptData (view value.now) s) }
         ensures none { IfOk result (λ f. (s : WrittenScript) → IsScriptData (view value.now) s → IsClean f) }
     {
         let has_head = has_parts(value);

@@ -1,5 +1,6 @@
 -- One row of one table alone names an entity, by one id.
-use Rattle.std.proofs.Common.{◌≡◌, ℕ, Bool, true, false, true≢false, cond, not, length, get_or, List, [], ◌∷◌, filter, slice_get, Option, Some, None, ◌⊎◌, inl, inr}
+use Rattle.std.proofs.Common.{◌≡◌, ℕ, Bool, true, false, true≢false, cond, not, length, get_or, List, [], ◌∷◌, filter, slice_get, Option, Some, None, ◌⊎◌}
+use Rattle.std.proofs.Common.{inl, inr}
 use Rattle.std.proofs.Common.{IsTrue, IsFalse, refl, sym, ap, ◌∙◌, subst, arith}
 use Rattle.std.proofs.Math.Bool.{or-false}
 use Rattle.eco_ids.specs.declared.entity.Entity.{Entity}
@@ -45,10 +46,11 @@ module _ (test : Id → Bool) where
       by : (b : Bool) → test x ≡ b → IsTrue (has_item id_cmp (cond b (x ∷ filter test ids) (filter test ids)) j)
           → (IsTrue (has_item id_cmp (filter test ids) j) → IsTrue (has_item id_cmp ids j) × IsTrue (test j))
           → IsTrue (has_item id_cmp (x ∷ ids) j) × IsTrue (test j)
-      by true is there rest = elim (or_parts (id_eq x j) (has_item id_cmp (filter test ids) j) there) as (λ _. IsTrue (has_item id_cmp (x ∷ ids) j) × IsTrue (test j)) [
-        | inl same ↦ (or_left (id_eq x j) (has_item id_cmp ids j) same, subst (λ y. IsTrue (test y)) (id_eq_is x j same) is)
-        | inr among ↦ later (rest among)
-      ]
+      by true is there rest = elim (or_parts (id_eq x j) (has_item id_cmp (filter test ids) j) there) as
+          (λ _. IsTrue (has_item id_cmp (x ∷ ids) j) × IsTrue (test j)) [
+            | inl same ↦ (or_left (id_eq x j) (has_item id_cmp ids j) same, subst (λ y. IsTrue (test y)) (id_eq_is x j same) is)
+            | inr among ↦ later (rest among)
+          ]
       by false is there rest = later (rest there)
 
   in_passed : (ids : List Id) (j : Id) → IsTrue (has_item id_cmp ids j) → IsTrue (test j) → IsTrue (has_item id_cmp (filter test ids) j)

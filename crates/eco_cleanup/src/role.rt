@@ -60,8 +60,8 @@ fn is_head_or_pair(
     ids: &TypeList,
 ) -> bool
     ensures { result ≡ (entity_eq (policy_of (world_of store.now.entities) member ON_DELETE_DATA) DELETE_DATA
-        && list_any (is_head member) ids.now || list_any (λ n. list_any
-        (λ r. has_item id_cmp ids.now (Two r member)) (entities_of (table_in archetypes.now n).rows)) slots.now) }
+        && list_any (is_head member) ids.now || list_any (λ n. list_any (λ r. has_item id_cmp ids.now
+        (Two r member)) (entities_of (table_in archetypes.now n).rows)) slots.now) }
 {
     policy(store, member, ON_DELETE).is(DELETE) && any_heads(member, ids.as_slice())
         || any_pairs_in(archetypes, slots, member, ids)

@@ -42,7 +42,8 @@ module _ {X : Type 0} where
 -- a copy has the same texts
 pub copied_texts : (es fs : List (ℕ × Label)) → AllZip (λ p q. (q.0 ≡ p.0) × (label_text q.1 ≡ label_text p.1)) es fs → SameTexts es fs
 copied_texts es fs all = record {
-  same = λ k. ap (option_map label_text) (find_is k fs) ∙ (lookup_values label_text (is_at (nat_cmp k)) es fs all ∙ ap (option_map label_text) (sym (find_is k es)));
+  same = λ k. ap (option_map label_text) (find_is k fs) ∙ (lookup_values label_text (is_at (nat_cmp k)) es fs all ∙ ap (option_map label_text)
+      (sym (find_is k es)));
 }
 
 copied_below : (y : ℕ) (es fs : List (ℕ × Label)) → AllZip (λ p q. (q.0 ≡ p.0) × (label_text q.1 ≡ label_text p.1)) es fs

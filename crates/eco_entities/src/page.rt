@@ -84,7 +84,8 @@ impl Page {
 
     /// The index has no name. The answer is the one that it had.
     pub(crate) fn remove(&mut self, index: u32) -> Option<Label>
-        ensures removed { self.new ≡ where_key nat_cmp (λ other. not (eq_by_cmp nat_cmp index other)) self.old }
+        ensures removed { self.new
+            ≡ where_key nat_cmp (λ other. not (eq_by_cmp nat_cmp index other)) self.old }
         ensures was { result ≡ find nat_cmp index self.old }
     {
         match seek(self.entries.as_slice(), index) {

@@ -1,5 +1,6 @@
 -- In an ascending list the least match of a filling is the first: an id is one exactly where its filling has not been seen before.
-use Rattle.std.proofs.Common.{◌≡◌, ℕ, zero, suc, ◌+◌, ◌<◌, Bool, true, false, not, ◌&&◌, ◌||◌, List, [], ◌∷◌, length, get_or, take, refl, sym, ap, ◌∙◌, true≢false}
+use Rattle.std.proofs.Common.{◌≡◌, ℕ, zero, suc, ◌+◌, ◌<◌, Bool, true, false, not, ◌&&◌, ◌||◌, List, [], ◌∷◌, length, get_or, take, refl, sym, ap, ◌∙◌}
+use Rattle.std.proofs.Common.{true≢false}
 use Rattle.std.proofs.Common.{arith, le_of_suc-le-suc, is_lt, is_eq, Ordering, Less, Equal, Greater}
 use Rattle.std.specs.Prelude.{IsTrue}
 use Rattle.std.specs.Ordering.{ordering_then, ordering_reverse}
@@ -29,7 +30,8 @@ not_below x y h = ap is_lt (id_cmp_total.antisymm y x ∙ ap ordering_reverse (l
 none_below : (t : Id → Bool) (x : Id) (xs : List Id) → IsTrue (list_all (λ y. is_lt (id_cmp x y)) xs)
     → list_any (λ j. is_lt (id_cmp j x) && t j) xs ≡ false
 none_below t x [] h = refl
-none_below t x (y ∷ ys) h = ap (λ b. (b && t y) || list_any (λ j. is_lt (id_cmp j x) && t j) ys) (not_below x y (first _ _ h)) ∙ none_below t x ys (second _ _ h)
+none_below t x (y ∷ ys) h = ap (λ b. (b && t y) || list_any (λ j. is_lt (id_cmp j x) && t j) ys) (not_below x y (first _ _ h)) ∙ none_below t x ys
+    (second _ _ h)
 
 -- those below an id of an ascending list are those before it
 pub below_before : (t : Id → Bool) (ids : List Id) (k : ℕ) (d : Id) → IsTrue (is_ascending id_cmp ids) → k < length ids

@@ -2,7 +2,8 @@
 use Rattle.eco_ids.proofs.Common.{◌≡◌, Bool, true, false, List, [], ◌∷◌, ◌++◌, map, IsTrue, Some, None, MatchBool, Option, option_map, sym, refl, subst, inl}
 use Rattle.eco_ids.proofs.Common.{inr, ⊎_elim, arith, list_any, common_steps, Entity, ACYCLIC, WITH, Id, Two, One, Refusal, Cycle, InUse, NotAPolicy}
 use Rattle.eco_ids.proofs.Common.{late_traits, IsLawful, root, next, id_cmp, has_item, id_eq, Answers, changed, IsClosure, Judges, grown, Extends, ClosesCycle}
-use Rattle.eco_ids.proofs.Common.{cond, option_or, has_clash, TraitClash, IsFirstCycle, is_late, is_wrong_policy, InClosure, Reaches, Brings, WorldState, Record, has, is_alive, names_living}
+use Rattle.eco_ids.proofs.Common.{cond, option_or, has_clash, TraitClash, IsFirstCycle, is_late, is_wrong_policy, InClosure, Reaches, Brings, WorldState}
+use Rattle.eco_ids.proofs.Common.{Record, has, is_alive, names_living}
 use Rattle.eco_ids.proofs.Common.{is_acyclic}
 use Rattle.eco_ids.proofs.Ascending.{both, first, second}
 use Rattle.eco_ids.proofs.Endings.{End, done, unless}

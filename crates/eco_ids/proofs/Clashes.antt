@@ -3,7 +3,8 @@ use Rattle.eco_ids.proofs.Common.{◌≡◌, Bool, true, false, cond, not, ◌&&
 use Rattle.eco_ids.proofs.Common.{unwrap_or, sym, refl, ap, ◌∙◌, subst, inl, inr, true≢false, find, where_key, list_any, Edition, First, Second, Entity}
 use Rattle.eco_ids.proofs.Common.{ACYCLIC, EXCLUSIVE, SYMMETRIC, WITH, Id, Two, One, IsLawful, id_cmp, has_item, id_eq, entity_eq, IsClosure}
 use Rattle.eco_ids.proofs.Common.{with_closure, with_mirror, grown, is_replaced, WorldState, Record, has, record_of, is_alive, names_living, living, held_by}
-use Rattle.eco_ids.proofs.Common.{is_exclusive, is_acyclic, is_symmetric, has_symmetric, is_pair_of, is_with, is_clashing, mirror_of, has_clash, world_of_edition, is_builtin}
+use Rattle.eco_ids.proofs.Common.{is_exclusive, is_acyclic, is_symmetric, has_symmetric, is_pair_of, is_with, is_clashing, mirror_of, has_clash}
+use Rattle.eco_ids.proofs.Common.{world_of_edition, is_builtin}
 use Rattle.eco_ids.specs.Mirrors.{ties_symmetric, would_be_barred, would_clash}
 use Rattle.eco_ids.proofs.Adds.{half, closure_present, closure_write}
 use Rattle.eco_ids.proofs.Ascending.{both, first, second}
@@ -39,7 +40,8 @@ item_any t i s h p =
 any_item : (t : Id → Bool) (s : List Id) → IsTrue (list_any t s) → (i : Id) × IsTrue (has_item id_cmp s i) × IsTrue (t i)
 any_item t s h = let m = any_is t s h in (m.0, m.2 (λ j. id_eq j m.0) (id_eq_itself m.0), m.1)
 
-module _ (w : WorldState) (e : Entity) (i : Id) (s : List Id) (d : Record) (at : record_of w e ≡ Some d) (closure : IsClosure w i s) (named : IsTrue (names_living w i)) where
+module _ (w : WorldState) (e : Entity) (i : Id) (s : List Id) (d : Record) (at : record_of w e ≡ Some d) (closure : IsClosure w i s)
+    (named : IsTrue (names_living w i)) where
   write : IsWrite w e (with_closure w s d) (half w e s)
   write = closure_write w e i s d at
 
@@ -192,9 +194,17 @@ module _ (w : WorldState) (e : Entity) (i : Id) (s : List Id) (d : Record) (at :
     by_holder r x sy h = elim (came r (Two WITH x) (with_unsymmetric x) h) as (λ _. Clashes) [
       | inl k ↦ elim (was_or_is r sy) as (λ _. Clashes) [
         | inl m ↦ absurd (calm.holder r x m k)
-        | inr m ↦ inl (own_symmetric r m.0 sy, barred_with (or_left _ _ (or_left _ _ (subst (λ y. IsTrue (list_any (λ h. is_with h.0) (held_by w y))) m.0 (held_with r x k)))))
+        | inr m ↦ inl (
+          own_symmetric r m.0 sy,
+          barred_with (or_left _ _
+              (or_left _ _ (subst (λ y. IsTrue (list_any (λ h. is_with h.0) (held_by w y))) m.0 (held_with r x k)))),
+        )
       ]
-      | inr k ↦ inl (own_symmetric r k.0 sy, barred_with (or_left _ _ (or_right (list_any (λ h. is_with h.0) (held_by w e)) _ (item_any is_with (Two WITH x) s k.1 refl))))
+      | inr k ↦ inl (
+        own_symmetric r k.0 sy,
+        barred_with (or_left _ _
+            (or_right (list_any (λ h. is_with h.0) (held_by w e)) _ (item_any is_with (Two WITH x) s k.1 refl))),
+      )
     ]
 
     by_target : (r x : Entity) → IsTrue (is_symmetric (grown w e i s) r) → IsTrue (has (grown w e i s) x (Two WITH r)) → Clashes
@@ -209,7 +219,11 @@ module _ (w : WorldState) (e : Entity) (i : Id) (s : List Id) (d : Record) (at :
       ]
       | inr k ↦ elim (was_or_is r sy) as (λ _. Clashes) [
         | inl m ↦ inr (item_any (ties_symmetric w) (Two WITH r) s k.1 (both (entity_eq WITH WITH) _ (entity_eq_itself WITH) m))
-        | inr m ↦ inl (own_symmetric r m.0 sy, barred_with (or_left _ _ (or_right (list_any (λ h. is_with h.0) (held_by w e)) _ (item_any is_with (Two WITH r) s k.1 refl))))
+        | inr m ↦ inl (
+          own_symmetric r m.0 sy,
+          barred_with (or_left _ _
+              (or_right (list_any (λ h. is_with h.0) (held_by w e)) _ (item_any is_with (Two WITH r) s k.1 refl))),
+        )
       ]
     ]
 
@@ -234,7 +248,8 @@ module _ (w : WorldState) (e : Entity) (i : Id) (s : List Id) (d : Record) (at :
     -- ---- and the other way round
 
     new_trait : (c : Entity) → IsTrue (has w e (One c) || has_item id_cmp s (One c)) → IsTrue (has (grown w e i s) e (One c))
-    new_trait c h = elim (or_parts (has w e (One c)) _ h) as (λ _. IsTrue (has (grown w e i s) e (One c))) [ inl k ↦ stays e (One c) k refl | inr k ↦ there (One c) k ]
+    new_trait c h = elim (or_parts (has w e (One c)) _ h) as
+        (λ _. IsTrue (has (grown w e i s) e (One c))) [ inl k ↦ stays e (One c) k refl | inr k ↦ there (One c) k ]
 
     new_with : (x y : Entity) → IsTrue (has w x (Two WITH y)) → IsTrue (has (grown w e i s) x (Two WITH y))
     new_with x y h = stays x (Two WITH y) h (with_stays y)
@@ -280,7 +295,8 @@ module _ (w : WorldState) (e : Entity) (i : Id) (s : List Id) (d : Record) (at :
             (or_right ((has w e (One SYMMETRIC) || has_item id_cmp s (One SYMMETRIC)) && would_be_barred w e s) _ q)
     seen_is false h true k = absurd (not_calm (calm_from (grown w e i s) h) (parts (or_parts _ _ (second (has_symmetric w.edition) _ k))))
       where
-        parts : IsTrue ((has w e (One SYMMETRIC) || has_item id_cmp s (One SYMMETRIC)) && would_be_barred w e s) ⊎ IsTrue (list_any (ties_symmetric w) s) → Clashes
+        parts : IsTrue ((has w e (One SYMMETRIC) || has_item id_cmp s (One SYMMETRIC)) && would_be_barred w e s) ⊎ IsTrue (list_any (ties_symmetric w) s)
+            → Clashes
         parts (inl q) = inl (first _ (would_be_barred w e s) q, second (has w e (One SYMMETRIC) || has_item id_cmp s (One SYMMETRIC)) _ q)
         parts (inr q) = inr q
 
@@ -302,7 +318,8 @@ pub record IsQuiet (s : List Id) : Type 0 where
   pub with : (x : Entity) → IsFalse (has_item id_cmp s (Two WITH x))
 
 -- such a one makes nothing clash
-pub quiet_clash : (w : WorldState) (e : Entity) (s : List Id) → (IsTrue (has_symmetric w.edition) → IsLawful w) → (IsTrue (has_symmetric w.edition) → IsQuiet s) →
+pub quiet_clash : (w : WorldState) (e : Entity) (s : List Id) → (IsTrue (has_symmetric w.edition) → IsLawful w) →
+    (IsTrue (has_symmetric w.edition) → IsQuiet s) →
     IsFalse (would_clash w e s)
 quiet_clash w e s l quiet = by (has_symmetric w.edition) refl
   where

@@ -55,7 +55,8 @@ pub use Rattle.eco_ids.specs.Delete.{DeletesOne, DeletesWith}
 pub use Rattle.eco_ids.specs.Edition.{builtin_count, late_traits, has_symmetric}
 pub use Rattle.eco_ids.specs.Indices.{Living, IndexState, Indexed, Free, Retired, record_in, next_entity, living_from, with_new, is_free_at, map_state}
 pub use Rattle.eco_ids.specs.Indices.{change_kept, is_free_in, with_record, admitted, lowest_free, raised, with_death}
-pub use Rattle.eco_ids.specs.Lawful.{IsLawful, IsOrderly, is_proper_arity, is_proper_state, KeepsAcyclic, KeepsExclusive, KeepsEdition, KeepsMirrors, IsMirrored}
+pub use Rattle.eco_ids.specs.Lawful.{IsLawful, IsOrderly, is_proper_arity, is_proper_state, KeepsAcyclic, KeepsExclusive, KeepsEdition, KeepsMirrors}
+pub use Rattle.eco_ids.specs.Lawful.{IsMirrored}
 pub use Rattle.eco_ids.specs.Least.{root, next, Least}
 pub use Rattle.eco_ids.specs.Losses.{nobody, without, keeping}
 pub use Rattle.eco_ids.specs.Matching.{pattern_matches, IsLeastMatch, ShareAnEntity, part_overlaps, pattern_overlaps}

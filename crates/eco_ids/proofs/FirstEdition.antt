@@ -29,7 +29,8 @@ module _ (limit : ℕ) (states : List (IndexState Record)) (queries : List (List
   calm_first = refl
 
   -- a verdict where the world would grow to one of the first edition
-  verdict_first : (cycle : Option Entity) → cond (has_clash first) (option_or (option_map Cycle cycle) (Some TraitClash)) (option_map Cycle cycle) ≡ option_map Cycle cycle
+  verdict_first : (cycle : Option Entity) → cond (has_clash first) (option_or (option_map Cycle cycle) (Some TraitClash))
+      (option_map Cycle cycle) ≡ option_map Cycle cycle
   verdict_first cycle = refl
 
   late_first : late_traits first.edition ≡ EXCLUSIVE ∷ ACYCLIC ∷ []

@@ -1,5 +1,6 @@
 -- The world that an add leads to: the closure at its entity, and the mirror where there is one.
-use Rattle.eco_ids.proofs.Common.{◌≡◌, Bool, true, false, cond, not, ◌&&◌, ◌||◌, ◌⊎◌, List, [], ◌∷◌, is_some, IsTrue, IsFalse, Some, None, Option, sym, refl, ap}
+use Rattle.eco_ids.proofs.Common.{◌≡◌, Bool, true, false, cond, not, ◌&&◌, ◌||◌, ◌⊎◌, List, [], ◌∷◌, is_some, IsTrue, IsFalse, Some, None, Option, sym, refl}
+use Rattle.eco_ids.proofs.Common.{ap}
 use Rattle.eco_ids.proofs.Common.{◌∙◌, subst, inl, inr, true≢false, find, where_key, list_any, none-some, same_Some, Entity, ACYCLIC, EXCLUSIVE, SYMMETRIC}
 use Rattle.eco_ids.proofs.Common.{Id, Two, One, is_builtin, IsLawful, IsOrderly, IsMirrored}
 use Rattle.eco_ids.proofs.Common.{root, next, id_cmp, has_item, id_eq, IsClosure, with_closure, with_id, with_mirror, put, zeros, grown, changed}
@@ -341,7 +342,8 @@ module _
       (λ second m. grows_mirrored w e i s (grown w e i s) closure (clear.once_symmetric second) g.1 clear.calm m)
 
 -- where a pair is added, who has a single id had it before
-pub single_before : (w : WorldState) (e : Entity) (i : Id) (s : List Id) (d : Record) → record_of w e ≡ Some d → IsClosure w i s → (r t : Entity) → i ≡ Two r t →
+pub single_before : (w : WorldState) (e : Entity) (i : Id) (s : List Id) (d : Record) → record_of w e ≡ Some d → IsClosure w i s → (r t : Entity)
+    → i ≡ Two r t →
     (c x : Entity) → IsTrue (has (grown w e i s) x (One c)) → IsTrue (has w x (One c))
 single_before w e i s d at closure r t is c x = by (mirror_of w e i) refl
   where

@@ -1,7 +1,9 @@
 -- The worked listing of tables is a layout: a listing that passes a computed test is one, and this one passes.
 use Rattle.eco_ids.proofs.Common.{◌≡◌, ◌≢◌, ℕ, suc, Bool, true, false, not, ◌&&◌, ◌||◌, List, [], ◌∷◌, map, get_or, IsTrue, Contains}
-use Rattle.eco_ids.proofs.Common.{is_eq, sym, refl, ap, ◌∙◌, subst, inl, inr, true≢false, arith, list_any, list_all, codes, Some, Each, Is, entity_eq, tied_itself}
-use Rattle.eco_ids.proofs.Common.{ON_DELETE, PANIC, Entity, Id, One, Two, Living, id_cmp, entity_cmp, has_item, is_ascending, WorldState, is_alive, held_by, zeros}
+use Rattle.eco_ids.proofs.Common.{is_eq, sym, refl, ap, ◌∙◌, subst, inl, inr, true≢false, arith, list_any, list_all, codes, Some, Each, Is, entity_eq}
+use Rattle.eco_ids.proofs.Common.{tied_itself}
+use Rattle.eco_ids.proofs.Common.{ON_DELETE, PANIC, Entity, Id, One, Two, Living, id_cmp, entity_cmp, has_item, is_ascending, WorldState, is_alive, held_by}
+use Rattle.eco_ids.proofs.Common.{zeros}
 use Rattle.eco_ids.specs.declared.pattern.Pattern.TheVariants as pattern
 use Rattle.eco_ids.specs.Layout.{ListedTable, IsLayout, is_distinct, tables_with}
 use Rattle.std.specs.Cmp.Lexicographic.{slice_cmp}
@@ -15,7 +17,8 @@ use Rattle.eco_ids.proofs.Worlds.{e, having, world}
 
 -- component P 9, T 10, and 11, which has P
 abbrev small : WorldState
-small = world (Living 0 (record { name = Some (codes "P"); arity = Some 1; held = (Two ON_DELETE PANIC, zeros) ∷ [] }) ∷ having [] ∷ having (One (e 9) ∷ []) ∷ [])
+small = world (Living 0 (record { name = Some (codes "P"); arity = Some 1; held = (Two ON_DELETE PANIC, zeros) ∷ [] }) ∷ having [] ∷ having
+    (One (e 9) ∷ []) ∷ [])
 
 abbrev table : List Id → List ℕ → ListedTable
 table ids members = record { ids = ids; entities = map e members }
@@ -99,7 +102,8 @@ tested w tables h =
             (first (is_alive w x) _ stands, types_tie t.ids _ (equal_tie _ (second (is_alive w x) _ stands))),
         λ lives.
             let rule = all_pass (λ u. not (is_type_of w u.ids x) || has_item entity_cmp u.entities x) tables t (first _ _ (placed x lives.0)) at in
-            has_contains t.entities x (implied (is_type_of w t.ids x) _ rule (ap (λ ids. is_eq (slice_cmp id_cmp t.ids ids)) (sym lives.1) ∙ ap is_eq (tied_itself types_total t.ids))),
+            has_contains t.entities x (implied (is_type_of w t.ids x) _ rule
+            (ap (λ ids. is_eq (slice_cmp id_cmp t.ids ids)) (sym lives.1) ∙ ap is_eq (tied_itself types_total t.ids))),
       );
       all = λ x alive.
           let one = one_passes (λ t. has_item entity_cmp t.entities x) tables

@@ -1,6 +1,8 @@
 -- Exactly which ids and values an add and a delete leave.
-use Rattle.eco_ids.proofs.Common.{◌≡◌, Bool, true, false, cond, not, List, [], IsTrue, IsFalse, Some, None, Ok, Option, option_map, unwrap_or, sym, subst, true≢false}
-use Rattle.eco_ids.proofs.Common.{refl, ap, ◌∙◌, arith, MatchOption, MatchBool, Refuses, Answers, changed, unchanged, unfit, Extends, Refusal, Reserved, NotAlive, DeadId, Two, find, option_or, common_steps, Entity, Id, Value, after_delete, Deletes, names_any}
+use Rattle.eco_ids.proofs.Common.{◌≡◌, Bool, true, false, cond, not, List, [], IsTrue, IsFalse, Some, None, Ok, Option, option_map, unwrap_or, sym, subst}
+use Rattle.eco_ids.proofs.Common.{true≢false}
+use Rattle.eco_ids.proofs.Common.{refl, ap, ◌∙◌, arith, MatchOption, MatchBool, Refuses, Answers, changed, unchanged, unfit, Extends, Refusal, Reserved}
+use Rattle.eco_ids.proofs.Common.{NotAlive, DeadId, Two, find, option_or, common_steps, Entity, Id, Value, after_delete, Deletes, names_any}
 use Rattle.eco_ids.proofs.Common.{DeletesOne, DeletesWith, keeping, id_cmp, has_item, entity_cmp, Adds, IsClosure, with_closure, grown, is_replaced, WorldState}
 use Rattle.eco_ids.proofs.Common.{Record, has, record_of, zeros, is_alive, names_living, is_reserved, with_id, with_mirror, mirror_of, id_eq}
 use Rattle.std.specs.Option.{option_and_then}

@@ -15,7 +15,8 @@ record IsFound (name : List ℕ) (n : ℕ) (xs : List (IndexState Record)) (p : 
   here : record_in (slice_get xs place) p.0.generation ≡ Some p.1
   called_so : IsTrue (is_called name p.1.name)
 
-later : (name : List ℕ) (n : ℕ) (x : IndexState Record) (xs : List (IndexState Record)) (p : Entity × Record) → IsFound name (n + 1) xs p → IsFound name n (x ∷ xs) p
+later : (name : List ℕ) (n : ℕ) (x : IndexState Record) (xs : List (IndexState Record)) (p : Entity × Record) → IsFound name (n + 1) xs p → IsFound name n
+    (x ∷ xs) p
 later name n x xs p m =
     let at : p.0.index ≡ (n + 1) + m.place = m.index in
     record { place = suc m.place; index = omega (arith, at); here = m.here; called_so = m.called_so }

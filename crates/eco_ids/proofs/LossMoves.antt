@@ -1,7 +1,10 @@
 -- A loss as changes of single entities, one after another.
-use Rattle.eco_ids.proofs.Common.{◌≡◌, ℕ, suc, ◌+◌, arith, Bool, true, false, cond, not, ◌&&◌, ◌||◌, List, [], ◌∷◌, is_some, IsTrue, IsFalse, fold, sym, refl, ap, ◌∙◌, subst}
-use Rattle.eco_ids.proofs.Common.{Some, None, Option, true≢false, find, where_key, Entity, Id, Value, Living, IndexState, Free, Retired, nobody, without, keeping}
-use Rattle.eco_ids.proofs.Common.{id_cmp, id_eq, entity_eq, has_item, entity_cmp, changed, WorldState, Record, has, record_of, entities, slice_get, Two, One, IsLawful, mirror_of, at_mirror, goes_too}
+use Rattle.eco_ids.proofs.Common.{◌≡◌, ℕ, suc, ◌+◌, arith, Bool, true, false, cond, not, ◌&&◌, ◌||◌, List, [], ◌∷◌, is_some, IsTrue, IsFalse, fold, sym, refl}
+use Rattle.eco_ids.proofs.Common.{ap, ◌∙◌, subst}
+use Rattle.eco_ids.proofs.Common.{Some, None, Option, true≢false, find, where_key, Entity, Id, Value, Living, IndexState, Free, Retired, nobody, without}
+use Rattle.eco_ids.proofs.Common.{keeping}
+use Rattle.eco_ids.proofs.Common.{id_cmp, id_eq, entity_eq, has_item, entity_cmp, changed, WorldState, Record, has, record_of, entities, slice_get, Two, One}
+use Rattle.eco_ids.proofs.Common.{IsLawful, mirror_of, at_mirror, goes_too}
 use Rattle.eco_ids.proofs.Common.{is_symmetric, has_symmetric, if◌then◌else◌, inl, inr, ◌⊎◌, ◌++◌}
 use Rattle.eco_ids.specs.Indices.{map_from}
 use Rattle.eco_ids.specs.Losses.{left_at}
@@ -129,7 +132,8 @@ some_more goes e es x i = by (entity_eq e x) refl
     turned false h = other (entity_eq x e) refl
       where
         other : (c : Bool) → entity_eq x e ≡ c → entity_eq x e ≡ false
-        other true k = absurd (true≢false (sym (subst (λ y. entity_eq e y ≡ true) (sym (entity_eq_is x e k)) (subst (λ y. entity_eq y e ≡ true) (entity_eq_is x e k) k)) ∙ h))
+        other true k = absurd (true≢false (sym (subst (λ y. entity_eq e y ≡ true) (sym (entity_eq_is x e k))
+            (subst (λ y. entity_eq y e ≡ true) (entity_eq_is x e k) k)) ∙ h))
         other false k = k
 
     same_goes : (b c : Bool) → ((b || c) && b) ≡ (b || (c && b))
@@ -143,7 +147,8 @@ some_more goes e es x i = by (entity_eq e x) refl
     absorbed false true = refl
     absorbed false false = refl
 
-    by : (b : Bool) → entity_eq e x ≡ b → ((entity_eq e x || has_item entity_cmp es x) && goes x i) ≡ ((entity_eq x e && goes e i) || (has_item entity_cmp es x && goes x i))
+    by : (b : Bool) → entity_eq e x ≡ b → ((entity_eq e x || has_item entity_cmp es x) && goes x i) ≡
+        ((entity_eq x e && goes e i) || (has_item entity_cmp es x && goes x i))
     by true h =
         ap (λ b. (b || has_item entity_cmp es x) && goes x i) h ∙ absorbed (goes x i) (has_item entity_cmp es x)
         ∙ sym (ap (λ b. (b && goes e i) || (has_item entity_cmp es x && goes x i)) (turned true h)
@@ -164,7 +169,8 @@ these_lose goes w (e ∷ es) =
 pub losses_one_by_one : (w : WorldState) (goes : Entity → Id → Bool) (es : List Entity) →
     ((x : Entity) (i : Id) → IsTrue (has w x i) → IsFalse (has_item entity_cmp es x) → IsFalse (goes x i)) →
     without w nobody goes ≡ one_by_one goes w es
-losses_one_by_one w goes es others = without_alike w goes (of_these goes es) (λ x i there. same x i there (has_item entity_cmp es x) refl) ∙ these_lose goes w es
+losses_one_by_one w goes es others = without_alike w goes (of_these goes es) (λ x i there. same x i there (has_item entity_cmp es x) refl)
+    ∙ these_lose goes w es
   where
     same : (x : Entity) (i : Id) → IsTrue (has w x i) → (b : Bool) → has_item entity_cmp es x ≡ b → goes x i ≡ (has_item entity_cmp es x && goes x i)
     same x i there true h = sym (ap (λ c. c && goes x i) h)
@@ -272,7 +278,8 @@ pub remove_all_moves : (w : WorldState) (i : Id) (holders : List Entity) →
     without w nobody (goes_too w (λ x j. id_eq j i)) ≡ one_by_one (goes_too w (λ x j. id_eq j i)) w (symmetric_target w i ++ holders)
 remove_all_moves w i holders all = losses_one_by_one w (goes_too w goes) (symmetric_target w i ++ holders) (λ x j there apart.
     stays_there w goes x j (off (id_eq j i) (λ same.
-    not_both (or_right (has_item entity_cmp (symmetric_target w i) x) _ (all x (subst (λ k. IsTrue (has w x k)) (id_eq_is j i same) there))) (sym (split x) ∙ apart)))
+    not_both (or_right (has_item entity_cmp (symmetric_target w i) x) _ (all x (subst (λ k. IsTrue (has w x k)) (id_eq_is j i same) there)))
+    (sym (split x) ∙ apart)))
     (λ r t is symmetric same.
     not_both (or_left (has_item entity_cmp (symmetric_target w i) x) (has_item entity_cmp holders x)
     (subst (λ k. IsTrue (has_item entity_cmp (symmetric_target w k) x)) (id_eq_is (Two r x) i same) (target r x symmetric))) (sym (split x) ∙ apart)))
@@ -284,7 +291,8 @@ remove_all_moves w i holders all = losses_one_by_one w (goes_too w goes) (symmet
     off true f = absurd (f refl)
     off false f = refl
 
-    split : (x : Entity) → has_item entity_cmp (symmetric_target w i ++ holders) x ≡ (has_item entity_cmp (symmetric_target w i) x || has_item entity_cmp holders x)
+    split : (x : Entity) → has_item entity_cmp (symmetric_target w i ++ holders) x ≡
+        (has_item entity_cmp (symmetric_target w i) x || has_item entity_cmp holders x)
     split x = list_any-append (λ y. entity_eq y x) (symmetric_target w i) holders
 
     target : (r x : Entity) → IsTrue (is_symmetric w r) → IsTrue (has_item entity_cmp (symmetric_target w (Two r x)) x)

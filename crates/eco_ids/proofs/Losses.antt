@@ -5,7 +5,8 @@ use Rattle.eco_ids.proofs.Common.{subst, arith, ltb-true, eq-eqb, eqb-true, le-l
 use Rattle.eco_ids.proofs.Common.{common_steps, same_Some, none-some, Entity, Id, Refusal, Reserved, NotAlive, Value, is_builtin, is_builtins, builtin_count}
 use Rattle.eco_ids.proofs.Common.{Living, IndexState, Free, Retired, record_in, map_state, change_kept, raised, IsLawful, IsOrderly, is_proper_state, nobody}
 use Rattle.eco_ids.proofs.Common.{without, keeping, id_cmp, id_eq, entity_eq, Refuses, changed, RemovesAll, unfit_actor, Loses, Clears, Removes, WorldState}
-use Rattle.eco_ids.proofs.Common.{Record, has, record_of, is_alive, entities, with_entities, true≢false, Two, One, SYMMETRIC, IsMirrored, mirror_of, at_mirror, goes_too, is_symmetric}
+use Rattle.eco_ids.proofs.Common.{Record, has, record_of, is_alive, entities, with_entities, true≢false, Two, One, SYMMETRIC, IsMirrored, mirror_of}
+use Rattle.eco_ids.proofs.Common.{at_mirror, goes_too, is_symmetric}
 use Rattle.eco_ids.proofs.Common.{has_symmetric}
 use Rattle.eco_ids.specs.Builtin.{builtin_entities}
 use Rattle.eco_ids.specs.Indices.{map_from}

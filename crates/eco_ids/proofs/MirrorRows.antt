@@ -1,5 +1,6 @@
 -- Worked rows of the second edition, computed.
-use Rattle.eco_ids.proofs.Common.{◌≡◌, ℕ, false, map, refl, sym, ap, subst, true≢false, IsTrue, IsFalse, List, [], ◌∷◌, ◌++◌, Some, None, Ok, Err, ◌||◌, inl, inr, pos, codes}
+use Rattle.eco_ids.proofs.Common.{◌≡◌, ℕ, false, map, refl, sym, ap, subst, true≢false, IsTrue, IsFalse, List, [], ◌∷◌, ◌++◌, Some, None, Ok, Err, ◌||◌, inl}
+use Rattle.eco_ids.proofs.Common.{inr, pos, codes}
 use Rattle.eco_ids.specs.declared.edition.Edition.TheVariants.{First, Second}
 use Rattle.eco_ids.specs.declared.entity.Entity.{Entity}
 use Rattle.eco_ids.specs.declared.entity.TheConstants.{EXCLUSIVE, ACYCLIC, SYMMETRIC, WITH, ON_DELETE, ON_DELETE_TARGET, DELETE, PANIC}
@@ -83,14 +84,26 @@ begun = four S [] [] []
 
 -- each row begins with: add Friend Symmetric, `ok`
 begin : Adds (four [] [] [] []) (e 10) (One SYMMETRIC) (Ok tt) begun
-begin = (S, alone (four [] [] [] []) (One SYMMETRIC) refl (lone_single (four [] [] [] []) SYMMETRIC (λ x. refl)), None, (None, calm_single (four [] [] [] []) (e 10) SYMMETRIC, refl), (refl, refl))
+begin = (
+  S,
+  alone (four [] [] [] []) (One SYMMETRIC) refl (lone_single (four [] [] [] []) SYMMETRIC (λ x. refl)),
+  None,
+  (None, calm_single (four [] [] [] []) (e 10) SYMMETRIC, refl),
+  (refl, refl),
+)
 
 -- ---- row 1
 abbrev ab : WorldState
 ab = four S (with 12 ∷ []) (with 11 ∷ []) []
 
 row1_add : Adds begun (e 11) (with 12) (Ok tt) ab
-row1_add = (with 12 ∷ [], alone begun (with 12) refl (lone_pair begun (e 10) (e 12) (λ x. refl)), None, (None, calm_pair begun (e 11) (e 10) (e 12) refl, refl), (refl, refl))
+row1_add = (
+  with 12 ∷ [],
+  alone begun (with 12) refl (lone_pair begun (e 10) (e 12) (λ x. refl)),
+  None,
+  (None, calm_pair begun (e 11) (e 10) (e 12) refl, refl),
+  (refl, refl),
+)
 
 row1_show_b : held_by ab (e 12) ≡ (with 11, zeros) ∷ []
 row1_show_b = refl
@@ -100,29 +113,65 @@ row1_remove = (refl, refl)
 
 -- a pair with itself is its own mirror
 row1_self : Adds begun (e 11) (with 11) (Ok tt) (four S (with 11 ∷ []) [] [])
-row1_self = (with 11 ∷ [], alone begun (with 11) refl (lone_pair begun (e 10) (e 11) (λ x. refl)), None, (None, calm_pair begun (e 11) (e 10) (e 11) refl, refl), (refl, refl))
+row1_self = (
+  with 11 ∷ [],
+  alone begun (with 11) refl (lone_pair begun (e 10) (e 11) (λ x. refl)),
+  None,
+  (None, calm_pair begun (e 11) (e 10) (e 11) refl, refl),
+  (refl, refl),
+)
 
 row1_unself : Removes (four S (with 11 ∷ []) [] []) (e 11) (with 11) (Ok tt) begun
 row1_unself = (refl, refl)
 
 -- ---- row 2
 row2_exclusive : Adds begun (e 10) (One EXCLUSIVE) (Err TraitClash) begun
-row2_exclusive = (One EXCLUSIVE ∷ [], alone begun (One EXCLUSIVE) refl (lone_single begun EXCLUSIVE (λ x. refl)), Some TraitClash, (None, calm_single begun (e 10) EXCLUSIVE, refl), (refl, refl))
+row2_exclusive = (
+  One EXCLUSIVE ∷ [],
+  alone begun (One EXCLUSIVE) refl (lone_single begun EXCLUSIVE (λ x. refl)),
+  Some TraitClash,
+  (None, calm_single begun (e 10) EXCLUSIVE, refl),
+  (refl, refl),
+)
 
 row2_target : Adds begun (e 11) (Two WITH (e 10)) (Err TraitClash) begun
-row2_target = (Two WITH (e 10) ∷ [], alone begun (Two WITH (e 10)) refl (lone_pair begun WITH (e 10) (λ x. refl)), Some TraitClash, (None, calm_pair begun (e 11) WITH (e 10) refl, refl), (refl, refl))
+row2_target = (
+  Two WITH (e 10) ∷ [],
+  alone begun (Two WITH (e 10)) refl (lone_pair begun WITH (e 10) (λ x. refl)),
+  Some TraitClash,
+  (None, calm_pair begun (e 11) WITH (e 10) refl, refl),
+  (refl, refl),
+)
 
 row2_with : Adds begun (e 10) (Two WITH (e 11)) (Err TraitClash) begun
-row2_with = (Two WITH (e 11) ∷ [], alone begun (Two WITH (e 11)) refl (lone_pair begun WITH (e 11) (λ x. refl)), Some TraitClash, (None, calm_pair begun (e 10) WITH (e 11) refl, refl), (refl, refl))
+row2_with = (
+  Two WITH (e 11) ∷ [],
+  alone begun (Two WITH (e 11)) refl (lone_pair begun WITH (e 11) (λ x. refl)),
+  Some TraitClash,
+  (None, calm_pair begun (e 10) WITH (e 11) refl, refl),
+  (refl, refl),
+)
 
 abbrev acyclic_b : WorldState
 acyclic_b = four S [] (One ACYCLIC ∷ []) []
 
 row2_acyclic : Adds begun (e 12) (One ACYCLIC) (Ok tt) acyclic_b
-row2_acyclic = (One ACYCLIC ∷ [], alone begun (One ACYCLIC) refl (lone_single begun ACYCLIC (λ x. refl)), None, (None, calm_single begun (e 12) ACYCLIC, refl), (refl, refl))
+row2_acyclic = (
+  One ACYCLIC ∷ [],
+  alone begun (One ACYCLIC) refl (lone_single begun ACYCLIC (λ x. refl)),
+  None,
+  (None, calm_single begun (e 12) ACYCLIC, refl),
+  (refl, refl),
+)
 
 row2_symmetric : Adds acyclic_b (e 12) (One SYMMETRIC) (Err TraitClash) acyclic_b
-row2_symmetric = (One SYMMETRIC ∷ [], alone acyclic_b (One SYMMETRIC) refl (lone_single acyclic_b SYMMETRIC (λ x. refl)), Some TraitClash, (None, calm_single acyclic_b (e 12) SYMMETRIC, refl), (refl, refl))
+row2_symmetric = (
+  One SYMMETRIC ∷ [],
+  alone acyclic_b (One SYMMETRIC) refl (lone_single acyclic_b SYMMETRIC (λ x. refl)),
+  Some TraitClash,
+  (None, calm_single acyclic_b (e 12) SYMMETRIC, refl),
+  (refl, refl),
+)
 
 row2_reserved : Adds acyclic_b (e 11) (Two (e 10) DELETE) (Err Reserved) acyclic_b
 row2_reserved = (refl, refl)
@@ -152,7 +201,13 @@ abbrev three : WorldState
 three = four S (with 12 ∷ with 13 ∷ []) (with 11 ∷ []) (with 11 ∷ [])
 
 row4_add : Adds ab (e 13) (with 11) (Ok tt) three
-row4_add = (with 11 ∷ [], alone ab (with 11) refl (lone_pair ab (e 10) (e 11) (λ x. refl)), None, (None, calm_pair ab (e 13) (e 10) (e 11) refl, refl), (refl, refl))
+row4_add = (
+  with 11 ∷ [],
+  alone ab (with 11) refl (lone_pair ab (e 10) (e 11) (λ x. refl)),
+  None,
+  (None, calm_pair ab (e 13) (e 10) (e 11) refl, refl),
+  (refl, refl),
+)
 
 row4_clear : Clears three (e 11) (Ok tt) begun
 row4_clear = (refl, refl)
@@ -170,7 +225,13 @@ abbrev F : List Id
 F = One SYMMETRIC ∷ Two ON_DELETE_TARGET DELETE ∷ []
 
 row5_policy : Adds begun (e 10) (Two ON_DELETE_TARGET DELETE) (Ok tt) (four F [] [] [])
-row5_policy = (Two ON_DELETE_TARGET DELETE ∷ [], alone begun (Two ON_DELETE_TARGET DELETE) refl (lone_pair begun ON_DELETE_TARGET DELETE (λ x. refl)), None, (None, calm_pair begun (e 10) ON_DELETE_TARGET DELETE refl, refl), (refl, refl))
+row5_policy = (
+  Two ON_DELETE_TARGET DELETE ∷ [],
+  alone begun (Two ON_DELETE_TARGET DELETE) refl (lone_pair begun ON_DELETE_TARGET DELETE (λ x. refl)),
+  None,
+  (None, calm_pair begun (e 10) ON_DELETE_TARGET DELETE refl, refl),
+  (refl, refl),
+)
 
 abbrev chain : WorldState
 chain = four F (with 12 ∷ []) (with 11 ∷ with 13 ∷ []) (with 12 ∷ [])
@@ -179,7 +240,13 @@ abbrev before : WorldState
 before = four F (with 12 ∷ []) (with 11 ∷ []) []
 
 row5_add : Adds (four F (with 12 ∷ []) (with 11 ∷ []) []) (e 12) (with 13) (Ok tt) chain
-row5_add = (with 13 ∷ [], alone before (with 13) refl (lone_pair before (e 10) (e 13) (λ x. refl)), None, (None, calm_pair before (e 12) (e 10) (e 13) refl, refl), (refl, refl))
+row5_add = (
+  with 13 ∷ [],
+  alone before (with 13) refl (lone_pair before (e 10) (e 13) (λ x. refl)),
+  None,
+  (None, calm_pair before (e 12) (e 10) (e 13) refl, refl),
+  (refl, refl),
+)
 
 holds_b : HoldsOn chain DELETE (e 11) (e 12)
 holds_b = (with 11, refl, inr (refl, refl))
@@ -198,10 +265,18 @@ abbrev value : List ℕ → Value
 value ns = record { 0 = map pos ns }
 
 abbrev numbered : List (Id × Value) → List (Id × Value) → WorldState
-numbered ofA ofB = second (Living 0 (record { name = None; arity = Some 2; held = (One SYMMETRIC, zeros) ∷ [] }) ∷ Living 0 (record { name = None; arity = None; held = ofA }) ∷ Living 0 (record { name = None; arity = None; held = ofB }) ∷ [])
+numbered ofA ofB = second (Living 0 (record { name = None; arity = Some 2; held = (One SYMMETRIC, zeros) ∷ [] }) ∷ Living 0
+    (record { name = None; arity = None; held = ofA }) ∷ Living 0 (record { name = None; arity = None; held = ofB }) ∷ [])
 
-set_mirrored : Sets (numbered [] []) (e 11) (with 12) (value (7 ∷ 0 ∷ 0 ∷ 0 ∷ 0 ∷ 0 ∷ 0 ∷ 0 ∷ [])) (Ok tt) (numbered ((with 12, value (7 ∷ 0 ∷ 0 ∷ 0 ∷ 0 ∷ 0 ∷ 0 ∷ 0 ∷ [])) ∷ []) ((with 11, zeros) ∷ []))
-set_mirrored = (with 12 ∷ [], alone (numbered [] []) (with 12) refl (lone_pair (numbered [] []) (e 10) (e 12) (λ x. refl)), None, (None, calm_pair (numbered [] []) (e 11) (e 10) (e 12) refl, refl), (refl, refl))
+set_mirrored : Sets (numbered [] []) (e 11) (with 12) (value (7 ∷ 0 ∷ 0 ∷ 0 ∷ 0 ∷ 0 ∷ 0 ∷ 0 ∷ [])) (Ok tt)
+    (numbered ((with 12, value (7 ∷ 0 ∷ 0 ∷ 0 ∷ 0 ∷ 0 ∷ 0 ∷ 0 ∷ [])) ∷ []) ((with 11, zeros) ∷ []))
+set_mirrored = (
+  with 12 ∷ [],
+  alone (numbered [] []) (with 12) refl (lone_pair (numbered [] []) (e 10) (e 12) (λ x. refl)),
+  None,
+  (None, calm_pair (numbered [] []) (e 11) (e 10) (e 12) refl, refl),
+  (refl, refl),
+)
 
 -- ---- eight fields
 abbrev eight : Value
@@ -223,7 +298,13 @@ abbrev unset : WorldState
 unset = second (M 8 ∷ one [] ∷ [])
 
 fields_set : Sets (second (M 8 ∷ one [] ∷ [])) (e 11) (One (e 10)) eight (Ok tt) (second (M 8 ∷ one ((One (e 10), eight) ∷ []) ∷ []))
-fields_set = (One (e 10) ∷ [], alone unset (One (e 10)) refl (lone_single unset (e 10) (λ x. refl)), None, (None, calm_single unset (e 11) (e 10), refl), (refl, refl))
+fields_set = (
+  One (e 10) ∷ [],
+  alone unset (One (e 10)) refl (lone_single unset (e 10) (λ x. refl)),
+  None,
+  (None, calm_single unset (e 11) (e 10), refl),
+  (refl, refl),
+)
 
 fields_wide : Sets (second (M 5 ∷ one [] ∷ [])) (e 11) (One (e 10)) eight (Err TooWide) (second (M 5 ∷ one [] ∷ []))
 fields_wide = (refl, refl)
@@ -235,7 +316,8 @@ full = (record { limit = 10; indices = (world_of_edition Second 10).indices }, (
 abbrev first : List (IndexState Record) → WorldState
 first made = record { edition = First; limit = 64; indices = (world_of_edition First 64).indices ++ made; queries = [] }
 
-first_plain : Removes (first (having [] ∷ having S ∷ having (with 12 ∷ []) ∷ having (with 11 ∷ []) ∷ [])) (e 11) (with 12) (Ok tt) (first (having [] ∷ having S ∷ having [] ∷ having (with 11 ∷ []) ∷ []))
+first_plain : Removes (first (having [] ∷ having S ∷ having (with 12 ∷ []) ∷ having (with 11 ∷ []) ∷ [])) (e 11) (with 12) (Ok tt)
+    (first (having [] ∷ having S ∷ having [] ∷ having (with 11 ∷ []) ∷ []))
 first_plain = (refl, refl)
 
 first_created : Creates (first []) None (Ok (e 9)) (first (having [] ∷ []))

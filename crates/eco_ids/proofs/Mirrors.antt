@@ -3,7 +3,8 @@ use Rattle.eco_ids.proofs.Common.{◌≡◌, ℕ, zero, suc, ◌+◌, Bool, true
 use Rattle.eco_ids.proofs.Common.{Some, None, Option, option_map, unwrap_or, sym, refl, ap, ◌∙◌, subst, inl, inr, true≢false, arith, find, list_any, none-some}
 use Rattle.eco_ids.proofs.Common.{same_Some, Edition, First, Second, Entity, ACYCLIC, WITH, EXCLUSIVE, SYMMETRIC, Id, Two, One, Value, Living, IndexState}
 use Rattle.eco_ids.proofs.Common.{Free, Retired, living_from, IsLawful, IsOrderly, KeepsEdition, IsMirrored, id_cmp, id_eq, WorldState}
-use Rattle.eco_ids.proofs.Common.{Record, has, record_of, entities, living, held_by, is_exclusive, is_acyclic, is_symmetric, has_symmetric, mirror_of, mirrored_pair}
+use Rattle.eco_ids.proofs.Common.{Record, has, record_of, entities, living, held_by, is_exclusive, is_acyclic, is_symmetric, has_symmetric, mirror_of}
+use Rattle.eco_ids.proofs.Common.{mirrored_pair}
 use Rattle.eco_ids.proofs.Common.{is_with, is_clashing, has_clash}
 use Rattle.eco_ids.proofs.Ascending.{both, first, second}
 use Rattle.eco_ids.proofs.Facts.{any_is, id_eq_is, id_eq_itself, not_both, or_left, or_parts, or_right}

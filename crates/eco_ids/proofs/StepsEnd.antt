@@ -2,7 +2,8 @@
 use Rattle.eco_ids.proofs.Common.{◌≡◌, ℕ, Bool, cond, not, List, IsTrue, Some, None, Option, MatchOption, sym, subst, arith, rules, common_steps, Entity, Id}
 use Rattle.eco_ids.proofs.Common.{Refusal, Reserved, NotAlive, DeadId, NoMoreIds, Value, unfit_name, Makes, Admits, MakesAlive, is_builtins}
 use Rattle.eco_ids.proofs.Common.{DeletesOne, DeletesWith, Indexed, next_entity, with_new, IsLawful, nobody, without, Refuses, Answers, changed, Adds, Sets}
-use Rattle.eco_ids.proofs.Common.{with_value, RemovesAll, Renames, unfit_actor, Loses, unchanged, unfit, unfit_set, WorldState, Record, has, is_alive, entities, is_reserved, goes_too}
+use Rattle.eco_ids.proofs.Common.{with_value, RemovesAll, Renames, unfit_actor, Loses, unchanged, unfit, unfit_set, WorldState, Record, has, is_alive}
+use Rattle.eco_ids.proofs.Common.{entities, is_reserved, goes_too}
 use Rattle.eco_ids.proofs.Common.{names_living, OnEntities}
 use Rattle.eco_ids.proofs.AddsEnd.{extends_end}
 use Rattle.eco_ids.proofs.DeletesEnd.{deletes_end}

@@ -26,7 +26,8 @@ use Rattle.eco_bodies.specs.declared.action.Action.{Action}
 use Rattle.eco_script.specs.Laws.{is_frame}
 use Rattle.eco_script.specs.Recording.{MakesOfNamed, ReadsAction, ReadsActions, ReadsChange, ReadsCommand, ReadsCommands, ReadsEach, has_stages}
 use Rattle.eco_script.specs.References.{ReadsBoth, ReadsEntity, ReadsId, ReadsQuery}
-use Rattle.eco_script.specs.Replies.{Reply, done, merged, shown, replied, with_declared, AnswersAdded, Calls, Changes, DeclaresSystem, On, OnCommands, OnEntity, OnId}
+use Rattle.eco_script.specs.Replies.{Reply, done, merged, shown, replied, with_declared, AnswersAdded, Calls, Changes, DeclaresSystem, On, OnCommands}
+use Rattle.eco_script.specs.Replies.{OnEntity, OnId}
 use Rattle.eco_script.specs.Replies.{OnQuery, ReadsSystem}
 use Rattle.eco_script.specs.Replies.{Replies, StepReplies, Then}
 use Rattle.eco_script.specs.States.{NamedSystem, ScriptState}

@@ -104,7 +104,8 @@ impl Stage {
 // Copies of the commands come last, in room that is there. An `Err` leaves those that were copied until then.
 fn push_copies(list: &mut Vec<Command>, commands: &[Command]) -> Result<(), AllocError>
     requires { vec_len list.old + length commands.now ≤ vec_capacity list.old }
-    ensures ok { OnOk result (commands_of list.new.items ≡ commands_of list.old.items ++ commands_of commands.now) }
+    ensures ok { OnOk result (commands_of list.new.items
+        ≡ commands_of list.old.items ++ commands_of commands.now) }
     ensures err { OnErr result (take (vec_len list.old) list.new.items ≡ list.old.items) }
 {
     let alloc = *list.allocator();

@@ -9,7 +9,8 @@ use Rattle.eco_systems.specs.declared.phase.Phase.{Phase}
 use Rattle.eco_systems.specs.declared.phase.Phase.TheVariants.{OnLoad, PostLoad, PreUpdate, OnUpdate, OnValidate, PostUpdate, PreStore, OnStore}
 use Rattle.eco_systems.specs.Phases.{phases}
 use Rattle.eco_steps.specs.Actions.{WrittenAction, add, remove, put, sum, kill, spawn}
-use Rattle.eco_steps.specs.Decode.{list_in, each_in, value_of_data, slot_in, phase_of, bare_actions, text_actions, action_of_none, action_of_text, action_of_slot, action_of}
+use Rattle.eco_steps.specs.Decode.{list_in, each_in, value_of_data, slot_in, phase_of, bare_actions, text_actions, action_of_none, action_of_text}
+use Rattle.eco_steps.specs.Decode.{action_of_slot, action_of}
 use Rattle.eco_steps.specs.Decode.{action_in, actions_in, words_in}
 use Rattle.eco_steps.specs.Steps.{IsSlotData, IsActionData, IsActionsData, phase_word, written_list}
 use Rattle.eco_steps.proofs.Parts.{number_in_range, value_found, chosen, of_table, word_is, str_is, number_is, list_is, value_is, words_is}

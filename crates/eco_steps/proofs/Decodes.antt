@@ -11,9 +11,11 @@ use Rattle.serde_json.specs.Find.{as_str}
 use Rattle.eco_ids.specs.declared.edition.Edition.{Edition}
 use Rattle.eco_ids.specs.declared.edition.Edition.TheVariants.{First, Second}
 use Rattle.eco_ids.specs.Edition.{builtin_count, largest_arity}
-use Rattle.eco_steps.specs.Decode.{list_in, each_in, name_in, number_in, value_of_data, change_with, change_of_text, change_of_texts, change_of_two, change_of_three}
+use Rattle.eco_steps.specs.Decode.{list_in, each_in, name_in, number_in, value_of_data, change_with, change_of_text, change_of_texts, change_of_two}
+use Rattle.eco_steps.specs.Decode.{change_of_three}
 use Rattle.eco_steps.specs.Decode.{text_changes, texts_changes, bare_steps, text_steps, texts_steps}
-use Rattle.eco_steps.specs.Decode.{created_of, command_with, command_in, stage_in, stages_in, step_of_none, step_of_one, step_of_text, step_of_texts, step_of_two, step_of}
+use Rattle.eco_steps.specs.Decode.{created_of, command_with, command_in, stage_in, stages_in, step_of_none, step_of_one, step_of_text, step_of_texts}
+use Rattle.eco_steps.specs.Decode.{step_of_two, step_of}
 use Rattle.eco_steps.specs.Decode.{words_in, merge_of_data, phase_of, actions_in, named_system_of_data, system_of_data, step_with}
 use Rattle.eco_steps.specs.Decode.{step_in, Parts, edition_of, limit_in, parts_of, parts_in, parts_with, script_of, script_in, version_in}
 use Rattle.eco_steps.specs.Script.{WrittenScript, IsScriptData, IsScript, version}

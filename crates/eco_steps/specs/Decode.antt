@@ -1,6 +1,7 @@
 -- How the program finds the script that a JSON value is, if it is one. The contracts of private functions speak of it;
 -- that it finds exactly the scripts is proved over it.
-use Rattle.std.specs.Prelude.{ℕ, ◌^◌, ◌==◌, ◌&&◌, ℤ, pos, negsuc, List, [], ◌∷◌, length, codes, Option, Some, None, option_map, option_and_then, map, nat_le, nat_lt}
+use Rattle.std.specs.Prelude.{ℕ, ◌^◌, ◌==◌, ◌&&◌, ℤ, pos, negsuc, List, [], ◌∷◌, length, codes, Option, Some, None, option_map, option_and_then, map, nat_le}
+use Rattle.std.specs.Prelude.{nat_lt}
 use Rattle.std.specs.Prelude.{if◌then◌else◌}
 use Rattle.std.specs.Option.{option_or}
 use Rattle.std.specs.Str.{bytes_eq}

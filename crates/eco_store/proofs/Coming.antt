@@ -1,6 +1,7 @@
 -- Room for the entities that come, and what each of their moves leaves of it.
 use Rattle.std.proofs.Common.{◌≡◌, ◌≢◌, ℕ, ◌+◌, ◌-◌, ◌≤◌, ◌<◌, Bool, true, false, true≢false, IsTrue, if◌then◌else◌, List, [], ◌∷◌, ◌++◌, map, length}
-use Rattle.std.proofs.Common.{get_or, slice_get, drop, Option, Some, None, is_some, option_map, unwrap_or, IsSome, nat_eq, refl, sym, ap, subst, ◌∙◌, arith, inl, inr}
+use Rattle.std.proofs.Common.{get_or, slice_get, drop, Option, Some, None, is_some, option_map, unwrap_or, IsSome, nat_eq, refl, sym, ap, subst, ◌∙◌, arith}
+use Rattle.std.proofs.Common.{inl, inr}
 use Rattle.std.specs.List.{All, list_any}
 use Rattle.std.proofs.Math.ListN.{get_or-map}
 use Rattle.std.proofs.lemmas.Bool.{cases_eq}
@@ -49,7 +50,8 @@ typed_more s ms ns m n typed is =
     map-append (type_at s) ns (n ∷ []) ∙ (λ t. typed t ++ is t ∷ []) ∙ sym (map-append wanted ms (m ∷ []))
 
 -- the slots keep their types
-pub typed_alike : (s s' : List (Option TableState)) (ms : List Move) (ns : List ℕ) → All (λ n. type_at s' n ≡ type_at s n) ns → AreTyped s ms ns → AreTyped s' ms ns
+pub typed_alike : (s s' : List (Option TableState)) (ms : List Move) (ns : List ℕ) → All (λ n. type_at s' n ≡ type_at s n) ns → AreTyped s ms ns
+    → AreTyped s' ms ns
 typed_alike s s' ms ns same typed = alike ns same ∙ typed
   where
     alike : (xs : List ℕ) → All (λ n. type_at s' n ≡ type_at s n) xs → map (type_at s') xs ≡ map (type_at s) xs

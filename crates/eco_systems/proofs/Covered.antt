@@ -177,7 +177,8 @@ module _ (start : WorldState) (writes : List Pattern) where
           )
 
   -- a pair of the same symmetric relationship
-  twin_written : NoTraits start writes → (w : WorldState) → TraitsWithin start w → (i : Id) → IsTrue (matches_one writes i) → (j : Id) → IsTwin w i j → Written j
+  twin_written : NoTraits start writes → (w : WorldState) → TraitsWithin start w → (i : Id) → IsTrue (matches_one writes i) → (j : Id) → IsTwin w i j
+      → Written j
   twin_written plain w within (id.One c) here j h = absurd h
   twin_written plain w within (id.Two r t) here (id.One x) h = absurd h
   twin_written plain w within (id.Two r t) here (id.Two q u) h =

@@ -9,7 +9,8 @@ use Rattle.eco_ids.specs.Run.{Command}
 use Rattle.eco_ids.specs.World.{WorldState, entities}
 use Rattle.eco_ids.proofs.Runs.{runs_lawful}
 use Rattle.eco_systems.specs.Batches.{AreBatches, joined}
-use Rattle.eco_systems.specs.Frames.{BatchDraws, BatchRuns, InTurn, IsFrame, FrameIsStopped, FrameOutcomes, PassesLimit, all_drawn, fresh_from, with_admitted, AreFresh}
+use Rattle.eco_systems.specs.Frames.{BatchDraws, BatchRuns, InTurn, IsFrame, FrameIsStopped, FrameOutcomes, PassesLimit, all_drawn, fresh_from, with_admitted}
+use Rattle.eco_systems.specs.Frames.{AreFresh}
 use Rattle.eco_systems.specs.Laws.{FramesExist, TakesSome}
 use Rattle.eco_systems.specs.Phases.{in_order}
 use Rattle.eco_systems.specs.Recording.{BatchRecords, PiecesRecord, RowsRecord, pieces_of}

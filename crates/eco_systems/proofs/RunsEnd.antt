@@ -81,7 +81,8 @@ judged_other : (w : WorldState) (e : Entity) (s : List Id) (after : WorldState) 
 judged_other w e s after v = by (list_any is_wrong_policy s) (list_any (is_late w e s) (late_traits w.edition))
   where
     by : (b c : Bool) →
-        MatchBool b (v ≡ Some NotAPolicy) (MatchBool c (v ≡ Some InUse) ((o : Option Entity) × IsFirstCycle w e s o × (v ≡ verdict_of (has_clash after) o))) → AreOther v
+        MatchBool b (v ≡ Some NotAPolicy) (MatchBool c (v ≡ Some InUse) ((o : Option Entity) × IsFirstCycle w e s o × (v ≡ verdict_of (has_clash after) o)))
+        → AreOther v
     by true c h = subst AreOther (sym h) refl
     by false true h = subst AreOther (sym h) refl
     by false false h = subst AreOther (sym h.2) (verdict_other (has_clash after) h.0)
@@ -98,7 +99,8 @@ actor_other : (w : WorldState) (e : Entity) → AreOther (unfit_actor w e)
 actor_other w e = first_other ((not (is_alive w e), NotAlive) ∷ (is_builtin w e, Reserved) ∷ []) (refl, (refl, tt))
 
 add_other : (w : WorldState) (e : Entity) (i : Id) → AreOther (unfit w e i)
-add_other w e i = first_other ((not (is_alive w e), NotAlive) ∷ (is_reserved w e i, Reserved) ∷ (not (names_living w i), DeadId) ∷ []) (refl, (refl, (refl, tt)))
+add_other w e i = first_other ((not (is_alive w e), NotAlive) ∷ (is_reserved w e i, Reserved) ∷ (not (names_living w i), DeadId) ∷ [])
+    (refl, (refl, (refl, tt)))
 
 set_other : (w : WorldState) (e : Entity) (i : Id) (v : Value) → AreOther (unfit_set w e i v)
 set_other w e i v =

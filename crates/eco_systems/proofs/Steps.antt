@@ -313,7 +313,11 @@ module _ (w : WorldState) (i : Id) (s : List Id) (closure : IsClosure w i s) whe
       )
 
   not_replaced : (j : Id) → (Touches w i j → ⊥) → is_replaced w s j ≡ false
-  not_replaced j n = elim (is_replaced w s j) as (λ b. is_replaced w s j ≡ b → b ≡ false) [ true ↦ λ e. absurd (n (inr (inl (evicted j e)))) | false ↦ λ e. refl ]
+  not_replaced j n = elim (is_replaced w s j) as (λ b. is_replaced w s j ≡ b → b ≡ false) [
+    | true ↦ λ e. absurd (n (inr (inl (evicted j e))))
+    | false ↦
+        λ e. refl
+  ]
       refl
 
   or_none : (o : Option Value) → option_or o None ≡ o

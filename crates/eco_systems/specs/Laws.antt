@@ -13,7 +13,8 @@ use Rattle.eco_ids.specs.Traits.{Reaches}
 use Rattle.eco_ids.specs.World.{WorldState}
 use Rattle.eco_systems.specs.Batches.{AreBatches, Conflict, joined}
 use Rattle.eco_systems.specs.Closing.{Among, ListsClosed, pattern_head, pattern_with_head}
-use Rattle.eco_systems.specs.Frames.{BatchDraws, FrameOutcomes, IsFrame, IsFrameAlone, IsSolo, IsFrameSoFar, IsSoloSoFar, FrameIsStopped, AreAscending, AreFresh}
+use Rattle.eco_systems.specs.Frames.{BatchDraws, FrameOutcomes, IsFrame, IsFrameAlone, IsSolo, IsFrameSoFar, IsSoloSoFar, FrameIsStopped, AreAscending}
+use Rattle.eco_systems.specs.Frames.{AreFresh}
 use Rattle.eco_systems.specs.Joining.{batched}
 use Rattle.eco_systems.specs.Phases.{in_order, order_of}
 use Rattle.eco_systems.specs.Rows.{ValuedRow}

@@ -13,9 +13,11 @@ use Rattle.eco_ids.specs.World.{zeros}
 use Rattle.std.specs.FinMap.Entries.{find}
 use Rattle.eco_ids.specs.Order.{id_cmp, id_eq, has_item, is_ascending}
 use Rattle.eco_ids.proofs.Lists.{before, before_within, get_or-swap_remove, keys_paired, length-swap_remove}
-use Rattle.eco_tables.specs.Column.{ColumnState, Fits, held_in, value_in, contents, kind_of, lengthened, emptied, with_removed, column_with_value, with_held, written}
+use Rattle.eco_tables.specs.Column.{ColumnState, Fits, held_in, value_in, contents, kind_of, lengthened, emptied, with_removed, column_with_value, with_held}
+use Rattle.eco_tables.specs.Column.{written}
 use Rattle.eco_tables.specs.Column.{retyped}
-use Rattle.eco_tables.specs.Table.{TableRow, rows_from, rows_of, retyped_row, table_of, paired, width_among, AreKinds, HasShape, ColumnsAgree, entities_of, HasIds}
+use Rattle.eco_tables.specs.Table.{TableRow, rows_from, rows_of, retyped_row, table_of, paired, width_among, AreKinds, HasShape, ColumnsAgree, entities_of}
+use Rattle.eco_tables.specs.Table.{HasIds}
 use Rattle.eco_tables.proofs.Held.{found_at, find-absent, place_within, has_place}
 use Rattle.eco_tables.proofs.Widths.{find-each, value-retyped, same_within, retyped-written, value-written, value-other, width-each, width-none}
 use Rattle.eco_tables.proofs.Packing.{map_swap_remove}

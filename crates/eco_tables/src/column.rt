@@ -209,7 +209,8 @@ fn join_zeros<const N: usize>(rows: &mut Vec<[i64; N]>, count: usize)
     requires few { N ≤ FIELD_COUNT }
     requires room { count ≤ vec_capacity rows.old - vec_len rows.old }
     ensures values { map padded rows.new.items ≡ map padded rows.old.items ++ replicate count zeros }
-    ensures room { vec_capacity rows.old - vec_len rows.old ≤ vec_capacity rows.new - vec_len rows.new + count }
+    ensures room { vec_capacity rows.old - vec_len rows.old
+        ≤ vec_capacity rows.new - vec_len rows.new + count }
 {
     let _room = rows.resize(rows.len() + count, [0; N]);
 }

@@ -35,7 +35,11 @@ is_by i j (Some x) = id_eq (with_head i x) j
 
 gives_target : (i j own : Id) → gives i j own ≡ is_by i j (target_by_pair WITH own)
 gives_target i j (One c) = refl
-gives_target i j (Two r x) = elim (entity_eq r WITH) as (λ b. (b && id_eq (with_head i x) j) ≡ is_by i j (if b then Some x else None)) [ true ↦ refl | false ↦ refl ]
+gives_target i j (Two r x) = elim (entity_eq r WITH) as (λ b. (b && id_eq (with_head i x) j) ≡ is_by i j (if b then Some x else None)) [
+  | true ↦ refl
+  | false ↦
+      refl
+]
 
 given_more : (i j : Id) (traits : List Id) (k : ℕ) (d : Id) → k < length traits → list_any (gives i j) (take (k + 1) traits)
     ≡ (list_any (gives i j) (take k traits) || is_by i j (target_by_pair WITH (get_or traits k d)))

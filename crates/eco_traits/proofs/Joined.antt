@@ -139,6 +139,7 @@ pub lacked : (w : WorldState) (e : Entity) (i : Id) (r : Result (List Id) Refusa
 lacked w e i r lives absent extends = grind (arith, common_steps)
 
 pub leads_to : (w : WorldState) (e : Entity) (i : Id) (s own kept all : List Id) (verdict : Option Refusal) → names_living w i ≡ true → has w e i ≡ false
-    → IsClosure w i s → Judges w e s (grown w e i s) verdict → verdict ≡ None → Some own ≡ option_map type_of_record (record_of w e) → IsTrue (is_ascending id_cmp own)
+    → IsClosure w i s → Judges w e s (grown w e i s) verdict → verdict ≡ None → Some own ≡ option_map type_of_record (record_of w e) → IsTrue
+    (is_ascending id_cmp own)
     → kept ≡ filter (λ j. not (is_replaced w s j)) own → all ≡ fold (with_item id_cmp) kept s → AddLeadsTo w e i (Ok all)
 leads_to w e i s own kept all verdict lives absent closure judges none owns up is_kept is_all = search (rules, some_record, type_with, lacked)

@@ -154,7 +154,8 @@ unopposed w e (Two r t) ids d at lives sound own plain =
     (quiet_grows w e (Two r t) (Two r t ∷ []) d at (plain_alone w (Two r t) ids own plain) lives sound (pair_quiet w r t plain.2))
 
 -- it goes to its place
-pub plain_leads_to : (w : WorldState) (e : Entity) (i : Id) (ids own all : List Id) → names_living w i ≡ true → has w e i ≡ false → IsSound w → AreTraitsOf w i ids
+pub plain_leads_to : (w : WorldState) (e : Entity) (i : Id) (ids own all : List Id) → names_living w i ≡ true → has w e i ≡ false → IsSound w
+    → AreTraitsOf w i ids
     → IsPlain w.edition i ids
     → Some own ≡ option_map type_of_record (record_of w e) → IsTrue (is_ascending id_cmp own) → all ≡ with_item id_cmp own i
     → AddLeadsTo w e i (Ok all)

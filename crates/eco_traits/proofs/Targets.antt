@@ -18,7 +18,8 @@ module _ (w : WorldState) (e : Entity) (i : Id) (own : List Id) (lives : names_l
   own_target there = subst (λ ids. AddLeadsTo w e i (Ok ids)) own_is (has_already w e i own own lives there owns refl)
 
   -- it comes alone
-  pub plain_target : (ids : List Id) → has w e i ≡ false → IsSound w → AreTraitsOf w i ids → IsPlain w.edition i ids → IsTrue (is_ascending id_cmp own) → FindsTarget w e i (Ok With)
+  pub plain_target : (ids : List Id) → has w e i ≡ false → IsSound w → AreTraitsOf w i ids → IsPlain w.edition i ids → IsTrue (is_ascending id_cmp own)
+      → FindsTarget w e i (Ok With)
   plain_target ids absent sound traits plain up =
       subst (λ all. AddLeadsTo w e i (Ok (with_item id_cmp all i))) own_is
       (plain_leads_to w e i ids own (with_item id_cmp own i) lives absent sound traits plain owns up refl)

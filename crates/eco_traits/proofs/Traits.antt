@@ -57,7 +57,8 @@ module _ (d : Edition) where
   traits_among ids b same = (
     λ h.
         let none = sym same ∙ h in (
-          lacks ids none (One EXCLUSIVE) (or_left (entity_eq EXCLUSIVE EXCLUSIVE) (entity_eq EXCLUSIVE ACYCLIC || (has_symmetric d && entity_eq EXCLUSIVE SYMMETRIC))
+          lacks ids none (One EXCLUSIVE) (or_left (entity_eq EXCLUSIVE EXCLUSIVE)
+              (entity_eq EXCLUSIVE ACYCLIC || (has_symmetric d && entity_eq EXCLUSIVE SYMMETRIC))
               (entity_eq_itself EXCLUSIVE)),
           lacks ids none (One ACYCLIC)
               (or_right (entity_eq ACYCLIC EXCLUSIVE) _

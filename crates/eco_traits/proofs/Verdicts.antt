@@ -130,7 +130,8 @@ module _ (w : WorldState) (e : Entity) (s : List Id) (after : WorldState) where
       (λ _. (o, first, is ∙ ap (λ b. verdict_of b o) (sym same))) (λ k. absurd (true≢false (sym k ∙ late)))
 
   -- a cycle comes before a clash
-  pub judged_closed : (r : Entity) → list_any is_wrong_policy s ≡ false → list_any (is_late w e s) (late_traits w.edition) ≡ false → IsFirstCycle w e s (Some r) →
+  pub judged_closed : (r : Entity) → list_any is_wrong_policy s ≡ false → list_any (is_late w e s) (late_traits w.edition) ≡ false → IsFirstCycle w e s
+      (Some r) →
       Judges w e s after (Some (Cycle r))
   judged_closed r policy late first = judged_cycle (Some r) (has_clash after) (Some (Cycle r)) policy late first refl (first_said (has_clash after))
     where

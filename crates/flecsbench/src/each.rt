@@ -59,7 +59,7 @@ pub fn toggle_each(world: &mut World, work: &Work, times: u32) -> Result<(), Ref
     Ok(())
 }
 
-/// Sets each id of its entity to the value.
+/// Sets the id of each turn to the value, at the entity of that turn.
 pub fn set_each(world: &mut World, work: &Work, value: Value) -> Result<(), Refusal> {
     for (turn, entity) in work.entities().iter().enumerate() {
         if let Some(id) = work.id(turn) {

@@ -116,10 +116,10 @@ impl World {
         requires mirror { mirror_of self.old entity id ≡ Some mirror }
         requires other { entity_eq mirror.0 entity ≡ false }
         requires holder { is_alive self.old mirror.0 ≡ true }
-        requires lawful { IsLawful (with_mirror
-            (changed self.old entity (with_type (type_meant (type_of self.old entity) id target))) (Some mirror)) }
-        ensures ok { OnOk result (self.new ≡ with_mirror
-            (changed self.old entity (with_type (type_meant (type_of self.old entity) id target))) (Some mirror)) }
+        requires lawful { IsLawful (with_mirror (changed self.old entity
+            (with_type (type_meant (type_of self.old entity) id target))) (Some mirror)) }
+        ensures ok { OnOk result (self.new ≡ with_mirror (changed self.old entity
+            (with_type (type_meant (type_of self.old entity) id target))) (Some mirror)) }
         ensures err { OnErr result (self.new ≡ self.old) }
     {
         self.is_lawful();
@@ -140,10 +140,10 @@ impl World {
         requires alive { is_alive self.old entity ≡ true }
         requires other { entity_eq mirror.0 entity ≡ false }
         requires holder { is_alive self.old mirror.0 ≡ true }
-        requires lawful { IsLawful (with_mirror
-            (changed self.old entity (with_type (type_meant (type_of self.old entity) id target))) (Some mirror)) }
-        ensures ok { OnOk result (self.new ≡ with_mirror
-            (changed self.old entity (with_type (type_meant (type_of self.old entity) id target))) (Some mirror)) }
+        requires lawful { IsLawful (with_mirror (changed self.old entity
+            (with_type (type_meant (type_of self.old entity) id target))) (Some mirror)) }
+        ensures ok { OnOk result (self.new ≡ with_mirror (changed self.old entity
+            (with_type (type_meant (type_of self.old entity) id target))) (Some mirror)) }
         ensures err { OnErr result (self.new ≡ self.old) }
     {
         self.is_lawful();

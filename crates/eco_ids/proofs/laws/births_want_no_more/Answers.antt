@@ -1,11 +1,13 @@
 use Rattle.eco_ids.proofs.Common.{Bool, true, false, not, ◌&&◌, IsFalse, is_some, Some, None, Err, MatchBool, MatchOption, Option, sym, refl}
-use Rattle.eco_ids.proofs.Common.{Entity, Refusal, NoMoreIds, Indexed, Refuses, Answers, Record, entities, bare, component_record, unfit_name, next_entity, with_new}
+use Rattle.eco_ids.proofs.Common.{Entity, Refusal, NoMoreIds, Indexed, Refuses, Answers, Record, entities, bare, component_record, unfit_name, next_entity}
+use Rattle.eco_ids.proofs.Common.{with_new}
 use Rattle.eco_ids.proofs.Common.{Makes, may_make, admitted}
 use Rattle.eco_ids.proofs.Facts.{not_ok}
 use Rattle.eco_ids.proofs.laws.births_want_no_more.Goals as goal
 
 -- a birth that is refused had an unfit name or no index
-makes_none : (v : Indexed Record) (d : Record) (why : Refusal) (new : Indexed Record) → Makes (λ r. r.name) v d (Err why) new → IsFalse (may_make (λ r. r.name) v d.name)
+makes_none : (v : Indexed Record) (d : Record) (why : Refusal) (new : Indexed Record) → Makes (λ r. r.name) v d (Err why) new → IsFalse
+    (may_make (λ r. r.name) v d.name)
 makes_none v d why new = by (unfit_name (λ r. r.name) v d.name) (next_entity v)
   where
     by : (unfit : Option Refusal) (next : Option Entity)

@@ -22,7 +22,8 @@ loop-own-preserved c =
       members = λ j. ap (λ xs. has_item id_cmp xs j) put
           ∙ keeps_given c.args.id c.loop-own.ids c.args.traits.now c.loop-own.own-index least_id c.target_by.result c.loop-own-test.true c.target_by.ensures
           c.loop-own.invariant.members j;
-      ascending = subst (λ xs. IsTrue (is_ascending id_cmp xs)) (sym put) (put_ascends c.args.id c.loop-own.ids c.target_by.result c.loop-own.invariant.ascending);
+      ascending = subst (λ xs. IsTrue (is_ascending id_cmp xs)) (sym put)
+          (put_ascends c.args.id c.loop-own.ids c.target_by.result c.loop-own.invariant.ascending);
     }
 
 pub loop-own-init : goal.loop-own-init

@@ -13,7 +13,8 @@ returns-then-place-len c =
     let there : slice_get trees n ≡ Some old =
     slice_get_read trees (length trees) n old refl (omega (arith, c.if-place-len.true, c.len.ensures)) c.index_mut.ensures.value in
     tree_changed trees bs n old c.remove.new.self None (c.tree-place.ensures ∙ ap (λ h. h % 128) c.new-key.ensures.hash) there
-    (changes_tree key.hash key.text.bytes bs c.new-key.ensures.hash (ap (λ t. t.bytes) c.new-key.ensures.text) old c.remove.new.self None c.remove.ensures.updates)
+    (changes_tree key.hash key.text.bytes bs c.new-key.ensures.hash
+    (ap (λ t. t.bytes) c.new-key.ensures.text) old c.remove.new.self None c.remove.ensures.updates)
 
 pub returns-else-place-len : goal.returns-else-place-len
 returns-else-place-len c = record {

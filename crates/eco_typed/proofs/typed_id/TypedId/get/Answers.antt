@@ -7,5 +7,6 @@ returns-clause-whole g c = λ typed.
     let found = sym c.get.ensures ∙ c.in_ok-value.was in
     ap (λ x. Some (g.C.Component.value_of x)) c.from_value.ensures
     ∙ ap (λ v. Some v)
-    (g.met.C.Component.forth c.in_ok-value.value (fits_arity c.args.world.now c.args.entity c.args.self.id _ typed c.is_lawful.ensures c.in_ok-value.value found))
+    (g.met.C.Component.forth c.in_ok-value.value
+    (fits_arity c.args.world.now c.args.entity c.args.self.id _ typed c.is_lawful.ensures c.in_ok-value.value found))
     ∙ sym found

@@ -14,7 +14,8 @@ tables_in-requires g c =
     let qs = asked_by c.self.inside.queries.items in
     let found = c.in_ok-found.found in
     subst (All (HasTable found.tables.now)) (sym c.deref.ensures.value)
-    (found_there (world_with c.self.inside.edition c.self.inside.store.entities qs) found.tables.now c.in_ok-found.ensures.lent.shown c.in_ok-found.ensures.lent.kinds
+    (found_there (world_with c.self.inside.edition c.self.inside.store.entities qs) found.tables.now
+    c.in_ok-found.ensures.lent.shown c.in_ok-found.ensures.lent.kinds
     (g.T.TypeTest.test c.args.test.now) found.slots.items c.in_ok-found.ensures.found.listed)
 
 pub returns-clause-all : goal.returns-clause-all
@@ -33,7 +34,8 @@ returns-clause-all g c =
     rw (← c.self.view_is)
     (layout_around w passes (listed new) _
     (sorted_tables old new c.sort_by_type.ensures.same c.sort_by_type.ensures.ordered
-    (subst (IsDistinct same_type) (sym all) (found_differ w slots shown kinds passes ns c.in_ok-found.ensures.found.listed c.in_ok-found.ensures.found.distinct)))
+    (subst (IsDistinct same_type) (sym all)
+    (found_differ w slots shown kinds passes ns c.in_ok-found.ensures.found.listed c.in_ok-found.ensures.found.distinct)))
     (covers_moved w passes (listed old) (listed new) moved
     (subst (Covers w passes) (sym all) (found_covered w slots shown kinds passes ns c.in_ok-found.ensures.found.listed)))
     (λ t p. found_match w slots shown kinds passes ns c.in_ok-found.ensures.found.listed t
@@ -59,5 +61,6 @@ returns-in_err-tables-clause-some g c =
     let found = c.in_ok-found.found in
     rw (← c.self.view_is)
     (err_says c.from_residual-in_err-tables.result
-    (found_some (world_with c.self.inside.edition c.self.inside.store.entities qs) found.tables.now c.in_ok-found.ensures.lent.shown c.in_ok-found.ensures.lent.kinds
+    (found_some (world_with c.self.inside.edition c.self.inside.store.entities qs) found.tables.now
+    c.in_ok-found.ensures.lent.shown c.in_ok-found.ensures.lent.kinds
     (g.T.TypeTest.test c.args.test.now) found.slots.items c.in_ok-found.ensures.found.listed (rw c.deref.ensures.value at c.in_err-tables.ensures.some)))

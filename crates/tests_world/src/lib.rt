@@ -1,5 +1,6 @@
-//! Tests of a store and of a world, of frames, of typed components and of the shared world: long runs, threads, and each call that
-//! may want memory, where there is enough of it.
+//! Tests of a store and of a world, of frames, of typed components, of the shared world and of runs of scripts: long runs,
+//! threads, each call that may want memory, where there is enough of it, and devices that give or take little at a time, fail or
+//! never end.
 #![tactic(auto)]
 
 #[cfg(test)]
@@ -11,6 +12,8 @@ pub mod bounds;
 mod called;
 #[cfg(test)]
 mod copying;
+#[cfg(test)]
+mod devices;
 #[cfg(test)]
 mod draws;
 #[cfg(test)]
@@ -63,3 +66,5 @@ mod sweeps;
 mod telling;
 #[cfg(test)]
 mod twins;
+#[cfg(test)]
+mod worlds;

@@ -1,5 +1,5 @@
 //! Which histories there are. Each has a number of its own.
-ghost use Rattle.std.specs.Prelude.{◌≡◌, ◌++◌, ◌∷◌, [], length, Some, slice_get, IfSome, IfNone, MatchBool};
+ghost use Rattle.std.specs.Prelude.{◌≡◌, ◌++◌, ◌∷◌, [], length, Some, slice_get, IfSome, IfNone};
 ghost use mathlib.Core.List.{IsPrefix};
 ghost use Rattle.eco_histories.specs.Marks.{mark_of};
 ghost use Rattle.eco_histories.specs.Rules.{book_head};

@@ -4,11 +4,12 @@ use mathlib.Core.Option.{some, some-ne-none, some-injective}
 use lib.ListN.{get_elem?}
 use Rattle.crossbeam_utils.specs.Register.{Admits, Turns, TurnsAt, Forks, Merges}
 use Rattle.atomic_table.proofs.Lists.{at_set, at_snoc}
+use Rattle.eco_histories.specs.Marks.{mark_of}
 use Rattle.eco_ids.specs.World.{WorldState}
 use Rattle.eco_shared.specs.declared.merge.Merge.{Merge}
 use Rattle.eco_shared.specs.declared.merge.Knows.{Knows}
 use Rattle.eco_shared.specs.declared.shown.Shown.{Shown}
-use Rattle.eco_shared.specs.Histories.{IsAfter, IsMerged, mark_of}
+use Rattle.eco_shared.specs.Histories.{IsAfter, IsMerged}
 use Rattle.eco_shared.specs.Sharing.{shown_world, history, shown_state, knows, nothing, KnowsOf, Follows, GoesOn, Kept, Sees, Opens, Stays}
 
 off : false ≡ true → ⊥

@@ -1,12 +1,10 @@
 -- Histories of merges.
 use Rattle.std.specs.Prelude.{◌≡◌, ℕ, List, [], ◌∷◌, Ok}
-use Rattle.logbook.specs.Pages.{Book}
 use Rattle.eco_ids.specs.Run.{Command}
 use Rattle.eco_ids.specs.World.{WorldState}
 use Rattle.eco_stages.specs.Outcomes.{Outcomes}
 use Rattle.eco_world.specs.Merging.{Merges}
 use Rattle.eco_shared.specs.declared.merge.Merge.{Merge}
-use Rattle.eco_shared.specs.declared.merge.HistoryMark.{HistoryMark}
 
 -- the merge makes the new world of the world: its indices are admitted, and its commands run with its outcomes
 abbrev pub IsMerged : WorldState → Merge → WorldState → Type 0
@@ -19,7 +17,3 @@ IsAfter w (m ∷ ms) new = (mid : WorldState) × IsMerged w m mid × IsAfter mid
 
 abbrev pub merge : ℕ → List Command → Outcomes → Merge
 merge admitted commands outcomes = record { admitted = admitted; commands = commands; outcomes = outcomes }
-
--- which history the book is of
-abbrev pub mark_of : Book → HistoryMark
-mark_of b = record { number = b.number; log_name = b.log_name; cells_name = b.cells_name }

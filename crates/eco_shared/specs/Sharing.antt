@@ -4,12 +4,13 @@ use mathlib.Core.Option.{some}
 use lib.ListN.{get_elem?}
 use Rattle.std.specs.Arc.{arc_value}
 use Rattle.eco_ids.specs.World.{WorldState, first_world}
+use Rattle.eco_histories.specs.Marks.{mark_of}
 use Rattle.eco_histories.specs.declared.front.Front.{Front}
+use Rattle.eco_histories.specs.declared.registry.HistoryMark.{HistoryMark}
 use Rattle.eco_shared.specs.declared.merge.Merge.{Merge}
-use Rattle.eco_shared.specs.declared.merge.HistoryMark.{HistoryMark}
 use Rattle.eco_shared.specs.declared.merge.Knows.{Knows}
 use Rattle.eco_shared.specs.declared.shown.Shown.{Shown}
-use Rattle.eco_shared.specs.Histories.{IsAfter, IsMerged, mark_of}
+use Rattle.eco_shared.specs.Histories.{IsAfter, IsMerged}
 
 -- the world that is shown
 abbrev pub shown_world : Shown → WorldState

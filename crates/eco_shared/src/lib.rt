@@ -8,14 +8,13 @@ mod merger;
 mod news;
 mod opening;
 mod publishing;
-mod registry;
 mod rule;
 mod shown;
 mod spare;
 mod viewer;
 
+pub use eco_histories::registry::{Blank, Naming, Registry};
 pub use merger::Merger;
 pub use news::News;
 pub use opening::open;
-pub use registry::{Blank, Naming, Registry};
 pub use viewer::{View, Viewer};

@@ -3,8 +3,8 @@ ghost use Rattle.std.specs.Prelude.{◌≡◌, ◌<◌, ◌≤◌, ◌∷◌, []
 ghost use Rattle.std.specs.List.{All};
 ghost use mathlib.Core.List.{IsPrefix};
 ghost use Rattle.left_right.specs.Sides.{view};
+ghost use Rattle.eco_histories.specs.Marks.{mark_of};
 ghost use Rattle.eco_ids.specs.declared.refusal.Refusal.TheVariants.{OutOfMemory};
-ghost use Rattle.eco_shared.specs.Histories.{mark_of};
 ghost use Rattle.eco_shared.specs.Sharing.{shown_world, shown_state, history, knows};
 ghost use Rattle.eco_shared.specs.Views.{IsNew};
 
@@ -12,12 +12,12 @@ use crate::keeper::new_keeper;
 use crate::merge::Merge;
 use crate::merger::{Merger, owned};
 use crate::publishing::makes_pending;
-use crate::registry::{Naming, Registry};
 use crate::rule::{Opening, TheWriter};
 use crate::shown::Shown;
 use crate::spare::Spare;
 use crate::viewer::Viewer;
 use eco_histories::front::{Front, begin};
+use eco_histories::registry::{Naming, Registry};
 use eco_ids::Refusal;
 use eco_world::World;
 use left_right::writer::Writer;

@@ -1,5 +1,5 @@
 //! The merger's own world, which nobody is to enter while it is changed.
-ghost use Rattle.std.specs.Prelude.{◌≡◌, ◌++◌, ◌∷◌, [], Ok, Some, IfOk, IfSome, IfNone};
+ghost use Rattle.std.specs.Prelude.{◌≡◌, Ok, Some, IfSome, IfNone};
 ghost use Rattle.std.specs.Arc.{arc_value};
 ghost use Rattle.eco_stages.specs.Merging.{all_commands};
 ghost use Rattle.eco_world.specs.Merging.{Merges};
@@ -8,7 +8,6 @@ ghost use Rattle.eco_shared.specs.Repeating.{Leads};
 use crossbeam_utils::Backoff;
 use eco_stages::{Report, Stage};
 use eco_world::World;
-use std::alloc::{AllocError, Global};
 use std::slice;
 use std::sync::Arc;
 
@@ -55,17 +54,6 @@ impl Spare {
         let Spare { world, last } = self;
         (world, last)
     }
-}
-
-/// The commands of all stages in one, in order, each copied. An `Err` comes where memory is refused.
-pub fn copies_of(alloc: Global, stages: &[Stage]) -> Result<Stage, AllocError>
-    ensures { IfOk result (λ copy. copy ≡ all_commands stages.now) }
-{
-    let mut copy = Stage::new(alloc);
-    for stage in stages {
-        copy.record_copies(stage)?;
-    }
-    Ok(copy)
 }
 
 // Waits until nobody else owns the world, but not for ever: a viewer may hold a view as long as it likes.

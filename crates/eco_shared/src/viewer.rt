@@ -2,15 +2,16 @@
 ghost use Rattle.std.specs.Prelude.{◌≡◌, true, IfSome};
 ghost use mathlib.Core.List.{IsPrefix};
 ghost use Rattle.left_right.specs.Sides.{view};
-ghost use Rattle.eco_shared.specs.Histories.{IsAfter, mark_of};
+ghost use Rattle.eco_histories.specs.Marks.{mark_of};
+ghost use Rattle.eco_shared.specs.Histories.{IsAfter};
 ghost use Rattle.eco_shared.specs.Sharing.{history, shown_world, KnowsOf};
 
 use crate::keeper::Keeper;
 use crate::news::News;
-use crate::registry::Naming;
 use crate::rule::{Entering, TheReader};
 use crate::shown::Shown;
 use core::mem::replace_with;
+use eco_histories::registry::Naming;
 use eco_world::World;
 use std::sync::Wait;
 
@@ -79,8 +80,8 @@ impl<J: Naming, R: Wait + Drop> Viewer<J, R> {
     {
         for _ in rt.forever() {
             if let Some(shown) = self.look() {
-                if self.news.front.is_begun_by(&shown.front) {
-                    self.news = self.news.with(&shown.front);
+                if let Some(news) = self.news.seen(&shown.front) {
+                    self.news = news;
                     return View { shown };
                 }
             }
@@ -94,11 +95,10 @@ impl<J: Naming, R: Wait + Drop> Viewer<J, R> {
         ensures learned { Learns self.old news.now result self.new }
         ensures same { (self.new.reader ≡ self.old.reader) × (number self.new ≡ number self.old) }
     {
-        if !self.news.is_of_same(news) {
+        let Some(known) = self.news.learned(news) else {
             return false;
-        }
-        let front = self.news.front.longer(&news.front);
-        self.news = self.news.with(&front);
+        };
+        self.news = known;
         true
     }
 

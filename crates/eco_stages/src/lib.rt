@@ -3,6 +3,7 @@
 #![tactic(auto)]
 
 mod command;
+mod copying;
 mod draws;
 mod iter;
 pub mod laws;
@@ -12,6 +13,7 @@ mod report;
 mod stage;
 
 pub use command::Command;
+pub use copying::copies_of;
 pub use draws::Draws;
 pub use iter::Iter;
 pub use merging::{MergeTarget, apply_stages, room_for};

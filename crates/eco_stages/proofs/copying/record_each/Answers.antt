@@ -1,8 +1,8 @@
-use Rattle.std.proofs.Common.{◌≡◌, ℕ, ◌+◌, ◌<◌, List, [], ◌++◌, length, get_or, take, sym, ap, ◌∙◌}
+use Rattle.std.proofs.Common.{◌≡◌, ℕ, ◌+◌, ◌<◌, List, [], ◌++◌, length, append_assoc, get_or, take, sym, ap, ◌∙◌}
 use Rattle.std.proofs.lemmas.List.{flat_map_more, take_more}
 use Rattle.eco_ids.specs.Run.{Command}
 use Rattle.eco_stages.specs.Merging.{all_commands}
-use Rattle.eco_shared.proofs.spare.copies_of.Goals as goal
+use Rattle.eco_stages.proofs.copying.record_each.Goals as goal
 
 -- the commands of so many stages, and of one more
 stage_more : (stages : List (List Command)) (i : ℕ) (d : List Command) → i < length stages
@@ -14,5 +14,7 @@ loop-stage-preserved c =
     let i = c.loop-stage.stage-index in
     let ss = c.args.stages.now in
     let s = c.stage-item.result in
+    let before = c.args.copy.now in
     let more = stage_more ss i s c.loop-stage-test.true ∙ ap (λ t. all_commands (take i ss) ++ t) (sym c.stage-item.is) in
-    c.in_ok-record_copies.ensures.ok ∙ ap (λ t. t ++ s) c.loop-stage.invariant ∙ sym more
+    c.in_ok-record_copies.ensures.ok
+    ∙ (ap (λ t. t ++ s) c.loop-stage.invariant ∙ (append_assoc before (all_commands (take i ss)) s ∙ ap (λ t. before ++ t) (sym more)))

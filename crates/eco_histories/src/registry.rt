@@ -1,16 +1,22 @@
-//! Which shared worlds there are. Each has a number of its own.
-ghost use Rattle.std.specs.Prelude.{◌≡◌, ◌++◌, ◌∷◌, [], length, Some, slice_get, IfSome, IfNone, MatchBool};
+//! Which histories there are. Each has a number of its own.
+ghost use Rattle.std.specs.Prelude.{◌≡◌, ◌++◌, ◌∷◌, [], length, Some, slice_get, IfSome, IfNone};
 ghost use mathlib.Core.List.{IsPrefix};
+ghost use Rattle.eco_histories.specs.Marks.{mark_of};
 ghost use Rattle.eco_histories.specs.Rules.{book_head};
-ghost use Rattle.eco_shared.specs.Histories.{mark_of};
 
-use crate::merge::{HistoryMark, Merge};
-use eco_histories::front::{Front, Head, begin};
+use crate::front::{Front, Head, begin};
 use logbook::Plain;
 use std::marker::{Brand, PhantomData};
 
-/// Which registry it is: its name in types, so that mergers, viewers and news of one registry can't be taken for another's. A
-/// program gets one from `std::marker::Brand`.
+// Which history it is.
+pub struct HistoryMark {
+    pub number: u64,
+    pub log_name: u64,
+    pub cells_name: u64,
+}
+
+/// Which registry it is: its name in types, so that what is of one registry can't be taken for another's. A program gets one from
+/// `std::marker::Brand`.
 pub trait Naming {
     ghost use Rattle.logbook.specs.Pages.{Book};
 
@@ -31,7 +37,7 @@ pub struct Blank {
 }
 
 impl Blank {
-    /// A registry of no shared world. It takes no memory.
+    /// A registry of no history. It takes no memory.
     pub fn new() -> Blank {
         let (head, front) = begin::<HistoryMark>();
         Blank { head, front }
@@ -51,7 +57,7 @@ impl Blank {
     }
 }
 
-/// The shared worlds that were opened, each under a number of its own.
+/// The histories that were begun, each under a number of its own.
 pub struct Registry<J: Naming> {
     head: Head<HistoryMark>,
     pub front: Front<HistoryMark>,
@@ -71,19 +77,19 @@ impl<J: Naming> Drop for Registry<J> {
     }
 }
 
-/// The entry that a shared world gets in the registry: which history is its.
+/// The entry that a history gets in the registry: which one it is.
 pub struct Enrols;
 
-impl Plain<Front<Merge>, HistoryMark, u64> for Enrols {
+impl<E> Plain<Front<E>, HistoryMark, u64> for Enrols {
     ghost use Rattle.std.specs.Prelude.{None};
-    ghost use Rattle.eco_shared.specs.Histories.{mark_of};
+    ghost use Rattle.eco_histories.specs.Marks.{mark_of};
 
     ghost ask = { λ front. mark_of front.seen.book };
 
     ghost state = { λ front. None };
 }
 
-/// The number of one shared world. It is this history's alone.
+/// The number of one history. It is this one's alone.
 #[derive(Drop)]
 pub struct Title<J: Naming> {
     pub number: u64,
@@ -93,9 +99,9 @@ pub struct Title<J: Naming> {
 }
 
 impl<J: Naming> Registry<J> {
-    /// A number that no shared world of the registry had before: how many there were. There is none only where numbers are used
-    /// up, after 2^62 of them.
-    pub fn enrol(&mut self, front: &Front<Merge>) -> Option<Title<J>>
+    /// A number that no history of the registry had before: how many there were. There is none only where numbers are used up,
+    /// after 2^62 of them.
+    pub fn enrol<E>(&mut self, front: &Front<E>) -> Option<Title<J>>
         ensures some { IfSome result (λ t. (t.number ≡ length self.old.front.seen.log)
             × (slice_get t.marks.seen.log t.number ≡ Some (mark_of front.now.seen.book))
             × (self.new.front.seen.log ≡ self.old.front.seen.log ++ mark_of front.now.seen.book ∷ [])) }
@@ -103,9 +109,7 @@ impl<J: Naming> Registry<J> {
         ensures grown { IsPrefix self.old.front.seen.log self.new.front.seen.log }
     {
         let number = self.front.count;
-        let longer = self
-            .front
-            .extended::<Front<Merge>, Enrols>(&self.head, front)?;
+        let longer = self.front.extended::<Front<E>, Enrols>(&self.head, front)?;
         self.front = longer.again();
         Some(Title {
             number,

@@ -1,0 +1,6 @@
+use Rattle.std.proofs.Common.{◌≡◌, ◌++◌, take}
+use Rattle.eco_stages.specs.Merging.{all_commands}
+use Rattle.eco_stages.proofs.copying.record_each.Given as goal
+
+abbrev pub invariant-loop-stage : goal.invariant-loop-stage
+invariant-loop-stage l = l.copy ≡ l.fn.copy ++ all_commands (take l.stage-index l.stages)

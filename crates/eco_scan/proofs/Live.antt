@@ -4,7 +4,7 @@ use Rattle.eco_ids.proofs.Common.{codes, Option, option_map, option_and_then, sy
 use Rattle.eco_ids.proofs.Common.{common_steps, bytes_eq-Decides, may_begin}
 use Rattle.eco_scan.specs.Tokens.{Reference, name, handle, is_white, is_digit}
 use Rattle.eco_scan.specs.Reader.Machine.{is_lone, Before, Role, whole, first, second, sole, takes_wildcard, Spot, slot, word, shut, body, atom, part, behind}
-use Rattle.eco_scan.specs.Reader.Machine.{after, Point, at, letters, bar, name_of, hash, index, dot, generation, slots_with, others_with, begun, part_of}
+use Rattle.eco_scan.specs.Reader.Machine.{after, Point, at, letters, bar, name_of, hash, index, dot, generation, slots_with, others_with, begun, part_of_word}
 use Rattle.eco_scan.specs.Reader.Machine.{is_prefix, is_front, part_or, atom_or, body_or, behind_atom, enter, move_at, move, advance, runs}
 use Rattle.eco_scan.specs.Grammar.{WrittenPart, named, each, WrittenAtom, single, pair, WrittenSlot, access_word}
 use Rattle.eco_query.specs.declared.access.Access.{Access}
@@ -42,7 +42,7 @@ fits_named : (o : Role) (from : ℕ) (n : Reference) → FitsAt (behind o (named
 fits_named (sole c) from n = tt
 fits_named _ from n = tt
 
-fits_word : (o : Role) (from : ℕ) (m : List ℕ) → (is_lone m && not (takes_wildcard o)) ≡ false → FitsAt (behind o (part_of from m))
+fits_word : (o : Role) (from : ℕ) (m : List ℕ) → (is_lone m && not (takes_wildcard o)) ≡ false → FitsAt (behind o (part_of_word from m))
 fits_word o from m e = grind (arith, common_steps, fits_behind, not-false, fits_named)
 
 fits_part : (n : ℕ) (o : Role) (b : ℕ) (y : Option Point) → IfSome y Fits → IfSome (part_or n o b y) Fits
@@ -171,10 +171,10 @@ live_hash n o from = live_by n (hash o from) 48 (index o from 0) refl (live_inde
 live_part : (n : ℕ) (o : Role) → Live n (at (part o))
 live_part n o = live_by n (at (part o)) 35 (hash o n) refl (live_hash (n + 1) o n)
 
-live_word : (n : ℕ) (o : Role) (from : ℕ) (m : List ℕ) → FitsAt (behind o (part_of from m)) → Live n (name_of o from m)
+live_word : (n : ℕ) (o : Role) (from : ℕ) (m : List ℕ) → FitsAt (behind o (part_of_word from m)) → Live n (name_of o from m)
 live_word n o from m f =
-    let (size, r, u, place, (v, tok, h)) = live_behind n o (part_of from m) f in
-    (size, r, u, place, ([], v, refl, omega arith, tok, subst (λ m. Follow size r o (part_of from m) v) (sym (append-nil m)) h))
+    let (size, r, u, place, (v, tok, h)) = live_behind n o (part_of_word from m) f in
+    (size, r, u, place, ([], v, refl, omega arith, tok, subst (λ m. Follow size r o (part_of_word from m) v) (sym (append-nil m)) h))
 
 -- behind a lone `_` that is no reference a letter goes on
 live_name : (n : ℕ) (o : Role) (from : ℕ) (m : List ℕ) → Live n (name_of o from m)

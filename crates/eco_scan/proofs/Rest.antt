@@ -7,7 +7,7 @@ use Rattle.std.proofs.lemmas.Bool.{and_from, and_parts}
 use Rattle.eco_scan.specs.Tokens.{name, handle, is_white, is_digit}
 use Rattle.eco_scan.specs.Reader.Machine.{with_digit, is_lone, Before, Role, whole, first, second, sole, takes_wildcard, Spot, slot, word, shut, body, atom, part}
 use Rattle.eco_scan.specs.Reader.Machine.{behind, after, Point, at, letters, bar, name_of, hash, index, dot, generation, slots_with, others_with}
-use Rattle.eco_scan.specs.Reader.Machine.{begun, part_of, is_front, access_of, part_or, atom_or, body_or, comma, behind_atom, enter, move_at, move}
+use Rattle.eco_scan.specs.Reader.Machine.{begun, part_of_word, is_front, access_of, part_or, atom_or, body_or, comma, behind_atom, enter, move_at, move}
 use Rattle.eco_scan.specs.Grammar.{WrittenPart, named, each, any, WrittenAtom, single, pair, WrittenBody, absent, optional, alternatives, WrittenSlot, IsTok}
 use Rattle.eco_scan.specs.Grammar.{IsPart, IsAtom, AreMore, IsBody, access_word, IsSlot, AreMoreSlots}
 use Rattle.eco_query.specs.declared.access.Access.{Access}
@@ -79,7 +79,7 @@ module _ (size : ℕ) (r : List WrittenSlot) where
   Rest (letters ss m) u = (a : Access) × (t : List ℕ) × (v : List ℕ) × (access_word a ≡ m ++ t) × IsTok t u v × ShutThen ss a v
   Rest (bar c x) u = (v : List ℕ) × IsTok (codes "|") u v × AtomThen (others_with c x) v
   Rest (name_of o from m) u = (t : List ℕ) × (v : List ℕ) × (list_all may_follow t ≡ true) × (length t ≤ 63 - length m) × IsTok t u v
-      × Follow o (part_of from (m ++ t)) v
+      × Follow o (part_of_word from (m ++ t)) v
   Rest (hash o from) u = (i : ℕ) × (g : ℕ) × (v : List ℕ) × (i < 2 ^ 32) × (g < 2 ^ 16) × IsTok (decimal i ++ (46 ∷ decimal g)) u v
       × Follow o (named from (handle i g)) v
   Rest (index o from i) u = (t : List ℕ) × (j : ℕ) × (g : ℕ) × (v : List ℕ) × (digits 4294967295 i t ≡ Some j) × (g < 2 ^ 16)
@@ -209,7 +209,7 @@ module _ (size : ℕ) (r : List WrittenSlot) where
   each_taken _ v f = refl
 
   -- a lone `_` is taken where what follows it is there
-  lone_taken : (o : Role) (from : ℕ) (m v : List ℕ) → Follow o (part_of from m) v → (is_lone m && not (takes_wildcard o)) ≡ false
+  lone_taken : (o : Role) (from : ℕ) (m v : List ℕ) → Follow o (part_of_word from m) v → (is_lone m && not (takes_wildcard o)) ≡ false
   lone_taken o from m v f = grind (arith, common_steps)
 
   part_in : (n : ℕ) (o : Role) (b : ℕ) (u : List ℕ) (y : Option Point) → n + length (b ∷ u) ≡ size → PartThen o (b ∷ u)
@@ -221,7 +221,7 @@ module _ (size : ℕ) (r : List WrittenSlot) where
       let b_is : b ≡ k = t.0 in
       let here : from ≡ n = omega arith in
       let lone : is_lone (b ∷ ks) ≡ false = rw b_is not_lone in
-      let part_is : named from (name (k ∷ ks)) ≡ part_of n (b ∷ ks) = sym (cond-false (is_lone (b ∷ ks)) _ _ lone ∙ cc) in
+      let part_is : named from (name (k ∷ ks)) ≡ part_of_word n (b ∷ ks) = sym (cond-false (is_lone (b ∷ ks)) _ _ lone ∙ cc) in
       if_sat (may_begin b) _ _ (λ q. Rest q u) (rw b_is letter) (ks, v, words, omega arith, t.1, subst (λ p. Follow o p v) part_is f)
   part_in n o b u y place (named from (handle i g), v, (token, (same, small, least), tok, begins), f) =
       let whole' : token ≡ 35 ∷ (decimal i ++ (46 ∷ decimal g)) = same ∙ ap (λ s. 35 ∷ s) (append_assoc (decimal i) (codes ".") (decimal g)) in
@@ -393,13 +393,13 @@ module _ (size : ℕ) (r : List WrittenSlot) where
   move_in n (bar c x) b u place (v, tok, s) =
       let t = tok_cons 124 [] b u v tok in subst (λ k. Sat (move n (bar c x) k) (λ q. Rest q u)) (sym t.0) (v, t.1, s)
   move_in n (name_of o from m) b u place ([], v, words, small, tok, f) =
-      let s : Sat (move_at n (behind o (part_of from m)) b) (λ q. Rest q u) =
-      skip_in n (behind o (part_of from m)) b u place (v, tok, subst (λ m. Follow o (part_of from m) v) (append-nil m) f) in
+      let s : Sat (move_at n (behind o (part_of_word from m)) b) (λ q. Rest q u) =
+      skip_in n (behind o (part_of_word from m)) b u place (v, tok, subst (λ m. Follow o (part_of_word from m) v) (append-nil m) f) in
       elim (may_follow b) as (λ c. may_follow b ≡ c → Sat (if c then (if nat_lt (length m) 63 then Some (name_of o from (m ++ b ∷ [])) else None)
-      else (if is_lone m && not (takes_wildcard o) then None else move_at n (behind o (part_of from m)) b)) (λ q. Rest q u)) [
-        | true ↦ λ e. absurd (none_sat (move_at n (behind o (part_of from m)) b) (λ q. Rest q u) (word_stops n o (part_of from m) b e) s)
+      else (if is_lone m && not (takes_wildcard o) then None else move_at n (behind o (part_of_word from m)) b)) (λ q. Rest q u)) [
+        | true ↦ λ e. absurd (none_sat (move_at n (behind o (part_of_word from m)) b) (λ q. Rest q u) (word_stops n o (part_of_word from m) b e) s)
         | false ↦ λ e. else_sat (is_lone m && not (takes_wildcard o)) _ _ (λ q. Rest q u)
-            (lone_taken o from m v (subst (λ m. Follow o (part_of from m) v) (append-nil m) f)) s
+            (lone_taken o from m v (subst (λ m. Follow o (part_of_word from m) v) (append-nil m) f)) s
       ] refl
   move_in n (name_of o from m) b u place (k ∷ t, v, words, small, tok, f) =
       let p = tok_cons k t b u v tok in
@@ -408,7 +408,7 @@ module _ (size : ℕ) (r : List WrittenSlot) where
       let joins : m ++ k ∷ t ≡ (m ++ b ∷ []) ++ t = ap (λ x. m ++ x ∷ t) (sym b_is) ∙ sym (append_assoc m (b ∷ []) t) in
       if_sat (may_follow b) _ _ (λ q. Rest q u) (rw b_is (and_parts _ _ words).0)
       (if_sat (nat_lt (length m) 63) _ _ (λ q. Rest q u) (lt-ltb (length m) 63 (omega arith))
-      (t, v, (and_parts _ _ words).1, omega arith, p.1, subst (λ w. Follow o (part_of from w) v) joins f))
+      (t, v, (and_parts _ _ words).1, omega arith, p.1, subst (λ w. Follow o (part_of_word from w) v) joins f))
   move_in n (hash o from) b u place (i, g, v, small, least, tok, f) =
       let (c, t, e, d, run) = number_front 4294967295 i (omega arith) (omega arith) in
       let tok' : IsTok (c ∷ (t ++ (46 ∷ decimal g))) (b ∷ u) v = subst (λ w. IsTok (w ++ (46 ∷ decimal g)) (b ∷ u) v) e tok in
@@ -467,11 +467,11 @@ module _ (size : ℕ) (r : List WrittenSlot) where
       (λ l (t, v, words, small, tok, f).
       let less : length m < 63 = ltb-true (length m) 63 l in
       let longer : length (m ++ b ∷ []) ≡ length m + 1 = length-append m (b ∷ []) in
-      (b ∷ t, v, and_from _ _ w words, omega arith, tok_uncons b t b u v refl tok, subst (λ w. Follow o (part_of from w) v) (append_assoc m (b ∷ []) t) f))
+      (b ∷ t, v, and_from _ _ w words, omega arith, tok_uncons b t b u v refl tok, subst (λ w. Follow o (part_of_word from w) v) (append_assoc m (b ∷ []) t) f))
       (λ _ z. absurd z) h)
       (λ _ h. sat_if (is_lone m && not (takes_wildcard o)) _ _ (λ q. Rest q u) _ (λ _ z. absurd z)
-      (λ _ h. let (v, tok, f) = skip_out n (behind o (part_of from m)) b u place h in
-      ([], v, refl, omega arith, tok, subst (λ m. Follow o (part_of from m) v) (sym (append-nil m)) f)) h) h
+      (λ _ h. let (v, tok, f) = skip_out n (behind o (part_of_word from m)) b u place h in
+      ([], v, refl, omega arith, tok, subst (λ m. Follow o (part_of_word from m) v) (sym (append-nil m)) f)) h) h
   move_out n (hash o from) b u place h =
       sat_if (is_digit b) _ _ (λ q. Rest q u) _
       (λ d (t, j, g, v, run, least, tok, f).

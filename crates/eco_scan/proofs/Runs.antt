@@ -8,7 +8,7 @@ use Rattle.eco_query.specs.declared.access.Access.TheVariants.{In, Out, InOut, I
 use Rattle.eco_scan.specs.declared.point.Head.{Head}
 use Rattle.eco_scan.specs.declared.point.Head.TheVariants.{Plain, Not, Optional, Alone}
 use Rattle.eco_scan.specs.Reader.Machine.{Before, whole, first, second, sole, Spot, slot, word, shut, body, atom, part, behind, after, Point, at, letters, bar}
-use Rattle.eco_scan.specs.Reader.Machine.{name_of, hash, index, dot, generation, slots_with, begun, part_of, move, end_at, end, advance, runs}
+use Rattle.eco_scan.specs.Reader.Machine.{name_of, hash, index, dot, generation, slots_with, begun, part_of_word, move, end_at, end, advance, runs}
 use Rattle.eco_scan.proofs.Tokens.{Sat, tok_nil, number_front}
 use Rattle.eco_scan.proofs.Rest.{After, Follow, AtomThen, BodyThen, Then, Rest, move_in, move_out}
 
@@ -110,7 +110,7 @@ module _ (size : ℕ) (r : List WrittenSlot) where
   end_in (letters ss m) (a, k ∷ t, v, e, tok, s) = absurd (tok_nil k t v tok)
   end_in (bar c x) (v, tok, s) = absurd (tok_nil 124 [] v tok)
   end_in (name_of o from m) ([], v, words, small, tok, f) =
-      at_end (behind o (part_of from m)) (v, tok, subst (λ m. Follow size r o (part_of from m) v) (append-nil m) f)
+      at_end (behind o (part_of_word from m)) (v, tok, subst (λ m. Follow size r o (part_of_word from m) v) (append-nil m) f)
   end_in (name_of o from m) (k ∷ t, v, words, small, tok, f) = absurd (tok_nil k t v tok)
   end_in (hash o from) (i, g, v, small, least, (white, w, e), f) =
       absurd (let bad : length (decimal i ++ (46 ∷ decimal g) ++ (white ++ v)) ≡ 0 = ap length (sym e) in
@@ -144,8 +144,8 @@ module _ (size : ℕ) (r : List WrittenSlot) where
   end_out (letters ss m) e = cc
   end_out (bar c x) e = cc
   end_out (name_of o from m) e =
-      let (v, tok, f) = end_out_at (behind o (part_of from m)) e in
-      ([], v, refl, omega arith, tok, subst (λ m. Follow size r o (part_of from m) v) (sym (append-nil m)) f)
+      let (v, tok, f) = end_out_at (behind o (part_of_word from m)) e in
+      ([], v, refl, omega arith, tok, subst (λ m. Follow size r o (part_of_word from m) v) (sym (append-nil m)) f)
   end_out (hash o from) e = cc
   end_out (index o from i) e = cc
   end_out (dot o from i) e = cc

@@ -29,7 +29,7 @@ pub enum WrittenAtom<'a> {
 impl<'a> WrittenPart<'a> {
     /// What a word that begins there names: `_` is a wildcard.
     pub fn of_word(at: usize, word: &'a [u8]) -> WrittenPart<'a>
-        ensures { part_view result ≡ machine.part_of at word.now }
+        ensures { part_view result ≡ machine.part_of_word at word.now }
     {
         if word == b"_".as_slice() {
             WrittenPart::Any

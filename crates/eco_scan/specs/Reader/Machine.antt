@@ -74,8 +74,8 @@ abbrev pub begun : List WrittenSlot → Access → Head → Before
 begun ss a h = record { slots = ss; access = a; head = h; others = [] }
 
 -- what a word names
-abbrev pub part_of : ℕ → List ℕ → WrittenPart
-part_of from n = if is_lone n then any else named from (name n)
+abbrev pub part_of_word : ℕ → List ℕ → WrittenPart
+part_of_word from n = if is_lone n then any else named from (name n)
 
 abbrev pub is_prefix : List ℕ → List ℕ → Bool
 is_prefix [] ys = true
@@ -143,7 +143,7 @@ move n (letters ss m) b =
 move n (bar c x) b = if b == 124 then Some (at (atom (others_with c x))) else None
 move n (name_of o from m) b =
     if may_follow b then (if nat_lt (length m) 63 then Some (name_of o from (m ++ b ∷ [])) else None)
-    else (if is_lone m && not (takes_wildcard o) then None else move_at n (behind o (part_of from m)) b)
+    else (if is_lone m && not (takes_wildcard o) then None else move_at n (behind o (part_of_word from m)) b)
 move n (hash o from) b = if is_digit b then Some (index o from (b - 48)) else None
 move n (index o from i) b =
     if is_digit b then option_and_then (λ j. Some (index o from j)) (with_digit 4294967295 i b)
@@ -173,7 +173,7 @@ abbrev pub end : Point → Option (List WrittenSlot)
 end (at s) = end_at s
 end (letters ss m) = None
 end (bar c x) = None
-end (name_of o from m) = end_at (behind o (part_of from m))
+end (name_of o from m) = end_at (behind o (part_of_word from m))
 end (hash o from) = None
 end (index o from i) = None
 end (dot o from i) = None

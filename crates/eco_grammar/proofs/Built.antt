@@ -1,6 +1,6 @@
 -- The loops from the atoms of a text to its query, each against the slots that the atoms make.
-use Rattle.eco_ids.proofs.Common.{◌≡◌, ℕ, zero, suc, ◌+◌, ◌<◌, ◌≤◌, Bool, true, false, ◌&&◌, ◌||◌, List, [], ◌∷◌, ◌++◌, length, get_or, drop, if◌then◌else◌}
-use Rattle.eco_ids.proofs.Common.{Some, None, Ok, Err, Option, Result, sym, refl, ap, ◌∙◌, subst, append_assoc, append-nil, add-one, arith, list_any}
+use Rattle.eco_ids.proofs.Common.{◌≡◌, ℕ, ◌+◌, ◌<◌, ◌≤◌, Bool, true, false, ◌&&◌, ◌||◌, List, [], ◌∷◌, ◌++◌, length, get_or, drop, if◌then◌else◌}
+use Rattle.eco_ids.proofs.Common.{Some, None, Ok, Err, Option, Result, sym, refl, ap, ◌∙◌, subst, append_assoc, append-nil, arith, list_any}
 use Rattle.eco_ids.proofs.Common.{common_steps}
 use Rattle.eco_ids.specs.declared.entity.Entity.{Entity}
 use Rattle.eco_ids.specs.declared.id.Id.{Id}
@@ -9,22 +9,25 @@ use Rattle.std.proofs.Math.Bool.{or-false, or-true}
 use Rattle.std.proofs.lemmas.List.{drop_all, drop_more}
 use Rattle.std.proofs.lemmas.List.Folds.{list_any-append}
 use Rattle.eco_ids.specs.Terms as terms
-use Rattle.eco_grammar.specs.Grammar.{WrittenAtom, alternatives, WrittenSlot, IsProperAtom}
-use Rattle.eco_grammar.specs.Reader.Machine.{body_of}
-use Rattle.eco_grammar.specs.Reader.Points.{atom_view, is_bare_head}
+use Rattle.eco_scan.specs.Grammar.{WrittenAtom, alternatives, WrittenSlot, has_wildcard}
+use Rattle.eco_grammar.specs.Proper.{IsProperAtom, AreProperMarks}
 use Rattle.eco_query.specs.Queries.{QuerySlot}
-use Rattle.eco_grammar.specs.Readings.{ok_map, ok_both, id_of, ids_of, term_of_body, slots_of_written, has_wildcard, misplaces_wildcard, is_positive_body}
-use Rattle.eco_grammar.specs.Reader.Marks.{ends_positive, slots_from, grouping, AreWhole, AreProperMarks}
-use Rattle.eco_grammar.specs.Reader.LastTerms.{last_of, misplaces_last, term_with, left_over}
-use Rattle.eco_grammar.specs.declared.written.WrittenAtom as written
+use Rattle.eco_grammar.specs.Readings.{ok_map, ok_both, id_of, ids_of, term_of_body, slots_of_written, misplaces_wildcard, is_positive_body}
+use Rattle.eco_scan.specs.Marks.{slots_from, grouping, AreWhole, body_of, is_bare_head, some_of}
+use Rattle.eco_grammar.specs.LastTerms.{ends_positive, last_of, misplaces_last, term_with, left_over}
+use Rattle.eco_scan.specs.declared.written.WrittenAtom as written
 use Rattle.eco_query.specs.declared.access.Access.{Access}
-use Rattle.eco_grammar.specs.declared.point.Mark.{Mark}
-use Rattle.eco_grammar.specs.declared.point.Mark.TheVariants as marks
-use Rattle.eco_grammar.specs.declared.point.Head.{Head}
-use Rattle.eco_grammar.specs.declared.point.Head.TheVariants.{Plain, Not, Optional, Alone}
+use Rattle.eco_scan.specs.declared.point.Mark.{Mark}
+use Rattle.eco_scan.specs.declared.point.Mark.TheVariants as marks
+use Rattle.eco_scan.specs.declared.point.Head.{Head}
+use Rattle.eco_scan.specs.declared.point.Head.TheVariants.{Plain, Not, Optional, Alone}
 use Rattle.eco_grammar.specs.declared.last_term.LastTerm.{LastTerm}
 use Rattle.eco_grammar.specs.declared.last_term.LastTerm.TheVariants as last
-use Rattle.eco_grammar.proofs.Stored.{some_of, some_of-more}
+use Rattle.eco_scan.specs.Views.{atom_view}
+
+pub some_of-more : (xs : List WrittenAtom) (x : WrittenAtom) → some_of (xs ++ x ∷ []) ≡ true
+some_of-more [] x = refl
+some_of-more (y ∷ xs) x = refl
 
 -- ---- wildcards
 

@@ -6,19 +6,18 @@ use Rattle.eco_ids.specs.declared.id.Id.{Id}
 use Rattle.eco_ids.specs.declared.refusal.Refusal.{Refusal}
 use Rattle.eco_ids.specs.Terms as terms
 use Rattle.eco_ids.specs.Terms.{QueryTerm}
-use Rattle.eco_grammar.specs.Grammar.{WrittenAtom, WrittenBody, absent, optional, alternatives, WrittenSlot}
+use Rattle.eco_scan.specs.Grammar.{WrittenAtom, WrittenBody, alternatives, WrittenSlot, atoms_of, count_atoms}
 use Rattle.eco_query.specs.Queries.{QuerySlot, exactly, patterns_of, reads, IsPattern, IsTerm, IsQuery}
 use Rattle.eco_query.specs.Queries.{is_positive as asks_there}
-use Rattle.eco_grammar.specs.Readings.{ok_map, ok_both, ids_of, term_of_body, slots_of_written, atoms_of, count_atoms, is_positive_body}
-use Rattle.eco_grammar.specs.Reader.Marks.{slots_from}
-use Rattle.eco_grammar.specs.Reader.LastTerms.{last_of, term_with, IsLast}
-use Rattle.eco_grammar.specs.declared.point.Mark.{Mark}
-use Rattle.eco_grammar.specs.declared.point.Head.{Head}
-use Rattle.eco_grammar.specs.declared.point.Head.TheVariants.{Plain, Not, Optional, Alone}
+use Rattle.eco_grammar.specs.Readings.{ok_map, ok_both, ids_of, term_of_body, slots_of_written, is_positive_body}
+use Rattle.eco_scan.specs.Marks.{slots_from, some_of}
+use Rattle.eco_grammar.specs.LastTerms.{last_of, term_with, IsLast}
+use Rattle.eco_scan.specs.declared.point.Mark.{Mark}
+use Rattle.eco_scan.specs.declared.point.Head.{Head}
+use Rattle.eco_scan.specs.declared.point.Head.TheVariants.{Plain}
 use Rattle.eco_grammar.specs.declared.last_term.LastTerm.{LastTerm}
 use Rattle.eco_grammar.specs.declared.last_term.LastTerm.TheVariants as last
 use Rattle.eco_grammar.proofs.Built.{Standing, standing_end}
-use Rattle.eco_grammar.proofs.Stored.{some_of}
 
 -- ---- what a result comes from
 

@@ -5,20 +5,19 @@ use Rattle.std.specs.Prelude.{IsOk}
 use Rattle.eco_ids.specs.declared.entity.Entity.{Entity}
 use Rattle.eco_ids.specs.declared.refusal.Refusal.{Refusal}
 use Rattle.eco_ids.specs.declared.refusal.Refusal.TheVariants.{TooManyTerms}
-use Rattle.eco_grammar.specs.Grammar.{WrittenAtom, single, pair, WrittenBody, absent, optional, alternatives, WrittenSlot, IsAtom, AreMore, IsBody, AreMoreSlots}
-use Rattle.eco_grammar.specs.Grammar.{SpellsSlots, SpellsQuery, IsProperAtom}
-use Rattle.eco_grammar.specs.Reader.Machine.{body_of}
-use Rattle.eco_grammar.specs.Reader.Points.{atom_view, is_bare_head}
+use Rattle.eco_scan.specs.Grammar.{WrittenAtom, WrittenBody, absent, optional, alternatives, WrittenSlot, AreMore, IsBody, AreMoreSlots}
+use Rattle.eco_scan.specs.Grammar.{SpellsSlots, SpellsQuery, atoms_of, count_atoms}
+use Rattle.eco_grammar.specs.Proper.{IsProperAtom, AreProperMarks}
 use Rattle.eco_query.specs.Queries.{QuerySlot}
-use Rattle.eco_grammar.specs.Readings.{atoms_of, count_atoms, query_of, InMemory, ReadsInMemory}
-use Rattle.eco_grammar.specs.Reader.Marks.{slots_from, grouping, HoldsSlots, AreProperMarks}
-use Rattle.eco_grammar.specs.declared.point.Mark.{Mark}
-use Rattle.eco_grammar.specs.declared.point.Mark.TheVariants as marks
-use Rattle.eco_grammar.specs.declared.point.Head.{Head}
-use Rattle.eco_grammar.specs.declared.point.Head.TheVariants.{Plain, Not, Optional, Alone}
-use Rattle.eco_grammar.proofs.Built.{slot_grouped}
-use Rattle.eco_grammar.proofs.Spelled.{part_proper}
-use Rattle.eco_grammar.proofs.Stored.{some_of, some_of-more}
+use Rattle.eco_grammar.specs.Readings.{query_of, InMemory, ReadsInMemory}
+use Rattle.eco_scan.specs.Marks.{slots_from, grouping, HoldsSlots, body_of, is_bare_head, some_of}
+use Rattle.eco_scan.specs.declared.point.Mark.{Mark}
+use Rattle.eco_scan.specs.declared.point.Mark.TheVariants as marks
+use Rattle.eco_scan.specs.declared.point.Head.{Head}
+use Rattle.eco_scan.specs.declared.point.Head.TheVariants.{Plain, Not, Optional, Alone}
+use Rattle.eco_grammar.proofs.Built.{slot_grouped, some_of-more}
+use Rattle.eco_grammar.proofs.Spelled.{atom_proper}
+use Rattle.eco_scan.specs.Views.{atom_view}
 
 -- ---- what is spelled is proper
 
@@ -29,10 +28,6 @@ AreProperAtoms (x ∷ xs) = IsProperAtom x × AreProperAtoms xs
 abbrev AreProperSlots : List WrittenSlot → Type 0
 AreProperSlots [] = Unit {0}
 AreProperSlots (s ∷ ss) = AreProperAtoms (atoms_of s.body) × AreProperSlots ss
-
-atom_proper : (size : ℕ) (u v : List ℕ) (x : WrittenAtom) → IsAtom size u v x → IsProperAtom x
-atom_proper size u v (single p) s = part_proper size u v p s
-atom_proper size u v (pair p q) (a, b, c, d, left, isp, comma, isq, right) = (part_proper size a b p isp, part_proper size c d q isq)
 
 more_proper : (size : ℕ) (u v : List ℕ) (xs : List WrittenAtom) → AreMore size u v xs → AreProperAtoms xs
 more_proper size u v [] s = tt

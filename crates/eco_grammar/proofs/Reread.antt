@@ -13,12 +13,12 @@ use Rattle.eco_ids.specs.Terms.{QueryTerm}
 use Rattle.eco_ids.specs.Terms as terms
 use Rattle.eco_ids.specs.Text.{entity_text, id_text, part_text, pattern_text}
 use Rattle.eco_query.specs.Canonical.{access_text, term_text, slot_text, query_text}
-use Rattle.eco_grammar.specs.Grammar.{WrittenPart, named, each, any, WrittenAtom, single, pair, WrittenBody, absent, optional, alternatives, WrittenSlot}
-use Rattle.eco_grammar.specs.Grammar.{IsPart, IsAtom, AreMore, IsBody, IsSlot, AreMoreSlots, SpellsQuery}
+use Rattle.eco_scan.specs.Grammar.{WrittenPart, named, each, any, WrittenAtom, single, pair, WrittenBody, absent, optional, alternatives, WrittenSlot}
+use Rattle.eco_scan.specs.Grammar.{IsPart, IsAtom, AreMore, IsBody, IsSlot, AreMoreSlots, SpellsQuery, has_wildcard, is_lone_wildcard, atoms_of, count_atoms}
 use Rattle.eco_query.specs.Queries.{QuerySlot, exactly, patterns_of, reads, IsPatternPart, IsPattern, IsTerm, IsQuery}
-use Rattle.eco_grammar.specs.Readings.{Reads, has_wildcard, is_lone_wildcard, id_of, ids_of, part_of, pattern_of_atom, term_of_body, slots_of_written, query_of, ok_map}
-use Rattle.eco_grammar.specs.Readings.{atoms_of, count_atoms, misplaces_wildcard, is_positive_body}
-use Rattle.eco_grammar.specs.Tokens.{handle, IsWhite}
+use Rattle.eco_grammar.specs.Readings.{Reads, id_of, ids_of, part_of, pattern_of_atom, term_of_body, slots_of_written, query_of, ok_map}
+use Rattle.eco_grammar.specs.Readings.{misplaces_wildcard, is_positive_body}
+use Rattle.eco_scan.specs.Tokens.{handle, IsWhite}
 use Rattle.eco_query.specs.declared.access.Access.{Access}
 use Rattle.eco_query.specs.declared.access.Access.TheVariants.{In, Out, InOut, InOutNone}
 use Rattle.eco_grammar.proofs.Kept.{slots_positive}

@@ -1,109 +1,15 @@
--- Queries, ids and references: what the reader ends with is spelled, and where it stops the fault lies.
-use Rattle.eco_ids.proofs.Common.{◌≡◌, ℕ, List, [], ◌∷◌, ◌++◌, length, Some, Err, Option, Result, sym, refl, ap, ◌∙◌, subst, inl, inr, arith, common_steps}
-use Rattle.eco_ids.specs.declared.entity.Entity.{Entity}
+-- What is spelled is proper, and read in one way.
+use Rattle.eco_ids.proofs.Common.{◌≡◌, ℕ, zero, suc, ◌<◌, true, List, [], ◌∷◌, length, Err, Result, sym, refl, ap, ◌∙◌, inl, inr, arith, common_steps}
+use Rattle.eco_ids.proofs.Common.{list_all, nat_tests, may_begin, may_follow, is_name}
+use Rattle.std.specs.Str.{IsAscii, IsUtf8}
+use Rattle.std.proofs.lemmas.Str.{IsUtf8-from_ascii}
+use Rattle.std.proofs.lemmas.Bool.{and_from, and_parts}
 use Rattle.eco_ids.specs.declared.refusal.Refusal.{Refusal}
 use Rattle.eco_ids.specs.declared.refusal.Refusal.TheVariants.{Syntax}
-use Rattle.eco_grammar.specs.Tokens.{Reference}
-use Rattle.eco_grammar.specs.Grammar.{WrittenPart, named, each, any, WrittenAtom, single, pair, alternatives, WrittenSlot, IsPart, SpellsId, PlacedReference}
-use Rattle.eco_grammar.specs.Grammar.{SpellsRef, IsProperPart, IsProperAtom, SpellsSlots, SpellsQuery, IsAtom}
-use Rattle.eco_grammar.specs.Faults.{IsSpelled, IsFault}
-use Rattle.eco_grammar.specs.Reader.Machine.{Point, Before, end, advance, runs, slots_with, body_of, id_start, ref_start, begun, EndsWith, Stops, query_start}
-use Rattle.eco_query.specs.declared.access.Access.TheVariants.{InOut}
-use Rattle.eco_grammar.specs.declared.point.Head.{Head}
-use Rattle.eco_grammar.specs.declared.point.Head.TheVariants.{Plain, Not, Optional, Alone}
-use Rattle.eco_grammar.specs.Readings.{Reads, SpellsOnce, ReadsOnce, entity_of_placed, entity_of_part}
-use Rattle.eco_grammar.proofs.Rest.{Rest, slot_split, slot_join, atom_split, atom_join}
-use Rattle.eco_grammar.proofs.Runs.{read_out, rest_once}
-use Rattle.eco_grammar.proofs.Fault.{fault_at}
-
--- ---- queries
-
-start_in : (size : ℕ) (text : List ℕ) (slots : List WrittenSlot) → SpellsSlots size text slots → Rest size slots query_start text
-start_in size text [] s = absurd s
-start_in size text (s ∷ ss) (a, b, tok, iss, more) = (a, tok, slot_split size (s ∷ ss) [] s ss a b iss more refl)
-
-pub start_out : (size : ℕ) (text : List ℕ) (slots : List WrittenSlot) → Rest size slots query_start text → SpellsSlots size text slots
-start_out size text slots (a, tok, t) =
-    let (s, b, ss, iss, more, e) = slot_join size slots [] a t in
-    subst (λ k. SpellsSlots size text k) (sym e) (a, b, tok, iss, more)
-
-pub query_fault : (text : List ℕ) (n : ℕ) → Stops query_start text n → IsFault (IsSpelled SpellsQuery) text n
-query_fault text n s =
-    fault_at (IsSpelled SpellsQuery) query_start tt (λ text (r, s). (r, start_in (length text) text r s)) (λ text r h. (r, start_out (length text) text r h))
-    text n s
-
-pub query_ended : (text : List ℕ) (q : Point) (r : List WrittenSlot) → runs advance (0, query_start) text ≡ Some (length text, q) → end q ≡ Some r
-    → SpellsQuery text r
-query_ended text q r e last = start_out (length text) text r (read_out query_start text r (length text) q e last)
-
-pub query_once : SpellsOnce SpellsQuery
-query_once text a b s t = rest_once query_start text a b (start_in (length text) text a s) (start_in (length text) text b t)
-
--- ---- ids
-
--- a slot of one atom alone
-abbrev pub id_slots : WrittenAtom → List WrittenSlot
-id_slots x = (record { access = InOut; body = alternatives (x ∷ []) }) ∷ []
-
-id_in : (text : List ℕ) (x : WrittenAtom) → SpellsId text x → Rest (length text) (id_slots x) id_start text
-id_in text x (a, tok, s) = (a, tok, atom_split (length text) (id_slots x) (begun [] InOut Alone) x a [] s (refl, refl))
-
-pub id_out : (text : List ℕ) (r : List WrittenSlot) → Rest (length text) r id_start text → (x : WrittenAtom) × SpellsId text x × (r ≡ id_slots x)
-id_out text r (a, tok, t) =
-    let (x, v, s, (none, e)) = atom_join (length text) r (begun [] InOut Alone) a t in
-    (x, (a, tok, subst (λ v. IsAtom (length text) a v x) none s), e)
-
-last_is : {A : Type 0} (xs : List A) (x y : A) → xs ++ x ∷ [] ≡ y ∷ [] → x ≡ y
-last_is [] x y e = cc
-last_is (z ∷ []) x y e = cc
-last_is (z ∷ w ∷ xs) x y e = cc
-
-body_is : (h : Head) (xs : List WrittenAtom) (x y : WrittenAtom) → body_of h xs x ≡ alternatives (y ∷ []) → x ≡ y
-body_is Plain xs x y e = last_is xs x y cc
-body_is Not xs x y e = cc
-body_is Optional xs x y e = cc
-body_is Alone xs x y e = last_is xs x y cc
-
--- a slot of one atom alone has that atom
-atom_is : (c : Before) (x y : WrittenAtom) → slots_with c.head c x ≡ id_slots y → x ≡ y
-atom_is c x y e = grind (arith, common_steps, last_is, body_is)
-
-pub id_ended : (text : List ℕ) (x : WrittenAtom) → EndsWith id_start text x → SpellsId text x
-id_ended text x (q, c, e, last) =
-    let (y, s, same) = id_out text (slots_with c.head c x) (read_out id_start text (slots_with c.head c x) (length text) q e last) in
-    subst (λ z. SpellsId text z) (sym (atom_is c x y same)) s
-
-pub id_fault : (text : List ℕ) (n : ℕ) → Stops id_start text n → IsFault (IsSpelled SpellsId) text n
-id_fault text n s =
-    fault_at (IsSpelled SpellsId) id_start tt (λ text (x, s). (id_slots x, id_in text x s)) (λ text r h. let (x, s, e) = id_out text r h in (x, s)) text n s
-
-pub id_once : SpellsOnce SpellsId
-id_once text a b s t = atom_is (begun [] InOut Alone) a b (rest_once id_start text (id_slots a) (id_slots b) (id_in text a s) (id_in text b t))
-
--- ---- references
-
-abbrev ref_slots : PlacedReference → List WrittenSlot
-ref_slots r = id_slots (single (named r.at r.reference))
-
-ref_in : (text : List ℕ) (r : PlacedReference) → SpellsRef text r → Rest (length text) (ref_slots r) ref_start text
-ref_in text r (a, tok, s) = (a, tok, (named r.at r.reference, [], s, (tt, refl, refl)))
-
-pub ref_out : (text : List ℕ) (slots : List WrittenSlot) → Rest (length text) slots ref_start text
-    → (r : PlacedReference) × SpellsRef text r × (slots ≡ ref_slots r)
-ref_out text slots (a, tok, (named from r, v, s, (is, none, e))) =
-    (record { at = from; reference = r }, (a, tok, subst (λ v. IsPart (length text) a v (named from r)) none s), e)
-ref_out text slots (a, tok, (each, v, s, (is, none, e))) = absurd is
-ref_out text slots (a, tok, (any, v, s, (is, none, e))) = absurd is
-
-pub ref_fault : (text : List ℕ) (n : ℕ) → Stops ref_start text n → IsFault (IsSpelled SpellsRef) text n
-ref_fault text n s =
-    fault_at (IsSpelled SpellsRef) ref_start tt (λ text (r, s). (ref_slots r, ref_in text r s)) (λ text k h. let (r, s, e) = ref_out text k h in (r, s)) text
-    n s
-
-pub ref_ended : (text : List ℕ) (x : WrittenAtom) → EndsWith ref_start text x → (r : PlacedReference) × SpellsRef text r × (x ≡ single (named r.at r.reference))
-ref_ended text x (q, c, e, last) =
-    let (r, s, same) = ref_out text (slots_with c.head c x) (read_out ref_start text (slots_with c.head c x) (length text) q e last) in
-    (r, s, atom_is c x (single (named r.at r.reference)) same)
+use Rattle.eco_scan.specs.Grammar.{WrittenPart, named, each, any, WrittenAtom, single, pair, IsPart, IsAtom, SpellsId}
+use Rattle.eco_scan.specs.Faults.{IsSpelled, IsFault, SpellsOnce, SpellsOrFails}
+use Rattle.eco_grammar.specs.Proper.{IsProperPart, IsProperAtom}
+use Rattle.eco_grammar.specs.Readings.{ReadsOnce, ReadsAll}
 
 -- ---- what is spelled is proper
 
@@ -112,51 +18,17 @@ part_proper size u v (named from r) (token, is, tok, place) = (token, is)
 part_proper size u v each s = tt
 part_proper size u v any s = tt
 
-pub id_proper : (text : List ℕ) (x : WrittenAtom) → SpellsId text x → IsProperAtom x
-id_proper text (single p) (a, tok, s) = part_proper (length text) a [] p s
-id_proper text (pair p q) (a, tok, (b, c, d, e, left, isp, comma, isq, right)) = (part_proper (length text) b c p isp, part_proper (length text) d e q isq)
+pub atom_proper : (size : ℕ) (u v : List ℕ) (x : WrittenAtom) → IsAtom size u v x → IsProperAtom x
+atom_proper size u v (single p) s = part_proper size u v p s
+atom_proper size u v (pair p q) (a, b, c, d, left, isp, comma, isq, right) = (part_proper size a b p isp, part_proper size c d q isq)
 
-pub ref_once : SpellsOnce SpellsRef
-ref_once text a b s t =
-    let same : ◌≡◌ {A = WrittenAtom} (single (named a.at a.reference)) (single (named b.at b.reference)) = id_once text _ _ s t in
-    let at_is : a.at ≡ b.at = cc in
-    let reference_is : a.reference ≡ b.reference = cc in
-    ap (λ (k : ℕ). let r : PlacedReference = record { at = k; reference = a.reference } in r) at_is
-    ∙ ap (λ (n : Reference). let r : PlacedReference = record { at = b.at; reference = n } in r) reference_is
+pub id_proper : (text : List ℕ) (x : WrittenAtom) → SpellsId text x → IsProperAtom x
+id_proper text x (a, tok, s) = atom_proper (length text) a [] x s
 
 -- ---- answers
 
-pub id_answered : {T : Type 0} (meaning : WrittenAtom → Result T Refusal) (text : List ℕ) (x : WrittenAtom) → EndsWith id_start text x
-    → Reads SpellsId meaning text (meaning x)
-id_answered meaning text x e = inl (x, id_ended text x e, refl)
-
-pub id_refused : {T : Type 0} (meaning : WrittenAtom → Result T Refusal) (text : List ℕ) (n : ℕ) → Stops id_start text n
-    → Reads SpellsId meaning text (Err (Syntax n))
-id_refused meaning text n s = inr (n, id_fault text n s, refl)
-
-pub ref_answered : (entity_named : List ℕ → Option Entity) (text : List ℕ) (p : WrittenPart) → EndsWith ref_start text (single p)
-    → Reads SpellsRef (entity_of_placed entity_named) text (entity_of_part entity_named p)
-ref_answered entity_named text p e =
-    let (r, s, same) = ref_ended text (single p) e in
-    let part_is : p ≡ named r.at r.reference = cc in
-    inl (r, s, ap (entity_of_part entity_named) part_is)
-
--- no pair is a reference
-pub ref_no_pair : (text : List ℕ) (p q : WrittenPart) → EndsWith ref_start text (pair p q) → ⊥
-ref_no_pair text p q e = let (r, s, same) = ref_ended text (pair p q) e in cc
-
-pub ref_proper : (text : List ℕ) (p : WrittenPart) → EndsWith ref_start text (single p) → IsProperPart p
-ref_proper text p e =
-    let (r, s, same) = ref_ended text (single p) e in
-    let part_is : named r.at r.reference ≡ p = cc in
-    subst IsProperPart part_is (id_proper text (single (named r.at r.reference)) s)
-
-pub ref_refused : {T : Type 0} (meaning : PlacedReference → Result T Refusal) (text : List ℕ) (n : ℕ) → Stops ref_start text n
-    → Reads SpellsRef meaning text (Err (Syntax n))
-ref_refused meaning text n s = inr (n, ref_fault text n s, refl)
-
 -- there is one first fault
-pub fault_once : (Is : List ℕ → Type 0) (text : List ℕ) (n m : ℕ) → IsFault Is text n → IsFault Is text m → n ≡ m
+fault_once : (Is : List ℕ → Type 0) (text : List ℕ) (n m : ℕ) → IsFault Is text n → IsFault Is text m → n ≡ m
 fault_once Is text n m f g = grind (arith, common_steps)
 
 -- an answer is what the text spells, or its first fault
@@ -166,3 +38,29 @@ reads_once Spells meaning once text r s (inl (x, is, e)) (inr (n, fault, f)) = a
 reads_once Spells meaning once text r s (inr (n, fault, e)) (inl (x, is, f)) = absurd (fault.nothing (x, is))
 reads_once Spells meaning once text r s (inr (n, fault, e)) (inr (m, fault', f)) = e
     ∙ ap (λ k. Err (Syntax k)) (fault_once (IsSpelled Spells) text n m fault fault') ∙ sym f
+
+pub reads_all : {X T : Type 0} (Spells : List ℕ → X → Type 0) (meaning : X → Result T Refusal) → SpellsOrFails Spells → ReadsAll Spells meaning
+reads_all Spells meaning fails text = elim (fails text) [
+  | inl (x, is) ↦ (meaning x, inl (x, is, refl))
+  | inr (n, fault) ↦ (Err (Syntax n), inr (n, fault, refl))
+]
+
+-- ---- names
+
+begins_follows : (b : ℕ) → may_begin b ≡ true → may_follow b ≡ true
+begins_follows b e = rw e refl
+
+may_follow_ascii : (b : ℕ) → may_follow b ≡ true → b < 128
+may_follow_ascii b e = grind (arith, nat_tests)
+
+words_ascii : (bs : List ℕ) → list_all may_follow bs ≡ true → IsAscii bs
+words_ascii [] e i = omega arith
+words_ascii (b ∷ bs) e zero = may_follow_ascii b (and_parts _ _ e).0
+words_ascii (b ∷ bs) e (suc i) = words_ascii bs (and_parts _ _ e).1 i
+
+-- a name is a text
+pub name_utf8 : (n : List ℕ) → is_name n ≡ true → IsUtf8 n
+name_utf8 [] e = cc
+name_utf8 (b ∷ bs) e =
+    let (letter, rest) = and_parts _ _ e in
+    IsUtf8-from_ascii (b ∷ bs) (words_ascii (b ∷ bs) (and_from _ _ (begins_follows b letter) (and_parts _ _ rest).0))

@@ -1,5 +1,3 @@
-pub mod Faults
-pub mod Grammar
-pub mod Reader
+pub mod LastTerms
+pub mod Proper
 pub mod Readings
-pub mod Tokens

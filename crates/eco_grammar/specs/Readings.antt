@@ -1,5 +1,5 @@
 -- What the readers of texts answer.
-use Rattle.std.specs.Prelude.{◌≡◌, ◌⊎◌, ℕ, ◌+◌, Bool, true, false, not, ◌||◌, nat_lt, List, [], ◌∷◌, length, IsOk, Option, Some, None, Result, Ok, Err}
+use Rattle.std.specs.Prelude.{◌≡◌, ◌⊎◌, ℕ, Bool, true, false, not, nat_lt, List, [], ◌∷◌, IsOk, Option, Some, None, Result, Ok, Err}
 use Rattle.std.specs.Prelude.{if◌then◌else◌}
 use Rattle.std.specs.List.{list_any}
 use Rattle.eco_ids.specs.Terms.{QueryTerm}
@@ -13,11 +13,11 @@ use Rattle.eco_ids.specs.declared.pattern.Pattern.{Pattern}
 use Rattle.eco_ids.specs.declared.pattern.Pattern.TheVariants as pattern
 use Rattle.eco_ids.specs.declared.refusal.Refusal.{Refusal}
 use Rattle.eco_ids.specs.declared.refusal.Refusal.TheVariants.{Syntax, UnknownName, WildcardHere, TooManyTerms, NoPositive, OutOfMemory}
-use Rattle.eco_grammar.specs.Tokens.{Reference, name, handle}
-use Rattle.eco_grammar.specs.Grammar.{WrittenPart, named, each, any, WrittenAtom, single, pair, WrittenBody, absent, optional, alternatives, WrittenSlot}
-use Rattle.eco_grammar.specs.Grammar.{PlacedReference}
+use Rattle.eco_scan.specs.Tokens.{Reference, name, handle}
+use Rattle.eco_scan.specs.Grammar.{WrittenPart, named, each, any, WrittenAtom, single, pair, WrittenBody, absent, optional, alternatives, WrittenSlot}
+use Rattle.eco_scan.specs.Grammar.{PlacedReference, has_wildcard, is_lone_wildcard, count_atoms}
 use Rattle.eco_query.specs.Queries.{QuerySlot}
-use Rattle.eco_grammar.specs.Faults.{IsSpelled, IsFault}
+use Rattle.eco_scan.specs.Faults.{IsSpelled, IsFault}
 
 -- what a text spells is answered as `meaning` says; a text that spells nothing is refused at its first fault
 abbrev pub Reads : {X T : Type 0} → (List ℕ → X → Type 0) → (X → Result T Refusal)
@@ -25,10 +25,6 @@ abbrev pub Reads : {X T : Type 0} → (List ℕ → X → Type 0) → (X → Res
 Reads {X} Spells meaning text r =
     ((x : X) × Spells text x × (r ≡ meaning x))
     ⊎ ((at : ℕ) × IsFault (IsSpelled Spells) text at × (r ≡ Err (Syntax at)))
-
--- a text spells one thing at most
-abbrev pub SpellsOnce : {X : Type 0} → (List ℕ → X → Type 0) → Type 0
-SpellsOnce {X} Spells = (text : List ℕ) (a b : X) → Spells text a → Spells text b → a ≡ b
 
 -- a text is answered in one way at most
 abbrev pub ReadsOnce : {X T : Type 0} → (List ℕ → X → Type 0) → (X → Result T Refusal) → Type 0
@@ -52,11 +48,6 @@ entity_of_reference entity_named at (handle i g) = Ok (record { index = i; gener
 abbrev pub entity_of_placed : (List ℕ → Option Entity) → PlacedReference → Result Entity Refusal
 entity_of_placed entity_named r = entity_of_reference entity_named r.at r.reference
 
-abbrev pub is_wildcard : WrittenPart → Bool
-is_wildcard (named at r) = false
-is_wildcard each = true
-is_wildcard any = true
-
 -- a wildcard names no entity
 abbrev pub entity_of_part : (List ℕ → Option Entity) → WrittenPart → Result Entity Refusal
 entity_of_part entity_named (named at r) = entity_of_reference entity_named at r
@@ -73,10 +64,6 @@ abbrev pub ok_both : {A B C : Type 0} → (A → B → C) → Result A Refusal �
 ok_both f (Err e) r = Err e
 ok_both f (Ok a) (Err e) = Err e
 ok_both f (Ok a) (Ok b) = Ok (f a b)
-
-abbrev pub has_wildcard : WrittenAtom → Bool
-has_wildcard (single p) = is_wildcard p
-has_wildcard (pair p q) = is_wildcard p || is_wildcard q
 
 -- the single id of an entity
 abbrev pub single_of : Result Entity Refusal → Result Id Refusal
@@ -103,22 +90,6 @@ pattern_of_atom entity_named (pair p q) =
     ok_both (λ r t. pattern.Two r t) (part_of entity_named p) (part_of entity_named q)
 
 -- ---- queries
-
--- a wildcard that is all of a single id
-abbrev pub is_lone_wildcard : WrittenAtom → Bool
-is_lone_wildcard (single p) = is_wildcard p
-is_lone_wildcard (pair p q) = false
-
--- the atoms of a body
-abbrev pub atoms_of : WrittenBody → List WrittenAtom
-atoms_of (absent x) = x ∷ []
-atoms_of (optional x) = x ∷ []
-atoms_of (alternatives xs) = xs
-
--- how many atoms the slots have
-abbrev pub count_atoms : List WrittenSlot → ℕ
-count_atoms [] = 0
-count_atoms (s ∷ ss) = length (atoms_of s.body) + count_atoms ss
 
 -- a wildcard stands as a single id, or behind `?`, or among alternatives
 abbrev pub misplaces_wildcard : WrittenSlot → Bool

@@ -3,17 +3,19 @@ ghost use Rattle.std.specs.Prelude.{◌≡◌, ◌⊎◌, ◌≤◌, [], ◌∷�
 ghost use Rattle.std.specs.List.{list_any};
 ghost use Rattle.eco_grammar.specs.Readings as reading;
 ghost use Rattle.eco_query.specs.Queries.{slot_view};
-ghost use Rattle.eco_grammar.specs.Readings.{InMemory, count_atoms, is_positive_body, query_of, slots_of_written};
-ghost use Rattle.eco_grammar.specs.Reader.Marks as term;
-ghost use Rattle.eco_grammar.specs.Reader.LastTerms.{IsLast, left_over, term_with};
-ghost use Rattle.eco_grammar.specs.Reader.Marks.{AreProperMarks, AreWhole, slots_from};
+ghost use Rattle.eco_grammar.specs.Readings.{InMemory, is_positive_body, query_of, slots_of_written};
+ghost use Rattle.eco_grammar.specs.LastTerms.{IsLast, ends_positive, left_over, term_with};
+ghost use Rattle.eco_scan.specs.Marks.{AreWhole, slots_from};
+ghost use Rattle.eco_grammar.specs.Proper.{AreProperMarks};
+ghost use Rattle.eco_scan.specs.Grammar.{count_atoms};
 
 use crate::last_term::{LastTerm, last_term, misplaces_last};
 use crate::names::Names;
-use crate::point::{Head, Mark};
 use crate::range::id_is_in_range;
+use crate::resolve::id_of_atom;
 use eco_ids::{Id, Refusal};
 use eco_query::{Access, Query, Slot};
+use eco_scan::{Head, Mark};
 use std::alloc::Global;
 
 /// Whether a wildcard stands where none may stand: as a single id, behind `?` or among alternatives.
@@ -45,7 +47,7 @@ fn misplaces_wildcard(marks: &[Mark<'_>]) -> bool
 
 /// Whether an atom ends a slot that asks for something that is there.
 fn asks(mark: Mark<'_>) -> bool
-    ensures { result ≡ term.ends_positive mark.entry }
+    ensures { result ≡ ends_positive mark.entry }
 {
     match mark {
         Mark::Slot(_, head, _) => match head {
@@ -84,7 +86,7 @@ fn check_names<N: Names>(marks: &[Mark<'_>], names: &N) -> Result<(), Refusal>
             Mark::Same => {}
             Mark::Begin => {}
             Mark::Other(_, atom) => {
-                atom.id(names)?;
+                id_of_atom(atom, names)?;
                 grouped = true;
             }
             Mark::Slot(_, head, atom) => {
@@ -134,7 +136,7 @@ fn build_query<N: Names>(alloc: Global, marks: &[Mark<'_>], names: &N) -> Result
             Mark::Same => {}
             Mark::Begin => {}
             Mark::Other(_, atom) => {
-                let id = atom.id(names)?;
+                let id = id_of_atom(atom, names)?;
                 id_is_in_range(id);
                 group.push(id)?;
                 grouped = true;

@@ -1,18 +1,18 @@
 //! What the last atom of a slot makes of it.
 ghost use Rattle.std.specs.Prelude.{◌≡◌, IfOk, IfErr};
 ghost use Rattle.eco_ids.specs.declared.refusal.Refusal.TheVariants.{OutOfMemory};
-ghost use Rattle.eco_grammar.specs.Grammar.{IsProperAtom};
-ghost use Rattle.eco_grammar.specs.Reader.LastTerms as last;
-ghost use Rattle.eco_grammar.specs.Reader.LastTerms.{IsLast, term_with, last_of, left_over};
-ghost use Rattle.eco_grammar.specs.Reader.Points.{atom_view};
+ghost use Rattle.eco_grammar.specs.Proper.{IsProperAtom};
+ghost use Rattle.eco_grammar.specs.LastTerms as last;
+ghost use Rattle.eco_grammar.specs.LastTerms.{IsLast, term_with, last_of, left_over};
 ghost use Rattle.eco_query.specs.Queries.{term_view};
+ghost use Rattle.eco_scan.specs.Views.{atom_view};
 
 use crate::names::Names;
-use crate::point::Head;
 use crate::range::{id_is_in_range, pattern_is_in_range};
-use crate::written::WrittenAtom;
+use crate::resolve::{id_of_atom, pattern_of_atom};
 use eco_ids::{Id, Pattern, Refusal};
 use eco_query::Term;
+use eco_scan::{Head, WrittenAtom};
 use std::alloc::Global;
 use std::mem;
 
@@ -36,10 +36,10 @@ pub fn last_term<N: Names>(
     ensures { result ≡ last_of (N.entity_named names.now) head grouped (atom_view atom.entry) }
 {
     match head {
-        Head::Not => Ok(LastTerm::Not(atom.pattern(names)?)),
-        Head::Optional => Ok(LastTerm::Optional(atom.id(names)?)),
-        Head::Plain | Head::Alone if grouped => Ok(LastTerm::Alternative(atom.id(names)?)),
-        Head::Plain | Head::Alone => Ok(LastTerm::And(atom.pattern(names)?)),
+        Head::Not => Ok(LastTerm::Not(pattern_of_atom(atom, names)?)),
+        Head::Optional => Ok(LastTerm::Optional(id_of_atom(atom, names)?)),
+        Head::Plain | Head::Alone if grouped => Ok(LastTerm::Alternative(id_of_atom(atom, names)?)),
+        Head::Plain | Head::Alone => Ok(LastTerm::And(pattern_of_atom(atom, names)?)),
     }
 }
 

@@ -1,14 +1,13 @@
 //! Reads references, ids and queries.
-ghost use Rattle.eco_grammar.specs.Grammar.{SpellsId, SpellsQuery, SpellsRef};
+ghost use Rattle.eco_scan.specs.Grammar.{SpellsId, SpellsQuery, SpellsRef};
 ghost use Rattle.eco_grammar.specs.Readings.{Reads, ReadsInMemory, entity_of_placed, id_of, query_of};
 
 use crate::build::query_from;
 use crate::names::Names;
-use crate::point::{Head, Role, Spot};
-use crate::scan::{scan_atom, scan_query};
-use crate::written::WrittenAtom;
+use crate::resolve::{entity_of_part, id_of_atom};
 use eco_ids::{Entity, Id, Refusal};
-use eco_query::{Access, Query};
+use eco_query::Query;
+use eco_scan::{scan_id, scan_query, scan_ref};
 use std::alloc::Global;
 
 /// Reads a reference: the name of an entity, or a handle as `#9.0`, with white space (space, tab, newline and carriage
@@ -21,9 +20,8 @@ use std::alloc::Global;
 pub fn read_ref<N: Names>(text: &str, names: &N) -> Result<Entity, Refusal>
     ensures { Reads SpellsRef (entity_of_placed (N.entity_named names.now)) text.now result }
 {
-    match scan_atom(text.as_bytes(), Spot::Part(Role::Sole)) {
-        Ok(WrittenAtom::Single(part)) => part.entity(names),
-        Ok(WrittenAtom::Pair(_, _)) => unreachable!(),
+    match scan_ref(text.as_bytes()) {
+        Ok(part) => entity_of_part(part, names),
         Err(at) => Err(Refusal::Syntax { at }),
     }
 }
@@ -38,8 +36,8 @@ pub fn read_ref<N: Names>(text: &str, names: &N) -> Result<Entity, Refusal>
 pub fn read_id<N: Names>(text: &str, names: &N) -> Result<Id, Refusal>
     ensures { Reads SpellsId (id_of (N.entity_named names.now)) text.now result }
 {
-    match scan_atom(text.as_bytes(), Spot::Atom(Access::InOut, Head::Alone)) {
-        Ok(atom) => atom.id(names),
+    match scan_id(text.as_bytes()) {
+        Ok(atom) => id_of_atom(atom, names),
         Err(at) => Err(Refusal::Syntax { at }),
     }
 }

@@ -18,7 +18,7 @@ use Rattle.eco_ids.specs.Run as run
 use Rattle.eco_ids.specs.Step.{Adds, Sets, Removes, Clears, RemovesAll, Renames}
 use Rattle.eco_ids.specs.Terms.{QueryTerm}
 use Rattle.eco_ids.specs.World.{WorldState, entities, is_alive, with_entities}
-use Rattle.eco_grammar.specs.Grammar.{SpellsId, SpellsQuery, SpellsRef}
+use Rattle.eco_scan.specs.Grammar.{SpellsId, SpellsQuery, SpellsRef}
 use Rattle.eco_query.specs.Queries.{QuerySlot}
 use Rattle.eco_grammar.specs.Readings.{Reads, ReadsInMemory, ReadsOnce, entity_of_placed, id_of, ok_both, ok_map, query_of}
 use Rattle.eco_systems.specs.declared.phase.Phase.{Phase}

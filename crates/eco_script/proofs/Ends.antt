@@ -20,7 +20,7 @@ use Rattle.eco_ids.specs.Run as run
 use Rattle.eco_ids.specs.Step.{Extends, changed, has_ids, is_held, is_reserved, own_name, unchanged, unfit_actor, with_name, with_value}
 use Rattle.eco_ids.specs.Terms.{QueryTerm}
 use Rattle.eco_ids.specs.World.{WorldState, Record, OnEntities, has, names_living, is_alive, living, entities, with_entities}
-use Rattle.eco_grammar.specs.Grammar.{SpellsId, SpellsQuery, SpellsRef}
+use Rattle.eco_scan.specs.Grammar.{SpellsId, SpellsQuery, SpellsRef}
 use Rattle.eco_query.specs.Queries.{QuerySlot}
 use Rattle.eco_grammar.specs.Readings.{ReadsAll, entity_of_placed, id_of, ok_both, ok_map, query_of}
 use Rattle.eco_frame.specs.declared.stop.FrameStop.{FrameStop}

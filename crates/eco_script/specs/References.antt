@@ -5,7 +5,7 @@ use Rattle.eco_ids.specs.declared.id.Id.{Id}
 use Rattle.eco_ids.specs.declared.refusal.Refusal.{Refusal}
 use Rattle.eco_ids.specs.Names.{lookup}
 use Rattle.eco_ids.specs.World.{WorldState}
-use Rattle.eco_grammar.specs.Grammar.{SpellsId, SpellsQuery, SpellsRef}
+use Rattle.eco_scan.specs.Grammar.{SpellsId, SpellsQuery, SpellsRef}
 use Rattle.eco_query.specs.Queries.{QuerySlot}
 use Rattle.eco_grammar.specs.Readings.{Reads, ReadsInMemory, entity_of_placed, id_of, ok_both, query_of}
 

@@ -3,7 +3,7 @@ ghost use Rattle.std.specs.Prelude.{◌≡◌, ◌<◌, IfErr, IfOk, IsTrue, len
 ghost use Rattle.eco_ids.specs.declared.refusal.Refusal.TheVariants.{OutOfMemory};
 ghost use Rattle.eco_ids.specs.Answer.{answer};
 ghost use Rattle.eco_ids.specs.Names.{lookup};
-ghost use Rattle.eco_grammar.specs.Grammar.{SpellsQuery};
+ghost use Rattle.eco_scan.specs.Grammar.{SpellsQuery};
 ghost use Rattle.eco_grammar.specs.Readings.{ReadsInMemory, query_of};
 ghost use Rattle.eco_answers.specs.Answers.{asked};
 ghost use Rattle.eco_world.specs.Queries.{may_query, result_of};

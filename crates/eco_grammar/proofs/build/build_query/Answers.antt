@@ -2,18 +2,17 @@ use Rattle.eco_ids.proofs.Common.{◌≡◌, List, [], Ok, Err, sym, refl, ap, �
 use Rattle.std.proofs.lemmas.Result.{err_from_is_err_and}
 use Rattle.eco_ids.specs.declared.refusal.Refusal.{Refusal}
 use Rattle.eco_query.specs.Queries.{QuerySlot}
-use Rattle.eco_grammar.specs.Reader.Points.{atom_view}
 use Rattle.eco_grammar.specs.Readings.{slots_of_written}
-use Rattle.eco_grammar.specs.Reader.Marks.{slots_from}
-use Rattle.eco_grammar.specs.declared.point.Mark.TheVariants.{Other, Slot}
-use Rattle.eco_grammar.specs.Reader.LastTerms.{last_of}
-use Rattle.eco_grammar.proofs.Stored.{some_of, some_of-more}
-use Rattle.eco_grammar.proofs.Built.{standing_first, standing_at, standing_end, atom_proper, last_proper}
+use Rattle.eco_scan.specs.Marks.{slots_from, some_of}
+use Rattle.eco_scan.specs.declared.point.Mark.TheVariants.{Other, Slot}
+use Rattle.eco_grammar.specs.LastTerms.{last_of}
+use Rattle.eco_grammar.proofs.Built.{some_of-more, standing_first, standing_at, standing_end, atom_proper, last_proper}
 use Rattle.eco_grammar.proofs.Built.{other_known, other_unknown, last_known, last_unknown, standing_left, not_same, not_begin}
 use Rattle.eco_grammar.proofs.Kept.{first_kept, id_kept, slot_kept, query_kept}
 use Rattle.eco_grammar.proofs.build.build_query.Goals.{in-Same, in-Begin, in-Other+in_ok-id-in-Other+in_ok-push-in-Other}
 use Rattle.eco_grammar.proofs.build.build_query.Goals.{in-Slot+in_ok-last-in-Slot+in_ok-add_slot-in-Slot}
 use Rattle.eco_grammar.proofs.build.build_query.Goals as goal
+use Rattle.eco_scan.specs.Views.{atom_view}
 
 pub returns-in_err-id-in-Other : goal.returns-in_err-id-in-Other
 returns-in_err-id-in-Other g c =
@@ -22,7 +21,7 @@ returns-in_err-id-in-Other g c =
     s c.loop-mark-test.true c.in-Other.is in
     let unknown : slots_of_written (g.N.Names.entity_named c.args.names.now) (slots_from [] c.args.marks.now) ≡ Err c.in_err-id-in-Other.field-0.0 =
     other_unknown _ c.args.marks.now xs _ _ c.in-Other.field-0 c.in-Other.atom c.in_err-id-in-Other.field-0.0 _ here
-    (sym c.id.ensures ∙ c.in_err-id-in-Other.was) in
+    (sym c.id_of_atom.ensures ∙ c.in_err-id-in-Other.was) in
     let p = err_from_is_err_and c.from_residual.result c.from_residual.ensures.1 in
     inr (p.1 ∙ ap (λ (e : Refusal). Err e) p.2 ∙ sym unknown)
 
@@ -48,8 +47,8 @@ returns-in_err-add_slot-in-Slot g c =
     let p = err_from_is_err_and c.from_residual-in_err-add_slot-in-Slot.result c.from_residual-in_err-add_slot-in-Slot.ensures.1 in
     inl (p.1 ∙ ap (λ (e : Refusal). Err e) (p.2 ∙ c.in_err-add_slot-in-Slot.ensures.memory))
 
-pub id-requires : goal.id-requires
-id-requires g c =
+pub id_of_atom-requires : goal.id_of_atom-requires
+id_of_atom-requires g c =
     let (xs, same, s, r) = c.loop-mark.invariant in
     atom_proper (g.N.Names.entity_named c.args.names.now) c.args.marks.now xs _ _ c.in-Other.field-0 c.in-Other.atom _
     (standing_at _ c.args.marks.now xs _ _ c.loop-mark.mark-index (Other c.in-Other.field-0 c.in-Other.atom) s c.loop-mark-test.true c.in-Other.is)
@@ -94,7 +93,7 @@ loop-mark-preserved g c =
           let here = standing_at (g.N.Names.entity_named c.args.names.now) c.args.marks.now xs _ _ c.loop-mark.mark-index
           (Other w.in-Other.field-0 w.in-Other.atom) s c.loop-mark-test.true w.in-Other.is in
           let known = other_known _ c.args.marks.now xs _ _ w.in-Other.field-0 w.in-Other.atom w.in_ok-id-in-Other.id _ here
-          (sym w.id.ensures ∙ w.in_ok-id-in-Other.was) in (
+          (sym w.id_of_atom.ensures ∙ w.in_ok-id-in-Other.was) in (
             _,
             some_of-more xs (atom_view w.in-Other.atom) ∙ sym w.grouped-is,
             rw (w.slots-is, w.group-is, w.in_ok-push-in-Other.ensures.items) known,

@@ -1,17 +1,19 @@
-use Rattle.eco_grammar.specs.Reader.Machine.{EndsWith, Stops, id_start}
-use Rattle.eco_grammar.specs.Reader.Points.{atom_view}
-use Rattle.eco_grammar.proofs.Spelled.{id_ended, id_proper, id_answered, id_refused}
+use Rattle.eco_ids.proofs.Common.{refl, inl, inr}
+use Rattle.eco_scan.specs.Faults.{IsFault, IsSpelled}
+use Rattle.eco_scan.specs.Grammar.{SpellsId}
+use Rattle.eco_scan.specs.Views.{atom_view}
+use Rattle.eco_grammar.proofs.Spelled.{id_proper}
 use Rattle.eco_grammar.proofs.read.read_id.Goals as goal
 
-pub id-requires : goal.id-requires
-id-requires g c = id_proper _ (atom_view c.in-Ok.atom) (id_ended _ (atom_view c.in-Ok.atom) c.in-Ok.ensures.found)
+pub id_of_atom-requires : goal.id_of_atom-requires
+id_of_atom-requires g c = id_proper _ (atom_view c.in-Ok.atom) c.in-Ok.ensures.found
 
 pub returns-in-Ok : goal.returns-in-Ok
 returns-in-Ok g c =
-    let ends : EndsWith id_start c.args.text.now (atom_view c.in-Ok.atom) = rw c.as_bytes.ensures.value at c.in-Ok.ensures.found in
-    rw c.id.ensures (id_answered _ c.args.text.now (atom_view c.in-Ok.atom) ends)
+    let spelled : SpellsId c.args.text.now (atom_view c.in-Ok.atom) = rw c.as_bytes.ensures.value at c.in-Ok.ensures.found in
+    rw c.id_of_atom.ensures (inl (atom_view c.in-Ok.atom, spelled, refl))
 
 pub returns-in-Err : goal.returns-in-Err
 returns-in-Err g c =
-    let stops : Stops id_start c.args.text.now c.in-Err.at = rw c.as_bytes.ensures.value at c.in-Err.ensures.fault in
-    id_refused _ c.args.text.now c.in-Err.at stops
+    let fault : IsFault (IsSpelled SpellsId) c.args.text.now c.in-Err.at = rw c.as_bytes.ensures.value at c.in-Err.ensures.fault in
+    inr (c.in-Err.at, fault, refl)

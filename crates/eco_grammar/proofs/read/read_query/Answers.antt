@@ -1,14 +1,14 @@
 use Rattle.eco_ids.proofs.Common.{refl, subst, inl, inr, Some}
-use Rattle.eco_grammar.specs.Reader.Machine.{Stops, query_start}
-use Rattle.eco_grammar.specs.Reader.Marks.{HoldsSlots}
-use Rattle.eco_grammar.proofs.Spelled.{query_fault}
+use Rattle.eco_scan.specs.Faults.{IsFault, IsSpelled}
+use Rattle.eco_scan.specs.Grammar.{SpellsQuery}
+use Rattle.eco_scan.specs.Marks.{HoldsSlots}
 use Rattle.eco_grammar.proofs.Queried.{held_answered, held_few, held_over, held_proper}
 use Rattle.eco_grammar.proofs.read.read_query.Goals as goal
 
 pub returns-in-Err : goal.returns-in-Err
 returns-in-Err g c =
-    let stops : Stops query_start c.args.text.now c.in-Err.at = rw c.as_bytes.ensures.value at c.in-Err.ensures.fault in
-    inl (inr (c.in-Err.at, query_fault c.args.text.now c.in-Err.at stops, refl))
+    let fault : IsFault (IsSpelled SpellsQuery) c.args.text.now c.in-Err.at = rw c.as_bytes.ensures.value at c.in-Err.ensures.fault in
+    inl (inr (c.in-Err.at, fault, refl))
 
 pub returns-in_default : goal.returns-in_default
 returns-in_default g c =

@@ -1,6 +1,0 @@
--- The reader's own machine. Contracts of private functions alone speak of it: that it reads exactly the
--- grammar is proved.
-pub mod LastTerms
-pub mod Machine
-pub mod Marks
-pub mod Points

@@ -1,0 +1,14 @@
+pub mod ByteTests
+pub mod Fault
+pub mod Fronts
+pub mod Live
+pub mod Loops
+pub mod Readable
+pub mod Rest
+pub mod Rows
+pub mod Runs
+pub mod Skipped
+pub mod Spelled
+pub mod Stored
+pub mod Stuck
+pub mod Tokens

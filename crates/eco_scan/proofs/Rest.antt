@@ -5,7 +5,8 @@ use Rattle.eco_ids.proofs.Common.{length-append, ltb-true, lt-ltb, list_all, con
 use Rattle.eco_scan.proofs.ByteTests.{name_parts, name_of_parts}
 use Rattle.std.proofs.lemmas.Bool.{and_from, and_parts}
 use Rattle.eco_scan.specs.Tokens.{name, handle, is_white, is_digit}
-use Rattle.eco_scan.specs.Reader.Machine.{with_digit, is_lone, Before, Role, whole, first, second, sole, takes_wildcard, Spot, slot, word, shut, body, atom, part}
+use Rattle.eco_scan.specs.Reader.Machine.{with_digit, is_lone, Before, Role, whole, first, second, sole, takes_wildcard, Spot, slot, word, shut, body, atom}
+use Rattle.eco_scan.specs.Reader.Machine.{part}
 use Rattle.eco_scan.specs.Reader.Machine.{behind, after, Point, at, letters, bar, name_of, hash, index, dot, generation, slots_with, others_with}
 use Rattle.eco_scan.specs.Reader.Machine.{begun, part_of_word, is_front, access_of, part_or, atom_or, body_or, comma, behind_atom, enter, move_at, move}
 use Rattle.eco_scan.specs.Grammar.{WrittenPart, named, each, any, WrittenAtom, single, pair, WrittenBody, absent, optional, alternatives, WrittenSlot, IsTok}

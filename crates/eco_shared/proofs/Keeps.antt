@@ -15,7 +15,8 @@ use Rattle.eco_shared.specs.Sharing.{shown_world, history, shown_state, knows, n
 off : false ≡ true → ⊥
 off e = true≢false (sym e)
 
-pub after_push : (w : WorldState) (ms : List Merge) (mid : WorldState) (m : Merge) (new : WorldState) → IsAfter w ms mid → IsMerged mid m new → IsAfter w (ms ++ m ∷ []) new
+pub after_push : (w : WorldState) (ms : List Merge) (mid : WorldState) (m : Merge) (new : WorldState) → IsAfter w ms mid → IsMerged mid m new → IsAfter w
+    (ms ++ m ∷ []) new
 after_push w [] mid m new h one = (new, subst (λ v. IsMerged v m new) h one, refl)
 after_push w (x ∷ ms) mid m new h one = (h.0, h.1, after_push h.0 ms mid m new h.2 one)
 
@@ -79,5 +80,6 @@ forks by v s views h at j u e k =
 -- a viewer takes in what another view knows
 pub merges : (by : ℕ) (v : Knows) (other : ℕ) (u : Knows) → Merges Kept by v other u u nothing
 merges by v other u s views h at apart there =
-    let was : get_elem? views other ≡ some u = ⊎_elim (λ (x : (other ≡ by) × (u ≡ u)). absurd (apart x.0)) (λ (x : (other ≢ by) × (get_elem? views other ≡ some u)). x.1) (at_set views by other u u there) in
+    let was : get_elem? views other ≡ some u = ⊎_elim (λ (x : (other ≡ by) × (u ≡ u)). absurd (apart x.0))
+    (λ (x : (other ≢ by) × (get_elem? views other ≡ some u)). x.1) (at_set views by other u u there) in
     kept_set s (set views by u) other nothing (λ k. absurd (off k)) (kept_set s views by u (h other u was) h)

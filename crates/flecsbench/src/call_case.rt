@@ -35,7 +35,6 @@ pub struct CallCase(&'static str, &'static [u32], u32, Start, Calls);
 
 /// All cases of single calls, in the order of their lines.
 pub const CALL_CASES: &[CallCase] = &[
-    CallCase("hash_insert", EACH, 1, Start::Nothing, Calls::InsertNumbers),
     CallCase("create", EACH, 1, Start::Nothing, Calls::Create),
     CallCase("delete", EACH, 1, Start::LackTag, Calls::Delete),
     CallCase("create_again", EACH, 1, Start::Freed, Calls::Create),

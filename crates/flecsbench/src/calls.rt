@@ -3,8 +3,6 @@
 /// Calls whose time is measured. Those of a setting's work go through it in order.
 #[derive(Clone, Copy)]
 pub enum Calls {
-    /// So many inserts into a hash map of std: the yardstick for the others.
-    InsertNumbers,
     /// So many creates of entities without a name.
     Create,
     /// A create with each of the names.

@@ -1,18 +1,9 @@
-//! Calls of a world or of a stage, one for each entity of some work at its turn, and what yardsticks do so often.
+//! Calls of a world or of a stage, one for each entity of some work at its turn, and what the yardstick does so often.
 use crate::work::Work;
 use eco_bodies::record_command;
 use eco_ids::{Entity, Id, Refusal, Value};
 use eco_world::{Command, Query, Stage, Values, World};
 use std::alloc::Global;
-use std::collections::HashMap;
-
-/// Inserts so many numbers.
-pub fn insert_each(numbers: &mut HashMap<u32, u32>, count: u32) -> Result<(), Refusal> {
-    for number in 0..count {
-        numbers.insert(number, number)?;
-    }
-    Ok(())
-}
 
 /// Makes so many entities.
 pub fn create_each(world: &mut World, count: u32) -> Result<(), Refusal> {

@@ -1,8 +1,8 @@
 //! The worlds that cases are about.
 use crate::calls::Calls;
 use crate::each::{
-    add_each, count_each, create_each, create_named_each, delete_each, insert_each, record_each,
-    record_life, remove_each, set_each, sum_each, sum_first, sum_tables, toggle_each,
+    add_each, count_each, create_each, create_named_each, delete_each, record_each, record_life,
+    remove_each, set_each, sum_each, sum_first, sum_tables, toggle_each,
 };
 use crate::group::{Group, Ids};
 use crate::setup::Pick;
@@ -10,7 +10,6 @@ use crate::work::Work;
 use eco_ids::{Edition, Id, Refusal, Value};
 use eco_world::{Query, QueryId, Results, Stage, World};
 use std::alloc::Global;
-use std::collections::HashMap;
 
 /// All indices of a world lie below it.
 pub const LIMIT: u32 = 1_048_576;
@@ -27,8 +26,7 @@ pub struct Setting {
     kept: Option<QueryId>,
     // What the query has found; like the world, it is given up once the time was taken.
     results: Option<Results>,
-    // What the yardsticks fill and go through. They have nothing to do with the world.
-    numbers: HashMap<u32, u32>,
+    // What the yardstick goes through. It has nothing to do with the world.
     rows: Vec<[i64; 2]>,
     // What entities are to be called.
     names: Vec<String>,
@@ -50,7 +48,6 @@ impl Drop for Setting {
             query: _,
             kept: _,
             results: _,
-            numbers: _,
             rows: _,
             names: _,
             stages: _,
@@ -77,7 +74,6 @@ impl Setting {
             query: None,
             kept: None,
             results: None,
-            numbers: HashMap::new(alloc),
             rows: Vec::new(alloc),
             names: Vec::new(alloc),
             stages: [Stage::new(alloc)],
@@ -95,7 +91,6 @@ impl Setting {
     /// Makes the calls, and answers whether they found what was put in.
     pub fn call(&mut self, calls: Calls, size: u32) -> Result<bool, Refusal> {
         match calls {
-            Calls::InsertNumbers => self.insert_numbers(size),
             Calls::Create => is_done(create_each(&mut self.world, size)),
             Calls::CreateNamed => is_done(create_named_each(&mut self.world, &self.names)),
             Calls::Add => is_done(self.add()),
@@ -334,11 +329,5 @@ impl Setting {
         let is_right = copy.high() == self.world.high();
         self.copy = Some(copy);
         Ok(is_right)
-    }
-
-    // Inserts so many numbers into a map, and answers whether all of them are in it.
-    fn insert_numbers(&mut self, count: u32) -> Result<bool, Refusal> {
-        insert_each(&mut self.numbers, count)?;
-        Ok(self.numbers.len() == count as usize)
     }
 }

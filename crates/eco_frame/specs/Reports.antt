@@ -1,7 +1,7 @@
 -- What a frame reports.
 use Rattle.std.specs.Prelude.{◌≡◌, ℕ, ◌+◌, List, [], ◌∷◌, length, Result, Ok, Err}
 use Rattle.eco_ids.specs.World.{WorldState}
-use Rattle.eco_systems.specs.Frames.{BatchDraws, Goes, GoesSoFar, FrameOutcomes, all_drawn}
+use Rattle.eco_systems.specs.Frames.{AscendingRuns, BatchDraws, BatchRuns, BatchRunsSolo, FrameOutcomes, Goes, GoesSoFar, all_drawn}
 use Rattle.eco_systems.specs.Systems.{SystemModel}
 use Rattle.eco_frame.specs.declared.stop.FrameStop.{FrameStop}
 
@@ -23,3 +23,12 @@ module _ (Way : WorldState → List SystemModel → BatchDraws → FrameOutcomes
       (draws : List BatchDraws) × Goes Way w systems draws r.outcomes new × (r.batches ≡ length draws) × (r.drawn ≡ drawn_in draws)
   Frames w systems (Err s) new =
       (draws : List BatchDraws) × (outcomes : FrameOutcomes) × GoesSoFar Way w systems draws outcomes new × (s.batches ≡ length draws)
+
+-- a frame of systems by so many workers, and its report, in each of the ways in which it may be read
+pub record IsFrameBy (workers : ℕ) (w : WorldState) (systems : List SystemModel) (result : Result FrameDone FrameStop) (new : WorldState) : Type 0 where
+  -- its batches are recorded and merged, one after another
+  pub batches : Frames BatchRuns w systems result new
+  -- one worker draws the handles in the order of the rows
+  pub alone : workers ≡ 1 → Frames AscendingRuns w systems result new
+  -- the systems run one by one
+  pub solo : Frames BatchRunsSolo w systems result new

@@ -1,13 +1,12 @@
 //! Frames: all batches of a list of systems, one after another.
-ghost use Rattle.std.specs.Prelude.{◌≡◌, ◌<◌, ◌≤◌, [], length, map, take, vec_capacity, vec_len, Err, IfErr, OnErr, OnOk};
+ghost use Rattle.std.specs.Prelude.{◌≡◌, ◌<◌, ◌≤◌, [], ℕ, length, map, take, vec_capacity, vec_len, Err, IfErr, OnErr, OnOk};
 ghost use Rattle.std.specs.List.{All, AllByRecursion};
 ghost use Rattle.eco_ids.specs.declared.refusal.Refusal.TheVariants.{NoMoreIds, OutOfMemory};
-ghost use Rattle.eco_systems.specs.Frames.{AscendingRuns, BatchRuns, BatchRunsSolo};
 ghost use Rattle.eco_systems.specs.Systems.{IsLawfulSystem};
 ghost use Rattle.eco_stages.specs.Taking.{IsStopped};
 ghost use Rattle.eco_frame.specs.Models.{ArePlaced, model_at, model_of};
 ghost use Rattle.eco_frame.specs.Progresses.{HaveRun};
-ghost use Rattle.eco_frame.specs.Reports.{Frames};
+ghost use Rattle.eco_frame.specs.Reports.{IsFrameBy};
 ghost use Rattle.eco_frame.specs.Stops.{IsNextOut, IsWhy};
 
 use crate::batch::run_next;
@@ -34,13 +33,7 @@ pub(crate) fn are_lawful<B: SystemBody>(systems: &[System<B>])
 
 // Nothing was done of a frame: memory was wanting before its first batch.
 pub(crate) fn stop_at_once<B: SystemBody>(world: &World, systems: &Systems<B>) -> FrameStop
-    ensures frame { Frames BatchRuns world.now
-        (map (model_of B.reads_of B.writes_of B.kills_of B.taken B.commands) systems.now)
-        (Err result) world.now }
-    ensures alone { Frames AscendingRuns world.now
-        (map (model_of B.reads_of B.writes_of B.kills_of B.taken B.commands) systems.now)
-        (Err result) world.now }
-    ensures solo { Frames BatchRunsSolo world.now
+    ensures frame { (workers : ℕ) → IsFrameBy workers world.now
         (map (model_of B.reads_of B.writes_of B.kills_of B.taken B.commands) systems.now)
         (Err result) world.now }
     ensures why { result.refusal ≡ OutOfMemory }
@@ -98,11 +91,7 @@ pub(crate) fn run_batches<B: SystemBody + Sync + Drop, R: Threads + Sync>(
     requires placed { ArePlaced world.old
         (map (model_of B.reads_of B.writes_of B.kills_of B.taken B.commands) systems.now)
         (map (λ b. b.items) batches.now) }
-    ensures frame { Frames BatchRuns world.old
-        (map (model_of B.reads_of B.writes_of B.kills_of B.taken B.commands) systems.now) result world.new }
-    ensures alone { workers ≡ 1 → Frames AscendingRuns world.old
-        (map (model_of B.reads_of B.writes_of B.kills_of B.taken B.commands) systems.now) result world.new }
-    ensures solo { Frames BatchRunsSolo world.old
+    ensures frame { IsFrameBy workers world.old
         (map (model_of B.reads_of B.writes_of B.kills_of B.taken B.commands) systems.now) result world.new }
     ensures why { IfErr result (λ stop. IsWhy B.taken B.commands
         (model_of B.reads_of B.writes_of B.kills_of B.taken B.commands)
@@ -150,11 +139,7 @@ pub fn run_frame<B: SystemBody + Sync + Drop, R: Threads + Sync>(
     workers: u32,
 ) -> Result<FrameReport, FrameStop>
     requires workers { (1 ≤ workers) × (workers ≤ 64) }
-    ensures frame { Frames BatchRuns world.old
-        (map (model_of B.reads_of B.writes_of B.kills_of B.taken B.commands) systems.now) result world.new }
-    ensures alone { workers ≡ 1 → Frames AscendingRuns world.old
-        (map (model_of B.reads_of B.writes_of B.kills_of B.taken B.commands) systems.now) result world.new }
-    ensures solo { Frames BatchRunsSolo world.old
+    ensures frame { IsFrameBy workers world.old
         (map (model_of B.reads_of B.writes_of B.kills_of B.taken B.commands) systems.now) result world.new }
     ensures why { IfErr result (λ stop. IsWhy B.taken B.commands
         (model_of B.reads_of B.writes_of B.kills_of B.taken B.commands)

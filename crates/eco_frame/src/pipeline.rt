@@ -1,10 +1,9 @@
 //! Listed systems with their batches, which are kept from frame to frame.
 ghost use Rattle.std.specs.Prelude.{◌≡◌, ◌≤◌, map, IfErr, IfOk, OnOk};
 ghost use Rattle.eco_batches.specs.Plans.{batches_in};
-ghost use Rattle.eco_systems.specs.Frames.{AscendingRuns, BatchRuns, BatchRunsSolo};
 ghost use Rattle.eco_frame.specs.Models.{ArePlaced, model_of};
 ghost use Rattle.eco_frame.specs.Pipelines.{IsPlanOf};
-ghost use Rattle.eco_frame.specs.Reports.{Frames};
+ghost use Rattle.eco_frame.specs.Reports.{IsFrameBy};
 ghost use Rattle.eco_frame.specs.Stops.{IsWhy};
 
 use crate::frame::{run_batches, stop_at_once};
@@ -102,11 +101,7 @@ impl<'a, B: SystemBody + Sync + Drop> Pipeline<'a, B> {
     ) -> Result<FrameReport, FrameStop>
         requires workers { (1 ≤ workers) × (workers ≤ 64) }
         ensures systems { self.new ≡ self.old }
-        ensures frame { Frames BatchRuns world.old
-            (map (model_of B.reads_of B.writes_of B.kills_of B.taken B.commands) self.old) result world.new }
-        ensures alone { workers ≡ 1 → Frames AscendingRuns world.old
-            (map (model_of B.reads_of B.writes_of B.kills_of B.taken B.commands) self.old) result world.new }
-        ensures solo { Frames BatchRunsSolo world.old
+        ensures frame { IsFrameBy workers world.old
             (map (model_of B.reads_of B.writes_of B.kills_of B.taken B.commands) self.old) result world.new }
         ensures why { IfErr result (λ stop. IsWhy B.taken B.commands
             (model_of B.reads_of B.writes_of B.kills_of B.taken B.commands)

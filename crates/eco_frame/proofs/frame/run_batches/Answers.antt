@@ -7,7 +7,7 @@ use Rattle.eco_systems.specs.Systems.{IsLawfulSystem, SystemModel}
 use Rattle.eco_frame.specs.Models.{model_of}
 use Rattle.eco_frame.specs.Stops.{IsNextOut, IsWhy}
 use Rattle.eco_frame.specs.declared.stop.FrameStop.{FrameStop}
-use Rattle.eco_frame.proofs.Ran.{alone_of, frame_of, solo_of, stopped_frame, whole_frame}
+use Rattle.eco_frame.proofs.Ran.{frame_by, stopped_frame, whole_frame}
 use Rattle.eco_frame.proofs.Within.{batches_within}
 use Rattle.eco_frame.proofs.frame.run_batches.Goals as goal
 
@@ -18,6 +18,9 @@ run_all-requires-clause-places g c κs within =
     let systems = map f c.args.systems.now in
     batches_within (λ v. v.items) systems (in_order systems) (order_of systems) c.args.batches.now c.requires.placed.0
     (c.systems_are_ordered.ensures.order systems) (length c.as_slice-2.result.now) (length-map c.args.systems.now f ∙ ap length (sym c.as_slice-2.ensures))
+
+pub returns-in_default-clause-frame : goal.returns-in_default-clause-frame
+returns-in_default-clause-frame g c = c.stop_at_once.ensures.frame c.args.workers
 
 pub returns-in-Ok-run_all-clause-frame : goal.returns-in-Ok-run_all-clause-frame
 returns-in-Ok-run_all-clause-frame g c =
@@ -30,36 +33,9 @@ returns-in-Ok-run_all-clause-frame g c =
     let ran = whole_frame c.args.workers w new f (λ v. v.items) c.as_slice-2.result.now systems c.args.batches.now c.args.batches.now p
     c.as_slice-2.ensures refl c.requires.placed (vec_len p.reports) c.in-Ok-run_all.ensures.so_far c.in-Ok-run_all.ensures.all
     c.into_report.result c.into_report.ensures in
-    frame_of c.args.workers w (map f systems) (Ok c.into_report.result) new ran
-
-pub returns-in-Ok-run_all-clause-alone : goal.returns-in-Ok-run_all-clause-alone
-returns-in-Ok-run_all-clause-alone g c one =
-    let b = g.B.SystemBody in
-    let f : System g.row.B.Denot → SystemModel = model_of b.reads_of b.writes_of b.kills_of b.taken b.commands in
-    let w = c.args.world.now in
-    let new = c.run_all.new.world in
-    let systems = c.args.systems.now in
-    let p = c.run_all.new.done in
-    let ran = whole_frame c.args.workers w new f (λ v. v.items) c.as_slice-2.result.now systems c.args.batches.now c.args.batches.now p
-    c.as_slice-2.ensures refl c.requires.placed (vec_len p.reports) c.in-Ok-run_all.ensures.so_far c.in-Ok-run_all.ensures.all
-    c.into_report.result c.into_report.ensures in
-    alone_of c.args.workers w (map f systems) (Ok c.into_report.result) new ran one
-
-pub returns-in-Ok-run_all-clause-solo : goal.returns-in-Ok-run_all-clause-solo
-returns-in-Ok-run_all-clause-solo g c =
-    let b = g.B.SystemBody in
-    let f : System g.row.B.Denot → SystemModel = model_of b.reads_of b.writes_of b.kills_of b.taken b.commands in
-    let w = c.args.world.now in
-    let new = c.run_all.new.world in
-    let systems = c.args.systems.now in
-    let p = c.run_all.new.done in
-    let ran = whole_frame c.args.workers w new f (λ v. v.items) c.as_slice-2.result.now systems c.args.batches.now c.args.batches.now p
-    c.as_slice-2.ensures refl c.requires.placed (vec_len p.reports) c.in-Ok-run_all.ensures.so_far c.in-Ok-run_all.ensures.all
-    c.into_report.result c.into_report.ensures in
     let lawful = subst (λ ss. AllByRecursion IsLawfulSystem (map f ss)) c.as_slice.ensures c.are_lawful.ensures in
     let laws = c.frames_are_one_by_one.ensures in
-    solo_of laws.whole laws.stopped w (map f systems) (Ok c.into_report.result) new c.is_lawful.ensures lawful
-    (frame_of c.args.workers w (map f systems) (Ok c.into_report.result) new ran)
+    frame_by laws.whole laws.stopped c.args.workers w (map f systems) (Ok c.into_report.result) new c.is_lawful.ensures lawful ran
 
 pub returns-in-Err-clause-frame : goal.returns-in-Err-clause-frame
 returns-in-Err-clause-frame g c =
@@ -72,36 +48,9 @@ returns-in-Err-clause-frame g c =
     let stop : FrameStop = record { batches = c.len.result; refusal = c.in-Err.refusal } in
     let ran = stopped_frame c.args.workers w new f (λ v. v.items) c.as_slice-2.result.now systems c.args.batches.now c.args.batches.now p
     c.as_slice-2.ensures refl c.requires.placed (vec_len p.reports) c.in-Err.ensures.so_far stop (c.len.ensures ∙ p.reports.ok.0) c.in-Err.ensures.left in
-    frame_of c.args.workers w (map f systems) (Err stop) new ran
-
-pub returns-in-Err-clause-alone : goal.returns-in-Err-clause-alone
-returns-in-Err-clause-alone g c one =
-    let b = g.B.SystemBody in
-    let f : System g.row.B.Denot → SystemModel = model_of b.reads_of b.writes_of b.kills_of b.taken b.commands in
-    let w = c.args.world.now in
-    let new = c.run_all.new.world in
-    let systems = c.args.systems.now in
-    let p = c.run_all.new.done in
-    let stop : FrameStop = record { batches = c.len.result; refusal = c.in-Err.refusal } in
-    let ran = stopped_frame c.args.workers w new f (λ v. v.items) c.as_slice-2.result.now systems c.args.batches.now c.args.batches.now p
-    c.as_slice-2.ensures refl c.requires.placed (vec_len p.reports) c.in-Err.ensures.so_far stop (c.len.ensures ∙ p.reports.ok.0) c.in-Err.ensures.left in
-    alone_of c.args.workers w (map f systems) (Err stop) new ran one
-
-pub returns-in-Err-clause-solo : goal.returns-in-Err-clause-solo
-returns-in-Err-clause-solo g c =
-    let b = g.B.SystemBody in
-    let f : System g.row.B.Denot → SystemModel = model_of b.reads_of b.writes_of b.kills_of b.taken b.commands in
-    let w = c.args.world.now in
-    let new = c.run_all.new.world in
-    let systems = c.args.systems.now in
-    let p = c.run_all.new.done in
-    let stop : FrameStop = record { batches = c.len.result; refusal = c.in-Err.refusal } in
-    let ran = stopped_frame c.args.workers w new f (λ v. v.items) c.as_slice-2.result.now systems c.args.batches.now c.args.batches.now p
-    c.as_slice-2.ensures refl c.requires.placed (vec_len p.reports) c.in-Err.ensures.so_far stop (c.len.ensures ∙ p.reports.ok.0) c.in-Err.ensures.left in
     let lawful = subst (λ ss. AllByRecursion IsLawfulSystem (map f ss)) c.as_slice.ensures c.are_lawful.ensures in
     let laws = c.frames_are_one_by_one.ensures in
-    solo_of laws.whole laws.stopped w (map f systems) (Err stop) new c.is_lawful.ensures lawful
-    (frame_of c.args.workers w (map f systems) (Err stop) new ran)
+    frame_by laws.whole laws.stopped c.args.workers w (map f systems) (Err stop) new c.is_lawful.ensures lawful ran
 
 pub returns-in-Err-clause-why : goal.returns-in-Err-clause-why
 returns-in-Err-clause-why g c =

@@ -1,33 +1,16 @@
 use Rattle.std.proofs.Common.{map, refl}
 use Rattle.eco_ids.specs.declared.refusal.Refusal.TheVariants.{OutOfMemory}
 use Rattle.eco_bodies.specs.declared.systems.System.{System}
-use Rattle.eco_systems.specs.Frames.{AscendingRuns, BatchRuns, BatchRunsSolo}
 use Rattle.eco_systems.specs.Phases.{in_order}
 use Rattle.eco_systems.specs.Systems.{SystemModel}
 use Rattle.eco_frame.specs.Models.{model_of}
-use Rattle.eco_frame.proofs.Ran.{stopped_at_once}
+use Rattle.eco_frame.proofs.Ran.{frame_stopped_at_once}
 use Rattle.eco_frame.proofs.frame.stop_at_once.Goals as goal
 
 pub returns-clause-frame : goal.returns-clause-frame
-returns-clause-frame g c =
+returns-clause-frame g c workers =
     let b = g.B.SystemBody in
     let f : System g.row.B.Denot → SystemModel = model_of b.reads_of b.writes_of b.kills_of b.taken b.commands in
     let systems = map f c.args.systems.now in
     let cut = c.batches_are_unique.ensures.exist c.args.world.now (in_order systems) c.is_lawful.ensures in
-    stopped_at_once BatchRuns c.args.world.now systems cut.0 cut.1 (record { batches = 0; refusal = OutOfMemory }) refl
-
-pub returns-clause-alone : goal.returns-clause-alone
-returns-clause-alone g c =
-    let b = g.B.SystemBody in
-    let f : System g.row.B.Denot → SystemModel = model_of b.reads_of b.writes_of b.kills_of b.taken b.commands in
-    let systems = map f c.args.systems.now in
-    let cut = c.batches_are_unique.ensures.exist c.args.world.now (in_order systems) c.is_lawful.ensures in
-    stopped_at_once AscendingRuns c.args.world.now systems cut.0 cut.1 (record { batches = 0; refusal = OutOfMemory }) refl
-
-pub returns-clause-solo : goal.returns-clause-solo
-returns-clause-solo g c =
-    let b = g.B.SystemBody in
-    let f : System g.row.B.Denot → SystemModel = model_of b.reads_of b.writes_of b.kills_of b.taken b.commands in
-    let systems = map f c.args.systems.now in
-    let cut = c.batches_are_unique.ensures.exist c.args.world.now (in_order systems) c.is_lawful.ensures in
-    stopped_at_once BatchRunsSolo c.args.world.now systems cut.0 cut.1 (record { batches = 0; refusal = OutOfMemory }) refl
+    frame_stopped_at_once workers c.args.world.now systems cut.0 cut.1 (record { batches = 0; refusal = OutOfMemory }) refl

@@ -13,7 +13,6 @@ use Rattle.eco_ids.specs.Outcome.{is_out_of_memory}
 use Rattle.eco_ids.specs.World.{WorldState}
 use Rattle.eco_query.specs.Queries.{QuerySlot}
 use Rattle.eco_systems.specs.declared.phase.Phase.{Phase}
-use Rattle.eco_systems.specs.Frames.{BatchRuns}
 use Rattle.eco_bodies.specs.Actions.{first_action_refusal, is_kill, script_writes}
 use Rattle.eco_bodies.specs.Added.{IsAdded, add_refusal, has_system_named}
 use Rattle.eco_bodies.specs.Bodies.{system_with}
@@ -21,7 +20,7 @@ use Rattle.eco_bodies.specs.Scripts.{script_commands, script_taken}
 use Rattle.eco_bodies.specs.declared.action.Action.{Action}
 use Rattle.eco_bodies.specs.declared.script.Script.{Script}
 use Rattle.eco_bodies.specs.declared.systems.System.{System}
-use Rattle.eco_frame.specs.Reports.{FrameDone, Frames}
+use Rattle.eco_frame.specs.Reports.{FrameDone, IsFrameBy}
 use Rattle.eco_frame.specs.Stops.{IsWhy}
 use Rattle.eco_frame.specs.declared.stop.FrameStop.{FrameStop}
 use Rattle.eco_steps.specs.Actions as texts
@@ -150,8 +149,8 @@ models_so [] = refl
 models_so (s ∷ ss) = ap (λ ms. model_by s ∷ ms) (models_so ss)
 
 -- a frame of the systems that are kept is one of those that were declared
-pub frame_runs : (w new : WorldState) (systems : List (System Script)) (x : Result FrameDone FrameStop)
-    → Frames BatchRuns w (map model_by systems) x new → IfErr x (λ stop. IsWhy handles_taken recorded_by model_by w systems stop new)
-    → StepReplies (reached w systems) step.frame (Ok (frame_reply x)) (reached new systems)
-frame_runs w new systems (Ok r) runs why = (Ok r, inl (rw (models_so systems) runs, why, refl), refl)
-frame_runs w new systems (Err stop) runs why = (Err stop, inl (rw (models_so systems) runs, (systems, refl, why), refl), refl)
+pub frame_runs : (workers : ℕ) (w new : WorldState) (systems : List (System Script)) (x : Result FrameDone FrameStop)
+    → IsFrameBy workers w (map model_by systems) x new → IfErr x (λ stop. IsWhy handles_taken recorded_by model_by w systems stop new)
+    → StepReplies workers (reached w systems) step.frame (Ok (frame_reply x)) (reached new systems)
+frame_runs workers w new systems (Ok r) runs why = (Ok r, inl (rw (models_so systems) runs, why, refl), refl)
+frame_runs workers w new systems (Err stop) runs why = (Err stop, inl (rw (models_so systems) runs, (systems, refl, why), refl), refl)

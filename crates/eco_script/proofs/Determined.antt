@@ -321,26 +321,28 @@ module _ (l : Laws) (s : ScriptState) where
   world_once t r q new other f g (p, a) (h, b) =
       let (same, end) = replies_once l s.world t r q new.world other.world f g p h in (same, same_state new other end (a ∙ sym b))
 
-  step_once : (t : step.WrittenStep) → IsFalse (is_frame t) → OnceInMemory (StepReplies s t)
-  step_once (step.system name phase text acts) plain = plainly _ (declares_once name phase text acts)
-  step_once step.frame plain = absurd (true≢false plain)
-  step_once t plain = world_once t
+  step_once : (m n : ℕ) (t : step.WrittenStep) → IsFalse (is_frame t) → (r q : Result Reply Refusal) (new other : ScriptState) → IsFalse (has_wanted r)
+      → IsFalse (has_wanted q) → StepReplies m s t r new → StepReplies n s t q other → (r ≡ q) × (new ≡ other)
+  step_once m n (step.system name phase text acts) plain = plainly _ (declares_once name phase text acts)
+  step_once m n step.frame plain = absurd (true≢false plain)
+  step_once m n t plain = world_once t
 
-  does_once : (t : step.WrittenStep) (a b : List ℕ) (m n : ScriptState) → IsFalse (is_frame t) → DoesInMemory s t a m → DoesInMemory s t b n
-      → (a ≡ b) × (m ≡ n)
-  does_once t a b m n plain (r, p, f, e) (q, h, g, k) =
-      let (same, end) = step_once t plain r q m n f g p h in
+  does_once : (x y : ℕ) (t : step.WrittenStep) (a b : List ℕ) (m n : ScriptState) → IsFalse (is_frame t) → DoesInMemory x s t a m
+      → DoesInMemory y s t b n → (a ≡ b) × (m ≡ n)
+  does_once x y t a b m n plain (r, p, f, e) (q, h, g, k) =
+      let (same, end) = step_once x y t plain r q m n f g p h in
       (e ∙ ap (λ v. step_lines v.world r) end ∙ ap (step_lines n.world) same ∙ sym k, end)
 
-pub text_once : (l : Laws) (s : ScriptState) (ss : List step.WrittenStep) (t u : List ℕ) (e f : ScriptState) → IsFalse (list_any is_frame ss)
-    → TextInMemory s ss t e → TextInMemory s ss u f → (t ≡ u) × (e ≡ f)
-text_once l s [] t u e f plain (p, q) (h, k) = (p ∙ sym h, q ∙ sym k)
-text_once l s (x ∷ xs) t u e f plain (a, rest, m, d, more, p) (b, other, n, g, less, h) =
+pub text_once : (l : Laws) (v w : ℕ) (s : ScriptState) (ss : List step.WrittenStep) (t u : List ℕ) (e f : ScriptState) → IsFalse (list_any is_frame ss)
+    → TextInMemory v s ss t e → TextInMemory w s ss u f → (t ≡ u) × (e ≡ f)
+text_once l v w s [] t u e f plain (p, q) (h, k) = (p ∙ sym h, q ∙ sym k)
+text_once l v w s (x ∷ xs) t u e f plain (a, rest, m, d, more, p) (b, other, n, g, less, h) =
     let (one, others) = or_parts (is_frame x) (list_any is_frame xs) plain in
-    let (first, mid) = does_once l s x a b m n one d g in
-    let (same, end) = text_once l m xs rest other e f others more (subst (λ v. TextInMemory v xs other f) (sym mid) less) in
+    let (first, mid) = does_once l s v w x a b m n one d g in
+    let (same, end) = text_once l v w m xs rest other e f others more (subst (λ z. TextInMemory w z xs other f) (sym mid) less) in
     (p ∙ ap (λ v. v ++ rest) first ∙ ap (λ v. b ++ v) same ∙ sym h, end)
 
-pub text_may_be : (s : ScriptState) (ss : List step.WrittenStep) (t : List ℕ) (e : ScriptState) → TextInMemory s ss t e → Text s ss t e
-text_may_be s [] t e h = h
-text_may_be s (x ∷ xs) t e (a, rest, m, (r, p, f, is), more, h) = (a, rest, m, (r, p, is), text_may_be m xs rest e more, h)
+pub text_may_be : (workers : ℕ) (s : ScriptState) (ss : List step.WrittenStep) (t : List ℕ) (e : ScriptState) → TextInMemory workers s ss t e
+    → Text workers s ss t e
+text_may_be workers s [] t e h = h
+text_may_be workers s (x ∷ xs) t e (a, rest, m, (r, p, f, is), more, h) = (a, rest, m, (r, p, is), text_may_be workers m xs rest e more, h)

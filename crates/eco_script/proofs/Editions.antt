@@ -187,10 +187,10 @@ declares_keep : (s : ScriptState) (name : List ℕ) (phase : Phase) (text : List
 declares_keep s name phase text actions r new (d, reads, says, is) = ap (λ (t : ScriptState). t.world.edition) is ∙ declared_edition s d
 
 -- a step of a script, whichever it is
-pub step_keeps : (s : step.WrittenStep) (old : ScriptState) (r : Result Reply Refusal) (new : ScriptState) → StepReplies old s r new
+pub step_keeps : (workers : ℕ) (s : step.WrittenStep) (old : ScriptState) (r : Result Reply Refusal) (new : ScriptState) → StepReplies workers old s r new
     → new.world.edition ≡ old.world.edition
-step_keeps (step.system name phase text actions) old r new h =
+step_keeps workers (step.system name phase text actions) old r new h =
     meets_keep (λ t. t.world.edition) old (Declared old name phase text actions) true (declares_keep old name phase text actions) r new h
-step_keeps step.frame old r new (x, inl h, is) = frames_keep old.world (map (λ d. d.system) old.systems) x new.world h.0
-step_keeps step.frame old r new (x, inr h, is) = ap (λ (t : ScriptState). t.world.edition) h.1
-step_keeps s old r new h = replies_keep old.world s r new.world h.0
+step_keeps workers step.frame old r new (x, inl h, is) = frames_keep old.world (map (λ d. d.system) old.systems) x new.world h.0.batches
+step_keeps workers step.frame old r new (x, inr h, is) = ap (λ (t : ScriptState). t.world.edition) h.1
+step_keeps workers s old r new h = replies_keep old.world s r new.world h.0

@@ -219,12 +219,12 @@ module _ (texts : TextsRead) where
   replies_end w (step.system name phase text actions) never = cc
   replies_end w step.frame never = cc
 
-  step_ends : (old : ScriptState) (s : step.WrittenStep) → Ends (StepReplies old s)
-  step_ends old (step.system name phase text actions) = (Err OutOfMemory, old, (refl, refl))
-  step_ends old step.frame =
+  step_ends : (workers : ℕ) (old : ScriptState) (s : step.WrittenStep) → Ends (StepReplies workers old s)
+  step_ends workers old (step.system name phase text actions) = (Err OutOfMemory, old, (refl, refl))
+  step_ends workers old step.frame =
       let stop : FrameStop = record { batches = 0; refusal = OutOfMemory } in (Ok (stopped stop), old, (Err stop, inr (refl, refl), refl))
-  step_ends old s = of_world old s (replies_end old.world s refl)
+  step_ends workers old s = of_world old s (replies_end old.world s refl)
 
   -- some lines, and some state after them
-  pub some_step : (s : step.WrittenStep) (old : ScriptState) → (t : List ℕ) × (e : ScriptState) × Does old s t e
-  some_step s old = let (r, new, p) = step_ends old s in (step_lines new.world r, new, (r, p, refl))
+  pub some_step : (workers : ℕ) (s : step.WrittenStep) (old : ScriptState) → (t : List ℕ) × (e : ScriptState) × Does workers old s t e
+  some_step workers s old = let (r, new, p) = step_ends workers old s in (step_lines new.world r, new, (r, p, refl))

@@ -11,12 +11,13 @@ abbrev pub is_frame : WrittenStep → Bool
 is_frame step.frame = true
 is_frame _ = false
 
--- where memory is never wanting, steps have one text at most, and lead to one state. Steps with a frame are left out: it is open which
--- row of a frame draws which fresh handle
+-- where memory is never wanting, steps have one text at most, and lead to one state, however many workers there are. Steps with a frame
+-- are left out: of several workers it is open which row of a frame draws which fresh handle
 abbrev pub HaveOneText : Type 0
-HaveOneText = (s : ScriptState) (steps : List WrittenStep) (t u : List ℕ) (end other : ScriptState) → IsFalse (list_any is_frame steps)
-    → TextInMemory s steps t end → TextInMemory s steps u other → (t ≡ u) × (end ≡ other)
+HaveOneText = (workers others : ℕ) (s : ScriptState) (steps : List WrittenStep) (t u : List ℕ) (end other : ScriptState)
+    → IsFalse (list_any is_frame steps) → TextInMemory workers s steps t end → TextInMemory others s steps u other → (t ≡ u) × (end ≡ other)
 
 -- and that text is one that a run may have
 abbrev pub MayBeText : Type 0
-MayBeText = (s : ScriptState) (steps : List WrittenStep) (text : List ℕ) (end : ScriptState) → TextInMemory s steps text end → Text s steps text end
+MayBeText = (workers : ℕ) (s : ScriptState) (steps : List WrittenStep) (text : List ℕ) (end : ScriptState)
+    → TextInMemory workers s steps text end → Text workers s steps text end

@@ -18,11 +18,10 @@ use Rattle.eco_stages.specs.Outcomes.{Outcomes}
 use Rattle.eco_world.specs.Merging.{Merges, may_merge}
 use Rattle.eco_world.specs.Queries.{may_query}
 use Rattle.eco_systems.specs.declared.phase.Phase.{Phase}
-use Rattle.eco_systems.specs.Frames.{BatchRuns}
 use Rattle.eco_bodies.specs.Actions.{first_action_refusal}
 use Rattle.eco_bodies.specs.declared.script.Script.{Script}
 use Rattle.eco_bodies.specs.declared.systems.System.{System}
-use Rattle.eco_frame.specs.Reports.{FrameDone, Frames}
+use Rattle.eco_frame.specs.Reports.{FrameDone, IsFrameBy}
 use Rattle.eco_frame.specs.Stops.{IsWhy}
 use Rattle.eco_frame.specs.declared.stop.FrameStop.{FrameStop}
 use Rattle.eco_script.specs.Recording.{ReadsActions, ReadsChange, ReadsCommands, has_stages}
@@ -143,10 +142,10 @@ abbrev pub IsWhyStopped : ScriptState → FrameStop → ScriptState → Type 0
 IsWhyStopped s stop new =
     (listed : List (System Script)) × (map named listed ≡ s.systems) × IsWhy handles_taken recorded_by model_by s.world listed stop new.world
 
--- a frame of the systems runs, to its end or to a stop; systems are as they were
-abbrev pub RunsFrame : ScriptState → Result FrameDone FrameStop → ScriptState → Type 0
-RunsFrame s x new =
-    Frames BatchRuns s.world (map (λ d. d.system) s.systems) x new.world × IfErr x (λ stop. IsWhyStopped s stop new)
+-- a frame of the systems runs by so many workers, to its end or to a stop; systems are as they were
+abbrev pub RunsFrame : ℕ → ScriptState → Result FrameDone FrameStop → ScriptState → Type 0
+RunsFrame workers s x new =
+    IsFrameBy workers s.world (map (λ d. d.system) s.systems) x new.world × IfErr x (λ stop. IsWhyStopped s stop new)
     × (new.systems ≡ s.systems)
 
 -- memory was wanting before anything was done of it
@@ -158,10 +157,10 @@ abbrev pub frame_reply : Result FrameDone FrameStop → Reply
 frame_reply (Ok r) = framed r
 frame_reply (Err stop) = stopped stop
 
--- what the step answers, and what it leaves: a system is declared, a frame runs the systems declared so far, and every other step is
--- one on the world alone
-abbrev pub StepReplies : ScriptState → step.WrittenStep → Result Reply Refusal → ScriptState → Type 0
-StepReplies old (step.system name phase text actions) r new = DeclaresSystem old name phase text actions r new
-StepReplies old step.frame r new =
-    (x : Result FrameDone FrameStop) × (RunsFrame old x new ⊎ StopsAtOnce old x new) × (r ≡ Ok (frame_reply x))
-StepReplies old s r new = Replies old.world s r new.world × (new.systems ≡ old.systems)
+-- what the step answers, and what it leaves: a system is declared, a frame runs the systems declared so far by so many workers, and
+-- every other step is one on the world alone
+abbrev pub StepReplies : ℕ → ScriptState → step.WrittenStep → Result Reply Refusal → ScriptState → Type 0
+StepReplies workers old (step.system name phase text actions) r new = DeclaresSystem old name phase text actions r new
+StepReplies workers old step.frame r new =
+    (x : Result FrameDone FrameStop) × (RunsFrame workers old x new ⊎ StopsAtOnce old x new) × (r ≡ Ok (frame_reply x))
+StepReplies workers old s r new = Replies old.world s r new.world × (new.systems ≡ old.systems)

@@ -87,18 +87,29 @@ reply_outcomes (Ok (framed r)) = r.outcomes
 reply_outcomes (Ok (stopped stop)) = Err stop.refusal ∷ []
 reply_outcomes _ = []
 
+-- it is that of a frame that stopped
+abbrev pub has_stopped : Result Reply Refusal → Bool
+has_stopped (Ok (stopped stop)) = true
+has_stopped _ = false
+
 -- memory was wanting for the step, or for a command of its merge or frame
 abbrev pub has_wanted : Result Reply Refusal → Bool
 has_wanted r = is_out_of_memory r || list_any is_out_of_memory (reply_outcomes r)
 
--- the step may take the old state to the new one, and these are its lines
-abbrev pub Does : ScriptState → WrittenStep → List ℕ → ScriptState → Type 0
-Does old s lines new = (r : Result Reply Refusal) × StepReplies old s r new × (lines ≡ step_lines new.world r)
+-- the step, whose frames so many workers record, may take the old state to the new one, and these are its lines
+abbrev pub Does : ℕ → ScriptState → WrittenStep → List ℕ → ScriptState → Type 0
+Does workers old s lines new = (r : Result Reply Refusal) × StepReplies workers old s r new × (lines ≡ step_lines new.world r)
 
 -- likewise, and memory was not wanting
-abbrev pub DoesInMemory : ScriptState → WrittenStep → List ℕ → ScriptState → Type 0
-DoesInMemory old s lines new =
-    (r : Result Reply Refusal) × StepReplies old s r new × IsFalse (has_wanted r) × (lines ≡ step_lines new.world r)
+abbrev pub DoesInMemory : ℕ → ScriptState → WrittenStep → List ℕ → ScriptState → Type 0
+DoesInMemory workers old s lines new =
+    (r : Result Reply Refusal) × StepReplies workers old s r new × IsFalse (has_wanted r) × (lines ≡ step_lines new.world r)
+
+-- likewise, and it is no frame that stopped
+abbrev pub DoesToEnd : ℕ → ScriptState → WrittenStep → List ℕ → ScriptState → Type 0
+DoesToEnd workers old s lines new =
+    (r : Result Reply Refusal) × StepReplies workers old s r new × IsFalse (has_wanted r) × IsFalse (has_stopped r)
+    × (lines ≡ step_lines new.world r)
 
 -- steps, one after another, each of which takes a state to the next so, with their lines
 abbrev pub TextBy : (ScriptState → WrittenStep → List ℕ → ScriptState → Type 0) → ScriptState → List WrittenStep → List ℕ → ScriptState → Type 0
@@ -106,10 +117,14 @@ TextBy One old [] text new = (text ≡ []) × (new ≡ old)
 TextBy One old (s ∷ ss) text new =
     (first : List ℕ) × (rest : List ℕ) × (mid : ScriptState) × One old s first mid × TextBy One mid ss rest new × (text ≡ first ++ rest)
 
--- the steps, one after another, may take the old state to the new one, and this is their text
-abbrev pub Text : ScriptState → List WrittenStep → List ℕ → ScriptState → Type 0
-Text = TextBy Does
+-- the steps, one after another, whose frames so many workers record, may take the old state to the new one, and this is their text
+abbrev pub Text : ℕ → ScriptState → List WrittenStep → List ℕ → ScriptState → Type 0
+Text workers = TextBy (Does workers)
 
 -- likewise, and memory was never wanting
-abbrev pub TextInMemory : ScriptState → List WrittenStep → List ℕ → ScriptState → Type 0
-TextInMemory = TextBy DoesInMemory
+abbrev pub TextInMemory : ℕ → ScriptState → List WrittenStep → List ℕ → ScriptState → Type 0
+TextInMemory workers = TextBy (DoesInMemory workers)
+
+-- likewise, and no frame stopped
+abbrev pub TextToEnd : ℕ → ScriptState → List WrittenStep → List ℕ → ScriptState → Type 0
+TextToEnd workers = TextBy (DoesToEnd workers)

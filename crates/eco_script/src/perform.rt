@@ -157,7 +157,7 @@ fn frame<R: Threads + Sync>(
     workers: u32,
 ) -> Reply
     requires { (1 ≤ workers) × (workers ≤ 64) }
-    ensures { StepReplies (reached world.old systems.now) steps.frame
+    ensures { StepReplies workers (reached world.old systems.now) steps.frame
         (answer_view (Ok result)) (reached world.new systems.now) }
 {
     match run_frame(rt, alloc, world, systems, workers) {
@@ -177,7 +177,7 @@ fn answer<R: Threads + Sync>(
 ) -> Result<Reply, Refusal>
     requires workers { (1 ≤ workers) × (workers ≤ 64) }
     requires keeps { KeepsTo world.old.edition (step_view step.now) }
-    ensures { StepReplies (reached world.old systems.old) (step_view step.now)
+    ensures { StepReplies workers (reached world.old systems.old) (step_view step.now)
         (answer_view result) (reached world.new systems.new) }
 {
     match *step {
@@ -214,7 +214,7 @@ pub fn perform<R: Threads + Sync>(
 ) -> Result<Reply, Refusal>
     requires workers { (1 ≤ workers) × (workers ≤ 64) }
     requires keeps { KeepsTo world.old.edition (step_view step.now) }
-    ensures replies { StepReplies (reached world.old systems.old) (step_view step.now)
+    ensures replies { StepReplies workers (reached world.old systems.old) (step_view step.now)
         (answer_view result) (reached world.new systems.new) }
     ensures edition { world.new.edition ≡ world.old.edition }
 {

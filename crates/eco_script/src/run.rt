@@ -37,7 +37,7 @@ fn run_step<R: Threads + Sync>(
     requires workers { (1 ≤ workers) × (workers ≤ 64) }
     requires keeps { KeepsTo world.old.edition (step_view step.now) }
     ensures lines { OnOk result ((lines : List ℕ)
-        × Does (reached world.old systems.old) (step_view step.now) lines (reached world.new systems.new)
+        × Does workers (reached world.old systems.old) (step_view step.now) lines (reached world.new systems.new)
         × (string_bytes text.new ≡ string_bytes text.old ++ lines)) }
     ensures edition { world.new.edition ≡ world.old.edition }
 {
@@ -75,10 +75,10 @@ fn run_steps<R: Threads + Sync, W: ScriptWriter>(
     requires keeps { All (λ step. KeepsTo world.old.edition (step_view step)) steps.now }
     requires countable { W.failures writer.old + 1 < 2 ^ 64 }
     ensures ok { OnOk result ((text : List ℕ) × (end : ScriptState)
-        × Text (reached world.old []) (map step_view steps.now) text end × (end.world ≡ world.new)
+        × Text workers (reached world.old []) (map step_view steps.now) text end × (end.world ≡ world.new)
         × Appends (W.held writer.old) (W.held writer.new) text) }
     ensures err { OnErr result ((part : List ℕ) × (text : List ℕ) × (end : ScriptState)
-        × Text (reached world.old []) (map step_view steps.now) text end
+        × Text workers (reached world.old []) (map step_view steps.now) text end
         × IsBeginning part text × Appends (W.held writer.old) (W.held writer.new) part) }
     ensures device { IsErrOf result Fault.Device → W.failures writer.new ≡ W.failures writer.old + 1 }
     ensures read { IsErrOf result Fault.NotRead → ⊥ }
@@ -110,10 +110,10 @@ fn run_bytes<R: Threads + Sync, W: ScriptWriter>(
 ) -> Result<World, Fault>
     requires workers { (1 ≤ workers) × (workers ≤ 64) }
     requires countable { W.failures writer.old + 1 < 2 ^ 64 }
-    ensures ok { IfOk result (RanTo (Some bytes.now) (W.held writer.old) (W.held writer.new)) }
+    ensures ok { IfOk result (RanTo workers (Some bytes.now) (W.held writer.old) (W.held writer.new)) }
     ensures not_read { IsErrOf result Fault.NotRead
         → WasNotRead (Some bytes.now) (W.held writer.old) (W.held writer.new) }
-    ensures err { OnErr result (WasStopped (Some bytes.now) (W.held writer.old) (W.held writer.new)) }
+    ensures err { OnErr result (WasStopped workers (Some bytes.now) (W.held writer.old) (W.held writer.new)) }
     ensures device { IsErrOf result Fault.Device → W.failures writer.new ≡ W.failures writer.old + 1 }
 {
     let value = match Value::from_slice(alloc, bytes) {
@@ -159,13 +159,13 @@ pub fn run_world<T: Threads + Sync, R: ScriptReader, W: ScriptWriter>(
     requires failed_writes { W.failures writer.old + 1 < 2 ^ 64 }
     // The bytes are a script, the text of a run of it was written, and the world is the end of that run.
     ensures ran { result.0 ≡ Status.Ran → IsSomeAnd result.1
-        (RanTo (R.remaining reader.old) (W.held writer.old) (W.held writer.new)) }
+        (RanTo workers (R.remaining reader.old) (W.held writer.old) (W.held writer.new)) }
     // The bytes are no script, and nothing was written.
     ensures not_read { result.0 ≡ Status.NotRead
         → WasNotRead (R.remaining reader.old) (W.held writer.old) (W.held writer.new) }
     // Nothing was written, or a beginning of such a text.
     ensures stopped { result.0 ≡ Status.Stopped
-        → WasStopped (R.remaining reader.old) (W.held writer.old) (W.held writer.new) }
+        → WasStopped workers (R.remaining reader.old) (W.held writer.old) (W.held writer.new) }
     ensures no_other { result.0 ≢ Status.BadArguments }
     ensures no_world { result.0 ≢ Status.Ran → IsNone result.1 }
     ensures reads { R.calls reader.new ≤ R.calls reader.old + 16777216 }
@@ -198,13 +198,13 @@ pub fn run_script<T: Threads + Sync, R: ScriptReader, W: ScriptWriter>(
     requires failed_reads { R.failures reader.old + 1 < 2 ^ 64 }
     requires failed_writes { W.failures writer.old + 1 < 2 ^ 64 }
     // The bytes are a script, and the text of a run of it was written.
-    ensures ran { result ≡ Status.Ran → Ran (R.remaining reader.old) (W.held writer.old) (W.held writer.new) }
+    ensures ran { result ≡ Status.Ran → Ran workers (R.remaining reader.old) (W.held writer.old) (W.held writer.new) }
     // The bytes are no script, and nothing was written.
     ensures not_read { result ≡ Status.NotRead
         → WasNotRead (R.remaining reader.old) (W.held writer.old) (W.held writer.new) }
     // Nothing was written, or a beginning of such a text.
     ensures stopped { result ≡ Status.Stopped
-        → WasStopped (R.remaining reader.old) (W.held writer.old) (W.held writer.new) }
+        → WasStopped workers (R.remaining reader.old) (W.held writer.old) (W.held writer.new) }
     ensures no_other { result ≢ Status.BadArguments }
     ensures reads { R.calls reader.new ≤ R.calls reader.old + 16777216 }
 {

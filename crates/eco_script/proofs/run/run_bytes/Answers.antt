@@ -25,7 +25,7 @@ returns-in-Err-NotAScript-clause-not_read g c = λ _. (
 
 pub returns-clause-ok : goal.returns-clause-ok
 returns-clause-ok g c =
-    ran_bytes c.args.bytes.now (script_view c.in-Ok-read.script) _ _ _ _ _ (
+    ran_bytes c.args.workers c.args.bytes.now (script_view c.in-Ok-read.script) _ _ _ _ _ (
       c.in-Ok.ensures.ok.0,
       view c.in-Ok.value,
       c.in-Ok.ensures.ok.1,
@@ -37,7 +37,7 @@ returns-clause-ok g c =
 pub returns-in_err-run_steps-clause-err : goal.returns-in_err-run_steps-clause-err
 returns-in_err-run_steps-clause-err g c =
     let p = err_from_is_err_and c.from_residual.result c.from_residual.ensures.1 in
-    rw p.1 (stopped_bytes c.args.bytes.now (script_view c.in-Ok-read.script) _ _ _ _ (
+    rw p.1 (stopped_bytes c.args.workers c.args.bytes.now (script_view c.in-Ok-read.script) _ _ _ _ (
       c.in-Ok.ensures.ok.0,
       view c.in-Ok.value,
       c.in-Ok.ensures.ok.1,

@@ -22,16 +22,16 @@ run_step-requires-clause-keeps g c = λ κs lives.
 
 pub returns-in_default-clause-err : goal.returns-in_default-clause-err
 returns-in_default-clause-err g c =
-    stopped_between step_view c.args.steps.now
+    stopped_between c.args.workers step_view c.args.steps.now
     (record { refs = c.texts_are_read.ensures.reference; ids = c.texts_are_read.ensures.id; queries = c.texts_are_read.ensures.query })
     c.loop-step.step-index _ _ _ _ _ c.loop-step.invariant.ran
 
 pub returns-in_default-write_many-clause-err : goal.returns-in_default-write_many-clause-err
 returns-in_default-write_many-clause-err g c =
     let (lines, does, is) = c.in-Ok.ensures.lines in
-    let more = gathered_more step_view c.args.steps.now c.loop-step.step-index c.step-item.result _ _ _ _ _ _ _ lines c.loop-step-test.true
+    let more = gathered_more c.args.workers step_view c.args.steps.now c.loop-step.step-index c.step-item.result _ _ _ _ _ _ _ lines c.loop-step-test.true
     c.step-item.is c.loop-step.invariant.ran does is in
-    stopped_within step_view c.args.steps.now
+    stopped_within c.args.workers step_view c.args.steps.now
     (record { refs = c.texts_are_read.ensures.reference; ids = c.texts_are_read.ensures.id; queries = c.texts_are_read.ensures.query })
     (c.loop-step.step-index + 1) _ _ _ _ _ _ more
     c.in_default-write_many.ensures.err
@@ -39,18 +39,18 @@ returns-in_default-write_many-clause-err g c =
 pub loop-step-preserved : goal.loop-step-preserved
 loop-step-preserved g c =
     let (lines, does, is) = c.in-Ok.ensures.lines in
-    let more = gathered_more step_view c.args.steps.now c.loop-step.step-index c.step-item.result _ _ _ _ _ _ _ lines c.loop-step-test.true
+    let more = gathered_more c.args.workers step_view c.args.steps.now c.loop-step.step-index c.step-item.result _ _ _ _ _ _ _ lines c.loop-step-test.true
     c.step-item.is c.loop-step.invariant.ran does is in
     let (part, parts, wrote) = c.in-Ok-write_many.ensures.ok in
     record {
-      ran = gathered_less step_view c.args.steps.now (c.loop-step.step-index + 1) _ _ _ _ _ _ part _ parts more wrote;
+      ran = gathered_less c.args.workers step_view c.args.steps.now (c.loop-step.step-index + 1) _ _ _ _ _ _ part _ parts more wrote;
       edition = c.in-Ok.ensures.edition ∙ c.loop-step.invariant.edition;
       counted = c.in-Ok-write_many.ensures.counts_none ∙ c.loop-step.invariant.counted;
     }
 
 pub returns-clause-err : goal.returns-clause-err
 returns-clause-err g c =
-    stopped_within step_view c.args.steps.now
+    stopped_within c.args.workers step_view c.args.steps.now
     (record { refs = c.texts_are_read.ensures.reference; ids = c.texts_are_read.ensures.id; queries = c.texts_are_read.ensures.query })
     c.loop-step.step-index _ _ _ _ _ _ c.loop-step.invariant.ran
     (rw (c.as_bytes.ensures.value, c.as_str.ensures.value) at c.in-Err.ensures.err)
@@ -61,7 +61,7 @@ returns-in_default-write_many-clause-device g c = λ _.
 
 pub returns-in-Ok-write_all-clause-ok : goal.returns-in-Ok-write_all-clause-ok
 returns-in-Ok-write_all-clause-ok g c =
-    gathered_all step_view c.args.steps.now c.loop-step.step-index _ _ _ _ _ _ c.loop-step-test.false c.loop-step.invariant.ran
+    gathered_all c.args.workers step_view c.args.steps.now c.loop-step.step-index _ _ _ _ _ _ c.loop-step-test.false c.loop-step.invariant.ran
     (rw (c.as_bytes.ensures.value, c.as_str.ensures.value) at c.in-Ok-write_all.ensures.ok)
 
 pub returns-clause-device : goal.returns-clause-device

@@ -4,7 +4,7 @@ use Rattle.eco_script.proofs.run.run_world.Goals as goal
 
 pub returns-in-Ok-run_bytes-clause-ran : goal.returns-in-Ok-run_bytes-clause-ran
 returns-in-Ok-run_bytes-clause-ran g c = λ _.
-    ran_to_end _ _ c.in-Ok.bytes.items _ _ _ c.in-Ok.ensures.whole c.in-Ok.ensures.ended
+    ran_to_end c.args.workers _ _ c.in-Ok.bytes.items _ _ _ c.in-Ok.ensures.whole c.in-Ok.ensures.ended
     (rw c.as_slice.ensures.value at c.in-Ok-run_bytes.ensures.ok)
 
 pub returns-in-Err-NotRead-clause-not_read : goal.returns-in-Err-NotRead-clause-not_read

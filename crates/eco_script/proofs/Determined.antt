@@ -321,7 +321,7 @@ module _ (l : Laws) (s : ScriptState) where
   world_once t r q new other f g (p, a) (h, b) =
       let (same, end) = replies_once l s.world t r q new.world other.world f g p h in (same, same_state new other end (a ∙ sym b))
 
-  step_once : (m n : ℕ) (t : step.WrittenStep) → IsFalse (is_frame t) → (r q : Result Reply Refusal) (new other : ScriptState) → IsFalse (has_wanted r)
+  pub step_once : (m n : ℕ) (t : step.WrittenStep) → IsFalse (is_frame t) → (r q : Result Reply Refusal) (new other : ScriptState) → IsFalse (has_wanted r)
       → IsFalse (has_wanted q) → StepReplies m s t r new → StepReplies n s t q other → (r ≡ q) × (new ≡ other)
   step_once m n (step.system name phase text acts) plain = plainly _ (declares_once name phase text acts)
   step_once m n step.frame plain = absurd (true≢false plain)

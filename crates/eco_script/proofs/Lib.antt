@@ -1,3 +1,4 @@
+pub mod Alone
 pub mod Commands
 pub mod Declared
 pub mod Determined

@@ -35,7 +35,8 @@ not_read_to_end (Some xs) (Some ys) bytes a b p q h =
 
 -- of runs by so many workers
 module _ (workers : ℕ) where
-  pub Text-append : (xs ys : List WrittenStep) (w m e : ScriptState) (t u : List ℕ) → Text workers w xs t m → Text workers m ys u e → Text workers w (xs ++ ys) (t ++ u) e
+  pub Text-append : (xs ys : List WrittenStep) (w m e : ScriptState) (t u : List ℕ) → Text workers w xs t m → Text workers m ys u e
+      → Text workers w (xs ++ ys) (t ++ u) e
   Text-append [] ys w m e t u (tn, mw) q = rw (tn, ← mw) q
   Text-append (x ∷ xs) ys w m e t u (first, rest, mid, does, more, te) q =
       (first, rest ++ u, mid, does, Text-append xs ys mid m e rest u more q, ap (λ s. s ++ u) te ∙ append_assoc first rest u)
@@ -43,7 +44,8 @@ module _ (workers : ℕ) where
   pub Text-one : (s : WrittenStep) (w m : ScriptState) (t : List ℕ) → Does workers w s t m → Text workers w (s ∷ []) t m
   Text-one s w m t d = (t, [], m, d, (refl, refl), sym (append-nil t))
 
-  pub Text-more : (xs : List WrittenStep) (s : WrittenStep) (w m e : ScriptState) (t u : List ℕ) → Text workers w xs t m → Does workers m s u e → Text workers w (xs ++ s ∷ []) (t ++ u) e
+  pub Text-more : (xs : List WrittenStep) (s : WrittenStep) (w m e : ScriptState) (t u : List ℕ) → Text workers w xs t m → Does workers m s u e
+      → Text workers w (xs ++ s ∷ []) (t ++ u) e
   Text-more xs s w m e t u p d = Text-append xs (s ∷ []) w m e t u p (Text-one s m e u d)
 
   pub some_text : TextsRead → (ss : List WrittenStep) (w : ScriptState) → (t : List ℕ) × (e : ScriptState) × Text workers w ss t e

@@ -1,4 +1,4 @@
-//! Scripts: read whole, run step by step on a world of their own, with the lines of each step written before the next.
+//! Scripts: read whole, and run step by step on a world of their own, whose lines are written in the order of the steps.
 #![tactic(auto)]
 
 mod changes;

@@ -144,8 +144,8 @@ fn run_bytes<R: Threads + Sync, W: ScriptWriter>(
 /// order of the steps, many at a time. The world that the run ended with comes back where all of its lines were written,
 /// and only there.
 ///
-/// Frames of the script's systems have so many workers, 1 to 64, of which the calling thread is one. How many there are changes
-/// nothing but which row of a frame draws which fresh handle.
+/// Frames of the script's systems have so many workers, 1 to 64, of which the calling thread is one. With one, rows draw fresh
+/// handles in their order, so that a script whose frames do not stop has one text; with more it is open which row draws which.
 pub fn run_world<T: Threads + Sync, R: ScriptReader, W: ScriptWriter>(
     rt: &T,
     alloc: Global,
@@ -184,8 +184,8 @@ pub fn run_world<T: Threads + Sync, R: ScriptReader, W: ScriptWriter>(
 /// Reads a script to the end of the input, and runs it on a world of its own. Its lines go to the writer in the
 /// order of the steps, many at a time.
 ///
-/// Frames of the script's systems have so many workers, 1 to 64, of which the calling thread is one. How many there are changes
-/// nothing but which row of a frame draws which fresh handle.
+/// Frames of the script's systems have so many workers, 1 to 64, of which the calling thread is one. With one, rows draw fresh
+/// handles in their order, so that a script whose frames do not stop has one text; with more it is open which row draws which.
 pub fn run_script<T: Threads + Sync, R: ScriptReader, W: ScriptWriter>(
     rt: &T,
     alloc: Global,

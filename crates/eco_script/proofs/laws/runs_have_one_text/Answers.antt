@@ -1,8 +1,9 @@
-use Rattle.eco_script.proofs.Determined.{text_once, text_may_be}
+use Rattle.eco_script.proofs.Alone.{texts_once, to_end_in_memory}
+use Rattle.eco_script.proofs.Determined.{text_may_be}
 use Rattle.eco_script.proofs.laws.runs_have_one_text.Goals as goal
 
 pub returns-clause-one : goal.returns-clause-one
-returns-clause-one c = text_once (record {
+returns-clause-one c = texts_once c.draws_decide_frames.ensures.alone (record {
   refs = c.texts_read_once.ensures.reference;
   ids = c.texts_read_once.ensures.id;
   queries = c.texts_read_once.ensures.query;
@@ -20,4 +21,4 @@ returns-clause-one c = text_once (record {
 })
 
 pub returns-clause-may_be : goal.returns-clause-may_be
-returns-clause-may_be c = text_may_be
+returns-clause-may_be c = λ workers s steps text end. (text_may_be workers s steps text end, to_end_in_memory workers s steps text end)

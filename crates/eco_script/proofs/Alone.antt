@@ -1,0 +1,149 @@
+-- Scripts of one worker, whose frames run to their end.
+use Rattle.std.proofs.Common.{◌≡◌, ℕ, ◌+◌, true, false, true≢false, inl, inr, List, [], ◌∷◌, ◌++◌, length, map, take, refl, sym, ap, subst, ◌∙◌}
+use Rattle.std.proofs.Common.{Option, Some, None, Result, Ok, Err, IsFalse, IsTrue, MatchBool}
+use Rattle.std.proofs.Math.Seq.{take-append_seam}
+use Rattle.std.proofs.lemmas.Bool.{or_parts}
+use Rattle.std.proofs.lemmas.Bool.Decides.{Decides-eqb}
+use Rattle.std.proofs.Common.{drop}
+use Rattle.std.specs.List.{AllByRecursion, list_any}
+use Rattle.eco_ids.specs.declared.entity.Entity.{Entity}
+use Rattle.eco_ids.specs.declared.refusal.Refusal.{Refusal}
+use Rattle.eco_ids.specs.Outcome.{is_out_of_memory}
+use Rattle.eco_query.specs.Queries.{QuerySlot}
+use Rattle.eco_systems.specs.declared.phase.Phase.{Phase}
+use Rattle.eco_systems.specs.Frames.{FrameOutcomes}
+use Rattle.eco_systems.specs.Laws.{OneWorkerDecides, TakesOne, was_ample}
+use Rattle.eco_bodies.specs.Actions.{first_action_refusal}
+use Rattle.eco_bodies.specs.Scripts.{draws_of, script_taken, takes_draws}
+use Rattle.eco_bodies.specs.Taking.{taken_of}
+use Rattle.eco_bodies.specs.declared.action.Action.{Action}
+use Rattle.eco_frame.specs.Reports.{FrameDone, drawn_in}
+use Rattle.eco_steps.specs.Actions as texts
+use Rattle.eco_steps.specs.Steps as step
+use Rattle.eco_script.specs.Replies.{ReadsSystem, Reply, RunsFrame, StepReplies, done, framed, replied, unless, with_declared}
+use Rattle.eco_script.specs.States.{NamedSystem, ScriptState, name_refusal, script_system}
+use Rattle.eco_script.specs.Text.{TextInMemory, TextToEnd, has_stopped, has_wanted, step_lines}
+use Rattle.eco_script.specs.Laws.{HaveOneText}
+use Rattle.eco_script.proofs.Determined.{Laws, step_once, text_once}
+
+-- ---- draws
+
+-- a script takes as many handles, whichever there are
+taken_so : (acts : List Action) (ds es : List Entity) → taken_of takes_draws acts ds ≡ taken_of takes_draws acts es
+taken_so [] ds es = refl
+taken_so (a ∷ rest) ds es = ap (λ n. draws_of a + n) (taken_so rest (drop (draws_of a) ds) (drop (draws_of a) es))
+
+-- fronts of one list that are as long
+one_front : (xs ys rest later : List Entity) → length xs ≡ length ys → xs ++ rest ≡ ys ++ later → xs ≡ ys
+one_front xs ys rest later long same =
+    sym (take-append_seam xs rest) ∙ ap (λ n. take n (xs ++ rest)) long ∙ ap (take (length ys)) same ∙ take-append_seam ys later
+
+script_takes_one : (name : List ℕ) (phase : Phase) (slots : List QuerySlot) (acts : List Action) → TakesOne (script_system name phase slots acts).system
+script_takes_one name phase slots acts row mine others rest later p q same =
+    let one : script_taken acts row mine ≡ length mine = (Decides-eqb (script_taken acts row mine) (length mine)).0 p in
+    let two : script_taken acts row others ≡ length others = (Decides-eqb (script_taken acts row others) (length others)).0 q in
+    one_front mine others rest later (sym one ∙ taken_so acts mine others ∙ two) same
+
+-- ---- systems that were declared
+
+-- each of them takes one front of what there is to draw
+abbrev TakeOne : List NamedSystem → Type 0
+TakeOne systems = AllByRecursion TakesOne (map (λ d. d.system) systems)
+
+one_more : (systems : List NamedSystem) (more : NamedSystem) → TakeOne systems → TakesOne more.system → TakeOne (systems ++ more ∷ [])
+one_more [] more all one = (one, tt)
+one_more (s ∷ ss) more all one = (all.0, one_more ss more all.1 one)
+
+not_refused : {A : Type 0} (o : Option Refusal) (x : A) (r : Result A Refusal) → Ok x ≡ unless o r → Ok x ≡ r
+not_refused None x r is = is
+not_refused (Some why) x r is = cc
+
+module _ (s : ScriptState) (all : TakeOne s.systems) where
+  with_one_more : (name : List ℕ) (phase : Phase) (text : List ℕ) (acts : List texts.WrittenAction) (d : Result NamedSystem Refusal)
+      → ReadsSystem s name phase text acts d → TakeOne (with_declared s d).systems
+  with_one_more name phase text acts (Err why) reads = all
+  with_one_more name phase text acts (Ok system) (Err why, q, is) = cc
+  with_one_more name phase text acts (Ok system) (Ok slots, q, (Err why, a, is)) = cc
+  with_one_more name phase text acts (Ok system) (Ok slots, q, (Ok own, a, is)) =
+      let named = script_system name phase slots own in
+      let other = name_refusal s.systems name in
+      let fit : Ok system ≡ unless other (Ok named) = not_refused (first_action_refusal slots own) system (unless other (Ok named)) is in
+      let made : Ok system ≡ Ok named = not_refused other system (Ok named) fit in
+      let same : named ≡ system = cc in
+      one_more s.systems system all (subst (λ (d : NamedSystem). TakesOne d.system) same (script_takes_one name phase slots own))
+
+  step_keeps_one : (t : step.WrittenStep) (r : Result Reply Refusal) (new : ScriptState) → StepReplies 1 s t r new → TakeOne new.systems
+  step_keeps_one (step.system name phase text acts) r new h =
+      elim (is_out_of_memory r) as (λ b. MatchBool b (IsTrue true × (new ≡ s))
+      ((d : Result NamedSystem Refusal) × ReadsSystem s name phase text acts d × (r ≡ replied (λ _. done) d) × (new ≡ with_declared s d))
+      → TakeOne new.systems) [
+        | true ↦ λ k. subst (λ (v : ScriptState). TakeOne v.systems) (sym k.1) all
+        | false ↦ λ (d, reads, says, is). subst (λ (v : ScriptState). TakeOne v.systems) (sym is) (with_one_more name phase text acts d reads)
+      ] h
+  step_keeps_one step.frame r new (x, inl h, is) = subst TakeOne (sym h.2) all
+  step_keeps_one step.frame r new (x, inr h, is) = subst (λ (v : ScriptState). TakeOne v.systems) (sym h.1) all
+  step_keeps_one t r new h = subst TakeOne (sym h.1) all
+
+-- ---- frames
+
+ample : (outcomes : FrameOutcomes) → IsFalse (list_any is_out_of_memory outcomes) → IsTrue (was_ample outcomes)
+ample [] none = refl
+ample (o ∷ os) none =
+    let (one, others) = or_parts (is_out_of_memory o) (list_any is_out_of_memory os) none in
+    rw one (ample os others)
+
+done_so : (r q : FrameDone) → r.batches ≡ q.batches → r.outcomes ≡ q.outcomes → r.drawn ≡ q.drawn → r ≡ q
+done_so r q a b c = rw (a, b, c) refl
+
+module _ (decides : OneWorkerDecides) (s : ScriptState) (all : TakeOne s.systems) where
+  -- of frames that ran to their end
+  whole_once : (r q : FrameDone) (new other : ScriptState) → IsFalse (list_any is_out_of_memory r.outcomes) → IsFalse (list_any is_out_of_memory q.outcomes)
+      → RunsFrame 1 s (Ok r) new → RunsFrame 1 s (Ok q) other → (r ≡ q) × (new ≡ other)
+  whole_once r q new other f g (p, why, is) (h, reason, at) =
+      let (ds, ran, count, drawn) = p.alone refl in
+      let (es, went, long, taken) = h.alone refl in
+      let (draws, outcomes, world) = decides s.world (map (λ d. d.system) s.systems) ds es r.outcomes q.outcomes new.world other.world all
+      (ample r.outcomes f) (ample q.outcomes g) ran went in (
+        done_so r q (count ∙ ap length draws ∙ sym long) outcomes (drawn ∙ ap drawn_in draws ∙ sym taken),
+        state_so new other world (is ∙ sym at),
+      ) where
+        state_so : (a b : ScriptState) → a.world ≡ b.world → a.systems ≡ b.systems → a ≡ b
+        state_so a b w d = rw (w, d) refl
+
+  frame_once : (r q : Result Reply Refusal) (new other : ScriptState) → IsFalse (has_wanted r) → IsFalse (has_wanted q) → IsFalse (has_stopped r)
+      → IsFalse (has_stopped q) → StepReplies 1 s step.frame r new → StepReplies 1 s step.frame q other → (r ≡ q) × (new ≡ other)
+  frame_once r q new other f g m n (Err stop, p, is) h = absurd (true≢false (ap has_stopped (sym is) ∙ m))
+  frame_once r q new other f g m n (Ok x, inr p, is) h = cc
+  frame_once r q new other f g m n (Ok x, inl p, is) (Err stop, h, at) = absurd (true≢false (ap has_stopped (sym at) ∙ n))
+  frame_once r q new other f g m n (Ok x, inl p, is) (Ok y, inr h, at) = cc
+  frame_once r q new other f g m n (Ok x, inl p, is) (Ok y, inl h, at) =
+      let (same, end) = whole_once x y new other (ap has_wanted (sym is) ∙ f) (ap has_wanted (sym at) ∙ g) p h in
+      (is ∙ ap (λ z. Ok (framed z)) same ∙ sym at, end)
+
+  step_alone : Laws → (t : step.WrittenStep) (r q : Result Reply Refusal) (new other : ScriptState) → IsFalse (has_wanted r) → IsFalse (has_wanted q)
+      → IsFalse (has_stopped r) → IsFalse (has_stopped q) → StepReplies 1 s t r new → StepReplies 1 s t q other → (r ≡ q) × (new ≡ other)
+  step_alone l step.frame r q new other f g m n p h = frame_once r q new other f g m n p h
+  step_alone l t r q new other f g m n p h = step_once l s 1 1 t refl r q new other f g p h
+
+-- ---- texts
+
+text_alone : Laws → OneWorkerDecides → (s : ScriptState) → TakeOne s.systems → (ss : List step.WrittenStep) (t u : List ℕ) (e f : ScriptState)
+    → TextToEnd 1 s ss t e → TextToEnd 1 s ss u f → (t ≡ u) × (e ≡ f)
+text_alone l decides s all [] t u e f (p, q) (h, k) = (p ∙ sym h, q ∙ sym k)
+text_alone l decides s all (x ∷ xs) t u e f (a, rest, m, (r, does, v, w, is), more, p) (b, other, n, (q, goes, y, z, at), less, h) =
+    let (one, mid) = step_alone decides s all l x r q m n v y w z does goes in
+    let lines : a ≡ b = is ∙ ap (λ k. step_lines k.world r) mid ∙ ap (step_lines n.world) one ∙ sym at in
+    let (same, end) = text_alone l decides m (step_keeps_one s all x r m does) xs rest other e f more
+    (subst (λ k. TextToEnd 1 k xs other f) (sym mid) less) in
+    (p ∙ ap (λ k. k ++ rest) lines ∙ ap (λ k. b ++ k) same ∙ sym h, end)
+
+pub to_end_in_memory : (workers : ℕ) (s : ScriptState) (ss : List step.WrittenStep) (t : List ℕ) (e : ScriptState) → TextToEnd workers s ss t e
+    → TextInMemory workers s ss t e
+to_end_in_memory workers s [] t e h = h
+to_end_in_memory workers s (x ∷ xs) t e (a, rest, m, (r, p, f, g, is), more, h) = (a, rest, m, (r, p, f, is), to_end_in_memory workers m xs rest e more, h)
+
+pub texts_once : OneWorkerDecides → Laws → HaveOneText
+texts_once decides l = record {
+  frameless = text_once l;
+  alone = λ script. text_alone l decides _ tt script.steps;
+}

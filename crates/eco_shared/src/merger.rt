@@ -7,7 +7,7 @@ ghost use Rattle.eco_histories.specs.Marks.{mark_of};
 ghost use Rattle.eco_histories.specs.Rules.{book_head};
 ghost use Rattle.eco_ids.specs.Births.{may_admit};
 ghost use Rattle.eco_ids.specs.World.{entities};
-ghost use Rattle.eco_ids.specs.declared.refusal.Refusal.TheVariants.{OutOfMemory};
+ghost use Rattle.eco_ids.specs.declared.refusal.Refusal.TheVariants.{NoMoreIds, OutOfMemory};
 ghost use Rattle.eco_stages.specs.Merging.{all_commands};
 ghost use Rattle.eco_shared.specs.Histories.{IsMerged, merge};
 ghost use Rattle.eco_shared.specs.Repeating.{KeepsUp, merge_of};
@@ -104,7 +104,7 @@ impl<J: Naming, R: Wait + Drop> Merger<J, R> {
         ensures viewer { IfOk result (IsNew (view self.old.writer.desk.place).start self.old.title.number) }
         ensures same { (self.new.writer.desk.shown ≡ self.old.writer.desk.shown)
             × (view self.new.writer.desk.place ≡ view self.old.writer.desk.place)
-            × (self.new.title ≡ self.old.title) }
+            × (self.new.title ≡ self.old.title) × (self.new.stopped ≡ self.old.stopped) }
     {
         let keeper = Arc::try_clone(&self.keeper)?;
         let mut reader = self.writer.factory().reader()?;
@@ -127,7 +127,7 @@ impl<J: Naming, R: Wait + Drop> Merger<J, R> {
             × All (IsNew (view self.old.writer.desk.place).start self.old.title.number) l.items) }
         ensures same { (self.new.writer.desk.shown ≡ self.old.writer.desk.shown)
             × (view self.new.writer.desk.place ≡ view self.old.writer.desk.place)
-            × (self.new.title ≡ self.old.title) }
+            × (self.new.title ≡ self.old.title) × (self.new.stopped ≡ self.old.stopped) }
     {
         let mut list = Vec::with_capacity(alloc, count)?;
         for _k in 0..count {
@@ -213,6 +213,7 @@ impl<J: Naming, R: Wait + Drop> Merger<J, R> {
         ensures history { IfOk result (λ _. history self.new.writer.desk.shown.value
             ≡ history self.old.writer.desk.shown.value ++ merge_of last ∷ []) }
         ensures world { IfOk result (λ _. shown_world self.new.writer.desk.shown.value ≡ arc_value world) }
+        ensures running { IfOk result (λ _. self.new.stopped ≡ false) }
         ensures err { IfErr result (λ _. self.new.writer.desk.shown.value
             ≡ self.old.writer.desk.shown.value) }
         ensures view { view self.new.writer.desk.place ≡ view self.old.writer.desk.place }
@@ -237,7 +238,8 @@ impl<J: Naming, R: Wait + Drop> Merger<J, R> {
     /// stays there for long, that world is left to it, and the one that is shown is copied.
     ///
     /// Refused with `NoMoreIds` where the admitted indices would pass the limit, and with `OutOfMemory` where memory is wanting or
-    /// the merger is stopped. A refused merge publishes nothing.
+    /// the merger is stopped. A refused merge publishes nothing. A merger is stopped only by a merge that was refused with
+    /// `OutOfMemory`, and stays stopped.
     pub fn merge(&mut self, admitted: u32, stages: &[Stage]) -> Result<Report, Refusal>
         ensures ok { IfOk result (λ r. history self.new.writer.desk.shown.value
             ≡ history self.old.writer.desk.shown.value ++ merge admitted (all_commands stages.now) r ∷ []) }
@@ -249,6 +251,9 @@ impl<J: Naming, R: Wait + Drop> Merger<J, R> {
             ≡ shown_state self.old.writer.desk.shown.value) }
         ensures stopped { IfErr result (λ _. self.new.stopped ≡ false
             → length (drop self.new.writer.behind self.new.writer.log.items) ≡ 0) }
+        ensures running { IfOk result (λ _. self.new.stopped ≡ false) }
+        ensures limit { IfErr result (λ why. why ≡ NoMoreIds → self.new.stopped ≡ false) }
+        ensures stays { self.old.stopped ≡ true → self.new.stopped ≡ true }
         ensures start { (view self.new.writer.desk.place).start ≡ (view self.old.writer.desk.place).start }
         ensures title { self.new.title ≡ self.old.title }
     {

@@ -1,5 +1,5 @@
 //! A world is shared.
-ghost use Rattle.std.specs.Prelude.{◌≡◌, ◌<◌, ◌≤◌, ◌∷◌, [], true, length, drop, IfOk, IfErr};
+ghost use Rattle.std.specs.Prelude.{◌≡◌, ◌<◌, ◌≤◌, ◌∷◌, [], true, false, length, drop, IfOk, IfErr};
 ghost use Rattle.std.specs.List.{All};
 ghost use mathlib.Core.List.{IsPrefix};
 ghost use Rattle.left_right.specs.Sides.{view};
@@ -104,6 +104,7 @@ fn open_merger<J: Naming, R: Wait + Drop>(
     ensures world { IfOk result (λ m. shown_world m.writer.desk.shown.value ≡ world) }
     ensures start { IfOk result (λ m. (view m.writer.desk.place).start ≡ world) }
     ensures history { IfOk result (λ m. history m.writer.desk.shown.value ≡ []) }
+    ensures running { IfOk result (λ m. m.stopped ≡ false) }
     ensures title { IfOk result (λ m. (m.title.number ≡ length registry.old.front.seen.log)
         × (length registry.old.front.seen.log < length registry.new.front.seen.log)) }
     ensures registry { IsPrefix registry.old.front.seen.log registry.new.front.seen.log }
@@ -125,7 +126,7 @@ fn open_merger<J: Naming, R: Wait + Drop>(
 }
 
 /// Shares a world with 1 to 64 viewers: answers who merges into it, and the viewers, one for each thread that reads. All of them
-/// show that world until the first merge. The merger keeps a copy besides, so that most merges make none.
+/// show that world until the first merge. The merger is not stopped, and keeps a copy besides, so that most merges make none.
 ///
 /// Refused with `OutOfMemory` alone, where memory for the copies or for a viewer is refused; the world comes back as it was, and
 /// the number that the registry had given stays unused.
@@ -139,6 +140,7 @@ pub fn open<J: Naming, R: Wait + Drop>(
     requires viewers { (0 < viewers) × (viewers ≤ 64) }
     ensures merger { IfOk result (λ r. (shown_world r.0.writer.desk.shown.value ≡ world)
         × ((view r.0.writer.desk.place).start ≡ world) × (history r.0.writer.desk.shown.value ≡ [])) }
+    ensures running { IfOk result (λ r. r.0.stopped ≡ false) }
     ensures viewers { IfOk result (λ r. (length r.1.items ≡ viewers)
         × All (IsNew world r.0.title.number) r.1.items) }
     ensures title { IfOk result (λ r. (r.0.title.number ≡ length registry.old.front.seen.log)

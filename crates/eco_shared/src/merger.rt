@@ -1,5 +1,5 @@
 //! Who changes the shared world.
-ghost use Rattle.std.specs.Prelude.{◌≡◌, ◌<◌, ◌≤◌, ◌++◌, ◌∷◌, [], true, false, length, drop, Ok, Some, None, slice_get, IfOk, IfErr, IfSome};
+ghost use Rattle.std.specs.Prelude.{◌≡◌, ◌⊎◌, ◌<◌, ◌≤◌, ◌++◌, ◌∷◌, [], true, false, length, drop, Ok, Some, None, slice_get, IfOk, IfErr, IfSome};
 ghost use Rattle.std.specs.List.{All};
 ghost use Rattle.std.specs.Arc.{arc_value};
 ghost use Rattle.left_right.specs.Sides.{view};
@@ -157,7 +157,10 @@ impl<J: Naming, R: Wait + Drop> Merger<J, R> {
         ensures err { IfErr result (λ _. self.new.writer.desk.shown.value
             ≡ self.old.writer.desk.shown.value) }
         ensures view { view self.new.writer.desk.place ≡ view self.old.writer.desk.place }
-        ensures same { (self.new.title ≡ self.old.title) × (self.new.spare ≡ None) }
+        ensures same { (self.new.title ≡ self.old.title) × (self.new.keeper ≡ self.old.keeper)
+            × (self.new.spare ≡ None) }
+        ensures stops { self.new.stopped ≡ true
+            → 0 < length (drop self.new.writer.behind self.new.writer.log.items) }
     {
         let snapshot = Snapshot::of(&op);
         self.stopped = true;
@@ -186,7 +189,10 @@ impl<J: Naming, R: Wait + Drop> Merger<J, R> {
         ensures shown { shown_state self.new.writer.desk.shown.value
             ≡ shown_state self.old.writer.desk.shown.value }
         ensures view { view self.new.writer.desk.place ≡ view self.old.writer.desk.place }
-        ensures same { (self.new.title ≡ self.old.title) × (self.new.spare ≡ None) }
+        ensures same { (self.new.title ≡ self.old.title) × (self.new.keeper ≡ self.old.keeper)
+            × (self.new.spare ≡ None) }
+        ensures stops { self.new.stopped ≡ true
+            → 0 < length (drop self.new.writer.behind self.new.writer.log.items) }
     {
         let Some(spare) = self.spare.take() else {
             return self.copy_shown();
@@ -217,7 +223,9 @@ impl<J: Naming, R: Wait + Drop> Merger<J, R> {
         ensures err { IfErr result (λ _. self.new.writer.desk.shown.value
             ≡ self.old.writer.desk.shown.value) }
         ensures view { view self.new.writer.desk.place ≡ view self.old.writer.desk.place }
-        ensures same { self.new.title ≡ self.old.title }
+        ensures same { (self.new.title ≡ self.old.title) × (self.new.keeper ≡ self.old.keeper) }
+        ensures stops { self.new.stopped ≡ true
+            → 0 < length (drop self.new.writer.behind self.new.writer.log.items) }
     {
         let shown = self.writer.published();
         let before = Arc::try_clone(&shown.world)?;
@@ -238,7 +246,7 @@ impl<J: Naming, R: Wait + Drop> Merger<J, R> {
     /// stays there for long, that world is left to it, and the one that is shown is copied.
     ///
     /// Refused with `NoMoreIds` where the admitted indices would pass the limit, and with `OutOfMemory` where memory is wanting or
-    /// the merger is stopped. A refused merge publishes nothing. A merger is stopped only by a merge that was refused with
+    /// the merger is stopped. A refused merge publishes nothing. A merger is stopped only where the publishing itself was refused, with
     /// `OutOfMemory`, and stays stopped.
     pub fn merge(&mut self, admitted: u32, stages: &[Stage]) -> Result<Report, Refusal>
         ensures ok { IfOk result (λ r. history self.new.writer.desk.shown.value
@@ -255,7 +263,10 @@ impl<J: Naming, R: Wait + Drop> Merger<J, R> {
         ensures limit { IfErr result (λ why. why ≡ NoMoreIds → self.new.stopped ≡ false) }
         ensures stays { self.old.stopped ≡ true → self.new.stopped ≡ true }
         ensures start { (view self.new.writer.desk.place).start ≡ (view self.old.writer.desk.place).start }
+        ensures stops { self.new.stopped ≡ true → (self.old.stopped ≡ true)
+            ⊎ (0 < length (drop self.new.writer.behind self.new.writer.log.items)) }
         ensures title { self.new.title ≡ self.old.title }
+        ensures keeper { self.new.keeper ≡ self.old.keeper }
     {
         if self.stopped {
             return Err(Refusal::OutOfMemory);

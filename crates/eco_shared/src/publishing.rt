@@ -20,7 +20,8 @@ fn publish<R: Wait>(
     requires goes { GoesOn writer.desk.shown.value op.value }
     ensures ok { IfOk result.1 (λ _. (drop result.0.behind result.0.log.items ≡ [])
         × (shown_state result.0.desk.shown.value ≡ shown_state op.value)) }
-    ensures err { IfErr result.1 (λ _. result.0.desk.shown.value ≡ writer.desk.shown.value) }
+    ensures err { IfErr result.1 (λ _. (result.0.desk.shown.value ≡ writer.desk.shown.value)
+        × (drop result.0.behind result.0.log.items ≡ op.value ∷ [])) }
     ensures same { view result.0.desk.place ≡ view writer.desk.place }
 {
     let _ = op;
@@ -37,7 +38,8 @@ pub fn publish_in<R: Wait>(
     requires goes { GoesOn writer.old.desk.shown.value op.value }
     ensures ok { IfOk result (λ _. (drop writer.new.behind writer.new.log.items ≡ [])
         × (shown_state writer.new.desk.shown.value ≡ shown_state op.value)) }
-    ensures err { IfErr result (λ _. writer.new.desk.shown.value ≡ writer.old.desk.shown.value) }
+    ensures err { IfErr result (λ _. (writer.new.desk.shown.value ≡ writer.old.desk.shown.value)
+        × (drop writer.new.behind writer.new.log.items ≡ op.value ∷ [])) }
     ensures same { view writer.new.desk.place ≡ view writer.old.desk.place }
 {
     replace_with(
@@ -48,7 +50,8 @@ pub fn publish_in<R: Wait>(
             requires goes { GoesOn w.desk.shown.value x.value }
             ensures ok { IfOk result.1 (λ _. (drop result.0.behind result.0.log.items ≡ [])
                 × (shown_state result.0.desk.shown.value ≡ shown_state x.value)) }
-            ensures err { IfErr result.1 (λ _. result.0.desk.shown.value ≡ w.desk.shown.value) }
+            ensures err { IfErr result.1 (λ _. (result.0.desk.shown.value ≡ w.desk.shown.value)
+                × (drop result.0.behind result.0.log.items ≡ x.value ∷ [])) }
             ensures same { view result.0.desk.place ≡ view w.desk.place }
         { publish(rt, w, x) },
     )

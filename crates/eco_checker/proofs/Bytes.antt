@@ -5,7 +5,7 @@ use Rattle.std.specs.Io.KnownBytes.{Consumes, IsAtEnd}
 use Rattle.serde_json.specs.Data.{Data}
 use Rattle.serde_json.specs.Read.{read}
 use Rattle.eco_steps.specs.Script.{WrittenScript, IsScript, IsScriptData}
-use Rattle.eco_checker.specs.Told.{AreNoScript, AreScript}
+use Rattle.eco_checker.specs.Told.{AreNoScript, AreScript, IsReportOf, IsReport}
 
 pub script_bytes : (bytes : List ℕ) (d : Data) → IsUtf8 bytes → read bytes ≡ Some d → ((s : WrittenScript) × IsScriptData d s) → (s : WrittenScript)
     × IsScript bytes s
@@ -33,6 +33,11 @@ pub none_to_end : (left after : Option (List ℕ)) (bytes : List ℕ) → Consum
 none_to_end None after bytes p q h = tt
 none_to_end (Some xs) None bytes p q h = absurd p
 none_to_end (Some xs) (Some ys) bytes p q h = rw (read_whole xs ys bytes p q) h
+
+pub told_to_end : (left after : Option (List ℕ)) (bytes told : List ℕ) → Consumes left after bytes → IsAtEnd after → IsReport bytes told → IsReportOf left told
+told_to_end None after bytes told p q h = tt
+told_to_end (Some xs) None bytes told p q h = absurd p
+told_to_end (Some xs) (Some ys) bytes told p q h = rw (read_whole xs ys bytes p q) h
 
 -- what follows where a test is false
 pub if_ok_false : {E : Type 0} (r : Result Bool E) (P Q : Type 0) → (P → Q) → IfOk r (λ b. b ≡ false → P) → IfOk r (λ b. b ≡ false → Q)

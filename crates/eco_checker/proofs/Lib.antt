@@ -1,4 +1,5 @@
 pub mod Bytes
+pub mod Lines
 pub mod Listed
 pub mod Numbers
 pub mod Scripts

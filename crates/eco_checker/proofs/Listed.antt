@@ -1,6 +1,7 @@
 -- Which numbers are listed, and that these are those of the values that are no step.
-use Rattle.std.proofs.Common.{◌≡◌, ℕ, ◌+◌, zero, suc, List, [], ◌∷◌, Option, Some, None, refl, ap, ◌∙◌, arith}
-use Rattle.std.specs.List.{Contains, slice_get}
+use Rattle.std.proofs.Common.{◌≡◌, ℕ, ◌+◌, zero, suc, List, [], ◌∷◌, ◌<◌, length, map, get_or, Option, Some, None, refl, ap, sym, ◌∙◌, arith}
+use Rattle.std.proofs.lemmas.List.{length-map}
+use Rattle.std.specs.List.{All, Contains, slice_get}
 use Rattle.serde_json.specs.Data.{Data}
 use Rattle.eco_ids.specs.declared.edition.Edition.{Edition}
 use Rattle.eco_steps.specs.Decode.{step_in}
@@ -30,6 +31,27 @@ module _ {A : Type 0} (find : Data → Option A) where
     behind : (o : Option A) → Contains (numbers_without find (m + 1) ds) q → Contains (unless_found m o (numbers_without find (m + 1) ds)) q
     behind None (k, lt, e) = (suc k, omega arith, e)
     behind (Some x) c = c
+
+  -- each number that is listed is that of a value
+  listed_below : (m : ℕ) (ds : List Data) (k q : ℕ) → k < length (numbers_without find m ds) → get_or (numbers_without find m ds) k q < m + length ds
+  listed_below m [] k q lt = absurd (omega arith)
+  listed_below m (d ∷ ds) k q lt = which (find d) (listed_below (m + 1) ds) k q lt where
+    rest : List ℕ
+    rest = numbers_without find (m + 1) ds
+
+    which : (o : Option A) → ((k q : ℕ) → k < length rest → get_or rest k q < (m + 1) + length ds) → (k q : ℕ) → k < length (unless_found m o rest)
+        → get_or (unless_found m o rest) k q < m + length (d ∷ ds)
+    which None ih zero q lt = omega arith
+    which None ih (suc k) q lt = let h = ih k q (omega arith) in omega arith
+    which (Some x) ih k q lt = let h = ih k q lt in omega arith
+
+  pub are_below : {V : Type 0} (view : V → Data) (vs : List V) (ds : List Data) (ns : List ℕ) → map view vs ≡ ds → ns ≡ numbers_without find 0 ds
+      → All (λ n. n < length vs) ns
+  are_below view vs ds ns same is k q lt =
+      let few : k < length (numbers_without find 0 ds) = rw (← is) lt in
+      let low : get_or (numbers_without find 0 ds) k q < length ds = let h = listed_below 0 ds k q few in omega arith in
+      let at : get_or ns k q < length ds = rw is low in
+      let long : length ds ≡ length vs = ap length (sym same) ∙ length-map vs view in omega arith
 
 module _ (edition : Edition) (d : Data) where
   none_means : step_in edition d ≡ None → (s : WrittenStep) → ¬ IsStepData edition d s

@@ -1,9 +1,9 @@
 //! Bytes that are checked.
 
-ghost use Rattle.std.specs.Prelude.{◌≡◌, ◌++◌, true, false, IfOk, string_bytes};
+ghost use Rattle.std.specs.Prelude.{◌≡◌, ℕ, List, ◌++◌, true, false, IfOk, string_bytes};
 ghost use Rattle.serde_json.specs.View.{view};
 ghost use Rattle.eco_steps.specs.Script.{WrittenScript, IsScript, IsScriptData};
-ghost use Rattle.eco_checker.specs.Told.{script_line};
+ghost use Rattle.eco_checker.specs.Told.{AreFaultsOf, IsReport, script_line};
 
 use crate::faults::Faults;
 use crate::report::{push_json_fault, push_report};
@@ -16,6 +16,9 @@ fn check_value(alloc: Global, value: &Value, text: &mut String) -> Result<bool, 
     ensures none { IfOk result (λ is. is ≡ false → (s : WrittenScript) → ¬ IsScriptData (view value.now) s) }
     ensures line { IfOk result (λ is. is ≡ true
         → string_bytes text.new ≡ string_bytes text.old ++ script_line) }
+    ensures faults { IfOk result (λ is. is ≡ false
+        → (told : List ℕ) × AreFaultsOf (view value.now) told
+        × (string_bytes text.new ≡ string_bytes text.old ++ told)) }
 {
     let faults = Faults::find(alloc, value)?;
     if faults.is_empty() {
@@ -33,6 +36,9 @@ pub fn check_bytes(alloc: Global, bytes: &[u8], text: &mut String) -> Result<boo
     ensures none { IfOk result (λ is. is ≡ false → (s : WrittenScript) → ¬ IsScript bytes.now s) }
     ensures line { IfOk result (λ is. is ≡ true
         → string_bytes text.new ≡ string_bytes text.old ++ script_line) }
+    ensures faults { IfOk result (λ is. is ≡ false
+        → (told : List ℕ) × IsReport bytes.now told
+        × (string_bytes text.new ≡ string_bytes text.old ++ told)) }
 {
     match Value::from_slice(alloc, bytes) {
         Ok(value) => check_value(alloc, &value, text),

@@ -1,7 +1,8 @@
-//! What is wrong with a script, in words. A checker finds each step that is none, and says what is wrong with it; of a step that
-//! a world refuses, `push_meaning` says which of its texts the refusal means, and why.
+//! What is wrong with a script, in words. A checker finds each step that is none, and says what is wrong with it; of a
+//! step that a world refuses, `push_meaning` says which of its texts the refusal means, and why.
 //!
-//! Which values are listed as faulty is proved; the words are not, but that they are always given.
+//! Which steps are listed as faulty is proved, and that each has lines of its own, one at least, which begin with its
+//! number. The words behind, and those of `push_meaning`, are tested alone.
 #![tactic(auto)]
 
 mod check;

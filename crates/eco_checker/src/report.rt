@@ -1,5 +1,11 @@
 //! The lines that tell the faults of a script.
 
+ghost use Rattle.std.specs.Prelude.{◌≡◌, ℕ, List, ◌++◌, [], ◌∷◌, ◌<◌, Some, OnOk, IfOk, All, codes, length, map};
+ghost use Rattle.std.specs.Prelude.{flat_map, string_bytes};
+ghost use Rattle.eco_checker.specs.Lines.{AreFaultLines, AreFaults, IsHeadLine, IsUnread, last_line, plural_end};
+ghost use Rattle.eco_checker.specs.Lines.{unread_text};
+ghost use Rattle.eco_checker.specs.Places.{AddsLines, AddsSome, place_step, place_text};
+
 use crate::faults::Faults;
 use crate::reasons::{is_well_formed, push_head_reasons, push_reasons};
 use crate::search::{actions_not_read, commands_not_read};
@@ -31,6 +37,8 @@ enum Place {
 }
 
 impl fmt::Display for Place {
+    ghost output = { λ place. Some (place_text place) };
+
     fn fmt<W: fmt::Write>(&self, f: &mut fmt::Formatter<W>) -> fmt::Result {
         match *self {
             Place::Step(step) => write!(f, "step {step}"),
@@ -45,43 +53,85 @@ impl fmt::Display for Place {
     }
 }
 
-// The text that lines are added to, the edition that its steps are judged by, and how many lines tell a fault.
-#[derive(Drop)]
-struct Lines<'a> {
-    alloc: Global,
-    text: &'a mut String,
-    edition: Edition,
-    count: usize,
+// A line: where a fault is, and words for it.
+fn line_of(alloc: Global, place: Place, words: &str) -> Result<String, AllocError>
+    ensures { IfOk result (λ line. string_bytes line
+        ≡ place_text place ++ codes ": " ++ words.now ++ codes "\n") }
+{
+    format!(in alloc; "{place}: {words}\n")
 }
 
-impl Lines<'_> {
+// The line of what has not the three parts of a script, of these words.
+fn head_line(alloc: Global, words: &str) -> Result<String, AllocError>
+    ensures { IfOk result (λ line. IsHeadLine (string_bytes line)) }
+{
+    format!(in alloc; "head: {words}\n")
+}
+
+// Adds which three parts a script has.
+fn push_parts(text: &mut String) -> Result<(), AllocError> {
+    let first = Edition::First.builtin_count();
+    let second = Edition::Second.builtin_count();
+    write!(
+        text,
+        "a script is [1, limit, steps] with a limit from {first} to 1,048,576, \
+         or [2, limit, steps] with a limit from {second} to 1,048,576"
+    )
+}
+
+// Adds a line to others.
+fn push_to(lines: &mut Vec<String>, line: String) -> Result<(), AllocError>
+    ensures { OnOk result (map string_bytes lines.new.items
+        ≡ map string_bytes lines.old.items ++ string_bytes line ∷ []) }
+{
+    lines.push(line)?;
+    Ok(())
+}
+
+// The lines that tell the faults, each with its end, and the edition that the steps are judged by.
+#[derive(Drop)]
+struct Lines {
+    alloc: Global,
+    edition: Edition,
+    lines: Vec<String>,
+}
+
+impl Lines {
+    // Adds a line: where a fault is, and words for it.
+    fn push_line(&mut self, place: Place, words: &str) -> Result<(), AllocError>
+        ensures { OnOk result (AddsSome (place_step place) (map string_bytes self.old.lines.items)
+            (map string_bytes self.new.lines.items)) }
+    {
+        let line = line_of(self.alloc, place, words)?;
+        push_to(&mut self.lines, line)
+    }
+
     // Adds the line of a value that is none of what stands there.
     fn push_fault(
         &mut self,
         place: Place,
-        words: Vocabulary,
+        vocabulary: Vocabulary,
         value: &Value,
-    ) -> Result<(), AllocError> {
-        self.count = self.count.saturating_add(1);
-        write!(self.text, "{place}: ")?;
-        push_value(self.alloc, self.text, value, STEP_WIDTH)?;
-        self.text.push_str(": ")?;
-        push_reasons(self.alloc, self.text, self.edition, words, value)?;
-        self.text.push_str("\n")
+    ) -> Result<(), AllocError>
+        ensures { OnOk result (AddsSome (place_step place) (map string_bytes self.old.lines.items)
+            (map string_bytes self.new.lines.items)) }
+    {
+        let mut words = String::new(self.alloc);
+        push_value(self.alloc, &mut words, value, STEP_WIDTH)?;
+        words.push_str(": ")?;
+        push_reasons(self.alloc, &mut words, self.edition, vocabulary, value)?;
+        self.push_line(place, words.as_str())
     }
 
     // Adds the line of a stage that is no list.
-    fn push_no_stage(
-        &mut self,
-        step: usize,
-        stage: usize,
-        value: &Value,
-    ) -> Result<(), AllocError> {
-        self.count = self.count.saturating_add(1);
-        let place = Place::Stage { step, stage };
-        write!(self.text, "{place}: expected a list of commands, not ")?;
-        push_value(self.alloc, self.text, value, ARGUMENT_WIDTH)?;
-        self.text.push_str("\n")
+    fn push_no_stage(&mut self, step: usize, stage: usize, value: &Value) -> Result<(), AllocError>
+        ensures { OnOk result (AddsLines step (map string_bytes self.old.lines.items)
+            (map string_bytes self.new.lines.items)) }
+    {
+        let mut words = String::new(self.alloc);
+        words.push_str("expected a list of commands, not ")?;
+        push_value(self.alloc, &mut words, value, ARGUMENT_WIDTH)?;
+        self.push_line(Place::Stage { step, stage }, words.as_str())
     }
 
     // Adds the lines of the commands of a stage that have these numbers.
@@ -91,7 +141,10 @@ impl Lines<'_> {
         stage: usize,
         items: &[Value],
         numbers: &[usize],
-    ) -> Result<(), AllocError> {
+    ) -> Result<(), AllocError>
+        ensures { OnOk result (AddsLines step (map string_bytes self.old.lines.items)
+            (map string_bytes self.new.lines.items)) }
+    {
         for number in numbers {
             let command = *number;
             let place = Place::Command {
@@ -107,7 +160,10 @@ impl Lines<'_> {
     }
 
     // Adds the lines of a stage.
-    fn push_stage(&mut self, step: usize, stage: usize, value: &Value) -> Result<(), AllocError> {
+    fn push_stage(&mut self, step: usize, stage: usize, value: &Value) -> Result<(), AllocError>
+        ensures { OnOk result (AddsLines step (map string_bytes self.old.lines.items)
+            (map string_bytes self.new.lines.items)) }
+    {
         match read_list(value) {
             Some(items) => {
                 let numbers = commands_not_read(self.alloc, self.edition, items)?;
@@ -118,7 +174,10 @@ impl Lines<'_> {
     }
 
     // Adds the lines of the stages of a merge.
-    fn push_stages(&mut self, step: usize, stages: &Value) -> Result<(), AllocError> {
+    fn push_stages(&mut self, step: usize, stages: &Value) -> Result<(), AllocError>
+        ensures { OnOk result (AddsLines step (map string_bytes self.old.lines.items)
+            (map string_bytes self.new.lines.items)) }
+    {
         let items = read_list(stages).unwrap_or(&[]);
         for (stage, value) in items.iter().enumerate() {
             self.push_stage(step, stage, value)?;
@@ -132,7 +191,10 @@ impl Lines<'_> {
         step: usize,
         items: &[Value],
         numbers: &[usize],
-    ) -> Result<(), AllocError> {
+    ) -> Result<(), AllocError>
+        ensures { OnOk result (AddsLines step (map string_bytes self.old.lines.items)
+            (map string_bytes self.new.lines.items)) }
+    {
         for number in numbers {
             let action = *number;
             let place = Place::Action { step, action };
@@ -144,14 +206,20 @@ impl Lines<'_> {
     }
 
     // Adds the lines of the actions of a system.
-    fn push_actions(&mut self, step: usize, actions: &Value) -> Result<(), AllocError> {
+    fn push_actions(&mut self, step: usize, actions: &Value) -> Result<(), AllocError>
+        ensures { OnOk result (AddsLines step (map string_bytes self.old.lines.items)
+            (map string_bytes self.new.lines.items)) }
+    {
         let items = read_list(actions).unwrap_or(&[]);
         let numbers = actions_not_read(self.alloc, self.edition, items)?;
         self.push_some_actions(step, items, numbers.as_slice())
     }
 
     // Adds the lines of what a step holds.
-    fn push_held(&mut self, step: usize, value: &Value) -> Result<(), AllocError> {
+    fn push_held(&mut self, step: usize, value: &Value) -> Result<(), AllocError>
+        ensures { OnOk result (AddsLines step (map string_bytes self.old.lines.items)
+            (map string_bytes self.new.lines.items)) }
+    {
         let Some((word, given)) = read_words(value) else {
             return Ok(());
         };
@@ -163,60 +231,73 @@ impl Lines<'_> {
     }
 
     // Adds the lines of a step that is none, one at least.
-    fn push_step(&mut self, step: usize, value: &Value) -> Result<(), AllocError> {
-        let before = self.count;
+    fn push_step(&mut self, step: usize, value: &Value) -> Result<(), AllocError>
+        ensures { OnOk result (AddsSome step (map string_bytes self.old.lines.items)
+            (map string_bytes self.new.lines.items)) }
+    {
+        let before = self.lines.len();
         if !is_well_formed(self.edition, Vocabulary::Steps, value) {
             self.push_fault(Place::Step(step), Vocabulary::Steps, value)?;
         }
         self.push_held(step, value)?;
-        if self.count == before {
+        if self.lines.len() == before {
             self.push_fault(Place::Step(step), Vocabulary::Steps, value)?;
         }
         Ok(())
     }
 
-    // Adds which three parts a script has.
-    fn push_parts(&mut self) -> Result<(), AllocError> {
-        let first = Edition::First.builtin_count();
-        let second = Edition::Second.builtin_count();
-        write!(
-            self.text,
-            "head: a script is [1, limit, steps] with a limit from {first} to 1,048,576, \
-             or [2, limit, steps] with a limit from {second} to 1,048,576"
-        )
-    }
-
     // Adds the line of what has not the three parts of a script.
-    fn push_head(&mut self, value: &Value) -> Result<(), AllocError> {
-        self.count = self.count.saturating_add(1);
-        self.push_parts()?;
-        push_head_reasons(self.alloc, self.text, value)?;
-        self.text.push_str("\n")
-    }
-
-    // Adds the last line.
-    fn push_end(&mut self) -> Result<(), AllocError> {
-        let count = self.count;
-        let plural = if count == 1 { "" } else { "s" };
-        write!(
-            self.text,
-            "not a script: {count} fault{plural} (counts begin at 0)\n"
-        )
+    fn push_head(&mut self, value: &Value) -> Result<(), AllocError>
+        ensures { OnOk result ((line : List ℕ) × IsHeadLine line × (map string_bytes self.new.lines.items
+            ≡ map string_bytes self.old.lines.items ++ line ∷ [])) }
+    {
+        let mut words = String::new(self.alloc);
+        push_parts(&mut words)?;
+        push_head_reasons(self.alloc, &mut words, value)?;
+        let line = head_line(self.alloc, words.as_str())?;
+        push_to(&mut self.lines, line)
     }
 }
 
-/// Adds a line for each fault of a value, and their number.
-pub(crate) fn push_report(
-    alloc: Global,
-    text: &mut String,
-    value: &Value,
-    faults: &Faults<'_>,
-) -> Result<(), AllocError> {
+// Adds lines, one by one.
+fn push_lines(text: &mut String, lines: &[String]) -> Result<(), AllocError>
+    ensures { OnOk result (string_bytes text.new
+        ≡ string_bytes text.old ++ flat_map string_bytes lines.now) }
+{
+    for line in lines {
+        text.push_str(line.as_str())?;
+    }
+    Ok(())
+}
+
+// What stands behind a word where there are so many of what it names.
+fn plural(count: usize) -> &'static str
+    ensures { result.now ≡ plural_end count }
+{
+    if count == 1 { "" } else { "s" }
+}
+
+// Adds the last line.
+fn push_end(text: &mut String, count: usize) -> Result<(), AllocError>
+    ensures { OnOk result (string_bytes text.new ≡ string_bytes text.old ++ last_line count) }
+{
+    let plural = plural(count);
+    write!(
+        text,
+        "not a script: {count} fault{plural} (counts begin at 0)\n"
+    )
+}
+
+// The lines of the faults of a value.
+fn lines_of(alloc: Global, value: &Value, faults: &Faults<'_>) -> Result<Vec<String>, AllocError>
+    requires { All (λ n. n < length faults.now.items.now) faults.now.steps.items }
+    ensures { IfOk result (λ lines.
+        AreFaultLines faults.now.has_head faults.now.steps.items (map string_bytes lines.items)) }
+{
     let mut lines = Lines {
         alloc,
-        text,
         edition: faults.edition,
-        count: 0,
+        lines: Vec::new(alloc),
     };
     if !faults.has_head {
         lines.push_head(value)?;
@@ -226,23 +307,50 @@ pub(crate) fn push_report(
             lines.push_step(*step, value)?;
         }
     }
-    lines.push_end()
+    Ok(lines.lines)
 }
 
-/// Adds the line of bytes that are no JSON.
+/// Adds a line for each fault of a value, and their number.
+pub(crate) fn push_report(
+    alloc: Global,
+    text: &mut String,
+    value: &Value,
+    faults: &Faults<'_>,
+) -> Result<(), AllocError>
+    requires { All (λ n. n < length faults.now.items.now) faults.now.steps.items }
+    ensures { OnOk result ((told : List ℕ) × AreFaults faults.now.has_head faults.now.steps.items told
+        × (string_bytes text.new ≡ string_bytes text.old ++ told)) }
+{
+    let lines = lines_of(alloc, value, faults)?;
+    push_lines(text, lines.as_slice())?;
+    push_end(text, lines.len())
+}
+
+// Adds the line that says where a text is no JSON, and why, and the last line.
+fn push_unread(text: &mut String, line: usize, column: usize, why: &str) -> Result<(), AllocError>
+    ensures { OnOk result (string_bytes text.new
+        ≡ string_bytes text.old ++ unread_text line column why.now) }
+{
+    write!(
+        text,
+        "line {line}, column {column}: {why}\nnot a script: 1 fault\n"
+    )
+}
+
+/// Adds the line of bytes that are no JSON, and the last line.
 pub(crate) fn push_json_fault(
     alloc: Global,
     text: &mut String,
     error: &serde_json::Error,
-) -> Result<(), AllocError> {
+) -> Result<(), AllocError>
+    ensures { OnOk result ((told : List ℕ) × IsUnread told
+        × (string_bytes text.new ≡ string_bytes text.old ++ told)) }
+{
     let (line, column) = (error.line(), error.column());
     let told = format!(in alloc; "{error}")?;
-    let what = told
+    let why = told
         .as_str()
         .split_once(" at line ")
         .map_or(told.as_str(), |parts| parts.0);
-    write!(
-        text,
-        "line {line}, column {column}: {what}\nnot a script: 1 fault\n"
-    )
+    push_unread(text, line, column, why)
 }

@@ -1,7 +1,18 @@
-use Rattle.eco_checker.proofs.Bytes.{none_to_end}
+use Rattle.std.proofs.Common.{◌≡◌, ◌∙◌, ◌++◌, ap}
+use Rattle.eco_checker.proofs.Bytes.{none_to_end, told_to_end}
 use Rattle.eco_checker.proofs.run.check_script.Goals as goal
 
 pub returns-in-Ok-2-clause-none : goal.returns-in-Ok-2-clause-none
 returns-in-Ok-2-clause-none g c = λ _.
     none_to_end _ _ c.in-Ok.bytes.items c.in-Ok.ensures.whole c.in-Ok.ensures.ended
     (rw c.as_slice.ensures.value at (c.in-Ok-check_bytes.ensures.none c.if-is_script.false))
+
+pub returns-in-Ok-2-clause-faults : goal.returns-in-Ok-2-clause-faults
+returns-in-Ok-2-clause-faults g c = λ _.
+    let (told, are, is) = c.in-Ok-check_bytes.ensures.faults c.if-is_script.false in
+    let same : c.as_bytes.result.now ≡ told =
+    c.as_bytes.ensures.value ∙ c.as_str.ensures.value ∙ is ∙ ap (λ b. b ++ told) c.new-text.ensures.bytes in (
+      told,
+      told_to_end _ _ c.in-Ok.bytes.items told c.in-Ok.ensures.whole c.in-Ok.ensures.ended (rw c.as_slice.ensures.value at are),
+      rw (← same) c.in-Ok-2.ensures.ok,
+    )

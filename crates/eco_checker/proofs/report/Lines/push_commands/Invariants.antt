@@ -1,0 +1,7 @@
+use Rattle.std.proofs.Common.{map, string_bytes}
+use Rattle.eco_checker.specs.Places.{AddsLines}
+use Rattle.eco_checker.proofs.report.Lines.push_commands.Given as goal
+
+-- the lines that were added are those of the step
+abbrev pub invariant-loop-number : goal.invariant-loop-number
+invariant-loop-number l = AddsLines l.step (map string_bytes l.fn.self.lines.items) (map string_bytes l.self.lines.items)

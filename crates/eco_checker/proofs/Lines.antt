@@ -4,7 +4,7 @@ use Rattle.std.proofs.Common.{Result, Ok, Err, IfOk, OnOk, refl, ap, sym, ◌∙
 use Rattle.std.specs.Prelude.{codes, decimal}
 use Rattle.std.specs.List.{concat}
 use Rattle.std.proofs.lemmas.List.{append-nil, append_assoc, length-map, take_more}
-use Rattle.eco_checker.specs.Lines.{IsOfStep, AreOfStep, AreOfSteps, AreFaultLines, AreFaults, IsHeadLine, last_line, plural_end}
+use Rattle.eco_checker.specs.Lines.{IsOfStep, AreOfStep, AreOfSteps, AreFaultLines, AreFaults, IsHeadLine, last_line, plural_end, unread_text}
 use Rattle.eco_checker.specs.Places.{AddsLines, AddsSome, place_step, place_text}
 use Rattle.eco_checker.specs.declared.report.Place.{Place}
 use Rattle.eco_checker.specs.declared.report.Place.TheVariants.{Step, Stage, Command, Action}
@@ -146,3 +146,13 @@ pub end_told : (old new plural : List ℕ) (count : ℕ) → plural ≡ plural_e
 end_told old new plural count p e =
     e ∙ ap (λ t. old ++ t) (end_regroup (codes "not a script: ") (decimal count) (codes " fault") plural (codes " (counts begin at 0)\n"))
     ∙ ap (λ t. old ++ ((((codes "not a script: " ++ decimal count) ++ codes " fault") ++ t) ++ codes " (counts begin at 0)\n")) p
+
+unread_regroup : (a b c d e f g : List ℕ) → a ++ (b ++ (c ++ (d ++ (e ++ (f ++ g))))) ≡ (((((a ++ b) ++ c) ++ d) ++ e) ++ f) ++ g
+unread_regroup a b c d e f g = simp append_assoc refl
+
+pub unread_told : (old new why : List ℕ) (line column : ℕ)
+    → new ≡ old ++ (codes "line " ++ (decimal line ++ (codes ", column " ++ (decimal column ++ (codes ": " ++ (why ++ codes "\nnot a script: 1 fault\n"))))))
+    → new ≡ old ++ unread_text line column why
+unread_told old new why line column e =
+    e ∙ ap (λ t. old ++ t)
+    (unread_regroup (codes "line ") (decimal line) (codes ", column ") (decimal column) (codes ": ") why (codes "\nnot a script: 1 fault\n"))

@@ -1,7 +1,7 @@
 -- The numbers of the values in which nothing is found, as a loop gathers them.
 use Rattle.std.proofs.Common.{◌≡◌, ℕ, ◌+◌, ◌<◌, List, [], ◌∷◌, ◌++◌, length, map, take, get_or, Option, Some, None, option_map, refl, ap, sym, ◌∙◌, arith}
 use Rattle.std.specs.Option.{is_some}
-use Rattle.std.proofs.lemmas.List.{append-nil, length-map, length-take-le, map-append, take_more}
+use Rattle.std.proofs.lemmas.List.{length-map, length-take-le, map-append, take_more}
 use Rattle.serde_json.specs.Data.{Data}
 use Rattle.eco_checker.specs.Faults.{numbers_without, unless_found, unless_read}
 

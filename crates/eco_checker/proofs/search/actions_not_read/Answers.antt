@@ -1,4 +1,4 @@
-use Rattle.std.proofs.Common.{arith, sym, ◌∙◌, ap, ◌++◌}
+use Rattle.std.proofs.Common.{arith, ◌∙◌, ap, ◌++◌}
 use Rattle.serde_json.specs.View.{view}
 use Rattle.eco_steps.specs.Decode.{action_in}
 use Rattle.eco_steps.specs.Views.{action_view}

@@ -198,7 +198,8 @@ pub fn run_script<T: Threads + Sync, R: ScriptReader, W: ScriptWriter>(
     requires failed_reads { R.failures reader.old + 1 < 2 ^ 64 }
     requires failed_writes { W.failures writer.old + 1 < 2 ^ 64 }
     // The bytes are a script, and the text of a run of it was written.
-    ensures ran { result ≡ Status.Ran → Ran workers (R.remaining reader.old) (W.held writer.old) (W.held writer.new) }
+    ensures ran { result ≡ Status.Ran
+        → Ran workers (R.remaining reader.old) (W.held writer.old) (W.held writer.new) }
     // The bytes are no script, and nothing was written.
     ensures not_read { result ≡ Status.NotRead
         → WasNotRead (R.remaining reader.old) (W.held writer.old) (W.held writer.new) }

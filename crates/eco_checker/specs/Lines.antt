@@ -1,11 +1,8 @@
 -- What is written of bytes that are no script, line by line. A line is bytes, and a newline at their end: that no other
--- newline is among them is not said. Private functions alone speak of these.
+-- newline is among them is not said.
 use Rattle.std.specs.Prelude.{◌≡◌, ◌≢◌, ◌⊎◌, ℕ, Bool, true, false, List, [], ◌∷◌, ◌++◌, length, codes, decimal, nat_eq}
-use Rattle.std.specs.Prelude.{⊤, if◌then◌else◌, is_some}
+use Rattle.std.specs.Prelude.{⊤, if◌then◌else◌}
 use Rattle.std.specs.List.{concat}
-use Rattle.serde_json.specs.Data.{Data}
-use Rattle.eco_steps.specs.Decode.{parts_in, step_in}
-use Rattle.eco_checker.specs.Faults.{edition_in, items_in, numbers_without}
 
 -- a line that begins with these bytes
 abbrev pub IsLine : List ℕ → List ℕ → Type 0
@@ -59,8 +56,3 @@ unread_text line column why = codes "line " ++ decimal line ++ codes ", column "
 -- this is written, of some place and for some reason
 abbrev pub IsUnread : List ℕ → Type 0
 IsUnread told = (line column : ℕ) × (why : List ℕ) × (told ≡ unread_text line column why)
-
--- what is written of a value that is no script: its faults are the head, unless it is one, and each step that is none
-abbrev pub AreFaultsOf : Data → List ℕ → Type 0
-AreFaultsOf d told = AreFaults (is_some (parts_in d))
-    (numbers_without (step_in (edition_in d)) 0 (items_in d)) told

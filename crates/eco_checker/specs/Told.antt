@@ -1,14 +1,25 @@
 -- What a check tells of the bytes that it read.
-use Rattle.std.specs.Prelude.{◌≡◌, ℕ, List, ◌++◌, codes, Option, Some, None, ⊤}
+use Rattle.std.specs.Prelude.{◌≡◌, ◌⊎◌, ℕ, List, codes, Option, Some, None, IsUtf8, is_some, ⊤}
+use Rattle.serde_json.specs.Data.{Data}
+use Rattle.serde_json.specs.Read.{read}
+use Rattle.eco_steps.specs.Decode.{parts_in, step_in}
 use Rattle.eco_steps.specs.Script.{WrittenScript, IsScript}
+use Rattle.eco_checker.specs.Faults.{edition_in, items_in, numbers_without}
+use Rattle.eco_checker.specs.Lines.{AreFaults, IsUnread}
 
 -- what is written where the bytes are a script
 abbrev pub script_line : List ℕ
 script_line = codes "is a script\n"
 
--- what is written where they are none: it ends with a line that says so
-abbrev pub IsReport : List ℕ → Type 0
-IsReport told = (front words : List ℕ) × (told ≡ front ++ codes "not a script: " ++ words ++ codes "\n")
+-- what is written of a value that is no script: its faults are the head, unless it is one, and each step that is none
+abbrev pub AreFaultsOf : Data → List ℕ → Type 0
+AreFaultsOf d told = AreFaults (is_some (parts_in d))
+    (numbers_without (step_in (edition_in d)) 0 (items_in d)) told
+
+-- what is written of bytes that are none: where they are no JSON text, and of such a text the faults of its value
+abbrev pub IsReport : List ℕ → List ℕ → Type 0
+IsReport bytes told = ((IsUtf8 bytes → read bytes ≡ None) × IsUnread told)
+    ⊎ ((d : Data) × (read bytes ≡ Some d) × AreFaultsOf d told)
 
 -- Each of these is said of the bytes that the reader had. Of a reader that tells no bytes nothing is said.
 
@@ -21,3 +32,8 @@ AreScript (Some bytes) = (s : WrittenScript) × IsScript bytes s
 abbrev pub AreNoScript : Option (List ℕ) → Type 0
 AreNoScript None = ⊤
 AreNoScript (Some bytes) = (s : WrittenScript) → ¬ IsScript bytes s
+
+-- this is what is written of them
+abbrev pub IsReportOf : Option (List ℕ) → List ℕ → Type 0
+IsReportOf None told = ⊤
+IsReportOf (Some bytes) told = IsReport bytes told

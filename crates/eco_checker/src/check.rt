@@ -3,8 +3,7 @@
 ghost use Rattle.std.specs.Prelude.{◌≡◌, ℕ, List, ◌++◌, true, false, IfOk, string_bytes};
 ghost use Rattle.serde_json.specs.View.{view};
 ghost use Rattle.eco_steps.specs.Script.{WrittenScript, IsScript, IsScriptData};
-ghost use Rattle.eco_checker.specs.Lines.{AreFaultsOf};
-ghost use Rattle.eco_checker.specs.Told.{IsReport, script_line};
+ghost use Rattle.eco_checker.specs.Told.{AreFaultsOf, IsReport, script_line};
 
 use crate::faults::Faults;
 use crate::report::{push_json_fault, push_report};
@@ -38,7 +37,7 @@ pub fn check_bytes(alloc: Global, bytes: &[u8], text: &mut String) -> Result<boo
     ensures line { IfOk result (λ is. is ≡ true
         → string_bytes text.new ≡ string_bytes text.old ++ script_line) }
     ensures faults { IfOk result (λ is. is ≡ false
-        → (told : List ℕ) × IsReport told
+        → (told : List ℕ) × IsReport bytes.now told
         × (string_bytes text.new ≡ string_bytes text.old ++ told)) }
 {
     match Value::from_slice(alloc, bytes) {

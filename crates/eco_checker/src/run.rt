@@ -2,7 +2,7 @@
 
 ghost use Rattle.std.specs.Prelude.{◌≡◌, ℕ, List, ◌+◌, ◌^◌, ◌<◌, ◌≤◌};
 ghost use Rattle.std.specs.Io.KnownBytes.{Appends};
-ghost use Rattle.eco_checker.specs.Told.{AreScript, AreNoScript, IsReport, script_line};
+ghost use Rattle.eco_checker.specs.Told.{AreScript, AreNoScript, IsReportOf, script_line};
 
 use crate::check::check_bytes;
 use crate::verdict::Verdict;
@@ -12,8 +12,9 @@ use std::alloc::Global;
 /// Reads an input to its end, and writes whether it is a script: `is a script`, or a line for each of its faults and
 /// their number.
 ///
-/// It says `is a script` only where the input is one. Only where it is none does it name faults, and what it writes then
-/// ends with a line that says so, with their number.
+/// It says `is a script` only where the input is one, and names faults only where it is none. A head that is none has a
+/// line then, and each step that is none has one at least; each of these begins with its place. The words behind are
+/// tested, and not proved.
 pub fn check_script<R: ScriptReader, W: ScriptWriter>(
     alloc: Global,
     reader: &mut R,
@@ -26,7 +27,8 @@ pub fn check_script<R: ScriptReader, W: ScriptWriter>(
     ensures line { result ≡ Verdict.Script → Appends (W.held writer.old) (W.held writer.new) script_line }
     ensures none { result ≡ Verdict.NotAScript → AreNoScript (R.remaining reader.old) }
     ensures faults { result ≡ Verdict.NotAScript
-        → (told : List ℕ) × IsReport told × Appends (W.held writer.old) (W.held writer.new) told }
+        → (told : List ℕ) × IsReportOf (R.remaining reader.old) told
+        × Appends (W.held writer.old) (W.held writer.new) told }
 {
     let Ok(bytes) = eco_devices::read_all(alloc, reader) else {
         return Verdict::Stopped;

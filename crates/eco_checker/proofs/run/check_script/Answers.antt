@@ -1,5 +1,5 @@
 use Rattle.std.proofs.Common.{◌≡◌, ◌∙◌, ◌++◌, ap}
-use Rattle.eco_checker.proofs.Bytes.{none_to_end}
+use Rattle.eco_checker.proofs.Bytes.{none_to_end, told_to_end}
 use Rattle.eco_checker.proofs.run.check_script.Goals as goal
 
 pub returns-in-Ok-2-clause-none : goal.returns-in-Ok-2-clause-none
@@ -13,6 +13,6 @@ returns-in-Ok-2-clause-faults g c = λ _.
     let same : c.as_bytes.result.now ≡ told =
     c.as_bytes.ensures.value ∙ c.as_str.ensures.value ∙ is ∙ ap (λ b. b ++ told) c.new-text.ensures.bytes in (
       told,
-      are,
+      told_to_end _ _ c.in-Ok.bytes.items told c.in-Ok.ensures.whole c.in-Ok.ensures.ended (rw c.as_slice.ensures.value at are),
       rw (← same) c.in-Ok-2.ensures.ok,
     )

@@ -1,5 +1,6 @@
 -- The text of a world.
-use Rattle.std.specs.Prelude.{◌≡◌, ℕ, List, [], ◌++◌, length, map, flat_map, codes, decimal, Option, Some, None}
+use Rattle.std.specs.Prelude.{◌≡◌, ℕ, List, [], ◌++◌, length, map, flat_map, codes, decimal, Option}
+use Rattle.std.specs.Option.{option_map_or}
 use Rattle.eco_ids.specs.declared.entity.Entity.{Entity}
 use Rattle.eco_ids.specs.declared.id.Id.{Id}
 use Rattle.eco_ids.specs.declared.id.Id.TheVariants.{One, Two}
@@ -10,14 +11,9 @@ use Rattle.eco_ids.specs.Step.{own_name}
 use Rattle.eco_ids.specs.Text.{entity_text, value_text}
 use Rattle.eco_ids.specs.World.{WorldState, held_by, living}
 
--- the name of an entity, or its handle where it has none
-abbrev pub named_by : Entity → Option (List ℕ) → List ℕ
-named_by e None = entity_text e
-named_by e (Some name) = name
-
--- an entity by its name: `Heron` or `#10.0`
+-- an entity by its name, or by its handle where it has none: `Heron` or `#10.0`
 abbrev pub printed_name : WorldState → Entity → List ℕ
-printed_name w e = named_by e (own_name w e)
+printed_name w e = option_map_or (λ name. name) (own_name w e) (entity_text e)
 
 -- an id by the names of its entities: `Ship` or `(MooredAt, Quay)`
 abbrev pub named_id : WorldState → Id → List ℕ
@@ -26,19 +22,15 @@ named_id w (Two r t) = codes "(" ++ printed_name w r ++ codes ", " ++ printed_na
 
 -- a name, behind a space
 abbrev pub name_behind : Option (List ℕ) → List ℕ
-name_behind None = []
-name_behind (Some name) = codes " " ++ name
+name_behind name = option_map_or (λ bytes. codes " " ++ bytes) name []
 
 -- how many fields a component's values have
 abbrev pub arity_behind : Option ℕ → List ℕ
-arity_behind None = []
-arity_behind (Some fields) = codes ", arity " ++ decimal fields
+arity_behind arity = option_map_or (λ fields. codes ", arity " ++ decimal fields) arity []
 
 -- a value, with so many of its fields: ` = 3 -4`
 abbrev pub value_behind : Option ℕ → Option Value → List ℕ
-value_behind (Some fields) (Some v) = codes " = " ++ value_text fields v
-value_behind (Some fields) None = []
-value_behind None v = []
+value_behind arity value = option_map_or (λ fields. option_map_or (λ v. codes " = " ++ value_text fields v) value []) arity []
 
 -- an id of an entity, with its value where it is data
 abbrev pub held_line : WorldState → Entity → Id → List ℕ
@@ -54,13 +46,9 @@ entity_lines w e =
 abbrev pub id_line : WorldState → Id → List ℕ
 id_line w i = codes "    " ++ named_id w i ++ codes "\n"
 
--- how many rows a table has: `table of 2`
-abbrev pub count_line : ℕ → List ℕ
-count_line rows = codes "table of " ++ decimal rows ++ codes "\n"
-
--- a table, and its ids
+-- a table, with how many rows it has: `table of 2`; and its ids
 abbrev pub table_lines : WorldState → ListedTable → List ℕ
-table_lines w t = count_line (length t.entities) ++ flat_map (id_line w) t.ids
+table_lines w t = codes "table of " ++ decimal (length t.entities) ++ codes "\n" ++ flat_map (id_line w) t.ids
 
 -- all that live, ascending, and these tables
 abbrev pub world_text : WorldState → List ListedTable → List ℕ

@@ -1,6 +1,6 @@
 //! The lines of tables.
-ghost use Rattle.std.specs.Prelude.{◌≡◌, ◌++◌, OnOk, flat_map, string_bytes};
-ghost use Rattle.eco_printed.specs.Printed.{count_line, id_line, table_lines};
+ghost use Rattle.std.specs.Prelude.{◌≡◌, ◌++◌, OnOk, codes, decimal, flat_map, string_bytes};
+ghost use Rattle.eco_printed.specs.Printed.{id_line, table_lines};
 ghost use Rattle.eco_world.specs.Layouts.{listed, listed_of};
 
 use crate::named::NamedId;
@@ -22,7 +22,8 @@ fn push_ids(text: &mut String, world: &World, ids: &[Id]) -> Result<(), AllocErr
 
 // Adds the line that says how many rows a table has.
 fn push_count(text: &mut String, rows: usize) -> Result<(), AllocError>
-    ensures { OnOk result (string_bytes text.new ≡ string_bytes text.old ++ count_line rows) }
+    ensures { OnOk result (string_bytes text.new
+        ≡ string_bytes text.old ++ codes "table of " ++ decimal rows ++ codes "\n") }
 {
     write!(text, "table of {rows}\n")
 }

@@ -2,7 +2,7 @@
 ghost use Rattle.std.specs.Prelude.{◌≡◌, true, ◌+◌, ◌<◌, length, Option, IfSome, option_map, slice_index};
 ghost use Rattle.eco_scan.specs.Reader.Machine as machine;
 ghost use Rattle.eco_scan.specs.Reader.Machine.{part_or};
-ghost use Rattle.eco_scan.specs.Reader.Points.{Draft, IsBegunAt, KeepsSlots, is_bare, is_bare_role, is_bare_spot, before_view, marked, or_point, role_view, spot_view, point_of_step};
+ghost use Rattle.eco_scan.specs.Reader.Points.{Draft, IsBegunAt, KeepsSlots, is_bare, is_bare_role, is_bare_spot, before_view, is_beginning, marked, or_point, role_view, spot_view, point_of_step};
 ghost use Rattle.eco_scan.specs.Views.{atom_view};
 ghost use Rattle.eco_scan.specs.Marks.{is_bare_head};
 
@@ -171,6 +171,23 @@ fn shut_access<'a>(text: &'a [u8], at: usize, access: Access) -> Option<Step<'a>
     }
 }
 
+/// Begins a body, an atom or a part, where one is wanted.
+fn begin<'a>(text: &'a [u8], at: usize, spot: Spot<'a>) -> Option<Step<'a>>
+    requires within { at < length text.now }
+    ensures begun { IfSome result (λ s. IsBegunAt (at + 1) s.point) }
+    ensures slots { IfSome result (KeepsSlots (is_bare_spot spot.entry)) }
+    ensures step { is_beginning spot.entry ≡ true → (d : Draft)
+        → option_map (point_of_step text.now (at + 1) d) result
+        ≡ machine.enter at (spot_view d spot.entry) (slice_index text.now at) }
+{
+    match spot {
+        Spot::Body(access) => step_to(begin_body(text, at, access), Mark::Begin),
+        Spot::Atom(access, head) => step_to(begin_atom(text, at, access, head), Mark::Same),
+        Spot::Part(role) => step_to(begin_part(text, at, role), Mark::Same),
+        _ => None,
+    }
+}
+
 /// What a byte does between tokens that is no white space.
 pub fn enter<'a>(text: &'a [u8], at: usize, spot: Spot<'a>) -> Option<Step<'a>>
     requires within { at < length text.now }
@@ -183,11 +200,9 @@ pub fn enter<'a>(text: &'a [u8], at: usize, spot: Spot<'a>) -> Option<Step<'a>>
         Spot::Slot => begin_slot(text, at),
         Spot::Word => begin_word(text, at),
         Spot::Shut(access) => shut_access(text, at, access),
-        Spot::Body(access) => step_to(begin_body(text, at, access), Mark::Begin),
-        Spot::Atom(access, head) => step_to(begin_atom(text, at, access, head), Mark::Same),
-        Spot::Part(role) => step_to(begin_part(text, at, role), Mark::Same),
         Spot::Behind(role, part) => behind_part(text, at, role, part),
         Spot::After(access, head, atom) => behind_atom(text, at, access, head, atom),
+        Spot::Body(_) | Spot::Atom(_, _) | Spot::Part(_) => begin(text, at, spot),
     }
 }
 

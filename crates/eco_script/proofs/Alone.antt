@@ -1,12 +1,8 @@
 -- Scripts of one worker, whose frames run to their end.
 use Rattle.std.proofs.Common.{◌≡◌, ℕ, ◌+◌, true, false, true≢false, inl, inr, List, [], ◌∷◌, ◌++◌, length, map, take, refl, sym, ap, subst, ◌∙◌}
 use Rattle.std.proofs.Common.{Option, Some, None, Result, Ok, Err, IsFalse, IsTrue, MatchBool}
-use Rattle.std.proofs.Math.Seq.{take-append_seam}
 use Rattle.std.proofs.lemmas.Bool.{or_parts}
-use Rattle.std.proofs.lemmas.Bool.Decides.{Decides-eqb}
-use Rattle.std.proofs.Common.{drop}
 use Rattle.std.specs.List.{AllByRecursion, list_any}
-use Rattle.eco_ids.specs.declared.entity.Entity.{Entity}
 use Rattle.eco_ids.specs.declared.refusal.Refusal.{Refusal}
 use Rattle.eco_ids.specs.Outcome.{is_out_of_memory}
 use Rattle.eco_query.specs.Queries.{QuerySlot}
@@ -14,35 +10,17 @@ use Rattle.eco_systems.specs.declared.phase.Phase.{Phase}
 use Rattle.eco_systems.specs.Frames.{FrameOutcomes}
 use Rattle.eco_systems.specs.Laws.{OneWorkerDecides, TakesOne, was_ample}
 use Rattle.eco_bodies.specs.Actions.{first_action_refusal}
-use Rattle.eco_bodies.specs.Scripts.{draws_of, script_taken, takes_draws}
-use Rattle.eco_bodies.specs.Taking.{taken_of}
+use Rattle.eco_bodies.specs.Laws.{ScriptsTakeOne}
 use Rattle.eco_bodies.specs.declared.action.Action.{Action}
 use Rattle.eco_frame.specs.Reports.{FrameDone, drawn_in}
+use Rattle.eco_grammar.specs.Readings.{ok_map}
 use Rattle.eco_steps.specs.Actions as texts
 use Rattle.eco_steps.specs.Steps as step
-use Rattle.eco_script.specs.Replies.{ReadsSystem, Reply, RunsFrame, StepReplies, done, framed, replied, unless, with_declared}
+use Rattle.eco_script.specs.Replies.{ReadsSystem, Reply, RunsFrame, StepReplies, done, framed, unless, with_declared}
 use Rattle.eco_script.specs.States.{NamedSystem, ScriptState, name_refusal, script_system}
 use Rattle.eco_script.specs.Text.{TextInMemory, TextToEnd, has_stopped, has_wanted, step_lines}
 use Rattle.eco_script.specs.Laws.{HaveOneText}
 use Rattle.eco_script.proofs.Determined.{Laws, step_once, text_once}
-
--- ---- draws
-
--- a script takes as many handles, whichever there are
-taken_so : (acts : List Action) (ds es : List Entity) → taken_of takes_draws acts ds ≡ taken_of takes_draws acts es
-taken_so [] ds es = refl
-taken_so (a ∷ rest) ds es = ap (λ n. draws_of a + n) (taken_so rest (drop (draws_of a) ds) (drop (draws_of a) es))
-
--- fronts of one list that are as long
-one_front : (xs ys rest later : List Entity) → length xs ≡ length ys → xs ++ rest ≡ ys ++ later → xs ≡ ys
-one_front xs ys rest later long same =
-    sym (take-append_seam xs rest) ∙ ap (λ n. take n (xs ++ rest)) long ∙ ap (take (length ys)) same ∙ take-append_seam ys later
-
-script_takes_one : (name : List ℕ) (phase : Phase) (slots : List QuerySlot) (acts : List Action) → TakesOne (script_system name phase slots acts).system
-script_takes_one name phase slots acts row mine others rest later p q same =
-    let one : script_taken acts row mine ≡ length mine = (Decides-eqb (script_taken acts row mine) (length mine)).0 p in
-    let two : script_taken acts row others ≡ length others = (Decides-eqb (script_taken acts row others) (length others)).0 q in
-    one_front mine others rest later (sym one ∙ taken_so acts mine others ∙ two) same
 
 -- ---- systems that were declared
 
@@ -58,7 +36,7 @@ not_refused : {A : Type 0} (o : Option Refusal) (x : A) (r : Result A Refusal) �
 not_refused None x r is = is
 not_refused (Some why) x r is = cc
 
-module _ (s : ScriptState) (all : TakeOne s.systems) where
+module _ (one : ScriptsTakeOne) (s : ScriptState) (all : TakeOne s.systems) where
   with_one_more : (name : List ℕ) (phase : Phase) (text : List ℕ) (acts : List texts.WrittenAction) (d : Result NamedSystem Refusal)
       → ReadsSystem s name phase text acts d → TakeOne (with_declared s d).systems
   with_one_more name phase text acts (Err why) reads = all
@@ -70,12 +48,12 @@ module _ (s : ScriptState) (all : TakeOne s.systems) where
       let fit : Ok system ≡ unless other (Ok named) = not_refused (first_action_refusal slots own) system (unless other (Ok named)) is in
       let made : Ok system ≡ Ok named = not_refused other system (Ok named) fit in
       let same : named ≡ system = cc in
-      one_more s.systems system all (subst (λ (d : NamedSystem). TakesOne d.system) same (script_takes_one name phase slots own))
+      one_more s.systems system all (subst (λ (d : NamedSystem). TakesOne d.system) same (one own))
 
   step_keeps_one : (t : step.WrittenStep) (r : Result Reply Refusal) (new : ScriptState) → StepReplies 1 s t r new → TakeOne new.systems
   step_keeps_one (step.system name phase text acts) r new h =
       elim (is_out_of_memory r) as (λ b. MatchBool b (IsTrue true × (new ≡ s))
-      ((d : Result NamedSystem Refusal) × ReadsSystem s name phase text acts d × (r ≡ replied (λ _. done) d) × (new ≡ with_declared s d))
+      ((d : Result NamedSystem Refusal) × ReadsSystem s name phase text acts d × (r ≡ ok_map (λ _. done) d) × (new ≡ with_declared s d))
       → TakeOne new.systems) [
         | true ↦ λ k. subst (λ (v : ScriptState). TakeOne v.systems) (sym k.1) all
         | false ↦ λ (d, reads, says, is). subst (λ (v : ScriptState). TakeOne v.systems) (sym is) (with_one_more name phase text acts d reads)
@@ -127,23 +105,26 @@ module _ (decides : OneWorkerDecides) (s : ScriptState) (all : TakeOne s.systems
 
 -- ---- texts
 
-text_alone : Laws → OneWorkerDecides → (s : ScriptState) → TakeOne s.systems → (ss : List step.WrittenStep) (t u : List ℕ) (e f : ScriptState)
+text_alone : ScriptsTakeOne → Laws → OneWorkerDecides → (s : ScriptState) → TakeOne s.systems → (ss : List step.WrittenStep) (t u : List ℕ) (e f : ScriptState)
     → TextToEnd 1 s ss t e → TextToEnd 1 s ss u f → (t ≡ u) × (e ≡ f)
-text_alone l decides s all [] t u e f (p, q) (h, k) = (p ∙ sym h, q ∙ sym k)
-text_alone l decides s all (x ∷ xs) t u e f (a, rest, m, (r, does, v, w, is), more, p) (b, other, n, (q, goes, y, z, at), less, h) =
-    let (one, mid) = step_alone decides s all l x r q m n v y w z does goes in
+text_alone takes l decides s all [] t u e f (p, q) (h, k) = (p ∙ sym h, q ∙ sym k)
+text_alone takes l decides s all (x ∷ xs) t u e f (a, rest, m, (r, does, v, is), more, p) (b, other, n, (q, goes, y, at), less, h) =
+    let (found, ended) = or_parts (has_wanted r) (has_stopped r) v in
+    let (sought, halted) = or_parts (has_wanted q) (has_stopped q) y in
+    let (one, mid) = step_alone decides s all l x r q m n found sought ended halted does goes in
     let lines : a ≡ b = is ∙ ap (λ k. step_lines k.world r) mid ∙ ap (step_lines n.world) one ∙ sym at in
-    let (same, end) = text_alone l decides m (step_keeps_one s all x r m does) xs rest other e f more
+    let (same, end) = text_alone takes l decides m (step_keeps_one takes s all x r m does) xs rest other e f more
     (subst (λ k. TextToEnd 1 k xs other f) (sym mid) less) in
     (p ∙ ap (λ k. k ++ rest) lines ∙ ap (λ k. b ++ k) same ∙ sym h, end)
 
 pub to_end_in_memory : (workers : ℕ) (s : ScriptState) (ss : List step.WrittenStep) (t : List ℕ) (e : ScriptState) → TextToEnd workers s ss t e
     → TextInMemory workers s ss t e
 to_end_in_memory workers s [] t e h = h
-to_end_in_memory workers s (x ∷ xs) t e (a, rest, m, (r, p, f, g, is), more, h) = (a, rest, m, (r, p, f, is), to_end_in_memory workers m xs rest e more, h)
+to_end_in_memory workers s (x ∷ xs) t e (a, rest, m, (r, p, f, is), more, h) =
+    (a, rest, m, (r, p, (or_parts (has_wanted r) (has_stopped r) f).0, is), to_end_in_memory workers m xs rest e more, h)
 
-pub texts_once : OneWorkerDecides → Laws → HaveOneText
-texts_once decides l = record {
+pub texts_once : ScriptsTakeOne → OneWorkerDecides → Laws → HaveOneText
+texts_once takes decides l = record {
   frameless = text_once l;
-  alone = λ script. text_alone l decides _ tt script.steps;
+  alone = λ script. text_alone takes l decides _ tt script.steps;
 }

@@ -26,10 +26,8 @@ use Rattle.eco_bodies.specs.declared.action.Action.{Action}
 use Rattle.eco_script.specs.Laws.{is_frame}
 use Rattle.eco_script.specs.Recording.{MakesOfNamed, ReadsAction, ReadsActions, ReadsChange, ReadsCommand, ReadsCommands, ReadsEach, has_stages}
 use Rattle.eco_script.specs.References.{ReadsBoth, ReadsEntity, ReadsId, ReadsQuery}
-use Rattle.eco_script.specs.Replies.{Reply, done, merged, shown, replied, with_declared, AnswersAdded, Calls, Changes, DeclaresSystem, On, OnCommands}
-use Rattle.eco_script.specs.Replies.{OnEntity, OnId}
-use Rattle.eco_script.specs.Replies.{OnQuery, ReadsSystem}
-use Rattle.eco_script.specs.Replies.{Replies, StepReplies, Then}
+use Rattle.eco_script.specs.Replies.{Reply, done, merged, shown, with_declared, AnswersAdded, Calls, Changes, DeclaresSystem, On}
+use Rattle.eco_script.specs.Replies.{ReadsSystem, Replies, StepReplies, Then}
 use Rattle.eco_script.specs.States.{NamedSystem, ScriptState}
 use Rattle.eco_steps.specs.Actions as texts
 use Rattle.eco_steps.specs.Commands.{WrittenChange, WrittenCommand}
@@ -37,7 +35,7 @@ use Rattle.eco_steps.specs.Commands as command
 use Rattle.eco_steps.specs.Steps as step
 use Rattle.eco_stages.specs.Outcomes.{Outcomes}
 use Rattle.eco_world.specs.Merging.{Merges, RunsAdmitted, may_merge}
-use Rattle.eco_script.specs.Text.{DoesInMemory, Text, TextInMemory, has_wanted, step_lines}
+use Rattle.eco_script.specs.Text.{DoesBut, Text, TextInMemory, has_wanted, step_lines}
 
 -- one answer and one end at most, where memory was not wanting, as this tells of an answer
 abbrev OnceBy : {A S : Type 0} → (Result A Refusal → Bool) → (Result A Refusal → S → Type 0) → Type 0
@@ -66,20 +64,20 @@ refuses_once : {A : Type 0} (why : Refusal) (w : WorldState) (r q : Result A Ref
     → Refuses why w r new → Refuses why w q other → (r ≡ q) × (new ≡ other)
 refuses_once why w r q new other (a, b) (c, d) = (a ∙ sym c, b ∙ sym d)
 
-replied_plain : {A : Type 0} (reply : A → Reply) (x : Result A Refusal) → is_out_of_memory x ≡ is_out_of_memory (replied reply x)
-replied_plain reply (Ok x) = refl
-replied_plain reply (Err OutOfMemory) = refl
-replied_plain reply (Err _) = refl
+mapped_plain : {A : Type 0} (reply : A → Reply) (x : Result A Refusal) → is_out_of_memory x ≡ is_out_of_memory (ok_map reply x)
+mapped_plain reply (Ok x) = refl
+mapped_plain reply (Err OutOfMemory) = refl
+mapped_plain reply (Err _) = refl
 
 calls_once : {A : Type 0} (wanted : Result Reply Refusal → Bool) (Call : Result A Refusal → WorldState → Type 0) (reply : A → Reply)
-    → OnceBy (λ x. wanted (replied reply x)) Call → OnceBy wanted (Calls Call reply)
+    → OnceBy (λ x. wanted (ok_map reply x)) Call → OnceBy wanted (Calls Call reply)
 calls_once wanted Call reply one r q new other f g (x, c, is) (y, d, at) =
     let (same, end) = one x y new other (ap wanted (sym is) ∙ f) (ap wanted (sym at) ∙ g) c d in
-    (is ∙ ap (replied reply) same ∙ sym at, end)
+    (is ∙ ap (ok_map reply) same ∙ sym at, end)
 
 plain_calls : {A : Type 0} (Call : Result A Refusal → WorldState → Type 0) (reply : A → Reply) → Once Call → Once (Calls Call reply)
 plain_calls Call reply one =
-    calls_once is_out_of_memory Call reply (λ x y new other f g. one x y new other (replied_plain reply x ∙ f) (replied_plain reply y ∙ g))
+    calls_once is_out_of_memory Call reply (λ x y new other f g. one x y new other (mapped_plain reply x ∙ f) (mapped_plain reply y ∙ g))
 
 -- a text that is read in one way at most, where memory is never wanting for it; where it is, it is for the step too
 on_once : {A B : Type 0} (wanted : Result B Refusal → Bool) → IsTrue (wanted (Err OutOfMemory)) → (Reads : Result A Refusal → Type 0) (w : WorldState)
@@ -213,17 +211,17 @@ module _ (l : Laws) where
     actions_once = each_once (ReadsAction w) action_once
 
     merges_once : (n : ℕ) (cs : List run.Command) (may : Bool) (x y : Result Outcomes Refusal) (new other : WorldState)
-        → IsFalse (has_wanted (replied merged x)) → IsFalse (has_wanted (replied merged y))
+        → IsFalse (has_wanted (ok_map merged x)) → IsFalse (has_wanted (ok_map merged y))
         → MatchBool may (RunsAdmitted w n cs x new) (Refuses NoMoreIds w x new)
         → MatchBool may (RunsAdmitted w n cs y other) (Refuses NoMoreIds w y other) → (x ≡ y) × (new ≡ other)
     merges_once n cs false x y new other f g (a, b) (c, d) = (a ∙ sym c, b ∙ sym d)
     merges_once n cs true x y new other f g (rs, is, p) (qs, at, h) =
         let (same, end) = runs_once cs (with_entities w (admitted n (entities w))) rs qs new other
-        (subst (λ z. IsFalse (has_wanted (replied merged z))) is f) (subst (λ z. IsFalse (has_wanted (replied merged z))) at g) p h in
+        (subst (λ z. IsFalse (has_wanted (ok_map merged z))) is f) (subst (λ z. IsFalse (has_wanted (ok_map merged z))) at g) p h in
         (is ∙ ap Ok same ∙ sym at, end)
 
     merge_once : (n : ℕ) (ss : List (List WrittenCommand)) (may : Bool)
-        → OnceInMemory (Meets (OnCommands w (flat_map (λ s. s) ss) (λ cs. Calls (Merges w n cs) merged)) may w)
+        → OnceInMemory (Meets (On (ReadsCommands w (flat_map (λ s. s) ss)) w (λ cs. Calls (Merges w n cs) merged)) may w)
     merge_once n ss may r q new other f g p h =
         on_once has_wanted refl (ReadsCommands w (flat_map (λ s. s) ss)) w (λ cs. Calls (Merges w n cs) merged)
         (λ x y _ _. commands_once (flat_map (λ s. s) ss) x y)
@@ -231,14 +229,16 @@ module _ (l : Laws) where
         (rw (or_parts (is_out_of_memory r) _ f).0 at p) (rw (or_parts (is_out_of_memory q) _ g).0 at h)
 
 module _ (l : Laws) (w : WorldState) where
-  on_entity : (text : List ℕ) (Goes : Entity → Result Reply Refusal → WorldState → Type 0) → ((x : Entity) → Once (Goes x)) → Once (OnEntity w text Goes)
+  on_entity : (text : List ℕ) (Goes : Entity → Result Reply Refusal → WorldState → Type 0) → ((x : Entity) → Once (Goes x))
+      → Once (On (ReadsEntity w text) w Goes)
   on_entity text Goes = on_once is_out_of_memory refl (ReadsEntity w text) w Goes (λ n m _ _. entity_once l w text n m)
 
-  on_id : (text : List ℕ) (Goes : Id → Result Reply Refusal → WorldState → Type 0) → ((x : Id) → Once (Goes x)) → Once (OnId w text Goes)
+  on_id : (text : List ℕ) (Goes : Id → Result Reply Refusal → WorldState → Type 0) → ((x : Id) → Once (Goes x))
+      → Once (On (ReadsId w text) w Goes)
   on_id text Goes = on_once is_out_of_memory refl (ReadsId w text) w Goes (λ n m _ _. id_once l w text n m)
 
   on_query : (text : List ℕ) (Goes : List QuerySlot → Result Reply Refusal → WorldState → Type 0) → ((q : List QuerySlot) → Once (Goes q))
-      → Once (OnQuery w text Goes)
+      → Once (On (ReadsQuery w text) w Goes)
   unfolding ReadsQuery
   on_query text Goes goes =
       on_once is_out_of_memory refl (ReadsQuery w text) w Goes (λ n m p h a b. l.queries (lookup w) text n m (in_memory n p a) (in_memory m h b)) goes
@@ -308,9 +308,9 @@ module _ (l : Laws) (s : ScriptState) where
   declares_once name phase text acts r q new other f g p h =
       let (x, one, is, a) = rw f at p in
       let (y, two, at, b) = rw g at h in
-      let same : x ≡ y = system_once name phase text acts x y (replied_plain (λ _. done) x ∙ ap is_out_of_memory (sym is) ∙ f)
-      (replied_plain (λ _. done) y ∙ ap is_out_of_memory (sym at) ∙ g) one two in
-      (is ∙ ap (replied (λ _. done)) same ∙ sym at, a ∙ ap (with_declared s) same ∙ sym b)
+      let same : x ≡ y = system_once name phase text acts x y (mapped_plain (λ _. done) x ∙ ap is_out_of_memory (sym is) ∙ f)
+      (mapped_plain (λ _. done) y ∙ ap is_out_of_memory (sym at) ∙ g) one two in
+      (is ∙ ap (ok_map (λ _. done)) same ∙ sym at, a ∙ ap (with_declared s) same ∙ sym b)
 
   same_state : (a b : ScriptState) → a.world ≡ b.world → a.systems ≡ b.systems → a ≡ b
   same_state a b p q =
@@ -327,8 +327,8 @@ module _ (l : Laws) (s : ScriptState) where
   step_once m n step.frame plain = absurd (true≢false plain)
   step_once m n t plain = world_once t
 
-  does_once : (x y : ℕ) (t : step.WrittenStep) (a b : List ℕ) (m n : ScriptState) → IsFalse (is_frame t) → DoesInMemory x s t a m
-      → DoesInMemory y s t b n → (a ≡ b) × (m ≡ n)
+  does_once : (x y : ℕ) (t : step.WrittenStep) (a b : List ℕ) (m n : ScriptState) → IsFalse (is_frame t) → DoesBut has_wanted x s t a m
+      → DoesBut has_wanted y s t b n → (a ≡ b) × (m ≡ n)
   does_once x y t a b m n plain (r, p, f, e) (q, h, g, k) =
       let (same, end) = step_once x y t plain r q m n f g p h in
       (e ∙ ap (λ v. step_lines v.world r) end ∙ ap (step_lines n.world) same ∙ sym k, end)

@@ -26,10 +26,11 @@ use Rattle.eco_stages.specs.Outcomes.{Outcomes}
 use Rattle.eco_systems.specs.Frames.{BatchDraws, BatchRuns, InTurn}
 use Rattle.eco_systems.specs.Systems.{SystemModel}
 use Rattle.eco_world.specs.Merging.{Merges, RunsAdmitted}
+use Rattle.eco_grammar.specs.Readings.{ok_map}
 use Rattle.eco_frame.specs.Reports.{FrameDone, Frames}
 use Rattle.eco_frame.specs.declared.stop.FrameStop.{FrameStop}
 use Rattle.eco_script.specs.Replies.{AnswersAdded, Calls, On, ReadsSystem, Replies, Reply, StepReplies}
-use Rattle.eco_script.specs.Replies.{done, replied, shown, with_declared}
+use Rattle.eco_script.specs.Replies.{done, shown, with_declared}
 use Rattle.eco_script.specs.States.{NamedSystem, ScriptState}
 use Rattle.eco_steps.specs.Actions as texts
 use Rattle.eco_steps.specs.Steps as step
@@ -180,7 +181,7 @@ declared_edition s (Err why) = refl
 -- a system is declared, or refused
 abbrev Declared : ScriptState → List ℕ → Phase → List ℕ → List texts.WrittenAction → Result Reply Refusal → ScriptState → Type 0
 Declared s name phase text actions r new =
-    (d : Result NamedSystem Refusal) × ReadsSystem s name phase text actions d × (r ≡ replied (λ _. done) d) × (new ≡ with_declared s d)
+    (d : Result NamedSystem Refusal) × ReadsSystem s name phase text actions d × (r ≡ ok_map (λ _. done) d) × (new ≡ with_declared s d)
 
 declares_keep : (s : ScriptState) (name : List ℕ) (phase : Phase) (text : List ℕ) (actions : List texts.WrittenAction)
     → KeepsBy (λ t. t.world.edition) s (Declared s name phase text actions)

@@ -27,7 +27,7 @@ use Rattle.eco_frame.specs.declared.stop.FrameStop.{FrameStop}
 use Rattle.eco_script.specs.States.{ScriptState}
 use Rattle.eco_script.specs.Recording.{MakesOfNamed, ReadsChange}
 use Rattle.eco_script.specs.References.{ReadsBoth, ReadsEntity, ReadsId, ReadsQuery}
-use Rattle.eco_script.specs.Replies.{Reply, truth, got, shown, listed, found, merged, stopped, replied, AnswersAdded, Calls, On, Replies, StepReplies}
+use Rattle.eco_script.specs.Replies.{Reply, truth, got, shown, listed, found, merged, stopped, AnswersAdded, Calls, On, Replies, StepReplies}
 use Rattle.eco_steps.specs.Commands.{WrittenChange}
 use Rattle.eco_steps.specs.Commands as change
 use Rattle.eco_steps.specs.Steps as step
@@ -138,7 +138,7 @@ added_ends w None = (Err NoSuchQuery, w, (refl, refl))
 added_ends w (Some slots) = (Ok (found (answer w slots)), w, (refl, refl))
 
 calls_end : {A : Type 0} (Call : Result A Refusal → WorldState → Type 0) (reply : A → Reply) → Ends Call → Ends (Calls Call reply)
-calls_end Call reply (x, new, c) = (replied reply x, new, (x, c, refl))
+calls_end Call reply (x, new, c) = (ok_map reply x, new, (x, c, refl))
 
 on_ends : {A B : Type 0} (Reads : Result A Refusal → Type 0) (w : WorldState) (Goes : A → Result B Refusal → WorldState → Type 0)
     → ((n : Result A Refusal) × Reads n) → ((x : A) → Ends (Goes x)) → Ends (On Reads w Goes)

@@ -16,7 +16,7 @@ use Rattle.eco_steps.specs.Steps as step
 use Rattle.eco_stages.specs.Outcomes.{Outcomes}
 use Rattle.eco_world.specs.Merging.{Merges, may_merge}
 use Rattle.eco_script.specs.Recording.{ReadsCommand, ReadsCommands, ReadsEach, has_stages}
-use Rattle.eco_script.specs.Replies.{Replies, merged, replied}
+use Rattle.eco_script.specs.Replies.{Replies, merged}
 
 -- what is there in a list is there in a view of it
 pub some_within : {A B : Type 0} (f : A → B) (o : Option A) (xs : List B) (i : ℕ) → option_map f o ≡ slice_get xs i → i < length xs → IsSome o
@@ -123,7 +123,7 @@ module _ (w : WorldState) where
 
   -- all texts were read, and the merge was made
   pub made_merge : (n : ℕ) (ss : List (List WrittenCommand)) (cs : List run.Command) (r : Result Outcomes Refusal) (new : WorldState)
-      → ReadsCommands w (flat_map (λ s. s) ss) (Ok cs) → Meets (Merges w n cs) (may_merge w n cs) w r new → Replies w (step.merge n ss) (replied merged r) new
+      → ReadsCommands w (flat_map (λ s. s) ss) (Ok cs) → Meets (Merges w n cs) (may_merge w n cs) w r new → Replies w (step.merge n ss) (ok_map merged r) new
   made_merge n ss cs (Ok outcomes) new read met = (Ok cs, read, (Ok outcomes, met, refl))
   made_merge n ss cs (Err OutOfMemory) new read (may, same) = (wants_no_more n ss cs read may, same)
   made_merge n ss cs (Err why) new read met = (Ok cs, read, (Err why, met, refl))

@@ -4,10 +4,9 @@ use Rattle.std.proofs.Common.{◌∙◌, sym}
 use Rattle.std.proofs.Common.{append_assoc, inr}
 use Rattle.std.proofs.KnownBytes.{Appends-trans}
 use Rattle.std.proofs.lemmas.List.{append-nil, take_all, take_more, map-append, take-append-drop}
-use Rattle.std.specs.Io.KnownBytes.{Appends, Consumes, IsAtEnd, Keeps}
+use Rattle.std.specs.Io.KnownBytes.{Appends, Consumes, IsAtEnd}
 use Rattle.eco_ids.specs.World.{WorldState}
-use Rattle.eco_script.specs.Run.{IsTextOf, Ran, RanTo, WasNotRead, beginning}
-use Rattle.std.specs.Prelude.{◌⊎◌}
+use Rattle.eco_script.specs.Run.{RanTo, WasNotRead, WasStopped, beginning}
 use Rattle.serde_json.specs.Data.{Data}
 use Rattle.serde_json.specs.Read.{read}
 use Rattle.eco_steps.specs.Script.{WrittenScript, IsScript, IsScriptData}
@@ -117,12 +116,6 @@ module _ (workers : ℕ) where
   Text-at : (w v e : ScriptState) (ss rs : List WrittenStep) (t : List ℕ) → w ≡ v → ss ≡ rs → Text workers w ss t e → Text workers v rs t e
   Text-at w v e ss rs t p q h = rw (← p, ← q) h
 
-  -- the text of a run is that of the script that was read
-  text_of : (bytes : List ℕ) (script : WrittenScript) (w e : ScriptState) (ss : List WrittenStep) (t : List ℕ)
-      → IsScript bytes script → w ≡ beginning script → ss ≡ script.steps
-      → Text workers w ss t e → IsTextOf workers bytes t
-  text_of bytes script w e ss t is at_start are h = (script, e, is, Text-at w (beginning script) e ss script.steps t at_start are h)
-
   pub ran_bytes : (bytes : List ℕ) (script : WrittenScript) (w : ScriptState) (ss : List WrittenStep) (world : WorldState) (a b : Option (List ℕ))
       → IsScript bytes script → w ≡ beginning script → ss ≡ script.steps
       → ((t : List ℕ) × (e : ScriptState) × Text workers w ss t e × (e.world ≡ world) × Appends a b t)
@@ -131,17 +124,17 @@ module _ (workers : ℕ) where
       (t, (script, e, is, Text-at w (beginning script) e ss script.steps t at_start are h, ends), k)
 
   -- a run to a world is a run
-  pub ran_some : (left : Option (List ℕ)) (a b : Option (List ℕ)) (end : Option WorldState) → IsSomeAnd end (RanTo workers left a b) → Ran workers left a b
-  ran_some None a b end h = tt
-  ran_some (Some bytes) a b None h = absurd h
-  ran_some (Some bytes) a b (Some world) (t, (script, e, is, text, ends), k) = (t, (script, e, is, text), k)
+  pub ran_some : (left : Option (List ℕ)) (a b : Option (List ℕ)) (end : Option WorldState) → IsSomeAnd end (RanTo workers left a b)
+      → (world : WorldState) × RanTo workers left a b world
+  ran_some left a b None h = absurd h
+  ran_some left a b (Some world) h = (world, h)
 
   pub stopped_bytes : (bytes : List ℕ) (script : WrittenScript) (w : ScriptState) (ss : List WrittenStep) (a b : Option (List ℕ))
       → IsScript bytes script → w ≡ beginning script → ss ≡ script.steps
       → ((part : List ℕ) × (text : List ℕ) × (end : ScriptState) × Text workers w ss text end × IsBeginning part text × Appends a b part)
-      → Keeps a b ⊎ ((part : List ℕ) × (text : List ℕ) × IsTextOf workers bytes text × IsBeginning part text × Appends a b part)
+      → WasStopped workers (Some bytes) a b
   stopped_bytes bytes script w ss a b is at_start are (part, text, e, h, begin, k) =
-      inr (part, text, text_of bytes script w e ss text is at_start are h, begin, k)
+      inr (part, text, e.world, (script, e, is, Text-at w (beginning script) e ss script.steps text at_start are h, refl), begin, k)
 
   -- what is said of the bytes that were read to the end is said of those that the reader had
   pub ran_to_end : (left after : Option (List ℕ)) (bytes : List ℕ) (a b : Option (List ℕ)) (world : WorldState) → Consumes left after bytes

@@ -1,6 +1,7 @@
 -- The program's replies, as those of the definitions.
 use Rattle.std.specs.Prelude.{option_map, Result}
 use Rattle.eco_ids.specs.declared.refusal.Refusal.{Refusal}
+use Rattle.eco_grammar.specs.Readings.{ok_map}
 use Rattle.eco_script.specs.ShownViews.{shown_view}
 use Rattle.eco_script.specs.Replies as spec
 use Rattle.eco_script.specs.declared.reply.Reply.{Reply}
@@ -22,4 +23,4 @@ reply_view (Stopped stop) = spec.stopped stop
 
 -- the answer, with its reply so
 abbrev pub answer_view : Result Reply Refusal → Result spec.Reply Refusal
-answer_view = spec.replied reply_view
+answer_view = ok_map reply_view

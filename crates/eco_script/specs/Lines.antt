@@ -1,5 +1,6 @@
 -- The lines that show entities, values and results.
 use Rattle.std.specs.Prelude.{ℕ, List, [], ◌∷◌, ◌++◌, flat_map, codes, decimal, Option, Some, None}
+use Rattle.std.specs.Option.{option_map_or}
 use Rattle.eco_ids.specs.declared.entity.Entity.{Entity}
 use Rattle.eco_ids.specs.declared.id.Id.{Id}
 use Rattle.eco_ids.specs.Text.{entity_text, id_text, value_text}
@@ -12,18 +13,15 @@ joined_by_commas text (x ∷ xs) = text x ++ flat_map (λ y. codes ", " ++ text 
 
 -- a name, or `-`
 abbrev pub name_text : Option (List ℕ) → List ℕ
-name_text None = codes "-"
-name_text (Some name) = name
+name_text name = option_map_or (λ n. n) name (codes "-")
 
 -- how many fields a component's values have, or `-`
 abbrev pub arity_text : Option ℕ → List ℕ
-arity_text None = codes "-"
-arity_text (Some fields) = decimal fields
+arity_text arity = option_map_or decimal arity (codes "-")
 
 -- an id, or `-` for none
 abbrev pub entry_text : Option Id → List ℕ
-entry_text None = codes "-"
-entry_text (Some i) = id_text i
+entry_text entry = option_map_or id_text entry (codes "-")
 
 -- a value's fields: `3 -4`
 abbrev pub shown_text : Shown → List ℕ

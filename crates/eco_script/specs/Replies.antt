@@ -1,6 +1,7 @@
 -- What each step of a script answers, and the world that it leaves.
 use Rattle.std.specs.Prelude.{◌≡◌, ◌⊎◌, ℕ, Bool, true, ◌||◌, List, [], ◌∷◌, ◌++◌, flat_map, map, slice_get, Option, Some, None, Result, Ok, Err}
 use Rattle.std.specs.Prelude.{MatchResult, MatchBool, IfErr}
+use Rattle.std.specs.Option.{option_map_or}
 use Rattle.eco_ids.specs.declared.entity.Entity.{Entity}
 use Rattle.eco_ids.specs.declared.id.Id.{Id}
 use Rattle.eco_ids.specs.declared.refusal.Refusal.{Refusal}
@@ -13,6 +14,7 @@ use Rattle.eco_ids.specs.World.{WorldState, has, is_alive, living}
 use Rattle.eco_query.specs.Queries.{QuerySlot}
 use Rattle.eco_answers.specs.Answers.{asked}
 use Rattle.eco_ids.specs.Run as run
+use Rattle.eco_grammar.specs.Readings.{ok_map}
 use Rattle.eco_world.specs.Cached.{AddsQuery}
 use Rattle.eco_stages.specs.Outcomes.{Outcomes}
 use Rattle.eco_world.specs.Merging.{Merges, may_merge}
@@ -49,40 +51,18 @@ pub data Reply : Type 0 where
   framed : FrameDone → Reply
   stopped : FrameStop → Reply
 
--- a call's answer, with a reply in place of what it gives
-abbrev pub replied : {A : Type 0} → (A → Reply) → Result A Refusal → Result Reply Refusal
-replied reply (Ok x) = Ok (reply x)
-replied reply (Err why) = Err why
-
 -- the call is made, and its answer is the step's
 abbrev pub Calls : {A : Type 0} → (Result A Refusal → WorldState → Type 0) → (A → Reply) → Result Reply Refusal → WorldState → Type 0
-Calls {A} Call reply r new = (x : Result A Refusal) × Call x new × (r ≡ replied reply x)
+Calls {A} Call reply r new = (x : Result A Refusal) × Call x new × (r ≡ ok_map reply x)
 
 -- the text names something, and the step goes on with it; or the text is refused, and with it the step
 abbrev pub On : {A B : Type 0} → (Result A Refusal → Type 0) → WorldState → (A → Result B Refusal → WorldState → Type 0)
     → Result B Refusal → WorldState → Type 0
 On {A} Reads w Goes r new = (named : Result A Refusal) × Reads named × MatchResult named (λ x. Goes x r new) (λ why. Refuses why w r new)
 
--- the text names an entity
-abbrev pub OnEntity : WorldState → List ℕ → (Entity → Result Reply Refusal → WorldState → Type 0) → Result Reply Refusal → WorldState → Type 0
-OnEntity w text = On (ReadsEntity w text) w
-
--- the text names an id
-abbrev pub OnId : WorldState → List ℕ → (Id → Result Reply Refusal → WorldState → Type 0) → Result Reply Refusal → WorldState → Type 0
-OnId w text = On (ReadsId w text) w
-
--- the text is a query
-abbrev pub OnQuery : WorldState → List ℕ → (List QuerySlot → Result Reply Refusal → WorldState → Type 0) → Result Reply Refusal → WorldState → Type 0
-OnQuery w text = On (ReadsQuery w text) w
-
 -- the texts of a change name a command, and its call is made
 abbrev pub Changes : WorldState → WrittenChange → Result (Unit {0}) Refusal → WorldState → Type 0
 Changes w c = On (ReadsChange w c) w (λ command. Meets (run.Applies command w) (run.may_want command w) w)
-
--- the texts are commands
-abbrev pub OnCommands : WorldState → List WrittenCommand → (List run.Command → Result Reply Refusal → WorldState → Type 0) → Result Reply Refusal → WorldState
-    → Type 0
-OnCommands w texts = On (ReadsCommands w texts) w
 
 -- a query that was added, if there is such a one, is answered on the world as it is now
 abbrev pub AnswersAdded : WorldState → Option (List QueryTerm) → Result Reply Refusal → WorldState → Type 0
@@ -97,16 +77,16 @@ Replies w (step.create name) = Calls (Meets (Creates w name) (may_create w name)
 Replies w (step.component name arity) =
     Calls (Meets (MakesComponent w (Some name) arity) (may_make_component w (Some name)) w) made
 Replies w (step.change c) = Calls (Changes w c) (λ _. done)
-Replies w (step.has e i) = OnEntity w e (λ x. OnId w i (λ y. Answers (truth (has w x y)) w))
-Replies w (step.get e i) = OnEntity w e (λ x. OnId w i (λ y. Answers (got (shown_value w x y)) w))
+Replies w (step.has e i) = On (ReadsEntity w e) w (λ x. On (ReadsId w i) w (λ y. Answers (truth (has w x y)) w))
+Replies w (step.get e i) = On (ReadsEntity w e) w (λ x. On (ReadsId w i) w (λ y. Answers (got (shown_value w x y)) w))
 Replies w (step.show e) =
-    OnEntity w e (λ x r new. MatchBool (is_alive w x) (Answers (shown x) w r new) (Refuses NotAlive w r new))
+    On (ReadsEntity w e) w (λ x r new. MatchBool (is_alive w x) (Answers (shown x) w r new) (Refuses NotAlive w r new))
 Replies w step.list = Meets (Answers (listed (map (λ p. p.0) (living w))) w) true w
-Replies w (step.query text) = OnQuery w text (λ q. Meets (Answers (found (answer w (asked q))) w) (may_query w (asked q)) w)
-Replies w (step.cache text) = OnQuery w text (λ q. Calls (Meets (AddsQuery w (asked q)) true w) (λ id. kept id.0))
+Replies w (step.query text) = On (ReadsQuery w text) w (λ q. Meets (Answers (found (answer w (asked q))) w) (may_query w (asked q)) w)
+Replies w (step.cache text) = On (ReadsQuery w text) w (λ q. Calls (Meets (AddsQuery w (asked q)) true w) (λ id. kept id.0))
 Replies w (step.cached n) = AnswersAdded w (slice_get w.queries n)
 Replies w (step.merge n stages) =
-    Meets (OnCommands w (flat_map (λ s. s) stages) (λ commands. Calls (Merges w n commands) merged)) (has_stages stages || may_merge w n []) w
+    Meets (On (ReadsCommands w (flat_map (λ s. s) stages)) w (λ commands. Calls (Merges w n commands) merged)) (has_stages stages || may_merge w n []) w
 Replies w (step.system name phase text actions) = λ r new. ⊥
 Replies w step.frame = λ r new. ⊥
 
@@ -116,8 +96,7 @@ Then {A} Reads Goes r = (x : Result A Refusal) × Reads x × MatchResult x (λ y
 
 -- refused for this reason, if it is one
 abbrev pub unless : {A : Type 0} → Option Refusal → Result A Refusal → Result A Refusal
-unless None r = r
-unless (Some why) r = Err why
+unless refusal r = option_map_or (λ why. Err why) refusal r
 
 -- the system that the texts name: query and actions are read from left to right, then the actions must fit the query, and then the
 -- name must be one that no other system has; the first refusal is the answer
@@ -135,7 +114,7 @@ with_declared s (Err why) = s
 abbrev pub DeclaresSystem : ScriptState → List ℕ → Phase → List ℕ → List texts.WrittenAction → Result Reply Refusal → ScriptState → Type 0
 DeclaresSystem s name phase text actions =
     Meets (λ r new. (d : Result NamedSystem Refusal) × ReadsSystem s name phase text actions d
-    × (r ≡ replied (λ _. done) d) × (new ≡ with_declared s d)) true s
+    × (r ≡ ok_map (λ _. done) d) × (new ≡ with_declared s d)) true s
 
 -- why a frame of these systems stopped, as it is said of any list of scripts that are these systems
 abbrev pub IsWhyStopped : ScriptState → FrameStop → ScriptState → Type 0

@@ -11,12 +11,7 @@ use Rattle.eco_script.specs.Text.{Text}
 abbrev pub beginning : WrittenScript → ScriptState
 beginning script = first_state script.edition script.limit
 
--- the bytes are a script, and the text is that of a run of it by so many workers
-abbrev pub IsTextOf : ℕ → List ℕ → List ℕ → Type 0
-IsTextOf workers bytes text =
-    (script : WrittenScript) × (end : ScriptState) × IsScript bytes script × Text workers (beginning script) script.steps text end
-
--- likewise, and the run ends with this world
+-- the bytes are a script, and the text is that of a run of it by so many workers, which ends with this world
 abbrev pub IsRunOf : ℕ → List ℕ → List ℕ → WorldState → Type 0
 IsRunOf workers bytes text world =
     (script : WrittenScript) × (end : ScriptState) × IsScript bytes script × Text workers (beginning script) script.steps text end
@@ -25,12 +20,7 @@ IsRunOf workers bytes text world =
 -- Each of these is said of the bytes that the reader had, and of those that the writer held before and after. Of a device
 -- that tells no bytes nothing is said.
 
--- the bytes are a script, and its text was written
-abbrev pub Ran : ℕ → Option (List ℕ) → Option (List ℕ) → Option (List ℕ) → Type 0
-Ran workers None old new = ⊤
-Ran workers (Some bytes) old new = (text : List ℕ) × IsTextOf workers bytes text × Appends old new text
-
--- likewise, and the run that has this text ends with this world
+-- the bytes are a script, its text was written, and the run that has this text ends with this world
 abbrev pub RanTo : ℕ → Option (List ℕ) → Option (List ℕ) → Option (List ℕ) → WorldState → Type 0
 RanTo workers None old new world = ⊤
 RanTo workers (Some bytes) old new world = (text : List ℕ) × IsRunOf workers bytes text world × Appends old new text
@@ -44,4 +34,5 @@ WasNotRead (Some bytes) old new = Keeps old new × ((script : WrittenScript) →
 abbrev pub WasStopped : ℕ → Option (List ℕ) → Option (List ℕ) → Option (List ℕ) → Type 0
 WasStopped workers None old new = ⊤
 WasStopped workers (Some bytes) old new =
-    Keeps old new ⊎ ((part : List ℕ) × (text : List ℕ) × IsTextOf workers bytes text × IsBeginning part text × Appends old new part)
+    Keeps old new
+    ⊎ ((part : List ℕ) × (text : List ℕ) × (end : WorldState) × IsRunOf workers bytes text end × IsBeginning part text × Appends old new part)

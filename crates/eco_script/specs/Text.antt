@@ -1,6 +1,7 @@
 -- The text that a run of steps writes.
 use Rattle.std.specs.Prelude.{◌≡◌, ℕ, ◌+◌, Bool, true, false, ◌||◌, List, [], ◌∷◌, ◌++◌, length, map, flat_map, codes, decimal}
-use Rattle.std.specs.Prelude.{IsFalse, Option, Some, None, Result, Ok, Err}
+use Rattle.std.specs.Prelude.{IsFalse, if◌then◌else◌, Result, Ok, Err}
+use Rattle.std.specs.Option.{option_map_or}
 use Rattle.std.specs.List.{list_any}
 use Rattle.eco_ids.specs.declared.entity.Entity.{Entity}
 use Rattle.eco_ids.specs.declared.refusal.Refusal.{Refusal}
@@ -16,22 +17,12 @@ use Rattle.eco_script.specs.Lines.{entity_line, row_line, shown_text}
 use Rattle.eco_script.specs.Replies.{Reply, done, made, truth, got, shown, listed, found, kept, merged, framed, stopped, StepReplies}
 use Rattle.eco_script.specs.States.{ScriptState}
 use Rattle.eco_steps.specs.Steps.{WrittenStep}
-use Rattle.eco_script.specs.Values.{Shown, shown_value}
+use Rattle.eco_script.specs.Values.{shown_value}
 use Rattle.eco_stages.specs.Outcomes.{Outcomes}
 
 -- the line of an entity, with what the world has of it
 abbrev pub line_of : WorldState → Entity → List ℕ
 line_of w e = entity_line e (own_name w e) (arity_of w e) (shown_value w e) (map (λ h. h.0) (held_by w e))
-
--- `true` or `false`
-abbrev pub truth_text : Bool → List ℕ
-truth_text true = codes "true"
-truth_text false = codes "false"
-
--- a value, or `none`
-abbrev pub got_text : Option Shown → List ℕ
-got_text None = codes "none"
-got_text (Some value) = shown_text value
 
 -- the line of a refusal
 abbrev pub refused_line : Refusal → List ℕ
@@ -65,8 +56,8 @@ stopped_line stop = codes "stopped " ++ decimal stop.batches ++ codes " " ++ ref
 abbrev pub reply_lines : WorldState → Reply → List ℕ
 reply_lines w done = codes "ok\n"
 reply_lines w (made e) = codes "ok " ++ entity_text e ++ codes "\n"
-reply_lines w (truth b) = codes "ok " ++ truth_text b ++ codes "\n"
-reply_lines w (got value) = codes "ok " ++ got_text value ++ codes "\n"
+reply_lines w (truth b) = codes "ok " ++ (if b then codes "true" else codes "false") ++ codes "\n"
+reply_lines w (got value) = codes "ok " ++ option_map_or shown_text value (codes "none") ++ codes "\n"
 reply_lines w (shown e) = codes "ok " ++ line_of w e
 reply_lines w (listed es) = codes "ok " ++ decimal (length es) ++ codes "\n" ++ flat_map (line_of w) es
 reply_lines w (found rows) = codes "ok " ++ decimal (length rows) ++ codes "\n" ++ flat_map (λ r. row_line r.entity r.entries) rows
@@ -100,16 +91,10 @@ has_wanted r = is_out_of_memory r || list_any is_out_of_memory (reply_outcomes r
 abbrev pub Does : ℕ → ScriptState → WrittenStep → List ℕ → ScriptState → Type 0
 Does workers old s lines new = (r : Result Reply Refusal) × StepReplies workers old s r new × (lines ≡ step_lines new.world r)
 
--- likewise, and memory was not wanting
-abbrev pub DoesInMemory : ℕ → ScriptState → WrittenStep → List ℕ → ScriptState → Type 0
-DoesInMemory workers old s lines new =
-    (r : Result Reply Refusal) × StepReplies workers old s r new × IsFalse (has_wanted r) × (lines ≡ step_lines new.world r)
-
--- likewise, and it is no frame that stopped
-abbrev pub DoesToEnd : ℕ → ScriptState → WrittenStep → List ℕ → ScriptState → Type 0
-DoesToEnd workers old s lines new =
-    (r : Result Reply Refusal) × StepReplies workers old s r new × IsFalse (has_wanted r) × IsFalse (has_stopped r)
-    × (lines ≡ step_lines new.world r)
+-- likewise, with an answer of which this is not said
+abbrev pub DoesBut : (Result Reply Refusal → Bool) → ℕ → ScriptState → WrittenStep → List ℕ → ScriptState → Type 0
+DoesBut is_so workers old s lines new =
+    (r : Result Reply Refusal) × StepReplies workers old s r new × IsFalse (is_so r) × (lines ≡ step_lines new.world r)
 
 -- steps, one after another, each of which takes a state to the next so, with their lines
 abbrev pub TextBy : (ScriptState → WrittenStep → List ℕ → ScriptState → Type 0) → ScriptState → List WrittenStep → List ℕ → ScriptState → Type 0
@@ -123,8 +108,8 @@ Text workers = TextBy (Does workers)
 
 -- likewise, and memory was never wanting
 abbrev pub TextInMemory : ℕ → ScriptState → List WrittenStep → List ℕ → ScriptState → Type 0
-TextInMemory workers = TextBy (DoesInMemory workers)
+TextInMemory workers = TextBy (DoesBut has_wanted workers)
 
 -- likewise, and no frame stopped
 abbrev pub TextToEnd : ℕ → ScriptState → List WrittenStep → List ℕ → ScriptState → Type 0
-TextToEnd workers = TextBy (DoesToEnd workers)
+TextToEnd workers = TextBy (DoesBut (λ r. has_wanted r || has_stopped r) workers)

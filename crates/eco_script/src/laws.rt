@@ -6,6 +6,7 @@ pub fn runs_have_one_text()
     ensures one { HaveOneText }
     ensures may_be { MayBeText }
 {
+    eco_bodies::scripts_take_one_beginning();
     eco_ids::laws::steps_have_one_end();
     eco_systems::laws::draws_decide_frames();
     eco_grammar::laws::texts_read_once();

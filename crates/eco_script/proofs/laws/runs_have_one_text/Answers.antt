@@ -3,7 +3,7 @@ use Rattle.eco_script.proofs.Determined.{text_may_be}
 use Rattle.eco_script.proofs.laws.runs_have_one_text.Goals as goal
 
 pub returns-clause-one : goal.returns-clause-one
-returns-clause-one c = texts_once c.draws_decide_frames.ensures.alone (record {
+returns-clause-one c = texts_once c.scripts_take_one_beginning.ensures c.draws_decide_frames.ensures.alone (record {
   refs = c.texts_read_once.ensures.reference;
   ids = c.texts_read_once.ensures.id;
   queries = c.texts_read_once.ensures.query;

@@ -1,5 +1,6 @@
 use Rattle.std.proofs.Common.{◌≡◌, ◌∙◌, map, sym, ap, subst, All, Contains}
 use Rattle.std.specs.List.{IsDistinct}
+use Rattle.std.proofs.lemmas.Simd.{map-map}
 use Rattle.std.proofs.lemmas.List.Sorted.{Contains-permutation, IsPermutation-map, IsPermutation-sym}
 use Rattle.eco_world.specs.Worlds.{asked_by, world_with}
 use Rattle.eco_world.specs.Layouts.{HasTable, lent, lent_at, listed, listed_of, shown_at}
@@ -29,7 +30,10 @@ returns-clause-all g c =
     let new = c.sort_by_type.new.tables.items in
     let w = world_with c.self.inside.edition c.self.inside.store.entities qs in
     let passes = g.T.TypeTest.test c.args.test.now in
-    let all : listed old ≡ map (shown_at slots) ns = c.in_ok-tables.ensures.all ∙ ap (map (shown_at slots)) c.deref.ensures.value in
+    let listed_are = rw (← c.self.view_is) at c.in_ok-tables.ensures.lent in
+    let all : listed old ≡ map (shown_at slots) ns =
+    sym (map-map (λ t. t.0) lent old) ∙ ap (map (λ t. t.0)) (listed_are ∙ ap (map (lent_at w slots)) c.deref.ensures.value)
+    ∙ map-map (λ t. t.0) (lent_at w slots) ns in
     let moved = IsPermutation-map listed_of old new c.sort_by_type.ensures.same in
     rw (← c.self.view_is)
     (layout_around w passes (listed new) _

@@ -1,10 +1,9 @@
 use Rattle.std.proofs.Common.{◌≡◌, map, take}
 use Rattle.std.specs.List.{All}
-use Rattle.eco_world.specs.Layouts.{IsWhole, lent, lent_at, listed, shown_at}
+use Rattle.eco_world.specs.Layouts.{IsWhole, lent, lent_at}
 use Rattle.eco_world.proofs.world.layout.tables_in.Given as goal
 
 abbrev pub invariant-loop-slot : goal.invariant-loop-slot
 invariant-loop-slot l =
-    (listed l.found.items ≡ map (shown_at l.tables) (take l.slot-index l.slots))
-    × (map lent l.found.items ≡ map (lent_at l.world l.tables) (take l.slot-index l.slots))
+    (map lent l.found.items ≡ map (lent_at l.world l.tables) (take l.slot-index l.slots))
     × All IsWhole l.found.items

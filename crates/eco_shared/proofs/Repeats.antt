@@ -16,10 +16,6 @@ one_keeps s now repeats t e =
     let same : s ≡ t = cc (e) in
     subst (λ x. Repeats x now) same repeats
 
--- it is the same world
-pub same_keeps : (s : Spare) (now : WorldState) → s.last ≡ None → arc_value s.world ≡ now → KeepsUp (Some s) now
-same_keeps s now none is = one_keeps s now (λ new leads. subst (λ l. Leads (arc_value s.world) l new) none leads ∙ is)
-
 -- it is the world before the last merge
 pub last_keeps : (s : Spare) (last : Last) (old now : WorldState) → MergesHaveOneEnd → s.last ≡ Some last → arc_value s.world ≡ old
     → IsMerged old (merge_of last) now → KeepsUp (Some s) now

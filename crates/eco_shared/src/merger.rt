@@ -240,7 +240,7 @@ impl<J: Naming, R: Wait + Drop> Merger<J, R> {
     }
 
     // Makes the merge on a world of the merger's own. It answers the world, the merge for the history, and its report once more.
-    fn make(
+    fn merge_apart(
         &mut self,
         admitted: u32,
         stages: &[Stage],
@@ -306,7 +306,7 @@ impl<J: Naming, R: Wait + Drop> Merger<J, R> {
         if !can_admit(&self.writer.published().world, admitted) {
             return Err(Refusal::NoMoreIds);
         }
-        let (world, last, report) = self.make(admitted, stages)?;
+        let (world, last, report) = self.merge_apart(admitted, stages)?;
         self.show(world, last)?;
         Ok(report)
     }

@@ -1,13 +1,12 @@
 -- Rows for the choices of blocks.
-use Rattle.eco_ids.proofs.Common.{◌≡◌, ℕ, zero, suc, ◌+◌, ◌-◌, ◌<◌, ◌≤◌, Bool, true, false, nat_lt, List, [], ◌∷◌, ◌++◌, map, length, take, drop}
+use Rattle.eco_ids.proofs.Common.{◌≡◌, ℕ, zero, suc, ◌+◌, ◌-◌, ◌<◌, ◌≤◌, List, [], ◌∷◌, ◌++◌, map, length, take, drop}
 use Rattle.std.proofs.Common.{None, Some, get_or, option_map, unwrap_or}
 use Rattle.eco_ids.specs.Answer.{choices}
-use Rattle.eco_ids.proofs.Common.{Option, refl, sym, ap, ◌∙◌, subst, arith, append_assoc, length-append, length-drop, map-append}
-use Rattle.eco_ids.proofs.Common.{nat_tests, take-length, AllByRecursion, All}
+use Rattle.eco_ids.proofs.Common.{Option, refl, sym, ap, ◌∙◌, subst, arith, append_assoc, map-append}
+use Rattle.eco_ids.proofs.Common.{AllByRecursion, All}
 use Rattle.std.proofs.Common.{drop-cons}
 use Rattle.std.specs.List.{slice_index_or}
-use Rattle.std.proofs.Math.Seq.{drop-append_seam}
-use Rattle.std.proofs.lemmas.List.{take-append-le, drop-append-le, get_or_default, length-map}
+use Rattle.std.proofs.lemmas.List.{get_or_default, length-map}
 use Rattle.std.proofs.Math.ListN.{get_or-map}
 use Rattle.std.proofs.lemmas.List.Elements.{recursion_from_All, All-from_recursion}
 use Rattle.eco_ids.specs.Answer as answers
@@ -74,57 +73,6 @@ rows_shown tables ns terms b are (s ∷ ss) within =
     ∙ ap (λ zs. zs ++ map (shown all) (standings_of b.list.items ss))
     (block_shows all s.entity block (table_in tables (slice_index_or ns s.place 0)).ids terms (are.each s.place within.0))
     ∙ ap (λ zs. results s.entity (table_in tables (slice_index_or ns s.place 0)).ids terms ++ zs) (rows_shown tables ns terms b are ss within.1)
-
--- a block stays one where more choices come behind
-pub block_kept : (all more cs : List (List (Option Id))) (b : Block) → IsBlock all cs b → IsBlock (all ++ more) cs b
-block_kept all more cs b is =
-    let r = is.rises in
-    let w = is.within in
-    let cut = length-drop b.first all in
-    let long = length-append all more in
-    record {
-      rises = r;
-      within = omega (arith, w, long);
-      are =
-          ap (take (b.end - b.first)) (drop-append-le b.first all more (omega (arith, r, w)))
-          ∙ take-append-le (b.end - b.first) (drop b.first all) more (omega (arith, r, w, cut)) ∙ is.are;
-    }
-
--- the choices that come behind are a block
-pub block_new : (all cs : List (List (Option Id))) (b : Block) → b ≡ record { first = length all; end = length (all ++ cs) } → IsBlock (all ++ cs) cs b
-block_new all cs b is = subst (IsBlock (all ++ cs) cs) (sym is) (record {
-  rises = let long = length-append all cs in omega (arith, long);
-  within = omega arith;
-  are =
-      ap (take (length (all ++ cs) - length all)) (drop-append_seam all cs)
-      ∙ (let long = length-append all cs in let k : length (all ++ cs) - length all ≡ length cs = omega (arith, long) in ap (λ n. take n cs) k)
-      ∙ take-length cs;
-})
-
-at_front : (bs : List Block) (b : Block) (k : ℕ) → k < length bs → block_at (bs ++ b ∷ []) k ≡ block_at bs k
-at_front [] b k lt = absurd (omega (arith, lt))
-at_front (c ∷ bs) b zero lt = refl
-at_front (c ∷ bs) b (suc k) lt = at_front bs b k (omega (arith, lt))
-
-at_end : (bs : List Block) (b : Block) → block_at (bs ++ b ∷ []) (length bs) ≡ b
-at_end [] b = refl
-at_end (c ∷ bs) b = at_end bs b
-
--- one more block
-pub blocks_more : (cs : ℕ → List (List (Option Id))) (all : List (List (Option Id))) (bs : List Block) (i : ℕ) (b : Block) → length bs ≡ i →
-    ((k : ℕ) → k < i → IsBlock all (cs k) (block_at bs k)) → b ≡ record { first = length all; end = length (all ++ cs i) } →
-    (k : ℕ) → k < i + 1 → IsBlock (all ++ cs i) (cs k) (block_at (bs ++ b ∷ []) k)
-blocks_more cs all bs i b long each is k lt = by (nat_lt k i) refl
-  where
-    by : (c : Bool) → nat_lt k i ≡ c → IsBlock (all ++ cs i) (cs k) (block_at (bs ++ b ∷ []) k)
-    by true e =
-        let low : k < i = grind (arith, nat_tests) in
-        subst (IsBlock (all ++ cs i) (cs k)) (sym (at_front bs b k (omega (arith, low, long)))) (block_kept all (cs i) (cs k) (block_at bs k) (each k low))
-    by false e =
-        let high : i ≤ k = grind (arith, nat_tests) in
-        let same : k ≡ i = omega (arith, high, lt) in
-        subst (λ j. IsBlock (all ++ cs i) (cs j) (block_at (bs ++ b ∷ []) j)) (sym same)
-        (subst (IsBlock (all ++ cs i) (cs i)) (sym (ap (block_at (bs ++ b ∷ [])) (sym long) ∙ at_end bs b)) (block_new all (cs i) b is))
 
 -- ---- one choice for each table
 

@@ -7,7 +7,7 @@ use Rattle.std.specs.List.{slice_index_or}
 use Rattle.std.proofs.lemmas.List.{take_more}
 use Rattle.std.proofs.lemmas.List.Elements.{recursion_from_All}
 use Rattle.eco_ids.specs.Answer as answers
-use Rattle.eco_ids.specs.Answer.{choices, entries_of, is_least_match}
+use Rattle.eco_ids.specs.Answer.{choices, is_least_match}
 use Rattle.eco_ids.specs.Matching.{pattern_matches}
 use Rattle.eco_ids.specs.Order.{id_cmp, is_ascending}
 use Rattle.eco_ids.specs.Terms as terms

@@ -7,10 +7,9 @@ ghost use Rattle.eco_answers.specs.Answers.{asks};
 ghost use Rattle.eco_answers.specs.Blocks.{AreBlocks, standings_in, standings_of};
 
 use eco_entries::{Choices, choices_of, find_only};
-use eco_ids::{Entity, Id};
+use eco_ids::{Entity, Id, TableSlot};
 use eco_query::Slot;
 use eco_store::{Ranked, Standing, Table, Tables};
-use eco_tables::TableSlot;
 use std::alloc::{AllocError, Global};
 
 /// The choices of one table: from the first on, up to the end.

@@ -77,13 +77,6 @@ impl Results {
         self.rows.is_empty()
     }
 
-    /// How many entries each has: as many as the query has slots.
-    pub fn width(&self) -> usize
-        ensures { All (λ (r : Rows). length r.entries ≡ result) self.now }
-    {
-        self.choices.width()
-    }
-
     /// One of them: the entity and its entries.
     pub fn get(&self, place: usize) -> (Entity, &[Option<Id>])
         requires { place < length self.now }

@@ -248,19 +248,6 @@ same_rows s s' n slot sets same k row =
 pub rows_from_slots : (s s' : List (Option TableState)) → SameSlots s s' → SameRows s s'
 rows_from_slots s s' same n row = ap (λ o. slice_get (unwrap_or o no_table).rows row) (same n)
 
--- a table that was answered as without rows has none
-pub rowless-rows : (s : List (Option TableState)) (n : ℕ) (ids : List Id) → Some ids ≡ rowless_type (slot_of s n)
-    → ◌≡◌ {A = List TableRow} [] (table_in s n).rows
-rowless-rows s n ids = by (slot_of s n)
-  where
-    of_rows : (t : TableState) (rows : List TableRow) → Some ids ≡ rowless t rows → [] ≡ rows
-    of_rows t [] e = refl
-    of_rows t (r ∷ rest) e = absurd (cc)
-
-    by : (o : Option TableState) → Some ids ≡ rowless_type o → [] ≡ (unwrap_or o no_table).rows
-    by None e = refl
-    by (Some t) e = of_rows t t.rows e
-
 pub then_rows : (s s' s2 : List (Option TableState)) → SameRows s s' → SameRows s' s2 → SameRows s s2
 then_rows s s' s2 a b n row = b n row ∙ a n row
 

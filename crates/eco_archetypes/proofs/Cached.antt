@@ -1,5 +1,5 @@
 -- What the slots of a cache find.
-use Rattle.std.proofs.Common.{◌≡◌, ℕ, zero, suc, get_or, ◌+◌, ◌<◌, Bool, true, false, true≢false, cond, ◌&&◌, ◌||◌, nat_eq, nat_lt, List, [], ◌∷◌, length}
+use Rattle.std.proofs.Common.{◌≡◌, ℕ, ◌+◌, Bool, true, false, true≢false, cond, ◌&&◌, ◌||◌, nat_eq, nat_lt, List, [], ◌∷◌, length}
 use Rattle.std.proofs.Common.{filter, take, Option, Some, None}
 use Rattle.std.proofs.Common.{option_map, unwrap_or, IsTrue, IfSome, Result, Ok, Err, IfOk, OnErr, refl, sym, ap, ◌∙◌, arith}
 use Rattle.std.specs.List.{list_any, IsDistinct}
@@ -100,12 +100,6 @@ noted s k q old new b is turns those n = turns n ∙ by (nat_eq k n) refl
 -- no slot is looked at yet
 pub noted_none : (s : Slots) (q : List QuerySlot) → AreThose (type_at (take 0 s)) q []
 noted_none s q n = refl
-
--- one of them passes
-pub any_at : (p : ℕ → Bool) (xs : List ℕ) (i d : ℕ) → i < length xs → p (get_or xs i d) ≡ true → list_any p xs ≡ true
-any_at p [] i d within h = absurd (omega (arith, within))
-any_at p (x ∷ xs) zero d within h = or_left (p x) (list_any p xs) h
-any_at p (x ∷ xs) (suc i) d within h = or_right (p x) (list_any p xs) (any_at p xs i d (omega (arith, within)) h)
 
 pub if_some : {T : Type 0} (P Q : T → Type 0) (o : Option T) → ((x : T) → P x → Q x) → IfSome o P → IfSome o Q
 if_some P Q (Some x) f h = f x h

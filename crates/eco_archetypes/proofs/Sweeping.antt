@@ -1,20 +1,25 @@
 -- What is left, and found, where many tables went.
-use Rattle.std.proofs.Common.{◌≡◌, ℕ, ◌&&◌, Bool, true, false, cond, List, true≢false}
+use Rattle.std.proofs.Common.{◌≡◌, ℕ, ◌&&◌, ◌||◌, Bool, true, false, cond, List, [], ◌∷◌, ◌++◌, IfNone, nat_eq, true≢false}
 use Rattle.std.proofs.Common.{OnSome, Option, Some, None, option_map, is_some, refl, sym, ap, ◌∙◌, inl, inr}
 use Rattle.std.specs.HashMap.{HashMap, get}
+use Rattle.std.specs.List.{list_any}
+use Rattle.std.proofs.lemmas.Bool.{cases_eq}
+use Rattle.std.proofs.lemmas.Bool.Decides.{Decides-eqb}
+use Rattle.std.proofs.lemmas.List.Folds.{list_any-append}
+use Rattle.eco_ids.proofs.Lists.{not_equal}
 use Rattle.eco_ids.specs.declared.id.Id.{Id}
 use Rattle.eco_ids.specs.declared.pattern.Pattern.{Pattern}
 use Rattle.eco_tables.specs.Table.{TableState}
-use Rattle.eco_tables.specs.Tables.{slot_of, SetsSlot}
+use Rattle.eco_tables.specs.Tables.{slot_of, rowless_type, SetsSlot}
 use Rattle.eco_caches.specs.declared.cache.Cache.{Cache}
 use Rattle.eco_caches.specs.Caching.{AreExact, ChangesType}
 use Rattle.eco_index.specs.Edges.{edge, toggled}
 use Rattle.eco_index.specs.IdIndex.{Lists}
-use Rattle.eco_index.specs.Sweeping.{has_table, kept_if, KeepsListed, KeepsEdges}
+use Rattle.eco_index.specs.Sweeping.{kept_if, KeepsListed, KeepsEdges}
 use Rattle.eco_index.specs.TypeMap.{same_ids}
 use Rattle.eco_index.proofs.Sweeping.{kept_some, kept_stays}
-use Rattle.eco_archetypes.specs.Archetypes.{type_at, type_matches, IsArchetypes}
-use Rattle.eco_archetypes.specs.Sweeping.{IsLess}
+use Rattle.eco_archetypes.specs.Archetypes.{type_at, type_matches, is_rowless, IsArchetypes, SameSlots}
+use Rattle.eco_archetypes.specs.Sweeping.{has_table, DropsRowless, IsLess}
 use Rattle.eco_archetypes.proofs.ArchetypeLemmas.{changes_type}
 use Rattle.eco_archetypes.proofs.Widths.{AreKept, kept_agreed, kinds}
 
@@ -32,6 +37,46 @@ pub dropped_type : (s s' : List (Option TableState)) (n : ℕ) (o : Option (List
     → ChangesType (type_at s) (type_at s') n None
 dropped_type s s' n None some sets = cc
 dropped_type s s' n (Some ids) some sets = changes_type s s' n None sets
+
+-- the slot has a table without rows
+abbrev is_empty : Option TableState → Bool
+is_empty o = is_some (rowless_type o)
+
+and_false : (b : Bool) → (b && false) ≡ false
+and_false true = refl
+and_false false = refl
+
+-- nothing is dropped yet
+pub drops_none : (s : List (Option TableState)) → DropsRowless s s []
+drops_none s n = rw (and_false (is_rowless s n)) refl
+
+-- those of some slots are dropped, and then those of others
+pub drops_both : (s s1 s2 : List (Option TableState)) (ns ms : List ℕ) → DropsRowless s s1 ns → DropsRowless s1 s2 ms → DropsRowless s s2 (ns ++ ms)
+drops_both s s1 s2 ns ms was next n =
+    next n ∙ ap (λ o. cond (is_empty o && list_any (nat_eq n) ms) None o) (was n)
+    ∙ by (slot_of s n) (list_any (nat_eq n) ns) (list_any (nat_eq n) ms) (is_empty (slot_of s n)) refl
+    ∙ ap (λ b. cond (is_rowless s n && b) None (slot_of s n)) (sym (list_any-append (nat_eq n) ns ms))
+  where
+    by : (o : Option TableState) (b c e : Bool) → is_empty o ≡ e
+        → cond (is_empty (cond (is_empty o && b) None o) && c) None (cond (is_empty o && b) None o) ≡ cond (is_empty o && (b || c)) None o
+    by o true c true h = rw h refl
+    by o false true true h = rw h (rw h refl)
+    by o false false true h = rw h (rw h refl)
+    by o b c false h = rw h (rw h refl)
+
+-- the table of one slot is dropped if it has no rows
+pub drops_one : (s s' : List (Option TableState)) (n : ℕ) (o : Option (List Id)) → o ≡ rowless_type (slot_of s n)
+    → OnSome o (SetsSlot s s' n None) → IfNone o (SameSlots s s') → DropsRowless s s' (n ∷ [])
+drops_one s s' n None none sets same k = same k ∙ elim (cases_eq k n) [
+  | inl here ↦ rw (ap (λ m. is_rowless s m) here ∙ sym (ap is_some none)) refl
+  | inr other ↦ rw (not_equal k n other, and_false (is_rowless s k)) refl
+]
+drops_one s s' n (Some ids) some sets same k = elim (cases_eq k n) [
+  | inl here ↦
+      ap (slot_of s') here ∙ sets.changed
+      ∙ rw (ap (λ m. is_rowless s m) here ∙ sym (ap is_some some), (Decides-eqb k n).1 here) refl
+  | inr other ↦ sets.others k other ∙ rw (not_equal k n other, and_false (is_rowless s k)) refl
+]
 
 module _ (s s' : List (Option TableState)) (less : IsLess s s') where
   same_there : (n : ℕ) → has_table s' n ≡ true → slot_of s' n ≡ slot_of s n

@@ -23,10 +23,10 @@ use Rattle.eco_index.specs.Edges.{Cuts}
 use Rattle.eco_index.specs.IdIndex.{Lists, any_matches, matches_id, is_own, Turns, ListsSame}
 use Rattle.eco_caches.specs.Caching.{AreTold}
 use Rattle.eco_caches.specs.declared.cache.Cache.{Cache}
-use Rattle.eco_index.specs.TypeMap.{same_ids, IsTypeMap, LeadAlike, TakesGrown}
+use Rattle.eco_index.specs.TypeMap.{same_ids, IsTypeMap, LeadAlike, LeadsGrown, TakesGrown}
 use Rattle.eco_index.proofs.Toggles.{lost_again}
 use Rattle.eco_index.proofs.Graphs.{graph_cut}
-use Rattle.eco_archetypes.specs.Archetypes.{type_at, type_matches, IsArchetypes, IsIdIndex, TakesType, SameSlots}
+use Rattle.eco_archetypes.specs.Archetypes.{type_at, type_matches, IsArchetypes, IsIdIndex, TakesType, SameSlots, SomeHasType}
 use Rattle.eco_archetypes.specs.Widths.{AreAgreed, MeetsNeeds, KeepsWidths}
 use Rattle.eco_archetypes.proofs.Widths.{kept_agreed, kept_widths, same_kept}
 
@@ -332,6 +332,15 @@ module _ {S : Type 0} (s : List (Option TableState)) (m ready taken : HashMap (L
     (types : IsTypeMap (type_at s) m) (same : ready.entries ≡ m.entries) (had : type_at s n ≡ Some ids) where
   pub led_type : (t : List Id) → get same_ids ready t ≡ Some n → t ≡ ids
   led_type t led = one t ids (sym (types.found t n (ap (lookup (same_ids t)) (sym same) ∙ led)) ∙ had)
+
+  -- where another type has the id too, and all else alike, some table has that type
+  pub grown_taken : LeadsGrown ready n i → SomeHasType s (with_item id_cmp ids i)
+  grown_taken led =
+      let there = some_is (get same_ids ready (with_item id_cmp led.0 i)) led.2 in (
+        _,
+        types.found _ _ (ap (lookup (same_ids (with_item id_cmp led.0 i))) (sym same) ∙ there)
+            ∙ ap (λ t. Some (with_item id_cmp t i)) (led_type led.0 led.1),
+      )
 
   module _ (takes : TakesGrown ready taken n i grown) where
     pub grown_is : grown ≡ with_item id_cmp ids i

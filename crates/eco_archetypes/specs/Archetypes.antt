@@ -51,6 +51,10 @@ SameSlots old new = (n : ℕ) → slot_of new n ≡ slot_of old n
 abbrev pub KeepsTypes : List (Option TableState) → List (Option TableState) → Type 0
 KeepsTypes old new = (n : ℕ) (ids : List Id) → type_at old n ≡ Some ids → type_at new n ≡ Some ids
 
+-- some table has this type
+abbrev pub SomeHasType : List (Option TableState) → List Id → Type 0
+SomeHasType slots ids = (n : ℕ) × (type_at slots n ≡ Some ids)
+
 -- the table in a slot has another type from now on, and its rows are under it; every other table stays
 pub record TakesType (old new : List (Option TableState)) (n : ℕ) (ids : List Id) : Type 0 where
   pub typed : type_at new n ≡ Some ids

@@ -18,9 +18,9 @@ ghost use Rattle.eco_archetypes.specs.Widths.{FitsIn, KeepsWidths, StillCover};
 
 use eco_caches::Caches;
 use eco_entities::EntityIndex;
-use eco_ids::{Entity, Id, TypeList, Value};
+use eco_ids::{Entity, Id, TableSlot, TypeList, Value};
 use eco_index::{Edges, IdIndex, Seed, TypeMap};
-use eco_tables::{TableSlot, Tables};
+use eco_tables::Tables;
 use std::alloc::{AllocError, Global};
 use std::marker::Model;
 
@@ -278,6 +278,7 @@ impl Archetypes {
         ensures sets { SetsRoom self.old self.new slot }
         ensures kept { (table_in self.old slot).room ≤ (table_in self.new slot).room }
         ensures room { OnOk result (more ≤ (table_in self.new slot).room) }
+        ensures err { OnErr result ((table_in self.new slot).room ≡ (table_in self.old slot).room) }
         ensures rows { SameRows self.old self.new }
         ensures widths { KeepsWidths self.old self.new }
     {

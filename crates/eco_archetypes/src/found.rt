@@ -6,8 +6,8 @@ ghost use Rattle.eco_tables.specs.Table.{entities_of};
 ghost use Rattle.eco_tables.specs.Tables.{table_in};
 ghost use Rattle.eco_archetypes.specs.Archetypes.{standing_in};
 
-use eco_ids::Entity;
-use eco_tables::{TableSlot, Tables};
+use eco_ids::{Entity, TableSlot};
+use eco_tables::Tables;
 use std::alloc::{AllocError, Global};
 
 /// All tables of a store, and the slots of those that were found, each once, in any order.

@@ -10,6 +10,7 @@
 
 mod archetypes;
 mod found;
+mod occupied;
 
 pub use archetypes::Archetypes;
 pub use eco_index::{AllOf, NamingTest, Seed, TypeTest};

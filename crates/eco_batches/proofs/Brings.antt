@@ -26,7 +26,7 @@ use Rattle.eco_ids.proofs.Keeps.{has_in}
 use Rattle.eco_ids.proofs.Overlaps.{entity_eq_is, entity_eq_itself}
 use Rattle.eco_systems.specs.Closing.{pattern_head, pattern_with_head}
 use Rattle.eco_systems.specs.Writes.{BringsPattern, InClosedPatterns}
-use Rattle.eco_traits.specs.Prospect.{is_pair_of_with}
+use Rattle.eco_ids.specs.Mirrors.{is_with}
 use Rattle.eco_traits.specs.Target.{type_of_record}
 use Rattle.eco_search.specs.Search.{Appends, Covers, IsInLeast, IsLeastSet, is_among}
 use Rattle.eco_batches.specs.Brought.{AreClosed, HasKnownTarget, below, brought, brought_by}
@@ -111,18 +111,18 @@ pub has_shown : (w : WorldState) (e : Entity) (ids shown : List Id) → Some ids
 has_shown w e ids shown own is x = has_listed (record_of w e) (id.Two WITH x) ids own ∙ ap (λ xs. has_item id_cmp xs (id.Two WITH x)) (sym is)
 
 -- a pattern of whose head no id is a pair of With brings nothing
-none_brought : (p : Pattern) (ids : List Id) → list_any is_pair_of_with ids ≡ false → brought p ids ≡ []
+none_brought : (p : Pattern) (ids : List Id) → list_any is_with ids ≡ false → brought p ids ≡ []
 none_brought p [] h = refl
 none_brought p (id.One e ∷ ids) h = none_brought p ids h
 none_brought p (id.Two r x ∷ ids) h = by (none_brought p ids) (entity_eq r WITH) refl
   where
-    by : (list_any is_pair_of_with ids ≡ false → brought p ids ≡ []) → (b : Bool) → entity_eq r WITH ≡ b → brought p (id.Two r x ∷ ids) ≡ []
-    by rest true e = absurd (true≢false (sym (ap (λ c. c || list_any is_pair_of_with ids) e) ∙ h))
+    by : (list_any is_with ids ≡ false → brought p ids ≡ []) → (b : Bool) → entity_eq r WITH ≡ b → brought p (id.Two r x ∷ ids) ≡ []
+    by rest true e = absurd (true≢false (sym (ap (λ c. c || list_any is_with ids) e) ∙ h))
     by rest false e =
         ap (λ c. option_to_list (if c then Some (pattern_with_head p x) else None) ++ brought p ids) e
-        ∙ rest (sym (ap (λ c. c || list_any is_pair_of_with ids) e) ∙ h)
+        ∙ rest (sym (ap (λ c. c || list_any is_with ids) e) ∙ h)
 
-pub nothing_by : (w : WorldState) (p : Pattern) (ids : List Id) → list_any is_pair_of_with ids ≡ false
+pub nothing_by : (w : WorldState) (p : Pattern) (ids : List Id) → list_any is_with ids ≡ false
     → ((q : Pattern) → BringsPattern w p q ↔ Member q (brought p ids))
     → (q : Pattern) → BringsPattern w p q → ⊥
 nothing_by w p ids none exact q b = subst (Member q) (none_brought p ids none) ((exact q).0 b)

@@ -16,17 +16,11 @@ use Rattle.eco_systems.specs.Writes.{writes_trait}
 use Rattle.eco_batches.specs.Brought.{same_pattern}
 use Rattle.eco_batches.specs.Open.{IsFresh, IsOpen, JoinsNext, JoinsOpen, stands_apart}
 use Rattle.eco_batches.specs.OutlineModels.{OutlineModel}
-use Rattle.eco_batches.specs.Outlines.{IsOutline, clash_at, clash_of, closed_in, disturbs, kills_in, kills_too, late_at, reads_in, traits_in}
+use Rattle.eco_batches.specs.Outlines.{IsOutline, clash_at, clash_of, closed_in, disturbs, kills_in, kills_too, late_at, reads_in}
 use Rattle.eco_batches.specs.Written.{overlaps}
 use Rattle.eco_batches.specs.declared.batch.Batch.{Batch}
 use Rattle.eco_batches.specs.declared.declaration.Declared.{Declared}
 use Rattle.eco_batches.proofs.Keyed.{or_none, or_joins}
-
--- one position more
-pub late_more : (os : List OutlineModel) (done : List ℕ) (at : ℕ) (before own : Bool) → before ≡ list_any (λ k. traits_in (slice_get os k)) done →
-    own ≡ traits_in (slice_get os at) → (before || own) ≡ late_at os done at
-late_more os done at before own b o =
-    (λ i. b i || (o ∙ sym (or_none (traits_in (slice_get os at)))) i) ∙ sym (list_any-append (λ k. traits_in (slice_get os k)) done (at ∷ []))
 
 -- ---- what is asked of each system of a batch, asked of all together
 

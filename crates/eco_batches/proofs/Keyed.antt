@@ -67,9 +67,6 @@ same_entity = (entity_impl.eq-value).it
 abbrev same_id : Id → Id → Bool
 same_id = (id_impl.eq-value).it
 
-pub entity_found : (keys : List Entity) (e : Entity) → list_any (same_entity e) keys ≡ has_item entity_cmp keys e
-entity_found keys e = found entity_cmp entity_eq_is (same_entity e) e (entity_ties e) keys
-
 pub id_found : (keys : List Id) (i : Id) → list_any (same_id i) keys ≡ has_item id_cmp keys i
 id_found keys i = found id_cmp id_eq_is (same_id i) i (id_ties i) keys
 

@@ -1,16 +1,15 @@
 //! What patterns bring with them.
 ghost use Rattle.std.specs.Prelude.{◌≡◌, ◌++◌, ◌↔◌, flat_map, map, option_to_list, IfOk, IsFalse, IsTrue, OnOk};
-ghost use Rattle.std.specs.List.{list_any};
 ghost use Rattle.eco_ids.specs.declared.pattern.Pattern.{Pattern as PatternData};
 ghost use Rattle.eco_systems.specs.Closing.{pattern_head, pattern_with_head};
 ghost use Rattle.eco_systems.specs.Writes.{BringsPattern, SomeOf};
-ghost use Rattle.eco_traits.specs.Prospect as traits;
 ghost use Rattle.eco_batches.specs.Brought as spec;
 ghost use Rattle.eco_batches.specs.Brought.{AreClosed, HasKnownTarget, brought_by, pattern_key, known_keys, key_pattern};
 ghost use Rattle.eco_batches.specs.KeyLaws.{same_keys};
 
 use crate::key::Key;
 use eco_ids::entity::WITH;
+use eco_ids::id::any_with;
 use eco_ids::{Entity, Id, Part, Pattern};
 use eco_search::{Graph, least_set};
 use eco_traits::Holdings;
@@ -105,23 +104,6 @@ fn append_brought(pattern: Pattern, ids: &[Id], found: &mut Vec<Key>) -> Result<
         }
     }
     Ok(())
-}
-
-// Whether the id is a pair of With.
-fn is_with(id: Id) -> bool
-    ensures { result ≡ traits.is_pair_of_with id }
-{
-    match id {
-        Id::One(_) => false,
-        Id::Two(relationship, _) => relationship.is(WITH),
-    }
-}
-
-// Whether one of the ids is a pair of With.
-fn any_with(ids: &[Id]) -> bool
-    ensures { result ≡ list_any traits.is_pair_of_with ids.now }
-{
-    ids.iter().any(|id| is_with(*id))
 }
 
 /// Whether none of the patterns brings anything: few do.

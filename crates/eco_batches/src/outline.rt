@@ -145,6 +145,7 @@ fn writes_trait(edition: Edition, pattern: Pattern) -> bool
     }
 }
 
+// Whether one of the closed writes is of a trait.
 fn writes_some_trait(edition: Edition, closed: &[Pattern]) -> bool
     ensures { result ≡ list_any (writes.writes_trait edition) closed.now }
 {

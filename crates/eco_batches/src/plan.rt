@@ -1,5 +1,5 @@
 //! Batches that are kept from frame to frame.
-ghost use Rattle.std.specs.Prelude.{◌≡◌, map, IfOk, OnOk};
+ghost use Rattle.std.specs.Prelude.{◌≡◌, map, IfOk, OnErr, OnOk};
 ghost use Rattle.eco_batches.specs.Outlines.{ArePlacedBatches};
 ghost use Rattle.eco_batches.specs.Plans.{IsBatchPlan, batches_in};
 
@@ -41,7 +41,11 @@ impl<'a> Plan<'a> {
     ) -> Result<Plan<'a>, AllocError>
         ensures plan { IfOk result IsBatchPlan }
         ensures systems { IfOk result (λ p. p.systems.items ≡ systems.entry.items) }
+        ensures placed { IfOk result (λ p. ArePlacedBatches (H.world holdings.now) systems.entry.items
+            (batches_in p)) }
     {
+        eco_systems::laws::systems_are_ordered();
+        eco_systems::laws::batches_are_unique();
         let order = running_order(alloc, &systems)?;
         let outlines = work_out(alloc, holdings, &systems)?;
         let batches = cut(alloc, &outlines, &systems, &order)?;
@@ -61,6 +65,7 @@ impl<'a> Plan<'a> {
         ensures systems { self.new.systems.items ≡ self.old.systems.items }
         ensures placed { OnOk result (ArePlacedBatches (H.world holdings.now) self.old.systems.items
             (batches_in self.new)) }
+        ensures err { OnErr result (self.new ≡ self.old) }
     {
         eco_systems::laws::systems_are_ordered();
         eco_systems::laws::batches_are_unique();

@@ -1,11 +1,11 @@
 -- What stands at the slots of a row that its query answers.
-use Rattle.std.proofs.Common.{◌≡◌, ◌<◌, ℕ, zero, suc, Bool, true, false, cond, ◌&&◌, ◌||◌, List, [], ◌∷◌, ◌++◌, map, length, get_or, refl, sym, ap, ◌∙◌, subst}
-use Rattle.std.proofs.Common.{IsTrue, inl, inr, Contains, Option, Some, None, unwrap_or, slice_get, option_and_then, arith, eqb-true, true≢false}
+use Rattle.std.proofs.Common.{◌≡◌, ◌<◌, ℕ, zero, suc, true, false, cond, ◌||◌, List, [], ◌∷◌, ◌++◌, map, length, get_or, refl, sym, ap, ◌∙◌, subst}
+use Rattle.std.proofs.Common.{IsTrue, inl, inr, Contains, Option, Some, None, arith, eqb-true, true≢false}
 use Rattle.std.proofs.Common.{le_of_suc-le-suc, filter}
-use Rattle.std.specs.Prelude.{find, flat_map, option_to_list}
+use Rattle.std.specs.Prelude.{find, option_to_list}
 use Rattle.std.specs.List.{list_any, AllByRecursion}
 use Rattle.std.proofs.lemmas.List.Folds.{list_any-append}
-use Rattle.std.proofs.lemmas.Option.{none-some, same_Some}
+use Rattle.std.proofs.lemmas.Option.{none-some}
 use Rattle.eco_ids.specs.declared.entity.Entity.{Entity}
 use Rattle.eco_ids.specs.declared.id.Id.{Id}
 use Rattle.eco_ids.specs.declared.pattern.Pattern.{Pattern}
@@ -16,13 +16,13 @@ use Rattle.eco_ids.specs.Terms.{QueryTerm, And, Not, Optional, Or}
 use Rattle.eco_ids.specs.World.{Record, WorldState, living}
 use Rattle.eco_ids.proofs.Ascending.{first}
 use Rattle.eco_ids.proofs.Facts.{or_left, or_parts, or_right}
-use Rattle.eco_query.specs.Queries.{QuerySlot, exactly, patterns_of}
+use Rattle.eco_query.specs.Queries.{QuerySlot, exactly}
 use Rattle.eco_query.specs.declared.access.Access.{Access}
 use Rattle.eco_systems.specs.Rows.{ValuedRow, valued_rows, valued}
 use Rattle.eco_systems.specs.Systems.{matches_one}
 use Rattle.eco_systems.proofs.Answers.{IsRead, asked, exact_match, found_item}
 use Rattle.eco_systems.proofs.Lists.{all_gathered, all_mapped, all_pass}
-use Rattle.eco_bodies.specs.Actions.{action_writes, asks_presence, has_entries, patterns_at, script_writes, slot_at}
+use Rattle.eco_bodies.specs.Actions.{action_writes, asks_presence, patterns_at, script_writes, slot_at}
 use Rattle.eco_bodies.specs.Laws.{OwnEntriesAreSet, sets_slot}
 use Rattle.eco_bodies.specs.Lent.{item_at}
 use Rattle.eco_bodies.specs.declared.action.Action.{Action}

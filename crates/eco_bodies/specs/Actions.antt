@@ -22,10 +22,7 @@ may_write InOutNone = false
 
 -- it is read and written
 abbrev pub may_add_to : Access → Bool
-may_add_to In = false
-may_add_to Out = false
-may_add_to InOut = true
-may_add_to InOutNone = false
+may_add_to access = may_write access && shows_values access
 
 abbrev pub asks_presence : QueryTerm → Bool
 asks_presence (And p) = true

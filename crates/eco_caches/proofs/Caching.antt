@@ -13,7 +13,7 @@ use Rattle.eco_ids.specs.declared.id.Id.{Id}
 use Rattle.eco_caches.specs.declared.cache.Cache.{Cache}
 use Rattle.eco_entries.specs.Answers.{asked}
 use Rattle.eco_entries.specs.Flat.{ChoicesState}
-use Rattle.eco_caches.specs.Caching.{AreExact, AreKept, AreThose, AreTold, ChangesType, HaveRoom, IsExact, IsTold, StayExact}
+use Rattle.eco_caches.specs.Caching.{AreExact, AreKept, AreThose, AreTold, ChangesType, HaveRoom, IsExact, IsTold, KeepStill, KeepsStill, StayExact}
 use Rattle.eco_caches.specs.Caching.{CacheState, cache_state, cache_states, choices_on, fulfils, kept_queries}
 use Rattle.eco_caches.proofs.Onlies.{map_alike}
 
@@ -22,6 +22,11 @@ abbrev pub AreToldTo : List Cache → List Cache → ℕ → Option (List Id) �
 AreToldTo old new n o count =
     (types types' : ℕ → Option (List Id)) → ChangesType types types' n o → AreExact types old
     → (k : ℕ) (c : Cache) → slice_get new k ≡ Some c → (k < count → IsExact types' c) × (count ≤ k → IsExact types c)
+
+-- those before a place keep choices as before, and those from it on are as they were
+abbrev pub KeepStillTo : List Cache → List Cache → Option (List Id) → ℕ → Type 0
+KeepStillTo old new o count =
+    (k : ℕ) (c d : Cache) → slice_get old k ≡ Some c → slice_get new k ≡ Some d → (k < count → KeepsStill c d o) × (count ≤ k → d ≡ c)
 
 -- those from a place on take one slot more without memory
 abbrev pub HaveRoomFrom : List Cache → ℕ → Type 0
@@ -123,6 +128,25 @@ module _ (items : List Cache) (i : ℕ) (x y : Cache) where
     )
   ]
 
+  -- one cache more keeps choices as before
+  pub keep_more : (old : List Cache) (o : Option (List Id)) → KeepStillTo old items o i → slice_get items i ≡ Some x → KeepsStill x y o
+      → KeepStillTo old (slice_set items i y) o (i + 1)
+  keep_more old o kept at one k c d was got = elim (got_set items i k y d got) [
+    | inl here ↦ (
+      λ before.
+          subst (λ z. KeepsStill c z o) here.1
+          (subst (λ z. KeepsStill z y o) ((kept i c x (subst (λ j. slice_get old j ≡ Some c) here.0 was) at).1 (omega arith)) one),
+      λ past. absurd (omega (arith, here.0, past)),
+    )
+    | inr other ↦ (
+      λ before. elim (cases_lt k i) [
+        | inl less ↦ (kept k c d was other.1).0 less
+        | inr most ↦ absurd (other.0 (omega (arith, before, most)))
+      ],
+      λ past. (kept k c d was other.1).1 (omega (arith, past)),
+    )
+  ]
+
   -- the others have their room
   pub room_after : HaveRoomFrom items i → HaveRoomFrom (slice_set items i y) (i + 1)
   room_after room k c got past = elim (got_set items i k y c got) [
@@ -158,6 +182,19 @@ added types old ready new x same more was is k c at =
 -- none is told yet, and each has its room
 pub told_begun : (old items : List Cache) (n : ℕ) (o : Option (List Id)) → items ≡ old → AreToldTo old items n o 0
 told_begun old items n o is = subst (λ cs. AreToldTo old cs n o 0) (sym is) (told_first old n o)
+
+pub keep_begun : (old items : List Cache) (o : Option (List Id)) → items ≡ old → KeepStillTo old items o 0
+keep_begun old items o is k c d was got = (
+  λ before. absurd (omega (arith, before)),
+  λ past. let same : ◌≡◌ {A = Option Cache} (Some d) (Some c) = sym got ∙ ap (λ cs. slice_get cs k) is ∙ was in cc,
+)
+
+pub keep_all : (old items zs : List Cache) (o : Option (List Id)) (count len : ℕ) → KeepStillTo old items o count → len ≡ length items
+    → length items ≤ count → KeepStill old (take len (items ++ zs)) o
+keep_all old items zs o count len kept is most k c d was got =
+    let there : slice_get items k ≡ Some d = ap (λ cs. slice_get cs k) (sym (written_back len items zs is)) ∙ got in
+    let within = got_within items k d there in
+    (kept k c d was there).0 (omega (arith, within, most))
 
 pub room_begun : (old items : List Cache) → items ≡ old → HaveRoom old → HaveRoomFrom items 0
 room_begun old items is room k c at past = room k c (ap (λ cs. slice_get cs k) (sym is) ∙ at)

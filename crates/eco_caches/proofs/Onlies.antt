@@ -1,13 +1,13 @@
 -- The only choices that a cache keeps, slot by slot.
 use Rattle.std.proofs.Common.{◌≡◌, ◌≢◌, ℕ, suc, ◌+◌, ◌-◌, ◌<◌, ◌≤◌, Bool, true}
 use Rattle.std.proofs.Common.{false, true≢false, cond, not, ◌||◌, nat_eq, List, [], ◌∷◌, ◌++◌, length, map}
-use Rattle.std.proofs.Common.{take, get_or, position, Option, Some, None, IfSome, refl, sym, ap, ◌∙◌, arith, subst, if◌then◌else◌, option_map}
+use Rattle.std.proofs.Common.{take, get_or, position, Option, Some, None, IfSome, is_some, refl, sym, ap, ◌∙◌, arith, subst, if◌then◌else◌}
 use Rattle.std.specs.Option.{option_map_or}
-use Rattle.std.specs.Prelude.{MatchBool}
+use Rattle.std.specs.Prelude.{IfNone, MatchBool, nat_lt}
 use Rattle.indexmap.specs.IndexMap.{swap_remove_by}
 use Rattle.indexmap.specs.IndexSet.{insert_key}
 use Rattle.std.specs.List.{AllByRecursion, list_any, swap_remove, position_or_len, IsDistinct}
-use Rattle.std.proofs.lemmas.Bool.Decides.{Decides-eqb}
+use Rattle.std.proofs.lemmas.Bool.Decides.{Decides-eqb, Decides-ltb}
 use Rattle.std.proofs.lemmas.List.{get_or_default, map-append, map-set, set-append_left, take-map, length-append, length-map, length-set, take_all, take_more}
 use Rattle.std.proofs.Math.ListN.{get_or-map, set}
 use Rattle.std.proofs.Math.Seq.{take-append_seam}
@@ -226,9 +226,25 @@ pub kept_taken : (types types' : ℕ → Option (List Id)) (n : ℕ) (o : Option
 kept_taken types types' n o q keys keys' place old c r change at is none had kept loses =
     kept_without types types' n o q keys keys' place c r change at is none (rw had at kept) loses
 
-pub none_there : {X Y : Type 0} (f : X → Y) (r : Option X) → ((x : X) → r ≡ Some x → ⊥) → option_map f r ≡ None
-none_there f None no_one = refl
-none_there f (Some x) no_one = absurd (no_one x refl)
+place_within : (test : ℕ → Bool) (keys : List ℕ) (place : ℕ) → position test keys ≡ Some place → place < length keys
+place_within test keys place at = by (nat_lt (position_or_len test keys) (length keys)) refl at
+  where
+    by : (b : Bool) → nat_lt (position_or_len test keys) (length keys) ≡ b
+        → cond b (Some (position_or_len test keys)) None ≡ Some place → place < length keys
+    by true e is = let same : position_or_len test keys ≡ place = cc in subst (λ j. j < length keys) same ((Decides-ltb _ _).0 e)
+    by false e is = absurd (let bad : ◌≡◌ {A = Option ℕ} None (Some place) = is in cc)
+
+-- the choices without one that is there are choices
+pub keeps_still : (types : ℕ → Option (List Id)) (n : ℕ) (q : List QuerySlot) (keys : List ℕ) (place : ℕ) (old : Option ChoicesState)
+    (c : ChoicesState) (r : Option ChoicesState) → position (nat_eq n) keys ≡ Some place → old ≡ Some c → IfSome old (AreKept types q keys)
+    → IfNone r (length c.all ≤ place) → is_some r ≡ is_some old
+keeps_still types n q keys place old c (Some d) at had kept none = sym (ap is_some had)
+keeps_still types n q keys place old c None at had kept none =
+    let own : AreKept types q keys c = rw had at kept in
+    let long : length c.all ≡ length keys =
+    sym (length-map c.all (λ y. y ∷ [])) ∙ ap length (sym own.only) ∙ length-map keys (λ m. choices_on (asked q) (types m)) in
+    let within = place_within (nat_eq n) keys place at in
+    absurd (omega (arith, long, within, none))
 
 swapped_none : (test : ℕ → Bool) (keys : List ℕ) → position test keys ≡ None → swap_remove_by test keys ≡ keys
 swapped_none test [] at = refl

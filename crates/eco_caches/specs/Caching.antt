@@ -1,5 +1,5 @@
 -- Queries with the slots of the tables whose types fulfil them.
-use Rattle.std.specs.Prelude.{◌≡◌, ◌≢◌, ℕ, ◌<◌, Bool, MatchBool, false, List, [], ◌∷◌, ◌++◌, length, map, slice_get, Option, None, Some, IfSome, nat_eq}
+use Rattle.std.specs.Prelude.{◌≡◌, ◌≢◌, ℕ, ◌<◌, Bool, MatchBool, false, List, [], ◌∷◌, ◌++◌, length, map, slice_get, Option, None, Some, IfSome, is_some, nat_eq}
 use Rattle.std.specs.HashSet.{spare}
 use Rattle.std.specs.List.{list_any, swap_remove}
 use Rattle.eco_ids.specs.declared.id.Id.{Id}
@@ -104,6 +104,16 @@ IsTold old new n o =
 abbrev pub AreTold : List Cache → List Cache → ℕ → Option (List Id) → Type 0
 AreTold old new n o =
     (types types' : ℕ → Option (List Id)) → ChangesType types types' n o → AreExact types old → AreExact types' new
+
+-- a cache that was exact keeps choices as before, where there is no type or the type does not fulfil its query
+abbrev pub KeepsStill : Cache → Cache → Option (List Id) → Type 0
+KeepsStill old new o =
+    (types : ℕ → Option (List Id)) → IsExact types old → fulfils o old.query ≡ false → is_some new.only ≡ is_some old.only
+
+-- so does each of the caches
+abbrev pub KeepStill : List Cache → List Cache → Option (List Id) → Type 0
+KeepStill old new o =
+    (k : ℕ) (c d : Cache) → slice_get old k ≡ Some c → slice_get new k ≡ Some d → KeepsStill c d o
 
 -- what the caches were exact for they are exact for still
 abbrev pub StayExact : List Cache → List Cache → Type 0

@@ -1,16 +1,16 @@
 //! A query with the slots of the tables whose types fulfil it.
-ghost use Rattle.std.specs.Prelude.{◌≡◌, ◌<◌, ℕ, List, false, None, Some, Option, IfOk, IfSome, MatchOption, OnOk, OnErr};
+ghost use Rattle.std.specs.Prelude.{◌≡◌, ◌<◌, ◌≤◌, ℕ, List, false, length, None, Some, Option};
+ghost use Rattle.std.specs.Prelude.{IfNone, IfOk, IfSome, MatchOption, OnOk, OnErr};
 ghost use Rattle.std.specs.HashSet.{IsUnchanged, spare};
 ghost use Rattle.eco_ids.specs.Answer.{choices};
 ghost use Rattle.eco_ids.specs.declared.id.Id.{Id as Ids};
 ghost use Rattle.eco_entries.specs.Answers.{asked};
 ghost use Rattle.eco_entries.specs.Flat.{ChoicesState};
-ghost use Rattle.eco_caches.specs.Caching.{AreKept, HasChoices, IsExact, IsTold, KeepsNew, KeepsOnly, LosesOnly, fulfils};
+ghost use Rattle.eco_caches.specs.Caching.{AreKept, HasChoices, IsExact, IsTold, KeepsNew, KeepsOnly, KeepsStill, LosesOnly, fulfils};
 
 use eco_entries::Choices;
-use eco_ids::TypeList;
+use eco_ids::{TableSlot, TypeList};
 use eco_query::Query;
-use eco_tables::TableSlot;
 use indexmap::IndexSet;
 use std::alloc::{AllocError, Global};
 
@@ -48,11 +48,13 @@ impl Cache {
     }
 
     /// The table in the slot has this type from now on: the slot comes in where the type fulfils the query, and else it goes
-    /// out. Choices are kept no more where the type has several. It takes no memory but for these.
+    /// out. Choices are kept no more where the type fulfils the query and has several, or memory for its own is refused. It
+    /// takes no memory but for these.
     pub fn tell(&mut self, slot: TableSlot, type_list: &TypeList)
         requires { 0 < spare self.old.slots }
         ensures query { self.new.query ≡ self.old.query }
         ensures told { IsTold self.old self.new slot (Some type_list.now) }
+        ensures kept { KeepsStill self.old self.new (Some type_list.now) }
     {
         if !self.query.matches_type(type_list) {
             self.take_out(slot);
@@ -64,19 +66,21 @@ impl Cache {
         }
     }
 
-    /// The slot has no table from now on. It takes no memory.
+    /// The slot has no table from now on. Choices that were kept are kept still. It takes no memory.
     pub fn forget(&mut self, slot: TableSlot)
         ensures query { self.new.query ≡ self.old.query }
         ensures told { IsTold self.old self.new slot None }
+        ensures kept { KeepsStill self.old self.new None }
     {
         self.take_out(slot);
     }
 
-    // The slot has no table from now on, or one whose type does not fulfil the query.
+    // The slot has no table from now on, or one whose type does not fulfil the query. Choices that were kept are kept still.
     fn take_out(&mut self, slot: TableSlot)
         ensures query { self.new.query ≡ self.old.query }
         ensures told { (o : Option (List Ids)) → fulfils o self.old.query ≡ false
             → IsTold self.old self.new slot o }
+        ensures kept { KeepsStill self.old self.new None }
     {
         let Some((place, _)) = self.slots.swap_remove_full(&slot) else {
             return;
@@ -152,9 +156,10 @@ fn with_new(mut only: Choices, query: &Query, type_list: &TypeList) -> Option<Ch
     }
 }
 
-// The choices without the one at a place, if it is there.
+// The choices without the one at a place. None, where it is not there.
 fn without(mut only: Choices, place: usize) -> Option<Choices>
-    ensures { IfSome result (λ c. LosesOnly only c place) }
+    ensures lost { IfSome result (λ c. LosesOnly only c place) }
+    ensures none { IfNone result (length only.all ≤ place) }
 {
     if place >= only.count() {
         return None;

@@ -3,14 +3,13 @@ ghost use Rattle.std.specs.Prelude.{◌≡◌, ℕ, List, [], None, Some, IfOk, 
 ghost use Rattle.eco_ids.specs.declared.id.Id.{Id as Ids};
 ghost use Rattle.std.specs.List.{IsDistinct};
 ghost use Rattle.eco_entries.specs.Flat.{ChoicesState};
-ghost use Rattle.eco_caches.specs.Caching.{AddsCache, AreExact, AreKept, AreThose, AreTold, FindsChoices, HasSlots, HaveRoom};
+ghost use Rattle.eco_caches.specs.Caching.{AddsCache, AreExact, AreKept, AreThose, AreTold, FindsChoices, HasSlots, HaveRoom, KeepStill};
 ghost use Rattle.eco_caches.specs.Caching.{StayExact, cache_states, kept_queries};
 
 use crate::cache::Cache;
 use eco_entries::Choices;
-use eco_ids::TypeList;
+use eco_ids::{TableSlot, TypeList};
 use eco_query::Query;
-use eco_tables::TableSlot;
 use indexmap::IndexSet;
 use std::alloc::{AllocError, Global};
 
@@ -51,21 +50,24 @@ impl Caches {
         Ok(())
     }
 
-    /// The table in the slot has this type from now on. It takes no memory.
+    /// The table in the slot has this type from now on. A cache whose query the type does not fulfil keeps choices as before.
+    /// It takes no memory but for the choices on this type.
     pub fn tell(&mut self, slot: TableSlot, type_list: &TypeList)
         requires { HaveRoom (cache_list self.old) }
         ensures queries { kept_queries (cache_list self.new) ≡ kept_queries (cache_list self.old) }
         ensures told { AreTold (cache_list self.old) (cache_list self.new) slot (Some type_list.now) }
+        ensures kept { KeepStill (cache_list self.old) (cache_list self.new) (Some type_list.now) }
     {
         for cache in self.list.iter_mut() {
             cache.tell(slot, type_list);
         }
     }
 
-    /// The slot has no table from now on. It takes no memory.
+    /// The slot has no table from now on. Each cache keeps choices as before. It takes no memory.
     pub fn forget(&mut self, slot: TableSlot)
         ensures queries { kept_queries (cache_list self.new) ≡ kept_queries (cache_list self.old) }
         ensures told { AreTold (cache_list self.old) (cache_list self.new) slot None }
+        ensures kept { KeepStill (cache_list self.old) (cache_list self.new) None }
     {
         for cache in self.list.iter_mut() {
             cache.forget(slot);

@@ -1,11 +1,12 @@
 -- Which bytes are a script, by the value that they are.
-use Rattle.std.proofs.Common.{◌≡◌, ℕ, Bool, false, List, ◌++◌, Option, Some, None, Result, Ok, Err, IfOk, IsUtf8, ap, ◌∙◌}
+use Rattle.std.proofs.Common.{◌≡◌, ℕ, Bool, true, false, List, ◌++◌, Option, Some, None, Result, Ok, Err, IfOk, IsUtf8, inl, inr, refl, ap, ◌∙◌}
 use Rattle.std.proofs.lemmas.List.{append-nil}
-use Rattle.std.specs.Io.KnownBytes.{Consumes, IsAtEnd}
+use Rattle.std.specs.Io.KnownBytes.{Appends, Consumes, IsAtEnd}
 use Rattle.serde_json.specs.Data.{Data}
 use Rattle.serde_json.specs.Read.{read}
+use Rattle.eco_devices.specs.Beginning.{IsBeginning}
 use Rattle.eco_steps.specs.Script.{WrittenScript, IsScript, IsScriptData}
-use Rattle.eco_checker.specs.Told.{AreNoScript, AreScript, IsReportOf, IsReport}
+use Rattle.eco_checker.specs.Told.{AreNoScript, AreScript, IsReport, IsReportOf, IsTextOf, WasCutShort, script_line}
 
 pub script_bytes : (bytes : List ℕ) (d : Data) → IsUtf8 bytes → read bytes ≡ Some d → ((s : WrittenScript) × IsScriptData d s) → (s : WrittenScript)
     × IsScript bytes s
@@ -22,12 +23,6 @@ no_text_bytes bytes none s (utf8, v, is, of) = let missing = none utf8 in cc
 read_whole : (xs ys bytes : List ℕ) → Consumes (Some xs) (Some ys) bytes → IsAtEnd (Some ys) → xs ≡ bytes
 read_whole xs ys bytes p q = p ∙ ap (λ t. bytes ++ t) q ∙ append-nil bytes
 
-pub script_to_end : (left after : Option (List ℕ)) (bytes : List ℕ) → Consumes left after bytes → IsAtEnd after
-    → ((s : WrittenScript) × IsScript bytes s) → AreScript left
-script_to_end None after bytes p q h = tt
-script_to_end (Some xs) None bytes p q h = absurd p
-script_to_end (Some xs) (Some ys) bytes p q h = rw (read_whole xs ys bytes p q) h
-
 pub none_to_end : (left after : Option (List ℕ)) (bytes : List ℕ) → Consumes left after bytes → IsAtEnd after
     → ((s : WrittenScript) → ¬ IsScript bytes s) → AreNoScript left
 none_to_end None after bytes p q h = tt
@@ -38,6 +33,26 @@ pub told_to_end : (left after : Option (List ℕ)) (bytes told : List ℕ) → C
 told_to_end None after bytes told p q h = tt
 told_to_end (Some xs) None bytes told p q h = absurd p
 told_to_end (Some xs) (Some ys) bytes told p q h = rw (read_whole xs ys bytes p q) h
+
+script_to_end : (left after : Option (List ℕ)) (bytes : List ℕ) → Consumes left after bytes → IsAtEnd after → ((s : WrittenScript) × IsScript bytes s)
+    → AreScript left
+script_to_end None after bytes p q h = tt
+script_to_end (Some xs) None bytes p q h = absurd p
+script_to_end (Some xs) (Some ys) bytes p q h = rw (read_whole xs ys bytes p q) h
+
+-- a beginning was written of the text that tells whether the bytes are a script
+module _ (left after : Option (List ℕ)) (bytes : List ℕ) (p : Consumes left after bytes) (q : IsAtEnd after) (text : List ℕ) where
+  text_to_end : (is : Bool) → (is ≡ true → (s : WrittenScript) × IsScript bytes s) → (is ≡ false → (s : WrittenScript) → ¬ IsScript bytes s)
+      → (is ≡ true → text ≡ script_line) → (is ≡ false → (told : List ℕ) × IsReport bytes told × (text ≡ told)) → IsTextOf left text
+  text_to_end true some none line faults = inl (script_to_end left after bytes p q (some refl), line refl)
+  text_to_end false some none line faults =
+      let (told, are, same) = faults refl in
+      inr (none_to_end left after bytes p q (none refl), rw same (told_to_end left after bytes told p q are))
+
+  pub stopped_to_end : (is : Bool) → (is ≡ true → (s : WrittenScript) × IsScript bytes s) → (is ≡ false → (s : WrittenScript) → ¬ IsScript bytes s)
+      → (is ≡ true → text ≡ script_line) → (is ≡ false → (told : List ℕ) × IsReport bytes told × (text ≡ told))
+      → (a b : Option (List ℕ)) → ((part : List ℕ) × IsBeginning part text × Appends a b part) → WasCutShort left a b
+  stopped_to_end is some none line faults a b (part, begins, wrote) = inr (part, text, text_to_end is some none line faults, begins, wrote)
 
 -- what follows where a test is false
 pub if_ok_false : {E : Type 0} (r : Result Bool E) (P Q : Type 0) → (P → Q) → IfOk r (λ b. b ≡ false → P) → IfOk r (λ b. b ≡ false → Q)

@@ -4,7 +4,7 @@ use Rattle.std.proofs.Common.{Result, Ok, Err, IfOk, OnOk, refl, ap, sym, ◌∙
 use Rattle.std.specs.Prelude.{codes, decimal}
 use Rattle.std.specs.List.{concat}
 use Rattle.std.proofs.lemmas.List.{append-nil, append_assoc, length-map, take_more}
-use Rattle.eco_checker.specs.Lines.{IsOfStep, AreOfStep, AreOfSteps, AreFaultLines, AreFaults, IsHeadLine, last_line, plural_end, unread_text}
+use Rattle.eco_checker.specs.Lines.{IsOfStep, AreOfStep, AreOfSteps, AreFaultLines, AreFaults, last_line, plural_end, unread_text}
 use Rattle.eco_checker.specs.Places.{AddsLines, AddsSome, place_step, place_text}
 use Rattle.eco_checker.specs.declared.report.Place.{Place}
 use Rattle.eco_checker.specs.declared.report.Place.TheVariants.{Step, Stage, Command, Action}
@@ -27,10 +27,6 @@ ok_all (Err e) f h = h
 pub line_text : (a b w e : List ℕ) → a ++ (b ++ (w ++ e)) ≡ ((a ++ b) ++ w) ++ e
 line_text a b w e = simp append_assoc refl
 
-no_nil : (xs ys : List (List ℕ)) → ys ≢ [] → xs ++ ys ≢ []
-no_nil [] ys ne = ne
-no_nil (x ∷ xs) ys ne = λ q. cc
-
 -- lines of a step behind others of it are others of it
 own-append : (n : ℕ) (xs ys : List (List ℕ)) → AreOfStep n xs → AreOfStep n ys → AreOfStep n (xs ++ ys)
 own-append n [] ys p q = q
@@ -44,10 +40,6 @@ adds_more n a b c (xs, e, p) (ys, f, q) = (xs ++ ys, f ∙ ap (λ l. l ++ ys) e 
 
 pub some_adds : (n : ℕ) (a b : List (List ℕ)) → AddsSome n a b → AddsLines n a b
 some_adds n a b (xs, e, ne, p) = (xs, e, p)
-
-pub adds_then_some : (n : ℕ) (a b c : List (List ℕ)) → AddsLines n a b → AddsSome n b c → AddsSome n a c
-adds_then_some n a b c (xs, e, p) (ys, f, ne, q) =
-    (xs ++ ys, f ∙ ap (λ l. l ++ ys) e ∙ append_assoc a xs ys, no_nil xs ys ne, own-append n xs ys p q)
 
 -- where there are more lines, some were added
 pub grown : (n : ℕ) (a b : List (List ℕ)) → AddsLines n a b → length b ≢ length a → AddsSome n a b
@@ -102,16 +94,6 @@ report_told f has_head steps lines count old mid new are counted first then =
       then ∙ ap (λ l. l ++ last_line count) (first ∙ ap (λ t. old ++ t) (joined f lines)) ∙ append_assoc old (concat (map f lines)) (last_line count)
           ∙ ap (λ n. old ++ (concat (map f lines) ++ last_line n)) same,
     )
-
--- the lines before those of the steps
-pub first_true : (lines : List (List ℕ)) (has_head : Bool) → has_head ≡ true → lines ≡ [] → AreFaultLines has_head [] lines
-first_true lines true e none = none
-first_true lines false e none = cc
-
-pub first_false : (lines old : List (List ℕ)) (has_head : Bool) (line : List ℕ) → has_head ≡ false → IsHeadLine line → old ≡ []
-    → lines ≡ old ++ line ∷ [] → AreFaultLines has_head [] lines
-first_false lines old true line e h none is = cc
-first_false lines old false line e h none is = (line, [], is ∙ ap (λ l. l ++ line ∷ []) none, h, refl)
 
 -- a line begins with its place
 pub place_line : (p : Place) (words : List ℕ) → IsOfStep (place_step p) (place_text p ++ codes ": " ++ words ++ codes "\n")

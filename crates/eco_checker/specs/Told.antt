@@ -1,7 +1,9 @@
 -- What a check tells of the bytes that it read.
-use Rattle.std.specs.Prelude.{◌≡◌, ◌⊎◌, ℕ, List, codes, Option, Some, None, IsUtf8, is_some, ⊤}
+use Rattle.std.specs.Prelude.{◌≡◌, ◌⊎◌, ℕ, List, codes, Option, Some, None, IfSome, IsUtf8, is_some}
+use Rattle.std.specs.Io.KnownBytes.{Appends, Keeps}
 use Rattle.serde_json.specs.Data.{Data}
 use Rattle.serde_json.specs.Read.{read}
+use Rattle.eco_devices.specs.Beginning.{IsBeginning}
 use Rattle.eco_steps.specs.Decode.{parts_in, step_in}
 use Rattle.eco_steps.specs.Script.{WrittenScript, IsScript}
 use Rattle.eco_checker.specs.Faults.{edition_in, items_in, numbers_without}
@@ -25,15 +27,21 @@ IsReport bytes told = ((IsUtf8 bytes → read bytes ≡ None) × IsUnread told)
 
 -- they are a script
 abbrev pub AreScript : Option (List ℕ) → Type 0
-AreScript None = ⊤
-AreScript (Some bytes) = (s : WrittenScript) × IsScript bytes s
+AreScript had = IfSome had (λ bytes. (s : WrittenScript) × IsScript bytes s)
 
 -- they are none
 abbrev pub AreNoScript : Option (List ℕ) → Type 0
-AreNoScript None = ⊤
-AreNoScript (Some bytes) = (s : WrittenScript) → ¬ IsScript bytes s
+AreNoScript had = IfSome had (λ bytes. (s : WrittenScript) → ¬ IsScript bytes s)
 
 -- this is what is written of them
 abbrev pub IsReportOf : Option (List ℕ) → List ℕ → Type 0
-IsReportOf None told = ⊤
-IsReportOf (Some bytes) told = IsReport bytes told
+IsReportOf had told = IfSome had (λ bytes. IsReport bytes told)
+
+-- this is the line of a script, and they are one; or it is what is written of them, and they are none
+abbrev pub IsTextOf : Option (List ℕ) → List ℕ → Type 0
+IsTextOf bytes text = (AreScript bytes × (text ≡ script_line)) ⊎ (AreNoScript bytes × IsReportOf bytes text)
+
+-- nothing was written, or a beginning of that text
+abbrev pub WasCutShort : Option (List ℕ) → Option (List ℕ) → Option (List ℕ) → Type 0
+WasCutShort bytes old new =
+    Keeps old new ⊎ ((part : List ℕ) × (text : List ℕ) × IsTextOf bytes text × IsBeginning part text × Appends old new part)

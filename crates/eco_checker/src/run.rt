@@ -2,7 +2,7 @@
 
 ghost use Rattle.std.specs.Prelude.{◌≡◌, ℕ, List, ◌+◌, ◌^◌, ◌<◌, ◌≤◌};
 ghost use Rattle.std.specs.Io.KnownBytes.{Appends};
-ghost use Rattle.eco_checker.specs.Told.{AreScript, AreNoScript, IsReportOf, script_line};
+ghost use Rattle.eco_checker.specs.Told.{AreScript, AreNoScript, IsReportOf, WasCutShort, script_line};
 
 use crate::check::check_bytes;
 use crate::verdict::Verdict;
@@ -15,6 +15,7 @@ use std::alloc::Global;
 /// It says `is a script` only where the input is one, and names faults only where it is none. A head that is none has a
 /// line then, and each step that is none has one at least; each of these begins with its place. The words behind are
 /// tested, and not proved.
+/// Where it stops, nothing was written, or a beginning of such a text.
 pub fn check_script<R: ScriptReader, W: ScriptWriter>(
     alloc: Global,
     reader: &mut R,
@@ -29,6 +30,10 @@ pub fn check_script<R: ScriptReader, W: ScriptWriter>(
     ensures faults { result ≡ Verdict.NotAScript
         → (told : List ℕ) × IsReportOf (R.remaining reader.old) told
         × Appends (W.held writer.old) (W.held writer.new) told }
+    // Nothing was written, or a beginning of the line or of such a report.
+    ensures stopped { result ≡ Verdict.Stopped
+        → WasCutShort (R.remaining reader.old) (W.held writer.old) (W.held writer.new) }
+    ensures reads { R.calls reader.new ≤ R.calls reader.old + 16777216 }
 {
     let Ok(bytes) = eco_devices::read_all(alloc, reader) else {
         return Verdict::Stopped;

@@ -72,10 +72,6 @@ pub tables_are : (ns : List ℕ) (n : ℕ) → is_one_of (map Falling ns) (Falli
 tables_are [] n = refl
 tables_are (k ∷ ns) n = ap (λ t. nat_eq n k || t) (tables_are ns n)
 
--- a node that leads to nothing
-pub nothing_comes : (old : List Node) (b : Node) → IsTrue (is_one_of old b) ↔ (IsTrue (is_one_of old b) ⊎ IsTrue false)
-nothing_comes old b = or_fact _ _ _ (sym (or-false _))
-
 -- two tests that hold for the same
 pub same_test : (a b : Bool) → IsTrue a ↔ IsTrue b → a ≡ b
 same_test true b f = sym (f.0 refl)

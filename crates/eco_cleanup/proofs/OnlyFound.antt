@@ -15,15 +15,14 @@ use Rattle.eco_tables.specs.Table.{TableRow, TableState, entities_of}
 use Rattle.eco_tables.specs.Tables.{slot_of, table_in}
 use Rattle.eco_index.specs.TypeTests.{type_names as any_names}
 use Rattle.eco_archetypes.specs.Archetypes.{row_at}
-use Rattle.eco_store.specs.Store.{IsShown, record_ids}
+use Rattle.eco_store.specs.Store.{IsShown}
 use Rattle.eco_store.specs.Worlds.{world_of}
-use Rattle.eco_cleanup.specs.Nodes.{falls, is_naming, is_one_of, touches, AddsNodes}
+use Rattle.eco_cleanup.specs.Nodes.{falls, is_naming, touches}
 use Rattle.eco_cleanup.specs.OnlyHolders.{IsOnlyHolder}
 use Rattle.eco_cleanup.specs.Policies.{names_on}
 use Rattle.eco_cleanup.specs.declared.node.Node.{Node}
 use Rattle.eco_cleanup.specs.declared.node.Node.TheVariants.{Root, Falling, Named}
 use Rattle.eco_cleanup.specs.contracts.node.NodePartialEq.TheImpl as node_impl
-use Rattle.eco_cleanup.specs.Nodes.{node_same}
 use Rattle.eco_cleanup.proofs.Deaths.{one_is, one_itself}
 use Rattle.eco_cleanup.proofs.Planned.{ids_standing}
 use Rattle.eco_cleanup.proofs.Standing.{any_id, found_at, has_at, row_of, stands_among, stands_with}
@@ -76,12 +75,6 @@ abbrev falls_in : Node → Bool
 falls_in (Root e) = false
 falls_in (Falling n) = true
 falls_in (Named n) = false
-
--- a list of one has that one
-pub one_of_one : (nodes : List Node) (d : Node) → length nodes ≡ 1 → (b : Node) → IsTrue (is_one_of nodes b) → b ≡ get_or nodes 0 d
-one_of_one [] d len b there = absurd (true≢false (sym there))
-one_of_one (a ∷ []) d len b there = node_same b a (sym (or-false ((node_impl.eq-value).it b a)) ∙ there)
-one_of_one (a ∷ c ∷ nodes) d len b there = absurd (omega (arith, len))
 
 pub first_alone : (es : List Entity) (d : Entity) → length es ≡ 1 → es ≡ get_or es 0 d ∷ []
 first_alone [] d len = absurd (omega (arith, len))

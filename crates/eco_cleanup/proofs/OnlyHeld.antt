@@ -1,11 +1,9 @@
 -- Who is named by one id of one other entity dies alone, and that id goes.
-use Rattle.std.proofs.Common.{◌≡◌, ℕ, zero, suc, ◌+◌, ◌==◌, Bool, true, false, true≢false, cond, not, ◌⊎◌, List, [], ◌∷◌, filter, slice_get, slice_set, Option}
+use Rattle.std.proofs.Common.{◌≡◌, ℕ, ◌+◌, Bool, true, false, true≢false, cond, not, ◌⊎◌, List, [], ◌∷◌, filter, slice_get, slice_set, Option}
 use Rattle.std.proofs.Common.{Some, None, option_map, is_some, unwrap_or, IsTrue, IsFalse, refl, sym, ap, ◌∙◌, subst, inl, inr, arith}
 use Rattle.std.specs.FinMap.Entries.{find, is_sorted}
 use Rattle.std.proofs.Math.Bool.{or-false}
-use Rattle.std.proofs.lemmas.Bool.Decides.{Decides-eqb}
-use Rattle.std.proofs.lemmas.Grind.{common_steps}
-use Rattle.std.proofs.lemmas.Option.{none-some, same_Some}
+use Rattle.std.proofs.lemmas.Option.{same_Some}
 use Rattle.eco_ids.specs.declared.entity.Entity.{Entity}
 use Rattle.eco_ids.specs.declared.entity.TheConstants.{DELETE, PANIC}
 use Rattle.eco_ids.specs.declared.id.Id.{Id}
@@ -15,6 +13,7 @@ use Rattle.eco_ids.specs.Least.{root}
 use Rattle.eco_ids.specs.Losses.{keeping, left_at, without}
 use Rattle.eco_ids.specs.Order.{entity_cmp, entity_eq, has_item, id_cmp, id_eq, names_entity, with_item, without_item}
 use Rattle.eco_ids.specs.World.{Record, WorldState, has, zeros}
+use Rattle.eco_ids.proofs.AtPlaces.{get_left, same_number, same_places}
 use Rattle.eco_ids.proofs.Entries.{sorted_is}
 use Rattle.eco_ids.proofs.Exact.{keys_find}
 use Rattle.eco_ids.proofs.Facts.{id_eq_is, id_eq_itself, or_left, or_right, to_T}
@@ -35,26 +34,6 @@ use Rattle.eco_cleanup.proofs.Roles.{names_on_exact, names_on_names, tested}
 use Rattle.eco_cleanup.proofs.TakenOut.{retyped_part}
 
 -- ---- lists
-
--- what is left at an index
-get_left : (f : ℕ → IndexState Record → IndexState Record) (n : ℕ) (xs : List (IndexState Record)) (k : ℕ) →
-    slice_get (map_from f n xs) k ≡ option_map (f (n + k)) (slice_get xs k)
-get_left f n [] k = refl
-get_left f n (x ∷ xs) zero = ap (λ m. Some (f m x)) (omega arith)
-get_left f n (x ∷ xs) (suc k) = grind (arith, common_steps, get_left f (n + 1) xs k)
-
--- lists with the same at each place
-same_places : {X : Type 0} (xs ys : List X) → ((k : ℕ) → slice_get xs k ≡ slice_get ys k) → xs ≡ ys
-same_places [] [] same = refl
-same_places [] (y ∷ ys) same = absurd (none-some y (same 0))
-same_places (x ∷ xs) [] same = absurd (none-some x (sym (same 0)))
-same_places (x ∷ xs) (y ∷ ys) same = λ t. same_Some x y (same 0) t ∷ same_places xs ys (λ k. same (suc k)) t
-
-same_number : (a b : ℕ) → (a ≡ b) ⊎ (a ≡ b → ⊥)
-same_number a b = elim (a == b) as (λ c. (a == b) ≡ c → (a ≡ b) ⊎ (a ≡ b → ⊥)) [
-  | true ↦ λ h. inl ((Decides-eqb a b).0 h)
-  | false ↦ λ h. inr (λ is. true≢false (sym ((Decides-eqb a b).1 is) ∙ h))
-] refl
 
 -- tests that agree on the ids of a list
 filtered_alike : (p q : Id → Bool) (ids : List Id) → ((j : Id) → IsTrue (has_item id_cmp ids j) → p j ≡ q j) → filter p ids ≡ filter q ids

@@ -1,6 +1,6 @@
 -- Whether an id names a member under the policy Delete, asked of the relationships of which holders die with targets.
 use Rattle.std.proofs.Common.{◌≡◌, ℕ, Bool, true, false, true≢false, cond, nat_eq, ◌&&◌, ◌||◌, inl, inr, List, slice_get, Option, Some, None, option_map}
-use Rattle.std.proofs.Common.{unwrap_or, IsTrue, refl, sym, ap, ◌∙◌, subst}
+use Rattle.std.proofs.Common.{unwrap_or, IsTrue, refl, sym, ◌∙◌, subst}
 use Rattle.std.specs.List.{list_any}
 use Rattle.std.proofs.lemmas.Bool.Decides.{Decides-eqb}
 use Rattle.std.proofs.lemmas.Option.{none-some}

@@ -1,5 +1,5 @@
 -- Policies and roles, read off the ids of entities.
-use Rattle.std.proofs.Common.{◌≡◌, Bool, false, cond, ◌&&◌, ◌||◌, ◌↔◌, inl, inr, List, Option, Some, None, is_some, option_map, unwrap_or, refl, sym, ap, ◌∙◌}
+use Rattle.std.proofs.Common.{◌≡◌, Bool, cond, ◌&&◌, ◌||◌, ◌↔◌, inl, inr, List, Option, Some, None, is_some, option_map, unwrap_or, sym, ap, ◌∙◌}
 use Rattle.std.proofs.Common.{subst, true≢false, IsTrue}
 use Rattle.std.proofs.lemmas.Bool.{or_left}
 use Rattle.eco_ids.specs.declared.entity.Entity.{Entity}
@@ -23,10 +23,6 @@ has_of_some : (o : Option Record) (i : Id) (ids : List Id) → Some ids ≡ opti
 has_of_some None i ids e = absurd (true≢false (ap is_some e))
 has_of_some (Some d) i ids e = keys_find d.held i ∙ ap (λ xs. has_item id_cmp xs i) (sym (ap (λ o. unwrap_or o ids) e))
 
-has_of_none : (o : Option Record) (i : Id) → None ≡ option_map record_ids o → has_in o i ≡ false
-has_of_none None i e = refl
-has_of_none (Some d) i e = absurd (true≢false (sym (ap is_some e)))
-
 chosen_alike : (f g : Id → Bool) (c : Entity) → ((i : Id) → f i ≡ g i) → chosen f c ≡ chosen g c
 chosen_alike f g c alike = λ t. cond (alike (Two c DELETE) t) DELETE (cond (alike (Two c PANIC) t) PANIC REMOVE)
 
@@ -34,10 +30,6 @@ chosen_alike f g c alike = λ t. cond (alike (Two c DELETE) t) DELETE (cond (ali
 pub policy_of_ids : (w : WorldState) (e c : Entity) (ids : List Id) → Some ids ≡ option_map record_ids (record_of w e)
     → chosen (has_item id_cmp ids) c ≡ policy w e c
 policy_of_ids w e c ids own = chosen_alike (has_item id_cmp ids) (has w e) c (λ i. sym (has_of_some (record_of w e) i ids own))
-
--- and of one that isn't living
-pub policy_of_none : (w : WorldState) (e c : Entity) → None ≡ option_map record_ids (record_of w e) → REMOVE ≡ policy w e c
-policy_of_none w e c own = chosen_alike (λ i. false) (has w e) c (λ i. sym (has_of_none (record_of w e) i own))
 
 -- ---- roles
 

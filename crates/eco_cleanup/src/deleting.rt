@@ -18,9 +18,8 @@ use crate::node::Node;
 use crate::only_holder::OnlyHolder;
 use crate::plan::DeletePlan;
 use crate::ties::Ties;
-use eco_ids::{Entity, Pattern, Refusal};
+use eco_ids::{Entity, Pattern, Refusal, TableSlot};
 use eco_store::{Store, TypeChange};
-use eco_tables::TableSlot;
 use std::alloc::{AllocError, Global};
 
 /// The roots die with all that the policies demand: the least set that holds the roots and each holder of a member under

@@ -3,8 +3,7 @@ ghost use Rattle.std.specs.Prelude.{◌≡◌, ◌||◌};
 ghost use Rattle.eco_cleanup.specs.Nodes.{is_falling, is_root};
 
 use crate::node::Node;
-use eco_ids::Entity;
-use eco_tables::TableSlot;
+use eco_ids::{Entity, TableSlot};
 use indexmap::IndexSet;
 
 /// The roots, the tables all of whose rows die, and the tables that name one who dies. Whoever dies is a root or stands in a

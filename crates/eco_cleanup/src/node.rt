@@ -1,6 +1,5 @@
 //! What a search for the doomed finds.
-use eco_ids::Entity;
-use eco_tables::TableSlot;
+use eco_ids::{Entity, TableSlot};
 
 /// An entity or a table that a search for the doomed came to. Whoever dies with a table is no node: its place tells.
 #[derive(Clone, Copy, Debug, PartialEq, Eq, Hash)]

@@ -13,9 +13,9 @@ ghost use Rattle.eco_store.specs.Worlds.{world_of};
 use crate::doomed::Doomed;
 use crate::node::Node;
 use crate::ties::Ties;
-use eco_ids::{Entity, Id, Refusal, TypeList};
+use eco_ids::{Entity, Id, Refusal, TableSlot, TypeList};
 use eco_store::TypeChange;
-use eco_tables::{Table, TableSlot};
+use eco_tables::Table;
 use std::alloc::{AllocError, Global};
 
 /// Who dies, and the changes that take the ids which name the dead out of the types of the others.

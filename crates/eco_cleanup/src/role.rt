@@ -13,9 +13,8 @@ ghost use Rattle.eco_store.specs.Worlds.{world_of};
 use crate::policy::policy;
 use eco_archetypes::Archetypes;
 use eco_ids::entity::{DELETE, ON_DELETE, ON_DELETE_TARGET};
-use eco_ids::{Entity, Id, Part, Pattern, TypeList};
+use eco_ids::{Entity, Id, Part, Pattern, TableSlot, TypeList};
 use eco_store::Store;
-use eco_tables::TableSlot;
 
 // Of a relationship that has this pair the holders die with the target.
 const DELETING: Pattern = Pattern::Two(Part::Is(ON_DELETE_TARGET), Part::Is(DELETE));

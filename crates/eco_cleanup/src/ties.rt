@@ -12,10 +12,10 @@ ghost use Rattle.eco_cleanup.specs.declared.node.Node.TheVariants.{Falling};
 use crate::doomed::Doomed;
 use crate::node::Node;
 use crate::role::any_deletes;
-use eco_ids::{Entity, Part, Pattern};
+use eco_ids::{Entity, Part, Pattern, TableSlot};
 use eco_search::{Graph, least_set};
 use eco_store::{Places, Store};
-use eco_tables::{Table, TableSlot};
+use eco_tables::Table;
 use std::alloc::{AllocError, Global};
 
 /// A root leads to the tables whose types name it, and a table that falls to the tables whose types name one who stands in it.

@@ -21,6 +21,8 @@ pub fn read_all<R: ScriptReader>(alloc: Global, reader: &mut R) -> Result<Vec<u8
     ensures ended { OnOk result (IsAtEnd (R.remaining reader.new)) }
     ensures device { IsErrOf result ReadFault.Device → (R.failures reader.new ≡ R.failures reader.old + 1)
         ⊎ (R.calls reader.new ≡ R.calls reader.old + 16777216) }
+    ensures memory { IsErrOf result ReadFault.Memory → R.failures reader.new ≡ R.failures reader.old }
+    ensures counts_none { OnOk result (R.failures reader.new ≡ R.failures reader.old) }
     ensures bounded { R.calls reader.new ≤ R.calls reader.old + 16777216 }
 {
     let mut bytes = Vec::new(alloc);

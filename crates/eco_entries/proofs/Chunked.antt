@@ -4,7 +4,7 @@ use Rattle.std.proofs.Common.{sym, ap, ◌∙◌, ◌-◌, arith, suc-add, appen
 use Rattle.std.specs.List.{swap_remove}
 use Rattle.std.specs.Prelude.{flat_map}
 use Rattle.eco_ids.proofs.Common.{take-length}
-use Rattle.std.proofs.Math.Nat.{mul-le-mul_right, suc-mul, mul-div_cancel, le-mul_of_pos_right}
+use Rattle.std.proofs.Math.Nat.{mul-le-mul_right, suc-mul, mul-div_cancel}
 use Rattle.std.proofs.Math.ListN.{set}
 use Rattle.std.proofs.Math.Seq.{drop-append_seam, set-append_seam, take-append_seam}
 use Rattle.std.proofs.lemmas.List.{take-append-le, drop-append-le, length-take-le, length-drop, take_more, append-nil, take-append-drop}
@@ -156,10 +156,6 @@ led_more e cs p c xs base at is =
     ∙ ap (λ zs. base ++ zs)
     (sym (flat_map-more (λ x. e ∷ x) cs p c (slice_get_within cs p c at)
     ∙ ap (λ z. flat_map (λ x. e ∷ x) (take p cs) ++ e ∷ z) (get_or_from_slice_get cs p c c at)))
-
--- there are no more lists than items in them
-pub count_within : (n m w k : ℕ) → 0 < w → k ≡ n * w + m * w → n + m ≤ k
-count_within n m w k some is = let one = le-mul_of_pos_right n some in let two = le-mul_of_pos_right m some in omega (arith, one, two, is)
 
 -- ---- the last list in the place of another
 

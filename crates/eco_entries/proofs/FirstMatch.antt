@@ -1,27 +1,43 @@
 -- The first match of an ascending list, while all that match fill the pattern as it does.
-use Rattle.std.proofs.Common.{◌≡◌, ℕ, ◌+◌, ◌<◌, Bool, true, false, not, ◌&&◌, ◌||◌, cond, List, [], ◌∷◌, ◌++◌, length, get_or, take, refl, sym, ap, ◌∙◌}
-use Rattle.std.proofs.Common.{Option, Some, None, subst, true≢false}
-use Rattle.std.specs.Prelude.{IsTrue, IfSome, MatchOption, filter, option_to_list}
+use Rattle.std.proofs.Common.{◌≡◌, ◌≢◌, ℕ, ◌+◌, ◌<◌, Bool, true, false, not, ◌&&◌, ◌||◌, cond}
+use Rattle.std.proofs.Common.{List, [], ◌∷◌, ◌++◌, length, get_or, take, drop, refl, sym, ap, ◌∙◌}
+use Rattle.std.proofs.Common.{Option, Some, None, subst, true≢false, arith, length-append}
+use Rattle.std.specs.Prelude.{IfNone, IsTrue, MatchOption, filter, option_to_list}
 use Rattle.std.specs.List.{list_any}
-use Rattle.std.proofs.lemmas.List.Elements.{filter_more}
+use Rattle.std.proofs.lemmas.List.{take-append-drop}
+use Rattle.std.proofs.lemmas.List.Elements.{filter-append, filter_more}
 use Rattle.std.proofs.lemmas.List.Folds.{list_any_more}
 use Rattle.eco_ids.specs.Answer.{is_least_match, same_filling}
 use Rattle.eco_ids.specs.Matching.{pattern_matches}
-use Rattle.eco_ids.specs.Order.{id_cmp, is_ascending}
+use Rattle.eco_ids.specs.Order.{entity_eq, id_cmp, is_ascending}
+use Rattle.eco_ids.specs.declared.entity.Entity.{Entity}
 use Rattle.eco_ids.specs.declared.id.Id.{Id}
+use Rattle.eco_ids.specs.declared.id.Id.TheVariants as id
+use Rattle.eco_ids.specs.declared.pattern.Part.{Part}
+use Rattle.eco_ids.specs.declared.pattern.Part.TheVariants.{Is, Each, Any}
 use Rattle.eco_ids.specs.declared.pattern.Pattern.{Pattern}
-use Rattle.eco_entries.specs.First.{IsJoinedIf, IsJoined, IsNext}
+use Rattle.eco_ids.specs.declared.pattern.Pattern.TheVariants.{One, Two}
+use Rattle.eco_ids.proofs.Ascending.{first, second}
+use Rattle.eco_ids.proofs.Overlaps.{entity_eq_is}
+use Rattle.eco_entries.specs.Answers.{parts_alike}
+use Rattle.eco_entries.specs.First.{IsJoinedIf, IsJoined, IsNext, IsOther}
 use Rattle.eco_entries.proofs.Unseen.{below_before}
 
 -- the id is one of these
 abbrev IsAmong : List Id → Id → Type 0
 IsAmong xs i = (t : Id → Bool) → t i ≡ true → list_any t xs ≡ true
 
--- the least matches among these are the one that was found, which matches and is one of them; no id matches where none was
+-- what fills the pattern otherwise than this id does so otherwise than each of these that matches
+abbrev AreAlike : Pattern → List Id → Id → Type 0
+AreAlike p xs i = (j : Id) → pattern_matches p j ≡ true → same_filling p i j ≡ false
+    → list_any (λ k. pattern_matches p k && same_filling p k j) xs ≡ false
+
+-- the least matches among these are the one that was found, which matches and is one of them, and all that match fill the
+-- pattern as it does; no id matches where none was
 abbrev pub IsFirst : Pattern → List Id → List Id → Option Id → Type 0
 IsFirst p ids front found =
     (filter (is_least_match p ids) front ≡ option_to_list found)
-    × MatchOption found (list_any (pattern_matches p) front ≡ false) (λ i. (pattern_matches p i ≡ true) × IsAmong front i)
+    × MatchOption found (list_any (pattern_matches p) front ≡ false) (λ i. (pattern_matches p i ≡ true) × (IsAmong front i × AreAlike p front i))
 
 none_both : (t s : Id → Bool) (xs : List Id) → list_any t xs ≡ false → list_any (λ j. t j && s j) xs ≡ false
 none_both t s [] h = refl
@@ -31,6 +47,27 @@ none_both t s (x ∷ xs) h = by (t x) (none_both t s xs) h
         → ((b && s x) || list_any (λ j. t j && s j) xs) ≡ false
     by true rest h = absurd (true≢false h)
     by false rest h = rest h
+
+parts_trans : (p : Part) (a b c : Entity) → parts_alike p a b ≡ true → parts_alike p b c ≡ true → parts_alike p a c ≡ true
+parts_trans (Is e) a b c g h = refl
+parts_trans Any a b c g h = refl
+parts_trans Each a b c g h = subst (λ x. entity_eq x c ≡ true) (sym (entity_eq_is a b g)) h
+
+-- two ids that fill the pattern as one that matches does fill it alike
+filling_trans : (p : Pattern) (i k j : Id) → pattern_matches p k ≡ true → same_filling p i k ≡ true → same_filling p k j ≡ true
+    → pattern_matches p i ≡ true → pattern_matches p j ≡ true → same_filling p i j ≡ true
+filling_trans (One e) i k j one g h n m = refl
+filling_trans (Two p q) i (id.One e) j one g h n m = absurd (true≢false (sym one))
+filling_trans (Two p q) (id.One a) (id.Two s u) j one g h n m = absurd (true≢false (sym n))
+filling_trans (Two p q) (id.Two r t) (id.Two s u) (id.One a) one g h n m = absurd (true≢false (sym m))
+filling_trans (Two p q) (id.Two r t) (id.Two s u) (id.Two v w) one g h n m =
+    ap (λ b. b && parts_alike q t w) (parts_trans p r s v (first _ _ g) (first _ _ h))
+    ∙ parts_trans q t u w (second (parts_alike p r s) _ g) (second (parts_alike p s v) _ h)
+
+-- what always is so is so where there is none
+pub if_none : {X : Type 0} {P : Type 0} (o : Option X) → P → IfNone o P
+if_none None h = h
+if_none (Some x) h = tt
 
 or_true : (b : Bool) → (b || true) ≡ true
 or_true true = refl
@@ -60,6 +97,23 @@ module _ (p : Pattern) (ids : List Id) (k : ℕ) (d : Id) (here : k < length ids
   among_last : IsAmong (take (k + 1) ids) (get_or ids k d)
   among_last t h = list_any_more t ids k d here ∙ ap (λ b. list_any t (take k ids) || b) h ∙ or_true _
 
+  -- an id matches, and fills the pattern as this one does
+  abbrev matches_as : Id → Id → Bool
+  matches_as j h = pattern_matches p h && same_filling p h j
+
+  none_more : (t : Id → Bool) → list_any t (take k ids) ≡ false → t (get_or ids k d) ≡ false → list_any t (take (k + 1) ids) ≡ false
+  none_more t was none = list_any_more t ids k d here ∙ ap (λ b. b || t (get_or ids k d)) was ∙ none
+
+  -- what fills the pattern otherwise than the first match does so otherwise than each that fills it as that does
+  apart : (i j : Id) → pattern_matches p i ≡ true → pattern_matches p j ≡ true → pattern_matches p (get_or ids k d) ≡ true
+      → same_filling p i (get_or ids k d) ≡ true → same_filling p i j ≡ false
+      → (pattern_matches p (get_or ids k d) && same_filling p (get_or ids k d) j) ≡ false
+  apart i j n m one alike other = ap (λ b. b && same_filling p (get_or ids k d) j) one ∙ by (same_filling p (get_or ids k d) j) refl
+    where
+      by : (b : Bool) → same_filling p (get_or ids k d) j ≡ b → b ≡ false
+      by false e = refl
+      by true e = sym (filling_trans p i (get_or ids k d) j one alike e n m) ∙ other
+
   passed : pattern_matches p (get_or ids k d) ≡ false → (old : Option Id) → IsFirst p ids (take k ids) old → IsFirst p ids (take (k + 1) ids) old
   passed none None was = (
     more [] [] false was.0 (ap (λ b. b && not alike_before) none) refl,
@@ -67,7 +121,7 @@ module _ (p : Pattern) (ids : List Id) (k : ℕ) (d : Id) (here : k < length ids
   )
   passed none (Some i) was = (
     more (i ∷ []) (i ∷ []) false was.0 (ap (λ b. b && not alike_before) none) refl,
-    (was.1.0, among_more i was.1.1),
+    (was.1.0, (among_more i was.1.1.0, λ j m other. none_more (matches_as j) (was.1.1.1 j m other) (ap (λ b. b && same_filling p (get_or ids k d) j) none))),
   )
 
   met : pattern_matches p (get_or ids k d) ≡ true → (old new : Option Id) → IsFirst p ids (take k ids) old → IsJoined p (get_or ids k d) old new
@@ -76,15 +130,23 @@ module _ (p : Pattern) (ids : List Id) (k : ℕ) (d : Id) (here : k < length ids
       subst (IsFirst p ids (take (k + 1) ids)) (sym is) (
         more [] (get_or ids k d ∷ []) true was.0
             (ap (λ b. b && not alike_before) one ∙ ap not (none_both (pattern_matches p) (λ j. same_filling p j (get_or ids k d)) (take k ids) was.1)) refl,
-        (one, among_last),
+        (
+          one,
+          (
+            among_last,
+            λ j m other.
+                none_more (matches_as j) (none_both (pattern_matches p) (λ h. same_filling p h j) (take k ids) was.1)
+                (ap (λ b. b && same_filling p (get_or ids k d) j) one ∙ other),
+          ),
+        ),
       )
   met one (Some i) new was is =
       subst (IsFirst p ids (take (k + 1) ids)) (sym is.1) (
         more (i ∷ []) (i ∷ []) false was.0
             (ap (λ b. b && not alike_before) one
-            ∙ ap not (was.1.1 (λ j. pattern_matches p j && same_filling p j (get_or ids k d))
+            ∙ ap not (was.1.1.0 (λ j. pattern_matches p j && same_filling p j (get_or ids k d))
             (ap (λ b. b && same_filling p i (get_or ids k d)) was.1.0 ∙ is.0))) refl,
-        (was.1.0, among_more i was.1.1),
+        (was.1.0, (among_more i was.1.1.0, λ j m other. none_more (matches_as j) (was.1.1.1 j m other) (apart i j was.1.0 m one is.0 other))),
       )
 
   -- one more id was looked at
@@ -96,7 +158,16 @@ module _ (p : Pattern) (ids : List Id) (k : ℕ) (d : Id) (here : k < length ids
       by true e is = met e old new was is
       by false e is = subst (IsFirst p ids (take (k + 1) ids)) (sym is) (passed e old was)
 
--- all ids were looked at
-pub first_only : (p : Pattern) (ids : List Id) (found : Option Id) → IsFirst p ids ids found → IfSome found (λ i. filter (is_least_match p ids) ids ≡ i ∷ [])
-first_only p ids None was = tt
-first_only p ids (Some i) was = was.0
+  -- an id that fills the pattern otherwise than the first match is another least match
+  pub several : (old : Option Id) → IsFirst p ids (take k ids) old → IsOther p (get_or ids k d) old
+      → length (filter (is_least_match p ids) ids) ≢ 1
+  several None was is = absurd is
+  several (Some i) was is = λ one.
+      let both = more (i ∷ []) (i ∷ get_or ids k d ∷ []) true was.0
+      (ap (λ b. b && not alike_before) is.0 ∙ ap not (was.1.1.1 (get_or ids k d) is.0 is.1)) refl in
+      let two : length (filter (is_least_match p ids) (take (k + 1) ids)) ≡ 2 = ap length both in
+      let parts = filter-append (is_least_match p ids) (take (k + 1) ids) (drop (k + 1) ids) in
+      let whole = ap (λ xs. length (filter (is_least_match p ids) xs)) (take-append-drop (k + 1) ids) in
+      let long = length-append (filter (is_least_match p ids) (take (k + 1) ids)) (filter (is_least_match p ids) (drop (k + 1) ids)) in
+      let sums = ap length parts in
+      omega (arith, one, two, whole, long, sums)

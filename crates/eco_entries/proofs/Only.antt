@@ -1,8 +1,8 @@
 -- Where each slot may have just one entry, these are the one choice.
-use Rattle.std.proofs.Common.{◌≡◌, ℕ, suc, ◌+◌, ◌<◌, List, [], ◌∷◌, ◌++◌, length, drop, map, get_or, Option, refl, sym, ap, ◌∙◌}
-use Rattle.std.proofs.Common.{arith, add-one, append-nil, drop-cons, append_assoc, length-append}
+use Rattle.std.proofs.Common.{◌≡◌, ◌≢◌, ℕ, suc, ◌+◌, ◌<◌, List, [], ◌∷◌, ◌++◌, length, drop, map, get_or, Option, refl, sym, ap, ◌∙◌}
+use Rattle.std.proofs.Common.{arith, add-one, drop-cons, append_assoc, length-append}
 use Rattle.std.specs.Prelude.{flat_map}
-use Rattle.std.proofs.lemmas.List.{length-drop, map-id, nil_from_length}
+use Rattle.std.proofs.lemmas.List.{length-drop, length-map, map-id, nil_from_length}
 use Rattle.eco_ids.specs.Answer.{choices, entries_of}
 use Rattle.eco_ids.specs.declared.id.Id.{Id}
 use Rattle.eco_query.specs.Queries.{term_view}
@@ -46,17 +46,32 @@ only_step ids slots place s old new made within is at added so_far =
     ∙ ap (λ zs. map (λ r. zs ++ r) rest) (sym (added ∙ ap (λ zs. old ++ zs) one.1))
     ∙ ap (λ k. map (λ r. new ++ r) (choices ids (asks (drop k slots)))) (sym (add-one place))
 
--- no slot is left
-pub only_end : (ids : List Id) (slots : List Slot) (place : ℕ) (new : List (Option Id)) → place ≡ length slots
-    → map (λ rest. new ++ rest) (choices ids (asks (drop place slots))) ≡ new ∷ []
-only_end ids slots place new end =
-    ap (λ k. map (λ rest. new ++ rest) (choices ids (asks (drop k slots)))) end
-    ∙ ap (λ zs. map (λ rest. new ++ rest) (choices ids (asks zs))) (drop_all slots)
-    ∙ ap (λ zs. zs ∷ []) (append-nil new)
-  where
-    drop_all : (xs : List Slot) → drop (length xs) xs ≡ []
-    drop_all [] = refl
-    drop_all (x ∷ xs) = drop_all xs
+no_rest : {X : Type 0} (es : List X) → flat_map (λ e. map (λ rest. e ∷ rest) []) es ≡ []
+no_rest [] = refl
+no_rest (e ∷ es) = no_rest es
+
+-- where there is one list with one of some entries in front, there is one entry
+one_entry : {X : Type 0} (es : List X) (lists : List (List X)) → length (flat_map (λ e. map (λ rest. e ∷ rest) lists) es) ≡ 1 → length es ≡ 1
+one_entry es [] one = absurd (let none = ap length (no_rest es) in omega (arith, one, none))
+one_entry [] (l ∷ lists) one = absurd (omega (arith, one))
+one_entry (e ∷ []) (l ∷ lists) one = refl
+one_entry (e ∷ f ∷ es) (l ∷ lists) one =
+    absurd (let both = length-append (map (λ rest. e ∷ rest) lists) (flat_map (λ x. map (λ rest. x ∷ rest) (l ∷ lists)) (f ∷ es)) in omega (arith, one, both))
+
+-- a slot has none or several entries: so there are none or several choices
+pub several_step : (ids : List Id) (slots : List Slot) (place : ℕ) (s : Slot) (old new : List (Option Id)) → place < length slots → get_or slots place s ≡ s
+    → length (entries_of ids (term_view s.term)) ≢ 1
+    → map (λ c. old ++ c) (choices ids (asks slots)) ≡ map (λ rest. new ++ rest) (choices ids (asks (drop place slots)))
+    → length (choices ids (asks slots)) ≢ 1
+several_step ids slots place s old new within is several made = λ one.
+    let rest : List (List (Option Id)) = choices ids (asks (drop (suc place) slots)) in
+    let same : length (choices ids (asks slots)) ≡ length (choices ids (asks (drop place slots))) =
+    sym (length-map (choices ids (asks slots)) (λ c. old ++ c)) ∙ ap length made
+    ∙ length-map (choices ids (asks (drop place slots))) (λ r. new ++ r) in
+    let own : length (choices ids (asks (drop place slots))) ≡ length (flat_map (λ e. map (λ r. e ∷ r) rest) (entries_of ids (term_view s.term))) =
+    ap (λ zs. length (choices ids (asks zs))) (drop-cons slots place s within)
+    ∙ ap (λ z. length (choices ids (asks (z ∷ drop (suc place) slots)))) is in
+    several (one_entry (entries_of ids (term_view s.term)) rest (sym own ∙ sym same ∙ one))
 
 -- what came behind the others is the one list
 pub only_is : {X : Type 0} (old new : List X) (lists : List (List X)) → map (λ c. old ++ c) lists ≡ new ∷ []

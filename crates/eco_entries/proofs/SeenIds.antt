@@ -1,15 +1,15 @@
 -- Ids that were seen: one that is above a list that ascends is not in it, and all that is known of it stays so where one comes.
-use Rattle.std.proofs.Common.{◌≡◌, ℕ, zero, suc, ◌+◌, Bool, true, false, ◌&&◌, ◌||◌, cond, List, [], ◌∷◌, ◌++◌, length, Some, refl, sym, ap, ◌∙◌, subst}
-use Rattle.std.proofs.Common.{arith, is_lt, is_eq, Ordering, Less, Equal, Greater, true≢false, slice_get, unwrap_or}
-use Rattle.std.specs.Prelude.{IsTrue, IsFalse, Result, Ok, Err, is_ok}
+use Rattle.std.proofs.Common.{◌≡◌, ℕ, zero, suc, ◌+◌, Bool, true, false, ◌&&◌, ◌||◌, List, [], ◌∷◌, ◌++◌, length, Some, refl, sym, ap, ◌∙◌, subst}
+use Rattle.std.proofs.Common.{arith, is_lt, is_eq, Less, slice_get, unwrap_or}
+use Rattle.std.specs.Prelude.{IsTrue, Result, Ok, Err, is_ok}
 use Rattle.std.specs.List.{list_all}
-use Rattle.std.specs.BTreeSet.{BTreeSet, contains, Updates}
+use Rattle.std.specs.BTreeSet.{BTreeSet, contains}
 use Rattle.std.proofs.lemmas.List.Folds.{list_all-append, list_any-append}
 use Rattle.std.proofs.lemmas.Option.{get_or_from_slice_get, slice_get_within}
 use Rattle.eco_ids.specs.Order.{has_item, id_cmp, id_eq, is_ascending, SearchSays}
 use Rattle.eco_ids.specs.declared.id.Id.{Id}
 use Rattle.eco_ids.proofs.Ascending.{all_at, both, first, second, less}
-use Rattle.eco_ids.proofs.IdOrder.{id_cmp_total, same_id}
+use Rattle.eco_ids.proofs.IdOrder.{id_cmp_total}
 use Rattle.eco_entries.specs.Seen.{is_above}
 
 and_true : (b : Bool) → (b && true) ≡ b
@@ -19,11 +19,6 @@ and_true false = refl
 and_false : (b : Bool) → (b && false) ≡ false
 and_false true = refl
 and_false false = refl
-
-tied : (r : Ordering) → is_eq r ≡ true → r ≡ Equal
-tied Less h = absurd (true≢false (sym h))
-tied Equal h = refl
-tied Greater h = absurd (true≢false (sym h))
 
 all_get : (t : Id → Bool) (xs : List Id) (k : ℕ) (v : Id) → IsTrue (list_all t xs) → slice_get xs k ≡ Some v → IsTrue (t v)
 all_get t xs k v h at = subst (λ w. IsTrue (t w)) (get_or_from_slice_get xs k v v at) (all_at t xs h k v (slice_get_within xs k v at))
@@ -59,28 +54,12 @@ ascends_more (y ∷ ys) x up h =
 pub above_front : (xs : List Id) (x i : Id) → IsTrue (is_above (xs ++ x ∷ []) i) → IsTrue (is_above xs i)
 above_front xs x i h = first _ _ (sym (list_all-append (λ y. is_lt (id_cmp y i)) xs (x ∷ [])) ∙ h)
 
--- one that is in neither part is not seen
-pub seen_in_neither : (run : List Id) (rest : BTreeSet Id) (x : Id) → has_item id_cmp run x ≡ false
-    → contains id_cmp rest x ≡ (has_item id_cmp run x || contains id_cmp rest x)
-seen_in_neither run rest x none = sym (ap (λ b. b || contains id_cmp rest x) none)
-
 shuffled : (a e c : Bool) → ((a || (e || false)) || c) ≡ ((a || c) || e)
 shuffled true e c = refl
 shuffled false true true = refl
 shuffled false true false = refl
 shuffled false false true = refl
 shuffled false false false = refl
-
-joined : (a e c : Bool) → (a || cond e true c) ≡ ((a || c) || e)
-joined true e c = refl
-joined false true true = refl
-joined false true false = refl
-joined false false true = refl
-joined false false false = refl
-
-or_false : (b : Bool) → b ≡ (b || false)
-or_false true = refl
-or_false false = refl
 
 module _ (run : List Id) (rest : BTreeSet Id) (x : Id) where
   -- the id comes behind the list
@@ -89,31 +68,6 @@ module _ (run : List Id) (rest : BTreeSet Id) (x : Id) where
   seen_behind y =
       ap (λ b. b || contains id_cmp rest y) (list_any-append (λ z. id_eq z y) run (x ∷ []))
       ∙ shuffled (has_item id_cmp run y) (id_eq x y) (contains id_cmp rest y)
-
-  -- the id is in the list already
-  pub seen_before : has_item id_cmp run x ≡ true → (y : Id) → (has_item id_cmp run y || contains id_cmp rest y)
-      ≡ ((has_item id_cmp run y || contains id_cmp rest y) || id_eq x y)
-  seen_before there y = by (id_eq x y) refl
-    where
-      by : (b : Bool) → id_eq x y ≡ b → (has_item id_cmp run y || contains id_cmp rest y) ≡ ((has_item id_cmp run y || contains id_cmp rest y) || b)
-      by false e = or_false _
-      by true e =
-          let own : has_item id_cmp run y ≡ true = ap (has_item id_cmp run) (sym (same_id x y (tied _ e))) ∙ there in
-          ap (λ b. b || contains id_cmp rest y) own ∙ sym (ap (λ b. (b || contains id_cmp rest y) || true) own)
-
-  -- the id comes into the set
-  pub seen_among : (new : BTreeSet Id) → Updates id_cmp rest new x true → (y : Id) → (has_item id_cmp run y || contains id_cmp new y)
-      ≡ ((has_item id_cmp run y || contains id_cmp rest y) || id_eq x y)
-  seen_among new is y =
-      ap (λ b. has_item id_cmp run y || b) (is.0 y) ∙ joined (has_item id_cmp run y) (id_eq x y) (contains id_cmp rest y)
-
-  pub apart_among : (new : BTreeSet Id) → Updates id_cmp rest new x true → IsFalse (is_above run x)
-      → ((i : Id) → IsTrue (is_above run i) → IsFalse (contains id_cmp rest i)) → (i : Id) → IsTrue (is_above run i) → IsFalse (contains id_cmp new i)
-  apart_among new is low apart i h = is.0 i ∙ by (id_eq x i) refl
-    where
-      by : (b : Bool) → id_eq x i ≡ b → cond b true (contains id_cmp rest i) ≡ false
-      by true e = absurd (true≢false (sym h ∙ ap (is_above run) (sym (same_id x i (tied _ e))) ∙ low))
-      by false e = apart i h
 
 pub found_says : (run : List Id) (x : Id) (r : Result ℕ ℕ) → SearchSays id_cmp run x r → is_ok r ≡ has_item id_cmp run x
 found_says run x (Ok i) says = sym says.0

@@ -15,6 +15,11 @@ abbrev pub IsJoinedIf : Bool → Pattern → Id → Option Id → Option Id → 
 IsJoinedIf true p i old new = IsJoined p i old new
 IsJoinedIf false p i old new = new ≡ old
 
+-- the id matches, and does not fill the pattern as the first match before it does
+abbrev pub IsOther : Pattern → Id → Option Id → Type 0
+IsOther p i None = ⊥
+IsOther p i (Some own) = (pattern_matches p i ≡ true) × (same_filling p own i ≡ false)
+
 -- the first match among some ids, and among these and one more
 abbrev pub IsNext : Pattern → Id → Option Id → Option Id → Type 0
 IsNext p i old new = IsJoinedIf (pattern_matches p i) p i old new

@@ -1,6 +1,6 @@
 //! Choices of entries: lists of one width, kept one behind another.
-ghost use Rattle.std.specs.Prelude.{◌≡◌, ◌<◌, ◌≤◌, ◌*◌, ◌++◌, ◌∷◌, ◌+◌, [], Some, suc, length, map, flat_map, slice_get};
-ghost use Rattle.std.specs.Prelude.{IfOk, IsTrue, OnOk, OnErr};
+ghost use Rattle.std.specs.Prelude.{◌≡◌, ◌≢◌, ◌<◌, ◌≤◌, ◌*◌, ◌++◌, ◌∷◌, ◌+◌, [], Some, suc, length, map, flat_map, slice_get};
+ghost use Rattle.std.specs.Prelude.{IfOk, IsFalse, IsTrue, OnOk, OnErr};
 ghost use Rattle.std.specs.List.{swap_remove};
 ghost use Rattle.eco_ids.specs.Answer as answers;
 ghost use Rattle.eco_entries.specs.Answers.{asks};
@@ -86,7 +86,8 @@ impl Choices {
         }
     }
 
-    /// No choice, each to be of this width, with room for so many. An `Err` comes where memory is refused.
+    /// No choice, each to be of this width. The count is a hint: there is room for so many, which spares memory later. An `Err`
+    /// comes where memory is refused.
     pub fn with_room(alloc: Global, width: usize, count: usize) -> Result<Choices, AllocError>
         ensures { IfOk result (λ c. c ≡ record { width = width; all = [] }) }
     {
@@ -97,7 +98,7 @@ impl Choices {
         })
     }
 
-    /// Room for one choice more. No choice comes or goes, whether it succeeds or not.
+    /// Room for one choice more: a hint, which spares memory later. No choice comes or goes, whether it succeeds or not.
     pub fn reserve_one(&mut self) -> Result<(), AllocError>
         ensures { self.new ≡ self.old }
     {
@@ -199,14 +200,18 @@ impl Choices {
         Ok(())
     }
 
-    /// Whether each slot may have just one entry on this type. Then their one choice stands behind these; and else no choice
-    /// is left, as where memory is refused.
+    /// Whether each slot may have just one entry on this type. Then their one choice stands behind these. Else there is no
+    /// choice, or there are several, and none is left here, as where memory is refused.
     pub fn push_only(&mut self, slots: &[Slot], ids: &TypeList) -> Result<bool, AllocError>
         requires some { 0 < self.old.width }
         requires even { length slots.now ≡ self.old.width }
         ensures one { IfOk result (λ is. IsTrue is → length (answers.choices ids.now (asks slots.now)) ≡ 1) }
         ensures only { IfOk result (λ is. IsTrue is → self.new
             ≡ record self.old { all = self.old.all ++ answers.choices ids.now (asks slots.now) }) }
+        ensures several { IfOk result (λ is. IsFalse is →
+            length (answers.choices ids.now (asks slots.now)) ≢ 1) }
+        ensures none { IfOk result (λ is. IsFalse is → self.new ≡ record self.old { all = [] }) }
+        ensures err { OnErr result (self.new ≡ record self.old { all = [] }) }
     {
         let added = add_only(slots, ids, &mut self.entries);
         if let Ok(true) = added {

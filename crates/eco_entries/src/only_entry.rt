@@ -1,18 +1,20 @@
 //! The entry that a slot may have on an entity, where it is the only one.
-ghost use Rattle.std.specs.Prelude.{◌≡◌, ◌∷◌, [], filter, option_map, IfSome, IsTrue, Some};
+ghost use Rattle.std.specs.Prelude.{◌≡◌, ◌≢◌, ◌∷◌, [], filter, length, option_map, IfNone, IfSome, IsTrue, Some};
 ghost use Rattle.eco_ids.specs.Answer.{entries_of, is_least_match};
 ghost use Rattle.eco_ids.specs.Order.{id_cmp, is_ascending};
 ghost use Rattle.eco_query.specs.Queries.{term_view};
-ghost use Rattle.eco_entries.specs.First.{IsNext};
+ghost use Rattle.eco_entries.specs.First.{IsNext, IsOther};
 
 use crate::entries::{fills_alike, first_of, has_match};
 use eco_ids::{Id, Part, Pattern, TypeList};
 use eco_query::{Slot, Term};
 
-/// The entry that the slot may have on an entity of this type, where it is the only one. It takes no memory.
+/// The entry that the slot may have on an entity of this type, where it is the only one. None, where it has none or several. It
+/// takes no memory.
 #[inline(always)]
 pub(crate) fn only_entry(slot: &Slot, ids: &TypeList) -> Option<Option<Id>>
-    ensures { IfSome result (λ e. entries_of ids.now (term_view slot.now.term) ≡ e ∷ []) }
+    ensures one { IfSome result (λ e. entries_of ids.now (term_view slot.now.term) ≡ e ∷ []) }
+    ensures several { IfNone result (length (entries_of ids.now (term_view slot.now.term)) ≢ 1) }
 {
     match &slot.term {
         Term::And(pattern) => some_entry(only_match(pattern, ids.as_slice())),
@@ -39,12 +41,13 @@ fn some_entry(id: Option<Id>) -> Option<Option<Id>>
     }
 }
 
-// The least match, where all that match fill the pattern as it does. Most queries ask for single ids and for the targets of a
-// relationship: each of these has a loop of its own, which the compiler makes for its pattern alone.
+// The least match, where all that match fill the pattern as it does; else none. Most queries ask for single ids and for the
+// targets of a relationship: each of these has a loop of its own, which the compiler makes for its pattern alone.
 #[inline(always)]
 fn only_match(pattern: &Pattern, ids: &[Id]) -> Option<Id>
     requires { IsTrue (is_ascending id_cmp ids.now) }
-    ensures { IfSome result (λ i. filter (is_least_match pattern.now ids.now) ids.now ≡ i ∷ []) }
+    ensures one { IfSome result (λ i. filter (is_least_match pattern.now ids.now) ids.now ≡ i ∷ []) }
+    ensures several { IfNone result (length (filter (is_least_match pattern.now ids.now) ids.now) ≢ 1) }
 {
     match *pattern {
         Pattern::One(entity) => only_match_of(Pattern::One(entity), ids),
@@ -59,7 +62,8 @@ fn only_match(pattern: &Pattern, ids: &[Id]) -> Option<Id>
 #[inline(never)]
 fn only_match_of_any(pattern: Pattern, ids: &[Id]) -> Option<Id>
     requires { IsTrue (is_ascending id_cmp ids.now) }
-    ensures { IfSome result (λ i. filter (is_least_match pattern ids.now) ids.now ≡ i ∷ []) }
+    ensures one { IfSome result (λ i. filter (is_least_match pattern ids.now) ids.now ≡ i ∷ []) }
+    ensures several { IfNone result (length (filter (is_least_match pattern ids.now) ids.now) ≢ 1) }
 {
     only_match_of(pattern, ids)
 }
@@ -68,7 +72,8 @@ fn only_match_of_any(pattern: Pattern, ids: &[Id]) -> Option<Id>
 #[inline(always)]
 fn only_match_of(pattern: Pattern, ids: &[Id]) -> Option<Id>
     requires { IsTrue (is_ascending id_cmp ids.now) }
-    ensures { IfSome result (λ i. filter (is_least_match pattern ids.now) ids.now ≡ i ∷ []) }
+    ensures one { IfSome result (λ i. filter (is_least_match pattern ids.now) ids.now ≡ i ∷ []) }
+    ensures several { IfNone result (length (filter (is_least_match pattern ids.now) ids.now) ≢ 1) }
 {
     let mut first = None;
     for id in ids {
@@ -77,10 +82,12 @@ fn only_match_of(pattern: Pattern, ids: &[Id]) -> Option<Id>
     first
 }
 
-// The first match among some ids and one more, where the one fills the pattern as it does.
+// The first match among some ids and one more, where the one fills the pattern as it does. None, where the one matches and does
+// not.
 #[inline(always)]
 fn with_next(pattern: Pattern, first: Option<Id>, id: Id) -> Option<Option<Id>>
-    ensures { IfSome result (IsNext pattern id first) }
+    ensures next { IfSome result (IsNext pattern id first) }
+    ensures other { IfNone result (IsOther pattern id first) }
 {
     if !pattern.matches(id) {
         return Some(first);

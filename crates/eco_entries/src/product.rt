@@ -1,5 +1,5 @@
 //! All choices of entries that a query has on the entities of one type.
-ghost use Rattle.std.specs.Prelude.{◌≡◌, ◌∷◌, [], length, IfOk, IsTrue};
+ghost use Rattle.std.specs.Prelude.{◌≡◌, ◌≢◌, ◌∷◌, [], length, IfOk, IsFalse, IsTrue};
 ghost use Rattle.eco_ids.specs.Answer as definitions;
 ghost use Rattle.eco_query.specs.Queries.{term_view};
 ghost use Rattle.eco_entries.specs.Answers.{asks};
@@ -40,7 +40,7 @@ pub fn choices_of(alloc: Global, slots: &[Slot], ids: &TypeList) -> Result<Choic
 }
 
 /// Whether each slot may have just one entry. Then these are the one choice, and the buffer has them from then on, whatever
-/// it had.
+/// it had. Else there is no choice, or there are several.
 pub fn find_only(
     slots: &[Slot],
     ids: &TypeList,
@@ -49,6 +49,8 @@ pub fn find_only(
     ensures only { IfOk result (λ is. IsTrue is →
         definitions.choices ids.now (asks slots.now) ≡ buffer.new.items ∷ []) }
     ensures long { IfOk result (λ is. IsTrue is → length buffer.new.items ≡ length slots.now) }
+    ensures several { IfOk result (λ is. IsFalse is →
+        length (definitions.choices ids.now (asks slots.now)) ≢ 1) }
 {
     buffer.clear();
     add_only(slots, ids, buffer)

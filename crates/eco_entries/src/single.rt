@@ -1,5 +1,5 @@
 //! The one choice of a type, where each slot may have just one entry.
-ghost use Rattle.std.specs.Prelude.{◌≡◌, ◌∷◌, ◌++◌, ◌+◌, [], length, map, IfOk, IsTrue};
+ghost use Rattle.std.specs.Prelude.{◌≡◌, ◌∷◌, ◌++◌, ◌+◌, ◌≢◌, [], length, map, IfOk, IsFalse, IsTrue};
 ghost use Rattle.eco_ids.specs.Answer as definitions;
 ghost use Rattle.eco_entries.specs.Answers.{asks};
 
@@ -9,7 +9,8 @@ use eco_ids::{Id, TypeList};
 use eco_query::Slot;
 use std::alloc::AllocError;
 
-/// Whether each slot may have just one entry. Then these are the one choice, and stand behind the entries that were there.
+/// Whether each slot may have just one entry. Then these are the one choice, and stand behind the entries that were there. Else
+/// there is no choice, or there are several.
 #[inline(always)]
 pub fn add_only(
     slots: &[Slot],
@@ -21,6 +22,8 @@ pub fn add_only(
         ≡ entries.new.items ∷ []) }
     ensures long { IfOk result (λ is. IsTrue is →
         length entries.new.items ≡ length entries.old.items + length slots.now) }
+    ensures several { IfOk result (λ is. IsFalse is →
+        length (definitions.choices ids.now (asks slots.now)) ≢ 1) }
 {
     for place in 0..slots.len() {
         let Some(entry) = only_entry(&slots[place], ids) else {

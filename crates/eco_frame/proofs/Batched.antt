@@ -1,6 +1,8 @@
 -- From what workers answer for the pieces of a batch to what its systems record.
 use Rattle.std.proofs.Common.{◌≡◌, ℕ, ◌<◌, ◌≤◌, Bool, List, [], ◌∷◌, ◌++◌, map, length, refl, sym, ap, ◌∙◌, subst, append_assoc, arith}
 use Rattle.std.proofs.Common.{flat_map, option_map, option_to_list, unwrap_or, inl, inr}
+use Rattle.std.proofs.Common.{length-append, IfErr, IfOk, Result, Ok, Err}
+use Rattle.std.proofs.lemmas.List.{length-map}
 use Rattle.std.proofs.lemmas.Option.{slice_get-map, slice_get_cases}
 use Rattle.std.specs.List.{AllByRecursion, AllZip}
 use Rattle.eco_ids.specs.declared.entity.Entity.{Entity}
@@ -17,7 +19,7 @@ use Rattle.eco_workers.specs.Batches.{AreStages, IsBatch, IsOut}
 use Rattle.eco_stages.specs.Taking.{by_index, fresh}
 use Rattle.eco_stages.specs.Merging.{all_commands}
 use Rattle.eco_frame.specs.Models.{model_at, model_of}
-use Rattle.eco_frame.specs.Pieces.{IsRecorded, Settled, part_at, body_with_rows, piece_commands, piece_taken, pieces_at, pieces_in}
+use Rattle.eco_frame.specs.Pieces.{HasFewPieces, IsRecorded, Settled, part_at, body_with_rows, piece_commands, piece_taken, pieces_at, pieces_in}
 use Rattle.eco_frame.proofs.Fresh.{ascending_batch, fresh_batch}
 use Rattle.eco_frame.proofs.Grouped.{AreGrouped, grouped, joined_map}
 use Rattle.eco_frame.proofs.Recorded.{pieces_record}
@@ -43,6 +45,16 @@ joined_twice (xss ∷ xsss) = ap (λ l. joined xss ++ l) (joined_twice xsss) ∙
 map_itself : {A : Type 0} (xs : List A) → map (λ x. x) xs ≡ xs
 map_itself [] = refl
 map_itself (x ∷ xs) = ap (λ l. x ∷ l) (map_itself xs)
+
+-- ---- results
+
+pub both_ok : {A E : Type 0} (P Q S : A → Type 0) → ((x : A) → P x → Q x → S x) → (r : Result A E) → IfOk r P → IfOk r Q → IfOk r S
+both_ok P Q S f (Ok x) h k = f x h k
+both_ok P Q S f (Err e) h k = tt
+
+pub both_err : {A E : Type 0} (P Q S : E → Type 0) → ((e : E) → P e → Q e → S e) → (r : Result A E) → IfErr r P → IfErr r Q → IfErr r S
+both_err P Q S f (Ok x) h k = tt
+both_err P Q S f (Err e) h k = f e h k
 
 -- ---- pieces as they are seen
 
@@ -113,14 +125,26 @@ module _ {B : Type 0} (reads writes : B → List Pattern) (kills : B → Bool) (
     refl,
   )
 
+  -- the systems have as many pieces as are recorded
+  as_many : (ss : List (System B)) → length (flat_map (λ s. pieces_of (valued_rows w s.slots)) (map model ss))
+      ≡ length (joined (map (λ s. pieces_in (body_with_rows w s)) ss))
+  as_many [] = refl
+  as_many (s ∷ ss) =
+      let own = pieces_of (valued_rows w s.query) in
+      let rest = as_many ss in
+      let one = length-append own (flat_map (λ m. pieces_of (valued_rows w m.slots)) (map model ss)) in
+      let other = length-append (pieces_in (body_with_rows w s)) (joined (map (λ t. pieces_in (body_with_rows w t)) ss)) in
+      let same : length (pieces_in (body_with_rows w s)) ≡ length own = length-map own (λ rows. (s.body, rows)) in
+      omega (arith, one, other, same, rest)
+
   -- what the workers answer for the pieces of a batch is recorded by its systems
   pub recorded : {P : Type 0} (see : P → B × List ValuedRow) (workers used : ℕ) (few : workers ≡ 1 → used ≡ 1) (systems : List (System B))
       (places : List ℕ) (pieces : List P) (n : ℕ) (stages : List (List Command)) → AllByRecursion (λ k. k < length systems) places
-      → map see pieces ≡ pieces_at w systems places
+      → map see pieces ≡ pieces_at w systems places → length pieces ≤ 16777216
       → IsBatch (by_index (λ p. piece_commands taken commands (see p))) (by_index (λ p. piece_taken taken commands (see p))) used pieces
       (length w.indices) n stages
       → IsRecorded workers w (map (model_at (map model systems)) places) (all_commands stages) n
-  recorded see workers used few systems places pieces n stages within seen b =
+  recorded see workers used few systems places pieces n stages within seen most b =
       let f = by_index (piece_commands taken commands) in
       let t = by_index (piece_taken taken commands) in
       let c = chosen systems places within in
@@ -133,10 +157,13 @@ module _ {B : Type 0} (reads writes : B → List Pattern) (kills : B → Bool) (
       let are = all_record c.0 g.0 g.1 g.4 in
       let all : joined (map joined g.1) ≡ all_commands stages = joined_twice g.1 ∙ ap joined g.3
       ∙ ap joined (sym (map_itself stages)) ∙ sym (flat_is_joined (λ s. s) stages) in
+      let whole : length pieces ≡ length (joined xss) = sym (length-map pieces see) ∙ ap length flat in
+      let fits : HasFewPieces w (map model c.0) = (let count = as_many c.0 in omega (arith, count, whole, most)) in
       let new = fresh_batch (length w.indices) n b.draws draws shape b.ascend b.each in (
         draws,
         subst (λ ms. BatchRecords w ms draws (all_commands stages)) (sym c.2) (subst (BatchRecords w (map model c.0) draws) all are),
         new.0,
         new.1,
         λ one. ascending_batch (length w.indices) n b.draws draws shape (b.alone (few one)) b.each,
+        subst (HasFewPieces w) (sym c.2) fits,
       )

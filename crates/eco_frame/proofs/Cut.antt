@@ -2,7 +2,7 @@
 use Rattle.std.proofs.Common.{◌≡◌, ℕ, zero, suc, ◌+◌, ◌-◌, ◌<◌, ◌≤◌, min, List, [], ◌∷◌, ◌++◌, flat_map, get_or, map, take, drop, length}
 use Rattle.std.proofs.Common.{refl, sym, ap, ◌∙◌, append_assoc, arith}
 use Rattle.std.proofs.lemmas.Grind.{flat_map-append}
-use Rattle.std.proofs.lemmas.List.{append-nil, drop-drop, drop_all, length-drop, map_push, take_min, take_more}
+use Rattle.std.proofs.lemmas.List.{append-nil, drop-drop, length-drop, map_push, take_min, take_more}
 use Rattle.std.proofs.Math.Seq.{drop-nil}
 use Rattle.eco_systems.specs.Recording.{cut, pieces_of}
 use Rattle.eco_systems.specs.Rows.{ValuedRow}
@@ -55,12 +55,6 @@ piece_more body rows first end old pieces h e inv =
     ∙ ap (λ l. (body, take 64 rest) ∷ pieces_in (body, l)) later
     ∙ ap (map (λ r. (body, r))) (sym (next_piece rest some)))
     ∙ inv
-
--- before the first piece, and behind the last
-pub no_piece : {B : Type 0} (body : B) (rows : List ValuedRow) (first : ℕ) (old pieces : List (B × List ValuedRow))
-    → length rows ≤ first → pieces ++ pieces_in (body, drop first rows) ≡ old ++ pieces_in (body, rows) → pieces ≡ old ++ pieces_in (body, rows)
-no_piece body rows first old pieces h inv =
-    sym (append-nil pieces) ∙ ap (λ l. pieces ++ pieces_in (body, l)) (sym (drop_all first rows h)) ∙ inv
 
 -- what one more part gives is behind
 pub flat_more : {A Y X : Type 0} (f : Y → List X) (g : A → Y) (xs : List A) (k : ℕ) (x : A) (seen seen' : List X) → k < length xs → x ≡ get_or xs k x

@@ -65,6 +65,7 @@ has_run workers w new batch cs n before after os r most m total draws count more
           subst (λ k. Runs (with_admitted k w) cs os new) (sym r.3) runs,
         ),
         r.4,
+        r.5,
       );
       reports = is.reports;
       commands = is.commands_are ∙ count ∙ ap (λ k. before.commands + k) (sym len);

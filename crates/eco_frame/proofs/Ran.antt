@@ -11,6 +11,7 @@ use Rattle.eco_systems.specs.Laws.{FramesAreSolo, StoppedAreSolo}
 use Rattle.eco_systems.specs.Phases.{in_order}
 use Rattle.eco_systems.specs.Systems.{IsLawfulSystem, SystemModel}
 use Rattle.eco_frame.specs.Models.{ArePlaced, model_at}
+use Rattle.eco_frame.specs.Pieces.{HasFewPieces}
 use Rattle.eco_frame.specs.Progresses.{HaveRun, RunsBy, done_of}
 use Rattle.eco_frame.specs.Reports.{FrameDone, Frames, IsFrameBy}
 use Rattle.eco_frame.specs.declared.progress.Progress.{Progress}
@@ -97,6 +98,10 @@ solo_of : FramesAreSolo → StoppedAreSolo → (w : WorldState) (systems : List 
 solo_of whole stopped w systems (Ok r) new lawful all h = (h.0, whole w systems h.0 r.outcomes new lawful all h.1, h.2, h.3)
 solo_of whole stopped w systems (Err s) new lawful all h = (h.0, h.1, stopped w systems h.0 h.1 new lawful all h.2, h.3)
 
+-- a batch of few pieces runs
+abbrev FewRuns : WorldState → List SystemModel → BatchDraws → FrameOutcomes → WorldState → Type 0
+FewRuns w batch draws outcomes new = BatchRuns w batch draws outcomes new × HasFewPieces w batch
+
 -- a frame of lawful systems by so many workers on a lawful world may be read in each way
 pub frame_by : FramesAreSolo → StoppedAreSolo → (workers : ℕ) (w : WorldState) (systems : List SystemModel) (r : Result FrameDone FrameStop) (new : WorldState)
     → IsLawful w → AllByRecursion IsLawfulSystem systems → Frames (RunsBy workers) w systems r new → IsFrameBy workers w systems r new
@@ -106,6 +111,7 @@ frame_by whole stopped workers w systems r new lawful all ran =
       batches = batches;
       alone = λ one. frames_weaker (RunsBy workers) AscendingRuns (λ v b d o n h. (h.0, h.1 one)) w systems r new ran;
       solo = solo_of whole stopped w systems r new lawful all batches;
+      few = frames_weaker (RunsBy workers) FewRuns (λ v b d o n h. (h.0, h.2)) w systems r new ran;
     }
 
 -- and so may one that stopped before its first batch
@@ -115,4 +121,5 @@ frame_stopped_at_once workers w systems batches h stop none = record {
   batches = stopped_at_once BatchRuns w systems batches h stop none;
   alone = λ one. stopped_at_once AscendingRuns w systems batches h stop none;
   solo = stopped_at_once BatchRunsSolo w systems batches h stop none;
+  few = stopped_at_once FewRuns w systems batches h stop none;
 }

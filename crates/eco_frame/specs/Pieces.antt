@@ -1,5 +1,5 @@
 -- The systems of a batch with their rows, and the pieces that these are cut into.
-use Rattle.std.specs.Prelude.{◌≡◌, ℕ, ◌-◌, ◌++◌, List, drop, flat_map, length, map, option_map, option_to_list, slice_get, take}
+use Rattle.std.specs.Prelude.{◌≡◌, ℕ, ◌-◌, ◌++◌, ◌≤◌, List, drop, flat_map, length, map, option_map, option_to_list, slice_get, take}
 use Rattle.eco_ids.specs.declared.entity.Entity.{Entity}
 use Rattle.eco_ids.specs.Run.{Command}
 use Rattle.eco_ids.specs.World.{WorldState}
@@ -54,10 +54,11 @@ module _ {B : Type 0} where
     piece_taken p = taken_of (taken p.0) p.1
 
     -- all indices that are left are drawn, shared out among the pieces of a batch: each takes its share at least, and one takes more. So
-    -- a draw was refused
+    -- a draw was refused; and the pieces are no more than a batch may have
     abbrev pub IsRunOut : WorldState → List (System B) → List ℕ → Type 0
     IsRunOut w systems places =
         IsOut (by_index piece_commands) (by_index piece_taken) (pieces_at w systems places) (length w.indices) w.limit
+        × (length (pieces_at w systems places) ≤ 16777216)
 
 -- some pieces gave these commands: those of a stage of each, in the pieces' order
 abbrev pub AreGiven : {S : Type 0} → (S → List ℕ → List Command) → (S → List ℕ → ℕ) → ℕ → List S → ℕ → ℕ → List Command → Type 0
@@ -70,8 +71,12 @@ Settled {B} taken commands =
     (b : B) (row : ValuedRow) (mine later : List Entity) → taken b row (mine ++ later) ≡ length mine
     → (taken b row mine ≡ length mine) × (commands b row (mine ++ later) ≡ commands b row mine)
 
--- a batch recorded these commands, and drew so many handles, which are fresh; of one worker they ascend over all pieces in order
+-- the systems of a batch have at most 16,777,216 pieces on a world
+abbrev pub HasFewPieces : WorldState → List SystemModel → Type 0
+HasFewPieces w batch = length (flat_map (λ s. pieces_of (valued_rows w s.slots)) batch) ≤ 16777216
+
+-- a batch of few pieces recorded these commands, and drew so many fresh handles; of one worker they ascend over all pieces in order
 abbrev pub IsRecorded : ℕ → WorldState → List SystemModel → List Command → ℕ → Type 0
 IsRecorded workers w batch commands n =
     (draws : BatchDraws) × BatchRecords w batch draws commands × AreFresh (length w.indices) draws × (length (all_drawn draws) ≡ n)
-    × (workers ≡ 1 → AreAscending (length w.indices) draws)
+    × (workers ≡ 1 → AreAscending (length w.indices) draws) × HasFewPieces w batch

@@ -4,6 +4,7 @@ use Rattle.eco_ids.specs.World.{WorldState}
 use Rattle.eco_systems.specs.Batches.{joined}
 use Rattle.eco_systems.specs.Frames.{AreAscending, BatchDraws, BatchRuns, InTurn, FrameOutcomes, all_drawn}
 use Rattle.eco_systems.specs.Systems.{SystemModel}
+use Rattle.eco_frame.specs.Pieces.{HasFewPieces}
 use Rattle.eco_frame.specs.Reports.{FrameDone, drawn_in}
 use Rattle.eco_frame.specs.declared.progress.Progress.{Progress}
 
@@ -15,9 +16,10 @@ CommandsAreCounted p = p.commands ≡ length (joined p.reports.items)
 abbrev pub done_of : Progress → FrameDone
 done_of p = record { batches = length p.reports.items; outcomes = joined p.reports.items; drawn = p.drawn }
 
--- a batch runs; of one worker its draws ascend over all pieces in order
+-- a batch of few pieces runs; of one worker its draws ascend over all pieces in order
 abbrev pub RunsBy : ℕ → WorldState → List SystemModel → BatchDraws → FrameOutcomes → WorldState → Type 0
-RunsBy workers w batch draws outcomes new = BatchRuns w batch draws outcomes new × (workers ≡ 1 → AreAscending (length w.indices) draws)
+RunsBy workers w batch draws outcomes new =
+    BatchRuns w batch draws outcomes new × (workers ≡ 1 → AreAscending (length w.indices) draws) × HasFewPieces w batch
 
 -- one batch more ran, and is counted
 pub record HasRun (workers : ℕ) (w : WorldState) (batch : List SystemModel) (before after : Progress) (new : WorldState) : Type 0 where

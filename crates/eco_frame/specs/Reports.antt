@@ -3,6 +3,7 @@ use Rattle.std.specs.Prelude.{◌≡◌, ℕ, ◌+◌, List, [], ◌∷◌, leng
 use Rattle.eco_ids.specs.World.{WorldState}
 use Rattle.eco_systems.specs.Frames.{AscendingRuns, BatchDraws, BatchRuns, BatchRunsSolo, FrameOutcomes, Goes, GoesSoFar, all_drawn}
 use Rattle.eco_systems.specs.Systems.{SystemModel}
+use Rattle.eco_frame.specs.Pieces.{HasFewPieces}
 use Rattle.eco_frame.specs.declared.stop.FrameStop.{FrameStop}
 
 -- of a frame that ran to its end: how many batches it had, the outcome of each command in order, and how many handles were drawn
@@ -32,3 +33,5 @@ pub record IsFrameBy (workers : ℕ) (w : WorldState) (systems : List SystemMode
   pub alone : workers ≡ 1 → Frames AscendingRuns w systems result new
   -- the systems run one by one
   pub solo : Frames BatchRunsSolo w systems result new
+  -- no batch that ran had more than 16,777,216 pieces
+  pub few : Frames (λ v batch draws outcomes mid. BatchRuns v batch draws outcomes mid × HasFewPieces v batch) w systems result new

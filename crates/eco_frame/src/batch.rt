@@ -98,6 +98,7 @@ fn record_pieces<P: Piece + Sync, R: Threads + Sync>(
     ensures out { IfErr result (λ e. e ≡ NoMoreIds
         → IsOut (by_index P.commands) (by_index P.taken) pieces.now base limit) }
     ensures few { OnOk result (length pieces.now ≤ 16777216) }
+    ensures gone { IfErr result (λ e. e ≡ NoMoreIds → length pieces.now ≤ 16777216) }
 {
     // However many workers there are, it stops at the same number of pieces.
     count_pieces(pieces)?;

@@ -81,7 +81,8 @@ impl FrameReport {
 
     /// What the merge of each batch answered, in order: together the outcomes of all commands.
     pub fn reports(&self) -> &[Report]
-        ensures { joined result.now ≡ self.now.outcomes }
+        ensures all { joined result.now ≡ self.now.outcomes }
+        ensures each { length result.now ≡ self.now.batches }
     {
         self.reports.as_slice()
     }

@@ -8,7 +8,7 @@ use crate::front::{Front, Head, begin};
 use logbook::Plain;
 use std::marker::{Brand, PhantomData};
 
-// Which history it is.
+/// What the registry has of a history: its place there, and the names of its book.
 pub struct HistoryMark {
     pub number: u64,
     pub log_name: u64,
@@ -99,8 +99,8 @@ pub struct Title<J: Naming> {
 }
 
 impl<J: Naming> Registry<J> {
-    /// A number that no history of the registry had before: how many there were. There is none only where numbers are used up,
-    /// after 2^62 of them.
+    /// A number that no history of the registry had before: how many there were. There is none where numbers are used up, after
+    /// 2^62 of them; that it is so only there is not proved, since who else adds to the list is not known here.
     pub fn enrol<E>(&mut self, front: &Front<E>) -> Option<Title<J>>
         ensures some { IfSome result (λ t. (t.number ≡ length self.old.front.seen.log)
             × (slice_get t.marks.seen.log t.number ≡ Some (mark_of front.now.seen.book))

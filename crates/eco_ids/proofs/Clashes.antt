@@ -1,5 +1,5 @@
 -- What an add makes clash is seen at a look: at its entity, and at the targets of the pairs of With that come.
-use Rattle.eco_ids.proofs.Common.{◌≡◌, Bool, true, false, cond, not, ◌&&◌, ◌||◌, ◌⊎◌, List, [], is_some, IsTrue, IsFalse, Some, None, Option, option_map}
+use Rattle.eco_ids.proofs.Common.{◌≡◌, Bool, true, false, not, ◌&&◌, ◌||◌, ◌⊎◌, List, [], IsTrue, IsFalse, Some, None, Option, option_map}
 use Rattle.eco_ids.proofs.Common.{unwrap_or, sym, refl, ap, ◌∙◌, subst, inl, inr, true≢false, find, where_key, list_any, Edition, First, Second, Entity}
 use Rattle.eco_ids.proofs.Common.{ACYCLIC, EXCLUSIVE, SYMMETRIC, WITH, Id, Two, One, IsLawful, id_cmp, has_item, id_eq, entity_eq, IsClosure}
 use Rattle.eco_ids.proofs.Common.{with_closure, with_mirror, grown, is_replaced, WorldState, Record, has, record_of, is_alive, names_living, living, held_by}
@@ -8,11 +8,11 @@ use Rattle.eco_ids.proofs.Common.{world_of_edition, is_builtin}
 use Rattle.eco_ids.specs.Mirrors.{ties_symmetric, would_be_barred, would_clash}
 use Rattle.eco_ids.proofs.Adds.{half, closure_present, closure_write}
 use Rattle.eco_ids.proofs.Ascending.{both, first, second}
-use Rattle.eco_ids.proofs.Closures.{find_kept, kept_entry, zeros_entry, zeros_keep}
+use Rattle.eco_ids.proofs.Closures.{kept_entry, zeros_entry}
 use Rattle.eco_ids.proofs.First.{builtin_plain}
 use Rattle.eco_ids.proofs.Facts.{any_is, id_eq_is, id_eq_itself, not_both, or_left, or_parts, or_right, same_or_apart}
 use Rattle.eco_ids.proofs.Gains.{two_is_not_one, same_relationship}
-use Rattle.eco_ids.proofs.Grown.{grown_edition, id_came, id_kept}
+use Rattle.eco_ids.proofs.Grown.{grown_edition, half_keeps, id_came, id_kept}
 use Rattle.eco_ids.proofs.Keeps.{alive_still, entry_of, has_entry, has_in, some_of}
 use Rattle.eco_ids.proofs.Mirrors.{IsCalm, calm_from, entry_any, held_pair, living_some, mirror_parts, mirrored_of, rest_of, some_living, with_is}
 use Rattle.eco_ids.proofs.Overlaps.{entity_eq_is, entity_eq_itself}
@@ -61,20 +61,6 @@ module _ (w : WorldState) (e : Entity) (i : Id) (s : List Id) (d : Record) (at :
             ]
       ]
 
-  stays_half : (x : Entity) (j : Id) → IsTrue (has w x j) → IsFalse (is_replaced w s j) → IsTrue (has (half w e s) x j)
-  stays_half x j h kept =
-      elim (same_or_apart x e) as (λ _. IsTrue (has (half w e s) x j)) [
-        | inr n ↦ ap (λ o. has_in o j) (write.apart x n) ∙ h
-        | inl same ↦
-            let held : IsTrue (is_some (find id_cmp j d.held)) = sym (ap (λ o. has_in o j) at) ∙ ap (λ y. has w y j) (sym same) ∙ h in
-            let v = some_of (find id_cmp j d.held) held in
-            let left : find id_cmp j (where_key id_cmp (λ k. not (is_replaced w s k)) d.held) ≡ Some v.0 =
-            find_kept (λ k. not (is_replaced w s k)) j d.held ∙ ap (λ b. cond (not b) (find id_cmp j d.held) None) kept ∙ v.1 in
-            ap (λ y. has (half w e s) y j) same
-            ∙ has_entry (half w e s) e j (with_closure w s d) v.0 write.at
-            (zeros_keep s (where_key id_cmp (λ k. not (is_replaced w s k)) d.held) j v.0 left)
-      ]
-
   -- who holds the mirror lives
   mirror_lives : (m : Entity × Id) → mirror_of w e i ≡ Some m → (q : Record) × (record_of (half w e s) m.0 ≡ Some q)
   mirror_lives m is =
@@ -108,7 +94,7 @@ module _ (w : WorldState) (e : Entity) (i : Id) (s : List Id) (d : Record) (at :
           ]
 
   stays : (x : Entity) (j : Id) → IsTrue (has w x j) → IsFalse (is_replaced w s j) → IsTrue (has (grown w e i s) x j)
-  stays x j h kept = mirror_keeps x j (stays_half x j h kept)
+  stays x j h kept = mirror_keeps x j (half_keeps w e i s d at x j h kept)
 
   there : (j : Id) → IsTrue (has_item id_cmp s j) → IsTrue (has (grown w e i s) e j)
   there j h = mirror_keeps e j (closure_present w e i s d at j h)
@@ -281,7 +267,7 @@ module _ (w : WorldState) (e : Entity) (i : Id) (s : List Id) (d : Record) (at :
       where
         tie_parts : (j : Id) → IsTrue (ties_symmetric w j) → (x : Entity) × (j ≡ Two WITH x) × IsTrue (is_symmetric w x)
         tie_parts (One c) h = absurd (true≢false (sym h))
-        tie_parts (Two r t) h = (t, ap (λ y. Two y t) (sym (entity_eq_is WITH r (first (entity_eq WITH r) _ h))), second (entity_eq WITH r) _ h)
+        tie_parts (Two r t) h = (t, ap (λ y. Two y t) (entity_eq_is r WITH (first (entity_eq r WITH) _ h)), second (entity_eq r WITH) _ h)
 
     seen_is : (b : Bool) → has_clash (grown w e i s) ≡ b → (c : Bool) → would_clash w e s ≡ c → b ≡ c
     seen_is true h true k = refl
@@ -356,7 +342,7 @@ quiet_clash w e s l quiet = by (has_symmetric w.edition) refl
 
     tie : (j : Id) → IsTrue (ties_symmetric w j) → IsTrue (is_with j)
     tie (One c) h = h
-    tie (Two r t) h = first (entity_eq WITH r) _ h
+    tie (Two r t) h = first (entity_eq r WITH) _ h
 
     none : (h : IsTrue (has_symmetric w.edition)) → IsTrue Rest → ⊥
     none has_it h =

@@ -264,6 +264,23 @@ module _ (h : WorldState) (t : Entity) (j : Id) (d : Record) (at : record_of h t
         no_cycle = λ q c. lasting (subst (λ y. IsTrue (is_acyclic h y)) (same_relationship (sym (only (Two q c.1) c.2) ∙ is)) c.0);
       }
 
+-- the closure leaves what is not replaced
+pub half_keeps : (w : WorldState) (e : Entity) (i : Id) (s : List Id) (d : Record) → record_of w e ≡ Some d → (x : Entity) (j : Id)
+    → IsTrue (has w x j) → IsFalse (is_replaced w s j) → IsTrue (has (half w e s) x j)
+half_keeps w e i s d at x j h kept =
+    let write = closure_write w e i s d at in
+    elim (same_or_apart x e) as (λ _. IsTrue (has (half w e s) x j)) [
+      | inr n ↦ ap (λ o. has_in o j) (write.apart x n) ∙ h
+      | inl same ↦
+          let held : IsTrue (is_some (find id_cmp j d.held)) = sym (ap (λ o. has_in o j) at) ∙ ap (λ y. has w y j) (sym same) ∙ h in
+          let v = some_of (find id_cmp j d.held) held in
+          let left : find id_cmp j (where_key id_cmp (λ k. not (is_replaced w s k)) d.held) ≡ Some v.0 =
+          find_kept (λ k. not (is_replaced w s k)) j d.held ∙ ap (λ b. cond (not b) (find id_cmp j d.held) None) kept ∙ v.1 in
+          ap (λ y. has (half w e s) y j) same
+          ∙ has_entry (half w e s) e j (with_closure w s d) v.0 write.at
+          (zeros_keep s (where_key id_cmp (λ k. not (is_replaced w s k)) d.held) j v.0 left)
+    ]
+
 -- an add that nothing stands against keeps a lawful world lawful
 module _
     (w : WorldState) (e : Entity) (i : Id) (s : List Id) (d : Record) (at : record_of w e ≡ Some d) (l : IsLawful w) (free : IsFalse (is_reserved w e i))
@@ -272,19 +289,7 @@ module _
   came = (closure_gains w e i s d at closure clear).from
 
   stays : (x : Entity) (j : Id) → IsTrue (has w x j) → IsFalse (is_replaced w s j) → IsTrue (has (half w e s) x j)
-  stays x j h kept =
-      let write = closure_write w e i s d at in
-      elim (same_or_apart x e) as (λ _. IsTrue (has (half w e s) x j)) [
-        | inr n ↦ ap (λ o. has_in o j) (write.apart x n) ∙ h
-        | inl same ↦
-            let held : IsTrue (is_some (find id_cmp j d.held)) = sym (ap (λ o. has_in o j) at) ∙ ap (λ y. has w y j) (sym same) ∙ h in
-            let v = some_of (find id_cmp j d.held) held in
-            let left : find id_cmp j (where_key id_cmp (λ k. not (is_replaced w s k)) d.held) ≡ Some v.0 =
-            find_kept (λ k. not (is_replaced w s k)) j d.held ∙ ap (λ b. cond (not b) (find id_cmp j d.held) None) kept ∙ v.1 in
-            ap (λ y. has (half w e s) y j) same
-            ∙ has_entry (half w e s) e j (with_closure w s d) v.0 write.at
-            (zeros_keep s (where_key id_cmp (λ k. not (is_replaced w s k)) d.held) j v.0 left)
-      ]
+  stays = half_keeps w e i s d at
 
   half_orderly : IsOrderly (half w e s)
   half_orderly = closure_orderly w e i s d at l.orderly (may_come w e i free).0 named closure clear

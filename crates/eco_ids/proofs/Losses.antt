@@ -328,19 +328,6 @@ without_one w e goes = ap (λ xs. record w { indices = xs }) (one_left e goes 0 
     same None = refl
     same (Some r) = refl
 
-and_true : (b : Bool) → b ≡ (b && true)
-and_true true = refl
-and_true false = refl
-
-where_none : (es : List (Id × Value)) → where_key id_cmp (λ i. false) es ≡ []
-where_none [] = refl
-where_none (e ∷ es) = where_none es
-
--- where all of them go, none is left
-pub without_all : (w : WorldState) (e : Entity) → without w nobody (λ x j. entity_eq x e) ≡ changed w e (λ r. record r { held = [] })
-without_all w e = (λ i. without w nobody (λ x j. and_true (entity_eq x e) i)) ∙ without_one w e (λ j. true)
-    ∙ (λ i. changed w e (λ r. record r { held = where_none r.held i }))
-
 -- what goes from all goes from each record
 from_each : (goes : Id → Bool) (n : ℕ) (xs : List (IndexState Record)) → map_from (left_at nobody (λ x j. goes j)) n xs ≡ map (map_state (keeping goes)) xs
 from_each goes n [] = refl

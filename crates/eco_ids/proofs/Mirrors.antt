@@ -90,7 +90,7 @@ any_entry j (e ∷ es) h =
 
 pub with_is : (j : Id) → IsTrue (is_with j) → (x : Entity) × (j ≡ Two WITH x)
 with_is (One c) h = absurd (true≢false (sym h))
-with_is (Two r t) h = (t, ap (λ y. Two y t) (sym (entity_eq_is WITH r h)))
+with_is (Two r t) h = (t, ap (λ y. Two y t) (entity_eq_is r WITH h))
 
 -- a pair of With among what it has
 pub held_pair : (w : WorldState) (r : Entity) → IsTrue (list_any (λ h. is_with h.0) (held_by w r)) → (x : Entity) × IsTrue (has w r (Two WITH x))

@@ -1,5 +1,5 @@
 -- Ids that stay, put into a list one after another.
-use Rattle.std.proofs.Common.{◌≡◌, Bool, true, false, cond, not, ◌&&◌, List, [], ◌∷◌, ◌++◌, filter, fold, refl, sym, ap, ◌∙◌, subst, IsTrue, append_assoc}
+use Rattle.std.proofs.Common.{◌≡◌, Bool, true, false, cond, not, List, [], ◌∷◌, ◌++◌, filter, fold, refl, sym, ap, ◌∙◌, subst, IsTrue, append_assoc}
 use Rattle.std.proofs.lemmas.List.{append-nil}
 use Rattle.std.specs.List.{list_all}
 use Rattle.std.specs.Ordering.{is_lt}

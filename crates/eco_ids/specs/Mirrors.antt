@@ -31,7 +31,7 @@ goes_too w goes e i = at_mirror goes (mirror_of w e i) || goes e i
 -- a pair of With
 abbrev pub is_with : Id → Bool
 is_with (One c) = false
-is_with (Two r t) = entity_eq WITH r
+is_with (Two r t) = entity_eq r WITH
 
 -- it is symmetric, and exclusive, acyclic or tied to another by With besides
 abbrev pub is_clashing : WorldState → Entity → Bool
@@ -48,7 +48,7 @@ has_clash w = has_symmetric w.edition && list_any (λ p. is_clashing w p.0) (liv
 -- a pair of With whose target is symmetric
 abbrev pub ties_symmetric : WorldState → Id → Bool
 ties_symmetric w (One c) = false
-ties_symmetric w (Two r t) = entity_eq WITH r && is_symmetric w t
+ties_symmetric w (Two r t) = entity_eq r WITH && is_symmetric w t
 
 -- e would be exclusive, acyclic or tied by With
 abbrev pub would_be_barred : WorldState → Entity → List Id → Bool

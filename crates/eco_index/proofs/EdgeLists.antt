@@ -127,11 +127,6 @@ module _ {S : Type 0} where
       none_of true g o = refl
       none_of false g o = refl
 
-  -- nothing is left to take
-  pub back_done : (own : HashMap Id ℕ S) (now : List (HashMap Id ℕ S)) (n : ℕ) (j : Id) → own.entries ≡ []
-      → cond (leads_to n (get same_id own j)) None (edge now n j) ≡ edge now n j
-  back_done own now n j none = ap (λ es. cond (leads_to n (lookup (same_id j) es)) None (edge now n j)) none
-
   -- what stands at a slot has the slot's edges
   pub at_slot : (lists : List (HashMap Id ℕ S)) (slot : ℕ) (m : HashMap Id ℕ S) → slot < length lists → m ≡ get_or lists slot m →
       (q : Id) → get same_id m q ≡ edge lists slot q

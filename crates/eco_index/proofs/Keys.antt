@@ -120,15 +120,6 @@ more_marks old new m keeps were k unmarked = by (may_be_kept old k) refl
     by true might = absurd (true≢false (sym (keeps k might) ∙ unmarked))
     by false might_not = were k might_not
 
--- nothing to take away
-pub not_listed : {S : Type 0} (m : HashMap Key Slots S) (k : Key) (slot : ℕ) → get same_key m k ≡ None → Turns false (has_key k) (lists_of m) (lists_of m) slot
-not_listed m k slot none p n = by (has_key k p) (nat_eq slot n) refl
-  where
-    by : (c d : Bool) → has_key k p ≡ c → lists_of m p n ≡ cond (c && d) false (lists_of m p n)
-    by false d other = refl
-    by true false same = refl
-    by true true same = ap (λ q. is_listed m q n) (sym (keys_same k (key_of p) same)) ∙ ap (λ o. has_slot o n) none
-
 -- without the one slot that was there none is left
 pub only_one : (ns : List ℕ) (slot : ℕ) → is_only ns slot ≡ true → (n : ℕ) → false ≡ cond (nat_eq slot n) false (list_any (nat_eq n) ns)
 only_one [] slot only n = absurd (true≢false (sym only))
@@ -145,10 +136,6 @@ only_one (x ∷ y ∷ ns) slot only n =
     let alone : length (x ∷ y ∷ ns) ≡ 1 = (Decides-eqb (length (x ∷ y ∷ ns)) 1).0
     (first (nat_eq (length (x ∷ y ∷ ns)) 1) (list_any (nat_eq slot) (x ∷ y ∷ ns)) only) in
     absurd (omega (arith, alone))
-
-pub cond_twice : {X : Type 0} (b : Bool) (x y z : X) → cond b x (cond b y z) ≡ cond b x z
-cond_twice true x y z = refl
-cond_twice false x y z = refl
 
 -- tests that agree turn the same
 pub turns_as : (b : Bool) (f g : Pattern → Bool) (l l' : Lists) (slot : ℕ) → ((p : Pattern) → f p ≡ g p) → Turns b f l l' slot → Turns b g l l' slot

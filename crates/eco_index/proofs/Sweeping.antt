@@ -1,10 +1,10 @@
 -- What is left of what leads to slots where many of these lost their tables.
-use Rattle.std.proofs.Common.{◌≡◌, ◌≢◌, ℕ, ◌<◌, ◌≤◌, ◌+◌, ◌&&◌, ◌||◌, Bool, true, false, not, cond, List, [], ◌∷◌, length, set, nat_eq, true≢false}
+use Rattle.std.proofs.Common.{◌≡◌, ℕ, ◌<◌, ◌≤◌, ◌&&◌, ◌||◌, Bool, true, false, not, cond, List, [], ◌∷◌, length, nat_eq, true≢false}
 use Rattle.std.proofs.Common.{rules, Option, Some, None, refl, sym, ap, subst, ◌∙◌, arith, inl, inr}
 use Rattle.std.specs.Prelude.{nat_lt, filter}
 use Rattle.std.specs.Bool.{Decides}
 use Rattle.std.specs.Cmp.{IsEquivalence}
-use Rattle.std.specs.HashMap.{HashMap, get}
+use Rattle.std.specs.HashMap.{HashMap}
 use Rattle.std.specs.List.{IsDistinct, list_any}
 use Rattle.std.specs.Map.{lookup, keys_of}
 use Rattle.std.specs.Map.Calls.{RetainsPairs}
@@ -12,18 +12,17 @@ use Rattle.std.proofs.lemmas.Map.{NonePasses}
 use Rattle.std.proofs.lemmas.Map.Entries.{lookup-filter-values, option_filter, none_past_head}
 use Rattle.std.proofs.lemmas.Map.Keys.{IsDistinct-tail}
 use Rattle.std.proofs.lemmas.Map.Views.{any-filter_same}
-use Rattle.std.proofs.lemmas.Bool.{cases_eq, cases_lt}
+use Rattle.std.proofs.lemmas.Bool.{cases_lt}
 use Rattle.std.proofs.lemmas.Bool.Decides.{Decides-eqb}
 use Rattle.std.proofs.lemmas.Option.{slice_get_past}
 use Rattle.eco_ids.proofs.SameIds.{entity_eq-Decides}
-use Rattle.eco_ids.proofs.Lists.{slice_get-set_same, slice_get-set_other}
 use Rattle.eco_ids.specs.contracts.entity.EntityPartialEq.TheImpl as entity_impl
 use Rattle.eco_ids.specs.declared.entity.Entity.{Entity}
 use Rattle.eco_ids.specs.declared.id.Id.{Id}
 use Rattle.eco_index.specs.declared.id_index.key.Key.{Key}
 use Rattle.eco_index.specs.declared.id_index.key.Key.TheVariants.{Single, Pair, Relationship, Target, AnyPair}
 use Rattle.eco_index.specs.declared.id_index.slots.Slots.{Slots}
-use Rattle.eco_index.specs.Edges.{edge, edge_of, same_id, IsTwofold}
+use Rattle.eco_index.specs.Edges.{edge, edge_of, IsTwofold}
 use Rattle.eco_index.specs.IdIndex.{same_key, slots_of, has_slot, is_empty}
 use Rattle.eco_index.specs.Sweeping.{kept_if, KeepsEdges}
 use Rattle.eco_index.proofs.Keys.{keys_same, or_false}
@@ -198,21 +197,6 @@ module _ {F : Type 0} (T : F → Key → Slots → Bool → Slots → F → Type
 less : (a b : ℕ) → a < b → nat_lt a b ≡ true
 less a b h = search rules
 
-not_less : (a b : ℕ) → b ≤ a → nat_lt a b ≡ false
-not_less a b h = search rules
-
-same_less : (a b : ℕ) → a ≢ b → nat_lt a b ≡ nat_lt a (b + 1)
-same_less a b apart = elim (cases_lt a b) [
-  | inl lt ↦ less a b lt ∙ sym (less a (b + 1) (omega (arith, lt)))
-  | inr ge ↦ not_less a b ge ∙ sym (not_less a (b + 1) (beyond ge))
-]
-  where
-    beyond : b ≤ a → b + 1 ≤ a
-    beyond ge = elim (cases_lt b a) [
-      | inl lt ↦ omega (arith, lt)
-      | inr le ↦ absurd (apart (omega (arith, ge, le)))
-    ]
-
 past_all : (n slot len : ℕ) → nat_lt n slot ≡ false → len ≤ slot → len ≤ n
 past_all n slot len is past = elim (cases_lt n slot) [
   | inl lt ↦ absurd (true≢false (sym (less n slot lt) ∙ is))
@@ -221,25 +205,6 @@ past_all n slot len is past = elim (cases_lt n slot) [
 
 abbrev pub swept_edge : {S : Type 0} → (ℕ → Bool) → List (HashMap Id ℕ S) → ℕ → Id → Option ℕ
 swept_edge stays g n i = cond (stays n) (kept_if stays (edge g n i)) None
-
--- one list more is gone through
-pub swept_more : {S : Type 0} (stays : ℕ → Bool) (g now : List (HashMap Id ℕ S)) (slot : ℕ) (own : HashMap Id ℕ S) → slot < length now
-    → ((i : Id) → get same_id own i ≡ cond (stays slot) (kept_if stays (edge now slot i)) None)
-    → ((n : ℕ) (i : Id) → edge now n i ≡ cond (nat_lt n slot) (swept_edge stays g n i) (edge g n i))
-    → (n : ℕ) (i : Id) → edge (set now slot own) n i ≡ cond (nat_lt n (slot + 1)) (swept_edge stays g n i) (edge g n i)
-swept_more stays g now slot own within gets swept n i =
-    elim (cases_eq n slot) [
-      | inl here ↦
-          let before : nat_lt slot slot ≡ false = not_less slot slot (omega arith) in
-          let after : nat_lt n (slot + 1) ≡ true = less n (slot + 1) (omega (arith, here)) in
-          ap (λ k. edge (set now slot own) k i) here ∙ ap (λ o. edge_of o i) (slice_get-set_same now slot own within) ∙ gets i
-          ∙ ap (λ o. cond (stays slot) (kept_if stays o) None)
-          (swept slot i ∙ ap (λ b. cond b (swept_edge stays g slot i) (edge g slot i)) before)
-          ∙ ap (λ k. swept_edge stays g k i) (sym here) ∙ ap (λ b. cond b (swept_edge stays g n i) (edge g n i)) (sym after)
-      | inr other ↦
-          ap (λ o. edge_of o i) (slice_get-set_other now slot n own other) ∙ swept n i
-          ∙ ap (λ b. cond b (swept_edge stays g n i) (edge g n i)) (same_less n slot other)
-    ]
 
 -- all lists are gone through
 pub swept_all : {S : Type 0} (stays : ℕ → Bool) (g now : List (HashMap Id ℕ S)) (slot : ℕ) → length g ≤ slot

@@ -1,16 +1,10 @@
 -- What is left of what leads to slots where many of these lost their tables.
-use Rattle.std.specs.Prelude.{◌≡◌, ℕ, Bool, cond, ◌&&◌, List, Option, None, Some, is_some}
+use Rattle.std.specs.Prelude.{◌≡◌, ℕ, Bool, cond, ◌&&◌, List, Option, None, Some}
 use Rattle.std.specs.HashMap.{HashMap}
 use Rattle.eco_ids.specs.declared.id.Id.{Id}
 use Rattle.eco_ids.specs.declared.pattern.Pattern.{Pattern}
-use Rattle.eco_tables.specs.Table.{TableState}
-use Rattle.eco_tables.specs.Tables.{slot_of}
 use Rattle.eco_index.specs.Edges.{edge}
 use Rattle.eco_index.specs.IdIndex.{Lists}
-
--- there is a table in the slot
-abbrev pub has_table : List (Option TableState) → ℕ → Bool
-has_table slots n = is_some (slot_of slots n)
 
 -- the slot, if there is one and it passes the test
 abbrev pub kept_if : (ℕ → Bool) → Option ℕ → Option ℕ

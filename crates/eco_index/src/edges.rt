@@ -3,12 +3,12 @@ ghost use Rattle.std.specs.Prelude.{◌≡◌, cond, ◌≢◌, ◌≤◌, ◌<�
 ghost use Rattle.std.specs.HashMap.{get};
 ghost use Rattle.std.specs.Map.{lookup};
 ghost use Rattle.eco_ids.specs.declared.id.Id.{Id as Ids};
-ghost use Rattle.eco_index.specs.Sweeping.{has_table, kept_if, KeepsEdges};
+ghost use Rattle.eco_index.specs.Sweeping.{kept_if, KeepsEdges};
 ghost use Rattle.eco_index.specs.Edges.{edge, same_id, IsTwofold, SameEdges, Puts, Links, TakesBack, Cuts};
 
+use crate::occupancy::Occupancy;
 use crate::seed::Seed;
-use eco_ids::Id;
-use eco_tables::{TableSlot, Tables};
+use eco_ids::{Id, TableSlot};
 use indexmap::IndexMap;
 use indexmap::map::Slice;
 use std::alloc::{AllocError, Global};
@@ -68,8 +68,8 @@ impl Edges {
     }
 
     /// The edges from slots without a table, and to such slots, go. It takes no memory.
-    pub fn keep_there(&mut self, tables: &Tables)
-        ensures { KeepsEdges (has_table tables.now) (edge_lists self.old) (edge_lists self.new) }
+    pub fn keep_there<T: Occupancy>(&mut self, tables: &T)
+        ensures { KeepsEdges (T.has_table tables.now) (edge_lists self.old) (edge_lists self.new) }
     {
         keep_in_each(&mut self.lists, tables);
     }
@@ -211,8 +211,8 @@ fn cut_all(
 }
 
 // Of each list the edges between slots that have tables stay.
-fn keep_in_each(lists: &mut Vec<IndexMap<Id, TableSlot, Seed>>, tables: &Tables)
-    ensures { KeepsEdges (has_table tables.now) lists.old.items lists.new.items }
+fn keep_in_each<T: Occupancy>(lists: &mut Vec<IndexMap<Id, TableSlot, Seed>>, tables: &T)
+    ensures { KeepsEdges (T.has_table tables.now) lists.old.items lists.new.items }
 {
     for slot in 0..lists.len() {
         keep_own(&mut lists[slot], slot, tables);
@@ -220,14 +220,14 @@ fn keep_in_each(lists: &mut Vec<IndexMap<Id, TableSlot, Seed>>, tables: &Tables)
 }
 
 // Of the edges of a slot those stay that lead to a table, where the slot has one.
-fn keep_own(own: &mut IndexMap<Id, TableSlot, Seed>, slot: TableSlot, tables: &Tables)
+fn keep_own<T: Occupancy>(own: &mut IndexMap<Id, TableSlot, Seed>, slot: TableSlot, tables: &T)
     ensures { (i : Ids) → get same_id own.new i
-        ≡ cond (has_table tables.now slot) (kept_if (has_table tables.now) (get same_id own.old i)) None }
+        ≡ cond (T.has_table tables.now slot) (kept_if (T.has_table tables.now) (get same_id own.old i)) None }
 {
-    if tables.contains(slot) {
+    if tables.has_table(slot) {
         // No two ids are equal, as the length says.
         let _count = own.len();
-        own.retain(|_, to| tables.contains(*to));
+        own.retain(|_, to| tables.has_table(*to));
     } else {
         own.clear();
     }

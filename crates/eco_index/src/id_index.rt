@@ -17,9 +17,8 @@ use crate::id_index::key::Key;
 use crate::id_index::marks::Marks;
 use crate::id_index::slots::Slots;
 use crate::seed::Seed;
-use eco_ids::{Entity, Id, Pattern};
+use eco_ids::{Entity, Id, Pattern, TableSlot};
 use eco_query::exactly;
-use eco_tables::TableSlot;
 use indexmap::IndexMap;
 use std::alloc::{AllocError, Global};
 

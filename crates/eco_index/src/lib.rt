@@ -8,12 +8,14 @@
 
 mod edges;
 mod id_index;
+mod occupancy;
 mod seed;
 mod type_map;
 mod type_test;
 
 pub use edges::Edges;
 pub use id_index::IdIndex;
+pub use occupancy::Occupancy;
 pub use seed::Seed;
 pub use type_map::TypeMap;
 pub use type_test::{AllOf, NamingTest, TypeTest};

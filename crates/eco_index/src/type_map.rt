@@ -2,13 +2,13 @@
 ghost use Rattle.std.specs.Prelude.{◌≡◌, ◌<◌, ◌≤◌, cond, false, List, Some, None, OnOk, OnErr, IfOk, IfSome, IfNone, slice_get};
 ghost use Rattle.std.specs.HashMap.{IsEmpty, IsUnchanged, Updates, get, spare, values};
 ghost use Rattle.eco_ids.specs.declared.id.Id.{Id as Ids};
-ghost use Rattle.eco_index.specs.Sweeping.{has_table, kept_if};
+ghost use Rattle.eco_index.specs.Sweeping.{kept_if};
 ghost use Rattle.eco_ids.specs.Order.{id_cmp, has_item};
 ghost use Rattle.eco_index.specs.TypeMap.{LeadAlike, LeadsAlone, LeadsGrown, TakesGrown, same_ids};
 
+use crate::occupancy::Occupancy;
 use crate::seed::Seed;
-use eco_ids::{Id, TypeList};
-use eco_tables::{TableSlot, Tables};
+use eco_ids::{Id, TableSlot, TypeList};
 use indexmap::IndexMap;
 use std::alloc::{AllocError, Global};
 
@@ -35,7 +35,8 @@ impl TypeMap {
 
     /// No type, with room for so many. Types are hashed with this seed.
     pub fn with_capacity(alloc: Global, count: usize, seed: Seed) -> Result<TypeMap, AllocError>
-        ensures { IfOk result (λ t. IsEmpty (slots_by_type t)) }
+        ensures empty { IfOk result (λ t. IsEmpty (slots_by_type t)) }
+        ensures room { IfOk result (λ t. count ≤ spare (slots_by_type t)) }
     {
         Ok(TypeMap {
             slots: IndexMap::with_capacity_and_hasher(alloc, count, seed)?,
@@ -70,13 +71,13 @@ impl TypeMap {
     }
 
     /// The types whose slots have no table go. It takes no memory.
-    pub fn keep_there(&mut self, tables: &Tables)
+    pub fn keep_there<T: Occupancy>(&mut self, tables: &T)
         ensures { (t : List Ids) → get same_ids (slots_by_type self.new) t
-            ≡ kept_if (has_table tables.now) (get same_ids (slots_by_type self.old) t) }
+            ≡ kept_if (T.has_table tables.now) (get same_ids (slots_by_type self.old) t) }
     {
         // No two types are equal, as the length says.
         let _count = self.slots.len();
-        self.slots.retain(|_, slot| tables.contains(*slot));
+        self.slots.retain(|_, slot| tables.has_table(*slot));
     }
 
     /// The type has no slot from now on.

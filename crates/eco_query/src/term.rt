@@ -1,5 +1,6 @@
 //! What a slot of a query asks of an entity.
-ghost use Rattle.std.specs.Prelude.{◌≡◌, ◌++◌, IfOk, OnOk, Some, codes, flat_map, map};
+ghost use Rattle.std.specs.Prelude.{◌≡◌, ◌++◌, IfOk, OnErr, OnOk, Some, codes, flat_map, map};
+ghost use mathlib.Core.List.{IsPrefix};
 ghost use Rattle.std.specs.List.{list_any};
 ghost use Rattle.eco_ids.specs.Matching.{pattern_matches};
 ghost use Rattle.eco_ids.specs.Order.{has_item, id_cmp};
@@ -54,7 +55,8 @@ fn has_one(ids: &TypeList, alternatives: &[Id]) -> bool
 
 /// Puts the patterns of some ids behind others.
 fn add_exactly(patterns: &mut Vec<Pattern>, ids: &[Id]) -> Result<(), AllocError>
-    ensures { OnOk result (patterns.new.items ≡ patterns.old.items ++ map queries.exactly ids.now) }
+    ensures ok { OnOk result (patterns.new.items ≡ patterns.old.items ++ map queries.exactly ids.now) }
+    ensures err { OnErr result (IsPrefix patterns.old.items patterns.new.items) }
 {
     for id in ids {
         patterns.push(exactly(*id))?;
@@ -89,10 +91,12 @@ impl Term {
         })
     }
 
-    /// Puts the patterns that it reads behind others. `AllocError` comes where memory for them is refused.
+    /// Puts the patterns that it reads behind others. `AllocError` comes where memory for them is refused: then the others
+    /// stay, with some of its patterns behind them.
     pub fn add_patterns(&self, patterns: &mut Vec<Pattern>) -> Result<(), AllocError>
-        ensures { OnOk result (patterns.new.items
+        ensures ok { OnOk result (patterns.new.items
             ≡ patterns.old.items ++ patterns_of (term_view self.now)) }
+        ensures err { OnErr result (IsPrefix patterns.old.items patterns.new.items) }
     {
         match self {
             Term::And(pattern) | Term::Not(pattern) => patterns.push(*pattern)?,

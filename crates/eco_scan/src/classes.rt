@@ -4,24 +4,28 @@ ghost use Rattle.eco_ids.specs.Names.{may_begin, may_follow};
 ghost use Rattle.eco_scan.specs.Tokens.{is_white, is_digit};
 ghost use Rattle.eco_scan.specs.Reader.Machine.{with_digit};
 
+/// A space, a tab or the end of a line.
 pub fn is_white_space(byte: u8) -> bool
     ensures { result ≡ is_white byte }
 {
     matches!(byte, b' ' | b'\t' | b'\n' | b'\r')
 }
 
+/// A letter or an underscore, which may begin a name.
 pub fn is_name_start(byte: u8) -> bool
     ensures { result ≡ may_begin byte }
 {
     matches!(byte, b'A'..=b'Z' | b'a'..=b'z' | b'_')
 }
 
+/// What may follow in a name: a letter, a digit or an underscore.
 pub fn is_name_byte(byte: u8) -> bool
     ensures { result ≡ may_follow byte }
 {
     is_name_start(byte) || is_decimal_digit(byte)
 }
 
+/// One of 0 to 9.
 pub fn is_decimal_digit(byte: u8) -> bool
     ensures { result ≡ is_digit byte }
 {

@@ -28,6 +28,7 @@ impl<'a> Model for Terms<'a> {
 }
 
 impl<'a> Terms<'a> {
+    /// No marks yet.
     pub fn new() -> Terms<'a>
         ensures { result ≡ Some [] }
     {

@@ -38,6 +38,7 @@ impl<'a> WrittenPart<'a> {
         }
     }
 
+    /// Whether it is `*` or `_`.
     pub fn is_wildcard(self) -> bool
         ensures { result ≡ is_wildcard (part_view self.entry) }
     {
@@ -46,6 +47,7 @@ impl<'a> WrittenPart<'a> {
 }
 
 impl WrittenAtom<'_> {
+    /// Whether one of its parts is `*` or `_`.
     pub fn has_wildcard(self) -> bool
         ensures { result ≡ has_wildcard (atom_view self.entry) }
     {

@@ -1,17 +1,15 @@
 -- Scripts of one worker, whose frames run to their end.
-use Rattle.std.proofs.Common.{◌≡◌, ℕ, ◌+◌, true, false, true≢false, inl, inr, List, [], ◌∷◌, ◌++◌, length, map, take, refl, sym, ap, subst, ◌∙◌}
+use Rattle.std.proofs.Common.{◌≡◌, ℕ, ◌+◌, true, false, true≢false, inl, inr, List, [], ◌∷◌, ◌++◌, length, map, refl, sym, ap, subst, ◌∙◌}
 use Rattle.std.proofs.Common.{Option, Some, None, Result, Ok, Err, IsFalse, IsTrue, MatchBool}
 use Rattle.std.proofs.lemmas.Bool.{or_parts}
 use Rattle.std.specs.List.{AllByRecursion, list_any}
 use Rattle.eco_ids.specs.declared.refusal.Refusal.{Refusal}
 use Rattle.eco_ids.specs.Outcome.{is_out_of_memory}
-use Rattle.eco_query.specs.Queries.{QuerySlot}
 use Rattle.eco_systems.specs.declared.phase.Phase.{Phase}
 use Rattle.eco_systems.specs.Frames.{FrameOutcomes}
 use Rattle.eco_systems.specs.Laws.{OneWorkerDecides, TakesOne, was_ample}
 use Rattle.eco_bodies.specs.Actions.{first_action_refusal}
 use Rattle.eco_bodies.specs.Laws.{ScriptsTakeOne}
-use Rattle.eco_bodies.specs.declared.action.Action.{Action}
 use Rattle.eco_frame.specs.Reports.{FrameDone, drawn_in}
 use Rattle.eco_grammar.specs.Readings.{ok_map}
 use Rattle.eco_steps.specs.Actions as texts

@@ -103,11 +103,6 @@ module _ (w : WorldState) where
         subst (λ cs. ReadsCommands w cs (Err why)) whole
         (reads_refused (ReadsCommand w) (flat_map (λ t. t) (take (k + 1) ss)) (flat_map (λ t. t) (drop (k + 1) ss)) why (stage_read (Err why) p))
 
-  -- there is a stage where one stands at a place
-  pub stages_there : (ss : List (List WrittenCommand)) (i : ℕ) → i < length ss → IsTrue (has_stages ss)
-  stages_there [] i there = absurd (omega (arith, there))
-  stages_there (s ∷ ss) i there = refl
-
   -- a text was refused, or memory was wanting for what is recorded
   pub refused_merge : (n : ℕ) (ss : List (List WrittenCommand)) (why : Refusal)
       → (IsFalse (is_out_of_memory {A = List run.Command} (Err why)) → ReadsCommands w (flat_map (λ s. s) ss) (Err why))

@@ -3,7 +3,6 @@ use Rattle.std.specs.Prelude.{◌≡◌, ◌⊎◌, ℕ, Bool, true, ◌||◌, L
 use Rattle.std.specs.Prelude.{MatchResult, MatchBool, IfErr}
 use Rattle.std.specs.Option.{option_map_or}
 use Rattle.eco_ids.specs.declared.entity.Entity.{Entity}
-use Rattle.eco_ids.specs.declared.id.Id.{Id}
 use Rattle.eco_ids.specs.declared.refusal.Refusal.{Refusal}
 use Rattle.eco_ids.specs.declared.refusal.Refusal.TheVariants.{NotAlive, NoSuchQuery, OutOfMemory}
 use Rattle.eco_ids.specs.Answer.{Row, answer}
@@ -11,7 +10,6 @@ use Rattle.eco_ids.specs.Births.{Creates, may_create, MakesComponent, may_make_c
 use Rattle.eco_ids.specs.Outcome.{Refuses, Answers, Meets}
 use Rattle.eco_ids.specs.Terms.{QueryTerm}
 use Rattle.eco_ids.specs.World.{WorldState, has, is_alive, living}
-use Rattle.eco_query.specs.Queries.{QuerySlot}
 use Rattle.eco_answers.specs.Answers.{asked}
 use Rattle.eco_ids.specs.Run as run
 use Rattle.eco_grammar.specs.Readings.{ok_map}
@@ -31,7 +29,7 @@ use Rattle.eco_script.specs.References.{ReadsEntity, ReadsId, ReadsQuery}
 use Rattle.eco_script.specs.States.{NamedSystem, ScriptState, name_refusal, script_system}
 use Rattle.eco_script.specs.Systems.{model_by, named, recorded_by, handles_taken}
 use Rattle.eco_steps.specs.Actions as texts
-use Rattle.eco_steps.specs.Commands.{WrittenChange, WrittenCommand}
+use Rattle.eco_steps.specs.Commands.{WrittenChange}
 use Rattle.eco_steps.specs.Steps as step
 use Rattle.eco_script.specs.Values.{Shown, shown_value}
 

@@ -1,5 +1,5 @@
 -- What a run of the program writes.
-use Rattle.std.specs.Prelude.{◌≡◌, ◌⊎◌, ℕ, List, Option, Some, None, ⊤}
+use Rattle.std.specs.Prelude.{◌≡◌, ◌⊎◌, ℕ, List, Option, Some, None, IfSome}
 use Rattle.std.specs.Io.KnownBytes.{Appends, Keeps}
 use Rattle.eco_devices.specs.Beginning.{IsBeginning}
 use Rattle.eco_ids.specs.World.{WorldState}
@@ -22,8 +22,8 @@ IsRunOf workers bytes text world =
 
 -- the bytes are a script, its text was written, and the run that has this text ends with this world
 abbrev pub RanTo : ℕ → Option (List ℕ) → Option (List ℕ) → Option (List ℕ) → WorldState → Type 0
-RanTo workers None old new world = ⊤
-RanTo workers (Some bytes) old new world = (text : List ℕ) × IsRunOf workers bytes text world × Appends old new text
+RanTo workers had old new world =
+    IfSome had (λ bytes. (text : List ℕ) × IsRunOf workers bytes text world × Appends old new text)
 
 -- the bytes are no script, and nothing was written
 abbrev pub WasNotRead : Option (List ℕ) → Option (List ℕ) → Option (List ℕ) → Type 0
@@ -32,7 +32,5 @@ WasNotRead (Some bytes) old new = Keeps old new × ((script : WrittenScript) →
 
 -- nothing was written, or the bytes are a script, and a beginning of its text was written
 abbrev pub WasStopped : ℕ → Option (List ℕ) → Option (List ℕ) → Option (List ℕ) → Type 0
-WasStopped workers None old new = ⊤
-WasStopped workers (Some bytes) old new =
-    Keeps old new
-    ⊎ ((part : List ℕ) × (text : List ℕ) × (end : WorldState) × IsRunOf workers bytes text end × IsBeginning part text × Appends old new part)
+WasStopped workers had old new = IfSome had (λ bytes. Keeps old new
+    ⊎ ((part : List ℕ) × (text : List ℕ) × (end : WorldState) × IsRunOf workers bytes text end × IsBeginning part text × Appends old new part))

@@ -1,5 +1,5 @@
 -- The spare world comes to the one that is shown.
-use Rattle.std.proofs.Common.{◌≡◌, ◌∙◌, Option, Some, None, refl, subst, sym}
+use Rattle.std.proofs.Common.{◌≡◌, Option, Some, None, refl, subst, sym}
 use Rattle.std.specs.Arc.{arc_value}
 use Rattle.eco_ids.specs.World.{WorldState}
 use Rattle.eco_shared.specs.declared.spare.Last.{Last}

@@ -1,5 +1,5 @@
 -- Reading items from values, one after another.
-use Rattle.std.proofs.Common.{◌≡◌, ℕ, ◌+◌, ◌<◌, ◌≤◌, zero, suc, List, [], ◌∷◌, ◌++◌, length, map, drop, get_or, slice_get, Option}
+use Rattle.std.proofs.Common.{◌≡◌, ℕ, ◌+◌, ◌<◌, zero, suc, List, [], ◌∷◌, ◌++◌, length, map, drop, get_or, slice_get, Option}
 use Rattle.std.proofs.Common.{Some, None, option_map, option_and_then, ◌&&◌, Bool, true, false, refl, ap, sym, ◌∙◌, append_assoc}
 use Rattle.std.specs.Option.{is_some, IsSome, unwrap_or}
 use Rattle.std.specs.List.{AllZip, list_all}

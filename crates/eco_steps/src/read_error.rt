@@ -6,10 +6,13 @@ ghost use Rattle.eco_steps.specs.declared.read_error.ReadError.TheVariants.{OutO
 use std::alloc::{AllocError, AllocFailed};
 use thiserror::Error;
 
+/// Why no script was read.
 #[derive(Clone, Copy, Debug, PartialEq, Eq, Error)]
 pub enum ReadError {
+    /// The text or the value is no script.
     #[error("not a script")]
     NotAScript,
+    /// Memory was refused.
     #[error("out of memory")]
     OutOfMemory,
 }

@@ -265,13 +265,6 @@ module _ (w w1 : Indexed Registration) (s s1 : List (Option TableState)) (e : En
   made_alive_seen =
       made_alive_read w w1 s s1 e place ids name arity store made_alive_vacant made_alive_here made_alive_others made_alive_limit puts (Free found.0) found.1
 
-pub made_alive_alive : (w w1 : Indexed Registration) (e : Entity) (name : Option (List ℕ)) (arity : Option ℕ) → IsTrue (is_free_at w e) →
-    w1 ≡ with_record w e (newcomer name arity) → IsTrue (is_alive w1 e)
-made_alive_alive w w1 e name arity free is =
-    let was = free_is w e free in
-    ap is_some (record_at w1 e (newcomer name arity) (ap (λ (v : Indexed Registration). slice_get v.indices e.index) is
-    ∙ slice_get-set_there w.indices e.index (Living e.generation (newcomer name arity)) (Free was.0) was.1))
-
 -- where the name is unfit, that stands against the entity
 pub name_opposes : (unfit : Option Refusal) (next : Option Entity) (why : Refusal)
     → MatchOption unfit (◌≡◌ {A = Result (Unit {0}) Refusal} (Err why) (Ok tt)) (λ x. ◌≡◌ {A = Result (Unit {0}) Refusal} (Err why) (Err x)) →

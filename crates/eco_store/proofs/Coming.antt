@@ -109,7 +109,7 @@ room_none s m = omega arith
 
 -- room for one more
 pub place_more : (s s' : List (Option TableState)) (ns : List ℕ) (n : ℕ) (slot : Option TableState) → HasRoomFor s ns → SetsSlot s s' n slot
-    → (table_in s n).room + 1 ≤ (table_in s' n).room → HasRoomFor s' (ns ++ n ∷ [])
+    → (table_in s' n).room ≡ (table_in s n).room + 1 → HasRoomFor s' (ns ++ n ∷ [])
 place_more s s' ns n slot room sets more m =
     let parts = arriving_more ns n m in
     elim (cases_eq m n) [

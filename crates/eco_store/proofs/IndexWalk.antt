@@ -30,13 +30,6 @@ use Rattle.eco_ids.proofs.States.{record_at}
 
 -- ---- numbers
 
--- where no number is given no slot has one
-pub none_numbered : (slots : List ℕ) (numbers : List ℕ) → ((n : ℕ) → slot_number numbers n ≡ 0) → IsNumbering slots 0 numbers
-none_numbered slots numbers zeros = record {
-  places = λ n k is. let bad : 0 ≡ suc k = sym (zeros n) ∙ is in absurd (omega (arith, bad));
-  others = λ n k is below. absurd (omega (arith, below));
-}
-
 -- one more slot has its number
 pub one_numbered : (slots : List ℕ) (count : ℕ) (numbers : List ℕ) (m : ℕ) → get_or slots count 0 ≡ m → m < length numbers
     → IsNumbering slots count numbers → IsNumbering slots (count + 1) (set numbers m (count + 1))

@@ -1,12 +1,11 @@
 -- Who stands in the tables that a test finds, by entity, are those who pass.
-use Rattle.std.proofs.Common.{◌≡◌, ℕ, suc, ◌+◌, ◌<◌, Bool, true, ◌||◌, nat_eq, List, [], ◌∷◌, ◌++◌, map, length, drop, slice_get, get_or, Option, Some, None}
-use Rattle.std.proofs.Common.{IsSome, refl, sym, ap, ◌∙◌, subst, arith, is_lt, add-one, drop-cons, append_assoc, option_map, true≢false}
+use Rattle.std.proofs.Common.{◌≡◌, ℕ, suc, ◌+◌, ◌<◌, Bool, true, nat_eq, List, [], ◌∷◌, ◌++◌, map, length, drop, slice_get, get_or, Option, Some}
+use Rattle.std.proofs.Common.{refl, sym, ap, ◌∙◌, subst, arith, is_lt, add-one, drop-cons, append_assoc, option_map}
 use Rattle.std.specs.Prelude.{slice_index_or}
 use Rattle.std.specs.List.{All, AllByRecursion, IsDistinct, list_any}
 use Rattle.std.specs.List.Sorted.{IsPermutation, IsSorted, IsSortedByKey}
 use Rattle.std.specs.Cmp.{IsTotalOrder}
 use Rattle.std.specs.FinMap.{IsAntisymmetric}
-use Rattle.std.proofs.lemmas.Bool.Decides.{Decides-eqb}
 use Rattle.std.proofs.lemmas.List.{get_or-map, length-map, map-append}
 use Rattle.std.proofs.lemmas.List.Elements.{All-from_recursion}
 use Rattle.std.proofs.lemmas.List.Sorted.{All-permutation, IsPermutation-map}
@@ -15,7 +14,6 @@ use Rattle.eco_ids.specs.declared.entity.Entity.{Entity}
 use Rattle.eco_ids.specs.declared.id.Id.{Id}
 use Rattle.eco_ids.specs.Indices.{Indexed}
 use Rattle.eco_ids.specs.Order.{entity_cmp, AscendingAreSets}
-use Rattle.eco_ids.proofs.Facts.{or_right}
 use Rattle.eco_tables.specs.Table.{TableRow, TableState, entities_of}
 use Rattle.eco_tables.specs.Tables.{slot_of, table_in}
 use Rattle.eco_archetypes.specs.Archetypes.{is_found_by, standing_in}
@@ -25,9 +23,6 @@ use Rattle.eco_store.specs.Store.{IsShown, record_ids}
 use Rattle.eco_store.specs.declared.standing.Standing.{Standing}
 use Rattle.eco_store.proofs.Holders.{found_matches, row_kept, standing_apart, standing_whose, whose_ascend}
 use Rattle.eco_store.proofs.Sorting.{sorted_is}
-
-entity_of : Standing → Entity
-entity_of s = s.entity
 
 at : ℕ → Entity → Standing
 at i e = record { entity = e; place = i }
@@ -75,19 +70,6 @@ standings_step i tables ns items more all es lt added same so_far =
     ∙ append_assoc items (map here (entities_of (table_in tables (get_or ns i 0)).rows)) st
     ∙ ap (λ z. items ++ standings i tables z) (sym (drop-cons ns i 0 lt))
     ∙ so_far
-
--- each of the listed slots is so where all that are listed are
-pub all_listed : (P : ℕ → Type 0) (ns : List ℕ) → ((n : ℕ) → list_any (nat_eq n) ns ≡ true → P n) → AllByRecursion P ns
-all_listed P [] h = tt
-all_listed P (n ∷ ns) h = (
-  h n (ap (λ b. b || list_any (nat_eq n) ns) ((Decides-eqb n n).1 refl)),
-  all_listed P ns (λ m is. h m (or_right (nat_eq m n) (list_any (nat_eq m) ns) is)),
-)
-
--- a slot that is found has a table
-pub found_there : (test : List Id → Bool) (o : Option TableState) → is_found_by test o ≡ true → IsSome o
-found_there test None h = absurd (true≢false (sym h))
-found_there test (Some t) h = refl
 
 module _ (w : Indexed Record) (tables : List (Option TableState)) (shown : IsShown w tables) where
   rows_placed : (P : Standing → Type 0) (i : ℕ) (rows : List TableRow)

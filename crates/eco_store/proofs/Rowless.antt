@@ -1,5 +1,5 @@
 -- Which tables are without rows, after rows came and went.
-use Rattle.std.proofs.Common.{◌≡◌, ◌≢◌, ℕ, Bool, true, false, true≢false, ◌||◌, IsTrue, List, [], ◌∷◌, ◌++◌, length, Option, Some, None, unwrap_or, IsSome}
+use Rattle.std.proofs.Common.{◌≡◌, ◌≢◌, ℕ, Bool, true, false, ◌||◌, IsTrue, List, [], ◌∷◌, ◌++◌, length, Option, Some, None, unwrap_or, IsSome}
 use Rattle.std.proofs.Common.{zero, suc, is_some, nat_eq, slice_get, slice_set, refl, sym, ap, subst, ◌∙◌, arith, inl, inr}
 use Rattle.std.specs.List.{list_any}
 use Rattle.std.proofs.lemmas.Bool.{cases_eq}
@@ -161,12 +161,6 @@ among_more slots others m there = list_any-append (nat_eq m) slots others ∙ ap
 pub among_last : (slots others : List ℕ) (m : ℕ) → IsTrue (list_any (nat_eq m) others) → IsTrue (list_any (nat_eq m) (slots ++ others))
 among_last slots others m there =
     list_any-append (nat_eq m) slots others ∙ or_right (list_any (nat_eq m) slots) (list_any (nat_eq m) others) there
-
--- a slot whose table is not without rows
-pub rowless_but : (s : List (Option TableState)) (n : ℕ) (slots : List ℕ) → is_rowless s n ≡ false → RowlessIn s (n ∷ slots) → RowlessIn s slots
-rowless_but s n slots has_rows was m empty =
-    let other : m ≢ n = λ here. true≢false (sym empty ∙ ap (is_rowless s) here ∙ has_rows) in
-    sym (ap (λ b. b || list_any (nat_eq m) slots) (not_equal m n other)) ∙ was m empty
 
 -- the tables of a transfer are targets, and so they stay
 pub named_stays : (p : StayingState) (t : Transfer) → IsNamed p.targets t → IsNamed (all_staying p) t

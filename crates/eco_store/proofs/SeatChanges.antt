@@ -97,12 +97,6 @@ module _ (P P' : ℕ → Option Seat) (E E' : ℕ → ℕ → Option TableRow) (
   m_at : P m.entity.index ≡ Some (seat_of m.entity f last)
   m_at = seated.back f last m moved
 
-  -- the entity of the last row is another, unless the row is the last
-  m_other : last ≢ row → m.entity.index ≢ i
-  m_other apart q =
-      let both = one_some (P i) _ _ (ap P (sym q) ∙ m_at) at in
-      apart (ap (λ (p : Seat). p.row) both)
-
   m_same : last ≡ row → m.entity.index ≡ i
   m_same q =
       let old = seated.there i _ at in

@@ -51,6 +51,17 @@ stands_there w s e p t store own at =
           ∙ ap (λ (x : TableRow). x.held) (one_some (slice_get t.rows p.row) seat.0 (get_or t.rows p.row d) in_table (slice_get-get_or t.rows p.row d within));
     })
 
+-- and the row is the entity's own
+pub own_there : (w : Indexed Registration) (s : List (Option TableState)) (e : Entity) (p : Place) (t : TableState)
+    → IsStore w s → own_place w e ≡ Some p → slot_of s p.table ≡ Some t → (d : TableRow) → (get_or t.rows p.row d).entity ≡ e
+own_there w s e p t store own at d =
+    let seat = store.seated.there e.index (seat_of e p.table p.row) (seat_there w e p own) in
+    let in_table : slice_get t.rows p.row ≡ Some seat.0 = sym (ap (λ o. slice_get (unwrap_or o no_table).rows p.row) at) ∙ seat.1 in
+    let within : p.row < length t.rows = slice_get_within t.rows p.row seat.0 in_table in
+    sym (ap (λ (x : TableRow). x.entity)
+    (one_some (slice_get t.rows p.row) seat.0 (get_or t.rows p.row d) in_table (slice_get-get_or t.rows p.row d within)))
+    ∙ seat.2
+
 pub stands_type : (o : Option Record) (t : TableState) (row : ℕ) → Stands o t row → All (HasIds t.ids) t.rows
     → ◌≡◌ {A = Option (List Id)} (Some t.ids) (option_map (λ k. map (λ p. p.0) k.held) o)
 stands_type None t row h typed = absurd h

@@ -29,7 +29,3 @@ entities_with w p = entities_whose w (list_any (pattern_matches p))
 -- one of the ids names the entity
 abbrev pub is_holder : Entity → Record → Bool
 is_holder e = passes (λ ids. type_names ids e)
-
--- the living entities that have an id which names this one, ascending
-abbrev pub entities_naming : Indexed Record → Entity → List Entity
-entities_naming w e = entities_whose w (λ ids. type_names ids e)

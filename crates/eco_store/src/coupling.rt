@@ -9,8 +9,8 @@ ghost use Rattle.eco_store.specs.Store.{stepped};
 ghost use Rattle.eco_tables.specs.Tables.{table_in};
 
 use crate::layout::Layout;
-use eco_ids::{Entity, Id};
-use eco_tables::{TableSlot, Tables};
+use eco_ids::{Entity, Id, TableSlot};
+use eco_tables::Tables;
 use std::alloc::AllocError;
 
 // How many ids the type of the table in a slot has.

@@ -9,8 +9,7 @@ ghost use Rattle.eco_store.specs.Moving.{after_moves, AreTyped, HasRoomFor};
 ghost use Rattle.eco_store.specs.Store.{with_type};
 
 use crate::layout::Layout;
-use eco_ids::{Entity, TypeList};
-use eco_tables::TableSlot;
+use eco_ids::{Entity, TableSlot, TypeList};
 use std::alloc::AllocError;
 
 /// An entity and the type that it gets.

@@ -6,8 +6,7 @@ ghost use Rattle.eco_store.specs.Store.{IsStore};
 
 use eco_archetypes::Archetypes;
 use eco_entities::EntityIndex;
-use eco_ids::Entity;
-use eco_tables::TableSlot;
+use eco_ids::{Entity, TableSlot};
 use std::marker::Model;
 
 /// The tables of a store, to read and to search, and the place of each living entity in them. A contract sees the tables in

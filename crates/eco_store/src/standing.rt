@@ -9,8 +9,8 @@ ghost use Rattle.eco_store.specs.declared.standing.Standing.{Standing as Stands}
 
 use crate::ranked::Ranked;
 use eco_archetypes::Archetypes;
-use eco_ids::Entity;
-use eco_tables::{TableSlot, Tables};
+use eco_ids::{Entity, TableSlot};
+use eco_tables::Tables;
 use std::alloc::{AllocError, Global};
 
 /// An entity, and the place of its table among some.

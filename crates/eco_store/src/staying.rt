@@ -3,7 +3,7 @@ ghost use Rattle.std.specs.Prelude.{◌≡◌, length, nat_eq, not, IfOk, IsTrue
 ghost use Rattle.std.specs.List.{list_any};
 ghost use Rattle.eco_store.specs.Staying.{only_idle, with_gathered, with_target, Rests};
 
-use eco_tables::TableSlot;
+use eco_ids::TableSlot;
 use indexmap::IndexSet;
 use std::alloc::{AllocError, Global};
 use std::marker::Model;

@@ -1,5 +1,5 @@
 //! The store of a world: each living entity with its name, its ids and their values.
-ghost use Rattle.std.specs.Prelude.{◌≡◌, ◌≤◌, List, ℕ, [], length, None, Some, Ok, is_some, IfSome, IfNone, IsTrue, MatchOption, map};
+ghost use Rattle.std.specs.Prelude.{◌≡◌, ◌≤◌, List, ℕ, [], length, None, Some, Ok, is_some, IfSome, IfNone, IsTrue, MatchOption, map, slice_index_or};
 ghost use Rattle.std.specs.Option.{option_copied};
 ghost use Rattle.std.specs.FinMap.Entries.{find};
 ghost use Rattle.eco_ids.specs.Births.{unfit_name, Makes};
@@ -8,6 +8,7 @@ ghost use Rattle.eco_ids.specs.Names.{named_entity};
 ghost use Rattle.eco_ids.specs.Order.{id_cmp, is_ascending};
 ghost use Rattle.eco_ids.specs.Renaming.{own_name};
 ghost use Rattle.eco_entities.specs.Registration.{entity_at, given_name};
+ghost use Rattle.eco_tables.specs.Table.{TableRow};
 ghost use Rattle.eco_store.specs.Placing.{Opposes};
 ghost use Rattle.eco_store.specs.Store.{Admission, CreatesRecord, RenamesRecord, MakesRecordAlive, held_in_store, own_arity_in_store, fits_in_store, record_name, type_in_store, record_with_written, Stands};
 ghost use Rattle.eco_store.specs.Lent.{AreTablesOf, KeepsData};
@@ -145,6 +146,8 @@ impl Store {
     pub fn stand(&self, e: Entity) -> Option<(&Table, usize)>
         ensures stands { MatchOption result (record_of self.now.entities e ≡ None)
             (λ x. Stands (record_of self.now.entities e) x.0.now x.1) }
+        ensures own { IfSome result (λ x. (row : TableRow)
+            → (slice_index_or x.0.now.rows x.1 row).entity ≡ e) }
         ensures kept { IfSome result (λ x. KeepsData self.now.entities x.0.now) }
     {
         let place = self.layout.entities.place_of(e)?;

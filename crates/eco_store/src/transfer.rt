@@ -10,7 +10,8 @@ ghost use Rattle.eco_store.specs.Transfers.{change_of, with_places, AreNamed, Ha
 
 use crate::layout::Layout;
 use eco_entities::{EntityIndex, Place};
-use eco_tables::{TableSlot, Tables};
+use eco_ids::TableSlot;
+use eco_tables::Tables;
 use std::alloc::AllocError;
 
 /// The slots of a table whose rows all go, and of the one that they go to.

@@ -5,7 +5,7 @@ ghost use Rattle.eco_store.specs.Ranking.{IsNumbering, IsWalked, standing_at, st
 
 use crate::standing::Standing;
 use eco_entities::EntityIndex;
-use eco_tables::TableSlot;
+use eco_ids::TableSlot;
 use std::alloc::{AllocError, Global};
 
 // For each slot below the bound its place among some, counted from 1, and 0 where it is none of them.

@@ -1,7 +1,7 @@
 -- The draws of a frame decide what it leads to, and one worker's draws are decided themselves.
 use Rattle.std.proofs.Common.{◌≡◌, ℕ, ◌+◌, Bool, true, false, not, ◌&&◌, List, [], ◌∷◌, ◌++◌, length, refl, sym, ap, ◌∙◌, subst, IsTrue, true≢false}
 use Rattle.std.proofs.Common.{MatchBool, Result, None, arith, append_assoc}
-use Rattle.std.specs.List.{list_all, AllByRecursion}
+use Rattle.std.specs.List.{AllByRecursion}
 use Rattle.std.proofs.lemmas.List.{append_cancel_left}
 use Rattle.std.proofs.lemmas.List.Folds.{list_all-append}
 use Rattle.eco_ids.specs.declared.entity.Entity.{Entity}
@@ -14,7 +14,7 @@ use Rattle.eco_ids.proofs.Ascending.{first, second}
 use Rattle.eco_ids.proofs.Ends.{adds_settled, clears_settled, deletes_one_settled, deletes_with_settled, makes_alive_settled, removes_all_settled}
 use Rattle.eco_ids.proofs.Ends.{removes_settled, renames_settled, sets_settled, IsSettled}
 use Rattle.eco_systems.specs.Batches.{AreBatches, joined}
-use Rattle.eco_systems.specs.Frames.{AreAscending, AscendingRuns, BatchDraws, BatchRuns, Goes, InTurn, FrameOutcomes, all_drawn, fresh_from, with_admitted}
+use Rattle.eco_systems.specs.Frames.{AscendingRuns, BatchDraws, BatchRuns, Goes, InTurn, FrameOutcomes, all_drawn, fresh_from, with_admitted}
 use Rattle.eco_systems.specs.Laws.{DrawsDecide, OneWorkerDecides, TakesOne, was_ample}
 use Rattle.eco_systems.specs.Phases.{in_order}
 use Rattle.eco_systems.specs.Recording.{BatchRecords, PiecesRecord, RowsRecord, pieces_of}

@@ -188,10 +188,6 @@ not_second false c h = h
 
 -- ---- the kinds under the new type
 module _ (ids : List Id) (cs : List ColumnState) (kinds : AreKinds ids (map kind_of cs)) where
-  columns_of_kinds : (ds : List ColumnState) (j : Id) → has_item id_cmp (map (λ k. k.0) (map kind_of ds)) j ≡ true
-      → has_item id_cmp (map (λ c. c.id) ds) j ≡ true
-  columns_of_kinds ds j has = ap (λ is. has_item id_cmp is j) (sym (ids_of_kinds ds)) ∙ has
-
   module _ (i : Id) (lacks : has_item id_cmp ids i ≡ false) where
     pub bare_kinds : AreKinds (with_item id_cmp ids i) (map kind_of cs)
     bare_kinds = record {

@@ -3,7 +3,7 @@ ghost use Rattle.std.specs.Prelude.{◌≡◌, ◌<◌, ◌≤◌, ◌+◌, ◌-
 ghost use Rattle.std.specs.List.{swap_remove};
 ghost use Rattle.eco_ids.specs.World.{padded, zeros};
 ghost use Rattle.eco_tables.specs.Column.{ColumnState, Fits, kind_of, pushed, lengthened, with_removed, column_with_value, emptied, contents};
-ghost use Rattle.eco_tables.specs.Values.{whole_values};
+ghost use Rattle.eco_tables.specs.Values.{fields_of, whole_values};
 ghost use Rattle.eco_tables.specs.Fields.{width_of, values_of};
 
 use crate::values::Values;
@@ -301,9 +301,10 @@ impl Column {
         self.id.is(other.id) && self.width() == other.width()
     }
 
-    /// The values, to read in a row.
+    /// The values, to read in a row, in as many fields as are kept.
     pub fn values(&self) -> Values<'_>
-        ensures { whole_values result ≡ self.now.values }
+        ensures fields { fields_of result ≡ self.now.width }
+        ensures values { whole_values result ≡ self.now.values }
     {
         of_same_width!(Values, &self.fields, |rows| rows.as_slice())
     }

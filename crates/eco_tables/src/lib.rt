@@ -16,5 +16,5 @@ mod tables;
 mod values;
 
 pub use table::Table;
-pub use tables::{TableSlot, Tables};
+pub use tables::Tables;
 pub use values::Values;

@@ -1,5 +1,5 @@
 //! A table: the entities of one type, and a column of values for each id that is data.
-ghost use Rattle.std.specs.Prelude.{◌≡◌, ℕ, ◌<◌, ◌≤◌, ◌+◌, ◌-◌, ◌^◌, ◌++◌, [], ◌∷◌, length, map, slice_index_or, slice_set, is_some, unwrap_or, OnOk, IsOk, IfOk, IfSome, IsSome, IsTrue, slice_get, IsFalse, MatchOption, nat_lt, Some};
+ghost use Rattle.std.specs.Prelude.{◌≡◌, ℕ, ◌<◌, ◌≤◌, ◌+◌, ◌-◌, ◌^◌, ◌++◌, [], ◌∷◌, length, map, slice_index_or, slice_set, is_some, unwrap_or, OnOk, OnErr, IsOk, IfOk, IfSome, IsSome, IsTrue, slice_get, IsFalse, MatchOption, nat_lt, Some};
 ghost use Rattle.eco_ids.specs.declared.id.Id.{Id as Ids};
 ghost use Rattle.std.specs.List.{swap_remove, All};
 ghost use Rattle.std.specs.FinMap.Entries.{find};
@@ -10,7 +10,7 @@ ghost use Rattle.eco_tables.specs.Column.{value_in, with_held, retyped};
 ghost use Rattle.eco_tables.specs.Table.{TableState, TableRow, entities_of, HasIds, Agree, FitsId, width_in, empty_table};
 ghost use Rattle.eco_tables.specs.Kept.{IsUnkept};
 ghost use Rattle.eco_tables.specs.Tables.{cleared, new_row, no_row, with_room, with_row, with_rows, with_written, without_row, without_rows};
-ghost use Rattle.eco_tables.specs.Values.{whole_values};
+ghost use Rattle.eco_tables.specs.Values.{fields_of, whole_values};
 
 use crate::column::Column;
 use crate::columns::{
@@ -142,10 +142,11 @@ impl Table {
         self.room
     }
 
-    /// The values of an id, row by row. None where the id has no column: then its value is zeros in each row whose type has
-    /// the id.
+    /// The values of an id, row by row, in as many fields as the id is wide. None where the id has no column: then its value is
+    /// zeros in each row whose type has the id.
     pub fn values(&self, id: Id) -> Option<Values<'_>>
         ensures shown { IfSome result (λ v. whole_values v ≡ map (λ r. value_in r.held id) self.now.rows) }
+        ensures fields { IfSome result (λ v. width_in self.now id ≡ Some (fields_of v)) }
         ensures kept { is_some result ≡ nat_lt 0 (unwrap_or (width_in self.now id) 0) }
     {
         let place = find_column(self.columns.as_slice(), id)?;
@@ -201,6 +202,7 @@ impl Table {
         ensures same { self.new ≡ with_room self.old self.new.room }
         ensures kept { self.old.room ≤ self.new.room }
         ensures room { OnOk result (more ≤ self.new.room) }
+        ensures err { OnErr result (self.new ≡ self.old) }
         ensures ready { more ≤ self.old.room → IsOk result }
         ensures bounded { self.new.room < 2 ^ 63 }
     {
@@ -218,6 +220,7 @@ impl Table {
         ensures same { self.new ≡ with_room self.old self.new.room }
         ensures kept { self.old.room ≤ self.new.room }
         ensures room { OnOk result (more ≤ self.new.room) }
+        ensures err { OnErr result (self.new ≡ self.old) }
         ensures bounded { self.new.room < 2 ^ 63 }
     {
         self.entities.reserve(more)?;
@@ -228,11 +231,13 @@ impl Table {
         Ok(())
     }
 
-    /// Room for so many rows more than there was room for. An `Err` keeps all rows and the room that was there.
+    /// Room for so many rows more than there was room for, and for no more than that. An `Err` keeps all rows and the room
+    /// that was there.
     pub fn reserve_more(&mut self, more: usize) -> Result<(), AllocError>
         ensures same { self.new ≡ with_room self.old self.new.room }
         ensures kept { self.old.room ≤ self.new.room }
-        ensures room { OnOk result (self.old.room + more ≤ self.new.room) }
+        ensures room { OnOk result (self.new.room ≡ self.old.room + more) }
+        ensures err { OnErr result (self.new ≡ self.old) }
         ensures ready { more ≡ 0 → IsOk result }
     {
         // A sum that is too large for a number is more than memory can hold, and refused like any other.

@@ -11,7 +11,7 @@ ghost use Rattle.eco_tables.specs.Tables.{slot_of, table_in, row_in, no_row, Set
 
 use crate::table::Table;
 use crate::tables::lending::{table_mut, two_mut};
-use eco_ids::{Entity, Id, TypeList, Value};
+use eco_ids::{Entity, Id, TableSlot, TypeList, Value};
 use std::alloc::{AllocError, Global};
 use std::marker::Model;
 use std::slice;
@@ -19,10 +19,6 @@ use std::slice;
 mod copies;
 mod lending;
 mod turning;
-
-/// The number of the slot in which a table stands: a plain number, which counts from 0 and means nothing beyond the tables
-/// that gave it. It is the table's as long as that lives.
-pub type TableSlot = usize;
 
 /// A contract sees a list of slots, each with a table or nothing. A slot keeps its number as long as its table lives; a
 /// slot whose table was dropped may be used again.
@@ -175,18 +171,6 @@ impl Tables {
         self.slots.len() - self.vacant.len()
     }
 
-    /// One past the last slot that has a table, 0 where there is none.
-    pub fn slot_bound(&self) -> usize
-        ensures above { (n : ℕ) → IsSome (slot_of self.now n) → n < result }
-        ensures least { 0 < result → IsSome (slot_of self.now (result - 1)) }
-    {
-        let mut bound = self.slots.len();
-        while bound > 0 && self.slots[bound - 1].is_none() {
-            bound -= 1;
-        }
-        bound
-    }
-
     /// The slots in their order, each with its table if there is one.
     pub fn iter(&self) -> slice::Iter<'_, Option<Table>>
         ensures { iter_rest result ≡ self.now }
@@ -200,17 +184,20 @@ impl Tables {
         ensures sets { SetsRoom self.old self.new slot }
         ensures kept { (table_in self.old slot).room ≤ (table_in self.new slot).room }
         ensures room { OnOk result (more ≤ (table_in self.new slot).room) }
+        ensures err { OnErr result ((table_in self.new slot).room ≡ (table_in self.old slot).room) }
         ensures ready { more ≤ (table_in self.old slot).room → IsOk result }
     {
         table_mut(&mut self.slots, slot).reserve(more)
     }
 
-    /// Room for so many rows more than a table had room for. An `Err` keeps all rows and the room that was there.
+    /// Room for so many rows more than a table had room for, and for no more than that. An `Err` keeps all rows and the room
+    /// that was there.
     pub fn reserve_more(&mut self, slot: TableSlot, more: usize) -> Result<(), AllocError>
         requires { IsSome (slot_of self.old slot) }
         ensures sets { SetsRoom self.old self.new slot }
         ensures kept { (table_in self.old slot).room ≤ (table_in self.new slot).room }
-        ensures room { OnOk result ((table_in self.old slot).room + more ≤ (table_in self.new slot).room) }
+        ensures room { OnOk result ((table_in self.new slot).room ≡ (table_in self.old slot).room + more) }
+        ensures err { OnErr result ((table_in self.new slot).room ≡ (table_in self.old slot).room) }
         ensures ready { more ≡ 0 → IsOk result }
     {
         table_mut(&mut self.slots, slot).reserve_more(more)

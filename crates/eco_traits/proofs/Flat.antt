@@ -22,7 +22,7 @@ use Rattle.eco_ids.proofs.SetLaws.{joins_with}
 use Rattle.eco_traits.specs.Closure.{BringNoMore, HasGiven, HasSameIds, LacksWith, gives, head_of, with_head, with_heads}
 use Rattle.eco_traits.specs.Target.{target_by_pair, type_of_entity}
 use Rattle.eco_traits.proofs.Closures.{closure_to_reach, own_head, reach_to_closure}
-use Rattle.eco_traits.specs.Prospect.{is_pair_of_with}
+use Rattle.eco_ids.specs.Mirrors.{is_with}
 use Rattle.eco_traits.proofs.Traits.{member, not_so, with_among}
 use Rattle.eco_traits.proofs.Walks.{has_listed}
 
@@ -75,7 +75,7 @@ keeps_given i ids traits k d o l is has j =
     regroup false false false = refl
 
 -- a pair of With with a target is among the ids
-target_is_pair : (x : Entity) (own : Id) → target_by_pair WITH own ≡ Some x → is_pair_of_with own ≡ true
+target_is_pair : (x : Entity) (own : Id) → target_by_pair WITH own ≡ Some x → is_with own ≡ true
 target_is_pair x (One c) e = absurd (true≢false (sym (ap is_some e)))
 target_is_pair x (Two r t) e =
     elim (entity_eq r WITH) as (λ b. (if b then Some t else None) ≡ Some x → b ≡ true) [
@@ -84,9 +84,9 @@ target_is_pair x (Two r t) e =
     ] e
 
 pub none_without : (traits : List Id) (k : ℕ) (d : Id) (x : Entity) → k < length traits → target_by_pair WITH (get_or traits k d) ≡ Some x
-    → list_any is_pair_of_with traits ≡ false → ⊥
+    → list_any is_with traits ≡ false → ⊥
 none_without traits k d x l e none =
-    true≢false (sym (list_any_at is_pair_of_with traits k d l (target_is_pair x (get_or traits k d) e)) ∙ none)
+    true≢false (sym (list_any_at is_with traits k d l (target_is_pair x (get_or traits k d) e)) ∙ none)
 
 pub given_first : (i : Id) (empty ids : List Id) → empty ≡ [] → ids ≡ with_item id_cmp empty i → HasGiven ids i []
 given_first i empty ids none is j = ap (λ xs. has_item id_cmp xs j) (is ∙ ap (λ xs. with_item id_cmp xs i) none) ∙ joins_with id_cmp_total [] i j
@@ -116,9 +116,9 @@ ascends_empty ids is = subst (λ xs. IsTrue (is_ascending id_cmp xs)) (sym is) r
 
 -- where the entity has no pair of With, none is among its ids
 pub none_with : (w : WorldState) (i : Id) (traits : List Id) → Some traits ≡ type_of_entity w (head_of i) → LacksWith w (head_of i)
-    → list_any is_pair_of_with traits ≡ false
+    → list_any is_with traits ≡ false
 none_with w i traits own none =
-    not_so (list_any is_pair_of_with traits) (λ h. let pair = (with_among traits (list_any is_pair_of_with traits) refl).0 h in
+    not_so (list_any is_with traits) (λ h. let pair = (with_among traits (list_any is_with traits) refl).0 h in
     true≢false (sym (has_listed w (head_of i) (Two WITH pair.0) traits own ∙ pair.1) ∙ none pair.0))
 
 -- ---- all of them

@@ -128,11 +128,6 @@ pub some_record : (o : Option Record) (ids : List Id) → Some ids ≡ option_ma
 some_record None ids e = absurd (true≢false (ap is_some e))
 some_record (Some d) ids e = (d, refl, ap (λ o. unwrap_or o ids) e)
 
--- the entity has the id
-pub has_already : (w : WorldState) (e : Entity) (i : Id) (own all : List Id) → names_living w i ≡ true → has w e i ≡ true
-    → Some own ≡ option_map type_of_record (record_of w e) → all ≡ own → AddLeadsTo w e i (Ok all)
-has_already w e i own all lives there owns is = grind (arith, common_steps, some_record)
-
 -- it lacks the id
 pub lacked : (w : WorldState) (e : Entity) (i : Id) (r : Result (List Id) Refusal) → names_living w i ≡ true → has w e i ≡ false → ExtendsTo w e i r
     → AddLeadsTo w e i r

@@ -1,6 +1,6 @@
 -- Tests, and members of lists.
 use Rattle.std.proofs.lemmas.Grind.{common_steps}
-use Rattle.std.proofs.Common.{◌≡◌, ℕ, zero, suc, ◌<◌, length, get_or, arith, Bool, true, false, ◌||◌, ◌⊎◌, inl, inr, List, [], ◌∷◌, ◌++◌, refl, sym, ap, ◌∙◌}
+use Rattle.std.proofs.Common.{◌≡◌, ℕ, zero, suc, ◌<◌, length, get_or, arith, Bool, true, false, ◌||◌, inl, inr, List, [], ◌∷◌, ◌++◌, refl, sym, ap, ◌∙◌}
 use Rattle.std.proofs.Common.{subst, is_eq, true≢false, Ordering, IsTrue}
 use Rattle.std.specs.FinMap.{IsAntisymmetric}
 use Rattle.std.specs.List.{list_any}
@@ -37,9 +37,6 @@ module _ {K : Type 0} (R : K → K → Ordering) where
 
   pub has_back : (xs ys : List K) (x : K) → IsTrue (has_item R ys x) → IsTrue (has_item R (xs ++ ys) x)
   has_back xs ys x h = has_append xs ys x ∙ or_right _ _ h
-
-  pub has_cases : (xs ys : List K) (x : K) → IsTrue (has_item R (xs ++ ys) x) → IsTrue (has_item R xs x) ⊎ IsTrue (has_item R ys x)
-  has_cases xs ys x h = or_parts _ _ (sym (has_append xs ys x) ∙ h)
 
 -- the only member
 pub only : {K : Type 0} {R : K → K → Ordering} → IsAntisymmetric R → (x y : K) → IsTrue (has_item R (x ∷ []) y) → x ≡ y

@@ -108,7 +108,7 @@ pair_calm w e r t own owns closure lives sound free = by (has_symmetric w.editio
     by true h =
         let d = some_record (record_of w e) own owns in
         clash_is_local w e (Two r t) (Two r t ∷ []) d.0 d.1 closure lives sound
-        ∙ neither (has_symmetric w.edition) (has w e (One SYMMETRIC)) (would_be_barred w e (Two r t ∷ [])) (entity_eq WITH r) (has w t (One SYMMETRIC))
+        ∙ neither (has_symmetric w.edition) (has w e (One SYMMETRIC)) (would_be_barred w e (Two r t ∷ [])) (entity_eq r WITH) (has w t (One SYMMETRIC))
         (ap (λ a. a || has w t (One SYMMETRIC)) (has_listed w e (One SYMMETRIC) own owns)
         ∙ sym (ap (λ c. c && (has_item id_cmp own (One SYMMETRIC) || has w t (One SYMMETRIC))) h) ∙ free)
 

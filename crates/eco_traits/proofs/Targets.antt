@@ -4,18 +4,13 @@ use Rattle.eco_ids.specs.declared.entity.Entity.{Entity}
 use Rattle.eco_ids.specs.declared.id.Id.{Id}
 use Rattle.eco_ids.specs.Order.{id_cmp, is_ascending, with_item}
 use Rattle.eco_ids.specs.World.{WorldState, has, names_living}
-use Rattle.eco_traits.specs.declared.target.Target.TheVariants.{Own, With}
+use Rattle.eco_traits.specs.declared.target.Target.TheVariants.{With}
 use Rattle.eco_traits.specs.Target.{FindsTarget, IsPlain, IsSound, AddLeadsTo, type_of_entity}
-use Rattle.eco_traits.proofs.Joined.{has_already}
 use Rattle.eco_traits.proofs.Plain.{AreTraitsOf, plain_leads_to}
 
 module _ (w : WorldState) (e : Entity) (i : Id) (own : List Id) (lives : names_living w i ≡ true) (owns : Some own ≡ type_of_entity w e) where
   own_is : own ≡ unwrap_or (type_of_entity w e) []
   own_is = ap (λ o. unwrap_or o []) owns
-
-  -- the id is there
-  pub own_target : has w e i ≡ true → FindsTarget w e i (Ok Own)
-  own_target there = subst (λ ids. AddLeadsTo w e i (Ok ids)) own_is (has_already w e i own own lives there owns refl)
 
   -- it comes alone
   pub plain_target : (ids : List Id) → has w e i ≡ false → IsSound w → AreTraitsOf w i ids → IsPlain w.edition i ids → IsTrue (is_ascending id_cmp own)

@@ -11,7 +11,8 @@ use Rattle.eco_ids.specs.Order.{id_cmp, id_eq, entity_eq, has_item}
 use Rattle.eco_ids.proofs.Ascending.{both, first, second}
 use Rattle.eco_ids.proofs.Facts.{any_is, id_eq_is, id_eq_itself, or_left, or_parts, or_right}
 use Rattle.eco_ids.proofs.Overlaps.{entity_eq_is, entity_eq_itself}
-use Rattle.eco_traits.specs.Prospect.{is_trait, is_pair_of_with}
+use Rattle.eco_ids.specs.Mirrors.{is_with}
+use Rattle.eco_traits.specs.Prospect.{is_trait}
 use Rattle.eco_traits.specs.Target.{LacksTraits}
 
 -- what a member passes, one of them passes
@@ -22,17 +23,17 @@ pub not_so : (b : Bool) → (IsTrue b → ⊥) → b ≡ false
 not_so true f = absurd (f refl)
 not_so false f = refl
 
-of_with : (i : Id) → IsTrue (is_pair_of_with i) → (x : Entity) × (i ≡ Two WITH x)
+of_with : (i : Id) → IsTrue (is_with i) → (x : Entity) × (i ≡ Two WITH x)
 of_with (One c) h = absurd (true≢false (sym h))
 of_with (Two r t) h = (t, ap (λ q. Two q t) (entity_eq_is r WITH h))
 
-pub with_among : (ids : List Id) (b : Bool) → b ≡ list_any is_pair_of_with ids → IsTrue b ↔ ((x : Entity) × IsTrue (has_item id_cmp ids (Two WITH x)))
+pub with_among : (ids : List Id) (b : Bool) → b ≡ list_any is_with ids → IsTrue b ↔ ((x : Entity) × IsTrue (has_item id_cmp ids (Two WITH x)))
 with_among ids b same = (
   λ h.
-      let m = any_is is_pair_of_with ids (sym same ∙ h) in
+      let m = any_is is_with ids (sym same ∙ h) in
       let pair = of_with m.0 m.1 in
       (pair.0, m.2 (λ y. id_eq y (Two WITH pair.0)) (subst (λ i. IsTrue (id_eq m.0 i)) pair.1 (id_eq_itself m.0))),
-  λ pair. same ∙ member is_pair_of_with ids (Two WITH pair.0) pair.1 (entity_eq_itself WITH),
+  λ pair. same ∙ member is_with ids (Two WITH pair.0) pair.1 (entity_eq_itself WITH),
 )
 
 module _ (d : Edition) where

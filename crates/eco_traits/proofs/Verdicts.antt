@@ -105,12 +105,6 @@ abbrev pub verdict_of : Bool → Option Entity → Option Refusal
 verdict_of clash o = cond clash (option_or (option_map Cycle o) (Some TraitClash)) (option_map Cycle o)
 
 module _ (w : WorldState) (e : Entity) (s : List Id) (after : WorldState) where
-  pub judged_policy : list_any is_wrong_policy s ≡ true → Judges w e s after (Some NotAPolicy)
-  judged_policy policy =
-      subst (λ b. MatchBool b (Some NotAPolicy ≡ Some NotAPolicy)
-      (MatchBool (list_any (is_late w e s) (late_traits w.edition)) (Some NotAPolicy ≡ Some InUse)
-      ((o : Option Entity) × IsFirstCycle w e s o × (Some NotAPolicy ≡ verdict_of (has_clash after) o)))) (sym policy) refl
-
   go : (v : Option Refusal) (b c : Bool) → b ≡ false → (c ≡ false → (o : Option Entity) × IsFirstCycle w e s o × (v ≡ verdict_of (has_clash after) o)) →
       (c ≡ true → v ≡ Some InUse) →
       MatchBool b (v ≡ Some NotAPolicy) (MatchBool c (v ≡ Some InUse) ((o : Option Entity) × IsFirstCycle w e s o × (v ≡ verdict_of (has_clash after) o)))
@@ -118,26 +112,12 @@ module _ (w : WorldState) (e : Entity) (s : List Id) (after : WorldState) where
   go v false true p q r = r refl
   go v false false p q r = q refl
 
-  pub judged_late : list_any is_wrong_policy s ≡ false → list_any (is_late w e s) (late_traits w.edition) ≡ true → Judges w e s after (Some InUse)
-  judged_late policy late = go (Some InUse) (list_any is_wrong_policy s) (list_any (is_late w e s) (late_traits w.edition)) policy
-      (λ k. absurd (true≢false (sym late ∙ k))) (λ k. refl)
-
   pub judged_cycle : (o : Option Entity) (clash : Bool) (verdict : Option Refusal) → list_any is_wrong_policy s ≡ false →
       list_any (is_late w e s) (late_traits w.edition) ≡ false → IsFirstCycle w e s o → has_clash after ≡ clash → verdict ≡ verdict_of clash o →
       Judges w e s after verdict
   judged_cycle o clash verdict policy late first same is =
       go verdict (list_any is_wrong_policy s) (list_any (is_late w e s) (late_traits w.edition)) policy
       (λ _. (o, first, is ∙ ap (λ b. verdict_of b o) (sym same))) (λ k. absurd (true≢false (sym k ∙ late)))
-
-  -- a cycle comes before a clash
-  pub judged_closed : (r : Entity) → list_any is_wrong_policy s ≡ false → list_any (is_late w e s) (late_traits w.edition) ≡ false → IsFirstCycle w e s
-      (Some r) →
-      Judges w e s after (Some (Cycle r))
-  judged_closed r policy late first = judged_cycle (Some r) (has_clash after) (Some (Cycle r)) policy late first refl (first_said (has_clash after))
-    where
-      first_said : (b : Bool) → Some (Cycle r) ≡ verdict_of b (Some r)
-      first_said true = refl
-      first_said false = refl
 
 -- what clashes in the world that it grows to is seen at a look
 pub clash_seen : (w : WorldState) (e : Entity) (i : Id) (s : List Id) → IsTrue (is_alive w e) → IsTrue (names_living w i) → IsClosure w i s → IsSound w →

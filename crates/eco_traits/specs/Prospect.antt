@@ -14,11 +14,6 @@ use Rattle.eco_traits.specs.declared.prospect.Prospect.TheVariants.{Dead, There,
 use Rattle.eco_traits.specs.declared.target.Target.TheVariants.{With}
 use Rattle.eco_traits.specs.Target.{FindsTarget}
 
--- a pair of With
-abbrev pub is_pair_of_with : Id → Bool
-is_pair_of_with (One c) = false
-is_pair_of_with (Two r t) = entity_eq r WITH
-
 -- an id that says how pairs behave: Exclusive, Acyclic, Symmetric where the edition has it, or a pair of With
 abbrev pub is_trait : Edition → Id → Bool
 is_trait edition (One c) = entity_eq c EXCLUSIVE || (entity_eq c ACYCLIC || (has_symmetric edition && entity_eq c SYMMETRIC))

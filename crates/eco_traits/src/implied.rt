@@ -9,12 +9,13 @@ ghost use Rattle.eco_ids.specs.Step.{IsClosure};
 ghost use Rattle.eco_ids.specs.World.{has};
 ghost use Rattle.std.specs.List.{list_any};
 ghost use Rattle.eco_traits.specs.Closure as spec;
-ghost use Rattle.eco_traits.specs.Prospect.{is_pair_of_with};
+ghost use Rattle.eco_ids.specs.Mirrors.{is_with};
 ghost use Rattle.eco_traits.specs.Target.{type_of_entity};
 
 use crate::holdings::Holdings;
 use crate::walk::{reached, target_by};
 use eco_ids::entity::WITH;
+use eco_ids::id::any_with;
 use eco_ids::{Entity, Id, TypeList};
 use std::alloc::{AllocError, Global};
 
@@ -56,7 +57,7 @@ pub(crate) fn closure_by<H: Holdings>(
 // Whether the target of a pair of With among the ids has such a pair itself.
 fn bring_more<H: Holdings>(holdings: &H, ids: &[Id]) -> bool
     ensures exact { IsFalse result → spec.BringNoMore (H.world holdings.now) ids.now }
-    ensures some { IsTrue result → IsTrue (list_any is_pair_of_with ids.now) }
+    ensures some { IsTrue result → IsTrue (list_any is_with ids.now) }
 {
     for id in ids {
         if brings_more(holdings, *id) {
@@ -70,7 +71,7 @@ fn bring_more<H: Holdings>(holdings: &H, ids: &[Id]) -> bool
 fn brings_more<H: Holdings>(holdings: &H, id: Id) -> bool
     ensures exact { IsFalse result → (x : EntityData) → id ≡ Two WITH_DATA x
         → spec.LacksWith (H.world holdings.now) x }
-    ensures some { IsTrue result → IsTrue (is_pair_of_with id) }
+    ensures some { IsTrue result → IsTrue (is_with id) }
 {
     match target_by(id, WITH) {
         Some(target) => has_with(holdings, target),
@@ -115,22 +116,6 @@ pub(crate) fn brings_any(ids: &TypeList) -> bool
     any_with(ids.as_slice())
 }
 
-fn any_with(ids: &[Id]) -> bool
-    ensures { result ≡ list_any is_pair_of_with ids.now }
-{
-    ids.iter().any(|id| is_with(*id))
-}
-
-// The id is a pair of With.
-fn is_with(id: Id) -> bool
-    ensures { result ≡ is_pair_of_with id }
-{
-    match id {
-        Id::One(_) => false,
-        Id::Two(relationship, _) => relationship.is(WITH),
-    }
-}
-
 // The id with each of the heads in the place of its own.
 fn with_heads(alloc: Global, id: Id, heads: &[Entity]) -> Result<TypeList, AllocError>
     ensures members { IfOk result (λ ids. spec.HasSameIds ids (spec.with_heads id heads.now)) }
@@ -148,7 +133,7 @@ fn with_heads(alloc: Global, id: Id, heads: &[Entity]) -> Result<TypeList, Alloc
 fn with_targets(alloc: Global, id: Id, traits: &[Id]) -> Result<TypeList, AllocError>
     ensures members { IfOk result (λ ids. spec.HasGiven ids id traits.now) }
     ensures ascending { IfOk result (λ ids. IsTrue (is_ascending id_cmp ids)) }
-    ensures alone { IsFalse (list_any is_pair_of_with traits.now) → IsOk result }
+    ensures alone { IsFalse (list_any is_with traits.now) → IsOk result }
 {
     eco_ids::order::items_join_and_leave();
     let mut ids = TypeList::empty(alloc);

@@ -15,6 +15,7 @@ use crate::walk::{has, reaches};
 use eco_ids::entity::{
     ACYCLIC, DELETE, EXCLUSIVE, ON_DELETE, ON_DELETE_TARGET, PANIC, REMOVE, SYMMETRIC, WITH,
 };
+use eco_ids::id::any_with;
 use eco_ids::{Edition, Entity, Id, Refusal};
 use std::alloc::{AllocError, Global};
 
@@ -117,22 +118,6 @@ fn is_tied<H: Holdings>(holdings: &H, entity: Entity) -> bool
     holdings.is_target(WITH, entity)
 }
 
-// One of them is a pair of With.
-fn any_with(ids: &[Id]) -> bool
-    ensures { result ≡ list_any is_with ids.now }
-{
-    ids.iter().any(|id| is_with(*id))
-}
-
-fn is_with(id: Id) -> bool
-    ensures { result ≡ is_with id }
-{
-    match id {
-        Id::One(_) => false,
-        Id::Two(relationship, _) => WITH.is(relationship),
-    }
-}
-
 // One of them is a pair of With whose target is symmetric.
 fn ties_any<H: Holdings>(holdings: &H, coming: &[Id]) -> bool
     ensures { result ≡ list_any (ties_symmetric (H.world holdings.now)) coming.now }
@@ -146,7 +131,7 @@ fn ties_symmetric<H: Holdings>(holdings: &H, id: Id) -> bool
     match id {
         Id::One(_) => false,
         Id::Two(relationship, target) => {
-            WITH.is(relationship)
+            relationship.is(WITH)
                 && holdings.edition().has_symmetric()
                 && has(holdings, target, Id::One(SYMMETRIC))
         }

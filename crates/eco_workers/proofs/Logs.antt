@@ -1,16 +1,16 @@
 -- What a worker has collected, after one more piece.
-use Rattle.std.proofs.Common.{◌≡◌, ℕ, ◌<◌, ◌≤◌, Bool, true, arith, List, [], ◌∷◌, ◌++◌, length, map, Some, inr, refl, sym, ap, ◌∙◌, subst}
-use Rattle.std.specs.List.{All, slice_get, flat_map}
+use Rattle.std.proofs.Common.{◌≡◌, ℕ, ◌<◌, ◌≤◌, true, arith, List, [], ◌∷◌, ◌++◌, length, map, inr, refl, sym, ap, ◌∙◌, subst}
+use Rattle.std.specs.List.{All, flat_map}
 use Rattle.std.proofs.lemmas.List.{append-nil, map_push}
 use Rattle.std.proofs.lemmas.List.Concat.{flat_map-append}
-use Rattle.std.proofs.lemmas.List.Elements.{All-push, All-nil, All-map, All-weaker, Contains-push}
+use Rattle.std.proofs.lemmas.List.Elements.{All-push, All-map, All-weaker, Contains-push}
 use Rattle.std.proofs.lemmas.Option.{slice_get_within}
 use Rattle.eco_workers.specs.Counting.{ascends}
 use Rattle.eco_workers.proofs.Turned.{short}
 use Rattle.eco_ids.specs.Run.{Command}
 use Rattle.eco_workers.specs.declared.collected.Collected.{Collected}
 use Rattle.eco_stages.specs.Taking.{IsStopped}
-use Rattle.eco_workers.specs.Entries.{Entry, entry_of, share_of, piece_of_entry, IsEntry, IsLog, IsShare, IsShort, IsStage}
+use Rattle.eco_workers.specs.Entries.{Entry, entry_of, share_of, piece_of_entry, IsEntry, IsLog, IsShare, IsShort}
 use Rattle.eco_workers.specs.Workers.{IsBroken}
 use Rattle.eco_ids.specs.declared.refusal.Refusal.{Refusal}
 use Rattle.eco_ids.specs.declared.refusal.Refusal.TheVariants.{NoMoreIds, OutOfMemory}
@@ -18,16 +18,6 @@ use Rattle.eco_workers.specs.declared.seat.Seat.{Seat}
 use Rattle.eco_workers.specs.Rounds.{claimed, drawn, is_dry}
 
 module _ {S : Type 0} (commands : S → List ℕ → List Command) (taken : S → List ℕ → ℕ) (pieces : List S) where
-  pub entry_made : (number : ℕ) (piece : S) (mine : List ℕ) (stage : List Command)
-      → slice_get pieces number ≡ Some piece
-      → IsStage commands taken piece mine stage
-      → IsEntry commands taken pieces (record { number = number; stage = stage; draws = mine })
-  entry_made number piece mine stage at h = record { piece = piece; at = at; stage = h }
-
-  pub log_start : (claimed drawn : List ℕ) (pushed : List Collected) → claimed ≡ [] → drawn ≡ [] → pushed ≡ []
-      → IsLog commands taken pieces claimed drawn pushed []
-  log_start claimed drawn pushed c d p = record { claims = c; draws = d; collected = p; good = All-nil (λ (e : Entry). IsEntry commands taken pieces e) }
-
   pub log_same : (claimed claimed' drawn drawn' : List ℕ) (pushed pushed' : List Collected) (log : List Entry)
       → IsLog commands taken pieces claimed drawn pushed log → claimed' ≡ claimed → drawn' ≡ drawn → pushed' ≡ pushed
       → IsLog commands taken pieces claimed' drawn' pushed' log
@@ -61,18 +51,6 @@ module _ {S : Type 0} (commands : S → List ℕ → List Command) (taken : S �
 
   pub fair_log : (log : List Entry) → All (λ (e : Entry). IsEntry commands taken pieces e) log → All (λ (e : Entry). IsShare commands taken pieces e) log
   fair_log log h = All-weaker (λ (e : Entry). IsEntry commands taken pieces e) (λ (e : Entry). IsShare commands taken pieces e) fair_entry log h
-
-  -- the piece was refused
-  pub share_made : (number : ℕ) (piece : S) (dry : Bool) (refusal : Refusal) (mine : List ℕ)
-      → slice_get pieces number ≡ Some piece
-      → length mine ≤ taken piece mine
-      → (refusal ≡ NoMoreIds → (dry ≡ true) × (length mine < taken piece mine))
-      → IsShare commands taken pieces (share_of number mine)
-      × (refusal ≡ NoMoreIds → (dry ≡ true) × IsShort commands taken pieces (share_of number mine))
-  share_made number piece dry refusal mine at most more = (
-    record { piece = piece; at = at; most = most },
-    (λ is. let o = more is in (o.0, record { piece = piece; at = at; more = o.1 })),
-  )
 
   -- a worker that stopped before it claimed a further piece
   pub stopped : (seat : Seat) (pushed : List Collected) (log : List Entry) → IsLog commands taken pieces (claimed seat) (drawn seat) pushed log

@@ -1,17 +1,17 @@
 -- Each step keeps the count.
-use Rattle.std.proofs.Common.{◌≡◌, ◌≢◌, ℕ, zero, suc, ◌+◌, ◌-◌, ◌%◌, ◌^◌, ◌<◌, ◌≤◌, min, cond, eqb, List, [], ◌∷◌, length, set, refl, sym, ap, ◌∙◌, subst}
+use Rattle.std.proofs.Common.{◌≡◌, ◌≢◌, ℕ, ◌+◌, ◌-◌, ◌%◌, ◌^◌, ◌<◌, ◌≤◌, min, cond, eqb, List, [], ◌∷◌, length, set, refl, sym, ap, ◌∙◌, subst}
 use Rattle.std.proofs.Common.{⊎_elim, arith}
 use Rattle.std.specs.Prelude.{slice_index, slice_set}
 use mathlib.Core.Option.{some, some-ne-none, some-injective}
 use mathlib.Core.Logic.{dite}
 use native.Mathlib.Decide.{dec_lt}
 use lib.ListN.{get_elem?}
-use Rattle.atomic_table.specs.Table.{State, Me, Step, Allows, Splits, Joins, Act, opening, Final, Seen}
+use Rattle.atomic_table.specs.Table.{State, Me, Step, Allows, Splits, Joins, Act, Final, Seen}
 use Rattle.atomic_table.proofs.Lists.{at_set, at_snoc}
 use Rattle.eco_workers.specs.declared.word.Share.{Share}
 use Rattle.eco_workers.specs.declared.word.Span.{Span}
-use Rattle.eco_workers.specs.Counting.{total, times, once, whole, took, refused, less_one, one_part, both, spent, ShareFits, IsCounted, Counts, Takes}
-use Rattle.eco_workers.proofs.Totals.{all_in_one, total_set, total-append, total_le, once_more, once_none, all_below_more, all_below_push, all_below-append}
+use Rattle.eco_workers.specs.Counting.{total, times, once, took, refused, less_one, one_part, both, spent, ShareFits, IsCounted, Counts, Takes}
+use Rattle.eco_workers.proofs.Totals.{all_in_one, total_set, total-append, total_le, once_more, all_below_more, all_below_push, all_below-append}
 
 -- what holds of a new view of the seat, and of the others as they were, holds of all
 each_set : (k : Span) (word : ℕ) (views : List Share) (by : ℕ) (w : Share) → ShareFits k word w
@@ -114,23 +114,6 @@ takes k slots id me st some_part none_yet s h homes at small =
           ((word + 1) % 2 ^ 64) n_is,
       (refl, (λ lt. absurd (omega arith)), λ _. refl),
     ))
-
-pub opens : (k : Span) → k.base ≤ k.bound → k.bound + k.parts + 1 < 2 ^ 64 → Counts k (opening (k.base ∷ []) [] (whole k))
-opens k le room = (
-  refl,
-  record {
-    base = omega arith;
-    room = room;
-    parts = omega arith;
-    refusals = omega arith;
-    numbers = λ x. let e : min k.base k.bound ≡ k.base = omega arith in sym (ap (λ b. once k.base b x) e ∙ once_none k.base x);
-    each = one;
-  },
-)
-  where
-    one : (by : ℕ) (v : Share) → get_elem? (whole k ∷ []) by ≡ some v → ShareFits k k.base v
-    one zero v e = subst (ShareFits k k.base) (some-injective _ _ e) record { bound = λ _. refl; refusals = omega arith; idle = λ _. refl; below = refl }
-    one (suc by) v e = absurd (some-ne-none v (sym e))
 
 -- one part of several goes to a new seat
 pub splits : (k : Span) (id : ℕ) (v : Share) → 1 < v.parts → v.refusals ≡ 0 → Splits {S = Unit {0}} (Counts k) id v (less_one v) (one_part v)

@@ -15,11 +15,6 @@ module _ {X : Type 0} (f : X → ℕ) where
   total-append [] ys = omega arith
   total-append (x ∷ xs) ys = let h = total-append xs ys in omega arith
 
-  pub part_le : (xs : List X) (i : ℕ) (v : X) → get_elem? xs i ≡ some v → f v ≤ total f xs
-  part_le [] i v e = absurd (some-ne-none v (sym e))
-  part_le (x ∷ xs) zero v e = let s : f x ≡ f v = ap f (some-injective x v e) in omega arith
-  part_le (x ∷ xs) (suc i) v e = let h = part_le xs i v e in omega arith
-
   -- where each term of f is at most that of g
   pub total_le : (g : X → ℕ) (xs : List X) → ((i : ℕ) (v : X) → get_elem? xs i ≡ some v → f v ≤ g v) → total f xs ≤ total g xs
   total_le g [] h = omega arith
@@ -58,9 +53,6 @@ module _ {X : Type 0} (f : X → ℕ) where
 
 pub once_more : (a b w x : ℕ) → a ≤ w → w < b → once a (min (w + 1) b) x ≡ once a (min w b) x + cond (eqb w x) 1 0
 once_more a b w x le lt = grind (arith, nat_tests)
-
-pub once_none : (a x : ℕ) → once a a x ≡ 0
-once_none a x = grind (arith, nat_tests)
 
 pub all_below_more : (n m : ℕ) (xs : List ℕ) → n ≤ m → all_below n xs ≡ true → all_below m xs ≡ true
 all_below_more n m [] le h = refl

@@ -1,6 +1,6 @@
 //! A batch: its pieces are shared among workers, and their stages put in order.
 ghost use Rattle.std.specs.Prelude.{◌≡◌, ℕ, ◌+◌, ◌<◌, ◌≤◌, List, true, [], ◌∷◌, ◌++◌, IfOk, IfErr, IfNone, IfSome, vec_len};
-ghost use Rattle.std.specs.Prelude.{length};
+ghost use Rattle.std.specs.Prelude.{length, OnOk};
 ghost use Rattle.std.specs.List.{All, Contains};
 ghost use Rattle.eco_ids.specs.declared.refusal.Refusal.TheVariants.{NoMoreIds, OutOfMemory};
 ghost use Rattle.eco_workers.specs.Rounds.{base_of, is_done, limit_of, piece_count, seats_of, IsSeatOf};
@@ -314,6 +314,8 @@ pub fn run_batch<P: Piece + Sync, R: Threads + Sync>(
     ensures why { IfErr result (λ e. IsStopped e) }
     ensures out { IfErr result (λ e. e ≡ NoMoreIds
         → IsOut (by_index P.commands) (by_index P.taken) pieces.now base limit) }
+    ensures few { OnOk result (length pieces.now ≤ 16777216) }
+    ensures many { IfErr result (λ e. 16777216 < length pieces.now → e ≡ OutOfMemory) }
 {
     let count = count_pieces(pieces)?;
     let seats = workers.min(count).max(1);

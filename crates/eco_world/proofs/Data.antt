@@ -58,11 +58,6 @@ data_wide w lawful (Two r t) some = by (is_builtin w r) some
 
 -- ---- a value that is read in a row
 
--- who stands in a row has one
-pub stands_within : (o : Option Record) (t : TableState) (row : ℕ) → Stands o t row → row < length t.rows
-stands_within None t row there = absurd there
-stands_within (Some k) t row there = there.within
-
 -- what a search of the row's columns finds is the entity's value
 value_kept : (w : WorldState) → IsLawful w → (e : Entity) (i : Id) (t : TableState) (row : ℕ) (v : Option Value)
     → Stands (record_of w e) t row → KeepsData (entities w) t → is_some (arity w i) ≡ true
@@ -134,16 +129,6 @@ value_read w lawful e i t row v at found other = by (is_some (arity w i)) refl
     by : (b : Bool) → is_some (arity w i) ≡ b → v ≡ value_of w e i
     by true some = value_kept w lawful e i t row v at.stands at.kept some found
     by false none = no_data none v found other ∙ no_value w e i none
-
--- who isn't living has none
-pub value_absent : (w : WorldState) (e : Entity) (i : Id) → record_of w e ≡ None → None ≡ value_of w e i
-value_absent w e i dead =
-    sym (ap (λ o. if is_some (arity w i) then find id_cmp i (unwrap_or (option_map (λ (r : Record). r.held) o) []) else None) dead
-    ∙ by (is_some (arity w i)))
-  where
-    by : (b : Bool) → ◌≡◌ {A = Option Value} (if b then None else None) None
-    by true = refl
-    by false = refl
 
 -- ---- columns that are lent
 

@@ -1,12 +1,9 @@
 -- An entity that no id names dies alone.
-use Rattle.std.proofs.Common.{◌≡◌, ℕ, zero, suc, ◌+◌, ◌==◌, Bool, true, false, true≢false, cond, ◌||◌, ◌⊎◌, List, [], ◌∷◌, map, slice_get, slice_set, Option}
+use Rattle.std.proofs.Common.{◌≡◌, ℕ, ◌+◌, Bool, true, false, true≢false, cond, ◌||◌, ◌⊎◌, List, [], ◌∷◌, map, slice_get, slice_set, Option}
 use Rattle.std.proofs.Common.{Some, None, option_map, is_some}
 use Rattle.std.proofs.Common.{IsTrue, IsFalse, Ok, refl, sym, ap, ◌∙◌, subst, inl, inr, arith}
 use Rattle.std.specs.FinMap.Entries.{find}
 use Rattle.std.specs.List.{list_any}
-use Rattle.std.proofs.lemmas.Bool.Decides.{Decides-eqb}
-use Rattle.std.proofs.lemmas.Grind.{common_steps}
-use Rattle.std.proofs.lemmas.Option.{none-some, same_Some}
 use Rattle.eco_ids.specs.declared.edition.Edition.{Edition}
 use Rattle.eco_ids.specs.declared.entity.Entity.{Entity}
 use Rattle.eco_ids.specs.declared.entity.TheConstants.{DELETE, PANIC}
@@ -20,6 +17,7 @@ use Rattle.eco_ids.specs.Least.{root}
 use Rattle.eco_ids.specs.Losses.{keeping, left_at}
 use Rattle.eco_ids.specs.Order.{entity_cmp, entity_eq, has_item, id_cmp, id_eq, names_entity}
 use Rattle.eco_ids.specs.World.{Record, WorldState, entities, has, is_alive, living, record_of, with_entities}
+use Rattle.eco_ids.proofs.AtPlaces.{get_left, same_number, same_places}
 use Rattle.eco_ids.proofs.Exact.{keys_find}
 use Rattle.eco_ids.proofs.Facts.{any_is, id_eq_is, or_left, or_parts, or_right}
 use Rattle.eco_ids.proofs.Keeps.{entry_of, has_in, some_of}
@@ -62,26 +60,6 @@ named_on w action (Two r t) m n = elim n as (λ _. IsTrue (entity_eq r m || enti
 ]
 
 -- ---- one index changes
-
--- what is left at an index
-get_left : (f : ℕ → IndexState Record → IndexState Record) (n : ℕ) (xs : List (IndexState Record)) (k : ℕ) →
-    slice_get (map_from f n xs) k ≡ option_map (f (n + k)) (slice_get xs k)
-get_left f n [] k = refl
-get_left f n (x ∷ xs) zero = ap (λ m. Some (f m x)) (omega arith)
-get_left f n (x ∷ xs) (suc k) = grind (arith, common_steps, get_left f (n + 1) xs k)
-
--- lists with the same at each place
-same_places : {X : Type 0} (xs ys : List X) → ((k : ℕ) → slice_get xs k ≡ slice_get ys k) → xs ≡ ys
-same_places [] [] same = refl
-same_places [] (y ∷ ys) same = absurd (none-some y (same 0))
-same_places (x ∷ xs) [] same = absurd (none-some x (sym (same 0)))
-same_places (x ∷ xs) (y ∷ ys) same = λ t. same_Some x y (same 0) t ∷ same_places xs ys (λ k. same (suc k)) t
-
-same_number : (a b : ℕ) → (a ≡ b) ⊎ (a ≡ b → ⊥)
-same_number a b = elim (a == b) as (λ c. (a == b) ≡ c → (a ≡ b) ⊎ (a ≡ b → ⊥)) [
-  | true ↦ λ h. inl ((Decides-eqb a b).0 h)
-  | false ↦ λ h. inr (λ is. true≢false (sym ((Decides-eqb a b).1 is) ∙ h))
-] refl
 
 module _ (w : WorldState) (e : Entity) (lives : is_alive w e ≡ true)
     (unheld : is_named w e ≡ false) where

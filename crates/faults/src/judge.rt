@@ -8,7 +8,8 @@ use eco_world::World;
 use std::alloc::Global;
 use std::thread::Threads;
 
-// Makes the call on a world, which the other follows, and tells what came of it when both have gone on.
+// Makes the call in one scene, where memory may be refused, and does in the other, where it is ample, what came of that; goes
+// on in both, and tells how the two compare.
 fn judge_scenes<R: Print + Eprint + Threads + Sync>(
     rt: &R,
     name: &str,

@@ -28,7 +28,7 @@ fn put(alloc: Global, numbers: &mut HashMap<TypeList, u32>, count: u32) -> bool 
     }
 }
 
-// Puts its length at each of eight lists.
+// Puts eight lists into the map, each with its length.
 fn put_all(alloc: Global, numbers: &mut HashMap<TypeList, u32>) -> bool {
     let mut are_put = true;
     for count in 1..9 {

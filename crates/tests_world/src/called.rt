@@ -142,9 +142,8 @@ fn brings_along(alloc: Global) -> bool {
 // Makes an entity that has a tag, and tells whether it alone holds the tag, and nobody holds it.
 fn holds_alone(store: &mut Store, tag: Entity, tagged: &TypeList) -> Result<bool, Refusal> {
     let holder = store.create(None, None, tagged)?;
-    let is_alone = store.holders(tag)?.as_slice() == [holder].as_slice();
-    let is_held = !store.holders(holder)?.is_empty();
-    Ok(is_alone && !is_held)
+    let holders = store.entities_with(Pattern::One(tag))?;
+    Ok(holders.as_slice() == [holder].as_slice() && !store.is_named(holder))
 }
 
 // Whether an entity that is made with a tag does so.

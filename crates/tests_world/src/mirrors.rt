@@ -45,7 +45,7 @@ fn draw(run: &mut Followed) -> Result<Deed, AllocError> {
     Ok(draw_deed(&mut run.draws, &living))
 }
 
-// Does it, and tells whether a clash was refused as it should be.
+// Draws a deed and does it, and tells whether a clash was refused as it should be.
 fn do_one(run: &mut Followed) -> bool {
     match draw(run) {
         Ok(deed) => run.apply(deed),

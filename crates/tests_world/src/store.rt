@@ -79,7 +79,7 @@ fn found(store: &Store) -> Result<[usize; 4], AllocError> {
         first: pattern,
         others: &[Pattern::One(HOLDER)],
     };
-    let tables = store.tables_with(pattern)?.slots.len();
+    let tables = store.tables_by(&pattern)?.slots.len();
     let entities = store.entities_with(pattern)?.len();
     let types = store.types_with(pattern)?.len();
     let tables_of_both = store.tables_by(&both)?.slots.len();

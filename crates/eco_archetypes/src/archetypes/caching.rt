@@ -7,9 +7,10 @@ ghost use Rattle.eco_archetypes.specs.Archetypes.{type_at, has_rows, ArePassing}
 use crate::archetypes::Archetypes;
 use crate::found::put_behind;
 use eco_entries::Choices;
+use eco_ids::TableSlot;
 use eco_index::TypeTest;
 use eco_query::Query;
-use eco_tables::{TableSlot, Tables};
+use eco_tables::Tables;
 use indexmap::IndexSet;
 use std::alloc::{AllocError, Global};
 

@@ -8,18 +8,18 @@ ghost use Rattle.eco_index.specs.TypeMap.{same_ids, IsTypeMap};
 ghost use Rattle.eco_archetypes.specs.Archetypes.{type_at};
 
 use crate::archetypes::Archetypes;
-use eco_ids::TypeList;
+use eco_ids::{TableSlot, TypeList};
 use eco_index::{Edges, TypeMap};
-use eco_tables::{TableSlot, Tables};
+use eco_tables::Tables;
 use std::alloc::AllocError;
 
 impl Archetypes {
     /// The same tables once more, each in the slot that it has, and none of them with room. An `Err` comes where memory is
     /// refused.
-    // Edges are left out: each that is asked for is found again.
     pub fn try_copy(&self) -> Result<Archetypes, AllocError>
         ensures { IfOk result (λ a. AreCopies self.now a) }
     {
+        // Edges are left out: each that is asked for is found again.
         let tables = self.tables.try_copy()?;
         let mut by_type = TypeMap::with_capacity(self.alloc, tables.slot_count(), self.seed)?;
         list_all(&tables, &mut by_type)?;

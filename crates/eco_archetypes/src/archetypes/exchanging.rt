@@ -1,15 +1,14 @@
 //! The table whose type has one id in the place of another.
-ghost use Rattle.std.specs.Prelude.{◌≡◌, ◌≢◌, ◌<◌, ◌+◌, drop, length, slice_get, take, Some, IsSome, IsTrue, true, false, IfOk, IfSome};
+ghost use Rattle.std.specs.Prelude.{◌≡◌, ◌≢◌, ◌<◌, ◌+◌, drop, length, slice_get, take, Some, IsSome, IsTrue, true, false, IfOk, IfSome, OnOk};
 ghost use Rattle.eco_ids.specs.Order.{id_cmp, has_item};
 ghost use Rattle.eco_tables.specs.Tables.{slot_of, table_in};
 ghost use Rattle.eco_index.specs.Edges.{exchanged};
-ghost use Rattle.eco_archetypes.specs.Archetypes.{type_at, RowlessBut, SameRows};
+ghost use Rattle.eco_archetypes.specs.Archetypes.{type_at, KeepsRoom, KeepsTypes, RowlessBut, SameRows};
 ghost use Rattle.eco_archetypes.specs.Widths.{StillCover};
 
 use crate::archetypes::{Archetypes, are_same};
 use eco_entities::EntityIndex;
-use eco_ids::{Id, TypeList};
-use eco_tables::TableSlot;
+use eco_ids::{Id, TableSlot, TypeList};
 use std::alloc::AllocError;
 
 // The type with one id in the place of another.
@@ -72,8 +71,10 @@ impl Archetypes {
             (λ n. type_at self.new n ≡ Some (exchanged (table_in self.old slot).ids leaving coming)) }
         ensures apart { IfOk result (λ n. slot ≢ n) }
         ensures room { IfOk result (λ n. 0 < (table_in self.new n).room) }
+        ensures kept { OnOk result (KeepsRoom self.old self.new) }
         ensures rowless { RowlessBut self.old self.new result }
         ensures rows { SameRows self.old self.new }
+        ensures types { KeepsTypes self.old self.new }
         ensures widths { StillCover entities.now self.old self.new }
     {
         match self.known_exchange(slot, leaving, coming) {
@@ -154,8 +155,10 @@ impl Archetypes {
             (λ n. type_at self.new n ≡ Some (exchanged (table_in self.old slot).ids leaving coming)) }
         ensures apart { IfOk result (λ n. slot ≢ n) }
         ensures room { IfOk result (λ n. 0 < (table_in self.new n).room) }
+        ensures kept { OnOk result (KeepsRoom self.old self.new) }
         ensures rowless { RowlessBut self.old self.new result }
         ensures rows { SameRows self.old self.new }
+        ensures types { KeepsTypes self.old self.new }
         ensures widths { StillCover entities.now self.old self.new }
     {
         let type_list = exchanged(self.tables.get(slot).unwrap().type_list(), leaving, coming)?;

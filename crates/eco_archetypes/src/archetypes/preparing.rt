@@ -1,21 +1,22 @@
 //! Room that is promised before rows come, so that changes of many entities take all of theirs before the first row moves.
-ghost use Rattle.std.specs.Prelude.{◌≤◌, ◌+◌, List, ℕ, Some, IsSome, OnOk};
+ghost use Rattle.std.specs.Prelude.{◌≡◌, ◌≤◌, ◌+◌, List, ℕ, Some, IsSome, OnOk, OnErr};
 ghost use Rattle.eco_tables.specs.Tables.{slot_of, table_in, SetsSlot, SetsRoom};
 ghost use Rattle.eco_archetypes.specs.Archetypes.{RowlessIn, SameRows, SameTypes};
 ghost use Rattle.eco_archetypes.specs.Widths.{KeepsWidths};
 
 use crate::archetypes::Archetypes;
-use eco_tables::TableSlot;
+use eco_ids::TableSlot;
 use std::alloc::AllocError;
 
 impl Archetypes {
-    /// Room for so many rows more than a table had room for. An `Err` comes where memory is refused, and keeps the room that
-    /// was there.
+    /// Room for so many rows more than a table had room for, and for no more than that. An `Err` comes where memory is
+    /// refused, and keeps the room that was there.
     pub fn reserve_more(&mut self, slot: TableSlot, more: usize) -> Result<(), AllocError>
         requires { IsSome (slot_of self.old slot) }
         ensures sets { SetsRoom self.old self.new slot }
         ensures kept { (table_in self.old slot).room ≤ (table_in self.new slot).room }
-        ensures room { OnOk result ((table_in self.old slot).room + more ≤ (table_in self.new slot).room) }
+        ensures room { OnOk result ((table_in self.new slot).room ≡ (table_in self.old slot).room + more) }
+        ensures err { OnErr result ((table_in self.new slot).room ≡ (table_in self.old slot).room) }
         ensures types { SameTypes self.old self.new }
         ensures rowless { (slots : List ℕ) → RowlessIn self.old slots → RowlessIn self.new slots }
         ensures rows { SameRows self.old self.new }

@@ -7,9 +7,8 @@ ghost use Rattle.eco_archetypes.specs.Naming.{is_named_by_some};
 
 use crate::archetypes::Archetypes;
 use crate::found::put_behind;
-use eco_ids::{Entity, Pattern};
+use eco_ids::{Entity, Pattern, TableSlot};
 use eco_index::TypeTest;
-use eco_tables::TableSlot;
 use std::alloc::AllocError;
 
 impl Archetypes {

@@ -8,8 +8,7 @@ ghost use Rattle.eco_archetypes.specs.Widths.{StillCover};
 
 use crate::archetypes::Archetypes;
 use eco_entities::EntityIndex;
-use eco_ids::{Id, TypeList};
-use eco_tables::TableSlot;
+use eco_ids::{Id, TableSlot, TypeList};
 use std::alloc::AllocError;
 
 // The type with the id, or without it where it has it.
@@ -82,6 +81,7 @@ impl Archetypes {
         ensures sets { SetsRoom self.old self.new slot }
         ensures typed { type_at self.new slot ≡ type_at self.old slot }
         ensures room { OnOk result (more ≤ (table_in self.new slot).room) }
+        ensures kept { OnOk result (KeepsRoom self.old self.new) }
         ensures rowless { RowlessBut self.old self.new result }
         ensures rows { SameRows self.old self.new }
         ensures widths { StillCover entities.now self.old self.new }

@@ -1,14 +1,16 @@
 //! Tables without rows go: one by one, or where they are many all at once.
-ghost use Rattle.std.specs.Prelude.{◌≡◌, ◌++◌, ◌∷◌, List, ℕ};
+ghost use Rattle.std.specs.Prelude.{◌≡◌, ◌++◌, [], ◌∷◌, List, ℕ};
 ghost use Rattle.eco_caches.specs.Caching.{AreExact};
 ghost use Rattle.eco_caches.specs.Contents.{cache_list};
 ghost use Rattle.eco_archetypes.specs.Archetypes.{type_at, RowlessIn, SameRows};
-ghost use Rattle.eco_archetypes.specs.Sweeping.{IsLess};
+ghost use Rattle.eco_archetypes.specs.Sweeping.{DropsRowless, IsLess};
 ghost use Rattle.eco_archetypes.specs.Widths.{KeepsWidths};
 
 use crate::archetypes::Archetypes;
+use crate::occupied::Occupied;
 use eco_caches::Caches;
-use eco_tables::{TableSlot, Tables};
+use eco_ids::TableSlot;
+use eco_tables::Tables;
 
 // Fewer tables than these go one by one.
 const MANY_TABLES: usize = 16;
@@ -17,8 +19,9 @@ const MANY_TABLES: usize = 16;
 const LOOKED_AT: usize = 8;
 
 impl Archetypes {
-    /// Drops those tables in these slots that have no rows. No row changes. It takes no memory.
+    /// Drops those tables in these slots that have no rows. Every other slot keeps what it had. It takes no memory.
     pub fn drop_each(&mut self, slots: &[TableSlot])
+        ensures dropped { DropsRowless self.old self.new slots.now }
         ensures rowless { (others : List ℕ) →
             RowlessIn self.old (slots.now ++ others) → RowlessIn self.new others }
         ensures rows { SameRows self.old self.new }
@@ -33,6 +36,7 @@ impl Archetypes {
 
     // What `drop_each` does with few tables.
     fn drop_in_turn(&mut self, slots: &[TableSlot])
+        ensures dropped { DropsRowless self.old self.new slots.now }
         ensures rowless { (others : List ℕ) →
             RowlessIn self.old (slots.now ++ others) → RowlessIn self.new others }
         ensures rows { SameRows self.old self.new }
@@ -46,20 +50,25 @@ impl Archetypes {
     // What `drop_each` does with many tables: what leads to tables is gone through once, and what leads to none goes. Taken
     // out by itself, each table would be looked for in all maps.
     fn drop_together(&mut self, slots: &[TableSlot])
+        ensures dropped { DropsRowless self.old self.new slots.now }
         ensures rowless { (others : List ℕ) →
             RowlessIn self.old (slots.now ++ others) → RowlessIn self.new others }
         ensures rows { SameRows self.old self.new }
         ensures widths { KeepsWidths self.old self.new }
     {
         drop_tables(&mut self.tables, &mut self.caches, slots);
-        self.by_type.keep_there(&self.tables);
-        self.by_id.keep_there(&self.tables);
-        self.edges.keep_there(&self.tables);
+        let occupied = Occupied {
+            tables: &self.tables,
+        };
+        self.by_type.keep_there(&occupied);
+        self.by_id.keep_there(&occupied);
+        self.edges.keep_there(&occupied);
     }
 }
 
 // Drops those tables in these slots that have no rows, and tells the caches.
 fn drop_tables(tables: &mut Tables, caches: &mut Caches, slots: &[TableSlot])
+    ensures dropped { DropsRowless tables.old tables.new slots.now }
     ensures less { IsLess tables.old tables.new }
     ensures rowless { (others : List ℕ) →
         RowlessIn tables.old (slots.now ++ others) → RowlessIn tables.new others }
@@ -74,6 +83,7 @@ fn drop_tables(tables: &mut Tables, caches: &mut Caches, slots: &[TableSlot])
 
 // Drops the table in a slot if it has no rows, and tells the caches.
 fn drop_table(tables: &mut Tables, caches: &mut Caches, slot: TableSlot)
+    ensures dropped { DropsRowless tables.old tables.new (slot ∷ []) }
     ensures less { IsLess tables.old tables.new }
     ensures rowless { (others : List ℕ) →
         RowlessIn tables.old (slot ∷ others) → RowlessIn tables.new others }

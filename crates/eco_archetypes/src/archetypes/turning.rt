@@ -1,19 +1,19 @@
 //! A table of one row takes the type of its next step where it stands: to make a table of that type, and to drop this one,
 //! would cost as much as the type has ids.
-ghost use Rattle.std.specs.Prelude.{◌≡◌, ◌≢◌, ◌≤◌, ℕ, length, Some, IsSome, true, false, IfOk, OnOk, OnErr};
+ghost use Rattle.std.specs.Prelude.{◌≡◌, ◌≢◌, ◌≤◌, ℕ, length, Some, IsSome, IsFalse, true, false, IfOk, OnOk, OnErr};
 ghost use Rattle.eco_ids.specs.declared.value.TheConstants.{FIELD_COUNT};
 ghost use Rattle.eco_ids.specs.Order.{id_cmp, has_item, with_item, without_item};
 ghost use Rattle.eco_tables.specs.Tables.{slot_of, table_in};
 ghost use Rattle.eco_index.specs.Edges.{toggled};
 ghost use Rattle.eco_index.specs.Contents.{lists_in};
-ghost use Rattle.eco_archetypes.specs.Archetypes.{type_at, IsIdIndex, TakesType, MayTakeType, SameSlots};
+ghost use Rattle.eco_archetypes.specs.Archetypes.{type_at, IsIdIndex, TakesType, MayTakeType, SameSlots, SomeHasType};
 ghost use Rattle.eco_archetypes.specs.Widths.{AreAgreed, KeepsWidths, LetsGrow, StillCover, FitsAll};
 
 use crate::archetypes::{Archetypes, reserve_one};
 use eco_entities::EntityIndex;
-use eco_ids::{Id, TypeList};
+use eco_ids::{Id, TableSlot, TypeList};
 use eco_index::IdIndex;
-use eco_tables::{TableSlot, Tables};
+use eco_tables::Tables;
 use std::alloc::{AllocError, Global};
 
 impl Archetypes {
@@ -29,6 +29,8 @@ impl Archetypes {
         requires { IsSome (slot_of self.old slot) }
         ensures ok { IfOk result
             (MayTakeType self.old self.new slot (toggled (table_in self.old slot).ids id)) }
+        ensures refused { IfOk result (λ takes. IsFalse takes → length (table_in self.old slot).rows ≡ 1
+            → SomeHasType self.old (toggled (table_in self.old slot).ids id)) }
         ensures err { OnErr result (SameSlots self.old self.new) }
         ensures widths { StillCover entities.now self.old self.new }
     {
@@ -51,10 +53,12 @@ impl Archetypes {
         requires alone { length (table_in self.old slot).rows ≡ 1 }
         ensures ok { IfOk result
             (MayTakeType self.old self.new slot (toggled (table_in self.old slot).ids id)) }
+        ensures refused { IfOk result (λ takes. IsFalse takes
+            → SomeHasType self.old (toggled (table_in self.old slot).ids id)) }
         ensures err { OnErr result (SameSlots self.old self.new) }
         ensures widths { StillCover entities.now self.old self.new }
     {
-        if self.edges.get(slot, id).is_some() {
+        if self.lead(slot, id).is_some() {
             return Ok(false);
         }
         if self.tables.get(slot).unwrap().type_list().has(id) {
@@ -77,6 +81,8 @@ impl Archetypes {
         requires lacks { has_item id_cmp (table_in self.old slot).ids id ≡ false }
         ensures ok { IfOk result
             (MayTakeType self.old self.new slot (with_item id_cmp (table_in self.old slot).ids id)) }
+        ensures refused { IfOk result (λ takes. IsFalse takes
+            → SomeHasType self.old (with_item id_cmp (table_in self.old slot).ids id)) }
         ensures err { OnErr result (SameSlots self.old self.new) }
         ensures widths { StillCover entities.now self.old self.new }
     {
@@ -108,6 +114,8 @@ impl Archetypes {
         requires has { has_item id_cmp (table_in self.old slot).ids id ≡ true }
         ensures ok { IfOk result
             (MayTakeType self.old self.new slot (without_item id_cmp (table_in self.old slot).ids id)) }
+        ensures refused { IfOk result (λ takes. IsFalse takes
+            → SomeHasType self.old (without_item id_cmp (table_in self.old slot).ids id)) }
         ensures err { OnErr result (SameSlots self.old self.new) }
         ensures widths { KeepsWidths self.old self.new }
     {

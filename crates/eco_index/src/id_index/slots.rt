@@ -1,10 +1,10 @@
 //! The slots of the tables that one key finds.
 ghost use Rattle.std.specs.Prelude.{◌≡◌, ◌≢◌, ◌∷◌, ◌&&◌, ℕ, [], nat_eq, not, true, false, Some, IfOk, OnOk, OnErr};
 ghost use Rattle.std.specs.List.{list_any, IsDistinct};
-ghost use Rattle.eco_index.specs.Sweeping.{has_table};
 ghost use Rattle.eco_index.specs.IdIndex.{slots_of, is_empty, is_only, SameSlotsOf, TurnsSlot};
 
-use eco_tables::{TableSlot, Tables};
+use crate::occupancy::Occupancy;
+use eco_ids::TableSlot;
 use indexmap::IndexSet;
 use std::alloc::{AllocError, Global};
 use std::slice;
@@ -76,15 +76,15 @@ impl Slots {
     }
 
     /// The slots without a table go. The answer is whether one is left; if not, a slot may still stand here.
-    pub fn keep_there(&mut self, tables: &Tables) -> bool
+    pub fn keep_there<T: Occupancy>(&mut self, tables: &T) -> bool
         ensures left { (n : ℕ) → (result && list_any (nat_eq n) (slots_of self.new))
-            ≡ (list_any (nat_eq n) (slots_of self.old) && has_table tables.now n) }
+            ≡ (list_any (nat_eq n) (slots_of self.old) && T.has_table tables.now n) }
         ensures full { result ≡ true → is_empty (Some self.new) ≡ false }
     {
         match self {
-            Slots::One(own) => tables.contains(*own),
+            Slots::One(own) => tables.has_table(*own),
             Slots::Many(slots) => {
-                slots.retain(|slot| tables.contains(*slot));
+                slots.retain(|slot| tables.has_table(*slot));
                 !slots.is_empty()
             }
         }

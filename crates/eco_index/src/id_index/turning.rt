@@ -7,8 +7,7 @@ ghost use Rattle.eco_index.specs.IdIndex.{any_matches, keys_of, matches_id, patt
 
 use crate::id_index::key::Key;
 use crate::id_index::{IdIndex, keys_of_pair};
-use eco_ids::{Entity, Id, Pattern};
-use eco_tables::TableSlot;
+use eco_ids::{Entity, Id, Pattern, TableSlot};
 use std::alloc::{AllocError, Global};
 
 impl IdIndex {

@@ -87,6 +87,21 @@ fn first_that_kills(systems: &[Declared], batch: &[usize]) -> Option<Reason> {
     None
 }
 
+// The first of some reads that a write touches.
+fn first_touched(
+    alloc: Global,
+    world: &World,
+    write: Pattern,
+    reads: &[Pattern],
+) -> Result<Option<Pattern>, AllocError> {
+    for read in reads {
+        if parts(alloc, world, write, &[*read])? {
+            return Ok(Some(*read));
+        }
+    }
+    Ok(None)
+}
+
 // The first write of a system that touches one of some reads, with the read.
 fn first_write(
     alloc: Global,
@@ -95,10 +110,8 @@ fn first_write(
     reads: &[Pattern],
 ) -> Result<Option<(Pattern, Pattern)>, AllocError> {
     for write in writes {
-        for read in reads {
-            if parts(alloc, world, *write, &[*read])? {
-                return Ok(Some((*write, *read)));
-            }
+        if let Some(read) = first_touched(alloc, world, *write, reads)? {
+            return Ok(Some((*write, read)));
         }
     }
     Ok(None)

@@ -12,8 +12,8 @@ ghost use Rattle.eco_tables.specs.Tables.{slot_of};
 use crate::layout::Layout;
 use eco_entities::EntityIndex;
 use eco_entities::laws::needs_never_grow;
-use eco_ids::Entity;
-use eco_tables::{TableSlot, Tables};
+use eco_ids::{Entity, TableSlot};
+use eco_tables::Tables;
 
 impl Layout {
     /// Some of the first of these entities die, those who live, and their rows go: all who stand in a table where the list

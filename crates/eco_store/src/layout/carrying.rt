@@ -10,8 +10,7 @@ use crate::layout::Layout;
 use crate::placing::fix_place;
 use eco_entities::Place;
 use eco_entities::laws::needs_never_grow;
-use eco_ids::Entity;
-use eco_tables::TableSlot;
+use eco_ids::{Entity, TableSlot};
 
 impl Layout {
     /// The entity goes from its place to the end of the table in this slot, where its room was taken. It takes no memory.

@@ -12,8 +12,7 @@ use crate::layout::Layout;
 use crate::moving::Move;
 use crate::transfer::Transfer;
 use crate::type_change::TypeChange;
-use eco_ids::{Id, TypeList};
-use eco_tables::TableSlot;
+use eco_ids::{Id, TableSlot, TypeList};
 use std::alloc::{AllocError, Global};
 
 impl Layout {

@@ -4,7 +4,8 @@ ghost use Rattle.eco_store.specs.Layout.{seen, IsLaid, IsLaidBeside, IsSettled, 
 ghost use Rattle.eco_tables.specs.Tables.{table_in};
 
 use crate::layout::Layout;
-use eco_tables::{TableSlot, Tables};
+use eco_ids::TableSlot;
+use eco_tables::Tables;
 
 // So much room is worth more than the table costs to be made again, once as many rows have come.
 const MUCH_ROOM: usize = 1024;

@@ -2,18 +2,17 @@
 ghost use Rattle.std.specs.Prelude.{◌≡◌, ◌≢◌, ◌<◌, ◌↔◌, List, length, map, IsSome, IsTrue, IfOk, OnErr};
 ghost use Rattle.std.specs.List.{All, AllPairs, Contains, list_any};
 ghost use Rattle.eco_ids.specs.Indices.{living};
-ghost use Rattle.eco_ids.specs.Matching.{pattern_matches};
 ghost use Rattle.eco_ids.specs.declared.id.Id.{Id as Ids};
 ghost use Rattle.eco_tables.specs.Tables.{slot_of, table_in};
 ghost use Rattle.eco_archetypes.specs.Archetypes.{IsAllFound};
-ghost use Rattle.eco_store.specs.Holders.{passes, has_match, entities_whose, entities_with, is_holder, entities_naming};
+ghost use Rattle.eco_store.specs.Holders.{passes, has_match, entities_whose, entities_with, is_holder};
 ghost use Rattle.eco_store.specs.Retyping.{IsTypeWith};
 ghost use Rattle.eco_store.specs.Lent.{AreTablesOf};
 
 use crate::store::Store;
 use eco_archetypes::{Found, NamingTest, TypeTest, entities_in};
-use eco_ids::{Entity, Pattern, TypeList};
-use eco_tables::{TableSlot, Tables};
+use eco_ids::{Entity, Pattern, TableSlot, TypeList};
+use eco_tables::Tables;
 use std::alloc::{AllocError, Global};
 
 // The types of the tables in these slots. An `Err` comes where memory is refused, and never without slots.
@@ -50,18 +49,6 @@ impl Store {
         Ok(Found { tables, slots })
     }
 
-    /// The tables that have rows and a type with an id that the pattern matches. An `Err` comes where memory is refused, and
-    /// never where no living entity has such an id.
-    pub fn tables_with(&self, pattern: Pattern) -> Result<Found<'_>, AllocError>
-        ensures lent { IfOk result (λ f. AreTablesOf self.now.entities f.tables.now) }
-        ensures found { IfOk result
-            (λ f. IsAllFound (list_any (pattern_matches pattern)) f.tables.now f.slots.items) }
-        ensures some { OnErr result
-            (IsTrue (list_any (λ p. has_match pattern p.1) (living self.now.entities))) }
-    {
-        self.tables_by(&pattern)
-    }
-
     /// Whether some living entity has an id that names this one. Where none has, mostly the marks of the index tell so, and no
     /// table is looked at. It takes no memory.
     pub fn is_named(&self, entity: Entity) -> bool
@@ -90,15 +77,6 @@ impl Store {
             (IsTrue (list_any (λ p. has_match pattern p.1) (living self.now.entities))) }
     {
         self.entities_by(&pattern)
-    }
-
-    /// The living entities that have an id which names this one, ascending. Its time grows with how many they are, and with
-    /// the tables whose types name it. An `Err` comes where memory is refused, and never where nobody has such an id.
-    pub fn holders(&self, e: Entity) -> Result<Vec<Entity>, AllocError>
-        ensures all { IfOk result (λ v. v.items ≡ entities_naming self.now.entities e) }
-        ensures some { OnErr result (IsTrue (list_any (λ p. is_holder e p.1) (living self.now.entities))) }
-    {
-        self.entities_by(&NamingTest { entity: e })
     }
 
     // The living entities whose types pass the test, ascending.

@@ -6,6 +6,7 @@ ghost use Rattle.eco_ids.specs.Indices.{living};
 ghost use Rattle.eco_ids.specs.declared.id.Id.{Id as Ids};
 ghost use Rattle.eco_tables.specs.Tables.{slot_of};
 ghost use Rattle.eco_store.specs.Holders.{passes, entities_whose};
+ghost use Rattle.eco_store.specs.Lent.{AreTablesOf};
 ghost use Rattle.eco_store.specs.Ranking.{StandsIn};
 ghost use Rattle.eco_store.specs.Store.{read, IsStore};
 ghost use Rattle.eco_store.specs.declared.standing.Standing.{Standing as Stands};
@@ -16,7 +17,8 @@ use crate::store::Store;
 use crate::walking::walked;
 use eco_archetypes::TypeTest;
 use eco_entities::EntityIndex;
-use eco_tables::{TableSlot, Tables};
+use eco_ids::TableSlot;
+use eco_tables::Tables;
 use std::alloc::{AllocError, Global};
 
 // So many indices cost no more to look at than one entity to sort.
@@ -61,6 +63,8 @@ impl Store {
             ≡ entities_whose self.now.entities (T.test test.now)) }
         ensures placed { IfOk result (λ s. All
             (StandsIn self.now.entities s.tables.now s.slots.items) s.list) }
+        ensures lent { IfOk result (λ s. AreTablesOf self.now.entities s.tables.now) }
+        ensures found { IfOk result (λ s. IsAllFound (T.test test.now) s.tables.now s.slots.items) }
         ensures there { IfOk result (λ s. All (λ n. IsSome (slot_of s.tables.now n)) s.slots.items) }
         ensures some { OnErr result
             (IsTrue (list_any (λ p. passes (T.test test.now) p.1) (living self.now.entities))) }

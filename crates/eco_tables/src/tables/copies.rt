@@ -3,7 +3,8 @@ ghost use Rattle.std.specs.Prelude.{◌≡◌, ◌≤◌, map, vec_capacity, IfO
 ghost use Rattle.eco_tables.specs.Tables.{without_room, AreCopies};
 
 use crate::table::Table;
-use crate::tables::{TableSlot, Tables};
+use crate::tables::Tables;
+use eco_ids::TableSlot;
 use std::alloc::{AllocError, Global};
 
 impl Tables {

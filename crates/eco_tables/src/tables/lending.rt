@@ -5,7 +5,7 @@ ghost use Rattle.eco_tables.specs.Tables.{slot_of};
 ghost use Rattle.eco_tables.specs.Lending.{lends_there, lends_table, lends_two};
 
 use crate::table::Table;
-use crate::tables::TableSlot;
+use eco_ids::TableSlot;
 
 // The table of a slot that has one.
 #[inline(always)]

@@ -3,10 +3,10 @@ ghost use Rattle.std.specs.Prelude.{◌≡◌, ◌≤◌, false, Some, IsSome, O
 ghost use Rattle.eco_ids.specs.Order.{id_cmp, has_item, with_item, without_item};
 ghost use Rattle.eco_tables.specs.Tables.{slot_of, table_in, turned, SetsSlot};
 
+use crate::tables::Tables;
 use crate::tables::lending::table_mut;
-use crate::tables::{TableSlot, Tables};
-use eco_ids::Id;
 use eco_ids::value::FIELD_COUNT;
+use eco_ids::{Id, TableSlot};
 use std::alloc::AllocError;
 
 impl Tables {

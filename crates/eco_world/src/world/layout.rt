@@ -9,10 +9,9 @@ use crate::table_rows::TableRows;
 use crate::type_order::is_below;
 use crate::world::World;
 use eco_answers::Asking;
-use eco_ids::{Id, Pattern};
+use eco_ids::{Id, Pattern, TableSlot};
 use eco_query::Query;
 use eco_store::{Tables, TypeTest};
-use eco_tables::TableSlot;
 use std::alloc::AllocError;
 
 impl World {

@@ -1,5 +1,5 @@
 use Rattle.std.proofs.Common.{◌≡◌, ◌∙◌, ◌++◌, ap}
-use Rattle.eco_checker.proofs.Bytes.{none_to_end, told_to_end}
+use Rattle.eco_checker.proofs.Bytes.{none_to_end, stopped_to_end, told_to_end}
 use Rattle.eco_checker.proofs.run.check_script.Goals as goal
 
 pub returns-in-Ok-2-clause-none : goal.returns-in-Ok-2-clause-none
@@ -16,3 +16,11 @@ returns-in-Ok-2-clause-faults g c = λ _.
       told_to_end _ _ c.in-Ok.bytes.items told c.in-Ok.ensures.whole c.in-Ok.ensures.ended (rw c.as_slice.ensures.value at are),
       rw (← same) c.in-Ok-2.ensures.ok,
     )
+
+pub returns-clause-stopped : goal.returns-clause-stopped
+returns-clause-stopped g c = λ _.
+    stopped_to_end _ _ c.in-Ok.bytes.items c.in-Ok.ensures.whole c.in-Ok.ensures.ended _ c.in-Ok-check_bytes.is_script
+    (rw c.as_slice.ensures.value at c.in-Ok-check_bytes.ensures.script) (rw c.as_slice.ensures.value at c.in-Ok-check_bytes.ensures.none)
+    (rw c.new-text.ensures.bytes at c.in-Ok-check_bytes.ensures.line)
+    (rw (c.as_slice.ensures.value, c.new-text.ensures.bytes) at c.in-Ok-check_bytes.ensures.faults) _ _
+    (rw (c.as_bytes.ensures.value, c.as_str.ensures.value) at c.in-Err.ensures.err)

@@ -1,7 +1,7 @@
 use Rattle.std.proofs.Common.{◌≡◌, ◌+◌, ◌++◌, ◌∷◌, [], ap, length, length-append, map, sym, ◌∙◌, arith}
 use Rattle.eco_ids.specs.Answer.{choices}
 use Rattle.eco_entries.specs.Answers.{asks}
-use Rattle.eco_entries.proofs.Only.{only_step}
+use Rattle.eco_entries.proofs.Only.{only_step, several_step}
 use Rattle.eco_entries.proofs.single.add_only.Goals as goal
 
 pub loop-place-preserved : goal.loop-place-preserved
@@ -15,5 +15,10 @@ loop-place-preserved c =
           only_step c.args.ids.now c.args.slots.now c.loop-place.place c.index-slots-place.result c.loop-place.entries.items
           c.put.new.entries.items (map (λ own. c.args.entries.now.items ++ own) (choices c.args.ids.now (asks c.args.slots.now)))
           c.loop-place-test.true more (sym c.index-slots-place.is)
-          (c.in_ok-put.ensures ∙ ap (λ es. c.loop-place.entries.items ++ es) (sym c.in-Some.ensures)) c.loop-place.invariant.made;
+          (c.in_ok-put.ensures ∙ ap (λ es. c.loop-place.entries.items ++ es) (sym c.in-Some.ensures.one)) c.loop-place.invariant.made;
     }
+
+pub returns-in_default-clause-several : goal.returns-in_default-clause-several
+returns-in_default-clause-several c = λ no.
+    several_step c.args.ids.now c.args.slots.now c.loop-place.place c.index-slots-place.result c.args.entries.now.items c.loop-place.entries.items
+    c.loop-place-test.true (sym c.index-slots-place.is) c.in_default.ensures.several c.loop-place.invariant.made

@@ -1,9 +1,8 @@
 use Rattle.std.proofs.Common.{arith}
-use Rattle.eco_index.specs.Sweeping.{has_table}
 use Rattle.eco_index.proofs.Sweeping.{swept_all}
 use Rattle.eco_index.proofs.edges.keep_in_each.Goals as goal
 
 pub returns : goal.returns
-returns c =
-    swept_all (has_table c.args.tables.now) c.args.lists.now.items c.loop-slot.lists.items c.loop-slot.slot (omega arith)
+returns g c =
+    swept_all (g.T.Occupancy.has_table c.args.tables.now) c.args.lists.now.items c.loop-slot.lists.items c.loop-slot.slot (omega arith)
     c.loop-slot.invariant.0

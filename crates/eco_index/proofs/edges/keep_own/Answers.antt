@@ -3,13 +3,13 @@ use Rattle.std.specs.HashMap.{get}
 use Rattle.std.proofs.lemmas.Map.Made.{filter_same_pairs}
 use Rattle.eco_ids.proofs.SameIds.{id_eq-Decides}
 use Rattle.eco_index.specs.Edges.{same_id}
-use Rattle.eco_index.specs.Sweeping.{has_table, kept_if}
+use Rattle.eco_index.specs.Sweeping.{kept_if}
 use Rattle.eco_index.proofs.Sweeping.{kept_values}
 use Rattle.eco_index.proofs.edges.keep_own.Goals as goal
 
-pub returns-then-contains : goal.returns-then-contains
-returns-then-contains c = λ i.
-    let tables = c.args.tables.now in
-    kept_values same_id id_eq-Decides (has_table tables) _ _ c.len-count.ensures.unique
-    (filter_same_pairs _ (λ e. has_table tables e.1) _ (λ k v b w f' call. search rules) _ _ c.retain.ensures.filtered) i
-    ∙ sym (ap (λ b. cond b (kept_if (has_table tables) (get same_id c.args.own.now i)) None) (sym c.contains.ensures ∙ c.if-contains.true))
+pub returns-then-has_table : goal.returns-then-has_table
+returns-then-has_table g c = λ i.
+    let stays = g.T.Occupancy.has_table c.args.tables.now in
+    kept_values same_id id_eq-Decides stays _ _ c.len-count.ensures.unique
+    (filter_same_pairs _ (λ e. stays e.1) _ (λ k v b w f' call. search rules) _ _ c.retain.ensures.filtered) i
+    ∙ sym (ap (λ b. cond b (kept_if stays (get same_id c.args.own.now i)) None) (sym c.has_table.ensures ∙ c.if-has_table.true))

@@ -1,8 +1,8 @@
 use Rattle.std.proofs.Common.{ap, ◌∙◌}
 use Rattle.std.specs.List.{list_any}
-use Rattle.eco_traits.specs.Prospect.{is_pair_of_with}
+use Rattle.eco_ids.specs.Mirrors.{is_with}
 use Rattle.eco_traits.proofs.Traits.{with_among}
 use Rattle.eco_traits.proofs.implied.brings_any.Goals as goal
 
 pub returns : goal.returns
-returns c = with_among c.args.ids.now c.any_with.result (c.any_with.ensures ∙ ap (list_any is_pair_of_with) c.as_slice.ensures.ids)
+returns c = with_among c.args.ids.now c.any_with.result (c.any_with.ensures ∙ ap (list_any is_with) c.as_slice.ensures.ids)

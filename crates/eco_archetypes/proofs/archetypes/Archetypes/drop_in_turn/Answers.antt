@@ -1,13 +1,27 @@
-use Rattle.std.proofs.Common.{◌≡◌, ◌+◌, ◌++◌, ◌∷◌, [], take, get_or, sym, ap, ◌∙◌, subst, take_all}
+use Rattle.std.proofs.Common.{◌≡◌, ◌+◌, ◌++◌, ◌∷◌, [], take, get_or, refl, sym, ap, ◌∙◌, subst, take_all}
 use Rattle.std.proofs.lemmas.List.{take_more, append_assoc}
 use Rattle.eco_archetypes.specs.Archetypes.{RowlessIn}
+use Rattle.eco_archetypes.specs.Sweeping.{DropsRowless}
+use Rattle.eco_archetypes.proofs.Sweeping.{drops_both, drops_none, drops_one}
 use Rattle.eco_archetypes.proofs.archetypes.Archetypes.drop_in_turn.Goals as goal
+
+pub loop-slot-init : goal.loop-slot-init
+loop-slot-init c = record {
+  dropped = drops_none c.args.self.now;
+  rowless = λ others was. was;
+  rows = λ n row. refl;
+  widths = λ need was. was;
+}
 
 pub loop-slot-preserved : goal.loop-slot-preserved
 loop-slot-preserved c =
     let xs = c.args.slots.now in
     let i = c.loop-slot.slot-index in
     record {
+      dropped =
+          subst (DropsRowless c.args.self.now c.drop_empty.new.self) (sym (take_more xs i 0 c.loop-slot-test.true))
+          (drops_both c.args.self.now c.loop-slot.self c.drop_empty.new.self (take i xs) (get_or xs i 0 ∷ []) c.loop-slot.invariant.dropped
+          (drops_one c.loop-slot.self c.drop_empty.new.self (get_or xs i 0) _ refl c.drop_empty.ensures.dropped c.drop_empty.ensures.kept));
       rowless = λ others was.
           let parts : take (i + 1) xs ++ others ≡ take i xs ++ (get_or xs i 0 ∷ others) =
           ap (λ ys. ys ++ others) (take_more xs i 0 c.loop-slot-test.true) ∙ append_assoc (take i xs) (get_or xs i 0 ∷ []) others in
@@ -21,3 +35,9 @@ returns-clause-rowless c = λ others was.
     let xs = c.args.slots.now in
     let all : take c.loop-slot.slot-index xs ≡ xs = take_all c.loop-slot.slot-index xs c.loop-slot-test.false in
     c.loop-slot.invariant.rowless others (subst (λ ys. RowlessIn c.args.self.now (ys ++ others)) (sym all) was)
+
+pub returns-clause-dropped : goal.returns-clause-dropped
+returns-clause-dropped c =
+    let xs = c.args.slots.now in
+    let all : take c.loop-slot.slot-index xs ≡ xs = take_all c.loop-slot.slot-index xs c.loop-slot-test.false in
+    subst (DropsRowless c.args.self.now c.loop-slot.self) all c.loop-slot.invariant.dropped

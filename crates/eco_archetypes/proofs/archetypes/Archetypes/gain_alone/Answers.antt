@@ -1,15 +1,15 @@
-use Rattle.std.proofs.Common.{◌≡◌, ℕ, Some, IfNone, IfSome, IsTrue, option_map, refl, ap, sym, subst, ◌∙◌}
+use Rattle.std.proofs.Common.{◌≡◌, ℕ, [], Some, IfNone, IfSome, IsTrue, option_map, refl, ap, sym, subst, ◌∙◌}
 use Rattle.std.specs.Map.{lookup}
 use Rattle.std.specs.Option.{option_copied}
 use Rattle.eco_ids.specs.Order.{id_cmp, has_item, is_ascending}
 use Rattle.eco_tables.specs.Table.{TableState}
 use Rattle.eco_tables.specs.Tables.{slot_of, table_in}
 use Rattle.eco_index.specs.IdIndex.{lists_of}
-use Rattle.eco_index.specs.TypeMap.{LeadAlike, TakesGrown, same_ids}
+use Rattle.eco_index.specs.TypeMap.{LeadAlike, LeadsGrown, TakesGrown, same_ids}
 use Rattle.eco_caches.proofs.Caching.{exact_types, then_told}
 use Rattle.eco_archetypes.specs.Archetypes.{TakesType, type_at}
 use Rattle.eco_archetypes.proofs.ArchetypeLemmas.{found_alike, found_kept, type_there}
-use Rattle.eco_archetypes.proofs.Turnings.{found_turned, grown_back, grown_in, grown_is, grown_new, led_type, one, same_entries}
+use Rattle.eco_archetypes.proofs.Turnings.{found_turned, grown_back, grown_in, grown_is, grown_new, grown_taken, led_type, one, same_entries}
 use Rattle.eco_archetypes.proofs.archetypes.Archetypes.gain_alone.Goals as goal
 
 pub invariant_of-self-in_err-reserve_one : goal.invariant_of-self-in_err-reserve_one
@@ -105,3 +105,15 @@ invariant_of-self-2 c =
     (grown_new s m ready_map left c.args.slot c.args.id ids grown types ready had takes)
     (grown_in s m ready_map left c.args.slot c.args.id ids grown types ready had takes c.insert_reserved-2.new.self.slots c.insert_reserved-2.ensures)
     c.gain.ensures.index c.cut.ensures c.gain.ensures.agreed (then_told _ _ _ _ _ c.reserve_one.ensures.exact c.tell.ensures.told)
+
+pub returns-in_default-clause-refused : goal.returns-in_default-clause-refused
+returns-in_default-clause-refused c =
+    let ready : c.reserve_one.new.by_type.slots.entries ≡ c.self.inside.by_type.slots.entries =
+    c.reserve_one.ensures.same ∙ same_entries c.note_places.ensures in
+    let s = c.self.inside.tables in
+    let ready_map = c.reserve_one.new.by_type.slots in
+    let had = type_there s c.args.slot (rw (← c.self.view_is) at c.requires.there) in
+    let led : LeadsGrown ready_map c.args.slot c.args.id =
+    subst (λ o. IfNone o (LeadsGrown ready_map c.args.slot c.args.id)) c.in_default.is c.in_ok-type_list.ensures.none in
+    rw (← c.self.view_is)
+    (λ no. grown_taken s c.self.inside.by_type.slots ready_map ready_map c.args.slot c.args.id _ [] c.self.invariant.types ready had led)

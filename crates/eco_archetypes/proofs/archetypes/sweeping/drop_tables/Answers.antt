@@ -1,11 +1,13 @@
 use Rattle.std.proofs.Common.{◌≡◌, ◌+◌, ◌++◌, ◌∷◌, [], take, get_or, refl, inl, sym, ap, ◌∙◌, subst, take_all}
 use Rattle.std.proofs.lemmas.List.{take_more, append_assoc}
 use Rattle.eco_archetypes.specs.Archetypes.{RowlessIn}
-use Rattle.eco_archetypes.proofs.Sweeping.{less_both}
+use Rattle.eco_archetypes.specs.Sweeping.{DropsRowless}
+use Rattle.eco_archetypes.proofs.Sweeping.{drops_both, drops_none, less_both}
 use Rattle.eco_archetypes.proofs.archetypes.sweeping.drop_tables.Goals as goal
 
 pub loop-slot-init : goal.loop-slot-init
 loop-slot-init c = record {
+  dropped = drops_none c.args.tables.now;
   less = λ n. inl refl;
   rowless = λ others was. was;
   rows = λ n row. refl;
@@ -17,6 +19,10 @@ loop-slot-preserved c =
     let xs = c.args.slots.now in
     let i = c.loop-slot.slot-index in
     record {
+      dropped =
+          subst (DropsRowless c.args.tables.now c.drop_table.new.tables) (sym (take_more xs i 0 c.loop-slot-test.true))
+          (drops_both c.args.tables.now c.loop-slot.tables c.drop_table.new.tables (take i xs) (get_or xs i 0 ∷ [])
+          c.loop-slot.invariant.dropped c.drop_table.ensures.dropped);
       less = less_both c.args.tables.now c.loop-slot.tables c.drop_table.new.tables c.loop-slot.invariant.less c.drop_table.ensures.less;
       rowless = λ others was.
           let parts : take (i + 1) xs ++ others ≡ take i xs ++ (get_or xs i 0 ∷ others) =
@@ -32,3 +38,9 @@ returns-clause-rowless c = λ others was.
     let xs = c.args.slots.now in
     let all : take c.loop-slot.slot-index xs ≡ xs = take_all c.loop-slot.slot-index xs c.loop-slot-test.false in
     c.loop-slot.invariant.rowless others (subst (λ ys. RowlessIn c.args.tables.now (ys ++ others)) (sym all) was)
+
+pub returns-clause-dropped : goal.returns-clause-dropped
+returns-clause-dropped c =
+    let xs = c.args.slots.now in
+    let all : take c.loop-slot.slot-index xs ≡ xs = take_all c.loop-slot.slot-index xs c.loop-slot-test.false in
+    subst (DropsRowless c.args.tables.now c.loop-slot.tables) all c.loop-slot.invariant.dropped

@@ -1,11 +1,12 @@
 use Rattle.std.proofs.Common.{ℕ, List, ◌++◌, take}
 use Rattle.eco_caches.specs.Caching.{AreExact}
 use Rattle.eco_archetypes.specs.Archetypes.{type_at, RowlessIn, SameRows}
-use Rattle.eco_archetypes.specs.Sweeping.{IsLess}
+use Rattle.eco_archetypes.specs.Sweeping.{DropsRowless, IsLess}
 use Rattle.eco_archetypes.proofs.archetypes.sweeping.drop_tables.Given as goal
 
 abbrev pub invariant-loop-slot : goal.invariant-loop-slot
 invariant-loop-slot l = record {
+  dropped : DropsRowless l.initial.tables l.tables (take l.slot-index l.slots);
   less : IsLess l.initial.tables l.tables;
   rowless : (others : List ℕ) → RowlessIn l.initial.tables (take l.slot-index l.slots ++ others) → RowlessIn l.tables others;
   rows : SameRows l.initial.tables l.tables;

@@ -21,4 +21,5 @@ returns-clause-placed g c =
     let all = subst (λ ds. AllZip (IsOutline w) ds os) c.deref.ensures.value c.in_ok-outlines.ensures in
     cuts_are_placed c.systems_are_ordered.ensures.order c.batches_are_unique.ensures.joining w plan.systems.items os plan.order.items
     c.requires.order all _
-    (c.in_ok-batches.ensures ∙ λ i. cut_of os (c.deref-2.ensures.value i) (c.deref-3.ensures.value i))
+    (◌∙◌ {b = cut_of os c.deref-2.result.now c.deref-3.result.now} c.in_ok-batches.ensures
+    (λ i. cut_of os (c.deref-2.ensures.value i) (c.deref-3.ensures.value i)))

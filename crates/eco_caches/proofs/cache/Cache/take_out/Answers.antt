@@ -1,5 +1,5 @@
 use Rattle.std.proofs.Common.{false, sym}
-use Rattle.eco_caches.proofs.Onlies.{kept_still, kept_taken, those_told}
+use Rattle.eco_caches.proofs.Onlies.{keeps_still, kept_still, kept_taken, those_told}
 use Rattle.eco_caches.proofs.cache.Cache.take_out.Goals as goal
 
 pub returns-in_default-clause-told : goal.returns-in_default-clause-told
@@ -24,5 +24,10 @@ returns-in-Some-take-clause-told c o none types types' change exact =
           kept_taken types types' c.args.slot o c.args.self.now.query c.args.self.now.slots.keys c.swap_remove_full.new.self.keys c.in-Some.place
           c.args.self.now.only c.in-Some-take.only c.without.result change
           (sym here.index) here.keys here.updates.1 (sym c.in-Some-take.ensures.value)
-          exact.kept c.without.ensures;
+          exact.kept c.without.ensures.lost;
     }
+
+pub returns-in-Some-take-clause-kept : goal.returns-in-Some-take-clause-kept
+returns-in-Some-take-clause-kept c types exact none =
+    keeps_still types c.args.slot c.args.self.now.query c.args.self.now.slots.keys c.in-Some.place c.args.self.now.only c.in-Some-take.only
+    c.without.result (sym c.in-Some.ensures.index) (sym c.in-Some-take.ensures.value) exact.kept c.without.ensures.none

@@ -1,13 +1,14 @@
 use Rattle.std.proofs.Common.{Some, ap, arith, ◌∙◌}
 use Rattle.eco_caches.specs.Caching.{kept_queries}
 use Rattle.eco_ids.proofs.Lists.{some_at}
-use Rattle.eco_caches.proofs.Caching.{queries_back, queries_kept, room_after, room_begun, told_all, told_begun, told_more}
+use Rattle.eco_caches.proofs.Caching.{keep_all, keep_begun, keep_more, queries_back, queries_kept, room_after, room_begun, told_all, told_begun, told_more}
 use Rattle.eco_caches.proofs.caches.Caches.tell.Goals as goal
 
 pub loop-cache-init : goal.loop-cache-init
 loop-cache-init c = (
   told_begun _ _ c.args.slot (Some c.args.type_list.now) c.deref_mut-cache-items.ensures.value,
   room_begun _ _ c.deref_mut-cache-items.ensures.value c.requires,
+  keep_begun _ _ (Some c.args.type_list.now) c.deref_mut-cache-items.ensures.value,
   ap kept_queries c.deref_mut-cache-items.ensures.value,
 )
 
@@ -22,13 +23,21 @@ loop-cache-preserved c = (
       (Some c.args.type_list.now) c.loop-cache.invariant.0
       (some_at c.loop-cache.cache-items c.loop-cache.cache-index c.cache-item.result (omega arith)) c.tell.ensures.told,
   room_after c.loop-cache.cache-items c.loop-cache.cache-index c.cache-item.result c.tell.new.self c.loop-cache.invariant.1,
-  queries_kept c.loop-cache.cache-items c.loop-cache.cache-index _ c.cache-item.result c.tell.ensures.query ∙ c.loop-cache.invariant.2,
+  keep_more c.loop-cache.cache-items c.loop-cache.cache-index _ c.tell.new.self c.args.self.now.list.items (Some c.args.type_list.now)
+      c.loop-cache.invariant.2
+      (some_at c.loop-cache.cache-items c.loop-cache.cache-index c.cache-item.result (omega arith)) c.tell.ensures.kept,
+  queries_kept c.loop-cache.cache-items c.loop-cache.cache-index _ c.cache-item.result c.tell.ensures.query ∙ c.loop-cache.invariant.3,
 )
 
 pub returns-clause-queries : goal.returns-clause-queries
-returns-clause-queries c = queries_back _ _ _ c.args.self.now.list.len (omega arith) c.loop-cache.invariant.2
+returns-clause-queries c = queries_back _ _ _ c.args.self.now.list.len (omega arith) c.loop-cache.invariant.3
 
 pub returns-clause-told : goal.returns-clause-told
 returns-clause-told c =
     told_all c.args.self.now.list.items c.loop-cache.cache-items _ c.args.slot (Some c.args.type_list.now) c.loop-cache.cache-index
     c.args.self.now.list.len c.loop-cache.invariant.0 (omega arith) (omega arith)
+
+pub returns-clause-kept : goal.returns-clause-kept
+returns-clause-kept c =
+    keep_all c.args.self.now.list.items c.loop-cache.cache-items _ (Some c.args.type_list.now) c.loop-cache.cache-index
+    c.args.self.now.list.len c.loop-cache.invariant.2 (omega arith) (omega arith)

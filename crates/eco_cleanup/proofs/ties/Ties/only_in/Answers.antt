@@ -1,4 +1,4 @@
-use Rattle.std.proofs.Common.{◌≡◌, ◌∷◌, [], filter, length, unwrap_or, sym, ap, ◌∙◌, subst, IsTrue, arith}
+use Rattle.std.proofs.Common.{◌≡◌, filter, length, unwrap_or, sym, ap, ◌∙◌, subst, IsTrue, arith}
 use Rattle.eco_ids.specs.Order.{id_cmp, is_ascending, names_entity}
 use Rattle.eco_tables.specs.Table.{TableState, entities_of}
 use Rattle.eco_tables.specs.Tables.{no_table, table_in}

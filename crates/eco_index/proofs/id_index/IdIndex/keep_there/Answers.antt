@@ -1,17 +1,16 @@
 use Rattle.std.proofs.Common.{rules}
 use Rattle.eco_index.specs.IdIndex.{key_of}
-use Rattle.eco_index.specs.Sweeping.{has_table}
 use Rattle.eco_index.proofs.Sweeping.{swept_absent, swept_filled, swept_listed}
 use Rattle.eco_index.proofs.id_index.IdIndex.keep_there.Goals as goal
 
 pub invariant_of-self : goal.invariant_of-self
-invariant_of-self c = record {
-  full = λ k. swept_filled _ (has_table c.args.tables.now) _ (λ k v b w f' call. search rules) _ _ c.retain.ensures.filtered k;
-  marked = λ k unmarked. swept_absent _ (has_table c.args.tables.now) _ (λ k v b w f' call. search rules) _ _ c.retain.ensures.filtered k
+invariant_of-self g c = record {
+  full = λ k. swept_filled _ (g.T.Occupancy.has_table c.args.tables.now) _ (λ k v b w f' call. search rules) _ _ c.retain.ensures.filtered k;
+  marked = λ k unmarked. swept_absent _ (g.T.Occupancy.has_table c.args.tables.now) _ (λ k v b w f' call. search rules) _ _ c.retain.ensures.filtered k
       (c.args.self.now.marked k unmarked);
 }
 
 pub returns : goal.returns
-returns c = λ p n.
-    swept_listed _ (has_table c.args.tables.now) _ (λ k v b w f' call. search rules) _ _ c.len-count.ensures.unique c.retain.ensures.unique
+returns g c = λ p n.
+    swept_listed _ (g.T.Occupancy.has_table c.args.tables.now) _ (λ k v b w f' call. search rules) _ _ c.len-count.ensures.unique c.retain.ensures.unique
     c.retain.ensures.filtered (key_of p) n

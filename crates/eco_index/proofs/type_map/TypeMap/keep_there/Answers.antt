@@ -1,12 +1,11 @@
 use Rattle.std.proofs.Common.{rules}
 use Rattle.std.proofs.lemmas.Map.Made.{filter_same_pairs}
 use Rattle.eco_ids.proofs.SameIds.{same_ids-Decides}
-use Rattle.eco_index.specs.Sweeping.{has_table}
 use Rattle.eco_index.specs.TypeMap.{same_ids}
 use Rattle.eco_index.proofs.Sweeping.{kept_values}
 use Rattle.eco_index.proofs.type_map.TypeMap.keep_there.Goals as goal
 
 pub returns : goal.returns
-returns c =
-    kept_values same_ids same_ids-Decides (has_table c.args.tables.now) _ _ c.len-count.ensures.unique
-    (filter_same_pairs _ (λ e. has_table c.args.tables.now e.1) _ (λ k v b w f' call. search rules) _ _ c.retain.ensures.filtered)
+returns g c =
+    kept_values same_ids same_ids-Decides (g.T.Occupancy.has_table c.args.tables.now) _ _ c.len-count.ensures.unique
+    (filter_same_pairs _ (λ e. g.T.Occupancy.has_table c.args.tables.now e.1) _ (λ k v b w f' call. search rules) _ _ c.retain.ensures.filtered)

@@ -4,7 +4,7 @@ use Rattle.eco_tables.specs.Tables.{slot_of}
 use Rattle.eco_archetypes.proofs.ArchetypeLemmas.{there_by_row}
 use Rattle.eco_store.proofs.Lent.{kept_there}
 use Rattle.eco_store.proofs.StoreChanges.{some_from_copied, row_within}
-use Rattle.eco_store.proofs.Values.{stands_there}
+use Rattle.eco_store.proofs.Values.{own_there, stands_there}
 use Rattle.eco_store.proofs.store.Store.stand.Goals as goal
 
 pub unwrap-table-requires : goal.unwrap-table-requires
@@ -22,6 +22,13 @@ returns-clause-stands c =
     (stands_there l.entities l.archetypes c.args.e c.in_ok-place.place c.unwrap-table.result.now c.self.invariant.laid.store
     (sym c.place_of.ensures ∙ c.in_ok-place.was)
     (sym (c.get.ensures ∙ ap (λ s. slot_of s c.in_ok-place.place.table) c.tables.ensures.same) ∙ ap option_copied c.unwrap-table.ensures))
+
+pub returns-clause-own : goal.returns-clause-own
+returns-clause-own c =
+    let l = c.self.inside.layout in
+    own_there l.entities l.archetypes c.args.e c.in_ok-place.place c.unwrap-table.result.now c.self.invariant.laid.store
+    (sym c.place_of.ensures ∙ c.in_ok-place.was)
+    (sym (c.get.ensures ∙ ap (λ s. slot_of s c.in_ok-place.place.table) c.tables.ensures.same) ∙ ap option_copied c.unwrap-table.ensures)
 
 pub returns-clause-kept : goal.returns-clause-kept
 returns-clause-kept c =

@@ -1,8 +1,16 @@
 use Rattle.eco_ids.proofs.Results.{err_says}
 use Rattle.eco_store.specs.Store.{read}
 use Rattle.eco_store.proofs.Holders.{some_held, some_listed}
+use Rattle.eco_store.proofs.Lent.{lent_tables}
 use Rattle.eco_store.proofs.Values.{shows}
 use Rattle.eco_store.proofs.store.Store.standing_by.Goals as goal
+
+pub returns-clause-lent : goal.returns-clause-lent
+returns-clause-lent g c =
+    let l = c.self.inside.layout in
+    rw (← c.self.view_is)
+    (lent_tables l.entities l.archetypes c.self.invariant.laid.store c.self.invariant.laid.covers
+    (rw c.tables-tables.ensures.same at c.rows_have_ids.ensures) c.tables-tables.ensures.kinds)
 
 pub returns-in_err-slots-clause-some : goal.returns-in_err-slots-clause-some
 returns-in_err-slots-clause-some g c =

@@ -1,4 +1,5 @@
 use Rattle.std.proofs.Common.{◌≤◌, ◌+◌, ◌-◌, arith, ◌∙◌, length}
+use Rattle.eco_ids.proofs.Results.{err_says}
 use Rattle.std.specs.Vec.{vec_capacity}
 use Rattle.eco_tables.specs.Table.{table_of}
 use Rattle.eco_tables.proofs.Rows.{refilled_columns, same_table, shape_reserved}
@@ -45,3 +46,13 @@ returns-clause-same c =
     rw (← c.self.view_is)
     ((λ t. table_of own.type_list (kept.1 t) (c.reserve.ensures.items t) room)
     ∙ same_table own.type_list own.entities.items own.columns.items c.reserve-2.new.columns room kept.0)
+
+pub returns-in_err-reserve-2-clause-err : goal.returns-in_err-reserve-2-clause-err
+returns-in_err-reserve-2-clause-err c =
+    let own = c.self.inside in
+    let kept = refilled_columns own.columns.len c.reserve-2.new.columns c.as_mut_slice.result.now own.columns.items c.reserve-2.ensures.same
+    c.as_mut_slice.ensures.value own.columns.ok.0 in
+    err_says c.from_residual-in_err-reserve-2.result
+    (rw (← c.self.view_is)
+    ((λ t. table_of own.type_list (kept.1 t) (c.reserve.ensures.items t) own.room)
+    ∙ same_table own.type_list own.entities.items own.columns.items c.reserve-2.new.columns own.room kept.0))

@@ -1,8 +1,8 @@
-use Rattle.std.proofs.Common.{◌≡◌, ◌<◌, ℕ, ap, arith, nat_lt, sym, true, ◌∙◌}
+use Rattle.std.proofs.Common.{◌≡◌, ◌<◌, ℕ, ap, arith, nat_lt, sym, true, Some, ◌∙◌}
 use Rattle.std.proofs.lemmas.Bool.Decides.{nat_tests}
 use Rattle.eco_tables.proofs.Held.{has_place, place_within}
 use Rattle.eco_tables.proofs.Kept.{wide}
-use Rattle.eco_tables.proofs.Rows.{ascends, narrow, shown_rows, values_at}
+use Rattle.eco_tables.proofs.Rows.{ascends, column_width, narrow, shown_rows, values_at}
 use Rattle.eco_tables.proofs.table.Table.values.Goals as goal
 
 is_some_wide : (n : ℕ) → 0 < n → true ≡ nat_lt 0 n
@@ -25,10 +25,17 @@ index-requires c =
 pub returns-clause-shown : goal.returns-clause-shown
 returns-clause-shown c =
     rw (← c.self.view_is)
-    (c.values.ensures ∙ ap (λ x. x.values) c.index.ensures
+    (c.values.ensures.values ∙ ap (λ x. x.values) c.index.ensures
     ∙ values_at c.self.inside.columns.items c.self.inside.entities.items c.in_ok-place.place c.args.id c.index.result.now
     (rw c.as_slice.ensures.value at c.in_ok-place.ensures.found) (ascends _ _ c.self.invariant.kinds) c.self.invariant.even
     ∙ sym (shown_rows c.self.inside.type_list c.self.inside.columns.items c.self.invariant.kinds 0 c.self.inside.entities.items c.args.id))
+
+pub returns-clause-fields : goal.returns-clause-fields
+returns-clause-fields c =
+    rw (← c.self.view_is)
+    (column_width c.self.inside.type_list c.self.inside.columns.items c.self.invariant.kinds c.in_ok-place.place c.args.id c.index.result.now
+    (rw c.as_slice.ensures.value at c.in_ok-place.ensures.found)
+    ∙ sym (ap Some (c.values.ensures.fields ∙ ap (λ x. x.width) c.index.ensures)))
 
 pub returns-clause-kept : goal.returns-clause-kept
 returns-clause-kept c =

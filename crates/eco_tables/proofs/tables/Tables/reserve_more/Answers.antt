@@ -1,3 +1,5 @@
+use Rattle.std.proofs.Common.{ap}
+use Rattle.eco_ids.proofs.Results.{on_err}
 use Rattle.eco_tables.specs.Tables.{with_room}
 use Rattle.eco_tables.proofs.Slots.{new_is, own_is, roomed, still}
 use Rattle.eco_tables.proofs.tables.Tables.reserve_more.Goals as goal
@@ -18,5 +20,6 @@ returns c =
       sets = roomed _ _ c.args.slot _ _ c.self.view_is c.table_mut.ensures.value c.reserve_more.ensures.same;
       kept = rw (← own, new) c.reserve_more.ensures.kept;
       room = rw (← own, new) c.reserve_more.ensures.room;
+      err = rw (← own, new) (on_err c.reserve_more.result (ap (λ t. t.room)) c.reserve_more.ensures.err);
       ready = c.reserve_more.ensures.ready;
     }

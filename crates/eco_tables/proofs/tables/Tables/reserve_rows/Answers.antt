@@ -1,3 +1,5 @@
+use Rattle.std.proofs.Common.{ap}
+use Rattle.eco_ids.proofs.Results.{on_err}
 use Rattle.eco_tables.specs.Tables.{with_room}
 use Rattle.eco_tables.proofs.Slots.{new_is, own_is, roomed, still}
 use Rattle.eco_tables.proofs.tables.Tables.reserve_rows.Goals as goal
@@ -18,5 +20,6 @@ returns c =
       sets = roomed _ _ c.args.slot _ _ c.self.view_is c.table_mut.ensures.value c.reserve.ensures.same;
       kept = rw (← own, new) c.reserve.ensures.kept;
       room = rw new c.reserve.ensures.room;
+      err = rw (← own, new) (on_err c.reserve.result (ap (λ t. t.room)) c.reserve.ensures.err);
       ready = rw (← own) c.reserve.ensures.ready;
     }

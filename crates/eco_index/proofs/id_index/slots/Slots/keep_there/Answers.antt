@@ -2,13 +2,12 @@ use Rattle.std.proofs.Common.{rules, length, ap, sym, ◌∙◌, ◌&&◌, ◌�
 use Rattle.std.specs.List.{list_any}
 use Rattle.std.proofs.lemmas.Fn.{filter_same}
 use Rattle.eco_index.specs.IdIndex.{slots_of}
-use Rattle.eco_index.specs.Sweeping.{has_table}
 use Rattle.eco_index.proofs.Sweeping.{left_any}
 use Rattle.eco_index.proofs.id_index.slots.Slots.keep_there.Goals as goal
 
 pub returns-in-Many-clause-left : goal.returns-in-Many-clause-left
-returns-in-Many-clause-left c = λ n.
-    let stays = has_table c.args.tables.now in
+returns-in-Many-clause-left g c = λ n.
+    let stays = g.T.Occupancy.has_table c.args.tables.now in
     let same : c.deref_mut.result.now.keys ≡ slots_of c.args.self.now = ap (λ s. s.keys) c.deref_mut.ensures.value ∙ sym (ap slots_of c.in-Many.is) in
     left_any stays c.deref_mut.result.now.keys c.retain.new.self.keys c.is_empty.result
     (λ is. sym (ap (λ s. length s.keys) c.deref.ensures) ∙ c.is_empty.ensures.0 is)

@@ -2,6 +2,7 @@ pub mod NamedEntities
 pub mod Needs
 pub mod Bits
 pub mod Copies
+pub mod HomeStates
 pub mod Kept
 pub mod Levels
 pub mod Lives

@@ -161,7 +161,7 @@ nameless_kept l s h = nameless l s s.state h
 
 -- ---- what a slot shows, by its state
 
-living_shows : (st : State) (g : ℕ) (r : Registration) → is_living st ≡ true → state_at st g r ≡ Living g r
+pub living_shows : (st : State) (g : ℕ) (r : Registration) → is_living st ≡ true → state_at st g r ≡ Living g r
 living_shows state.Retired g r h = absurd (false≢true h)
 living_shows state.Free g r h = absurd (false≢true h)
 living_shows state.Plain g r h = refl
@@ -169,7 +169,7 @@ living_shows state.Named g r h = refl
 living_shows state.Component g r h = refl
 living_shows state.NamedComponent g r h = refl
 
-nobody_shows : (n : ℕ) (st : State) (g : ℕ) (r : Registration) → is_living st ≡ false → entity_in n (Some (state_at st g r)) ≡ None
+pub nobody_shows : (n : ℕ) (st : State) (g : ℕ) (r : Registration) → is_living st ≡ false → entity_in n (Some (state_at st g r)) ≡ None
 nobody_shows n state.Retired g r h = refl
 nobody_shows n state.Free g r h = refl
 nobody_shows n state.Plain g r h = absurd (false≢true (sym h))

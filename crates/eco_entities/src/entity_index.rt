@@ -16,6 +16,7 @@ ghost use Rattle.eco_entities.specs.Registration.{CreatesRegistration, RenamesRe
 ghost use Rattle.eco_entities.specs.Rules.{IsRuled};
 ghost use Rattle.eco_entities.specs.Taken.{IsTaken};
 
+use crate::homes::Homes;
 use crate::names::Names;
 use crate::place::Place;
 use crate::slots::Slots;
@@ -123,6 +124,14 @@ impl EntityIndex {
         ensures exact { (e : Entity) → (result ≡ Some e) ↔ (own_name given_name self.now e ≡ Some name.now) }
     {
         self.names.get(name)
+    }
+
+    /// Who lives where, lent for a walk over many indices.
+    #[inline]
+    pub fn homes(&self) -> Homes<'_>
+        ensures { result ≡ self.now }
+    {
+        self.slots.homes()
     }
 
     /// The living entity at an index.

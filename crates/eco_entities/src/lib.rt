@@ -3,6 +3,7 @@
 
 mod entity_index;
 mod free_set;
+mod homes;
 mod key;
 mod label;
 mod labels;
@@ -16,4 +17,5 @@ mod slot;
 mod slots;
 
 pub use entity_index::EntityIndex;
+pub use homes::Homes;
 pub use place::Place;

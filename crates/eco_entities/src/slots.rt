@@ -11,6 +11,7 @@ ghost use Rattle.eco_entities.specs.Registration.{given_name, newcomer, own_arit
 ghost use Rattle.eco_entities.specs.Slots.{living_slot, next_generation, put_at, GenerationFits, IsNextSlot};
 
 use crate::free_set::FreeSet;
+use crate::homes::Homes;
 use crate::label::Label;
 use crate::labels::Labels;
 use crate::place::Place;
@@ -151,6 +152,14 @@ impl Slots {
         } else {
             None
         }
+    }
+
+    /// The same, lent for a walk over many indices.
+    #[inline]
+    pub(crate) fn homes(&self) -> Homes<'_>
+        ensures { result ≡ self.now }
+    {
+        Homes::of(self.limit, self.slots.as_slice(), &self.labels)
     }
 
     /// Who lives at the index.

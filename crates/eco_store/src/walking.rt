@@ -1,10 +1,10 @@
 //! Who stands in the tables of some slots, by one walk over the indices.
-ghost use Rattle.std.specs.Prelude.{◌≡◌, ◌<◌, ◌++◌, ◌∷◌, [], IfOk, OnOk, length};
+ghost use Rattle.std.specs.Prelude.{◌≡◌, ◌<◌, ◌≤◌, ◌+◌, ◌-◌, ◌++◌, IfOk, drop, length, vec_capacity, vec_len};
 ghost use Rattle.std.specs.List.{All};
 ghost use Rattle.eco_store.specs.Ranking.{IsNumbering, IsWalked, standing_at, standing_from};
 
 use crate::standing::Standing;
-use eco_entities::EntityIndex;
+use eco_entities::{EntityIndex, Homes};
 use eco_ids::TableSlot;
 use std::alloc::{AllocError, Global};
 
@@ -36,6 +36,10 @@ pub(crate) fn walked(
     numbered(alloc, entities, &numbers, count)
 }
 
+// So many indices are gone through at once, for all of which there is room before: so a walk looks for room, and writes down how
+// many it has found, once for so many.
+const STRETCH: u32 = 64;
+
 // All who stand in a table whose slot has a number, ascending.
 fn numbered(
     alloc: Global,
@@ -45,33 +49,47 @@ fn numbered(
 ) -> Result<Vec<Standing>, AllocError>
     ensures { IfOk result (λ v. v.items ≡ standing_from numbers.now 0 entities.now.indices) }
 {
-    let mut list = Vec::with_capacity(alloc, count)?;
-    for index in 0..entities.high() {
-        if let Some(standing) = standing_at(entities, numbers, index) {
-            put(&mut list, standing)?;
-        }
+    let homes = entities.homes();
+    let high = entities.high();
+    let mut list = Vec::with_capacity(alloc, count.saturating_add(STRETCH as usize))?;
+    let mut index: u32 = 0;
+    while index < high {
+        let end = high.min(index + STRETCH);
+        list.reserve(STRETCH as usize)?;
+        add_numbered(&mut list, &homes, numbers, index, end);
+        index = end;
     }
     Ok(list)
 }
 
-// Puts one more behind others. There is room for it mostly.
-#[inline]
-fn put(list: &mut Vec<Standing>, standing: Standing) -> Result<(), AllocError>
-    ensures { OnOk result (list.new.items ≡ list.old.items ++ standing ∷ []) }
+// Puts those who live at the indices from one to below another behind others. There is room for all.
+#[inline(always)]
+fn add_numbered(
+    list: &mut Vec<Standing>,
+    homes: &Homes<'_>,
+    numbers: &[usize],
+    first: u32,
+    end: u32,
+)
+    requires places { (first ≤ end) × (end ≤ length homes.now.indices) }
+    requires room { vec_len list.old + (end - first) ≤ vec_capacity list.old }
+    ensures { list.new.items ++ standing_from numbers.now end (drop end homes.now.indices)
+        ≡ list.old.items ++ standing_from numbers.now first (drop first homes.now.indices) }
 {
-    if list.len() == list.capacity() {
-        list.reserve(1)?;
+    for index in first..end {
+        if let Some(standing) = standing_at(homes, numbers, index) {
+            list.push_reserved(standing);
+        }
     }
-    list.push_reserved(standing);
-    Ok(())
 }
 
 // Who lives at the index, where its table's slot has a number.
-fn standing_at(entities: &EntityIndex, numbers: &[usize], index: u32) -> Option<Standing>
-    ensures { result ≡ standing_at numbers.now entities.now index }
+#[inline(always)]
+fn standing_at(homes: &Homes<'_>, numbers: &[usize], index: u32) -> Option<Standing>
+    requires { index < length homes.now.indices }
+    ensures { result ≡ standing_at numbers.now homes.now index }
 {
-    let entity = entities.entity_at(index)?;
-    let place = entities.place_of(entity)?;
+    let (entity, place) = homes.at(index)?;
     let number = *numbers.get(place.table)?;
     if number == 0 {
         return None;

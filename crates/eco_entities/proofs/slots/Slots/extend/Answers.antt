@@ -1,5 +1,5 @@
 use Rattle.std.proofs.lemmas.Grind.{common_steps}
-use Rattle.std.proofs.Common.{◌≡◌, ◌+◌, ◌++◌, ap, ◌∙◌, length, replicate, arith}
+use Rattle.std.proofs.Common.{◌≡◌, ◌++◌, ap, ◌∙◌, length, replicate, arith}
 use Rattle.eco_entities.proofs.Marks.{marks_as_slots, slots_admitted, room_inside}
 use Rattle.std.proofs.lemmas.List.{length-append, length-replicate}
 use Rattle.eco_entities.proofs.slots.Slots.extend.Goals as goal

@@ -25,7 +25,7 @@ use Rattle.eco_frame.specs.Stops.{IsWhy}
 use Rattle.eco_frame.specs.declared.stop.FrameStop.{FrameStop}
 use Rattle.eco_steps.specs.Actions as texts
 use Rattle.eco_steps.specs.Steps as step
-use Rattle.eco_script.specs.References.{ReadsQuery}
+use Rattle.eco_formats.specs.References.{ReadsQuery}
 use Rattle.eco_script.specs.Replies.{done, frame_reply, unless, DeclaresSystem, ReadsSystem, StepReplies}
 use Rattle.eco_script.specs.States.{NamedSystem, ScriptState, is_declared, name_refusal, script_system}
 use Rattle.eco_script.specs.Systems.{model_by, named, reached, recorded_by, handles_taken, IsScriptOf, ReadsBody}

@@ -24,8 +24,8 @@ use Rattle.eco_grammar.specs.Readings.{Reads, ReadsInMemory, ReadsOnce, entity_o
 use Rattle.eco_systems.specs.declared.phase.Phase.{Phase}
 use Rattle.eco_bodies.specs.declared.action.Action.{Action}
 use Rattle.eco_script.specs.Laws.{is_frame}
-use Rattle.eco_script.specs.Recording.{MakesOfNamed, ReadsAction, ReadsActions, ReadsChange, ReadsCommand, ReadsCommands, ReadsEach, has_stages}
-use Rattle.eco_script.specs.References.{ReadsBoth, ReadsEntity, ReadsId, ReadsQuery}
+use Rattle.eco_formats.specs.Recording.{MakesOfNamed, ReadsAction, ReadsActions, ReadsChange, ReadsCommand, ReadsCommands, ReadsEach, has_stages}
+use Rattle.eco_formats.specs.References.{ReadsBoth, ReadsEntity, ReadsId, ReadsQuery}
 use Rattle.eco_script.specs.Replies.{Reply, done, merged, shown, with_declared, AnswersAdded, Calls, Changes, DeclaresSystem, On}
 use Rattle.eco_script.specs.Replies.{ReadsSystem, Replies, StepReplies, Then}
 use Rattle.eco_script.specs.States.{NamedSystem, ScriptState}

@@ -25,14 +25,14 @@ use Rattle.eco_query.specs.Queries.{QuerySlot}
 use Rattle.eco_grammar.specs.Readings.{ReadsAll, entity_of_placed, id_of, ok_both, ok_map, query_of}
 use Rattle.eco_frame.specs.declared.stop.FrameStop.{FrameStop}
 use Rattle.eco_script.specs.States.{ScriptState}
-use Rattle.eco_script.specs.Recording.{MakesOfNamed, ReadsChange}
-use Rattle.eco_script.specs.References.{ReadsBoth, ReadsEntity, ReadsId, ReadsQuery}
+use Rattle.eco_formats.specs.Recording.{MakesOfNamed, ReadsChange}
+use Rattle.eco_formats.specs.References.{ReadsBoth, ReadsEntity, ReadsId, ReadsQuery}
 use Rattle.eco_script.specs.Replies.{Reply, truth, got, shown, listed, found, merged, stopped, AnswersAdded, Calls, On, Replies, StepReplies}
 use Rattle.eco_steps.specs.Commands.{WrittenChange}
 use Rattle.eco_steps.specs.Commands as change
 use Rattle.eco_steps.specs.Steps as step
 use Rattle.eco_script.specs.Text.{Does, step_lines}
-use Rattle.eco_script.specs.Values.{shown_value}
+use Rattle.eco_formats.specs.Values.{shown_value}
 
 -- some answer, and some state after it
 abbrev Ends : {A S : Type 0} → (Result A Refusal → S → Type 0) → Type 0

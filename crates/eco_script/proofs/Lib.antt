@@ -4,6 +4,5 @@ pub mod Declared
 pub mod Determined
 pub mod Editions
 pub mod Ends
-pub mod Joined
-pub mod Recorded
+pub mod MergeSteps
 pub mod Runs

@@ -5,24 +5,17 @@ use Rattle.std.specs.Option.{option_map_or}
 use Rattle.std.specs.List.{list_any}
 use Rattle.eco_ids.specs.declared.entity.Entity.{Entity}
 use Rattle.eco_ids.specs.declared.refusal.Refusal.{Refusal}
-use Rattle.eco_ids.specs.Data.{arity_of}
 use Rattle.eco_ids.specs.Outcome.{is_out_of_memory}
 use Rattle.eco_ids.specs.Refusals.{refusal_text}
-use Rattle.eco_ids.specs.Step.{own_name}
 use Rattle.eco_ids.specs.Text.{entity_text}
-use Rattle.eco_ids.specs.World.{WorldState, held_by}
+use Rattle.eco_ids.specs.World.{WorldState}
 use Rattle.eco_frame.specs.Reports.{FrameDone}
 use Rattle.eco_frame.specs.declared.stop.FrameStop.{FrameStop}
-use Rattle.eco_script.specs.Lines.{entity_line, row_line, shown_text}
+use Rattle.eco_formats.specs.Lines.{line_of, row_line, shown_text}
 use Rattle.eco_script.specs.Replies.{Reply, done, made, truth, got, shown, listed, found, kept, merged, framed, stopped, StepReplies}
 use Rattle.eco_script.specs.States.{ScriptState}
 use Rattle.eco_steps.specs.Steps.{WrittenStep}
-use Rattle.eco_script.specs.Values.{shown_value}
 use Rattle.eco_stages.specs.Outcomes.{Outcomes}
-
--- the line of an entity, with what the world has of it
-abbrev pub line_of : WorldState → Entity → List ℕ
-line_of w e = entity_line e (own_name w e) (arity_of w e) (shown_value w e) (map (λ h. h.0) (held_by w e))
 
 -- the line of a refusal
 abbrev pub refused_line : Refusal → List ℕ

@@ -1,16 +1,12 @@
 //! Scripts: read whole, and run step by step on a world of their own, whose lines are written in the order of the steps.
 #![tactic(auto)]
 
-mod changes;
 mod fault;
 pub mod laws;
-mod lines;
+mod making;
 pub mod perform;
-mod recording;
-mod references;
 pub mod reply;
 pub mod run;
-mod shown_value;
 pub mod status;
 
 pub use eco_devices::{Counted, DeviceFailed, MOST_READS, ScriptReader, ScriptWriter};

@@ -9,12 +9,10 @@ ghost use Rattle.eco_steps.specs.Steps as steps;
 ghost use Rattle.eco_steps.specs.Steps.{KeepsTo};
 ghost use Rattle.eco_steps.specs.Views.{actions_view, change_view, stages_view, step_view};
 
-use crate::changes::make_change;
-use crate::recording::{read_actions, record_stages};
-use crate::references::{read_entity, read_id, read_query};
+use crate::making::make_change;
 use crate::reply::Reply;
-use crate::shown_value::ShownValue;
 use eco_bodies::{Script, Systems};
+use eco_formats::{ShownValue, read_actions, read_entity, read_id, read_query, record_stages};
 use eco_frame::run_frame;
 use eco_ids::Refusal;
 use eco_steps::{Actions, Stages, WrittenChange, WrittenStep};

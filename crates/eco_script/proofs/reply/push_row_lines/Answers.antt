@@ -3,7 +3,7 @@ use Rattle.std.specs.List.{slice_get}
 use Rattle.std.proofs.lemmas.List.{flat_map_more, take_more}
 use Rattle.std.proofs.lemmas.Option.{get_or_from_slice_get, slice_get_within}
 use Rattle.eco_ids.specs.Answer.{Row}
-use Rattle.eco_script.specs.Lines.{row_line}
+use Rattle.eco_formats.specs.Lines.{row_line}
 use Rattle.eco_script.proofs.reply.push_row_lines.Goals as goal
 
 pub loop-place-preserved : goal.loop-place-preserved

@@ -1,0 +1,12 @@
+use Rattle.std.proofs.Common.{◌≡◌, take}
+use Rattle.std.specs.Fmt.{HasWritten, IsPlainFormatter}
+use Rattle.eco_formats.specs.Lines.{entry_text, joined_by_commas}
+use Rattle.eco_formats.proofs.Joined.{separator}
+use Rattle.eco_formats.proofs.lines.EntriesDisplay.fmt.Given as goal
+
+-- the entries so far
+abbrev pub invariant-loop-entry : goal.invariant-loop-entry
+invariant-loop-entry g l = record {
+  apart : l.separator ≡ separator (take l.entry-index l.self.0.now);
+  written : IsPlainFormatter l.initial.f → HasWritten g.W.Write.write_str_gives l.initial.f (joined_by_commas entry_text (take l.entry-index l.self.0.now)) l.f;
+}

@@ -1,8 +1,0 @@
-use Rattle.std.proofs.Common.{Ok, take}
-use Rattle.eco_steps.specs.Views.{commands_view}
-use Rattle.eco_script.specs.Recording.{ReadsCommands}
-use Rattle.eco_script.proofs.recording.record_stage.Given as goal
-
--- the commands so far were read
-abbrev pub invariant-loop-place : goal.invariant-loop-place
-invariant-loop-place l = ReadsCommands l.world (take l.place (commands_view l.commands)) (Ok l.stage)

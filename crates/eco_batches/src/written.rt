@@ -67,6 +67,7 @@ fn has_id(noted: &IndexSet<Id>, id: Id) -> bool
     noted.contains(&id)
 }
 
+// Notes an entity. One that was noted before stands there once.
 fn note_entity(noted: &mut IndexSet<Entity>, entity: Entity) -> Result<(), AllocError>
     ensures { OnOk result (IsNoted entity_cmp noted.old.keys entity noted.new.keys) }
 {
@@ -74,6 +75,7 @@ fn note_entity(noted: &mut IndexSet<Entity>, entity: Entity) -> Result<(), Alloc
     Ok(())
 }
 
+// Notes an id, likewise.
 fn note_id(noted: &mut IndexSet<Id>, id: Id) -> Result<(), AllocError>
     ensures { OnOk result (IsNoted id_cmp noted.old.keys id noted.new.keys) }
 {

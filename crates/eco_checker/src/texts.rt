@@ -12,7 +12,7 @@ pub struct Texts<'a> {
 }
 
 impl<'a> Texts<'a> {
-    // None of them.
+    // A step without texts.
     fn none() -> Texts<'a> {
         Texts {
             entity: None,

@@ -68,7 +68,8 @@ fn only_match_of_any(pattern: Pattern, ids: &[Id]) -> Option<Id>
     only_match_of(pattern, ids)
 }
 
-// The same, for each pattern that it is made for.
+// The loop over the ids. It is a part of each of its two callers, so that the compiler makes it anew for what is known of the
+// pattern there.
 #[inline(always)]
 fn only_match_of(pattern: Pattern, ids: &[Id]) -> Option<Id>
     requires { IsTrue (is_ascending id_cmp ids.now) }

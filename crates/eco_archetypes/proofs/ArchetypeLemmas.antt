@@ -169,16 +169,14 @@ module _ {S E : Type 0} {ks : List Cache} (s s' : List (Option TableState)) (m m
   pub found_made : {ks' : List Cache} → (n : ℕ) (t : TableState) → IsArchetypes s m l g ks → SetsSlot s s' n (Some t) → slot_of s n ≡ None
       → AreAgreed s' → ((k : ℕ) → type_at s k ≢ Some t.ids)
       → ((q : List Id) → get same_ids m' q ≡ cond (same_ids t.ids q) (Some n) (get same_ids m q))
-      → Turns true (any_matches t.ids) l l' n
+      → IsIdIndex (type_at s') l'
       → AreTold ks ks' n (Some t.ids)
       → IsArchetypes s' m' l' g ks'
-  found_made n t found sets vacant agreed absent gets turns told = record {
+  found_made n t found sets vacant agreed absent gets matches told = record {
     types =
         type_map-insert (type_at s) (type_at s') m m' t.ids n (λ k other. ap (option_map (λ (x : TableState). x.ids)) (sets.others k other))
         found.types (ap (option_map (λ (x : TableState). x.ids)) sets.changed) (ap (option_map (λ (x : TableState). x.ids)) vacant) absent gets;
-    matches =
-        index_made (type_at s) (type_at s') l l' n t.ids (λ k other. ap (option_map (λ (x : TableState). x.ids)) (sets.others k other))
-        found.matches (ap (option_map (λ (x : TableState). x.ids)) sets.changed) (ap (option_map (λ (x : TableState). x.ids)) vacant) turns;
+    matches = matches;
     graph = graph_made (type_at s) (type_at s') g n found.graph (ap (option_map (λ (x : TableState). x.ids)) vacant)
         (λ k other. ap (option_map (λ (x : TableState). x.ids)) (sets.others k other));
     agreed = agreed;

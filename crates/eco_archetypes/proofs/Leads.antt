@@ -1,6 +1,6 @@
 -- Where the edge of an id leads.
-use Rattle.std.proofs.Common.{◌≡◌, ◌≢◌, ℕ, List, Option, Some, None, false, true≢false, is_some, option_map, IsSome, IsTrue, Result, Ok, Err, OnOk, OnErr, refl}
-use Rattle.std.proofs.Common.{sym, ap, ◌∙◌}
+use Rattle.std.proofs.Common.{◌≡◌, ◌≢◌, ℕ, List, Option, Some, None, false, true≢false, is_some, option_map, IsSome, IsTrue, Result, Ok, Err, IfOk, OnOk, OnErr, refl}
+use Rattle.std.proofs.Common.{sym, ap, subst, ◌∙◌}
 use Rattle.std.specs.HashMap.{HashMap}
 use Rattle.eco_ids.specs.declared.id.Id.{Id}
 use Rattle.eco_ids.specs.Order.{id_cmp, is_ascending}
@@ -26,6 +26,19 @@ none_is (Some x) h = absurd (true≢false h)
 -- tables of which one has the id more stand in two slots
 pub apart_by_type : (s : List (Option TableState)) (n m : ℕ) (i : Id) (ids : List Id) → type_at s n ≡ Some ids → type_at s m ≡ Some (toggled ids i) → n ≢ m
 apart_by_type s n m i ids from to same = toggled_other ids i (some_is _ _ (sym to ∙ sym (ap (type_at s) same) ∙ from))
+
+-- what holds of the slot that a call answers
+pub of_slot : {E : Type 0} (P : ℕ → Type 0) (n : ℕ) (r : Result ℕ E) → IfOk r (λ m. m ≡ n) → P n → IfOk r P
+of_slot P n (Ok m) is h = subst P (sym is) h
+of_slot P n (Err e) is h = is
+
+pub of_slot_after : {E : Type 0} (P : ℕ → Type 0) (n : ℕ) (r : Result ℕ E) → IfOk r (λ m. m ≡ n) → OnOk r (P n) → IfOk r P
+of_slot_after P n (Ok m) is h = subst P (sym is) h
+of_slot_after P n (Err e) is h = is
+
+pub on_ok : {T E P Q : Type 0} (r : Result T E) → (P → Q) → OnOk r P → OnOk r Q
+on_ok (Ok x) f h = f h
+on_ok (Err e) f h = h
 
 -- a table that was read has the type still
 pub stays_typed : (s0 s s' : List (Option TableState)) (n : ℕ) (t : TableState) (ids : List Id) → s0 ≡ s → slot_of s0 n ≡ Some t → ids ≡ t.ids → KeepsTypes s s'

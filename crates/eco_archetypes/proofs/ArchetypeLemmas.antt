@@ -12,14 +12,14 @@ use Rattle.eco_tables.specs.Tables.{slot_of, table_in, no_table, SetsSlot, Moves
 use Rattle.eco_index.specs.TypeMap.{LeadAlike, IsTypeMap, same_ids}
 use Rattle.eco_index.specs.IdIndex.{Lists, any_matches, Turns}
 use Rattle.eco_index.specs.Edges.{toggled, Cuts, Links, SameEdges}
-use Rattle.eco_caches.specs.Caching.{AreExact, AreTold, ChangesType}
+use Rattle.eco_caches.specs.Caching.{AreExact, AreTold, ChangesType, StayExact}
 use Rattle.eco_caches.specs.declared.cache.Cache.{Cache}
 use Rattle.eco_caches.proofs.Caching.{exact_types}
 use Rattle.eco_index.proofs.Graphs.{graph_made, graph_cut, graph_linked}
 use Rattle.eco_index.proofs.TypeMaps.{type_map-insert, type_map-remove}
 use Rattle.eco_archetypes.specs.Archetypes.{type_at, type_matches, IsIdIndex, IsArchetypes, SameSlots, SameRows}
 use Rattle.eco_archetypes.specs.Widths.{AreAgreed}
-use Rattle.eco_archetypes.proofs.Widths.{kept_agreed, sets_kept}
+use Rattle.eco_archetypes.proofs.Widths.{kept_agreed, kinds, sets_kept}
 
 -- a slot whose table has a row, or room, has a table
 pub there_by_row : (s : List (Option TableState)) (n row : ℕ) → row < length (table_in s n).rows → IsSome (slot_of s n)
@@ -109,45 +109,49 @@ changes_type s s' n o sets = record {
   others = λ k other. ap (option_map (λ (t : TableState). t.ids)) (sets.others k other);
 }
 
-module _ {S E : Type 0} {ks : List Cache} (s s' : List (Option TableState)) (m m' : HashMap (List Id) ℕ S) (l l' : Lists) (g g' : List (HashMap Id ℕ E)) where
-  -- the same types are found by the same maps
-  pub found_same : IsArchetypes s m l g ks → ((k : ℕ) → type_at s' k ≡ type_at s k) → AreAgreed s' → IsArchetypes s' m l g ks
-  found_same found same agreed = record {
-    types = record {
-      found = λ t n e. same n ∙ found.types.found t n e;
-      there = λ t n e. found.types.there t n (sym (same n) ∙ e);
-    };
-    matches = λ f n. found.matches f n ∙ ap (λ o. type_matches o f) (sym (same n));
-    graph = λ n k i e. let was = found.graph n k i e in (was.0, same n ∙ was.1, same k ∙ was.2);
-    agreed = agreed;
-    cached = exact_types (type_at s) (type_at s') ks same found.cached;
-  }
+module _ {S E : Type 0} {ks : List Cache} {s : List (Option TableState)} {m : HashMap (List Id) ℕ S} {l : Lists} {g : List (HashMap Id ℕ E)}
+    (found : IsArchetypes s m l g ks) where
+  module _ {s' : List (Option TableState)} where
+    module _ {ks' : List Cache} {m' : HashMap (List Id) ℕ S} {l' : Lists} where
+      -- the same types are found by a map in which each leads where it led
+      pub found_alike : ((k : ℕ) → type_at s' k ≡ type_at s k) → LeadAlike m m' → IsIdIndex (type_at s') l'
+          → AreAgreed s' → AreExact (type_at s') ks' → IsArchetypes s' m' l' g ks'
+      found_alike same alike matches agreed cached = record {
+        types = record {
+          found = λ t n e. same n ∙ found.types.found t n (sym (alike t) ∙ e);
+          there = λ t n e. alike t ∙ found.types.there t n (sym (same n) ∙ e);
+        };
+        matches = matches;
+        graph = λ n k i e. let was = found.graph n k i e in (was.0, same n ∙ was.1, same k ∙ was.2);
+        agreed = agreed;
+        cached = cached;
+      }
 
-  -- the same types are found by a map in which each leads where it led
-  pub found_alike : {ks' : List Cache} → IsArchetypes s m l g ks → ((k : ℕ) → type_at s' k ≡ type_at s k) → LeadAlike m m' → IsIdIndex (type_at s') l'
-      → AreAgreed s' → AreExact (type_at s') ks' → IsArchetypes s' m' l' g ks'
-  found_alike found same alike matches agreed cached = record {
-    types = record {
-      found = λ t n e. same n ∙ found.types.found t n (sym (alike t) ∙ e);
-      there = λ t n e. alike t ∙ found.types.there t n (sym (same n) ∙ e);
-    };
-    matches = matches;
-    graph = λ n k i e. let was = found.graph n k i e in (was.0, same n ∙ was.1, same k ∙ was.2);
-    agreed = agreed;
-    cached = cached;
-  }
+      -- the same types are found by maps that were made ready for more
+      pub found_kept : ((k : ℕ) → type_at s' k ≡ type_at s k) → m'.entries ≡ m.entries → IsIdIndex (type_at s') l'
+          → AreAgreed s' → AreExact (type_at s') ks' → IsArchetypes s' m' l' g ks'
+      found_kept same ready = found_alike same (λ t. ap (lookup (same_ids t)) ready)
 
-  -- the same types are found by maps that were made ready for more
-  pub found_kept : {ks' : List Cache} → IsArchetypes s m l g ks → ((k : ℕ) → type_at s' k ≡ type_at s k) → m'.entries ≡ m.entries → IsIdIndex (type_at s') l'
-      → AreAgreed s' → AreExact (type_at s') ks' → IsArchetypes s' m' l' g ks'
-  found_kept found same ready = found_alike found same (λ t. ap (lookup (same_ids t)) ready)
+    -- the same types are found by the same maps
+    pub found_same : ((k : ℕ) → type_at s' k ≡ type_at s k) → AreAgreed s' → IsArchetypes s' m l g ks
+    found_same same agreed =
+        found_kept same refl (λ f n. found.matches f n ∙ ap (λ o. type_matches o f) (sym (same n))) agreed
+        (exact_types (type_at s) (type_at s') ks same found.cached)
+
+    -- so they are where one table changes, and neither its ids nor how wide they are
+    pub found_set : {n : ℕ} {t : TableState} → SetsSlot s s' n (Some t) → IsSome (slot_of s n) → t.ids ≡ (table_in s n).ids
+        → kinds (Some t) ≡ kinds (slot_of s n) → IsArchetypes s' m l g ks
+    found_set {n} {t} sets there ids wide =
+        found_same (sets_types s s' n t sets there ids) (kept_agreed s s' (sets_kept s s' n (Some t) sets (inl wide)) found.agreed)
+
+  -- the same types are found by maps that were made ready for more, and no table changed
+  pub found_ready : {ks' : List Cache} {m' : HashMap (List Id) ℕ S} → m'.entries ≡ m.entries → StayExact ks ks' → IsArchetypes s m' l g ks'
+  found_ready ready exact = found_kept (λ k. refl) ready found.matches found.agreed (exact (type_at s) found.cached)
 
   -- two tables are joined by an id, of whose types one has it alone besides what the other has
-  pub found_linked : (a b : ℕ) (i : Id) (ids : List Id) → IsArchetypes s m l g ks → Links g g' a i b → type_at s a ≡ Some ids →
-      type_at s b ≡ Some (toggled ids i)
-      → toggled (toggled ids i) i ≡ ids
-      → IsArchetypes s m l g' ks
-  found_linked a b i ids found links from to twice = record {
+  pub found_linked : {g' : List (HashMap Id ℕ E)} (a b : ℕ) (i : Id) (ids : List Id) → Links g g' a i b → type_at s a ≡ Some ids
+      → type_at s b ≡ Some (toggled ids i) → toggled (toggled ids i) i ≡ ids → IsArchetypes s m l g' ks
+  found_linked {g'} a b i ids links from to twice = record {
     types = found.types;
     matches = found.matches;
     graph = graph_linked (type_at s) g g' a b i ids found.graph links from to twice;
@@ -156,8 +160,8 @@ module _ {S E : Type 0} {ks : List Cache} (s s' : List (Option TableState)) (m m
   }
 
   -- the same edges lead on
-  pub found_unlinked : IsArchetypes s m l g ks → SameEdges g g' → IsArchetypes s m l g' ks
-  found_unlinked found same = record {
+  pub found_unlinked : {g' : List (HashMap Id ℕ E)} → SameEdges g g' → IsArchetypes s m l g' ks
+  found_unlinked same = record {
     types = found.types;
     matches = found.matches;
     graph = λ n k i e. found.graph n k i (sym (same n i) ∙ e);
@@ -166,13 +170,13 @@ module _ {S E : Type 0} {ks : List Cache} (s s' : List (Option TableState)) (m m
   }
 
   -- a new table is found
-  pub found_made : {ks' : List Cache} → (n : ℕ) (t : TableState) → IsArchetypes s m l g ks → SetsSlot s s' n (Some t) → slot_of s n ≡ None
-      → AreAgreed s' → ((k : ℕ) → type_at s k ≢ Some t.ids)
+  pub found_made : {ks' : List Cache} {s' : List (Option TableState)} {m' : HashMap (List Id) ℕ S} {l' : Lists} {n : ℕ} {t : TableState}
+      → SetsSlot s s' n (Some t) → slot_of s n ≡ None → AreAgreed s' → ((k : ℕ) → type_at s k ≢ Some t.ids)
       → ((q : List Id) → get same_ids m' q ≡ cond (same_ids t.ids q) (Some n) (get same_ids m q))
       → IsIdIndex (type_at s') l'
       → AreTold ks ks' n (Some t.ids)
       → IsArchetypes s' m' l' g ks'
-  found_made n t found sets vacant agreed absent gets matches told = record {
+  found_made {ks'} {s'} {m'} {l'} {n} {t} sets vacant agreed absent gets matches told = record {
     types =
         type_map-insert (type_at s) (type_at s') m m' t.ids n (λ k other. ap (option_map (λ (x : TableState). x.ids)) (sets.others k other))
         found.types (ap (option_map (λ (x : TableState). x.ids)) sets.changed) (ap (option_map (λ (x : TableState). x.ids)) vacant) absent gets;
@@ -184,13 +188,14 @@ module _ {S E : Type 0} {ks : List Cache} (s s' : List (Option TableState)) (m m
   }
 
   -- a table that was dropped is found no more
-  pub found_dropped : {ks' : List Cache} → (n : ℕ) (ids : List Id) → IsArchetypes s m l g ks → SetsSlot s s' n None → type_at s n ≡ Some ids
+  pub found_dropped : {ks' : List Cache} {s' : List (Option TableState)} {m' : HashMap (List Id) ℕ S} {l' : Lists} {g' : List (HashMap Id ℕ E)}
+      {n : ℕ} {ids : List Id} → SetsSlot s s' n None → type_at s n ≡ Some ids
       → ((q : List Id) → get same_ids m' q ≡ cond (same_ids ids q) None (get same_ids m q))
       → Turns false (any_matches ids) l l' n
       → Cuts g g' n
       → AreTold ks ks' n None
       → IsArchetypes s' m' l' g' ks'
-  found_dropped n ids found sets had gets turns cuts told = record {
+  found_dropped {ks'} {s'} {m'} {l'} {g'} {n} {ids} sets had gets turns cuts told = record {
     types =
         type_map-remove (type_at s) (type_at s') m m' ids n (λ k other. ap (option_map (λ (x : TableState). x.ids)) (sets.others k other))
         found.types (ap (option_map (λ (x : TableState). x.ids)) sets.changed) had gets;

@@ -1,5 +1,5 @@
 -- Where the edge of an id leads.
-use Rattle.std.proofs.Common.{◌≡◌, ◌≢◌, ℕ, List, Option, Some, None, false, true≢false, is_some, option_map, IsSome, IsTrue, Result, Ok, Err, IfOk, OnOk, OnErr, refl}
+use Rattle.std.proofs.Common.{◌≡◌, ◌≢◌, ℕ, List, Option, Some, None, false, true≢false, is_some, IsSome, IsTrue, Result, Ok, Err, IfOk, OnOk, OnErr, refl}
 use Rattle.std.proofs.Common.{sym, ap, subst, ◌∙◌}
 use Rattle.std.specs.HashMap.{HashMap}
 use Rattle.eco_ids.specs.declared.id.Id.{Id}
@@ -10,7 +10,7 @@ use Rattle.eco_index.specs.IdIndex.{Lists}
 use Rattle.eco_caches.specs.declared.cache.Cache.{Cache}
 use Rattle.eco_index.specs.Edges.{edge, toggled, IsGraph, IsTwofold, Links, SameEdges}
 use Rattle.eco_index.proofs.Toggles.{toggled_other, twice}
-use Rattle.eco_archetypes.specs.Archetypes.{type_at, IsArchetypes, KeepsTypes}
+use Rattle.eco_archetypes.specs.Archetypes.{type_at, IsArchetypes}
 use Rattle.eco_archetypes.proofs.ArchetypeLemmas.{found_linked, found_unlinked, one_slot, type_there, there_as_typed, typed_table}
 
 some_is : {X : Type 0} (x y : X) → Some x ≡ Some y → x ≡ y
@@ -40,12 +40,6 @@ pub on_ok : {T E P Q : Type 0} (r : Result T E) → (P → Q) → OnOk r P → O
 on_ok (Ok x) f h = f h
 on_ok (Err e) f h = h
 
--- a table that was read has the type still
-pub stays_typed : (s0 s s' : List (Option TableState)) (n : ℕ) (t : TableState) (ids : List Id) → s0 ≡ s → slot_of s0 n ≡ Some t → ids ≡ t.ids → KeepsTypes s s'
-    → type_at s' n ≡ Some ids
-stays_typed s0 s s' n t ids same at is keeps =
-    keeps n ids (ap (λ x. type_at x n) (sym same) ∙ ap (option_map (λ (x : TableState). x.ids)) at ∙ ap Some (sym is))
-
 module _ {E : Type 0} (s : List (Option TableState)) (g : List (HashMap Id ℕ E)) (graph : IsGraph (type_at s) g) (n m : ℕ) (i : Id)
     (leads : edge g n i ≡ Some m) where
   pub lead_there : IsSome (slot_of s m)
@@ -59,8 +53,8 @@ module _ {E : Type 0} (s : List (Option TableState)) (g : List (HashMap Id ℕ E
 
 -- ---- an edge is stored
 
-module _ {S E : Type 0} {ks : List Cache} (s : List (Option TableState)) (m : HashMap (List Id) ℕ S) (l : Lists)
-    (g : List (HashMap Id ℕ E)) (found : IsArchetypes s m l g ks) (from to : ℕ) (i : Id)
+module _ {S E : Type 0} {ks : List Cache} {s : List (Option TableState)} {m : HashMap (List Id) ℕ S} {l : Lists}
+    {g : List (HashMap Id ℕ E)} (found : IsArchetypes s m l g ks) (from to : ℕ) (i : Id)
     (there : IsSome (slot_of s from)) (up : IsTrue (is_ascending id_cmp (table_in s from).ids))
     (typed : type_at s to ≡ Some (toggled (table_in s from).ids i)) where
   abbrev own : List Id
@@ -86,5 +80,5 @@ module _ {S E : Type 0} {ks : List Cache} (s : List (Option TableState)) (m : Ha
   pub found_joined : (g' : List (HashMap Id ℕ E)) {A B : Type 0} (r : Result A B) → OnOk r (Links g g' from i to) → OnErr r (SameEdges g g')
       → IsArchetypes s m l g' ks
   found_joined g' (Ok x) links same =
-      found_linked s s m m l l g g' from to i own found links (type_there s from there) typed (twice own i up)
-  found_joined g' (Err x) links same = found_unlinked s s m m l l g g' found same
+      found_linked found from to i own links (type_there s from there) typed (twice own i up)
+  found_joined g' (Err x) links same = found_unlinked found same

@@ -274,13 +274,13 @@ not_same t q e h = true≢false (sym ((same_ids-Decides t q).1 h) ∙ e)
 pub one : {X : Type 0} (x y : X) → Some x ≡ Some y → x ≡ y
 one x y e = cc
 
-module _ {S E : Type 0} {ks : List Cache} (s s' : List (Option TableState)) (m m' : HashMap (List Id) ℕ S) (l l' : Lists) (g g' : List (HashMap Id ℕ E))
-    (n : ℕ) (t u : List Id) (found : IsArchetypes s m l g ks) (had : type_at s n ≡ Some t) (takes : TakesType s s' n u)
+others_typed : {s s' : List (Option TableState)} {n : ℕ} {u : List Id} → TakesType s s' n u → (k : ℕ) → k ≢ n → type_at s' k ≡ type_at s k
+others_typed takes k other = ap (option_map (λ (x : TableState). x.ids)) (takes.others k other)
+
+module _ {S E : Type 0} {ks : List Cache} {s s' : List (Option TableState)} {m m' : HashMap (List Id) ℕ S} {l : Lists} {g : List (HashMap Id ℕ E)}
+    {n : ℕ} {t u : List Id} (found : IsArchetypes s m l g ks) (had : type_at s n ≡ Some t) (takes : TakesType s s' n u)
     (absent : (k : ℕ) → type_at s k ≢ Some u)
     (gets : (q : List Id) → get same_ids m' q ≡ cond (same_ids u q) (Some n) (cond (same_ids t q) None (get same_ids m q))) where
-  others_typed : (k : ℕ) → k ≢ n → type_at s' k ≡ type_at s k
-  others_typed k other = ap (option_map (λ (x : TableState). x.ids)) (takes.others k other)
-
   renamed_types : IsTypeMap (type_at s') m'
   renamed_types = record {
     found = λ q k e. way (same_ids u q) (type_at s' k ≡ Some q)
@@ -295,7 +295,7 @@ module _ {S E : Type 0} {ks : List Cache} (s s' : List (Option TableState)) (m m
         gets q ∙ ap (λ b. cond b (Some n) (cond (same_ids t q) None (get same_ids m q))) ((same_ids-Decides u q).1 own) ∙ ap Some (sym is))
         (λ other.
         let apart : k ≢ n = λ is. true≢false (sym ((Decides-eqb k n).1 is) ∙ other) in
-        let was : type_at s k ≡ Some q = sym (others_typed k apart) ∙ e in
+        let was : type_at s k ≡ Some q = sym (others_typed takes k apart) ∙ e in
         gets q
         ∙ ap (λ b. cond b (Some n) (cond (same_ids t q) None (get same_ids m q)))
         (way (same_ids u q) (same_ids u q ≡ false) (λ same. absurd (absent k (was ∙ ap Some (sym ((same_ids-Decides u q).0 same))))) (λ no_one. no_one))
@@ -313,19 +313,17 @@ module _ {S E : Type 0} {ks : List Cache} (s s' : List (Option TableState)) (m m
           (λ other.
           let was : type_at s k ≡ Some q = found.types.found q k (sym (ap (λ b. cond b None (get same_ids m q)) other) ∙ e) in
           let apart : k ≢ n = λ is. not_same t q other (one t q (sym had ∙ ap (type_at s) (sym is) ∙ was)) in
-          others_typed k apart ∙ was)
+          others_typed takes k apart ∙ was)
 
-  pub found_turned : {ks' : List Cache} → IsIdIndex (type_at s') l' → Cuts g g' n → AreAgreed s' → AreTold ks ks' n (Some u) → IsArchetypes s' m' l' g' ks'
-  found_turned index cuts agreed told = record {
+  pub found_turned : {ks' : List Cache} {l' : Lists} {g' : List (HashMap Id ℕ E)}
+      → IsIdIndex (type_at s') l' → Cuts g g' n → AreAgreed s' → AreTold ks ks' n (Some u) → IsArchetypes s' m' l' g' ks'
+  found_turned {ks'} {l'} {g'} index cuts agreed told = record {
     types = renamed_types;
     matches = index;
-    graph = graph_cut (type_at s) (type_at s') g g' n found.graph cuts others_typed;
+    graph = graph_cut (type_at s) (type_at s') g g' n found.graph cuts (others_typed takes);
     agreed = agreed;
-    cached = told (type_at s) (type_at s') (record { there = takes.typed; others = others_typed }) found.cached;
+    cached = told (type_at s) (type_at s') (record { there = takes.typed; others = others_typed takes }) found.cached;
   }
-
-pub same_entries : {S : Type 0} {h h' : HashMap (List Id) ℕ S} → h ≡ h' → h.entries ≡ h'.entries
-same_entries = ap (λ h. h.entries)
 
 -- a type that came out of the map, and has the id now
 module _ {S : Type 0} (s : List (Option TableState)) (m ready taken : HashMap (List Id) ℕ S) (n : ℕ) (i : Id) (ids grown : List Id)

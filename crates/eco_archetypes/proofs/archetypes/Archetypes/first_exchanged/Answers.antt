@@ -1,10 +1,10 @@
-use Rattle.std.proofs.Common.{◌≡◌, ◌+◌, Some, take, drop, slice_get, sym, ap, ◌∙◌}
+use Rattle.std.proofs.Common.{◌≡◌, ◌+◌, Some, option_map, take, drop, slice_get, sym, ap, ◌∙◌}
 use Rattle.std.specs.Option.{option_copied}
 use Rattle.eco_ids.specs.Order.{id_cmp, has_item}
+use Rattle.eco_tables.specs.Table.{TableState}
 use Rattle.eco_index.specs.Edges.{exchanged}
 use Rattle.eco_archetypes.specs.Archetypes.{type_at}
 use Rattle.eco_archetypes.proofs.Exchanges.{exchanged_apart, exchanged_is}
-use Rattle.eco_archetypes.proofs.Leads.{stays_typed}
 use Rattle.eco_archetypes.proofs.ArchetypeLemmas.{typed_table}
 use Rattle.eco_archetypes.proofs.archetypes.Archetypes.first_exchanged.Goals as goal
 
@@ -16,8 +16,7 @@ found_typed c =
     let other = c.type_list-other.result.now in
     let place = c.in_ok-place.place in
     let at = sym c.get.ensures ∙ ap option_copied c.in_ok-get.was in
-    let typed = stays_typed c.self.inside.tables s s c.in_ok-to.to c.in_ok-get.field-0.now other c.self.view_is at c.type_list-other.ensures.ids
-    (λ n ids h. h) in
+    let typed = rw c.self.view_is at (ap (option_map (λ (t : TableState). t.ids)) at ∙ ap Some (sym c.type_list-other.ensures.ids)) in
     let mine = c.as_slice.ensures.ids in
     let theirs = c.as_slice-2.ensures.ids in
     let yes = c.if-differs_there.true in

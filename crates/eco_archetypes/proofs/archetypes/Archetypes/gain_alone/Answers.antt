@@ -4,20 +4,15 @@ use Rattle.eco_entities.specs.Needs.{need}
 use Rattle.eco_ids.specs.Order.{id_cmp, has_item}
 use Rattle.eco_tables.specs.Table.{TableState}
 use Rattle.eco_tables.specs.Tables.{slot_of, table_in}
-use Rattle.eco_index.specs.IdIndex.{lists_of}
 use Rattle.eco_index.specs.TypeMap.{LeadAlike, LeadsGrown, TakesGrown, same_ids}
 use Rattle.eco_caches.proofs.Caching.{exact_types, then_told}
 use Rattle.eco_archetypes.specs.Archetypes.{TakesType, type_at}
-use Rattle.eco_archetypes.proofs.ArchetypeLemmas.{found_alike, found_kept, type_there}
+use Rattle.eco_archetypes.proofs.ArchetypeLemmas.{found_alike, found_ready, type_there}
 use Rattle.eco_archetypes.proofs.Turnings.{found_turned, grown_back, grown_in, grown_is, grown_new, grown_taken, led_type}
 use Rattle.eco_archetypes.proofs.archetypes.Archetypes.gain_alone.Goals as goal
 
 pub invariant_of-self : goal.invariant_of-self
-invariant_of-self c =
-    let l = lists_of c.self.inside.by_id.slots in
-    let g = c.self.inside.edges.lists.items in
-    found_kept _ _ c.self.inside.by_type.slots _ l l g g c.self.invariant (λ k. refl) c.make_ready.ensures.same c.self.invariant.matches c.self.invariant.agreed
-    (c.make_ready.ensures.exact (type_at c.self.inside.tables) c.self.invariant.cached)
+invariant_of-self c = found_ready c.self.invariant c.make_ready.ensures.same c.make_ready.ensures.exact
 
 pub place_of-place-requires : goal.place_of-place-requires
 place_of-place-requires c =
@@ -34,19 +29,15 @@ take_with-requires-clause-lacks c = λ t led.
 
 pub invariant_of-self-in_err-type_list : goal.invariant_of-self-in_err-type_list
 invariant_of-self-in_err-type_list c =
-    let l = lists_of c.self.inside.by_id.slots in
-    let g = c.self.inside.edges.lists.items in
-    found_alike _ _ c.self.inside.by_type.slots _ l l g g c.self.invariant (λ k. refl)
+    found_alike c.self.invariant (λ k. refl)
     (λ t. c.in_err-type_list.ensures.err t ∙ ap (lookup (same_ids t)) c.make_ready.ensures.same) c.self.invariant.matches c.self.invariant.agreed
     (c.make_ready.ensures.exact (type_at c.self.inside.tables) c.self.invariant.cached)
 
 pub invariant_of-self-in_default : goal.invariant_of-self-in_default
 invariant_of-self-in_default c =
-    let l = lists_of c.self.inside.by_id.slots in
-    let g = c.self.inside.edges.lists.items in
     let alike : LeadAlike c.make_ready.new.by_type.slots c.take_with.new.self.slots =
     subst (λ o. IfNone o (LeadAlike c.make_ready.new.by_type.slots c.take_with.new.self.slots)) c.in_default.is c.in_ok-type_list.ensures.alike in
-    found_alike _ _ c.self.inside.by_type.slots _ l l g g c.self.invariant (λ k. refl) (λ t. alike t ∙ ap (lookup (same_ids t)) c.make_ready.ensures.same)
+    found_alike c.self.invariant (λ k. refl) (λ t. alike t ∙ ap (lookup (same_ids t)) c.make_ready.ensures.same)
     c.self.invariant.matches c.self.invariant.agreed (c.make_ready.ensures.exact (type_at c.self.inside.tables) c.self.invariant.cached)
 
 pub invariant_of-self-in-Err : goal.invariant_of-self-in-Err
@@ -59,8 +50,7 @@ invariant_of-self-in-Err c =
     subst (λ o. IfSome o (TakesGrown c.make_ready.new.by_type.slots c.take_with.new.self.slots c.args.slot c.args.id)) c.in-Some.is
     c.in_ok-type_list.ensures.taken in
     let types : (k : ℕ) → type_at c.gain.new.tables k ≡ type_at s k = λ k. ap (option_map (λ (t : TableState). t.ids)) (c.in-Err.ensures.err k) in
-    found_alike s c.gain.new.tables m c.insert_reserved.new.self.slots (lists_of c.self.inside.by_id.slots) (lists_of c.gain.new.by_id.slots)
-    c.self.inside.edges.lists.items c.self.inside.edges.lists.items c.self.invariant types
+    found_alike c.self.invariant types
     (grown_back s m c.make_ready.new.by_type.slots c.take_with.new.self.slots c.args.slot c.args.id ids c.in-Some.type_list c.self.invariant.types c.make_ready.ensures.same
     had takes c.insert_reserved.new.self.slots c.remove.new.self c.remove.ensures.is (rw (← c.self.view_is) at c.requires.lacks)
     (rw c.type_in-old.ensures.ids at c.as_slice-ids.ensures.ascending) c.insert_reserved.ensures)
@@ -81,8 +71,7 @@ invariant_of-self-2 c =
     let turns : TakesType s c.gain.new.tables c.args.slot grown =
     subst (TakesType s c.gain.new.tables c.args.slot)
     (sym (grown_is s m ready_map left c.args.slot c.args.id ids grown types c.make_ready.ensures.same had takes)) c.in_default-gain.ensures.ok in
-    found_turned s c.gain.new.tables m c.insert_reserved-2.new.self.slots (lists_of c.self.inside.by_id.slots) (lists_of c.gain.new.by_id.slots)
-    c.self.inside.edges.lists.items c.cut.new.self.lists.items c.args.slot ids grown c.self.invariant had turns
+    found_turned c.self.invariant had turns
     (grown_new s m ready_map left c.args.slot c.args.id ids grown types c.make_ready.ensures.same had takes)
     (grown_in s m ready_map left c.args.slot c.args.id ids grown types c.make_ready.ensures.same had takes c.insert_reserved-2.new.self.slots c.insert_reserved-2.ensures)
     c.gain.ensures.index c.cut.ensures c.gain.ensures.agreed (then_told _ _ _ _ _ c.make_ready.ensures.exact c.tell.ensures.told)

@@ -1,13 +1,12 @@
-use Rattle.std.proofs.Common.{ℕ, Some, option_map, refl, sym, ap, ◌∙◌, cond, subst, unwrap_or}
+use Rattle.std.proofs.Common.{ℕ, Some, option_map, sym, ap, ◌∙◌, cond, subst, unwrap_or}
 use Rattle.std.specs.Map.{lookup}
 use Rattle.eco_tables.specs.Table.{TableState, empty_table}
 use Rattle.eco_tables.specs.Tables.{SetsSlot, no_table}
 use Rattle.eco_index.specs.TypeMap.{same_ids}
-use Rattle.eco_index.specs.IdIndex.{lists_of}
 use Rattle.eco_caches.proofs.Caching.{exact_types, then_told}
 use Rattle.eco_archetypes.specs.Archetypes.{type_at}
 use Rattle.eco_archetypes.specs.Widths.{AreWidths}
-use Rattle.eco_archetypes.proofs.ArchetypeLemmas.{found_kept, found_made}
+use Rattle.eco_archetypes.proofs.ArchetypeLemmas.{found_kept, found_made, found_ready}
 use Rattle.eco_archetypes.proofs.Turnings.{agreed_slots}
 use Rattle.eco_archetypes.proofs.Widths.{made_agreed, made_covers, widths_few, widths_lengths}
 use Rattle.eco_archetypes.proofs.archetypes.Archetypes.make_as_wide.Goals as goal
@@ -28,10 +27,7 @@ invariant_of-self-2 c =
     let ws = c.args.widths.now in
     let n = c.requires.widths.0 in
     let widths : AreWidths n s ids ws = rw (← c.self.view_is) at c.requires.widths.1 in
-    found_made s s1 c.self.inside.by_type.slots c.insert_reserved.new.self.slots (lists_of c.self.inside.by_id.slots)
-    (lists_of c.insert.new.by_id.slots)
-    c.self.inside.edges.lists.items c.self.inside.edges.lists.items
-    c.in_ok-slot.slot (empty_table ids ws) c.self.invariant
+    found_made c.self.invariant
     c.in_ok-slot.ensures.makes c.in_ok-slot.ensures.vacant
     (made_agreed n s s1 c.in_ok-slot.slot ids ws c.in_ok-slot.ensures.makes widths c.self.invariant.agreed)
     (rw (← c.self.view_is) at c.requires.absent)
@@ -58,19 +54,14 @@ returns-clause-widths c = λ need widths.
     (rw (← c.self.view_is) at widths))
 
 pub invariant_of-self : goal.invariant_of-self
-invariant_of-self c =
-    let l = lists_of c.self.inside.by_id.slots in
-    found_kept _ _ c.self.inside.by_type.slots _ l l c.self.inside.edges.lists.items c.self.inside.edges.lists.items c.self.invariant (λ k. refl)
-    c.copied.ensures.same c.self.invariant.matches c.self.invariant.agreed
-    (c.copied.ensures.exact (type_at c.self.inside.tables) c.self.invariant.cached)
+invariant_of-self c = found_ready c.self.invariant c.copied.ensures.same c.copied.ensures.exact
 
 pub invariant_of-self-in_err-slot : goal.invariant_of-self-in_err-slot
 invariant_of-self-in_err-slot c =
     let s = c.self.inside.tables in
     let same = c.in_err-slot.ensures.err in
     let types = λ (k : ℕ). ap (option_map (λ (t : TableState). t.ids)) (same k) in
-    found_kept s c.insert.new.tables c.self.inside.by_type.slots _ (lists_of c.self.inside.by_id.slots) (lists_of c.insert.new.by_id.slots)
-    c.self.inside.edges.lists.items c.self.inside.edges.lists.items c.self.invariant types c.copied.ensures.same
+    found_kept c.self.invariant types c.copied.ensures.same
     c.insert.ensures.index
     (agreed_slots s c.insert.new.tables same c.self.invariant.agreed)
     (exact_types _ _ _ types (c.copied.ensures.exact (type_at s) c.self.invariant.cached))

@@ -1,10 +1,9 @@
-use Rattle.std.proofs.Common.{Some, None, cond, refl, ap, sym, subst, ◌∙◌}
+use Rattle.std.proofs.Common.{Some, None, cond, ap, sym, subst, ◌∙◌}
 use Rattle.std.specs.Map.{lookup}
-use Rattle.eco_index.specs.IdIndex.{lists_of}
 use Rattle.eco_index.specs.TypeMap.{LeadsAlone, same_ids}
 use Rattle.eco_caches.proofs.Caching.{then_told}
-use Rattle.eco_archetypes.specs.Archetypes.{TakesType, type_at}
-use Rattle.eco_archetypes.proofs.ArchetypeLemmas.{found_kept}
+use Rattle.eco_archetypes.specs.Archetypes.{TakesType}
+use Rattle.eco_archetypes.proofs.ArchetypeLemmas.{found_ready}
 use Rattle.eco_archetypes.proofs.Turnings.{found_turned, one}
 use Rattle.eco_archetypes.proofs.archetypes.Archetypes.turn.Goals as goal
 
@@ -23,16 +22,11 @@ invariant_of-self-2 c =
     subst (TakesType s s1 c.args.slot) (sym (rw (← c.self.view_is) at c.requires.typed)) c.lose.ensures.turned in
     let alone : LeadsAlone c.make_ready.new.by_type.slots old c.args.slot =
     λ t e. one t old (sym (c.self.invariant.types.found t c.args.slot (ap (lookup (same_ids t)) (sym c.make_ready.ensures.same) ∙ e)) ∙ had) in
-    found_turned s s1 c.self.inside.by_type.slots c.rename_at.new.self.slots (lists_of c.self.inside.by_id.slots) (lists_of c.lose.new.by_id.slots)
-    c.self.inside.edges.lists.items c.cut.new.self.lists.items c.args.slot old c.args.type_list c.self.invariant had takes
+    found_turned c.self.invariant had takes
     (rw (← c.self.view_is) at c.requires.absent)
     (λ q. c.rename_at.ensures old alone q
     ∙ ap (λ es. cond (same_ids c.args.type_list q) (Some c.args.slot) (cond (same_ids old q) None (lookup (same_ids q) es))) c.make_ready.ensures.same)
     c.lose.ensures.index c.cut.ensures c.lose.ensures.agreed (then_told _ _ _ _ _ c.make_ready.ensures.exact c.tell.ensures.told)
 
 pub invariant_of-self : goal.invariant_of-self
-invariant_of-self c =
-    let l = lists_of c.self.inside.by_id.slots in
-    let g = c.self.inside.edges.lists.items in
-    found_kept _ _ c.self.inside.by_type.slots _ l l g g c.self.invariant (λ k. refl) c.make_ready.ensures.same c.self.invariant.matches c.self.invariant.agreed
-    (c.make_ready.ensures.exact (type_at c.self.inside.tables) c.self.invariant.cached)
+invariant_of-self c = found_ready c.self.invariant c.make_ready.ensures.same c.make_ready.ensures.exact

@@ -1,6 +1,6 @@
 -- Columns, read by rows: they ascend by their ids, so an id is found where its column is.
 use Rattle.std.proofs.Common.{◌≡◌, ℕ, zero, suc, ◌+◌, ◌<◌, ◌≤◌, Bool, true, false, cond, ◌||◌, List, [], ◌∷◌, ◌++◌, map, length, get_or, take, drop, set}
-use Rattle.std.proofs.Common.{slice_get, Option, Some, None, refl, sym, ap, ◌∙◌, arith, IsTrue, Less, Equal, Greater, inl, inr}
+use Rattle.std.proofs.Common.{slice_get, Option, Some, None, refl, sym, ap, ◌∙◌, arith, IsTrue, subst, Less, Equal, Greater, inl, inr}
 use Rattle.std.specs.List.{All, list_all, position_from}
 use Rattle.std.specs.Cmp.{tied_itself}
 use Rattle.std.specs.Ordering.{ordering_reverse, is_lt, is_eq}
@@ -141,6 +141,10 @@ not_yet {X = X} f xs ys i d within done = ap (λ zs. get_or zs i d) done ∙ at 
     at [] k h = absurd (omega arith)
     at (z ∷ zs) zero h = refl
     at (z ∷ zs) (suc k) h = at zs k (omega arith)
+
+pub not_yet_all : {X : Type 0} (P : X → Type 0) (f : X → X) (xs ys : List X) (i : ℕ) (d : X) → i < length xs → ys ≡ map f (take i xs) ++ drop i xs
+    → All P xs → P (get_or ys i d)
+not_yet_all P f xs ys i d within done all = subst P (sym (not_yet f xs ys i d within done)) (all i d within)
 
 pub mapped_all : {X : Type 0} (f : X → X) (xs ys : List X) (i : ℕ) → length xs ≤ i → ys ≡ map f (take i xs) ++ drop i xs → ys ≡ map f xs
 mapped_all f xs ys i past done =

@@ -290,6 +290,19 @@ pub kinds_same : (f : ColumnState → ColumnState) → ((c : ColumnState) → ki
 kinds_same f same [] = refl
 kinds_same f same (c ∷ cs) = λ t. same c t ∷ kinds_same f same cs t
 
+-- the table under columns of the same kinds
+pub changed_table : (ids : List Id) (cs ds : List ColumnState) (es : List Entity) (room room' : ℕ) (rows : List TableRow) → map kind_of ds ≡ map kind_of cs
+    → rows_of ids ds es ≡ rows → room ≡ room'
+    → table_of ids ds es room ≡ record { ids = ids; widths = map (width_among (map kind_of cs)) ids; rows = rows; room = room' }
+changed_table ids cs ds es room room' rows kinds shown left = λ t.
+    record { ids = ids; widths = map (width_among (kinds t)) ids; rows = shown t; room = left t }
+
+-- so it is where they were mapped
+pub mapped_table : (ids : List Id) (f : ColumnState → ColumnState) (cs ds : List ColumnState) (es : List Entity) (room room' : ℕ) (rows : List TableRow)
+    → ((c : ColumnState) → kind_of (f c) ≡ kind_of c) → ds ≡ map f cs → rows_of ids ds es ≡ rows → room ≡ room'
+    → table_of ids ds es room ≡ record { ids = ids; widths = map (width_among (map kind_of cs)) ids; rows = rows; room = room' }
+mapped_table ids f cs ds es room room' rows same mapped = changed_table ids cs ds es room room' rows (ap (map kind_of) mapped ∙ kinds_same f same cs)
+
 pub written_kind : (row : ℕ) (i : Id) (v : Value) (c : ColumnState) → kind_of (written c row i v) ≡ kind_of c
 written_kind row i v c = by (id_eq c.id i)
   where

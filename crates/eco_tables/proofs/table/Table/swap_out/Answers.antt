@@ -1,7 +1,7 @@
-use Rattle.std.proofs.Common.{◌≡◌, ◌++◌, ◌+◌, ap, sym, ◌∙◌, refl, length, map, take, drop}
+use Rattle.std.proofs.Common.{◌≡◌, ◌++◌, ap, sym, ◌∙◌, refl, length, take, drop}
 use Rattle.std.specs.List.{swap_remove, slice_get}
-use Rattle.eco_tables.specs.Column.{kind_of, with_removed}
-use Rattle.eco_tables.specs.Table.{rows_of, width_among}
+use Rattle.eco_tables.specs.Column.{with_removed}
+use Rattle.eco_tables.specs.Table.{rows_of}
 use Rattle.eco_tables.specs.Tables.{no_row}
 use Rattle.eco_tables.proofs.Rows.{entities_of_all, mapped_table, removed_rows, rewritten, row_in_columns, row_within, shape_removed}
 use Rattle.eco_tables.proofs.table.Table.swap_out.Goals as goal

@@ -1,6 +1,6 @@
 -- Tables are found exactly after a table was made, dropped or its rows changed.
 use Rattle.std.proofs.Common.{◌≡◌, ◌≢◌, ℕ, ◌<◌, Bool, true, false, cond, ◌&&◌, List, [], ◌∷◌, length, slice_get, Option, Some, None, option_map, unwrap_or}
-use Rattle.std.proofs.Common.{IsSome, nat_eq, refl, sym, ap, ◌∙◌, arith, inl, inr, is_some}
+use Rattle.std.proofs.Common.{IsSome, nat_eq, refl, sym, ap, ◌∙◌, inl, inr, is_some}
 use Rattle.std.specs.HashMap.{HashMap, get}
 use Rattle.std.specs.Map.{lookup}
 use Rattle.std.proofs.lemmas.Bool.{cases_eq}
@@ -9,6 +9,7 @@ use Rattle.eco_ids.specs.declared.pattern.Pattern.{Pattern}
 use Rattle.eco_ids.specs.declared.id.Id.{Id}
 use Rattle.eco_tables.specs.Table.{TableState, TableRow}
 use Rattle.eco_tables.specs.Tables.{slot_of, table_in, no_table, SetsSlot, Moves, MovesAll, rowless, rowless_type}
+use Rattle.eco_tables.proofs.Slots.{room_some, row_some}
 use Rattle.eco_index.specs.TypeMap.{LeadAlike, IsTypeMap, same_ids}
 use Rattle.eco_index.specs.IdIndex.{Lists, any_matches, Turns}
 use Rattle.eco_index.specs.Edges.{toggled, Cuts, Links, SameEdges}
@@ -23,18 +24,10 @@ use Rattle.eco_archetypes.proofs.Widths.{kept_agreed, kinds, sets_kept}
 
 -- a slot whose table has a row, or room, has a table
 pub there_by_row : (s : List (Option TableState)) (n row : ℕ) → row < length (table_in s n).rows → IsSome (slot_of s n)
-there_by_row s n row = by (slot_of s n)
-  where
-    by : (o : Option TableState) → row < length (unwrap_or o no_table).rows → IsSome o
-    by None h = absurd (omega arith)
-    by (Some t) h = refl
+there_by_row = row_some
 
 pub there_by_room : (s : List (Option TableState)) (n : ℕ) → 0 < (table_in s n).room → IsSome (slot_of s n)
-there_by_room s n = by (slot_of s n)
-  where
-    by : (o : Option TableState) → 0 < (unwrap_or o no_table).room → IsSome o
-    by None h = absurd (omega arith)
-    by (Some t) h = refl
+there_by_room = room_some
 
 -- the type of a table that is there
 pub type_there : (s : List (Option TableState)) (n : ℕ) → IsSome (slot_of s n) → type_at s n ≡ Some (table_in s n).ids

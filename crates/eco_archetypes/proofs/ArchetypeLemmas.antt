@@ -72,27 +72,34 @@ module _ (s s' : List (Option TableState)) where
   moves_all_types from to moves there_from there_to =
       joined_types from to _ _ moves.source moves.target moves.others (type_there s from there_from) (type_there s to there_to)
 
+-- one slot has another type, or none, and comes to lists, or off them, as that type demands
+pub index_turned : (types types' : ℕ → Option (List Id)) (l l' : Lists) (n : ℕ) (b : Bool) (picks : Pattern → Bool) → IsIdIndex types l
+    → ((k : ℕ) → k ≢ n → types' k ≡ types k) → Turns b picks l l' n
+    → ((f : Pattern) → cond (picks f && true) b (type_matches (types n) f) ≡ type_matches (types' n) f) → IsIdIndex types' l'
+index_turned types types' l l' n b picks index others turns turned f k = turns f k ∙ by (nat_eq n k) refl
+  where
+    neither : (c d : Bool) → cond (c && false) b d ≡ d
+    neither true d = refl
+    neither false d = refl
+
+    by : (c : Bool) → nat_eq n k ≡ c → cond (picks f && c) b (l f k) ≡ type_matches (types' k) f
+    by true e =
+        let here : n ≡ k = (Decides-eqb n k).0 e in
+        ap (cond (picks f && true) b) (ap (l f) (sym here) ∙ index f n) ∙ turned f ∙ ap (λ m. type_matches (types' m) f) here
+    by false e =
+        let apart : k ≢ n = λ h. let same : nat_eq n k ≡ true = (Decides-eqb n k).1 (sym h) in cc in
+        neither (picks f) (l f k) ∙ index f k ∙ ap (λ o. type_matches o f) (sym (others k apart))
+
 -- a type comes to a slot that had none, and the index lists the slot under the patterns of its ids
 pub index_made : (types types' : ℕ → Option (List Id)) (l l' : Lists) (n : ℕ) (ids : List Id) → ((k : ℕ) → k ≢ n → types' k ≡ types k)
     → IsIdIndex types l → types' n ≡ Some ids → types n ≡ None → Turns true (any_matches ids) l l' n → IsIdIndex types' l'
-index_made types types' l l' n ids others matches now vacant turns f k = turns f k ∙ by (nat_eq n k) refl
+index_made types types' l l' n ids others matches now vacant turns =
+    index_turned types types' l l' n true (any_matches ids) matches others turns
+    (λ f. ap (λ o. cond (any_matches ids f && true) true (type_matches o f)) vacant ∙ by (any_matches ids f) ∙ sym (ap (λ o. type_matches o f) now))
   where
-    either : (c x : Bool) → x ≡ false → cond (c && true) true x ≡ c
-    either true x h = refl
-    either false x h = h
-
-    neither : (c x : Bool) → cond (c && false) true x ≡ x
-    neither true x = refl
-    neither false x = refl
-
-    by : (b : Bool) → nat_eq n k ≡ b → cond (any_matches ids f && b) true (l f k) ≡ type_matches (types' k) f
-    by true e =
-        let here : n ≡ k = (Decides-eqb n k).0 e in
-        let was : l f k ≡ false = matches f k ∙ ap (λ o. type_matches o f) (sym (ap types here) ∙ vacant) in
-        either (any_matches ids f) (l f k) was ∙ sym (ap (λ o. type_matches o f) (sym (ap types' here) ∙ now))
-    by false e =
-        let apart : k ≢ n = λ h. let same : nat_eq n k ≡ true = (Decides-eqb n k).1 (sym h) in cc in
-        neither (any_matches ids f) (l f k) ∙ matches f k ∙ ap (λ o. type_matches o f) (sym (others k apart))
+    by : (b : Bool) → cond (b && true) true false ≡ b
+    by true = refl
+    by false = refl
 
 -- one slot is set
 pub changes_type : (s s' : List (Option TableState)) (n : ℕ) (o : Option TableState) → SetsSlot s s' n o
@@ -169,16 +176,16 @@ module _ {S E : Type 0} {ks : List Cache} {s : List (Option TableState)} {m : Ha
       → IsIdIndex (type_at s') l'
       → AreTold ks ks' n (Some t.ids)
       → IsArchetypes s' m' l' g ks'
-  found_made {ks'} {s'} {m'} {l'} {n} {t} sets vacant agreed absent gets matches told = record {
-    types =
-        type_map-insert (type_at s) (type_at s') m m' t.ids n (λ k other. ap (option_map (λ (x : TableState). x.ids)) (sets.others k other))
-        found.types (ap (option_map (λ (x : TableState). x.ids)) sets.changed) (ap (option_map (λ (x : TableState). x.ids)) vacant) absent gets;
-    matches = matches;
-    graph = graph_made (type_at s) (type_at s') g n found.graph (ap (option_map (λ (x : TableState). x.ids)) vacant)
-        (λ k other. ap (option_map (λ (x : TableState). x.ids)) (sets.others k other));
-    agreed = agreed;
-    cached = told (type_at s) (type_at s') (changes_type s s' n (Some t) sets) found.cached;
-  }
+  found_made {ks'} {s'} {m'} {l'} {n} {t} sets vacant agreed absent gets matches told =
+      let changes = changes_type s s' n (Some t) sets in
+      let none : type_at s n ≡ None = ap (option_map (λ (x : TableState). x.ids)) vacant in
+      record {
+        types = type_map-insert (type_at s) (type_at s') m m' t.ids n changes.others found.types changes.there none absent gets;
+        matches = matches;
+        graph = graph_made (type_at s) (type_at s') g n found.graph none changes.others;
+        agreed = agreed;
+        cached = told (type_at s) (type_at s') changes found.cached;
+      }
 
   -- a table that was dropped is found no more
   pub found_dropped : {ks' : List Cache} {s' : List (Option TableState)} {m' : HashMap (List Id) ℕ S} {l' : Lists} {g' : List (HashMap Id ℕ E)}
@@ -188,34 +195,21 @@ module _ {S E : Type 0} {ks : List Cache} {s : List (Option TableState)} {m : Ha
       → Cuts g g' n
       → AreTold ks ks' n None
       → IsArchetypes s' m' l' g' ks'
-  found_dropped {ks'} {s'} {m'} {l'} {g'} {n} {ids} sets had gets turns cuts told = record {
-    types =
-        type_map-remove (type_at s) (type_at s') m m' ids n (λ k other. ap (option_map (λ (x : TableState). x.ids)) (sets.others k other))
-        found.types (ap (option_map (λ (x : TableState). x.ids)) sets.changed) had gets;
-    matches = λ f k. turns f k ∙ by f k (nat_eq n k) refl;
-    graph = graph_cut (type_at s) (type_at s') g g' n found.graph cuts (λ k other. ap (option_map (λ (x : TableState). x.ids)) (sets.others k other));
-    agreed = kept_agreed s s' (sets_kept s s' n None sets (inr refl)) found.agreed;
-    cached = told (type_at s) (type_at s') (changes_type s s' n None sets) found.cached;
-  }
+  found_dropped {ks'} {s'} {m'} {l'} {g'} {n} {ids} sets had gets turns cuts told =
+      let changes = changes_type s s' n None sets in
+      record {
+        types = type_map-remove (type_at s) (type_at s') m m' ids n changes.others found.types changes.there had gets;
+        matches = index_turned (type_at s) (type_at s') l l' n false (any_matches ids) found.matches changes.others turns
+            (λ f. ap (λ o. cond (any_matches ids f && true) false (type_matches o f)) had ∙ by (any_matches ids f)
+            ∙ sym (ap (λ o. type_matches o f) changes.there));
+        graph = graph_cut (type_at s) (type_at s') g g' n found.graph cuts changes.others;
+        agreed = kept_agreed s s' (sets_kept s s' n None sets (inr refl)) found.agreed;
+        cached = told (type_at s) (type_at s') changes found.cached;
+      }
     where
-      by : (f : Pattern) (k : ℕ) (b : Bool) → nat_eq n k ≡ b → cond (any_matches ids f && b) false (l f k) ≡ type_matches (type_at s' k) f
-      by f k true e =
-          let here : n ≡ k = (Decides-eqb n k).0 e in
-          let was : l f k ≡ any_matches ids f = found.matches f k ∙ ap (λ j. type_matches (type_at s j) f) (sym here) ∙ ap (λ o. type_matches o f) had in
-          either (any_matches ids f) (l f k) was ∙ sym (ap (λ j. type_matches (type_at s' j) f) (sym here)
-          ∙ ap (λ o. type_matches (option_map (λ (x : TableState). x.ids) o) f) sets.changed)
-        where
-          either : (c x : Bool) → x ≡ c → cond (c && true) false x ≡ false
-          either true x h = refl
-          either false x h = h
-      by f k false e =
-          let apart : k ≢ n = λ h. let same : nat_eq n k ≡ true = (Decides-eqb n k).1 (sym h) in cc in
-          neither (any_matches ids f) (l f k) ∙ found.matches f k ∙ ap (λ o. type_matches (option_map (λ (x : TableState). x.ids) o) f)
-          (sym (sets.others k apart))
-        where
-          neither : (c x : Bool) → cond (c && false) false x ≡ x
-          neither true x = refl
-          neither false x = refl
+      by : (b : Bool) → cond (b && true) false b ≡ false
+      by true = refl
+      by false = refl
 
 -- a table that was answered as without rows had that type
 pub rowless-type_at : (s : List (Option TableState)) (n : ℕ) (ids : List Id) → Some ids ≡ rowless_type (slot_of s n) → type_at s n ≡ Some ids

@@ -2,6 +2,7 @@
 use Rattle.std.proofs.Common.{◌≡◌, ◌≢◌, ℕ, List, Option, Some, None, false, true≢false, is_some, IsSome, IsTrue, Result, Ok, Err, IfOk, OnOk, OnErr, refl}
 use Rattle.std.proofs.Common.{sym, ap, subst, ◌∙◌}
 use Rattle.std.specs.HashMap.{HashMap}
+use Rattle.std.proofs.lemmas.Option.{same_Some}
 use Rattle.eco_ids.specs.declared.id.Id.{Id}
 use Rattle.eco_ids.specs.Order.{id_cmp, is_ascending}
 use Rattle.eco_tables.specs.Table.{TableState}
@@ -13,9 +14,6 @@ use Rattle.eco_index.proofs.Toggles.{toggled_other, twice}
 use Rattle.eco_archetypes.specs.Archetypes.{type_at, IsArchetypes}
 use Rattle.eco_archetypes.proofs.ArchetypeLemmas.{found_linked, found_unlinked, one_slot, type_there, there_as_typed, typed_table}
 
-some_is : {X : Type 0} (x y : X) → Some x ≡ Some y → x ≡ y
-some_is x y e = cc
-
 some_none : {X P : Type 0} (x : X) → Some x ≡ None → P
 some_none x e = absurd (cc)
 
@@ -25,7 +23,7 @@ none_is (Some x) h = absurd (true≢false h)
 
 -- tables of which one has the id more stand in two slots
 pub apart_by_type : (s : List (Option TableState)) (n m : ℕ) (i : Id) (ids : List Id) → type_at s n ≡ Some ids → type_at s m ≡ Some (toggled ids i) → n ≢ m
-apart_by_type s n m i ids from to same = toggled_other ids i (some_is _ _ (sym to ∙ sym (ap (type_at s) same) ∙ from))
+apart_by_type s n m i ids from to same = toggled_other ids i (same_Some _ _ (sym to ∙ sym (ap (type_at s) same) ∙ from))
 
 -- what holds of the slot that a call answers
 pub of_slot : {E : Type 0} (P : ℕ → Type 0) (n : ℕ) (r : Result ℕ E) → IfOk r (λ m. m ≡ n) → P n → IfOk r P
@@ -71,7 +69,7 @@ module _ {S E : Type 0} {ks : List Cache} {s : List (Option TableState)} {m : Ha
       by None e = refl
       by (Some k) e =
           let was = found.graph to k i e in
-          let ids : was.0 ≡ toggled own i = some_is _ _ (sym was.1 ∙ typed) in
+          let ids : was.0 ≡ toggled own i = same_Some _ _ (sym was.1 ∙ typed) in
           let back : type_at s k ≡ Some own = was.2 ∙ ap (λ xs. Some (toggled xs i)) ids ∙ ap Some (twice own i up) in
           let same : k ≡ from = one_slot s m found.types k from own back (type_there s from there) in
           some_none to (sym (ap (λ j. edge g j i) (sym same) ∙ twofold to k i e) ∙ free)

@@ -1,10 +1,11 @@
 use Rattle.std.proofs.Common.{Some, None, cond, ap, sym, subst, ◌∙◌}
 use Rattle.std.specs.Map.{lookup}
+use Rattle.std.proofs.lemmas.Option.{same_Some}
 use Rattle.eco_index.specs.TypeMap.{LeadsAlone, same_ids}
 use Rattle.eco_caches.proofs.Caching.{then_told}
 use Rattle.eco_archetypes.specs.Archetypes.{TakesType}
 use Rattle.eco_archetypes.proofs.ArchetypeLemmas.{found_ready}
-use Rattle.eco_archetypes.proofs.Turnings.{found_turned, one}
+use Rattle.eco_archetypes.proofs.Turnings.{found_turned}
 use Rattle.eco_archetypes.proofs.archetypes.Archetypes.turn.Goals as goal
 
 pub place_of-place-requires : goal.place_of-place-requires
@@ -21,7 +22,7 @@ invariant_of-self-2 c =
     let takes : TakesType s s1 c.args.slot c.args.type_list =
     subst (TakesType s s1 c.args.slot) (sym (rw (← c.self.view_is) at c.requires.typed)) c.lose.ensures.turned in
     let alone : LeadsAlone c.make_ready.new.by_type.slots old c.args.slot =
-    λ t e. one t old (sym (c.self.invariant.types.found t c.args.slot (ap (lookup (same_ids t)) (sym c.make_ready.ensures.same) ∙ e)) ∙ had) in
+    λ t e. same_Some t old (sym (c.self.invariant.types.found t c.args.slot (ap (lookup (same_ids t)) (sym c.make_ready.ensures.same) ∙ e)) ∙ had) in
     found_turned c.self.invariant had takes
     (rw (← c.self.view_is) at c.requires.absent)
     (λ q. c.rename_at.ensures old alone q

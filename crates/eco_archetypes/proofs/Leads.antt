@@ -1,5 +1,5 @@
 -- Where the edge of an id leads.
-use Rattle.std.proofs.Common.{◌≡◌, ◌≢◌, ℕ, List, Option, Some, None, false, true≢false, is_some, IsSome, IsTrue, Result, Ok, Err, IfOk, OnOk, OnErr, refl}
+use Rattle.std.proofs.Common.{◌≡◌, ◌≢◌, ℕ, List, Option, Some, None, IsSome, IsTrue, Result, Ok, Err, IfOk, OnOk, OnErr, refl}
 use Rattle.std.proofs.Common.{sym, ap, subst, ◌∙◌}
 use Rattle.std.specs.HashMap.{HashMap}
 use Rattle.std.proofs.lemmas.Option.{same_Some}
@@ -16,10 +16,6 @@ use Rattle.eco_archetypes.proofs.ArchetypeLemmas.{found_linked, found_unlinked, 
 
 some_none : {X P : Type 0} (x : X) → Some x ≡ None → P
 some_none x e = absurd (cc)
-
-pub none_is : {X : Type 0} (o : Option X) → is_some o ≡ false → o ≡ None
-none_is None h = refl
-none_is (Some x) h = absurd (true≢false h)
 
 -- tables of which one has the id more stand in two slots
 pub apart_by_type : (s : List (Option TableState)) (n m : ℕ) (i : Id) (ids : List Id) → type_at s n ≡ Some ids → type_at s m ≡ Some (toggled ids i) → n ≢ m

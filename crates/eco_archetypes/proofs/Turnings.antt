@@ -12,7 +12,7 @@ use Rattle.eco_ids.specs.declared.id.Id.{Id}
 use Rattle.eco_ids.specs.declared.pattern.Pattern.{Pattern}
 use Rattle.eco_ids.specs.Order.{id_cmp, id_eq, has_item, is_ascending, with_item, without_item}
 use Rattle.eco_ids.proofs.Exact.{id_eq_sym}
-use Rattle.eco_ids.proofs.Facts.{equal_tie}
+use Rattle.eco_ids.proofs.Facts.{equal_tie, or_right}
 use Rattle.eco_ids.proofs.IdOrder.{id_cmp_total, same_id}
 use Rattle.eco_ids.specs.OrderLaws.{id_ties}
 use Rattle.eco_ids.proofs.SameIds.{id_eq-Decides, same_ids-Decides}
@@ -154,16 +154,12 @@ found_width : (f : Id → ℕ) (ids : List Id) (j : Id) (k : ℕ) → find id_cm
 found_width f [] j k e = absurd (let none : ◌≡◌ {A = Option ℕ} None (Some k) = e in cc)
 found_width f (y ∷ ys) j k e = by (id_eq j y) refl e (found_width f ys j k)
   where
-    or_true : (b c : Bool) → c ≡ true → (b || c) ≡ true
-    or_true true c h = refl
-    or_true false c h = h
-
     by : (b : Bool) → id_eq j y ≡ b → cond b (Some (f y)) (find id_cmp j (paired ys (map f ys))) ≡ Some k
         → (find id_cmp j (paired ys (map f ys)) ≡ Some k → (k ≡ f j) × (has_item id_cmp ys j ≡ true))
         → (k ≡ f j) × ((id_eq y j || has_item id_cmp ys j) ≡ true)
     by true is h rest =
         (sym (same_Some (f y) k h) ∙ ap f (sym (is_same j y is)), ap (λ b. b || has_item id_cmp ys j) (id_eq_sym y j ∙ is))
-    by false is h rest = ((rest h).0, or_true (id_eq y j) (has_item id_cmp ys j) (rest h).1)
+    by false is h rest = ((rest h).0, or_right (id_eq y j) (has_item id_cmp ys j) (rest h).1)
 
 module _ (s s' : List (Option TableState)) (n : ℕ) (ids : List Id) (i : Id) (w : ℕ) (sets : SetsSlot s s' n (Some (turned (table_in s n) ids i w)))
     (wide : (j : Id) → has_item id_cmp ids j ≡ true → id_eq j i ≡ false → IsSome (width_in (table_in s n) j)) where

@@ -1,5 +1,6 @@
 use Rattle.std.proofs.Common.{sym, ◌∙◌}
-use Rattle.eco_archetypes.proofs.Leads.{link_apart, back_free, found_joined, none_is}
+use Rattle.eco_tables.proofs.Slots.{none_is}
+use Rattle.eco_archetypes.proofs.Leads.{link_apart, back_free, found_joined}
 use Rattle.eco_archetypes.proofs.archetypes.Archetypes.link.Goals as goal
 
 pub link-linked-requires-clause-apart : goal.link-linked-requires-clause-apart

@@ -30,10 +30,6 @@ pub of_slot_after : {E : Type 0} (P : ℕ → Type 0) (n : ℕ) (r : Result ℕ 
 of_slot_after P n (Ok m) is h = subst P (sym is) h
 of_slot_after P n (Err e) is h = is
 
-pub on_ok : {T E P Q : Type 0} (r : Result T E) → (P → Q) → OnOk r P → OnOk r Q
-on_ok (Ok x) f h = f h
-on_ok (Err e) f h = h
-
 module _ {E : Type 0} (s : List (Option TableState)) (g : List (HashMap Id ℕ E)) (graph : IsGraph (type_at s) g) (n m : ℕ) (i : Id)
     (leads : edge g n i ≡ Some m) where
   pub lead_there : IsSome (slot_of s m)

@@ -152,6 +152,7 @@ impl Archetypes {
 }
 
 // Room for what comes when the type of a slot changes, as `reserve_one` makes it, and the slot's places are noted.
+#[inline]
 fn make_ready(by_type: &mut TypeMap, caches: &mut Caches, slot: TableSlot) -> Result<(), AllocError>
     ensures same { IsUnchanged (slots_by_type by_type.old) (slots_by_type by_type.new) }
     ensures exact { StayExact (cache_list caches.old) (cache_list caches.new) }

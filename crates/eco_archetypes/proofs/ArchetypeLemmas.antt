@@ -1,6 +1,6 @@
 -- Tables are found exactly after a table was made, dropped or its rows changed.
 use Rattle.std.proofs.Common.{◌≡◌, ◌≢◌, ℕ, ◌<◌, Bool, true, false, cond, ◌&&◌, List, [], ◌∷◌, length, slice_get, Option, Some, None, option_map, unwrap_or}
-use Rattle.std.proofs.Common.{IsSome, nat_eq, refl, sym, ap, ◌∙◌, arith, inl, inr, is_some}
+use Rattle.std.proofs.Common.{IsSome, nat_eq, refl, sym, ap, ◌∙◌, inl, inr, is_some}
 use Rattle.std.specs.HashMap.{HashMap, get}
 use Rattle.std.specs.Map.{lookup}
 use Rattle.std.proofs.lemmas.Bool.{cases_eq}
@@ -9,32 +9,25 @@ use Rattle.eco_ids.specs.declared.pattern.Pattern.{Pattern}
 use Rattle.eco_ids.specs.declared.id.Id.{Id}
 use Rattle.eco_tables.specs.Table.{TableState, TableRow}
 use Rattle.eco_tables.specs.Tables.{slot_of, table_in, no_table, SetsSlot, Moves, MovesAll, rowless, rowless_type}
+use Rattle.eco_tables.proofs.Slots.{room_some, row_some}
 use Rattle.eco_index.specs.TypeMap.{LeadAlike, IsTypeMap, same_ids}
 use Rattle.eco_index.specs.IdIndex.{Lists, any_matches, Turns}
 use Rattle.eco_index.specs.Edges.{toggled, Cuts, Links, SameEdges}
-use Rattle.eco_caches.specs.Caching.{AreExact, AreTold, ChangesType}
+use Rattle.eco_caches.specs.Caching.{AreExact, AreTold, ChangesType, StayExact}
 use Rattle.eco_caches.specs.declared.cache.Cache.{Cache}
 use Rattle.eco_caches.proofs.Caching.{exact_types}
 use Rattle.eco_index.proofs.Graphs.{graph_made, graph_cut, graph_linked}
 use Rattle.eco_index.proofs.TypeMaps.{type_map-insert, type_map-remove}
 use Rattle.eco_archetypes.specs.Archetypes.{type_at, type_matches, IsIdIndex, IsArchetypes, SameSlots, SameRows}
 use Rattle.eco_archetypes.specs.Widths.{AreAgreed}
-use Rattle.eco_archetypes.proofs.Widths.{kept_agreed, sets_kept}
+use Rattle.eco_archetypes.proofs.Widths.{kept_agreed, kinds, sets_kept}
 
 -- a slot whose table has a row, or room, has a table
 pub there_by_row : (s : List (Option TableState)) (n row : ℕ) → row < length (table_in s n).rows → IsSome (slot_of s n)
-there_by_row s n row = by (slot_of s n)
-  where
-    by : (o : Option TableState) → row < length (unwrap_or o no_table).rows → IsSome o
-    by None h = absurd (omega arith)
-    by (Some t) h = refl
+there_by_row = row_some
 
 pub there_by_room : (s : List (Option TableState)) (n : ℕ) → 0 < (table_in s n).room → IsSome (slot_of s n)
-there_by_room s n = by (slot_of s n)
-  where
-    by : (o : Option TableState) → 0 < (unwrap_or o no_table).room → IsSome o
-    by None h = absurd (omega arith)
-    by (Some t) h = refl
+there_by_room = room_some
 
 -- the type of a table that is there
 pub type_there : (s : List (Option TableState)) (n : ℕ) → IsSome (slot_of s n) → type_at s n ≡ Some (table_in s n).ids
@@ -79,27 +72,34 @@ module _ (s s' : List (Option TableState)) where
   moves_all_types from to moves there_from there_to =
       joined_types from to _ _ moves.source moves.target moves.others (type_there s from there_from) (type_there s to there_to)
 
+-- one slot has another type, or none, and comes to lists, or off them, as that type demands
+pub index_turned : (types types' : ℕ → Option (List Id)) (l l' : Lists) (n : ℕ) (b : Bool) (picks : Pattern → Bool) → IsIdIndex types l
+    → ((k : ℕ) → k ≢ n → types' k ≡ types k) → Turns b picks l l' n
+    → ((f : Pattern) → cond (picks f && true) b (type_matches (types n) f) ≡ type_matches (types' n) f) → IsIdIndex types' l'
+index_turned types types' l l' n b picks index others turns turned f k = turns f k ∙ by (nat_eq n k) refl
+  where
+    neither : (c d : Bool) → cond (c && false) b d ≡ d
+    neither true d = refl
+    neither false d = refl
+
+    by : (c : Bool) → nat_eq n k ≡ c → cond (picks f && c) b (l f k) ≡ type_matches (types' k) f
+    by true e =
+        let here : n ≡ k = (Decides-eqb n k).0 e in
+        ap (cond (picks f && true) b) (ap (l f) (sym here) ∙ index f n) ∙ turned f ∙ ap (λ m. type_matches (types' m) f) here
+    by false e =
+        let apart : k ≢ n = λ h. let same : nat_eq n k ≡ true = (Decides-eqb n k).1 (sym h) in cc in
+        neither (picks f) (l f k) ∙ index f k ∙ ap (λ o. type_matches o f) (sym (others k apart))
+
 -- a type comes to a slot that had none, and the index lists the slot under the patterns of its ids
 pub index_made : (types types' : ℕ → Option (List Id)) (l l' : Lists) (n : ℕ) (ids : List Id) → ((k : ℕ) → k ≢ n → types' k ≡ types k)
     → IsIdIndex types l → types' n ≡ Some ids → types n ≡ None → Turns true (any_matches ids) l l' n → IsIdIndex types' l'
-index_made types types' l l' n ids others matches now vacant turns f k = turns f k ∙ by (nat_eq n k) refl
+index_made types types' l l' n ids others matches now vacant turns =
+    index_turned types types' l l' n true (any_matches ids) matches others turns
+    (λ f. ap (λ o. cond (any_matches ids f && true) true (type_matches o f)) vacant ∙ by (any_matches ids f) ∙ sym (ap (λ o. type_matches o f) now))
   where
-    either : (c x : Bool) → x ≡ false → cond (c && true) true x ≡ c
-    either true x h = refl
-    either false x h = h
-
-    neither : (c x : Bool) → cond (c && false) true x ≡ x
-    neither true x = refl
-    neither false x = refl
-
-    by : (b : Bool) → nat_eq n k ≡ b → cond (any_matches ids f && b) true (l f k) ≡ type_matches (types' k) f
-    by true e =
-        let here : n ≡ k = (Decides-eqb n k).0 e in
-        let was : l f k ≡ false = matches f k ∙ ap (λ o. type_matches o f) (sym (ap types here) ∙ vacant) in
-        either (any_matches ids f) (l f k) was ∙ sym (ap (λ o. type_matches o f) (sym (ap types' here) ∙ now))
-    by false e =
-        let apart : k ≢ n = λ h. let same : nat_eq n k ≡ true = (Decides-eqb n k).1 (sym h) in cc in
-        neither (any_matches ids f) (l f k) ∙ matches f k ∙ ap (λ o. type_matches o f) (sym (others k apart))
+    by : (b : Bool) → cond (b && true) true false ≡ b
+    by true = refl
+    by false = refl
 
 -- one slot is set
 pub changes_type : (s s' : List (Option TableState)) (n : ℕ) (o : Option TableState) → SetsSlot s s' n o
@@ -109,45 +109,49 @@ changes_type s s' n o sets = record {
   others = λ k other. ap (option_map (λ (t : TableState). t.ids)) (sets.others k other);
 }
 
-module _ {S E : Type 0} {ks : List Cache} (s s' : List (Option TableState)) (m m' : HashMap (List Id) ℕ S) (l l' : Lists) (g g' : List (HashMap Id ℕ E)) where
-  -- the same types are found by the same maps
-  pub found_same : IsArchetypes s m l g ks → ((k : ℕ) → type_at s' k ≡ type_at s k) → AreAgreed s' → IsArchetypes s' m l g ks
-  found_same found same agreed = record {
-    types = record {
-      found = λ t n e. same n ∙ found.types.found t n e;
-      there = λ t n e. found.types.there t n (sym (same n) ∙ e);
-    };
-    matches = λ f n. found.matches f n ∙ ap (λ o. type_matches o f) (sym (same n));
-    graph = λ n k i e. let was = found.graph n k i e in (was.0, same n ∙ was.1, same k ∙ was.2);
-    agreed = agreed;
-    cached = exact_types (type_at s) (type_at s') ks same found.cached;
-  }
+module _ {S E : Type 0} {ks : List Cache} {s : List (Option TableState)} {m : HashMap (List Id) ℕ S} {l : Lists} {g : List (HashMap Id ℕ E)}
+    (found : IsArchetypes s m l g ks) where
+  module _ {s' : List (Option TableState)} where
+    module _ {ks' : List Cache} {m' : HashMap (List Id) ℕ S} {l' : Lists} where
+      -- the same types are found by a map in which each leads where it led
+      pub found_alike : ((k : ℕ) → type_at s' k ≡ type_at s k) → LeadAlike m m' → IsIdIndex (type_at s') l'
+          → AreAgreed s' → AreExact (type_at s') ks' → IsArchetypes s' m' l' g ks'
+      found_alike same alike matches agreed cached = record {
+        types = record {
+          found = λ t n e. same n ∙ found.types.found t n (sym (alike t) ∙ e);
+          there = λ t n e. alike t ∙ found.types.there t n (sym (same n) ∙ e);
+        };
+        matches = matches;
+        graph = λ n k i e. let was = found.graph n k i e in (was.0, same n ∙ was.1, same k ∙ was.2);
+        agreed = agreed;
+        cached = cached;
+      }
 
-  -- the same types are found by a map in which each leads where it led
-  pub found_alike : {ks' : List Cache} → IsArchetypes s m l g ks → ((k : ℕ) → type_at s' k ≡ type_at s k) → LeadAlike m m' → IsIdIndex (type_at s') l'
-      → AreAgreed s' → AreExact (type_at s') ks' → IsArchetypes s' m' l' g ks'
-  found_alike found same alike matches agreed cached = record {
-    types = record {
-      found = λ t n e. same n ∙ found.types.found t n (sym (alike t) ∙ e);
-      there = λ t n e. alike t ∙ found.types.there t n (sym (same n) ∙ e);
-    };
-    matches = matches;
-    graph = λ n k i e. let was = found.graph n k i e in (was.0, same n ∙ was.1, same k ∙ was.2);
-    agreed = agreed;
-    cached = cached;
-  }
+      -- the same types are found by maps that were made ready for more
+      pub found_kept : ((k : ℕ) → type_at s' k ≡ type_at s k) → m'.entries ≡ m.entries → IsIdIndex (type_at s') l'
+          → AreAgreed s' → AreExact (type_at s') ks' → IsArchetypes s' m' l' g ks'
+      found_kept same ready = found_alike same (λ t. ap (lookup (same_ids t)) ready)
 
-  -- the same types are found by maps that were made ready for more
-  pub found_kept : {ks' : List Cache} → IsArchetypes s m l g ks → ((k : ℕ) → type_at s' k ≡ type_at s k) → m'.entries ≡ m.entries → IsIdIndex (type_at s') l'
-      → AreAgreed s' → AreExact (type_at s') ks' → IsArchetypes s' m' l' g ks'
-  found_kept found same ready = found_alike found same (λ t. ap (lookup (same_ids t)) ready)
+    -- the same types are found by the same maps
+    pub found_same : ((k : ℕ) → type_at s' k ≡ type_at s k) → AreAgreed s' → IsArchetypes s' m l g ks
+    found_same same agreed =
+        found_kept same refl (λ f n. found.matches f n ∙ ap (λ o. type_matches o f) (sym (same n))) agreed
+        (exact_types (type_at s) (type_at s') ks same found.cached)
+
+    -- so they are where one table changes, and neither its ids nor how wide they are
+    pub found_set : {n : ℕ} {t : TableState} → SetsSlot s s' n (Some t) → IsSome (slot_of s n) → t.ids ≡ (table_in s n).ids
+        → kinds (Some t) ≡ kinds (slot_of s n) → IsArchetypes s' m l g ks
+    found_set {n} {t} sets there ids wide =
+        found_same (sets_types s s' n t sets there ids) (kept_agreed s s' (sets_kept s s' n (Some t) sets (inl wide)) found.agreed)
+
+  -- the same types are found by maps that were made ready for more, and no table changed
+  pub found_ready : {ks' : List Cache} {m' : HashMap (List Id) ℕ S} → m'.entries ≡ m.entries → StayExact ks ks' → IsArchetypes s m' l g ks'
+  found_ready ready exact = found_kept (λ k. refl) ready found.matches found.agreed (exact (type_at s) found.cached)
 
   -- two tables are joined by an id, of whose types one has it alone besides what the other has
-  pub found_linked : (a b : ℕ) (i : Id) (ids : List Id) → IsArchetypes s m l g ks → Links g g' a i b → type_at s a ≡ Some ids →
-      type_at s b ≡ Some (toggled ids i)
-      → toggled (toggled ids i) i ≡ ids
-      → IsArchetypes s m l g' ks
-  found_linked a b i ids found links from to twice = record {
+  pub found_linked : {g' : List (HashMap Id ℕ E)} (a b : ℕ) (i : Id) (ids : List Id) → Links g g' a i b → type_at s a ≡ Some ids
+      → type_at s b ≡ Some (toggled ids i) → toggled (toggled ids i) i ≡ ids → IsArchetypes s m l g' ks
+  found_linked {g'} a b i ids links from to twice = record {
     types = found.types;
     matches = found.matches;
     graph = graph_linked (type_at s) g g' a b i ids found.graph links from to twice;
@@ -156,8 +160,8 @@ module _ {S E : Type 0} {ks : List Cache} (s s' : List (Option TableState)) (m m
   }
 
   -- the same edges lead on
-  pub found_unlinked : IsArchetypes s m l g ks → SameEdges g g' → IsArchetypes s m l g' ks
-  found_unlinked found same = record {
+  pub found_unlinked : {g' : List (HashMap Id ℕ E)} → SameEdges g g' → IsArchetypes s m l g' ks
+  found_unlinked same = record {
     types = found.types;
     matches = found.matches;
     graph = λ n k i e. found.graph n k i (sym (same n i) ∙ e);
@@ -166,60 +170,46 @@ module _ {S E : Type 0} {ks : List Cache} (s s' : List (Option TableState)) (m m
   }
 
   -- a new table is found
-  pub found_made : {ks' : List Cache} → (n : ℕ) (t : TableState) → IsArchetypes s m l g ks → SetsSlot s s' n (Some t) → slot_of s n ≡ None
-      → AreAgreed s' → ((k : ℕ) → type_at s k ≢ Some t.ids)
+  pub found_made : {ks' : List Cache} {s' : List (Option TableState)} {m' : HashMap (List Id) ℕ S} {l' : Lists} {n : ℕ} {t : TableState}
+      → SetsSlot s s' n (Some t) → slot_of s n ≡ None → AreAgreed s' → ((k : ℕ) → type_at s k ≢ Some t.ids)
       → ((q : List Id) → get same_ids m' q ≡ cond (same_ids t.ids q) (Some n) (get same_ids m q))
-      → Turns true (any_matches t.ids) l l' n
+      → IsIdIndex (type_at s') l'
       → AreTold ks ks' n (Some t.ids)
       → IsArchetypes s' m' l' g ks'
-  found_made n t found sets vacant agreed absent gets turns told = record {
-    types =
-        type_map-insert (type_at s) (type_at s') m m' t.ids n (λ k other. ap (option_map (λ (x : TableState). x.ids)) (sets.others k other))
-        found.types (ap (option_map (λ (x : TableState). x.ids)) sets.changed) (ap (option_map (λ (x : TableState). x.ids)) vacant) absent gets;
-    matches =
-        index_made (type_at s) (type_at s') l l' n t.ids (λ k other. ap (option_map (λ (x : TableState). x.ids)) (sets.others k other))
-        found.matches (ap (option_map (λ (x : TableState). x.ids)) sets.changed) (ap (option_map (λ (x : TableState). x.ids)) vacant) turns;
-    graph = graph_made (type_at s) (type_at s') g n found.graph (ap (option_map (λ (x : TableState). x.ids)) vacant)
-        (λ k other. ap (option_map (λ (x : TableState). x.ids)) (sets.others k other));
-    agreed = agreed;
-    cached = told (type_at s) (type_at s') (changes_type s s' n (Some t) sets) found.cached;
-  }
+  found_made {ks'} {s'} {m'} {l'} {n} {t} sets vacant agreed absent gets matches told =
+      let changes = changes_type s s' n (Some t) sets in
+      let none : type_at s n ≡ None = ap (option_map (λ (x : TableState). x.ids)) vacant in
+      record {
+        types = type_map-insert (type_at s) (type_at s') m m' t.ids n changes.others found.types changes.there none absent gets;
+        matches = matches;
+        graph = graph_made (type_at s) (type_at s') g n found.graph none changes.others;
+        agreed = agreed;
+        cached = told (type_at s) (type_at s') changes found.cached;
+      }
 
   -- a table that was dropped is found no more
-  pub found_dropped : {ks' : List Cache} → (n : ℕ) (ids : List Id) → IsArchetypes s m l g ks → SetsSlot s s' n None → type_at s n ≡ Some ids
+  pub found_dropped : {ks' : List Cache} {s' : List (Option TableState)} {m' : HashMap (List Id) ℕ S} {l' : Lists} {g' : List (HashMap Id ℕ E)}
+      {n : ℕ} {ids : List Id} → SetsSlot s s' n None → type_at s n ≡ Some ids
       → ((q : List Id) → get same_ids m' q ≡ cond (same_ids ids q) None (get same_ids m q))
       → Turns false (any_matches ids) l l' n
       → Cuts g g' n
       → AreTold ks ks' n None
       → IsArchetypes s' m' l' g' ks'
-  found_dropped n ids found sets had gets turns cuts told = record {
-    types =
-        type_map-remove (type_at s) (type_at s') m m' ids n (λ k other. ap (option_map (λ (x : TableState). x.ids)) (sets.others k other))
-        found.types (ap (option_map (λ (x : TableState). x.ids)) sets.changed) had gets;
-    matches = λ f k. turns f k ∙ by f k (nat_eq n k) refl;
-    graph = graph_cut (type_at s) (type_at s') g g' n found.graph cuts (λ k other. ap (option_map (λ (x : TableState). x.ids)) (sets.others k other));
-    agreed = kept_agreed s s' (sets_kept s s' n None sets (inr refl)) found.agreed;
-    cached = told (type_at s) (type_at s') (changes_type s s' n None sets) found.cached;
-  }
+  found_dropped {ks'} {s'} {m'} {l'} {g'} {n} {ids} sets had gets turns cuts told =
+      let changes = changes_type s s' n None sets in
+      record {
+        types = type_map-remove (type_at s) (type_at s') m m' ids n changes.others found.types changes.there had gets;
+        matches = index_turned (type_at s) (type_at s') l l' n false (any_matches ids) found.matches changes.others turns
+            (λ f. ap (λ o. cond (any_matches ids f && true) false (type_matches o f)) had ∙ by (any_matches ids f)
+            ∙ sym (ap (λ o. type_matches o f) changes.there));
+        graph = graph_cut (type_at s) (type_at s') g g' n found.graph cuts changes.others;
+        agreed = kept_agreed s s' (sets_kept s s' n None sets (inr refl)) found.agreed;
+        cached = told (type_at s) (type_at s') changes found.cached;
+      }
     where
-      by : (f : Pattern) (k : ℕ) (b : Bool) → nat_eq n k ≡ b → cond (any_matches ids f && b) false (l f k) ≡ type_matches (type_at s' k) f
-      by f k true e =
-          let here : n ≡ k = (Decides-eqb n k).0 e in
-          let was : l f k ≡ any_matches ids f = found.matches f k ∙ ap (λ j. type_matches (type_at s j) f) (sym here) ∙ ap (λ o. type_matches o f) had in
-          either (any_matches ids f) (l f k) was ∙ sym (ap (λ j. type_matches (type_at s' j) f) (sym here)
-          ∙ ap (λ o. type_matches (option_map (λ (x : TableState). x.ids) o) f) sets.changed)
-        where
-          either : (c x : Bool) → x ≡ c → cond (c && true) false x ≡ false
-          either true x h = refl
-          either false x h = h
-      by f k false e =
-          let apart : k ≢ n = λ h. let same : nat_eq n k ≡ true = (Decides-eqb n k).1 (sym h) in cc in
-          neither (any_matches ids f) (l f k) ∙ found.matches f k ∙ ap (λ o. type_matches (option_map (λ (x : TableState). x.ids) o) f)
-          (sym (sets.others k apart))
-        where
-          neither : (c x : Bool) → cond (c && false) false x ≡ x
-          neither true x = refl
-          neither false x = refl
+      by : (b : Bool) → cond (b && true) false b ≡ false
+      by true = refl
+      by false = refl
 
 -- a table that was answered as without rows had that type
 pub rowless-type_at : (s : List (Option TableState)) (n : ℕ) (ids : List Id) → Some ids ≡ rowless_type (slot_of s n) → type_at s n ≡ Some ids

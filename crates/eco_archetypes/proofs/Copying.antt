@@ -89,37 +89,29 @@ module _ {S : Type 0} (s : Slots) (k : ℕ) (m m' : HashMap (List Id) ℕ S) whe
 -- ---- tables and their copies
 
 module _ (s copies : Slots) (are : AreCopies s copies) where
-  pub copied_types : (n : ℕ) → type_at copies n ≡ type_at s n
-  copied_types n = ap type_in (are n) ∙ by (slot_of s n)
+  copied_as : {X : Type 0} (f : Option TableState → X) → ((t : TableState) → f (Some (with_room t 0)) ≡ f (Some t)) → (n : ℕ)
+      → f (slot_of copies n) ≡ f (slot_of s n)
+  copied_as f same n = ap f (are n) ∙ by (slot_of s n)
     where
-      by : (o : Option TableState) → type_in (without_room o) ≡ type_in o
+      by : (o : Option TableState) → f (without_room o) ≡ f o
       by None = refl
-      by (Some t) = refl
+      by (Some t) = same t
+
+  pub copied_types : (n : ℕ) → type_at copies n ≡ type_at s n
+  copied_types = copied_as type_in (λ t. refl)
 
   pub copied_matches : (l l' : Lists) → ListsSame l l' → IsIdIndex (type_at s) l → IsIdIndex (type_at copies) l'
   copied_matches l l' same was p n = same p n ∙ was p n ∙ ap (λ o. type_matches o p) (sym (copied_types n))
 
   pub copied_rows : SameRows s copies
-  copied_rows n row = ap (λ o. slice_get (unwrap_or o no_table).rows row) (are n) ∙ by (slot_of s n)
-    where
-      by : (o : Option TableState) → slice_get (unwrap_or (without_room o) no_table).rows row ≡ slice_get (unwrap_or o no_table).rows row
-      by None = refl
-      by (Some t) = refl
+  copied_rows n row = copied_as (λ o. slice_get (unwrap_or o no_table).rows row) (λ t. refl) n
 
   pub copied_kept : AreKept s copies
-  copied_kept = record { each = λ n. inl (ap kinds (are n) ∙ by (slot_of s n)) }
-    where
-      by : (o : Option TableState) → kinds (without_room o) ≡ kinds o
-      by None = refl
-      by (Some t) = refl
+  copied_kept = record { each = λ n. inl (copied_as kinds (λ t. refl) n) }
 
   pub copied_rowless : (slots : List ℕ) → RowlessIn s slots → RowlessIn copies slots
-  copied_rowless slots was n empty = was n (sym (ap (λ o. is_some (rowless_type o)) (are n) ∙ by (slot_of s n)) ∙ empty)
+  copied_rowless slots was n empty = was n (sym (copied_as (λ o. is_some (rowless_type o)) (λ t. by t t.rows) n) ∙ empty)
     where
-      by_rows : (t : TableState) (rows : List TableRow) → is_some (rowless (with_room t 0) rows) ≡ is_some (rowless t rows)
-      by_rows t [] = refl
-      by_rows t (r ∷ rest) = refl
-
-      by : (o : Option TableState) → is_some (rowless_type (without_room o)) ≡ is_some (rowless_type o)
-      by None = refl
-      by (Some t) = by_rows t t.rows
+      by : (t : TableState) (rows : List TableRow) → is_some (rowless (with_room t 0) rows) ≡ is_some (rowless t rows)
+      by t [] = refl
+      by t (r ∷ rest) = refl

@@ -1,7 +1,7 @@
 -- One id in the place of another.
 use Rattle.std.proofs.Common.{◌≡◌, ◌≢◌, ℕ, ◌+◌, ◌++◌, true≢false, ◌&&◌, ◌||◌, not, Bool, true, false, cond, List, Option, Some, take, drop, remove}
 use Rattle.std.proofs.Common.{IsTrue, slice_get, get_or, suc, Ordering, Less, Equal, Greater, refl, sym, ap, ◌∙◌, arith}
-use Rattle.std.proofs.lemmas.Option.{slice_get_within, slice_get-get_or}
+use Rattle.std.proofs.lemmas.Option.{same_Some, slice_get_within, slice_get-get_or}
 use Rattle.std.specs.Prelude.{HoldsAt}
 use Rattle.std.specs.Ordering.{is_eq}
 use Rattle.eco_ids.specs.declared.id.Id.{Id}
@@ -26,10 +26,7 @@ exchanged_other ids i j lacks same = true≢false (sym (comes ids i j) ∙ ap (�
 -- the two stand in two slots
 pub exchanged_apart : (s : List (Option TableState)) (n m : ℕ) (ids : List Id) (i j : Id) → type_at s n ≡ Some ids → type_at s m ≡ Some (exchanged ids i j)
     → has_item id_cmp ids j ≡ false → n ≢ m
-exchanged_apart s n m ids i j from to lacks same = exchanged_other ids i j lacks (one _ _ (sym to ∙ sym (ap (type_at s) same) ∙ from))
-  where
-    one : (x y : List Id) → Some x ≡ Some y → x ≡ y
-    one x y e = cc
+exchanged_apart s n m ids i j from to lacks same = exchanged_other ids i j lacks (same_Some _ _ (sym to ∙ sym (ap (type_at s) same) ∙ from))
 
 -- the first id goes, and the second one comes
 pub in_two_steps : (ids : List Id) (i j : Id) → has_item id_cmp ids i ≡ true → has_item id_cmp ids j ≡ false → toggled (toggled ids i) j ≡ exchanged ids i j
@@ -50,11 +47,8 @@ is_equal Greater h = absurd (true≢false (sym h))
 
 stands : (ids : List Id) (x : Id) (k : ℕ) → slice_get ids k ≡ Some x → HoldsAt (λ y. id_cmp y x ≡ Equal) ids k
 stands ids x k at = λ d.
-    let is : get_or ids k d ≡ x = one _ _ (sym (slice_get-get_or ids k d (slice_get_within ids k x at)) ∙ at) in
+    let is : get_or ids k d ≡ x = same_Some _ _ (sym (slice_get-get_or ids k d (slice_get_within ids k x at)) ∙ at) in
     ap (λ y. id_cmp y x) is ∙ is_equal (id_cmp x x) (id_eq_itself x)
-  where
-    one : (y z : Id) → Some y ≡ Some z → y ≡ z
-    one y z e = cc
 
 -- two types that differ at one place alone: there one has the first id, and the other the second
 module _ (own other : List Id) (i j : Id) (k : ℕ) (up : IsTrue (is_ascending id_cmp own)) (up' : IsTrue (is_ascending id_cmp other))

@@ -1,7 +1,8 @@
 -- Where the edge of an id leads.
-use Rattle.std.proofs.Common.{◌≡◌, ◌≢◌, ℕ, List, Option, Some, None, false, true≢false, is_some, option_map, IsSome, IsTrue, Result, Ok, Err, OnOk, OnErr, refl}
-use Rattle.std.proofs.Common.{sym, ap, ◌∙◌}
+use Rattle.std.proofs.Common.{◌≡◌, ◌≢◌, ℕ, List, Option, Some, None, IsSome, IsTrue, Result, Ok, Err, IfOk, OnOk, OnErr, refl}
+use Rattle.std.proofs.Common.{sym, ap, subst, ◌∙◌}
 use Rattle.std.specs.HashMap.{HashMap}
+use Rattle.std.proofs.lemmas.Option.{same_Some}
 use Rattle.eco_ids.specs.declared.id.Id.{Id}
 use Rattle.eco_ids.specs.Order.{id_cmp, is_ascending}
 use Rattle.eco_tables.specs.Table.{TableState}
@@ -10,28 +11,24 @@ use Rattle.eco_index.specs.IdIndex.{Lists}
 use Rattle.eco_caches.specs.declared.cache.Cache.{Cache}
 use Rattle.eco_index.specs.Edges.{edge, toggled, IsGraph, IsTwofold, Links, SameEdges}
 use Rattle.eco_index.proofs.Toggles.{toggled_other, twice}
-use Rattle.eco_archetypes.specs.Archetypes.{type_at, IsArchetypes, KeepsTypes}
+use Rattle.eco_archetypes.specs.Archetypes.{type_at, IsArchetypes}
 use Rattle.eco_archetypes.proofs.ArchetypeLemmas.{found_linked, found_unlinked, one_slot, type_there, there_as_typed, typed_table}
-
-some_is : {X : Type 0} (x y : X) → Some x ≡ Some y → x ≡ y
-some_is x y e = cc
 
 some_none : {X P : Type 0} (x : X) → Some x ≡ None → P
 some_none x e = absurd (cc)
 
-pub none_is : {X : Type 0} (o : Option X) → is_some o ≡ false → o ≡ None
-none_is None h = refl
-none_is (Some x) h = absurd (true≢false h)
-
 -- tables of which one has the id more stand in two slots
 pub apart_by_type : (s : List (Option TableState)) (n m : ℕ) (i : Id) (ids : List Id) → type_at s n ≡ Some ids → type_at s m ≡ Some (toggled ids i) → n ≢ m
-apart_by_type s n m i ids from to same = toggled_other ids i (some_is _ _ (sym to ∙ sym (ap (type_at s) same) ∙ from))
+apart_by_type s n m i ids from to same = toggled_other ids i (same_Some _ _ (sym to ∙ sym (ap (type_at s) same) ∙ from))
 
--- a table that was read has the type still
-pub stays_typed : (s0 s s' : List (Option TableState)) (n : ℕ) (t : TableState) (ids : List Id) → s0 ≡ s → slot_of s0 n ≡ Some t → ids ≡ t.ids → KeepsTypes s s'
-    → type_at s' n ≡ Some ids
-stays_typed s0 s s' n t ids same at is keeps =
-    keeps n ids (ap (λ x. type_at x n) (sym same) ∙ ap (option_map (λ (x : TableState). x.ids)) at ∙ ap Some (sym is))
+-- what holds of the slot that a call answers
+pub of_slot : {E : Type 0} (P : ℕ → Type 0) (n : ℕ) (r : Result ℕ E) → IfOk r (λ m. m ≡ n) → P n → IfOk r P
+of_slot P n (Ok m) is h = subst P (sym is) h
+of_slot P n (Err e) is h = is
+
+pub of_slot_after : {E : Type 0} (P : ℕ → Type 0) (n : ℕ) (r : Result ℕ E) → IfOk r (λ m. m ≡ n) → OnOk r (P n) → IfOk r P
+of_slot_after P n (Ok m) is h = subst P (sym is) h
+of_slot_after P n (Err e) is h = is
 
 module _ {E : Type 0} (s : List (Option TableState)) (g : List (HashMap Id ℕ E)) (graph : IsGraph (type_at s) g) (n m : ℕ) (i : Id)
     (leads : edge g n i ≡ Some m) where
@@ -46,8 +43,8 @@ module _ {E : Type 0} (s : List (Option TableState)) (g : List (HashMap Id ℕ E
 
 -- ---- an edge is stored
 
-module _ {S E : Type 0} {ks : List Cache} (s : List (Option TableState)) (m : HashMap (List Id) ℕ S) (l : Lists)
-    (g : List (HashMap Id ℕ E)) (found : IsArchetypes s m l g ks) (from to : ℕ) (i : Id)
+module _ {S E : Type 0} {ks : List Cache} {s : List (Option TableState)} {m : HashMap (List Id) ℕ S} {l : Lists}
+    {g : List (HashMap Id ℕ E)} (found : IsArchetypes s m l g ks) (from to : ℕ) (i : Id)
     (there : IsSome (slot_of s from)) (up : IsTrue (is_ascending id_cmp (table_in s from).ids))
     (typed : type_at s to ≡ Some (toggled (table_in s from).ids i)) where
   abbrev own : List Id
@@ -64,7 +61,7 @@ module _ {S E : Type 0} {ks : List Cache} (s : List (Option TableState)) (m : Ha
       by None e = refl
       by (Some k) e =
           let was = found.graph to k i e in
-          let ids : was.0 ≡ toggled own i = some_is _ _ (sym was.1 ∙ typed) in
+          let ids : was.0 ≡ toggled own i = same_Some _ _ (sym was.1 ∙ typed) in
           let back : type_at s k ≡ Some own = was.2 ∙ ap (λ xs. Some (toggled xs i)) ids ∙ ap Some (twice own i up) in
           let same : k ≡ from = one_slot s m found.types k from own back (type_there s from there) in
           some_none to (sym (ap (λ j. edge g j i) (sym same) ∙ twofold to k i e) ∙ free)
@@ -73,5 +70,5 @@ module _ {S E : Type 0} {ks : List Cache} (s : List (Option TableState)) (m : Ha
   pub found_joined : (g' : List (HashMap Id ℕ E)) {A B : Type 0} (r : Result A B) → OnOk r (Links g g' from i to) → OnErr r (SameEdges g g')
       → IsArchetypes s m l g' ks
   found_joined g' (Ok x) links same =
-      found_linked s s m m l l g g' from to i own found links (type_there s from there) typed (twice own i up)
-  found_joined g' (Err x) links same = found_unlinked s s m m l l g g' found same
+      found_linked found from to i own links (type_there s from there) typed (twice own i up)
+  found_joined g' (Err x) links same = found_unlinked found same

@@ -1,8 +1,8 @@
 -- Whom the types of tables name.
 use Rattle.std.proofs.Common.{◌≡◌, ℕ, zero, suc, Bool, true, false, ◌↔◌, inl, inr, List, [], ◌∷◌, nat_lt, length, Option, Some, None}
-use Rattle.std.proofs.Common.{option_map, refl, sym, ap, ◌∙◌, true≢false, IsTrue}
+use Rattle.std.proofs.Common.{option_map, refl, sym, ◌∙◌, true≢false, IsTrue}
 use Rattle.std.specs.List.{list_any}
-use Rattle.std.proofs.lemmas.Bool.{or_left}
+use Rattle.std.proofs.lemmas.Bool.{false_from_ne_true, or_left}
 use Rattle.eco_ids.specs.declared.entity.Entity.{Entity}
 use Rattle.eco_ids.specs.declared.id.Id.{Id}
 use Rattle.eco_ids.proofs.Ascending.{second}
@@ -50,15 +50,12 @@ listed_named slots now e index r is =
 
 -- ---- who is named nowhere
 
+found_names : (e : Entity) (o : Option TableState) → is_found_by (λ ids. type_names ids e) o ≡ true → names_in e o ≡ true
+found_names e None h = h
+found_names e (Some t) h = second (nat_lt 0 (length t.rows)) (type_names t.ids e) h
+
 -- no table is found by a name that no type has
 pub none_names : (slots : List (Option TableState)) (e : Entity) → is_named_by_some slots e ≡ false → (n : ℕ)
     → is_found_by (λ ids. type_names ids e) (slot_of slots n) ≡ false
-none_names slots e none n = by (slot_of slots n) (is_found_by (λ ids. type_names ids e) (slot_of slots n)) refl refl
-  where
-    by : (o : Option TableState) (b : Bool) → slot_of slots n ≡ o → is_found_by (λ ids. type_names ids e) (slot_of slots n) ≡ b
-        → is_found_by (λ ids. type_names ids e) (slot_of slots n) ≡ false
-    by o false at is = is
-    by None true at is = ap (is_found_by (λ ids. type_names ids e)) at
-    by (Some t) true at is =
-        let found = second (nat_lt 0 (length t.rows)) (type_names t.ids e) (sym (ap (is_found_by (λ ids. type_names ids e)) at) ∙ is) in
-        absurd (true≢false (sym (at_slot e slots n (ap (names_in e) at ∙ found)) ∙ none))
+none_names slots e none n =
+    false_from_ne_true _ (λ found. true≢false (sym (at_slot e slots n (found_names e (slot_of slots n) found)) ∙ none))

@@ -12,7 +12,7 @@ use Rattle.eco_ids.specs.declared.id.Id.{Id}
 use Rattle.eco_ids.specs.declared.pattern.Pattern.{Pattern}
 use Rattle.eco_ids.specs.Order.{id_cmp, id_eq, has_item, is_ascending, with_item, without_item}
 use Rattle.eco_ids.proofs.Exact.{id_eq_sym}
-use Rattle.eco_ids.proofs.Facts.{equal_tie}
+use Rattle.eco_ids.proofs.Facts.{equal_tie, or_right}
 use Rattle.eco_ids.proofs.IdOrder.{id_cmp_total, same_id}
 use Rattle.eco_ids.specs.OrderLaws.{id_ties}
 use Rattle.eco_ids.proofs.SameIds.{id_eq-Decides, same_ids-Decides}
@@ -26,6 +26,7 @@ use Rattle.eco_caches.specs.declared.cache.Cache.{Cache}
 use Rattle.eco_index.specs.TypeMap.{same_ids, IsTypeMap, LeadAlike, LeadsGrown, TakesGrown}
 use Rattle.eco_index.proofs.Toggles.{lost_again}
 use Rattle.eco_index.proofs.Graphs.{graph_cut}
+use Rattle.eco_archetypes.proofs.ArchetypeLemmas.{index_turned}
 use Rattle.eco_archetypes.specs.Archetypes.{type_at, type_matches, IsArchetypes, IsIdIndex, TakesType, SameSlots, SomeHasType}
 use Rattle.eco_archetypes.specs.Widths.{AreAgreed, MeetsNeeds, KeepsWidths}
 use Rattle.eco_archetypes.proofs.Widths.{kept_agreed, kept_widths, same_kept}
@@ -92,29 +93,11 @@ module _ (i : Id) (p : Pattern) where
 -- ---- the index
 module _ (s s' : List (Option TableState)) (l l' : Lists) (n : ℕ) (i : Id) (ids : List Id) (index : IsIdIndex (type_at s) l)
     (had : type_at s n ≡ Some ids) (others : (m : ℕ) → m ≢ n → slot_of s' m ≡ slot_of s m) where
-  before : (p : Pattern) → l p n ≡ any_matches ids p
-  before p = index p n ∙ ap (λ o. type_matches o p) had
-
-  elsewhere : (p : Pattern) (m : ℕ) → nat_eq n m ≡ false → l p m ≡ type_matches (type_at s' m) p
-  elsewhere p m other =
-      index p m ∙ ap (λ o. type_matches (option_map (λ (t : TableState). t.ids) o) p)
-      (sym (others m (λ e. true≢false (sym ((Decides-eqb n m).1 (sym e)) ∙ other))))
-
-  module _ (b : Bool) (picks : Pattern → Bool) (now : List Id) (has : type_at s' n ≡ Some now) (turns : Turns b picks l l' n)
-      (is : (p : Pattern) → cond (picks p && true) b (any_matches ids p) ≡ any_matches now p) where
-    turned_index : IsIdIndex (type_at s') l'
-    turned_index p m = turns p m ∙ by (nat_eq n m) refl
-      where
-        neither : (c d : Bool) → cond (c && false) b d ≡ d
-        neither true d = refl
-        neither false d = refl
-
-        by : (c : Bool) → nat_eq n m ≡ c → cond (picks p && c) b (l p m) ≡ type_matches (type_at s' m) p
-        by true e =
-            let here : n ≡ m = (Decides-eqb n m).0 e in
-            ap (cond (picks p && true) b) (ap (l p) (sym here) ∙ before p) ∙ is p
-            ∙ sym (ap (λ k. type_matches (type_at s' k) p) (sym here) ∙ ap (λ o. type_matches o p) has)
-        by false e = neither (picks p) (l p m) ∙ elsewhere p m e
+  turned_index : (b : Bool) (picks : Pattern → Bool) (now : List Id) → type_at s' n ≡ Some now → Turns b picks l l' n
+      → ((p : Pattern) → cond (picks p && true) b (any_matches ids p) ≡ any_matches now p) → IsIdIndex (type_at s') l'
+  turned_index b picks now has turns is =
+      index_turned (type_at s) (type_at s') l l' n b picks index (λ k other. ap (option_map (λ (t : TableState). t.ids)) (others k other)) turns
+      (λ p. ap (λ o. cond (picks p && true) b (type_matches o p)) had ∙ is p ∙ sym (ap (λ o. type_matches o p) has))
 
   pub index_gained : type_at s' n ≡ Some (with_item id_cmp ids i) → Turns true (matches_id i) l l' n → IsIdIndex (type_at s') l'
   index_gained has turns =
@@ -171,16 +154,12 @@ found_width : (f : Id → ℕ) (ids : List Id) (j : Id) (k : ℕ) → find id_cm
 found_width f [] j k e = absurd (let none : ◌≡◌ {A = Option ℕ} None (Some k) = e in cc)
 found_width f (y ∷ ys) j k e = by (id_eq j y) refl e (found_width f ys j k)
   where
-    or_true : (b c : Bool) → c ≡ true → (b || c) ≡ true
-    or_true true c h = refl
-    or_true false c h = h
-
     by : (b : Bool) → id_eq j y ≡ b → cond b (Some (f y)) (find id_cmp j (paired ys (map f ys))) ≡ Some k
         → (find id_cmp j (paired ys (map f ys)) ≡ Some k → (k ≡ f j) × (has_item id_cmp ys j ≡ true))
         → (k ≡ f j) × ((id_eq y j || has_item id_cmp ys j) ≡ true)
     by true is h rest =
         (sym (same_Some (f y) k h) ∙ ap f (sym (is_same j y is)), ap (λ b. b || has_item id_cmp ys j) (id_eq_sym y j ∙ is))
-    by false is h rest = ((rest h).0, or_true (id_eq y j) (has_item id_cmp ys j) (rest h).1)
+    by false is h rest = ((rest h).0, or_right (id_eq y j) (has_item id_cmp ys j) (rest h).1)
 
 module _ (s s' : List (Option TableState)) (n : ℕ) (ids : List Id) (i : Id) (w : ℕ) (sets : SetsSlot s s' n (Some (turned (table_in s n) ids i w)))
     (wide : (j : Id) → has_item id_cmp ids j ≡ true → id_eq j i ≡ false → IsSome (width_in (table_in s n) j)) where
@@ -271,37 +250,34 @@ index_slots s s' l l' index same lists p n =
 not_same : (t q : List Id) → same_ids t q ≡ false → t ≢ q
 not_same t q e h = true≢false (sym ((same_ids-Decides t q).1 h) ∙ e)
 
-pub one : {X : Type 0} (x y : X) → Some x ≡ Some y → x ≡ y
-one x y e = cc
+others_typed : {s s' : List (Option TableState)} {n : ℕ} {u : List Id} → TakesType s s' n u → (k : ℕ) → k ≢ n → type_at s' k ≡ type_at s k
+others_typed takes k other = ap (option_map (λ (x : TableState). x.ids)) (takes.others k other)
 
-module _ {S E : Type 0} {ks : List Cache} (s s' : List (Option TableState)) (m m' : HashMap (List Id) ℕ S) (l l' : Lists) (g g' : List (HashMap Id ℕ E))
-    (n : ℕ) (t u : List Id) (found : IsArchetypes s m l g ks) (had : type_at s n ≡ Some t) (takes : TakesType s s' n u)
+module _ {S E : Type 0} {ks : List Cache} {s s' : List (Option TableState)} {m m' : HashMap (List Id) ℕ S} {l : Lists} {g : List (HashMap Id ℕ E)}
+    {n : ℕ} {t u : List Id} (found : IsArchetypes s m l g ks) (had : type_at s n ≡ Some t) (takes : TakesType s s' n u)
     (absent : (k : ℕ) → type_at s k ≢ Some u)
     (gets : (q : List Id) → get same_ids m' q ≡ cond (same_ids u q) (Some n) (cond (same_ids t q) None (get same_ids m q))) where
-  others_typed : (k : ℕ) → k ≢ n → type_at s' k ≡ type_at s k
-  others_typed k other = ap (option_map (λ (x : TableState). x.ids)) (takes.others k other)
-
   renamed_types : IsTypeMap (type_at s') m'
   renamed_types = record {
     found = λ q k e. way (same_ids u q) (type_at s' k ≡ Some q)
         (λ same.
-        let is : n ≡ k = one n k (sym (gets q ∙ ap (λ b. cond b (Some n) (cond (same_ids t q) None (get same_ids m q))) same) ∙ e) in
+        let is : n ≡ k = same_Some n k (sym (gets q ∙ ap (λ b. cond b (Some n) (cond (same_ids t q) None (get same_ids m q))) same) ∙ e) in
         ap (type_at s') (sym is) ∙ takes.typed ∙ ap Some ((same_ids-Decides u q).0 same))
         (λ other. by q k (sym (ap (λ b. cond b (Some n) (cond (same_ids t q) None (get same_ids m q))) other) ∙ sym (gets q) ∙ e));
     there = λ q k e. way (k == n) (get same_ids m' q ≡ Some k)
         (λ same.
         let is : k ≡ n = (Decides-eqb k n).0 same in
-        let own : u ≡ q = one u q (sym takes.typed ∙ ap (type_at s') (sym is) ∙ e) in
+        let own : u ≡ q = same_Some u q (sym takes.typed ∙ ap (type_at s') (sym is) ∙ e) in
         gets q ∙ ap (λ b. cond b (Some n) (cond (same_ids t q) None (get same_ids m q))) ((same_ids-Decides u q).1 own) ∙ ap Some (sym is))
         (λ other.
         let apart : k ≢ n = λ is. true≢false (sym ((Decides-eqb k n).1 is) ∙ other) in
-        let was : type_at s k ≡ Some q = sym (others_typed k apart) ∙ e in
+        let was : type_at s k ≡ Some q = sym (others_typed takes k apart) ∙ e in
         gets q
         ∙ ap (λ b. cond b (Some n) (cond (same_ids t q) None (get same_ids m q)))
         (way (same_ids u q) (same_ids u q ≡ false) (λ same. absurd (absent k (was ∙ ap Some (sym ((same_ids-Decides u q).0 same))))) (λ no_one. no_one))
         ∙ ap (λ b. cond b None (get same_ids m q))
         (way (same_ids t q) (same_ids t q ≡ false)
-        (λ same. absurd (apart (one k n
+        (λ same. absurd (apart (same_Some k n
         (sym (found.types.there q k was) ∙ ap (get same_ids m) (sym ((same_ids-Decides t q).0 same)) ∙ found.types.there t n had))))
         (λ no_one. no_one))
         ∙ found.types.there q k was);
@@ -312,26 +288,24 @@ module _ {S E : Type 0} {ks : List Cache} (s s' : List (Option TableState)) (m m
           (λ same. absurd (let bad : ◌≡◌ {A = Option ℕ} None (Some k) = sym (ap (λ b. cond b None (get same_ids m q)) same) ∙ e in cc))
           (λ other.
           let was : type_at s k ≡ Some q = found.types.found q k (sym (ap (λ b. cond b None (get same_ids m q)) other) ∙ e) in
-          let apart : k ≢ n = λ is. not_same t q other (one t q (sym had ∙ ap (type_at s) (sym is) ∙ was)) in
-          others_typed k apart ∙ was)
+          let apart : k ≢ n = λ is. not_same t q other (same_Some t q (sym had ∙ ap (type_at s) (sym is) ∙ was)) in
+          others_typed takes k apart ∙ was)
 
-  pub found_turned : {ks' : List Cache} → IsIdIndex (type_at s') l' → Cuts g g' n → AreAgreed s' → AreTold ks ks' n (Some u) → IsArchetypes s' m' l' g' ks'
-  found_turned index cuts agreed told = record {
+  pub found_turned : {ks' : List Cache} {l' : Lists} {g' : List (HashMap Id ℕ E)}
+      → IsIdIndex (type_at s') l' → Cuts g g' n → AreAgreed s' → AreTold ks ks' n (Some u) → IsArchetypes s' m' l' g' ks'
+  found_turned {ks'} {l'} {g'} index cuts agreed told = record {
     types = renamed_types;
     matches = index;
-    graph = graph_cut (type_at s) (type_at s') g g' n found.graph cuts others_typed;
+    graph = graph_cut (type_at s) (type_at s') g g' n found.graph cuts (others_typed takes);
     agreed = agreed;
-    cached = told (type_at s) (type_at s') (record { there = takes.typed; others = others_typed }) found.cached;
+    cached = told (type_at s) (type_at s') (record { there = takes.typed; others = others_typed takes }) found.cached;
   }
-
-pub same_entries : {S : Type 0} {h h' : HashMap (List Id) ℕ S} → h ≡ h' → h.entries ≡ h'.entries
-same_entries = ap (λ h. h.entries)
 
 -- a type that came out of the map, and has the id now
 module _ {S : Type 0} (s : List (Option TableState)) (m ready taken : HashMap (List Id) ℕ S) (n : ℕ) (i : Id) (ids grown : List Id)
     (types : IsTypeMap (type_at s) m) (same : ready.entries ≡ m.entries) (had : type_at s n ≡ Some ids) where
   pub led_type : (t : List Id) → get same_ids ready t ≡ Some n → t ≡ ids
-  led_type t led = one t ids (sym (types.found t n (ap (lookup (same_ids t)) (sym same) ∙ led)) ∙ had)
+  led_type t led = same_Some t ids (sym (types.found t n (ap (lookup (same_ids t)) (sym same) ∙ led)) ∙ had)
 
   -- where another type has the id too, and all else alike, some table has that type
   pub grown_taken : LeadsGrown ready n i → SomeHasType s (with_item id_cmp ids i)

@@ -1,20 +1,21 @@
 //! The tables of a store, one for each type, found by type and by the patterns that match its ids.
 ghost use Rattle.std.specs.Prelude.{◌≡◌, ◌≢◌, ◌↔◌, ◌&&◌, nat_lt, nat_eq, filter, List, ℕ, ◌<◌, ◌≤◌, ◌∷◌, [], length, ◌++◌};
 ghost use Rattle.std.specs.Prelude.{slice_get, Some, None, IsSome, IsTrue, IfOk, IfSome, IfNone, OnOk, OnErr, OnSome, is_some};
-ghost use Rattle.std.specs.List.{list_any, IsDistinct};
+ghost use Rattle.std.specs.List.{All, list_any, IsDistinct};
 ghost use Rattle.std.specs.FinMap.Entries.{find};
 ghost use Rattle.std.specs.HashMap.{IsUnchanged, spare};
 ghost use Rattle.eco_ids.specs.declared.id.Id.{Id as Ids};
+ghost use Rattle.eco_ids.specs.declared.value.TheConstants.{FIELD_COUNT};
 ghost use Rattle.eco_ids.specs.Order.{id_cmp};
 ghost use Rattle.eco_tables.specs.Table.{TableState, entities_of, empty_table};
 ghost use Rattle.eco_tables.specs.Tables.{slot_of, table_in, row_in, SetsSlot, SetsRoom, Moves, MovesAll};
 ghost use Rattle.eco_tables.specs.Tables.{cleared, new_row, with_row, with_written, without_row, rowless_type};
 ghost use Rattle.eco_caches.specs.Caching.{HaveRoom, StayExact};
 ghost use Rattle.eco_caches.specs.Contents.{cache_list};
-ghost use Rattle.eco_index.specs.Contents.{slots_by_type};
+ghost use Rattle.eco_index.specs.Contents.{lists_in, slots_by_type};
 ghost use Rattle.eco_index.specs.TypeMap.{same_ids};
-ghost use Rattle.eco_archetypes.specs.Archetypes.{type_at, SameSlots, KeepsTypes, KeepsRoom, RowlessIn, RowlessBut, SameRows};
-ghost use Rattle.eco_archetypes.specs.Widths.{FitsIn, KeepsWidths, StillCover};
+ghost use Rattle.eco_archetypes.specs.Archetypes.{type_at, IsIdIndex, SameSlots, KeepsTypes, KeepsRoom, RowlessIn, RowlessBut, SameRows};
+ghost use Rattle.eco_archetypes.specs.Widths.{AreWidths, FitsIn, KeepsWidths, MeetsNeeds, StillCover};
 
 use eco_caches::Caches;
 use eco_entities::EntityIndex;
@@ -223,20 +224,32 @@ impl Archetypes {
         ensures err { OnErr result (SameSlots self.old self.new) }
     {
         let widths = self.widths_of(entities, type_list.as_slice())?;
-        let key = type_list.try_copy()?;
-        reserve_one(&mut self.by_type, &mut self.caches)?;
-        let slot = self.tables.insert(type_list, widths.as_slice())?;
-        match self.by_id.add_all(self.alloc, key.as_slice(), slot) {
-            Ok(()) => {
-                self.caches.tell(slot, &key);
-                self.by_type.insert_reserved(key, slot);
-                Ok(slot)
-            }
-            Err(refused) => {
-                let _ = self.tables.drop_empty(slot);
-                Err(refused)
-            }
-        }
+        self.make_as_wide(type_list, widths.as_slice())
+    }
+
+    // What `make` does with these widths of the ids.
+    fn make_as_wide(&mut self, type_list: TypeList, widths: &[u8]) -> Result<TableSlot, AllocError>
+        requires absent { (n : ℕ) → type_at self.old n ≢ Some type_list }
+        requires widths { (need : Ids → ℕ) × AreWidths need self.old type_list widths.now }
+        ensures vacant { IfOk result (λ n. slot_of self.old n ≡ None) }
+        ensures makes { IfOk result (λ n. SetsSlot self.old self.new n
+            (Some (empty_table type_list (table_in self.new n).widths))) }
+        ensures widths { OnOk result ((need : Ids → ℕ) → AreWidths need self.old type_list widths.now
+            → MeetsNeeds need self.old → MeetsNeeds need self.new) }
+        ensures err { OnErr result (SameSlots self.old self.new) }
+    {
+        let key = copied(&type_list, &mut self.by_type, &mut self.caches)?;
+        let slot = insert(
+            &mut self.tables,
+            &mut self.by_id,
+            self.alloc,
+            type_list,
+            &key,
+            widths,
+        )?;
+        self.caches.tell(slot, &key);
+        self.by_type.insert_reserved(key, slot);
+        Ok(slot)
     }
 
     /// Drops the table in a slot if it has no rows: it is found no more. No row changes. It takes no memory.
@@ -362,6 +375,62 @@ fn are_same(own: &[Id], other: &[Id]) -> bool
         return other.is_empty();
     }
     own == other
+}
+
+// The type of the table in a slot that has one.
+#[inline]
+fn type_in(tables: &Tables, slot: TableSlot) -> &TypeList
+    requires { IsSome (slot_of tables.now slot) }
+    ensures ids { result.now ≡ (table_in tables.now slot).ids }
+    ensures typed { type_at tables.now slot ≡ Some result.now }
+{
+    tables.get(slot).unwrap().type_list()
+}
+
+// A table without rows in a slot that was empty, which is listed under the ids of its type. The key is the type once more.
+fn insert(
+    tables: &mut Tables,
+    by_id: &mut IdIndex,
+    alloc: Global,
+    type_list: TypeList,
+    key: &TypeList,
+    widths: &[u8],
+) -> Result<TableSlot, AllocError>
+    requires same { key.now ≡ type_list }
+    requires lengths { length type_list ≡ length widths.now }
+    requires widths { All (λ w. w ≤ FIELD_COUNT) widths.now }
+    requires index { IsIdIndex (type_at tables.old) (lists_in by_id.old) }
+    ensures vacant { IfOk result (λ n. slot_of tables.old n ≡ None) }
+    ensures makes { IfOk result (λ n. SetsSlot tables.old tables.new n
+        (Some (empty_table type_list widths.now))) }
+    ensures err { OnErr result (SameSlots tables.old tables.new) }
+    ensures index { IsIdIndex (type_at tables.new) (lists_in by_id.new) }
+{
+    let slot = tables.insert(type_list, widths)?;
+    match by_id.add_all(alloc, key.as_slice(), slot) {
+        Ok(()) => Ok(slot),
+        Err(refused) => {
+            let _ = tables.drop_empty(slot);
+            Err(refused)
+        }
+    }
+}
+
+// The type once more, as a key for which there is room, as `reserve_one` makes it.
+fn copied(
+    type_list: &TypeList,
+    by_type: &mut TypeMap,
+    caches: &mut Caches,
+) -> Result<TypeList, AllocError>
+    ensures is { IfOk result (λ key. key ≡ type_list.now) }
+    ensures same { IsUnchanged (slots_by_type by_type.old) (slots_by_type by_type.new) }
+    ensures exact { StayExact (cache_list caches.old) (cache_list caches.new) }
+    ensures room { OnOk result (0 < spare (slots_by_type by_type.new)) }
+    ensures rooms { OnOk result (HaveRoom (cache_list caches.new)) }
+{
+    let key = type_list.try_copy()?;
+    reserve_one(by_type, caches)?;
+    Ok(key)
 }
 
 // Room for one type more, and for one slot more in each cache, so that both are told of a type without memory. No type's slot

@@ -1,6 +1,6 @@
 -- Columns, read by rows: they ascend by their ids, so an id is found where its column is.
 use Rattle.std.proofs.Common.{◌≡◌, ℕ, zero, suc, ◌+◌, ◌<◌, ◌≤◌, Bool, true, false, cond, ◌||◌, List, [], ◌∷◌, ◌++◌, map, length, get_or, take, drop, set}
-use Rattle.std.proofs.Common.{slice_get, Option, Some, None, refl, sym, ap, ◌∙◌, arith, IsTrue, Less, Equal, Greater, inl, inr}
+use Rattle.std.proofs.Common.{slice_get, Option, Some, None, refl, sym, ap, ◌∙◌, arith, IsTrue, subst, Less, Equal, Greater, inl, inr}
 use Rattle.std.specs.List.{All, list_all, position_from}
 use Rattle.std.specs.Cmp.{tied_itself}
 use Rattle.std.specs.Ordering.{ordering_reverse, is_lt, is_eq}
@@ -142,6 +142,10 @@ not_yet {X = X} f xs ys i d within done = ap (λ zs. get_or zs i d) done ∙ at 
     at (z ∷ zs) zero h = refl
     at (z ∷ zs) (suc k) h = at zs k (omega arith)
 
+pub not_yet_all : {X : Type 0} (P : X → Type 0) (f : X → X) (xs ys : List X) (i : ℕ) (d : X) → i < length xs → ys ≡ map f (take i xs) ++ drop i xs
+    → All P xs → P (get_or ys i d)
+not_yet_all P f xs ys i d within done all = subst P (sym (not_yet f xs ys i d within done)) (all i d within)
+
 pub mapped_all : {X : Type 0} (f : X → X) (xs ys : List X) (i : ℕ) → length xs ≤ i → ys ≡ map f (take i xs) ++ drop i xs → ys ≡ map f xs
 mapped_all f xs ys i past done =
     done ∙ ap (λ zs. map f zs ++ drop i xs) (take_all i xs past) ∙ ap (λ zs. map f xs ++ zs) (drop_all i xs past) ∙ append-nil (map f xs)
@@ -223,32 +227,20 @@ tied_here cs m k d e id in_m same is =
 pub past_less : (cs : List ColumnState) (m k : ℕ) (d e : ColumnState) (id : Id) → IsTrue (is_ascending id_cmp (map (λ c. c.id) cs)) → m < length cs
     → id_cmp (get_or cs m d).id id ≡ Less → (get_or cs k e).id ≡ id → k < length cs → m < k
 past_less cs m k d e id up in_m less_m is in_k = elim (cases_order k m) [
-  | inl same ↦ absurd (less_not_equal (sym less_m ∙ tied_here cs m k d e id in_m same is))
+  | inl same ↦ absurd (let bad : Less ≡ Equal = sym less_m ∙ tied_here cs m k d e id in_m same is in cc)
   | inr (inl before) ↦
-      absurd (less_not_greater (sym less_m ∙ id_cmp_total.antisymm (get_or cs m d).id id
-      ∙ ap ordering_reverse (ap (λ x. id_cmp x (get_or cs m d).id) (sym is) ∙ below cs k m e d before in_m up)))
+      absurd (let bad : Less ≡ Greater = sym less_m ∙ id_cmp_total.antisymm (get_or cs m d).id id
+      ∙ ap ordering_reverse (ap (λ x. id_cmp x (get_or cs m d).id) (sym is) ∙ below cs k m e d before in_m up) in cc)
   | inr (inr after) ↦ after
 ]
-  where
-    less_not_equal : Less ≡ Equal → ⊥
-    less_not_equal e = cc
-
-    less_not_greater : Less ≡ Greater → ⊥
-    less_not_greater e = cc
 
 pub before_greater : (cs : List ColumnState) (m k : ℕ) (d e : ColumnState) (id : Id) → IsTrue (is_ascending id_cmp (map (λ c. c.id) cs)) → m < length cs
     → id_cmp (get_or cs m d).id id ≡ Greater → (get_or cs k e).id ≡ id → k < length cs → k < m
 before_greater cs m k d e id up in_m greater is in_k = elim (cases_order k m) [
-  | inl same ↦ absurd (greater_not_equal (sym greater ∙ tied_here cs m k d e id in_m same is))
+  | inl same ↦ absurd (let bad : Greater ≡ Equal = sym greater ∙ tied_here cs m k d e id in_m same is in cc)
   | inr (inl before) ↦ before
-  | inr (inr after) ↦ absurd (greater_not_less (sym greater ∙ ap (id_cmp (get_or cs m d).id) (sym is) ∙ below cs m k d e after in_k up))
+  | inr (inr after) ↦ absurd (let bad : Greater ≡ Less = sym greater ∙ ap (id_cmp (get_or cs m d).id) (sym is) ∙ below cs m k d e after in_k up in cc)
 ]
-  where
-    greater_not_equal : Greater ≡ Equal → ⊥
-    greater_not_equal e = cc
-
-    greater_not_less : Greater ≡ Less → ⊥
-    greater_not_less e = cc
 
 -- an id that is at no place is none of them
 pub nowhere : (cs : List ColumnState) (id : Id) → ((k : ℕ) (d : ColumnState) → k < length cs → (get_or cs k d).id ≡ id → ⊥)

@@ -5,7 +5,7 @@ use Rattle.std.specs.List.{All, swap_remove}
 use Rattle.std.proofs.lemmas.List.{ext_get_or, get_or-set_same, get_or-set_other, get_or_append_left, get_or-append_right, get_or-replicate, length-replicate}
 use Rattle.std.proofs.lemmas.List.{length-map, length-set, get_or-map, length-append, map-append, map-set, take_all, drop_all, append-nil}
 use Rattle.std.proofs.lemmas.List.Elements.{All-head, All-tail, All-map}
-use Rattle.std.proofs.lemmas.Bool.{cases_eq}
+use Rattle.std.proofs.lemmas.Bool.{cases_eq, false_from_ne_true}
 use Rattle.eco_ids.specs.declared.entity.Entity.{Entity}
 use Rattle.eco_ids.specs.declared.id.Id.{Id}
 use Rattle.eco_ids.specs.declared.value.Value.{Value}
@@ -290,6 +290,19 @@ pub kinds_same : (f : ColumnState → ColumnState) → ((c : ColumnState) → ki
 kinds_same f same [] = refl
 kinds_same f same (c ∷ cs) = λ t. same c t ∷ kinds_same f same cs t
 
+-- the table under columns of the same kinds
+pub changed_table : (ids : List Id) (cs ds : List ColumnState) (es : List Entity) (room room' : ℕ) (rows : List TableRow) → map kind_of ds ≡ map kind_of cs
+    → rows_of ids ds es ≡ rows → room ≡ room'
+    → table_of ids ds es room ≡ record { ids = ids; widths = map (width_among (map kind_of cs)) ids; rows = rows; room = room' }
+changed_table ids cs ds es room room' rows kinds shown left = λ t.
+    record { ids = ids; widths = map (width_among (kinds t)) ids; rows = shown t; room = left t }
+
+-- so it is where they were mapped
+pub mapped_table : (ids : List Id) (f : ColumnState → ColumnState) (cs ds : List ColumnState) (es : List Entity) (room room' : ℕ) (rows : List TableRow)
+    → ((c : ColumnState) → kind_of (f c) ≡ kind_of c) → ds ≡ map f cs → rows_of ids ds es ≡ rows → room ≡ room'
+    → table_of ids ds es room ≡ record { ids = ids; widths = map (width_among (map kind_of cs)) ids; rows = rows; room = room' }
+mapped_table ids f cs ds es room room' rows same mapped = changed_table ids cs ds es room room' rows (ap (map kind_of) mapped ∙ kinds_same f same cs)
+
 pub written_kind : (row : ℕ) (i : Id) (v : Value) (c : ColumnState) → kind_of (written c row i v) ≡ kind_of c
 written_kind row i v c = by (id_eq c.id i)
   where
@@ -324,19 +337,12 @@ module _ (ids : List Id) (cs : List ColumnState) (kinds : AreKinds ids (map kind
 
   -- an id that is none of the type's has no column
   pub outside : (i : Id) → has_item id_cmp ids i ≡ false → has_item id_cmp (map (λ c. c.id) cs) i ≡ false
-  outside i none = by (has_item id_cmp (map (λ c. c.id) cs) i) refl
-    where
-      by : (b : Bool) → has_item id_cmp (map (λ c. c.id) cs) i ≡ b → b ≡ false
-      by false e = refl
-      by true e = sym (within_ids i e) ∙ none
+  outside i none = false_from_ne_true _ (λ e. true≢false (sym (within_ids i e) ∙ none))
 
   -- nor has one without a width
   pub widthless : (i : Id) → width_among (map kind_of cs) i ≡ 0 → has_item id_cmp (map (λ c. c.id) cs) i ≡ false
-  widthless i none = by (has_item id_cmp (map (λ c. c.id) cs) i) refl
-    where
-      by : (b : Bool) → has_item id_cmp (map (λ c. c.id) cs) i ≡ b → b ≡ false
-      by false e = refl
-      by true e = let some : 1 ≤ width_among (map kind_of cs) i = kinds.wide i (rw (ids_of_kinds cs) e) in absurd (omega (arith, none, some))
+  widthless i none = false_from_ne_true _ (λ e.
+      let some : 1 ≤ width_among (map kind_of cs) i = kinds.wide i (rw (ids_of_kinds cs) e) in omega (arith, none, some))
 
   pub no_column : (i : Id) → has_item id_cmp (map (λ c. c.id) cs) i ≡ false → width_among (map kind_of cs) i ≡ 0
   no_column i none = width-none (map kind_of cs) i (rw (ids_of_kinds cs) none)

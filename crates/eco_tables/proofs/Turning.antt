@@ -5,6 +5,7 @@ use Rattle.std.proofs.Common.{replicate, slice_get, Option, Some, None, unwrap_o
 use Rattle.std.proofs.Common.{Equal, Greater}
 use Rattle.std.specs.List.{All, position_from}
 use Rattle.std.specs.FinMap.Entries.{find, by_order}
+use Rattle.std.proofs.lemmas.Bool.{not-true}
 use Rattle.std.proofs.lemmas.List.{length-replicate}
 use Rattle.std.proofs.lemmas.List.Elements.{All-cons, All-head, All-tail, All-filter}
 use Rattle.eco_ids.specs.declared.entity.Entity.{Entity}
@@ -13,6 +14,7 @@ use Rattle.eco_ids.specs.World.{zeros}
 use Rattle.eco_ids.specs.Order.{id_cmp, id_eq, has_item, is_ascending, with_item, without_item}
 use Rattle.eco_ids.proofs.Ascending.{first, second, ascending_with, ascending_without}
 use Rattle.eco_ids.proofs.Exact.{id_eq_sym}
+use Rattle.eco_ids.proofs.Facts.{or_right}
 use Rattle.eco_ids.proofs.IdOrder.{id_cmp_total}
 use Rattle.eco_ids.proofs.SetLaws.{joins_with, leaves_without}
 use Rattle.eco_tables.specs.Column.{ColumnState, held_in, value_in, kind_of, retyped, with_column, without_column}
@@ -20,7 +22,7 @@ use Rattle.eco_tables.specs.Table.{TableState, rows_from, retyped_row, table_of,
 use Rattle.eco_tables.specs.Tables.{turned}
 use Rattle.eco_tables.proofs.Held.{above-other, above-none, same_eq, place_within, place_id}
 use Rattle.eco_tables.proofs.Rows.{ascends, within_ids, outside, no_column, zeros_held, held_value, ids_of_kinds}
-use Rattle.eco_tables.proofs.Widths.{is_same, or_first, or_true, same_within, width-each}
+use Rattle.eco_tables.proofs.Widths.{is_same, or_first, same_within, width-each}
 
 -- ---- where a new column stands
 
@@ -178,21 +180,13 @@ both : (b c d : Bool) → (c ≡ true → d ≡ true) → (not b && c) ≡ true 
 both true c d f h = h
 both false c d f h = f h
 
-not_first : (b c : Bool) → (not b && c) ≡ true → b ≡ false
-not_first true c h = sym h
-not_first false c h = refl
-
-not_second : (b c : Bool) → (not b && c) ≡ true → c ≡ true
-not_second true c h = absurd (true≢false (sym h))
-not_second false c h = h
-
 -- ---- the kinds under the new type
 module _ (ids : List Id) (cs : List ColumnState) (kinds : AreKinds ids (map kind_of cs)) where
   module _ (i : Id) (lacks : has_item id_cmp ids i ≡ false) where
     pub bare_kinds : AreKinds (with_item id_cmp ids i) (map kind_of cs)
     bare_kinds = record {
       ascending = kinds.ascending;
-      within = λ j has. joins_with id_cmp_total ids i j ∙ or_true (id_eq i j) _ (kinds.within j has);
+      within = λ j has. joins_with id_cmp_total ids i j ∙ or_right (id_eq i j) _ (kinds.within j has);
       wide = kinds.wide;
     }
 
@@ -269,13 +263,13 @@ module _ (ids : List Id) (cs : List ColumnState) (kinds : AreKinds ids (map kind
       ascending = subst (λ is. IsTrue (is_ascending id_cmp is)) (sym fewer_ids) (ascending_without id_cmp _ i (ascends ids cs kinds));
       within = λ j has. leaves_without id_cmp_total ids i j ∙ both (id_eq i j) _ _ (within_ids ids cs kinds j) (fewer_has j has);
       wide = λ j has.
-          subst (λ n. 1 ≤ n) (sym (fewer_width j (not_first (id_eq i j) _ (fewer_has j has))))
-          (kinds.wide j (ap (λ is. has_item id_cmp is j) (ids_of_kinds cs) ∙ not_second (id_eq i j) _ (fewer_has j has)));
+          subst (λ n. 1 ≤ n) (sym (fewer_width j (not-true (id_eq i j) (first _ _ (fewer_has j has)))))
+          (kinds.wide j (ap (λ is. has_item id_cmp is j) (ids_of_kinds cs) ∙ second (not (id_eq i j)) _ (fewer_has j has)));
     }
 
     -- another id of the type that is left
     other : (j : Id) → has_item id_cmp (without_item id_cmp ids i) j ≡ true → id_eq i j ≡ false
-    other j has = not_first (id_eq i j) _ (sym (leaves_without id_cmp_total ids i j) ∙ has)
+    other j has = not-true (id_eq i j) (first _ _ (sym (leaves_without id_cmp_total ids i j) ∙ has))
 
     pub fewer_wide : (j : Id) → has_item id_cmp (without_item id_cmp ids i) j ≡ true
         → width_among (map kind_of (without_column cs i)) j ≡ (if id_eq j i then 0 else width_among (map kind_of cs) j)
@@ -301,7 +295,7 @@ module _ (ids : List Id) (cs : List ColumnState) (kinds : AreKinds ids (map kind
     same_numbers f g [] same = refl
     same_numbers f g (j ∷ js) same =
         let here : f j ≡ g j = same j (ap (λ b. b || has_item id_cmp js j) (same_eq j j refl)) in
-        let there = same_numbers f g js (λ k has. same k (or_true (id_eq j k) _ has)) in
+        let there = same_numbers f g js (λ k has. same k (or_right (id_eq j k) _ has)) in
         λ t. here t ∷ there t
 
     turned_rows : (k : ℕ) (fs : List Entity) → map (retyped_row ids') (rows_from ds k fs) ≡ map (retyped_row ids') (map (retyped_row ids) (rows_from cs k fs))

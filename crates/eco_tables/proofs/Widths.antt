@@ -12,7 +12,7 @@ use Rattle.eco_ids.specs.World.{zeros}
 use Rattle.eco_ids.specs.Order.{id_cmp, id_eq, has_item, is_ascending}
 use Rattle.eco_ids.proofs.Ascending.{first, second, both}
 use Rattle.eco_ids.proofs.Exact.{id_eq_sym}
-use Rattle.eco_ids.proofs.Facts.{equal_tie}
+use Rattle.eco_ids.proofs.Facts.{equal_tie, or_right}
 use Rattle.eco_ids.proofs.IdOrder.{same_id}
 use Rattle.eco_tables.specs.Column.{value_in, retyped, with_held}
 use Rattle.eco_tables.specs.Table.{paired, kinds_of, width_among, AreKinds}
@@ -20,10 +20,6 @@ use Rattle.eco_tables.proofs.Held.{above-none, same_eq}
 
 pub is_same : (i j : Id) → id_eq i j ≡ true → i ≡ j
 is_same i j e = same_id i j (equal_tie _ e)
-
-pub or_true : (b c : Bool) → c ≡ true → (b || c) ≡ true
-or_true true c e = refl
-or_true false c e = e
 
 pub or_first : (b c : Bool) → (b || c) ≡ false → b ≡ false
 or_first true c e = e
@@ -57,7 +53,7 @@ pub same_within : (ids : List Id) (f g : Id → Value) → ((i : Id) → has_ite
 same_within [] f g same = refl
 same_within (j ∷ js) f g same =
     let here : f j ≡ g j = same j (rw (same_eq j j refl) refl) in
-    let there = same_within js f g (λ i e. same i (or_true (id_eq j i) (has_item id_cmp js i) e)) in
+    let there = same_within js f g (λ i e. same i (or_right (id_eq j i) (has_item id_cmp js i) e)) in
     λ t. (j, here t) ∷ there t
 
 -- a value that is written is read again
@@ -92,7 +88,7 @@ pub retyped-written : (ids : List Id) (held after : List (Id × Value)) (i : Id)
 retyped-written [] held after i v own others = refl
 retyped-written (j ∷ js) held after i v own others =
     let here = by (id_eq j i) refl in
-    let there = retyped-written js held after i v (λ e. own (or_true (id_eq j i) (has_item id_cmp js i) e)) others in
+    let there = retyped-written js held after i v (λ e. own (or_right (id_eq j i) (has_item id_cmp js i) e)) others in
     λ t. here t ∷ there t
   where
     by : (b : Bool) → id_eq j i ≡ b → ◌≡◌ {A = Id × Value} (j, value_in after j) (if b then (j, v) else (j, value_in held j))
@@ -126,7 +122,7 @@ kinds-ascending (i ∷ is) (suc w ∷ ws) up = both _ _ (kinds-all (λ y. is_lt 
 kinds-within : (ids : List Id) (ws : List ℕ) (j : Id) → IsTrue (has_item id_cmp (map (λ k. k.0) (kinds_of ids ws)) j) → IsTrue (has_item id_cmp ids j)
 kinds-within [] ws j has = has
 kinds-within (i ∷ is) [] j has = absurd (true≢false (sym has))
-kinds-within (i ∷ is) (zero ∷ ws) j has = or_true (id_eq i j) (has_item id_cmp is j) (kinds-within is ws j has)
+kinds-within (i ∷ is) (zero ∷ ws) j has = or_right (id_eq i j) (has_item id_cmp is j) (kinds-within is ws j has)
 kinds-within (i ∷ is) (suc w ∷ ws) j has = by (id_eq i j) (kinds-within is ws j) has
   where
     by : (b : Bool) → (has_item id_cmp (map (λ k. k.0) (kinds_of is ws)) j ≡ true → has_item id_cmp is j ≡ true)

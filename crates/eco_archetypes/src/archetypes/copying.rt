@@ -9,9 +9,9 @@ ghost use Rattle.eco_archetypes.specs.Archetypes.{type_at};
 
 use crate::archetypes::Archetypes;
 use eco_ids::{TableSlot, TypeList};
-use eco_index::{Edges, TypeMap};
+use eco_index::{Edges, Seed, TypeMap};
 use eco_tables::Tables;
-use std::alloc::AllocError;
+use std::alloc::{AllocError, Global};
 
 impl Archetypes {
     /// The same tables once more, each in the slot that it has, and none of them with room. An `Err` comes where memory is
@@ -21,10 +21,9 @@ impl Archetypes {
     {
         // Edges are left out: each that is asked for is found again.
         let tables = self.tables.try_copy()?;
-        let mut by_type = TypeMap::with_capacity(self.alloc, tables.slot_count(), self.seed)?;
-        list_all(&tables, &mut by_type)?;
-        let by_id = self.by_id.try_copy(self.alloc)?;
         let caches = self.caches.try_copy(self.alloc)?;
+        let by_type = listing(self.alloc, &tables, self.seed)?;
+        let by_id = self.by_id.try_copy(self.alloc)?;
         Ok(Archetypes {
             alloc: self.alloc,
             seed: self.seed,
@@ -36,6 +35,17 @@ impl Archetypes {
             caches,
         })
     }
+}
+
+// The slots of all tables under their types.
+fn listing(alloc: Global, tables: &Tables, seed: Seed) -> Result<TypeMap, AllocError>
+    requires { (n m : ℕ) (ids : List Ids) →
+        type_at tables.now n ≡ Some ids → type_at tables.now m ≡ Some ids → n ≡ m }
+    ensures { IfOk result (λ t. IsTypeMap (type_at tables.now) (slots_by_type t)) }
+{
+    let mut by_type = TypeMap::with_capacity(alloc, tables.slot_count(), seed)?;
+    list_all(tables, &mut by_type)?;
+    Ok(by_type)
 }
 
 // Lists all tables under their types.

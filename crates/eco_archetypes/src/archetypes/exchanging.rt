@@ -6,7 +6,7 @@ ghost use Rattle.eco_index.specs.Edges.{exchanged};
 ghost use Rattle.eco_archetypes.specs.Archetypes.{type_at, KeepsRoom, KeepsTypes, RowlessBut, SameRows};
 ghost use Rattle.eco_archetypes.specs.Widths.{StillCover};
 
-use crate::archetypes::{Archetypes, are_same};
+use crate::archetypes::{Archetypes, are_same, type_in};
 use eco_entities::EntityIndex;
 use eco_ids::{Id, TableSlot, TypeList};
 use std::alloc::AllocError;
@@ -115,7 +115,7 @@ impl Archetypes {
             (λ n. type_at self.now n ≡ Some (exchanged (table_in self.now slot).ids leaving coming)) }
     {
         let to = self.by_id.any(coming)?;
-        let own = self.tables.get(slot).unwrap().type_list();
+        let own = type_in(&self.tables, slot);
         let other = self.tables.get(to)?.type_list();
         let place = own.find(leaving)?;
         if differs_there(own.as_slice(), other.as_slice(), place, coming) {
@@ -161,7 +161,7 @@ impl Archetypes {
         ensures types { KeepsTypes self.old self.new }
         ensures widths { StillCover entities.now self.old self.new }
     {
-        let type_list = exchanged(self.tables.get(slot).unwrap().type_list(), leaving, coming)?;
+        let type_list = exchanged(type_in(&self.tables, slot), leaving, coming)?;
         self.room_for(entities, &type_list, 1)
     }
 }

@@ -6,7 +6,7 @@ ghost use Rattle.eco_index.specs.Edges.{toggled};
 ghost use Rattle.eco_archetypes.specs.Archetypes.{type_at, KeepsRoom, KeepsTypes, RowlessBut, SameRows};
 ghost use Rattle.eco_archetypes.specs.Widths.{StillCover};
 
-use crate::archetypes::Archetypes;
+use crate::archetypes::{Archetypes, type_in};
 use eco_entities::EntityIndex;
 use eco_ids::{Id, TableSlot, TypeList};
 use std::alloc::AllocError;
@@ -112,14 +112,12 @@ impl Archetypes {
         ensures types { KeepsTypes self.old self.new }
         ensures widths { StillCover entities.now self.old self.new }
     {
-        let type_list = toggled(self.tables.get(slot).unwrap().type_list(), id)?;
+        let type_list = toggled(type_in(&self.tables, slot), id)?;
         let Some(to) = self.find(&type_list) else {
-            let made = self.make_with_room(entities, type_list, more)?;
-            return Ok(made);
+            return self.make_with_room(entities, type_list, more);
         };
         self.link(slot, id, to);
-        self.reserve_rows(to, more)?;
-        Ok(to)
+        self.make_room(entities, to, more)
     }
 
     // The id leads from either of the two tables to the other, unless memory is refused for that.

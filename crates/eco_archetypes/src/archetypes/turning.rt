@@ -1,18 +1,22 @@
 //! A table of one row takes the type of its next step where it stands: to make a table of that type, and to drop this one,
 //! would cost as much as the type has ids.
-ghost use Rattle.std.specs.Prelude.{◌≡◌, ◌≢◌, ◌≤◌, ℕ, length, Some, IsSome, IsFalse, true, false, IfOk, OnOk, OnErr};
+ghost use Rattle.std.specs.Prelude.{◌≡◌, ◌≢◌, ◌<◌, ◌≤◌, ℕ, length, Some, IsSome, IsFalse, true, false, IfOk, OnOk, OnErr};
+ghost use Rattle.std.specs.HashMap.{IsUnchanged, spare};
 ghost use Rattle.eco_ids.specs.declared.value.TheConstants.{FIELD_COUNT};
 ghost use Rattle.eco_ids.specs.Order.{id_cmp, has_item, with_item, without_item};
 ghost use Rattle.eco_tables.specs.Tables.{slot_of, table_in};
 ghost use Rattle.eco_index.specs.Edges.{toggled};
-ghost use Rattle.eco_index.specs.Contents.{lists_in};
+ghost use Rattle.eco_caches.specs.Caching.{HaveRoom, StayExact};
+ghost use Rattle.eco_caches.specs.Contents.{cache_list};
+ghost use Rattle.eco_index.specs.Contents.{lists_in, slots_by_type};
 ghost use Rattle.eco_archetypes.specs.Archetypes.{type_at, IsIdIndex, TakesType, MayTakeType, SameSlots, SomeHasType};
 ghost use Rattle.eco_archetypes.specs.Widths.{AreAgreed, KeepsWidths, LetsGrow, StillCover, FitsAll};
 
-use crate::archetypes::{Archetypes, reserve_one};
+use crate::archetypes::{Archetypes, reserve_one, type_in};
+use eco_caches::Caches;
 use eco_entities::EntityIndex;
 use eco_ids::{Id, TableSlot, TypeList};
-use eco_index::IdIndex;
+use eco_index::{IdIndex, TypeMap};
 use eco_tables::Tables;
 use std::alloc::{AllocError, Global};
 
@@ -61,7 +65,7 @@ impl Archetypes {
         if self.lead(slot, id).is_some() {
             return Ok(false);
         }
-        if self.tables.get(slot).unwrap().type_list().has(id) {
+        if type_in(&self.tables, slot).has(id) {
             self.lose_alone(slot, id)
         } else {
             self.gain_alone(entities, slot, id)
@@ -87,9 +91,8 @@ impl Archetypes {
         ensures widths { StillCover entities.now self.old self.new }
     {
         let width = self.width_of(entities, id);
-        self.by_type.note_places(slot)?;
-        reserve_one(&mut self.by_type, &mut self.caches)?;
-        let old = self.tables.get(slot).unwrap().type_list();
+        make_ready(&mut self.by_type, &mut self.caches, slot)?;
+        let old = type_in(&self.tables, slot);
         let _ids = old.as_slice();
         let place = self.by_type.place_of(old, slot);
         let Some(mut type_list) = self.by_type.take_with(place, id, slot)? else {
@@ -119,7 +122,7 @@ impl Archetypes {
         ensures err { OnErr result (SameSlots self.old self.new) }
         ensures widths { KeepsWidths self.old self.new }
     {
-        let type_list = self.tables.get(slot).unwrap().type_list().without(id)?;
+        let type_list = type_in(&self.tables, slot).without(id)?;
         if self.find(&type_list).is_some() {
             return Ok(false);
         }
@@ -137,9 +140,8 @@ impl Archetypes {
         ensures err { OnErr result (SameSlots self.old self.new) }
         ensures widths { KeepsWidths self.old self.new }
     {
-        self.by_type.note_places(slot)?;
-        reserve_one(&mut self.by_type, &mut self.caches)?;
-        let old = self.tables.get(slot).unwrap().type_list();
+        make_ready(&mut self.by_type, &mut self.caches, slot)?;
+        let old = type_in(&self.tables, slot);
         let place = self.by_type.place_of(old, slot);
         lose(&mut self.tables, &mut self.by_id, slot, id);
         self.caches.tell(slot, &type_list);
@@ -147,6 +149,18 @@ impl Archetypes {
         self.edges.cut(slot);
         Ok(())
     }
+}
+
+// Room for what comes when the type of a slot changes, as `reserve_one` makes it, and the slot's places are noted.
+#[inline]
+fn make_ready(by_type: &mut TypeMap, caches: &mut Caches, slot: TableSlot) -> Result<(), AllocError>
+    ensures same { IsUnchanged (slots_by_type by_type.old) (slots_by_type by_type.new) }
+    ensures exact { StayExact (cache_list caches.old) (cache_list caches.new) }
+    ensures room { OnOk result (0 < spare (slots_by_type by_type.new)) }
+    ensures rooms { OnOk result (HaveRoom (cache_list caches.new)) }
+{
+    by_type.note_places(slot)?;
+    reserve_one(by_type, caches)
 }
 
 fn gain(
@@ -173,7 +187,7 @@ fn gain(
     tables.get(slot).unwrap().ids_have_widths();
     by_id.join(alloc, id, slot)?;
     if let Err(refused) = tables.gain(slot, id, width) {
-        by_id.leave(id, tables.get(slot).unwrap().type_list().as_slice(), slot);
+        by_id.leave(id, type_in(tables, slot).as_slice(), slot);
         return Err(refused);
     }
     Ok(())
@@ -192,5 +206,5 @@ fn lose(tables: &mut Tables, by_id: &mut IdIndex, slot: TableSlot, id: Id)
 {
     tables.get(slot).unwrap().ids_have_widths();
     tables.lose(slot, id);
-    by_id.leave(id, tables.get(slot).unwrap().type_list().as_slice(), slot);
+    by_id.leave(id, type_in(tables, slot).as_slice(), slot);
 }

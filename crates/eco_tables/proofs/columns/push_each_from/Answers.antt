@@ -1,7 +1,7 @@
 use Rattle.std.proofs.Common.{◌<◌, arith, ap, sym, ◌∙◌, get_or, length, unwrap_or, refl}
 use Rattle.eco_ids.specs.World.{zeros}
 use Rattle.eco_tables.specs.Column.{ColumnState, pushed, value_in, held_in}
-use Rattle.eco_tables.proofs.Held.{find-absent, found_at, mapped_all, mapped_more, not_yet, place_id, place_within}
+use Rattle.eco_tables.proofs.Held.{find-absent, found_at, mapped_all, mapped_more, not_yet, not_yet_all, place_id, place_within}
 use Rattle.eco_tables.proofs.columns.push_each_from.Goals.{in-Some, in-None}
 use Rattle.eco_tables.proofs.columns.push_each_from.Goals as goal
 
@@ -13,11 +13,8 @@ bounds-source-place c = place_within _ _ _ c.in-Some.ensures.found
 
 pub push_from-requires-clause-room : goal.push_from-requires-clause-room
 push_from-requires-clause-room c =
-    let k = c.loop-column.column-index in
-    let f = λ (x : ColumnState). pushed x (value_in (held_in c.args.source.now c.args.row) x.id) in
-    let same = not_yet f c.args.columns.now c.loop-column.columns k c.column-item.result (omega arith) c.loop-column.invariant in
-    let room : 0 < (get_or c.args.columns.now k c.column-item.result).room = c.requires.room _ _ (omega arith) in
-    rw same room
+    not_yet_all (λ x. 0 < x.room) (λ x. pushed x (value_in (held_in c.args.source.now c.args.row) x.id)) c.args.columns.now c.loop-column.columns c.loop-column.column-index
+    c.column-item.result (omega arith) c.loop-column.invariant c.requires.room
 
 pub push_from-requires-clause-row : goal.push_from-requires-clause-row
 push_from-requires-clause-row c =
@@ -37,11 +34,8 @@ push_from-requires-clause-width c =
 
 pub push_zeros-requires : goal.push_zeros-requires
 push_zeros-requires c =
-    let k = c.loop-column.column-index in
-    let f = λ (x : ColumnState). pushed x (value_in (held_in c.args.source.now c.args.row) x.id) in
-    let same = not_yet f c.args.columns.now c.loop-column.columns k c.column-item.result (omega arith) c.loop-column.invariant in
-    let room : 0 < (get_or c.args.columns.now k c.column-item.result).room = c.requires.room _ _ (omega arith) in
-    rw same room
+    not_yet_all (λ x. 0 < x.room) (λ x. pushed x (value_in (held_in c.args.source.now c.args.row) x.id)) c.args.columns.now c.loop-column.columns c.loop-column.column-index
+    c.column-item.result (omega arith) c.loop-column.invariant c.requires.room
 
 pub loop-column-init : goal.loop-column-init
 loop-column-init c = refl

@@ -1,16 +1,13 @@
-use Rattle.std.proofs.Common.{◌<◌, arith, get_or, refl}
+use Rattle.std.proofs.Common.{◌<◌, arith, refl}
 use Rattle.eco_ids.specs.World.{zeros}
-use Rattle.eco_tables.specs.Column.{ColumnState, pushed}
-use Rattle.eco_tables.proofs.Held.{mapped_all, mapped_more, not_yet}
+use Rattle.eco_tables.specs.Column.{pushed}
+use Rattle.eco_tables.proofs.Held.{mapped_all, mapped_more, not_yet_all}
 use Rattle.eco_tables.proofs.columns.push_zeros.Goals as goal
 
 pub push_zeros-requires : goal.push_zeros-requires
 push_zeros-requires c =
-    let k = c.loop-column.column-index in
-    let f = λ (x : ColumnState). pushed x zeros in
-    let same = not_yet f c.args.columns.now c.loop-column.columns k c.column-item.result (omega arith) c.loop-column.invariant in
-    let room : 0 < (get_or c.args.columns.now k c.column-item.result).room = c.requires _ _ (omega arith) in
-    rw same room
+    not_yet_all (λ x. 0 < x.room) (λ x. pushed x zeros) c.args.columns.now c.loop-column.columns c.loop-column.column-index
+    c.column-item.result (omega arith) c.loop-column.invariant c.requires
 
 pub loop-column-init : goal.loop-column-init
 loop-column-init c = refl

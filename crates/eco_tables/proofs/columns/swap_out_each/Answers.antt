@@ -1,15 +1,12 @@
-use Rattle.std.proofs.Common.{◌<◌, arith, get_or, length, refl}
-use Rattle.eco_tables.specs.Column.{ColumnState, with_removed}
-use Rattle.eco_tables.proofs.Held.{mapped_all, mapped_more, not_yet}
+use Rattle.std.proofs.Common.{◌<◌, arith, length, refl}
+use Rattle.eco_tables.specs.Column.{with_removed}
+use Rattle.eco_tables.proofs.Held.{mapped_all, mapped_more, not_yet_all}
 use Rattle.eco_tables.proofs.columns.swap_out_each.Goals as goal
 
 pub swap_out-requires : goal.swap_out-requires
 swap_out-requires c =
-    let k = c.loop-column.column-index in
-    let f = λ (x : ColumnState). with_removed x c.args.row in
-    let same = not_yet f c.args.columns.now c.loop-column.columns k c.column-item.result (omega arith) c.loop-column.invariant in
-    let there : c.args.row < length (get_or c.args.columns.now k c.column-item.result).values = c.requires _ _ (omega arith) in
-    rw same there
+    not_yet_all (λ x. c.args.row < length x.values) (λ x. with_removed x c.args.row) c.args.columns.now c.loop-column.columns c.loop-column.column-index
+    c.column-item.result (omega arith) c.loop-column.invariant c.requires
 
 pub loop-column-init : goal.loop-column-init
 loop-column-init c = refl

@@ -1,21 +1,14 @@
-use Rattle.eco_index.specs.IdIndex.{lists_of}
 use Rattle.eco_archetypes.proofs.ArchetypeLemmas.{found_dropped, rowless-type_at}
 use Rattle.eco_archetypes.proofs.archetypes.Archetypes.forget.Goals as goal
 
 pub invariant_of-self : goal.invariant_of-self
 invariant_of-self c =
-    found_dropped c.self.inside.tables c.drop_empty.new.self c.self.inside.by_type.slots c.remove.new.self.slots (lists_of c.self.inside.by_id.slots)
-    (lists_of c.take_all.new.self.slots)
-    c.self.inside.edges.lists.items c.cut.new.self.lists.items
-    c.args.slot c.in-Some.type_list c.self.invariant c.in-Some.ensures.dropped
+    found_dropped c.self.invariant c.in-Some.ensures.dropped
     (rowless-type_at c.self.inside.tables c.args.slot c.in-Some.type_list c.in-Some.ensures.answer)
     c.remove.ensures.0 (rw c.as_slice.ensures.ids at c.take_all.ensures) c.cut.ensures c.forget.ensures.told
 
 pub invariant_of-self-in-Some-2 : goal.invariant_of-self-in-Some-2
 invariant_of-self-in-Some-2 c =
-    found_dropped c.self.inside.tables c.drop_empty.new.self c.self.inside.by_type.slots c.remove.new.self.slots (lists_of c.self.inside.by_id.slots)
-    (lists_of c.take_all.new.self.slots)
-    c.self.inside.edges.lists.items c.cut.new.self.lists.items
-    c.args.slot c.in-Some.type_list c.self.invariant c.in-Some.ensures.dropped
+    found_dropped c.self.invariant c.in-Some.ensures.dropped
     (rowless-type_at c.self.inside.tables c.args.slot c.in-Some.type_list c.in-Some.ensures.answer)
     c.remove.ensures.0 (rw c.as_slice.ensures.ids at c.take_all.ensures) c.cut.ensures c.forget.ensures.told

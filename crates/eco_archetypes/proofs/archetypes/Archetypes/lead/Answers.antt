@@ -4,17 +4,12 @@ use Rattle.eco_archetypes.proofs.archetypes.Archetypes.lead.Goals as goal
 
 pub returns-clause-there : goal.returns-clause-there
 returns-clause-there c =
-    rw (← c.self.view_is)
-    (lead_there c.self.inside.tables c.self.inside.edges.lists.items c.self.invariant.graph c.args.slot c.in_ok-to.to c.args.id
-    (sym c.get.ensures ∙ c.in_ok-to.was))
+    rw (← c.self.view_is) (lead_there _ _ c.self.invariant.graph c.args.slot c.in_ok-to.to c.args.id (sym c.get.ensures ∙ c.in_ok-to.was))
 
 pub returns-clause-apart : goal.returns-clause-apart
 returns-clause-apart c =
-    lead_apart c.self.inside.tables c.self.inside.edges.lists.items c.self.invariant.graph c.args.slot c.in_ok-to.to c.args.id
-    (sym c.get.ensures ∙ c.in_ok-to.was)
+    lead_apart _ _ c.self.invariant.graph c.args.slot c.in_ok-to.to c.args.id (sym c.get.ensures ∙ c.in_ok-to.was)
 
 pub returns-clause-typed : goal.returns-clause-typed
 returns-clause-typed c =
-    rw (← c.self.view_is)
-    (lead_typed c.self.inside.tables c.self.inside.edges.lists.items c.self.invariant.graph c.args.slot c.in_ok-to.to c.args.id
-    (sym c.get.ensures ∙ c.in_ok-to.was))
+    rw (← c.self.view_is) (lead_typed _ _ c.self.invariant.graph c.args.slot c.in_ok-to.to c.args.id (sym c.get.ensures ∙ c.in_ok-to.was))

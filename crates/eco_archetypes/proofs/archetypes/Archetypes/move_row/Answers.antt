@@ -1,11 +1,10 @@
-use Rattle.eco_index.specs.IdIndex.{lists_of}
 use Rattle.eco_archetypes.proofs.ArchetypeLemmas.{found_same, moves_types, there_by_row, there_by_room}
 use Rattle.eco_archetypes.proofs.Widths.{kept_agreed, kept_widths, moves_kept}
 use Rattle.eco_archetypes.proofs.archetypes.Archetypes.move_row.Goals as goal
 
 pub invariant_of-self : goal.invariant_of-self
 invariant_of-self c =
-    found_same _ _ _ c.self.inside.by_type.slots _ (lists_of c.self.inside.by_id.slots) _ c.self.inside.edges.lists.items c.self.invariant
+    found_same c.self.invariant
     (moves_types _ _ c.args.from c.args.row c.args.to c.move_row.ensures.moves
     (there_by_row c.self.inside.tables c.args.from c.args.row (rw (← c.self.view_is) at c.requires.row))
     (there_by_room c.self.inside.tables c.args.to (rw (← c.self.view_is) at c.requires.room)))

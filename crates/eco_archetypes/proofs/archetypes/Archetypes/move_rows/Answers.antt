@@ -1,11 +1,10 @@
-use Rattle.eco_index.specs.IdIndex.{lists_of}
 use Rattle.eco_archetypes.proofs.ArchetypeLemmas.{found_same, moves_all_types}
 use Rattle.eco_archetypes.proofs.Widths.{kept_agreed, kept_widths, moves_all_kept}
 use Rattle.eco_archetypes.proofs.archetypes.Archetypes.move_rows.Goals as goal
 
 pub invariant_of-self : goal.invariant_of-self
 invariant_of-self c =
-    found_same _ _ _ c.self.inside.by_type.slots _ (lists_of c.self.inside.by_id.slots) _ c.self.inside.edges.lists.items c.self.invariant
+    found_same c.self.invariant
     (moves_all_types _ _ c.args.from c.args.to c.move_rows.ensures (rw (← c.self.view_is) at c.requires.source)
     (rw (← c.self.view_is) at c.requires.target))
     (kept_agreed _ _ (moves_all_kept _ _ c.args.from c.args.to c.move_rows.ensures) c.self.invariant.agreed)

@@ -1,14 +1,10 @@
 use Rattle.std.proofs.Common.{inl, refl}
-use Rattle.eco_index.specs.IdIndex.{lists_of}
-use Rattle.eco_archetypes.proofs.ArchetypeLemmas.{found_same, sets_types}
-use Rattle.eco_archetypes.proofs.Widths.{kept_agreed, kept_widths, sets_kept}
+use Rattle.eco_archetypes.proofs.ArchetypeLemmas.{found_set}
+use Rattle.eco_archetypes.proofs.Widths.{kept_widths, sets_kept}
 use Rattle.eco_archetypes.proofs.archetypes.Archetypes.reserve_rows.Goals as goal
 
 pub invariant_of-self : goal.invariant_of-self
-invariant_of-self c =
-    found_same _ _ _ c.self.inside.by_type.slots _ (lists_of c.self.inside.by_id.slots) _ c.self.inside.edges.lists.items c.self.invariant
-    (sets_types _ _ c.args.slot _ c.reserve_rows.ensures.sets ((rw (← c.self.view_is) at c.requires)) refl)
-    (kept_agreed _ _ (sets_kept _ _ c.args.slot _ c.reserve_rows.ensures.sets (inl refl)) c.self.invariant.agreed)
+invariant_of-self c = found_set c.self.invariant c.reserve_rows.ensures.sets (rw (← c.self.view_is) at c.requires) refl refl
 
 pub returns-clause-widths : goal.returns-clause-widths
 returns-clause-widths c = rw (← c.self.view_is) (kept_widths _ _ (sets_kept c.self.inside.tables _ c.args.slot _ c.reserve_rows.ensures.sets (inl refl)))

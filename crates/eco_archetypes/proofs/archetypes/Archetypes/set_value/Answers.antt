@@ -1,15 +1,11 @@
 use Rattle.std.proofs.Common.{inl, refl}
-use Rattle.eco_index.specs.IdIndex.{lists_of}
-use Rattle.eco_archetypes.proofs.ArchetypeLemmas.{found_same, sets_types, there_by_row}
-use Rattle.eco_archetypes.proofs.Widths.{fits_each, kept_agreed, kept_widths, sets_kept}
+use Rattle.eco_archetypes.proofs.ArchetypeLemmas.{found_set, there_by_row}
+use Rattle.eco_archetypes.proofs.Widths.{fits_each, kept_widths, sets_kept}
 use Rattle.eco_archetypes.proofs.archetypes.Archetypes.set_value.Goals as goal
 
 pub invariant_of-self : goal.invariant_of-self
 invariant_of-self c =
-    found_same _ _ _ c.self.inside.by_type.slots _ (lists_of c.self.inside.by_id.slots) _ c.self.inside.edges.lists.items c.self.invariant
-    (sets_types _ _ c.args.slot _ c.set_value.ensures.written
-    (there_by_row c.self.inside.tables c.args.slot c.args.row (rw (← c.self.view_is) at c.requires.row)) refl)
-    (kept_agreed _ _ (sets_kept _ _ c.args.slot _ c.set_value.ensures.written (inl refl)) c.self.invariant.agreed)
+    found_set c.self.invariant c.set_value.ensures.written (there_by_row c.self.inside.tables c.args.slot c.args.row (rw (← c.self.view_is) at c.requires.row)) refl refl
 
 pub set_value-requires-clause-fits : goal.set_value-requires-clause-fits
 set_value-requires-clause-fits c =

@@ -7,15 +7,15 @@ use Rattle.eco_archetypes.proofs.Copying.{copied_kept, copied_matches, copied_ty
 use Rattle.eco_archetypes.proofs.Widths.{kept_agreed}
 use Rattle.eco_archetypes.proofs.archetypes.Archetypes.try_copy.Goals as goal
 
-pub list_all-requires-clause-kinds : goal.list_all-requires-clause-kinds
-list_all-requires-clause-kinds c =
+pub listing-requires : goal.listing-requires
+listing-requires c =
     let s = c.self.inside.tables in
     let same = copied_types s c.in_ok-tables.tables c.in_ok-tables.ensures in
     λ n k ids a b. one_slot s c.self.inside.by_type.slots c.self.invariant.types n k ids (sym (same n) ∙ a) (sym (same k) ∙ b)
 
 pub invariant_of-result : goal.invariant_of-result
 invariant_of-result c = record {
-  types = c.in_ok-list_all.ensures;
+  types = c.in_ok-by_type.ensures;
   matches =
       copied_matches c.self.inside.tables c.in_ok-tables.tables c.in_ok-tables.ensures (lists_of c.self.inside.by_id.slots)
       (lists_of c.in_ok-by_id.by_id.slots) c.in_ok-by_id.ensures c.self.invariant.matches;

@@ -1,51 +1,33 @@
-use Rattle.std.proofs.Common.{◌≡◌, Some, None, cond, option_map, refl, ap, sym, subst, ◌∙◌}
+use Rattle.std.proofs.Common.{Some, None, cond, ap, sym, subst, ◌∙◌}
 use Rattle.std.specs.Map.{lookup}
-use Rattle.std.specs.Option.{option_copied}
-use Rattle.eco_tables.specs.Table.{TableState}
-use Rattle.eco_tables.specs.Tables.{slot_of}
-use Rattle.eco_index.specs.IdIndex.{lists_of}
+use Rattle.std.proofs.lemmas.Option.{same_Some}
 use Rattle.eco_index.specs.TypeMap.{LeadsAlone, same_ids}
 use Rattle.eco_caches.proofs.Caching.{then_told}
-use Rattle.eco_archetypes.specs.Archetypes.{TakesType, type_at}
-use Rattle.eco_archetypes.proofs.ArchetypeLemmas.{found_kept}
-use Rattle.eco_archetypes.proofs.Turnings.{found_turned, one, same_entries}
+use Rattle.eco_archetypes.specs.Archetypes.{TakesType}
+use Rattle.eco_archetypes.proofs.ArchetypeLemmas.{found_ready}
+use Rattle.eco_archetypes.proofs.Turnings.{found_turned}
 use Rattle.eco_archetypes.proofs.archetypes.Archetypes.turn.Goals as goal
 
 pub place_of-place-requires : goal.place_of-place-requires
 place_of-place-requires c =
-    let ready : c.reserve_one.new.by_type.slots.entries ≡ c.self.inside.by_type.slots.entries =
-    c.reserve_one.ensures.same ∙ same_entries c.note_places.ensures in
-    let old = c.type_list-old.result.now in
-    let there : slot_of c.self.inside.tables c.args.slot ≡ Some c.unwrap.result.now = sym c.get.ensures ∙ ap option_copied c.unwrap.ensures in
-    let had : type_at c.self.inside.tables c.args.slot ≡ Some old =
-    ap (option_map (λ (t : TableState). t.ids)) there ∙ ap Some (sym c.type_list-old.ensures.ids) in
-    ap (lookup (same_ids old)) ready ∙ c.self.invariant.types.there old c.args.slot had
+    let old = c.type_in-old.result.now in
+    ap (lookup (same_ids old)) c.make_ready.ensures.same ∙ c.self.invariant.types.there old c.args.slot c.type_in-old.ensures.typed
 
 pub invariant_of-self-2 : goal.invariant_of-self-2
 invariant_of-self-2 c =
-    let ready : c.reserve_one.new.by_type.slots.entries ≡ c.self.inside.by_type.slots.entries =
-    c.reserve_one.ensures.same ∙ same_entries c.note_places.ensures in
     let s = c.self.inside.tables in
     let s1 = c.lose.new.tables in
-    let old = c.type_list-old.result.now in
-    let there : slot_of s c.args.slot ≡ Some c.unwrap.result.now = sym c.get.ensures ∙ ap option_copied c.unwrap.ensures in
-    let had : type_at s c.args.slot ≡ Some old = ap (option_map (λ (t : TableState). t.ids)) there ∙ ap Some (sym c.type_list-old.ensures.ids) in
+    let old = c.type_in-old.result.now in
+    let had = c.type_in-old.ensures.typed in
     let takes : TakesType s s1 c.args.slot c.args.type_list =
     subst (TakesType s s1 c.args.slot) (sym (rw (← c.self.view_is) at c.requires.typed)) c.lose.ensures.turned in
-    let alone : LeadsAlone c.reserve_one.new.by_type.slots old c.args.slot =
-    λ t e. one t old (sym (c.self.invariant.types.found t c.args.slot (ap (lookup (same_ids t)) (sym ready) ∙ e)) ∙ had) in
-    found_turned s s1 c.self.inside.by_type.slots c.rename_at.new.self.slots (lists_of c.self.inside.by_id.slots) (lists_of c.lose.new.by_id.slots)
-    c.self.inside.edges.lists.items c.cut.new.self.lists.items c.args.slot old c.args.type_list c.self.invariant had takes
+    let alone : LeadsAlone c.make_ready.new.by_type.slots old c.args.slot =
+    λ t e. same_Some t old (sym (c.self.invariant.types.found t c.args.slot (ap (lookup (same_ids t)) (sym c.make_ready.ensures.same) ∙ e)) ∙ had) in
+    found_turned c.self.invariant had takes
     (rw (← c.self.view_is) at c.requires.absent)
     (λ q. c.rename_at.ensures old alone q
-    ∙ ap (λ es. cond (same_ids c.args.type_list q) (Some c.args.slot) (cond (same_ids old q) None (lookup (same_ids q) es))) ready)
-    c.lose.ensures.index c.cut.ensures c.lose.ensures.agreed (then_told _ _ _ _ _ c.reserve_one.ensures.exact c.tell.ensures.told)
+    ∙ ap (λ es. cond (same_ids c.args.type_list q) (Some c.args.slot) (cond (same_ids old q) None (lookup (same_ids q) es))) c.make_ready.ensures.same)
+    c.lose.ensures.index c.cut.ensures c.lose.ensures.agreed (then_told _ _ _ _ _ c.make_ready.ensures.exact c.tell.ensures.told)
 
-pub invariant_of-self-in_err-reserve_one : goal.invariant_of-self-in_err-reserve_one
-invariant_of-self-in_err-reserve_one c =
-    let ready : c.reserve_one.new.by_type.slots.entries ≡ c.self.inside.by_type.slots.entries =
-    c.reserve_one.ensures.same ∙ same_entries c.note_places.ensures in
-    let l = lists_of c.self.inside.by_id.slots in
-    let g = c.self.inside.edges.lists.items in
-    found_kept _ _ c.self.inside.by_type.slots _ l l g g c.self.invariant (λ k. refl) ready c.self.invariant.matches c.self.invariant.agreed
-    (c.reserve_one.ensures.exact (type_at c.self.inside.tables) c.self.invariant.cached)
+pub invariant_of-self : goal.invariant_of-self
+invariant_of-self c = found_ready c.self.invariant c.make_ready.ensures.same c.make_ready.ensures.exact

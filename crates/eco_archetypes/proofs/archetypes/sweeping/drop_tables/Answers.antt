@@ -1,6 +1,5 @@
-use Rattle.std.proofs.Common.{◌≡◌, ◌+◌, ◌++◌, ◌∷◌, [], take, get_or, refl, inl, sym, ap, ◌∙◌, subst, take_all}
+use Rattle.std.proofs.Common.{◌∷◌, [], take, get_or, refl, inl, sym, ◌∙◌, subst, take_all}
 use Rattle.std.proofs.lemmas.List.{take_more, append_assoc}
-use Rattle.eco_archetypes.specs.Archetypes.{RowlessIn}
 use Rattle.eco_archetypes.specs.Sweeping.{DropsRowless}
 use Rattle.eco_archetypes.proofs.Sweeping.{drops_both, drops_none, less_both}
 use Rattle.eco_archetypes.proofs.archetypes.sweeping.drop_tables.Goals as goal
@@ -25,22 +24,14 @@ loop-slot-preserved c =
           c.loop-slot.invariant.dropped c.drop_table.ensures.dropped);
       less = less_both c.args.tables.now c.loop-slot.tables c.drop_table.new.tables c.loop-slot.invariant.less c.drop_table.ensures.less;
       rowless = λ others was.
-          let parts : take (i + 1) xs ++ others ≡ take i xs ++ (get_or xs i 0 ∷ others) =
-          ap (λ ys. ys ++ others) (take_more xs i 0 c.loop-slot-test.true) ∙ append_assoc (take i xs) (get_or xs i 0 ∷ []) others in
-          c.drop_table.ensures.rowless others
-          (c.loop-slot.invariant.rowless (get_or xs i 0 ∷ others) (subst (RowlessIn c.args.tables.now) parts was));
+          c.drop_table.ensures.rowless others (c.loop-slot.invariant.rowless (get_or xs i 0 ∷ others)
+          (rw (take_more xs i 0 c.loop-slot-test.true, append_assoc) at was));
       rows = λ n row. c.drop_table.ensures.rows n row ∙ c.loop-slot.invariant.rows n row;
       exact = λ was. c.drop_table.ensures.exact (c.loop-slot.invariant.exact was);
     }
 
 pub returns-clause-rowless : goal.returns-clause-rowless
-returns-clause-rowless c = λ others was.
-    let xs = c.args.slots.now in
-    let all : take c.loop-slot.slot-index xs ≡ xs = take_all c.loop-slot.slot-index xs c.loop-slot-test.false in
-    c.loop-slot.invariant.rowless others (subst (λ ys. RowlessIn c.args.tables.now (ys ++ others)) (sym all) was)
+returns-clause-rowless c = rw (take_all c.loop-slot.slot-index c.args.slots.now c.loop-slot-test.false) at c.loop-slot.invariant.rowless
 
 pub returns-clause-dropped : goal.returns-clause-dropped
-returns-clause-dropped c =
-    let xs = c.args.slots.now in
-    let all : take c.loop-slot.slot-index xs ≡ xs = take_all c.loop-slot.slot-index xs c.loop-slot-test.false in
-    subst (DropsRowless c.args.tables.now c.loop-slot.tables) all c.loop-slot.invariant.dropped
+returns-clause-dropped c = rw (take_all c.loop-slot.slot-index c.args.slots.now c.loop-slot-test.false) at c.loop-slot.invariant.dropped

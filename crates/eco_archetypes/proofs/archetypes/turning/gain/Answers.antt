@@ -1,11 +1,12 @@
-use Rattle.std.proofs.Common.{◌≡◌, Some, false, option_map, unwrap_or, ap, sym, subst, ◌∙◌}
+use Rattle.std.proofs.Common.{◌≡◌, false, option_map, unwrap_or, ap, sym, subst, ◌∙◌}
 use Rattle.std.specs.Option.{option_copied}
+use Rattle.std.proofs.lemmas.Option.{same_Some}
 use Rattle.eco_tables.specs.Table.{TableState}
-use Rattle.eco_tables.specs.Tables.{slot_of, table_in, no_table}
+use Rattle.eco_tables.specs.Tables.{table_in, no_table}
 use Rattle.eco_index.specs.IdIndex.{Turns, is_own, lists_of}
 use Rattle.eco_archetypes.specs.Archetypes.{SameSlots}
 use Rattle.eco_archetypes.proofs.ArchetypeLemmas.{type_there}
-use Rattle.eco_archetypes.proofs.Turnings.{agreed_slots, covers_slots, gained_agreed, gained_covers, index_back, index_gained, kept_slots, one, wide_gained}
+use Rattle.eco_archetypes.proofs.Turnings.{agreed_slots, covers_slots, gained_agreed, gained_covers, index_back, index_gained, kept_slots, wide_gained}
 use Rattle.eco_archetypes.proofs.archetypes.turning.gain.Goals as goal
 
 pub returns-in-Err-clause-index : goal.returns-in-Err-clause-index
@@ -18,10 +19,8 @@ returns-in-Err-clause-index c =
     let l2 = lists_of c.leave.new.self.slots in
     let had = type_there s n c.requires.there in
     let same : SameSlots s s1 = kept_slots s s1 n c.in-Err.ensures.err in
-    let there : slot_of s1 n ≡ Some c.unwrap-in-Err.result.now = sym c.get-in-Err.ensures ∙ ap option_copied c.unwrap-in-Err.ensures in
     let own : c.as_slice.result.now ≡ ids =
-    c.as_slice.ensures.ids ∙ c.type_list.ensures.ids
-    ∙ one _ _ (sym (ap (option_map (λ (t : TableState). t.ids)) there) ∙ ap (option_map (λ (t : TableState). t.ids)) (same n) ∙ had) in
+    c.as_slice.ensures.ids ∙ same_Some _ _ (sym c.type_in.ensures.typed ∙ ap (option_map (λ (t : TableState). t.ids)) (same n) ∙ had) in
     index_back s s1 (lists_of c.args.by_id.now.slots) l1 l2 n c.args.id ids c.requires.index had same c.in_ok-join.ensures.ok
     (subst (λ xs. Turns false (is_own c.args.id xs) l1 l2 n) own c.leave.ensures)
 

@@ -1,12 +1,13 @@
 use Rattle.std.proofs.Common.{◌≡◌, Some, false, option_map, unwrap_or, ap, sym, subst, ◌∙◌}
 use Rattle.std.specs.Option.{option_copied}
+use Rattle.std.proofs.lemmas.Option.{same_Some}
 use Rattle.eco_ids.specs.Order.{id_cmp, without_item}
 use Rattle.eco_tables.specs.Table.{TableState}
-use Rattle.eco_tables.specs.Tables.{slot_of, table_in, no_table}
+use Rattle.eco_tables.specs.Tables.{table_in, no_table}
 use Rattle.eco_index.specs.IdIndex.{Turns, is_own, lists_of}
 use Rattle.eco_archetypes.specs.Archetypes.{type_at}
 use Rattle.eco_archetypes.proofs.ArchetypeLemmas.{type_there}
-use Rattle.eco_archetypes.proofs.Turnings.{gone_lost, index_lost, lost_agreed, lost_widths, one, wide_lost}
+use Rattle.eco_archetypes.proofs.Turnings.{gone_lost, index_lost, lost_agreed, lost_widths, wide_lost}
 use Rattle.eco_archetypes.proofs.archetypes.turning.lose.Goals as goal
 
 pub returns-clause-index : goal.returns-clause-index
@@ -18,10 +19,8 @@ returns-clause-index c =
     let ids = (table_in s n).ids in
     let l = lists_of c.args.by_id.now.slots in
     let l1 = lists_of c.leave.new.self.slots in
-    let there : slot_of s1 n ≡ Some c.unwrap-2.result.now = sym c.get-2.ensures ∙ ap option_copied c.unwrap-2.ensures in
     let has : type_at s1 n ≡ Some (without_item id_cmp ids i) = ap (option_map (λ (t : TableState). t.ids)) c.lose.ensures.changed in
-    let left : c.as_slice.result.now ≡ without_item id_cmp ids i =
-    c.as_slice.ensures.ids ∙ c.type_list.ensures.ids ∙ one _ _ (sym (ap (option_map (λ (t : TableState). t.ids)) there) ∙ has) in
+    let left : c.as_slice.result.now ≡ without_item id_cmp ids i = c.as_slice.ensures.ids ∙ same_Some _ _ (sym c.type_in.ensures.typed ∙ has) in
     index_lost s s1 l l1 n i ids c.requires.index (type_there s n c.requires.there) c.lose.ensures.others c.requires.has has
     (subst (λ xs. Turns false (is_own i xs) l l1 n) left c.leave.ensures)
 

@@ -1,9 +1,9 @@
-use Rattle.std.proofs.Common.{◌≡◌, ◌++◌, ◌+◌, ap, sym, ◌∙◌, refl, length, map, take, drop}
+use Rattle.std.proofs.Common.{◌≡◌, ◌++◌, ap, sym, ◌∙◌, refl, length, take, drop}
 use Rattle.std.specs.List.{swap_remove, slice_get}
-use Rattle.eco_tables.specs.Column.{kind_of, with_removed}
-use Rattle.eco_tables.specs.Table.{rows_of, width_among}
+use Rattle.eco_tables.specs.Column.{with_removed}
+use Rattle.eco_tables.specs.Table.{rows_of}
 use Rattle.eco_tables.specs.Tables.{no_row}
-use Rattle.eco_tables.proofs.Rows.{entities_of_all, kinds_same, removed_rows, rewritten, row_in_columns, row_within, shape_removed}
+use Rattle.eco_tables.proofs.Rows.{entities_of_all, mapped_table, removed_rows, rewritten, row_in_columns, row_within, shape_removed}
 use Rattle.eco_tables.proofs.table.Table.swap_out.Goals as goal
 
 pub swap_remove-requires : goal.swap_remove-requires
@@ -16,8 +16,7 @@ swap_out_row-requires c =
 
 pub invariant_of-self : goal.invariant_of-self
 invariant_of-self c =
-    let columns = rewritten (λ x. with_removed x c.args.row) c.self.inside.columns.len c.swap_out_row.new.columns c.as_mut_slice.result.now
-    c.self.inside.columns.items c.swap_out_row.ensures c.as_mut_slice.ensures.value c.self.inside.columns.ok.0 in
+    let columns = rewritten (λ x. with_removed x c.args.row) _ _ _ _ c.swap_out_row.ensures c.as_mut_slice.ensures.value c.self.inside.columns.ok.0 in
     rw (columns, c.swap_remove.ensures.items, c.swap_remove.ensures.capacity)
     (shape_removed _ _ _ _ _ c.self.invariant c.args.row c.swap_remove.result
     (row_within _ _ _ _ _ c.self.invariant c.args.row (rw (← c.self.view_is) at c.requires)))
@@ -25,15 +24,13 @@ invariant_of-self c =
 pub returns-clause-rows : goal.returns-clause-rows
 returns-clause-rows c =
     let own = c.self.inside in
-    let columns = rewritten (λ x. with_removed x c.args.row) own.columns.len c.swap_out_row.new.columns c.as_mut_slice.result.now
-    own.columns.items c.swap_out_row.ensures c.as_mut_slice.ensures.value own.columns.ok.0 in
+    let columns = rewritten (λ x. with_removed x c.args.row) _ _ _ _ c.swap_out_row.ensures c.as_mut_slice.ensures.value own.columns.ok.0 in
     let there = row_within _ _ _ _ _ c.self.invariant c.args.row (rw (← c.self.view_is) at c.requires) in
     let rows : rows_of own.type_list (take own.columns.len (c.swap_out_row.new.columns ++ drop (length c.swap_out_row.new.columns) own.columns.items))
     c.swap_remove.new.self.items ≡ swap_remove (rows_of own.type_list own.columns.items own.entities.items) c.args.row no_row =
     (λ t. rows_of own.type_list (columns t) (c.swap_remove.ensures.items t))
     ∙ removed_rows own.type_list own.columns.items own.entities.items c.args.row c.swap_remove.result no_row c.self.invariant.even there in
-    let kinds = ap (map kind_of) columns ∙ kinds_same (λ x. with_removed x c.args.row) (λ x. refl) own.columns.items in
-    rw (← c.self.view_is) (λ t. record { ids = own.type_list; widths = map (width_among (kinds t)) own.type_list; rows = rows t; room = own.room + 1 })
+    rw (← c.self.view_is) (mapped_table own.type_list (λ x. with_removed x c.args.row) own.columns.items _ _ _ _ _ (λ x. refl) columns rows refl)
 
 pub returns-clause-moved : goal.returns-clause-moved
 returns-clause-moved c =

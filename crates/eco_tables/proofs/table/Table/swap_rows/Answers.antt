@@ -1,7 +1,7 @@
 use Rattle.std.proofs.Common.{◌≡◌, ◌≤◌, ◌++◌, ◌-◌, ◌∷◌, [], List, eqb-true, ap, sym, ◌∙◌, arith, refl, length, map, subst, true≢false}
 use Rattle.eco_tables.specs.Column.{kind_of}
-use Rattle.eco_tables.specs.Table.{AreKinds, retyped_row, rows_of, width_among}
-use Rattle.eco_tables.proofs.Rows.{length-rows_of, taken_rows}
+use Rattle.eco_tables.specs.Table.{AreKinds, retyped_row, rows_of}
+use Rattle.eco_tables.proofs.Rows.{changed_table, length-rows_of, taken_rows}
 use Rattle.eco_tables.proofs.table.Table.swap_rows.Goals as goal
 
 no_items : {X : Type 0} (xs : List X) → length xs ≡ 0 → xs ≡ []
@@ -35,12 +35,8 @@ returns-clause-taken c = λ done.
     ∙ sym (ap (λ es. rows_of own.type_list own.columns.items es
     ++ map (retyped_row own.type_list) (rows_of source.type_list source.columns.items source.entities.items)) (none_here c)) in
     let kinds : map kind_of c.swap-2.new.x.items ≡ map kind_of own.columns.items = (λ t. map kind_of (c.swap-2.ensures.x_after t).items) ∙ sym (alike c) in
-    rw (← c.self.view_is, ← c.source.view_is) (λ t. record {
-      ids = own.type_list;
-      widths = map (width_among (kinds t)) own.type_list;
-      rows = rows t;
-      room = own.room - count t;
-    })
+    rw (← c.self.view_is, ← c.source.view_is)
+    (changed_table own.type_list own.columns.items _ _ _ _ _ kinds rows (ap (λ n. own.room - n) count))
 
 pub returns-clause-left : goal.returns-clause-left
 returns-clause-left c = λ done.
@@ -50,12 +46,7 @@ returns-clause-left c = λ done.
     let rows : rows_of source.type_list c.swap-2.new.y.items c.swap.new.y.items ≡ [] =
     (λ t. rows_of source.type_list (c.swap-2.ensures.y_after t).items (c.swap.ensures.y_after t).items)
     ∙ ap (rows_of source.type_list own.columns.items) (none_here c) in
-    rw (← c.source.view_is) (λ t. record {
-      ids = source.type_list;
-      widths = map (width_among (kinds t)) source.type_list;
-      rows = rows t;
-      room = 0;
-    })
+    rw (← c.source.view_is) (changed_table source.type_list source.columns.items _ _ _ _ _ kinds rows refl)
 
 pub returns-clause-same : goal.returns-clause-same
 returns-clause-same c = λ h. absurd (true≢false h)

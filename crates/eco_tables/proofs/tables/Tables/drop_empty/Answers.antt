@@ -1,7 +1,7 @@
 use Rattle.eco_tables.specs.Tables.{SetsSlot, rowless_type, slot_of}
 use Rattle.std.proofs.Common.{sym, ◌∙◌, subst, None, Some, set, ap, arith, is_some, refl, true≢false}
 use Rattle.std.proofs.lemmas.List.{get_or_default}
-use Rattle.eco_tables.proofs.Slots.{at_slot, dropped, no_type, rowless_ids, rowless_within, sets_slot, some_there}
+use Rattle.eco_tables.proofs.Slots.{at_slot, dropped, none_is, rowless_ids, rowless_within, sets_slot, some_there}
 use Rattle.eco_tables.proofs.tables.Tables.drop_empty.Goals as goal
 
 pub invariant_of-self-2 : goal.invariant_of-self-2
@@ -42,7 +42,7 @@ returns-clause-answer c =
     ∙ ap (λ s. rowless_type (slot_of s c.args.slot)) c.self.view_is
 
 pub returns-then-not-is_rowless : goal.returns-then-not-is_rowless
-returns-then-not-is_rowless c = record { answer = sym (no_type _ (sym c.if-not-is_rowless.ensures)); dropped = tt; kept = refl }
+returns-then-not-is_rowless c = record { answer = sym (none_is _ (sym c.if-not-is_rowless.ensures)); dropped = tt; kept = refl }
 
 pub invariant_of-self : goal.invariant_of-self
 invariant_of-self c =

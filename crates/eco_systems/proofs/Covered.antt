@@ -26,7 +26,11 @@ use Rattle.eco_ids.proofs.Overlaps.{entity_eq_is, entity_eq_itself, overlaps_exa
 use Rattle.eco_systems.specs.Batches.{Disturbs}
 use Rattle.eco_systems.specs.Systems.{SystemModel, IsDeclared, matches_one, system_reads}
 use Rattle.eco_systems.specs.Writes.{SomeOf, InClosedPatterns, widened, IsClosedWrite, writes_trait, IsTraitWriter}
-use Rattle.eco_systems.proofs.Steps.{Touches, Touched, Gained, Given, Goes, IsMild, IsTwin}
+use Rattle.std.proofs.Common.{Result}
+use Rattle.eco_ids.specs.declared.refusal.Refusal.{Refusal}
+use Rattle.eco_ids.specs.Run.{Applies}
+use Rattle.eco_systems.proofs.Steps.{Touches, Given, Goes, IsTwin, Leads, makes_alive_effect, adds_effect, removes_effect, sets_effect, clears_effect}
+use Rattle.eco_systems.proofs.Steps.{renames_effect, deletes_one_effect, deletes_with_effect, removes_all_effect}
 
 -- ---- traits
 
@@ -154,7 +158,7 @@ module _ (start : WorldState) (writes : List Pattern) where
       wide true (id.Two q t) m = both _ _ (first (entity_eq r q) _ m) refl
       wide false j m = m
 
-  abbrev Written : Id → Type 0
+  abbrev pub Written : Id → Type 0
   Written j = (p : Pattern) × IsClosedWrite start writes p × IsTrue (pattern_matches p j)
 
   written_closed : (j : Id) → Covered start writes j → Written j
@@ -198,18 +202,6 @@ module _ (start : WorldState) (writes : List Pattern) where
       (closure_covered plain w within i here (id.Two r h.1) h.2)
   touches_written plain w within i here j (inr (inr h)) = twin_written plain w within i here j h
 
-  touched_written : NoTraits start writes → (w : WorldState) → TraitsWithin start w → (c : Command) → IsMild c → (kills : Bool) → IsDeclared writes kills c →
-      (j : Id) → Touched w c j → Written j
-  touched_written plain w within (Create e) mild kills d j h = absurd h
-  touched_written plain w within (Add e i) mild kills d j h = touches_written plain w within i d j h
-  touched_written plain w within (Remove e i) mild kills d j h = goes_written plain w within i d j h
-  touched_written plain w within (Set e i v) mild kills d j h = touches_written plain w within i d j h
-  touched_written plain w within (Clear e) mild kills d j h = absurd mild
-  touched_written plain w within (Rename e name) mild kills d j h = absurd h
-  touched_written plain w within (Delete e) mild kills d j h = absurd mild
-  touched_written plain w within (DeleteWith i) mild kills d j h = absurd mild
-  touched_written plain w within (RemoveAll i) mild kills d j h = goes_written plain w within i d j h
-
   given_no_trait : NoTraits start writes → (w : WorldState) → TraitsWithin start w → (i : Id) → IsTrue (matches_one writes i) → (j : Id) →
       IsTraitId start.edition j → Given w i j → ⊥
   given_no_trait plain w within i here j trait (inl h) = let c = closure_covered plain w within i here j h in no_trait_added plain c.0 j c.1 c.2 trait
@@ -218,17 +210,37 @@ module _ (start : WorldState) (writes : List Pattern) where
   given_no_trait plain w within (id.Two r t) here (id.Two q u) trait (inr h) =
       let c = begins (id.Two r t) here in no_trait_added plain c.0 (id.Two r t) c.1 c.2 (sym h.1 ∙ trait)
 
-  pub gained_no_trait : NoTraits start writes → (w : WorldState) → TraitsWithin start w → (c : Command) (kills : Bool) → IsDeclared writes kills c →
-      (j : Id) → IsTraitId start.edition j → Gained w c j → ⊥
-  gained_no_trait plain w within (Create e) kills d j trait h = h
-  gained_no_trait plain w within (Add e i) kills d j trait h = given_no_trait plain w within i d j trait h
-  gained_no_trait plain w within (Remove e i) kills d j trait h = h
-  gained_no_trait plain w within (Set e i v) kills d j trait h = given_no_trait plain w within i d j trait h
-  gained_no_trait plain w within (Clear e) kills d j trait h = h
-  gained_no_trait plain w within (Rename e name) kills d j trait h = h
-  gained_no_trait plain w within (Delete e) kills d j trait h = h
-  gained_no_trait plain w within (DeleteWith i) kills d j trait h = h
-  gained_no_trait plain w within (RemoveAll i) kills d j trait h = h
+  -- ---- what a system's command leads to
+
+  -- what is touched is written, and what is given is no trait
+  wider : {kills : Bool} {w : WorldState} {T G : Id → Type 0} {Step : Result (Unit {0}) Refusal → WorldState → Type 0} → ((j : Id) → T j → Written j) → ((j : Id) → IsTraitId start.edition j → G j → ⊥) →
+      Leads kills w T G Step → Leads kills w Written (λ j. IsTraitId start.edition j → ⊥) Step
+  wider {w = w} {G = G} within plain effect = record {
+    at = λ r new h. let x = effect.at r new h in record {
+      edition = x.edition;
+      arity = x.arity;
+      held = λ tame y j n. x.held tame y j (λ k. n (within j k));
+      gains = λ y j k. given y j (x.gains y j k);
+    };
+  }
+    where
+      given : (y : Entity) (j : Id) → IsTrue (has w y j) ⊎ G j → IsTrue (has w y j) ⊎ (IsTraitId start.edition j → ⊥)
+      given y j (inl a) = inl a
+      given y j (inr g) = inr (λ trait. plain j trait g)
+
+  pub applies_effect : NoTraits start writes → {kills : Bool} (w : WorldState) → TraitsWithin start w → (c : Command) → IsDeclared writes kills c →
+      Leads kills w Written (λ j. IsTraitId start.edition j → ⊥) (Applies c w)
+  applies_effect plain w within (Create e) d = makes_alive_effect w e
+  applies_effect plain w within (Add e i) d =
+      wider (touches_written plain w within i d) (given_no_trait plain w within i d) (adds_effect w e i)
+  applies_effect plain w within (Remove e i) d = wider (goes_written plain w within i d) (λ j trait none. none) (removes_effect w e i)
+  applies_effect plain w within (Set e i v) d =
+      wider (touches_written plain w within i d) (given_no_trait plain w within i d) (sets_effect w e i v)
+  applies_effect plain w within (Clear e) d = clears_effect d w e
+  applies_effect plain w within (Rename e name) d = renames_effect w e name
+  applies_effect plain w within (Delete e) d = deletes_one_effect d w e
+  applies_effect plain w within (DeleteWith i) d = deletes_with_effect d w i
+  applies_effect plain w within (RemoveAll i) d = wider (goes_written plain w within i d) (λ j trait none. none) (removes_all_effect w i)
 
 -- ---- what is read is not touched
 
@@ -236,8 +248,6 @@ overlaps_one : (p : Pattern) (reads : List Pattern) (j : Id) → IsTrue (pattern
     IsTrue (list_any (pattern_overlaps p) reads)
 overlaps_one p reads j m h = let r = any_is (λ q. pattern_matches q j) reads h in r.2 (pattern_overlaps p) ((overlaps_exactly p r.0).1 (j, m, r.1))
 
-pub read_untouched : (start : WorldState) (s t : SystemModel) → (IsTraitWriter start s → ⊥) → (Disturbs start s t → ⊥) → (w : WorldState) → TraitsWithin start w
-    → (c : Command) → IsMild c → IsDeclared s.writes s.kills c → (j : Id) → IsTrue (matches_one (system_reads t) j) → Touched w c j → ⊥
-read_untouched start s t plain apart w within c mild d j read touched =
-    let p = touched_written start s.writes (no_traits start s plain) w within c mild s.kills d j touched in
-    apart (p.0, p.1, overlaps_one p.0 (system_reads t) j p.2 read)
+pub read_untouched : (start : WorldState) (s t : SystemModel) → (Disturbs start s t → ⊥) → (j : Id) → IsTrue (matches_one (system_reads t) j) →
+    Written start s.writes j → ⊥
+read_untouched start s t apart j read p = apart (p.0, p.1, overlaps_one p.0 (system_reads t) j p.2 read)

@@ -3,6 +3,7 @@ mod BatchesExist
 mod ClosedLists
 mod Covered
 mod Decided
+mod Follows
 mod FrameRows
 mod Frames
 mod FramesExist

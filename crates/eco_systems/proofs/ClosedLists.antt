@@ -17,6 +17,7 @@ use Rattle.eco_ids.specs.World.{WorldState, has}
 use Rattle.eco_ids.proofs.Facts.{or_left, or_parts, or_right}
 use Rattle.eco_ids.proofs.Overlaps.{entity_eq_is, entity_eq_itself}
 use Rattle.eco_systems.specs.Closing.{pattern_head, pattern_with_head, ClosedPasses, ListsClosed, Among}
+use Rattle.eco_systems.proofs.Lists.{some_left, some_right}
 use Rattle.eco_systems.specs.Writes.{SomeOf, BringsPattern, InClosedPatterns, widened}
 
 -- ---- the closed patterns of some are those of each
@@ -43,21 +44,12 @@ module _ (w : WorldState) where
       on (inl c) b = inl (next c b)
       on (inr c) b = inr (next c b)
 
-  some_left : (xs ys : List Pattern) (p : Pattern) → SomeOf (λ q. q ≡ p) xs → SomeOf (λ q. q ≡ p) (xs ++ ys)
-  some_left [] ys p h = absurd h
-  some_left (x ∷ xs) ys p (inl e) = inl e
-  some_left (x ∷ xs) ys p (inr h) = inr (some_left xs ys p h)
-
-  some_right : (xs ys : List Pattern) (p : Pattern) → SomeOf (λ q. q ≡ p) ys → SomeOf (λ q. q ≡ p) (xs ++ ys)
-  some_right [] ys p h = h
-  some_right (x ∷ xs) ys p h = inr (some_right xs ys p h)
-
   into_left : (xs ys : List Pattern) {p : Pattern} → InClosedPatterns w xs p → InClosedPatterns w (xs ++ ys) p
-  into_left xs ys {p = p} (root h) = root (some_left xs ys p h)
+  into_left xs ys {p = p} (root h) = root (some_left _ xs ys h)
   into_left xs ys (next c b) = next (into_left xs ys c) b
 
   into_right : (xs ys : List Pattern) {p : Pattern} → InClosedPatterns w ys p → InClosedPatterns w (xs ++ ys) p
-  into_right xs ys {p = p} (root h) = root (some_right xs ys p h)
+  into_right xs ys {p = p} (root h) = root (some_right _ xs ys h)
   into_right xs ys (next c b) = next (into_right xs ys c) b
 
   pub passes_parts : (xs ys : List Pattern) (test : Pattern → Bool) → ClosedPasses w (xs ++ ys) test → ClosedPasses w xs test ⊎ ClosedPasses w ys test

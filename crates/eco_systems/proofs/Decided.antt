@@ -1,18 +1,16 @@
 -- The draws of a frame decide what it leads to, and one worker's draws are decided themselves.
 use Rattle.std.proofs.Common.{◌≡◌, ℕ, ◌+◌, Bool, true, false, not, ◌&&◌, List, [], ◌∷◌, ◌++◌, length, refl, sym, ap, ◌∙◌, subst, IsTrue, true≢false}
-use Rattle.std.proofs.Common.{MatchBool, Result, None, arith, append_assoc}
+use Rattle.std.proofs.Common.{MatchBool, Result, arith, append_assoc}
 use Rattle.std.specs.List.{AllByRecursion}
 use Rattle.std.proofs.lemmas.List.{append_cancel_left}
 use Rattle.std.proofs.lemmas.List.Folds.{list_all-append}
 use Rattle.eco_ids.specs.declared.entity.Entity.{Entity}
 use Rattle.eco_ids.specs.declared.refusal.Refusal.{Refusal}
-use Rattle.eco_ids.specs.Births.{bare}
 use Rattle.eco_ids.specs.Outcome.{Meets, is_out_of_memory}
-use Rattle.eco_ids.specs.Run.{Command, Create, Add, Remove, Set, Clear, Rename, Delete, DeleteWith, RemoveAll, Applies, may_want, Runs}
+use Rattle.eco_ids.specs.Run.{Command, Applies, may_want, Runs}
 use Rattle.eco_ids.specs.World.{WorldState}
 use Rattle.eco_ids.proofs.Ascending.{first, second}
-use Rattle.eco_ids.proofs.Ends.{adds_settled, clears_settled, deletes_one_settled, deletes_with_settled, makes_alive_settled, removes_all_settled}
-use Rattle.eco_ids.proofs.Ends.{removes_settled, renames_settled, sets_settled, IsSettled}
+use Rattle.eco_ids.proofs.Runs.{applies_settled}
 use Rattle.eco_systems.specs.Batches.{AreBatches, joined}
 use Rattle.eco_systems.specs.Frames.{AscendingRuns, BatchDraws, BatchRuns, Goes, InTurn, FrameOutcomes, all_drawn, fresh_from, with_admitted}
 use Rattle.eco_systems.specs.Laws.{DrawsDecide, OneWorkerDecides, TakesOne, was_ample}
@@ -22,13 +20,10 @@ use Rattle.eco_systems.specs.Rows.{ValuedRow, valued_rows}
 use Rattle.eco_systems.specs.Systems.{SystemModel}
 use Rattle.eco_systems.proofs.Frames.{all_in_order, all_joined}
 use Rattle.eco_systems.proofs.FreshDraws.{fresh_split}
+use Rattle.eco_systems.proofs.Lists.{joined_append}
 use Rattle.eco_systems.proofs.OneCut.{batches_unique}
 
 -- ---- recordings whose draws are beginnings of one list
-
-joined_append : {A : Type 0} (xss yss : List (List A)) → joined (xss ++ yss) ≡ joined xss ++ joined yss
-joined_append [] yss = refl
-joined_append (xs ∷ xss) yss = ap (λ l. xs ++ l) (joined_append xss yss) ∙ sym (append_assoc xs (joined xss) (joined yss))
 
 -- where two lists that go on to one list begin with the same, what comes behind goes on to one list too
 behind : {A : Type 0} (d e xs ys : List A) → d ≡ e → d ++ xs ≡ e ++ ys → xs ≡ ys
@@ -75,17 +70,6 @@ batch_once w (s ∷ ss) (d ∷ ds) (e ∷ es) x y c k one g h whole =
     ((λ i. mine.0 i ∷ rest.0 i), g.4 ∙ (λ i. mine.1 i ++ rest.1 i) ∙ sym h.4)
 
 -- ---- runs in which no memory was wanting
-
-applies_settled : (c : Command) (w : WorldState) → IsSettled w (Applies c w)
-applies_settled (Create e) w = makes_alive_settled w e (bare None)
-applies_settled (Add e i) w = adds_settled w e i
-applies_settled (Remove e i) w = removes_settled w e i
-applies_settled (Set e i v) w = sets_settled w e i v
-applies_settled (Clear e) w = clears_settled w e
-applies_settled (Rename e name) w = renames_settled w e name
-applies_settled (Delete e) w = deletes_one_settled w e
-applies_settled (DeleteWith i) w = deletes_with_settled w i
-applies_settled (RemoveAll i) w = removes_all_settled w i
 
 done : (wanting : Bool) (P Q : Type 0) → IsTrue (not wanting) → MatchBool wanting P Q → Q
 done true P Q ample h = absurd (true≢false (sym ample))

@@ -33,7 +33,7 @@ use Rattle.eco_systems.specs.Systems.{SystemModel, IsLawfulSystem, system_reads,
 use Rattle.eco_systems.specs.Writes.{IsTraitWriter, SomeOf}
 use Rattle.eco_systems.proofs.Answers.{Sees, sees_reads}
 use Rattle.eco_systems.proofs.Covered.{TraitsWithin}
-use Rattle.eco_systems.proofs.Lists.{all_append}
+use Rattle.eco_systems.proofs.Lists.{all_append, some_left, some_right}
 use Rattle.eco_systems.proofs.Rows.{rows_same}
 use Rattle.eco_systems.proofs.Runs.{runs_split, records_declared, runs_traits, runs_same}
 use Rattle.eco_systems.proofs.Same.{LooksSame, looks_then}
@@ -59,17 +59,6 @@ module _ (w : WorldState) (n : ℕ) where
       let after : Indexed Record = admitted n (entities w) in
       admits_lawful w n (Ok tt) (with_admitted n w) l
       (after, subst (λ b. MatchBool b (Answers tt after (Ok tt) after) (Refuses NoMoreIds (entities w) (Ok tt) after)) (sym room) (refl, refl), refl)
-
--- ---- one of some
-
-some_left : {A : Type 0} (P : A → Type 0) (xs ys : List A) → SomeOf P xs → SomeOf P (xs ++ ys)
-some_left P [] ys h = absurd h
-some_left P (x ∷ xs) ys (inl h) = inl h
-some_left P (x ∷ xs) ys (inr h) = inr (some_left P xs ys h)
-
-some_right : {A : Type 0} (P : A → Type 0) (xs ys : List A) → SomeOf P ys → SomeOf P (xs ++ ys)
-some_right P [] ys h = h
-some_right P (x ∷ xs) ys h = inr (some_right P xs ys h)
 
 pub all_apart_append : {A : Type 0} (P : A → Type 0) (xs ys : List A) → AllByRecursion P (xs ++ ys) → AllByRecursion P xs × AllByRecursion P ys
 all_apart_append P [] ys h = (tt, h)

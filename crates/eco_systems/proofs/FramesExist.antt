@@ -1,7 +1,6 @@
 -- A lawful world has a frame of systems whose rows take some draws, or one that stops where the draws would pass the limit.
 use Rattle.std.proofs.Common.{◌≡◌, ℕ, ◌+◌, Bool, true, false, List, [], ◌∷◌, ◌++◌, length, refl, sym, ap, ◌∙◌, subst, ◌⊎◌, inl, inr}
 use Rattle.std.specs.List.{AllByRecursion}
-use Rattle.std.proofs.lemmas.List.{append_assoc}
 use Rattle.eco_ids.specs.declared.entity.Entity.{Entity}
 use Rattle.eco_ids.specs.Births.{may_admit}
 use Rattle.eco_ids.specs.Lawful.{IsLawful}
@@ -19,11 +18,8 @@ use Rattle.eco_systems.specs.Systems.{SystemModel}
 use Rattle.eco_systems.proofs.BatchesExist.{batches_of}
 use Rattle.eco_systems.proofs.Frames.{all_in_order, all_joined, lawful_admitted}
 use Rattle.eco_systems.proofs.FreshDraws.{ascending_are_fresh, fresh_length, fresh_split}
+use Rattle.eco_systems.proofs.Lists.{joined_append}
 use Rattle.eco_systems.proofs.RunsEnd.{runs_end}
-
-joined_append : {A : Type 0} (xss yss : List (List A)) → joined (xss ++ yss) ≡ joined xss ++ joined yss
-joined_append [] yss = refl
-joined_append (xs ∷ xss) yss = ap (λ ys. xs ++ ys) (joined_append xss yss) ∙ sym (append_assoc xs (joined xss) (joined yss))
 
 -- ---- how many draws rows, pieces and systems take, and that they take as many fresh ones
 

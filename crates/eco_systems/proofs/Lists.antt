@@ -1,14 +1,17 @@
 -- Lists that are filtered, searched and gathered.
-use Rattle.std.proofs.Common.{◌≡◌, Bool, true, false, cond, ◌&&◌, ◌||◌, List, [], ◌∷◌, ◌++◌, map, filter, refl, sym, ap, ◌∙◌, is_lt, IsTrue}
+use Rattle.std.proofs.Common.{◌≡◌, Bool, true, false, cond, ◌&&◌, ◌||◌, List, [], ◌∷◌, ◌++◌, map, filter, refl, sym, ap, ◌∙◌, IsTrue}
 use Rattle.std.specs.Prelude.{flat_map}
-use Rattle.std.specs.List.{list_any, list_all, AllByRecursion}
+use Rattle.std.specs.List.{list_any, AllByRecursion}
 use Rattle.std.proofs.lemmas.List.{map-append}
 use Rattle.eco_ids.specs.declared.id.Id.{Id}
 use Rattle.eco_ids.specs.Order.{id_cmp, id_eq, has_item, is_ascending}
-use Rattle.eco_ids.proofs.Ascending.{both, first, second}
+use Rattle.eco_ids.proofs.Ascending.{ascending_filter}
 use Rattle.eco_ids.proofs.Facts.{id_eq_is}
 use Rattle.eco_ids.proofs.IdOrder.{id_cmp_total, same_id}
 use Rattle.eco_ids.proofs.Members.{same_members}
+use Rattle.std.proofs.Common.{append_assoc, inl, inr}
+use Rattle.eco_systems.specs.Batches.{joined}
+use Rattle.eco_systems.specs.Writes.{SomeOf}
 
 -- a filter by two tests is a filter after a filter
 pub filter_both : {A : Type 0} (q r : A → Bool) (xs : List A) → filter (λ x. q x && r x) xs ≡ filter r (filter q xs)
@@ -41,23 +44,6 @@ any_kept q (x ∷ xs) =
       | false ↦ λ e. any_kept q xs
     ] refl
 
-pub all_filtered : {A : Type 0} (t q : A → Bool) (xs : List A) → IsTrue (list_all t xs) → IsTrue (list_all t (filter q xs))
-all_filtered t q [] h = refl
-all_filtered t q (x ∷ xs) h =
-    elim (q x) as (λ c. IsTrue (list_all t (cond c (x ∷ filter q xs) (filter q xs)))) [
-      | true ↦ both _ _ (first (t x) _ h) (all_filtered t q xs (second (t x) _ h))
-      | false ↦ all_filtered t q xs (second (t x) _ h)
-    ]
-
-pub ascending_filtered : (q : Id → Bool) (xs : List Id) → IsTrue (is_ascending id_cmp xs) → IsTrue (is_ascending id_cmp (filter q xs))
-ascending_filtered q [] h = refl
-ascending_filtered q (x ∷ xs) h =
-    elim (q x) as (λ c. IsTrue (is_ascending id_cmp (cond c (x ∷ filter q xs) (filter q xs)))) [
-      | true ↦ both _ _ (all_filtered (λ y. is_lt (id_cmp x y)) q xs (first _ _ h))
-          (ascending_filtered q xs (second (list_all (λ y. is_lt (id_cmp x y)) xs) _ h))
-      | false ↦ ascending_filtered q xs (second (list_all (λ y. is_lt (id_cmp x y)) xs) _ h)
-    ]
-
 -- what a filter keeps
 pub item_filtered : (q : Id → Bool) (i : Id) (xs : List Id) → has_item id_cmp (filter q xs) i ≡ (q i && has_item id_cmp xs i)
 item_filtered q i [] = none (q i)
@@ -82,7 +68,7 @@ item_filtered q i (x ∷ xs) =
 pub same_filtered : (q : Id → Bool) (xs ys : List Id) → IsTrue (is_ascending id_cmp xs) → IsTrue (is_ascending id_cmp ys)
     → ((i : Id) → IsTrue (q i) → has_item id_cmp xs i ≡ has_item id_cmp ys i) → filter q xs ≡ filter q ys
 same_filtered q xs ys up vp is =
-    same_members id_cmp_total same_id (filter q xs) (filter q ys) (ascending_filtered q xs up) (ascending_filtered q ys vp)
+    same_members id_cmp_total same_id (filter q xs) (filter q ys) (ascending_filter id_cmp q xs up) (ascending_filter id_cmp q ys vp)
     (λ i. (λ h. sym (alike i) ∙ h, λ h. alike i ∙ h))
   where
     alike : (i : Id) → has_item id_cmp (filter q xs) i ≡ has_item id_cmp (filter q ys) i
@@ -124,10 +110,21 @@ pub same_mapped : {A B : Type 0} (P : A → Type 0) (f g : A → B) → ((x : A)
 same_mapped P f g same [] p = refl
 same_mapped P f g same (x ∷ xs) p = λ i. same x p.0 i ∷ same_mapped P f g same xs p.1 i
 
-pub map_after : {A B C : Type 0} (f : A → B) (g : B → C) (xs : List A) → map g (map f xs) ≡ map (λ x. g (f x)) xs
-map_after f g [] = refl
-map_after f g (x ∷ xs) = ap (λ ys. g (f x) ∷ ys) (map_after f g xs)
-
 pub map_gathered : {A B C : Type 0} (f : A → List B) (g : B → C) (xs : List A) → map g (flat_map f xs) ≡ flat_map (λ x. map g (f x)) xs
 map_gathered f g [] = refl
 map_gathered f g (x ∷ xs) = map-append g (f x) (flat_map f xs) ∙ ap (λ zs. map g (f x) ++ zs) (map_gathered f g xs)
+
+-- lists, one behind another
+pub joined_append : {A : Type 0} (xss yss : List (List A)) → joined (xss ++ yss) ≡ joined xss ++ joined yss
+joined_append [] yss = refl
+joined_append (xs ∷ xss) yss = ap (λ l. xs ++ l) (joined_append xss yss) ∙ sym (append_assoc xs (joined xss) (joined yss))
+
+-- one of some
+pub some_left : {A : Type 0} (P : A → Type 0) (xs ys : List A) → SomeOf P xs → SomeOf P (xs ++ ys)
+some_left P [] ys h = absurd h
+some_left P (x ∷ xs) ys (inl h) = inl h
+some_left P (x ∷ xs) ys (inr h) = inr (some_left P xs ys h)
+
+pub some_right : {A : Type 0} (P : A → Type 0) (xs ys : List A) → SomeOf P ys → SomeOf P (xs ++ ys)
+some_right P [] ys h = h
+some_right P (x ∷ xs) ys h = inr (some_right P xs ys h)

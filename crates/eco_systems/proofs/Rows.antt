@@ -18,7 +18,8 @@ use Rattle.eco_ids.proofs.Records.{record_apart}
 use Rattle.eco_query.specs.Queries.{QuerySlot, HasPositive}
 use Rattle.eco_systems.specs.Rows.{ValuedRow, entry_value, entry_values, valued, valued_rows, shows_values}
 use Rattle.eco_systems.proofs.Answers.{asked, Sees, Alike, IsRead, choices_alike, choices_read, no_choices}
-use Rattle.eco_systems.proofs.Lists.{same_mapped, map_after, map_gathered}
+use Rattle.std.proofs.lemmas.Simd.{map-map}
+use Rattle.eco_systems.proofs.Lists.{same_mapped, map_gathered}
 use Rattle.eco_systems.proofs.Same.{LooksSame, value_alike}
 
 -- ---- the rows of one entity
@@ -183,7 +184,7 @@ module _ (f h : Entity → List (Id × Value) → List ValuedRow) where
 gathered : (w : WorldState) (slots : List QuerySlot) → valued_rows w slots ≡ all_rows (rows_with w slots) 0 w.indices
 gathered w slots =
     map_gathered (λ (p : Entity × Record). map (row_at p.0) (choices (keys p.1.held) (asked slots))) (valued w slots) (living w)
-    ∙ λ i. flat_map (λ (p : Entity × Record). map_after (row_at p.0) (valued w slots) (choices (keys p.1.held) (asked slots)) i) (living w)
+    ∙ λ i. flat_map (λ (p : Entity × Record). map-map (valued w slots) (row_at p.0) (choices (keys p.1.held) (asked slots)) i) (living w)
 
 pub rows_same : (seen : Id → Bool) (w new : WorldState) (slots : List QuerySlot) → IsLawful w → IsLawful new → HasPositive slots → Sees seen slots →
     LooksSame seen w new → valued_rows new slots ≡ valued_rows w slots

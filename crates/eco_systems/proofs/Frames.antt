@@ -29,7 +29,7 @@ use Rattle.eco_systems.specs.Laws.{FramesAreSolo, FramesKeepLawful, StoppedAreSo
 use Rattle.eco_systems.specs.Phases.{in_order, phases, runs_in}
 use Rattle.eco_systems.specs.declared.phase.Phase.{Phase}
 use Rattle.eco_systems.specs.Recording.{Records, PiecesRecord, BatchRecords, pieces_of}
-use Rattle.eco_systems.specs.Systems.{SystemModel, IsLawfulSystem, system_reads, matches_one}
+use Rattle.eco_systems.specs.Systems.{SystemModel, IsDeclared, IsLawfulSystem, system_reads, matches_one}
 use Rattle.eco_systems.specs.Writes.{IsTraitWriter, SomeOf}
 use Rattle.eco_systems.proofs.Answers.{Sees, sees_reads}
 use Rattle.eco_systems.proofs.Covered.{TraitsWithin}
@@ -126,47 +126,50 @@ records_same w new s draws commands l m law p h =
     subst (λ rows. PiecesRecord s (pieces_of rows) draws commands)
     (sym (rows_same (matches_one (system_reads s)) w new s.slots l m law.positive (sees_own s) p)) h
 
+-- without commands nothing happens
+nothing_runs : (w : WorldState) (commands : List Command) (outcomes : FrameOutcomes) (new : WorldState) → commands ≡ [] → Runs w commands outcomes new →
+    (outcomes ≡ []) × (new ≡ w)
+nothing_runs w [] [] new none h = (refl, h)
+nothing_runs w [] (r ∷ rs) new none h = absurd h
+nothing_runs w (c ∷ cs) outcomes new none h = absurd cc
+
 module _ (start : WorldState) where
+  -- each sees the same on both worlds
+  abbrev AllLook : WorldState → WorldState → List SystemModel → Type 0
+  AllLook base cur = AllByRecursion (λ t. LooksSame (matches_one (system_reads t)) base cur)
+
   -- each later system sees the same after the commands of s
   looks_on : (base cur mid : WorldState) (s : SystemModel) (ss : List SystemModel) →
       ((t : SystemModel) → Apart start s t → LooksSame (matches_one (system_reads t)) cur mid)
-      → AllByRecursion (Apart start s) ss → AllByRecursion (λ t. LooksSame (matches_one (system_reads t)) base cur) ss →
-      AllByRecursion (λ t. LooksSame (matches_one (system_reads t)) base mid) ss
+      → AllByRecursion (Apart start s) ss → AllLook base cur ss → AllLook base mid ss
   looks_on base cur mid s [] on a p = tt
   looks_on base cur mid s (t ∷ ts) on a p = (looks_then p.0 (on t a.0), looks_on base cur mid s ts on a.1 p.1)
 
-  looks_later : (base cur mid : WorldState) (s : SystemModel) (ss : List SystemModel) (commands : List Command) (now : FrameOutcomes) → IsLawfulSystem s →
-      (draws : List (List Entity))
-      → Records base s draws commands → Runs cur commands now mid → Ready start cur (s ∷ ss)
-      → AllByRecursion (Apart start s) ss → AllByRecursion (λ t. LooksSame (matches_one (system_reads t)) base cur) ss →
-      AllByRecursion (λ t. LooksSame (matches_one (system_reads t)) base mid) ss
-  looks_later base cur mid s [] commands now law draws rec run ready a p = tt
-  looks_later base cur mid s (t ∷ ts) commands now law draws rec run ready a p =
-      looks_on base cur mid s (t ∷ ts)
-      (λ u apart. runs_same start s apart.plain u apart.tame apart.apart commands cur now mid (records_declared s law base draws commands rec) ready run)
-      a p
+  ready : (w : WorldState) (ss : List SystemModel) → TraitsWithin start w → Ready start w ss
+  ready w [] within = tt
+  ready w (s ∷ []) within = tt
+  ready w (s ∷ t ∷ ss) within = within
 
-  ready_later : (base cur mid : WorldState) (s : SystemModel) (ss : List SystemModel) (commands : List Command) (now : FrameOutcomes) → IsLawfulSystem s →
-      (draws : List (List Entity))
-      → Records base s draws commands → Runs cur commands now mid → Ready start cur (s ∷ ss) → AllByRecursion (Apart start s) ss → Ready start mid ss
-  ready_later base cur mid s [] commands now law draws rec run ready a = tt
-  ready_later base cur mid s (t ∷ []) commands now law draws rec run ready a = tt
-  ready_later base cur mid s (t ∷ u ∷ us) commands now law draws rec run ready a =
-      runs_traits start s (a.0).plain commands cur now mid (records_declared s law base draws commands rec) ready run
+  -- and the batch goes on
+  later : (base cur mid : WorldState) (s : SystemModel) (ss : List SystemModel) (commands : List Command) (now : FrameOutcomes)
+      → AllByRecursion (IsDeclared s.writes s.kills) commands → Runs cur commands now mid → Ready start cur (s ∷ ss) → AllByRecursion (Apart start s) ss
+      → AllLook base cur ss → Ready start mid ss × AllLook base mid ss
+  later base cur mid s [] commands now declared run within a p = (tt, tt)
+  later base cur mid s (t ∷ ts) commands now declared run within a p = (
+    ready mid (t ∷ ts) (runs_traits start s (a.0).plain commands cur now mid declared within run),
+    looks_on base cur mid s (t ∷ ts) (λ u apart. runs_same start s apart.plain u apart.tame apart.apart commands cur now mid declared within run) a p,
+  )
 
   one_by_one : (base cur : WorldState) (ss : List SystemModel) (ds : BatchDraws) (commands : List Command) (outcomes : FrameOutcomes) (new : WorldState)
-      → IsLawful base → IsLawful cur → AllByRecursion IsLawfulSystem ss → Quiet start ss → Ready start cur ss
-      → AllByRecursion (λ t. LooksSame (matches_one (system_reads t)) base cur) ss
+      → IsLawful base → IsLawful cur → AllByRecursion IsLawfulSystem ss → Quiet start ss → Ready start cur ss → AllLook base cur ss
       → BatchRecords base ss ds commands → Runs cur commands outcomes new → OneByOne cur ss ds outcomes new
-  one_by_one base cur [] [] commands outcomes new l m laws quiet ready same rec run = nothing outcomes (subst (λ cs. Runs cur cs outcomes new) rec run)
-    where
-      nothing : (outcomes : FrameOutcomes) → Runs cur [] outcomes new → (outcomes ≡ []) × (new ≡ cur)
-      nothing [] h = (refl, h)
-      nothing (r ∷ rs) h = absurd h
-  one_by_one base cur [] (d ∷ ds) commands outcomes new l m laws quiet ready same rec run = absurd rec
-  one_by_one base cur (s ∷ ss) [] commands outcomes new l m laws quiet ready same rec run = absurd rec
-  one_by_one base cur (s ∷ ss) (d ∷ ds) commands outcomes new l m laws quiet ready same rec run =
-      let split = runs_split rec.0 rec.1 cur new outcomes (subst (λ cs. Runs cur cs outcomes new) rec.4 run) in (
+  one_by_one base cur [] [] commands outcomes new l m laws quiet within same rec run = nothing_runs cur commands outcomes new rec run
+  one_by_one base cur [] (d ∷ ds) commands outcomes new l m laws quiet within same rec run = absurd rec
+  one_by_one base cur (s ∷ ss) [] commands outcomes new l m laws quiet within same rec run = absurd rec
+  one_by_one base cur (s ∷ ss) (d ∷ ds) commands outcomes new l m laws quiet within same rec run =
+      let split = runs_split rec.0 rec.1 cur new outcomes (subst (λ cs. Runs cur cs outcomes new) rec.4 run) in
+      let declared = records_declared s laws.0 base d rec.0 rec.2 in
+      let next = later base cur split.mid s ss rec.0 split.now declared split.first_run within quiet.0 same.1 in (
         rec.0,
         split.now,
         split.later,
@@ -174,9 +177,7 @@ module _ (start : WorldState) where
         records_same base cur s d rec.0 l m laws.0 same.0 rec.2,
         split.first_run,
         one_by_one base split.mid ss ds rec.1 split.later new l (runs_lawful rec.0 cur split.now split.mid m split.first_run) laws.1 quiet.1
-            (ready_later base cur split.mid s ss rec.0 split.now laws.0 d rec.2 split.first_run ready quiet.0)
-            (looks_later base cur split.mid s ss rec.0 split.now laws.0 d rec.2 split.first_run ready quiet.0 same.1)
-            rec.3 split.second_run,
+            next.0 next.1 rec.3 split.second_run,
         split.outcomes,
       )
 
@@ -184,11 +185,7 @@ module _ (start : WorldState) where
   batch_traits : (base cur : WorldState) (ss : List SystemModel) (ds : BatchDraws) (commands : List Command) (outcomes : FrameOutcomes) (new : WorldState)
       → AllByRecursion IsLawfulSystem ss → (SomeOf (IsTraitWriter start) ss → ⊥) → TraitsWithin start cur → BatchRecords base ss ds commands →
       Runs cur commands outcomes new → TraitsWithin start new
-  batch_traits base cur [] [] commands outcomes new laws none within rec run = nothing outcomes (subst (λ cs. Runs cur cs outcomes new) rec run)
-    where
-      nothing : (outcomes : FrameOutcomes) → Runs cur [] outcomes new → TraitsWithin start new
-      nothing [] h = subst (TraitsWithin start) (sym h) within
-      nothing (r ∷ rs) h = absurd h
+  batch_traits base cur [] [] commands outcomes new laws none within rec run = rw (nothing_runs cur commands outcomes new rec run).1 within
   batch_traits base cur [] (d ∷ ds) commands outcomes new laws none within rec run = absurd rec
   batch_traits base cur (s ∷ ss) [] commands outcomes new laws none within rec run = absurd rec
   batch_traits base cur (s ∷ ss) (d ∷ ds) commands outcomes new laws none within rec run =
@@ -205,7 +202,7 @@ module _ (start : WorldState) where
       within (λ x. (h.1).0
       (inl (inr (inr (inl (some_left (IsTraitWriter start) (before ++ s ∷ []) (t ∷ []) (some_left (IsTraitWriter start) before (s ∷ []) x)))))))
 
-  all_look : (w : WorldState) (n : ℕ) (ss : List SystemModel) → AllByRecursion (λ t. LooksSame (matches_one (system_reads t)) w (with_admitted n w)) ss
+  all_look : (w : WorldState) (n : ℕ) (ss : List SystemModel) → AllLook w (with_admitted n w) ss
   all_look w n [] = tt
   all_look w n (s ∷ ss) = (looks_admitted w n (matches_one (system_reads s)), all_look w n ss)
 

@@ -9,40 +9,24 @@ use Rattle.eco_ids.proofs.Ascending.{ascending_filter}
 use Rattle.eco_ids.proofs.Facts.{id_eq_is}
 use Rattle.eco_ids.proofs.IdOrder.{id_cmp_total, same_id}
 use Rattle.eco_ids.proofs.Members.{same_members}
-use Rattle.std.proofs.Common.{append_assoc, inl, inr}
+use Rattle.std.proofs.Common.{append_assoc, inl, inr, arith}
+use Rattle.std.proofs.lemmas.Grind.{common_steps}
 use Rattle.eco_systems.specs.Batches.{joined}
 use Rattle.eco_systems.specs.Writes.{SomeOf}
 
 -- a filter by two tests is a filter after a filter
 pub filter_both : {A : Type 0} (q r : A → Bool) (xs : List A) → filter (λ x. q x && r x) xs ≡ filter r (filter q xs)
 filter_both q r [] = refl
-filter_both q r (x ∷ xs) =
-    elim (q x) as (λ b. cond (b && r x) (x ∷ filter (λ y. q y && r y) xs) (filter (λ y. q y && r y) xs) ≡ filter r (cond b (x ∷ filter q xs) (filter q xs))) [
-      | true ↦ λ i. cond (r x) (x ∷ filter_both q r xs i) (filter_both q r xs i)
-      | false ↦ filter_both q r xs
-    ]
+filter_both q r (x ∷ xs) = grind (arith, common_steps, filter_both q r xs)
 
 -- a search that asks for q finds nothing outside of q
 pub any_filtered : {A : Type 0} (a q b : A → Bool) (xs : List A) → list_any (λ x. a x && (q x && b x)) xs ≡ list_any (λ x. a x && (q x && b x)) (filter q xs)
 any_filtered a q b [] = refl
-any_filtered a q b (x ∷ xs) =
-    elim (q x) as (λ c. q x ≡ c → ((a x && (c && b x)) || list_any (λ y. a y && (q y && b y)) xs) ≡ list_any (λ y. a y && (q y && b y))
-    (cond c (x ∷ filter q xs) (filter q xs))) [
-      | true ↦ λ e. λ i. (a x && (sym e i && b x)) || any_filtered a q b xs i
-      | false ↦ λ e. no (a x) ∙ any_filtered a q b xs
-    ] refl
-  where
-    no : (c : Bool) → ((c && false) || list_any (λ y. a y && (q y && b y)) xs) ≡ list_any (λ y. a y && (q y && b y)) xs
-    no true = refl
-    no false = refl
+any_filtered a q b (x ∷ xs) = grind (arith, common_steps, any_filtered a q b xs)
 
 pub any_kept : {A : Type 0} (q : A → Bool) (xs : List A) → list_any q xs ≡ list_any q (filter q xs)
 any_kept q [] = refl
-any_kept q (x ∷ xs) =
-    elim (q x) as (λ c. q x ≡ c → (c || list_any q xs) ≡ list_any q (cond c (x ∷ filter q xs) (filter q xs))) [
-      | true ↦ λ e. ap (λ b. b || list_any q (filter q xs)) (sym e)
-      | false ↦ λ e. any_kept q xs
-    ] refl
+any_kept q (x ∷ xs) = grind (arith, common_steps, any_kept q xs)
 
 -- what a filter keeps
 pub item_filtered : (q : Id → Bool) (i : Id) (xs : List Id) → has_item id_cmp (filter q xs) i ≡ (q i && has_item id_cmp xs i)
@@ -72,10 +56,7 @@ same_filtered q xs ys up vp is =
     (λ i. (λ h. sym (alike i) ∙ h, λ h. alike i ∙ h))
   where
     alike : (i : Id) → has_item id_cmp (filter q xs) i ≡ has_item id_cmp (filter q ys) i
-    alike i =
-        item_filtered q i xs
-        ∙ elim (q i) as (λ c. q i ≡ c → (c && has_item id_cmp xs i) ≡ (c && has_item id_cmp ys i)) [ true ↦ λ e. is i e | false ↦ λ e. refl ] refl
-        ∙ sym (item_filtered q i ys)
+    alike i = grind (arith, common_steps, item_filtered)
 
 -- nothing is gathered where each gives nothing
 pub gathers_nothing : {A B : Type 0} (xs : List A) → flat_map (λ x. let none : List B = [] in none) xs ≡ []
@@ -99,11 +80,7 @@ all_mapped P Q f step (x ∷ xs) p = (step x p.0, all_mapped P Q f step xs p.1)
 
 pub all_pass : {A : Type 0} (q : A → Bool) (xs : List A) → AllByRecursion (λ x. IsTrue (q x)) (filter q xs)
 all_pass q [] = tt
-all_pass q (x ∷ xs) =
-    elim (q x) as (λ c. q x ≡ c → AllByRecursion (λ y. IsTrue (q y)) (cond c (x ∷ filter q xs) (filter q xs))) [
-      | true ↦ λ e. (e, all_pass q xs)
-      | false ↦ λ e. all_pass q xs
-    ] refl
+all_pass q (x ∷ xs) = grind (arith, common_steps, all_pass q xs)
 
 -- maps that agree on each item
 pub same_mapped : {A B : Type 0} (P : A → Type 0) (f g : A → B) → ((x : A) → P x → f x ≡ g x) → (xs : List A) → AllByRecursion P xs → map f xs ≡ map g xs

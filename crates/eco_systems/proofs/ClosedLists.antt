@@ -99,8 +99,7 @@ module _ (w : WorldState) where
   own_head : (p : Pattern) (h : Entity) → HasHead p h → pattern_with_head p h ≡ p
   own_head (One e) h is = ap One (sym is)
   own_head (Two (Is r) q) h is = ap (λ x. Two (Is x) q) (sym is)
-  own_head (Two Each q) h is = absurd is
-  own_head (Two Any q) h is = absurd is
+  own_head _ h is = absurd is
 
   one_brings : (p : Pattern) (a b : Entity) → IsTrue (has w a (id.Two WITH b)) → BringsPattern w (pattern_with_head p a) (pattern_with_head p b)
   one_brings (One c) a b h = h
@@ -113,11 +112,8 @@ module _ (w : WorldState) where
   brought_head : (p : Pattern) (a : Entity) (q : Pattern) → BringsPattern w (pattern_with_head p a) q → (x : Entity) × IsTrue (has w a (id.Two WITH x)) ×
       (q ≡ pattern_with_head p x)
   brought_head (One c) a (One x) h = (x, h, refl)
-  brought_head (One c) a (Two r t) h = absurd h
-  brought_head (Two r t) a (One x) h = absurd h
-  brought_head (Two r t) a (Two Each u) h = absurd h
-  brought_head (Two r t) a (Two Any u) h = absurd h
   brought_head (Two r t) a (Two (Is x) u) h = (x, h.0, ap (Two (Is x)) h.1)
+  brought_head _ a _ h = absurd h
 
   closed_to_reach : (p : Pattern) (h : Entity) → HasHead p h → {q : Pattern} → InClosedPatterns w (p ∷ []) q → (x : Entity) × Reaches w WITH h x ×
       (q ≡ pattern_with_head p x)
@@ -195,10 +191,9 @@ module _ (w : WorldState) where
   wild_brings (Two Any t) (Two p u) is h = h
 
   wild_widened : (p : Pattern) → IsWild p → widened w p ≡ p
-  wild_widened (One e) is = absurd is
-  wild_widened (Two (Is r) t) is = absurd is
   wild_widened (Two Each t) is = refl
   wild_widened (Two Any t) is = refl
+  wild_widened _ is = absurd is
 
   wild_alone : (p : Pattern) → IsWild p → {q : Pattern} → InClosedPatterns w (p ∷ []) q → p ≡ q
   wild_alone p is (root (inl e)) = e

@@ -164,8 +164,6 @@ module _ (start : WorldState) where
       → IsLawful base → IsLawful cur → AllByRecursion IsLawfulSystem ss → Quiet start ss → Ready start cur ss → AllLook base cur ss
       → BatchRecords base ss ds commands → Runs cur commands outcomes new → OneByOne cur ss ds outcomes new
   one_by_one base cur [] [] commands outcomes new l m laws quiet within same rec run = nothing_runs cur commands outcomes new rec run
-  one_by_one base cur [] (d ∷ ds) commands outcomes new l m laws quiet within same rec run = absurd rec
-  one_by_one base cur (s ∷ ss) [] commands outcomes new l m laws quiet within same rec run = absurd rec
   one_by_one base cur (s ∷ ss) (d ∷ ds) commands outcomes new l m laws quiet within same rec run =
       let split = runs_split rec.0 rec.1 cur new outcomes (subst (λ cs. Runs cur cs outcomes new) rec.4 run) in
       let declared = records_declared s laws.0 base d rec.0 rec.2 in
@@ -180,19 +178,19 @@ module _ (start : WorldState) where
             next.0 next.1 rec.3 split.second_run,
         split.outcomes,
       )
+  one_by_one base cur _ _ commands outcomes new l m laws quiet within same rec run = absurd rec
 
   -- systems that write no traits give none
   batch_traits : (base cur : WorldState) (ss : List SystemModel) (ds : BatchDraws) (commands : List Command) (outcomes : FrameOutcomes) (new : WorldState)
       → AllByRecursion IsLawfulSystem ss → (SomeOf (IsTraitWriter start) ss → ⊥) → TraitsWithin start cur → BatchRecords base ss ds commands →
       Runs cur commands outcomes new → TraitsWithin start new
   batch_traits base cur [] [] commands outcomes new laws none within rec run = rw (nothing_runs cur commands outcomes new rec run).1 within
-  batch_traits base cur [] (d ∷ ds) commands outcomes new laws none within rec run = absurd rec
-  batch_traits base cur (s ∷ ss) [] commands outcomes new laws none within rec run = absurd rec
   batch_traits base cur (s ∷ ss) (d ∷ ds) commands outcomes new laws none within rec run =
       let split = runs_split rec.0 rec.1 cur new outcomes (subst (λ cs. Runs cur cs outcomes new) rec.4 run) in
       batch_traits base split.mid ss ds rec.1 split.later new laws.1 (λ x. none (inr x))
       (runs_traits start s (λ x. none (inl x)) rec.0 cur split.now split.mid (records_declared s laws.0 base d rec.0 rec.2) within split.first_run)
       rec.3 split.second_run
+  batch_traits base cur _ _ commands outcomes new laws none within rec run = absurd rec
 
   ready_batch : (before batch : List SystemModel) (w : WorldState) → AreTogether start before [] batch →
       ((SomeOf (IsTraitWriter start) before → ⊥) → TraitsWithin start w) → Ready start w batch
@@ -240,24 +238,22 @@ module _ (start : WorldState) where
       ((SomeOf (IsTraitWriter start) before → ⊥) → TraitsWithin start w)
       → InTurn BatchRuns w batches draws outcomes new → InTurn BatchRunsSolo w batches draws outcomes new
   in_turn [] rest before last w [] outcomes new l laws areCut within h = h
-  in_turn [] rest before last w (d ∷ ds) outcomes new l laws areCut within h = absurd h
-  in_turn (b ∷ bs) rest before last w [] outcomes new l laws areCut within h = absurd h
   in_turn (b ∷ bs) rest before last w (d ∷ ds) outcomes new l laws areCut within h =
       let one = one_batch before b w d h.0 h.2 l laws.0 areCut.1 within h.3 in
       (h.0, h.1, h.2, one.solo, in_turn bs rest (before ++ b) b h.2 ds h.1 new one.lawful laws.1 areCut.2 one.within h.4, h.5)
+  in_turn _ rest before last w _ outcomes new l laws areCut within h = absurd h
 
   all_in_turn : (batches rest : List (List SystemModel)) (systems : List SystemModel) (draws : List BatchDraws) (outcomes : FrameOutcomes) (new : WorldState)
       → IsLawful start → AllByRecursion IsLawfulSystem systems → AreBatches start systems (batches ++ rest) →
       InTurn BatchRuns start batches draws outcomes new → InTurn BatchRunsSolo start batches draws outcomes new
   all_in_turn [] rest systems [] outcomes new l laws cuts h = h
-  all_in_turn [] rest systems (d ∷ ds) outcomes new l laws cuts h = absurd h
   all_in_turn ([] ∷ bs) rest systems ds outcomes new l laws cuts h = absurd cuts
-  all_in_turn ((s ∷ b) ∷ bs) rest systems [] outcomes new l laws cuts h = absurd h
   all_in_turn ((s ∷ b) ∷ bs) rest systems (d ∷ ds) outcomes new l laws cuts h =
       let each = all_apart_append (AllByRecursion IsLawfulSystem) ((s ∷ b) ∷ bs) rest
       (all_joined IsLawfulSystem ((s ∷ b) ∷ (bs ++ rest)) (subst (AllByRecursion IsLawfulSystem) cuts.0 laws)) in
       let one = one_batch [] (s ∷ b) start d h.0 h.2 l (each.0).0 cuts.1 (λ none. (refl, λ x j trait k. k)) h.3 in
       (h.0, h.1, h.2, one.solo, in_turn bs rest (s ∷ b) (s ∷ b) h.2 ds h.1 new one.lawful (each.0).1 cuts.2 one.within h.4, h.5)
+  all_in_turn _ rest systems _ outcomes new l laws cuts h = absurd h
 
 -- what holds of all systems holds of them in their order
 all_kept : {A : Type 0} (P : A → Type 0) (q : A → Bool) (xs : List A) → AllByRecursion P xs → AllByRecursion P (filter q xs)
@@ -292,12 +288,11 @@ part_is_solo w systems draws outcomes new l laws h =
 lawful_in_turn : (batches : List (List SystemModel)) (w : WorldState) (draws : List BatchDraws) (outcomes : FrameOutcomes) (new : WorldState) → IsLawful w →
     InTurn BatchRuns w batches draws outcomes new → IsLawful new
 lawful_in_turn [] w [] outcomes new l h = subst IsLawful (sym h.1) l
-lawful_in_turn [] w (d ∷ ds) outcomes new l h = absurd h
-lawful_in_turn (b ∷ bs) w [] outcomes new l h = absurd h
 lawful_in_turn (b ∷ bs) w (d ∷ ds) outcomes new l h =
     let n : ℕ = length (all_drawn d) in
     let run = h.3 in
     lawful_in_turn bs h.2 ds h.1 new (runs_lawful run.1 (with_admitted n w) h.0 h.2 (lawful_admitted w n run.0.1 l) run.3) h.4
+lawful_in_turn _ w _ outcomes new l h = absurd h
 
 pub frames_lawful : FramesKeepLawful
 frames_lawful w systems draws outcomes new l h = lawful_in_turn h.0 w draws outcomes new l h.3

@@ -54,11 +54,10 @@ module _ (s : SystemModel) (law : IsLawfulSystem s) where
   pieces_declared : (pieces : List (List ValuedRow)) (draws : List (List Entity)) (commands : List Command) → PiecesRecord s pieces draws commands →
       AllByRecursion (IsDeclared s.writes s.kills) commands
   pieces_declared [] [] commands h = subst (AllByRecursion (IsDeclared s.writes s.kills)) (sym h) tt
-  pieces_declared [] (d ∷ ds) commands h = absurd h
-  pieces_declared (p ∷ ps) [] commands h = absurd h
   pieces_declared (p ∷ ps) (d ∷ ds) commands h =
       subst (AllByRecursion (IsDeclared s.writes s.kills)) (sym h.4)
       (all_append (IsDeclared s.writes s.kills) h.0 h.1 (rows_declared p d h.0 h.2) (pieces_declared ps ds h.1 h.3))
+  pieces_declared _ _ commands h = absurd h
 
   pub records_declared : (w : WorldState) (draws : List (List Entity)) (commands : List Command) → Records w s draws commands →
       AllByRecursion (IsDeclared s.writes s.kills) commands
@@ -81,11 +80,10 @@ module _ (start : WorldState) (s : SystemModel) (plain : IsTraitWriter start s �
   runs_effect : (cs : List Command) (w : WorldState) (rs : FrameOutcomes) (new : WorldState) → AllByRecursion (IsDeclared s.writes s.kills) cs →
       TraitsWithin start w → Runs w cs rs new → SystemEffect w new
   runs_effect [] w [] new d within h = rw h effect_itself
-  runs_effect [] w (r ∷ rs) new d within h = absurd h
-  runs_effect (c ∷ cs) w [] new d within h = absurd h
   runs_effect (c ∷ cs) w (r ∷ rs) new d within h =
       let one = (meets _ (may_want c w) w effect_itself (applies_effect start s.writes (no_traits start s plain) w within c d.0)).at r h.0 h.1 in
       effect_then one (runs_effect cs h.0 rs new d.1 (traits_after one within) h.2)
+  runs_effect _ w _ new d within h = absurd h
 
   pub runs_traits : (cs : List Command) (w : WorldState) (rs : FrameOutcomes) (new : WorldState) → AllByRecursion (IsDeclared s.writes s.kills) cs →
       TraitsWithin start w → Runs w cs rs new → TraitsWithin start new

@@ -1,6 +1,6 @@
 pub mod Answers
 mod BatchesExist
-mod ClosedLists
+pub mod ClosedLists
 mod Covered
 mod Decided
 mod Follows

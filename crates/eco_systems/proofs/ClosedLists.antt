@@ -161,7 +161,7 @@ module _ (w : WorldState) where
           or_right (list_any test old) _ (head_listed p heads test x.0 ((exact x.0).1 x.1) (subst (λ q. IsTrue (test q)) ((c.1).2 ∙ ap (widened w) x.2) c.2))
 
   -- one without: nothing is brought
-  wild_brings : (p q : Pattern) → pattern_head p ≡ None → BringsPattern w p q → ⊥
+  pub wild_brings : (p q : Pattern) → pattern_head p ≡ None → BringsPattern w p q → ⊥
   wild_brings (One e) q at h = none-some e (sym at)
   wild_brings (Two (Is r) t) q at h = none-some r (sym at)
   wild_brings (Two Each t) (One x) at h = h

@@ -58,9 +58,8 @@ module _ (w : WorldState) (l : IsLawful w) where
 
   brought_lives : (j k : Id) → IsTrue (names_living w j) → Brings w j k → IsTrue (names_living w k)
   brought_lives (One c) (One x) h b = target_lives c WITH x b
-  brought_lives (One c) (Two x t) h b = absurd b
-  brought_lives (Two r t) (One x) h b = absurd b
   brought_lives (Two r t) (Two x u) h b = both _ _ (target_lives r WITH x b.0) (subst (λ y. IsTrue (is_alive w y)) (sym b.1) (second (is_alive w r) _ h))
+  brought_lives _ _ h b = absurd b
 
   member_lives : (i : Id) → IsTrue (names_living w i) → {j : Id} → InClosure w i j → IsTrue (names_living w j)
   member_lives i h (root e) = subst (λ k. IsTrue (names_living w k)) (sym e) h

@@ -1,4 +1,5 @@
 -- A loss as changes of single entities, one after another.
+use Rattle.eco_ids.proofs.Facts.{entity_eq_sym, neither, off}
 use Rattle.eco_ids.proofs.Common.{◌≡◌, ℕ, suc, ◌+◌, arith, Bool, true, false, cond, not, ◌&&◌, ◌||◌, List, [], ◌∷◌, is_some, IsTrue, IsFalse, fold, sym, refl}
 use Rattle.eco_ids.proofs.Common.{ap, ◌∙◌, subst}
 use Rattle.eco_ids.proofs.Common.{Some, None, Option, true≢false, find, where_key, Entity, Id, Value, Living, IndexState, Free, Retired, nobody, without}
@@ -125,37 +126,16 @@ of_these goes es x i = has_item entity_cmp es x && goes x i
 
 some_more : (goes : Entity → Id → Bool) (e : Entity) (es : List Entity) (x : Entity) (i : Id) →
     of_these goes (e ∷ es) x i ≡ ((entity_eq x e && goes e i) || of_these goes es x i)
-some_more goes e es x i = by (entity_eq e x) refl
+some_more goes e es x i = ap (λ b. (b || has_item entity_cmp es x) && goes x i) (entity_eq_sym e x) ∙ by (entity_eq x e) refl
   where
-    turned : (b : Bool) → entity_eq e x ≡ b → entity_eq x e ≡ b
-    turned true h = subst (λ y. entity_eq y e ≡ true) (entity_eq_is e x h) (subst (λ y. entity_eq e y ≡ true) (sym (entity_eq_is e x h)) h)
-    turned false h = other (entity_eq x e) refl
-      where
-        other : (c : Bool) → entity_eq x e ≡ c → entity_eq x e ≡ false
-        other true k = absurd (true≢false (sym (subst (λ y. entity_eq e y ≡ true) (sym (entity_eq_is x e k))
-            (subst (λ y. entity_eq y e ≡ true) (entity_eq_is x e k) k)) ∙ h))
-        other false k = k
-
-    same_goes : (b c : Bool) → ((b || c) && b) ≡ (b || (c && b))
-    same_goes true true = refl
-    same_goes true false = refl
-    same_goes false true = refl
-    same_goes false false = refl
-
     absorbed : (b c : Bool) → b ≡ (b || (c && b))
     absorbed true c = refl
     absorbed false true = refl
     absorbed false false = refl
 
-    by : (b : Bool) → entity_eq e x ≡ b → ((entity_eq e x || has_item entity_cmp es x) && goes x i) ≡
-        ((entity_eq x e && goes e i) || (has_item entity_cmp es x && goes x i))
-    by true h =
-        ap (λ b. (b || has_item entity_cmp es x) && goes x i) h ∙ absorbed (goes x i) (has_item entity_cmp es x)
-        ∙ sym (ap (λ b. (b && goes e i) || (has_item entity_cmp es x && goes x i)) (turned true h)
-        ∙ ap (λ y. goes y i || (has_item entity_cmp es x && goes x i)) (entity_eq_is e x h))
-    by false h =
-        ap (λ b. (b || has_item entity_cmp es x) && goes x i) h
-        ∙ sym (ap (λ b. (b && goes e i) || (has_item entity_cmp es x && goes x i)) (turned false h))
+    by : (b : Bool) → entity_eq x e ≡ b → ((b || has_item entity_cmp es x) && goes x i) ≡ ((b && goes e i) || (has_item entity_cmp es x && goes x i))
+    by true k = absorbed (goes x i) (has_item entity_cmp es x) ∙ ap (λ y. goes y i || (has_item entity_cmp es x && goes x i)) (entity_eq_is x e k)
+    by false k = refl
 
 these_lose : (goes : Entity → Id → Bool) (w : WorldState) (es : List Entity) → without w nobody (of_these goes es) ≡ one_by_one goes w es
 these_lose goes w [] = without_nothing w
@@ -210,10 +190,6 @@ stays_there : (w : WorldState) (goes : Entity → Id → Bool) (x : Entity) (j :
     ((r t : Entity) → j ≡ Two r t → IsTrue (is_symmetric w r) → IsTrue (goes t (Two r x)) → ⊥) → IsFalse (goes_too w goes x j)
 stays_there w goes x j stays mirror = by (mirror_of w x j) refl
   where
-    off : (b : Bool) → (IsTrue b → ⊥) → IsFalse b
-    off true f = absurd (f refl)
-    off false f = refl
-
     by : (o : Option (Entity × Id)) → mirror_of w x j ≡ o → IsFalse (goes_too w goes x j)
     by None is = ap (λ o. at_mirror goes o || goes x j) is ∙ stays
     by (Some m) is =
@@ -223,31 +199,19 @@ stays_there w goes x j stays mirror = by (mirror_of w x j) refl
         ap (λ o. at_mirror goes o || goes x j) is ∙ ap (λ b. b || goes x j) gone ∙ stays
 
 turned_apart : (e x : Entity) → IsFalse (entity_eq e x) → IsFalse (entity_eq x e)
-turned_apart e x h = off (entity_eq x e) (λ k. not_both (subst (λ y. IsTrue (entity_eq y x)) (entity_eq_is x e k) (entity_eq_itself x)) h)
-  where
-    off : (b : Bool) → (IsTrue b → ⊥) → IsFalse b
-    off true f = absurd (f refl)
-    off false f = refl
-
-first_in : (a b : Bool) → IsFalse (a || b) → IsFalse a
-first_in true b h = absurd (true≢false h)
-first_in false b h = refl
-
-second_in : (a b : Bool) → IsFalse (a || b) → IsFalse b
-second_in true b h = absurd (true≢false h)
-second_in false b h = h
+turned_apart e x h = entity_eq_sym x e ∙ h
 
 -- a remove changes its entity, and the holder of the mirror where there is one
 pub remove_moves : (w : WorldState) (e : Entity) (i : Id) →
     without w nobody (goes_too w (λ x j. entity_eq x e && id_eq j i))
     ≡ one_by_one (goes_too w (λ x j. entity_eq x e && id_eq j i)) w (e ∷ mirror_holders w e (i ∷ []))
 remove_moves w e i = losses_one_by_one w (goes_too w goes) (e ∷ mirror_holders w e (i ∷ [])) (λ x j there apart.
-    stays_there w goes x j (ap (λ b. b && id_eq j i) (turned_apart e x (first_in (entity_eq e x) _ apart)))
+    stays_there w goes x j (ap (λ b. b && id_eq j i) (turned_apart e x (neither (entity_eq e x) _ apart).0))
     (λ r t is symmetric gone.
     let at : t ≡ e = entity_eq_is t e (first (entity_eq t e) (id_eq (Two r x) i) gone) in
     let same : Two r x ≡ i = id_eq_is (Two r x) i (second (entity_eq t e) (id_eq (Two r x) i) gone) in
     let mirror : mirror_of w e i ≡ Some (x, Two r e) = ap (mirror_of w e) (sym same) ∙ mirror_is w e r x symmetric in
-    not_both (among_holders w e (i ∷ []) i (x, Two r e) (or_left (id_eq i i) false (id_eq_itself i)) mirror) (second_in (entity_eq e x) _ apart)))
+    not_both (among_holders w e (i ∷ []) i (x, Two r e) (or_left (id_eq i i) false (id_eq_itself i)) mirror) (neither (entity_eq e x) _ apart).1))
   where
     goes : Entity → Id → Bool
     goes x j = entity_eq x e && id_eq j i
@@ -257,13 +221,13 @@ pub clear_moves : (w : WorldState) (e : Entity) (d : Record) → IsLawful w → 
     without w nobody (goes_too w (λ x j. entity_eq x e))
     ≡ one_by_one (goes_too w (λ x j. entity_eq x e)) w (e ∷ mirror_holders w e (keys d.held))
 clear_moves w e d l at = losses_one_by_one w (goes_too w goes) (e ∷ mirror_holders w e (keys d.held)) (λ x j there apart.
-    stays_there w goes x j (turned_apart e x (first_in (entity_eq e x) _ apart))
+    stays_there w goes x j (turned_apart e x (neither (entity_eq e x) _ apart).0)
     (λ r t is symmetric gone.
     let here : t ≡ e = entity_eq_is t e gone in
     let edge : IsTrue (has w x (Two r e)) = subst (λ y. IsTrue (has w x (Two r y))) here (subst (λ k. IsTrue (has w x k)) is there) in
     let back : IsTrue (has w e (Two r x)) = (mirrored_of w l (first (has_symmetric w.edition) _ symmetric)).mirrors r x e symmetric edge in
     let listed : IsTrue (has_item id_cmp (keys d.held) (Two r x)) = sym (keys_find d.held (Two r x)) ∙ sym (ap (λ o. has_in o (Two r x)) at) ∙ back in
-    not_both (among_holders w e (keys d.held) (Two r x) (x, Two r e) listed (mirror_is w e r x symmetric)) (second_in (entity_eq e x) _ apart)))
+    not_both (among_holders w e (keys d.held) (Two r x) (x, Two r e) listed (mirror_is w e r x symmetric)) (neither (entity_eq e x) _ apart).1))
   where
     goes : Entity → Id → Bool
     goes x j = entity_eq x e
@@ -286,10 +250,6 @@ remove_all_moves w i holders all = losses_one_by_one w (goes_too w goes) (symmet
   where
     goes : Entity → Id → Bool
     goes x j = id_eq j i
-
-    off : (b : Bool) → (IsTrue b → ⊥) → IsFalse b
-    off true f = absurd (f refl)
-    off false f = refl
 
     split : (x : Entity) → has_item entity_cmp (symmetric_target w i ++ holders) x ≡
         (has_item entity_cmp (symmetric_target w i) x || has_item entity_cmp holders x)

@@ -1,4 +1,5 @@
 -- The world that an add leads to: the closure at its entity, and the mirror where there is one.
+use Rattle.eco_ids.proofs.Facts.{only}
 use Rattle.eco_ids.proofs.Adds.{closure_came}
 use Rattle.eco_ids.proofs.Facts.{neither, off}
 use Rattle.eco_ids.proofs.Common.{◌≡◌, false, cond, not, ◌&&◌, ◌||◌, ◌⊎◌, List, [], ◌∷◌, is_some, IsTrue, IsFalse, Some, None, Option, sym, refl}
@@ -11,7 +12,7 @@ use Rattle.eco_ids.proofs.Common.{is_exclusive, is_acyclic, is_symmetric, has_sy
 use Rattle.eco_ids.proofs.Adds.{IsClear, half, closure_gains, closure_orderly, closure_present, closure_write, zeros_pass}
 use Rattle.eco_ids.proofs.Ascending.{both, first, second}
 use Rattle.eco_ids.proofs.Closures.{closure_uniform, find_kept, zero_entry, zero_has, zero_keeps, zero_sorted, zeros_have, zeros_keep}
-use Rattle.eco_ids.proofs.Facts.{id_eq_is, id_eq_itself, or_left, or_parts, same_or_apart}
+use Rattle.eco_ids.proofs.Facts.{id_eq_itself, or_left, or_parts, same_or_apart}
 use Rattle.eco_ids.proofs.Gains.{Gains, IsUniform, singles, pairs, exclusive_still, acyclic_still, two_is_not_one, same_relationship, same_target}
 use Rattle.eco_ids.proofs.Keeps.{alive_still, has_entry, has_in, orderly_change, some_of}
 use Rattle.eco_ids.proofs.Mirrors.{IsCalm, calm_from, lawful_after, mirror_is, mirror_parts, mirrored_of, symmetric_before}
@@ -233,11 +234,8 @@ module _ (h : WorldState) (t : Entity) (j : Id) (d : Record) (at : record_of h t
         acyclic = acyclic_still gains l.acyclic;
       })
     where
-      only : (k : Id) → IsTrue (has_item id_cmp (j ∷ []) k) → j ≡ k
-      only k found = elim (or_parts (id_eq j k) false found) as (λ _. j ≡ k) [ inl p ↦ id_eq_is j k p | inr p ↦ absurd (true≢false (sym p)) ]
-
       none : (c : Entity) → IsTrue (has_item id_cmp (j ∷ []) (One c)) → ⊥
-      none c found = two_is_not_one (sym is ∙ only (One c) found)
+      none c found = two_is_not_one (sym is ∙ only j (One c) found)
 
       the_pair : (q : Entity) → IsTrue (list_any (is_pair_of q) (j ∷ [])) → q ≡ r
       the_pair q found = elim (or_parts (is_pair_of q j) false found) as (λ _. q ≡ r) [
@@ -251,11 +249,11 @@ module _ (h : WorldState) (t : Entity) (j : Id) (d : Record) (at : record_of h t
           | inl m ↦ inl m
           | inr p ↦ inr (p.0, or_left (id_eq j k) false (subst (λ y. IsTrue (id_eq j y)) p.1 (id_eq_itself j)))
         ];
-        uniform = pairs e (λ k found. (r, sym (only k found) ∙ is));
+        uniform = pairs e (λ k found. (r, sym (only j k found) ∙ is));
         evicted = λ q u trait some here. absurd (loose (subst (λ y. IsTrue (is_exclusive h y)) (the_pair q some) trait));
         once_exclusive = λ found. absurd (none EXCLUSIVE found);
         once_acyclic = λ found. absurd (none ACYCLIC found);
-        no_cycle = λ q c. lasting (subst (λ y. IsTrue (is_acyclic h y)) (same_relationship (sym (only (Two q c.1) c.2) ∙ is)) c.0);
+        no_cycle = λ q c. lasting (subst (λ y. IsTrue (is_acyclic h y)) (same_relationship (sym (only j (Two q c.1) c.2) ∙ is)) c.0);
       }
 
 -- the closure leaves what is not replaced

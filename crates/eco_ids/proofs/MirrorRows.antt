@@ -1,6 +1,8 @@
 -- Worked rows of the second edition, computed.
+use Rattle.eco_ids.proofs.Facts.{only}
+use Rattle.eco_ids.proofs.Gains.{same_relationship}
 use Rattle.eco_ids.proofs.Common.{Judges, grown, changed, Answers, Refuses, unchanged, with_value, MatchOption, Extends, Option, Result, Refusal}
-use Rattle.eco_ids.proofs.Common.{◌≡◌, ℕ, false, map, refl, sym, ap, subst, true≢false, IsTrue, IsFalse, List, [], ◌∷◌, ◌++◌, Some, None, Ok, Err, ◌||◌, inl}
+use Rattle.eco_ids.proofs.Common.{◌≡◌, ℕ, false, map, refl, sym, ap, subst, true≢false, IsTrue, IsFalse, List, [], ◌∷◌, ◌++◌, Some, None, Ok, Err, ◌||◌}
 use Rattle.eco_ids.proofs.Common.{inr, pos, codes}
 use Rattle.eco_ids.specs.declared.edition.Edition.TheVariants.{First, Second}
 use Rattle.eco_ids.specs.declared.entity.Entity.{Entity}
@@ -17,22 +19,11 @@ use Rattle.eco_ids.specs.Order.{id_cmp, id_eq, has_item}
 use Rattle.eco_ids.specs.Step.{Adds, Sets, Removes, Clears, RemovesAll, IsClosure, ClosesCycle}
 use Rattle.eco_ids.specs.Traits.{Brings, InClosure}
 use Rattle.eco_ids.specs.World.{WorldState, Record, world_of_edition, zeros, has, is_acyclic, held_by}
-use Rattle.eco_ids.proofs.Facts.{id_eq_itself, id_eq_is, or_parts, not_both}
+use Rattle.eco_ids.proofs.Facts.{id_eq_itself, not_both}
 
 -- ---- closures of one id
 
-pub only : (i j : Id) → IsTrue (has_item id_cmp (i ∷ []) j) → i ≡ j
-only i j h = elim (or_parts (id_eq i j) false h) as (λ _. i ≡ j) [ inl k ↦ id_eq_is i j k | inr k ↦ absurd (true≢false (sym k)) ]
-
-relationship_or : Entity → Id → Entity
-relationship_or d (One e) = d
-relationship_or d (Two r t) = r
-
-same_relationship : {r s t u : Entity} → Two r t ≡ Two s u → r ≡ s
-unfolding relationship_or
-same_relationship {r = r} e = ap (relationship_or r) e
-
-alone : (w : WorldState) (i : Id) → IsTrue (id_eq i i) → ((k : Id) → Brings w i k → ⊥) → IsClosure w i (i ∷ [])
+pub alone : (w : WorldState) (i : Id) → IsTrue (id_eq i i) → ((k : Id) → Brings w i k → ⊥) → IsClosure w i (i ∷ [])
 alone w i self none = record { ascending = refl; exact = λ j. (inside j, outside j) }
   where
     inside : (j : Id) → IsTrue (has_item id_cmp (i ∷ []) j) → InClosure w i j
@@ -45,7 +36,7 @@ alone w i self none = record { ascending = refl; exact = λ j. (inside j, outsid
     outside j (root at) = subst (λ k. IsTrue (has_item id_cmp (i ∷ []) k)) (sym at) here
     outside j (next {a = a} before b) = absurd (none j (subst (λ k. Brings w k j) (sym (only i a (outside a before))) b))
 
-lone_pair : (w : WorldState) (r t : Entity) → ((x : Entity) → IsFalse (has w r (Two WITH x))) → (k : Id) → Brings w (Two r t) k → ⊥
+pub lone_pair : (w : WorldState) (r t : Entity) → ((x : Entity) → IsFalse (has w r (Two WITH x))) → (k : Id) → Brings w (Two r t) k → ⊥
 lone_pair w r t none (One x) b = absurd b
 lone_pair w r t none (Two x u) b = not_both b.0 (none x)
 

@@ -1,5 +1,5 @@
 -- What a system's commands touch lies in its closed writes.
-use Rattle.std.proofs.Common.{◌≡◌, Bool, true, false, cond, ◌&&◌, List, [], ◌∷◌, refl, sym, ap, ◌∙◌, subst, true≢false, IsTrue, ◌⊎◌, inl, inr}
+use Rattle.std.proofs.Common.{◌≡◌, Bool, true, false, cond, List, [], ◌∷◌, refl, sym, ap, ◌∙◌, subst, true≢false, IsTrue, ◌⊎◌, inl, inr}
 use Rattle.std.specs.List.{list_any}
 use Rattle.eco_ids.specs.declared.entity.Entity.{Entity}
 use Rattle.eco_ids.specs.declared.entity.TheConstants.{EXCLUSIVE, SYMMETRIC, WITH}
@@ -11,8 +11,7 @@ use Rattle.eco_ids.specs.declared.pattern.Pattern.{Pattern}
 use Rattle.eco_ids.specs.declared.pattern.Pattern.TheVariants.{One, Two}
 use Rattle.eco_ids.specs.declared.edition.Edition.{Edition}
 use Rattle.eco_ids.specs.declared.edition.Edition.TheVariants.{First, Second}
-use Rattle.eco_ids.specs.Builtin.{is_among_first}
-use Rattle.eco_ids.specs.Edition.{builtin_count, has_symmetric}
+use Rattle.eco_ids.specs.Edition.{has_symmetric}
 use Rattle.eco_ids.specs.Least.{root, next}
 use Rattle.eco_ids.specs.Matching.{part_matches, pattern_matches, pattern_overlaps}
 use Rattle.eco_ids.specs.Order.{entity_eq}
@@ -25,6 +24,7 @@ use Rattle.eco_ids.proofs.Meaning.{closure_least}
 use Rattle.eco_ids.proofs.Overlaps.{entity_eq_is, entity_eq_itself, overlaps_exactly}
 use Rattle.eco_systems.specs.Batches.{Disturbs}
 use Rattle.eco_systems.specs.Systems.{SystemModel, IsDeclared, matches_one, system_reads}
+use Rattle.eco_systems.specs.Writes.{is_builtin_trait}
 use Rattle.eco_systems.specs.Writes.{SomeOf, InClosedPatterns, widened, IsClosedWrite, writes_trait, IsTraitWriter}
 use Rattle.std.proofs.Common.{Result}
 use Rattle.eco_ids.specs.declared.refusal.Refusal.{Refusal}
@@ -49,27 +49,16 @@ symmetric_within start w r within h =
     let has_it : IsTrue (has_symmetric start.edition) = sym (ap has_symmetric within.0) ∙ first (has_symmetric w.edition) _ h in
     both (has_symmetric start.edition) _ has_it (within.1 r (id.One SYMMETRIC) (inr (has_it, refl)) (second (has_symmetric w.edition) _ h))
 
--- Exclusive and With are built-ins in each edition
-exclusive_writes : (w : WorldState) → IsTrue (writes_trait w.edition (One EXCLUSIVE))
-exclusive_writes w = by w.edition
-  where
-    by : (edition : Edition) → IsTrue (is_among_first (builtin_count edition) EXCLUSIVE && true)
-    by First = refl
-    by Second = refl
+-- a pattern of such an id writes traits, in each edition
+single_trait : (edition : Edition) (e : Entity) → IsTraitId edition (id.One e) → IsTrue (writes_trait edition (One e))
+single_trait First e (inl is) = rw is refl
+single_trait Second e (inl is) = rw is refl
+single_trait First e (inr trait) = absurd (true≢false (sym trait.0))
+single_trait Second e (inr trait) = rw trait.1 refl
 
-symmetric_writes : (w : WorldState) → IsTrue (has_symmetric w.edition) → IsTrue (writes_trait w.edition (One SYMMETRIC))
-symmetric_writes w h = by w.edition h
-  where
-    by : (edition : Edition) → IsTrue (has_symmetric edition) → IsTrue (is_among_first (builtin_count edition) SYMMETRIC && true)
-    by First k = absurd (true≢false (sym k))
-    by Second k = refl
-
-with_writes : (w : WorldState) (u : Part) → IsTrue (writes_trait w.edition (Two (Is WITH) u))
-with_writes w u = or_left _ _ (by w.edition)
-  where
-    by : (edition : Edition) → IsTrue (is_among_first (builtin_count edition) WITH && true)
-    by First = refl
-    by Second = refl
+with_trait : (edition : Edition) → IsTrue (is_builtin_trait edition WITH)
+with_trait First = refl
+with_trait Second = refl
 
 -- ---- the closure of an id lies in the closure of its pattern
 
@@ -127,12 +116,9 @@ module _ (start : WorldState) (writes : List Pattern) where
 
     -- no trait comes by such an add
     no_trait_added : (q : Pattern) (j : Id) → InClosedPatterns start writes q → IsTrue (pattern_matches q j) → IsTraitId start.edition j → ⊥
-    no_trait_added (One own) (id.One e) member m (inl trait) =
+    no_trait_added (One own) (id.One e) member m trait =
         plain (One own) (One own, member, refl)
-        (subst (λ y. IsTrue (writes_trait start.edition (One y))) (sym (entity_eq_is own e m ∙ trait)) (exclusive_writes start))
-    no_trait_added (One own) (id.One e) member m (inr trait) =
-        plain (One own) (One own, member, refl)
-        (subst (λ y. IsTrue (writes_trait start.edition (One y))) (sym (entity_eq_is own e m ∙ trait.1)) (symmetric_writes start trait.0))
+        (subst (λ y. IsTrue (writes_trait start.edition (One y))) (sym (entity_eq_is own e m)) (single_trait start.edition e trait))
     no_trait_added (One own) (id.Two r t) member m trait = absurd (true≢false (sym m))
     no_trait_added (Two p u) (id.One e) member m trait = absurd (true≢false (sym m))
     no_trait_added (Two Each u) (id.Two r t) member m trait = not_each u member
@@ -141,8 +127,8 @@ module _ (start : WorldState) (writes : List Pattern) where
         plain (widened start (Two (Is own) u)) (Two (Is own) u, member, refl) (still_trait (is_widened start own) (entity_eq_is own r (first _ _ m) ∙ trait))
       where
         still_trait : (b : Bool) → own ≡ WITH → IsTrue (writes_trait start.edition (cond b (Two (Is own) Each) (Two (Is own) u)))
-        still_trait true e = subst (λ y. IsTrue (writes_trait start.edition (Two (Is y) Each))) (sym e) (with_writes start Each)
-        still_trait false e = subst (λ y. IsTrue (writes_trait start.edition (Two (Is y) u))) (sym e) (with_writes start u)
+        still_trait true e = subst (λ y. IsTrue (writes_trait start.edition (Two (Is y) Each))) (sym e) (or_left _ _ (with_trait start.edition))
+        still_trait false e = subst (λ y. IsTrue (writes_trait start.edition (Two (Is y) u))) (sym e) (or_left _ _ (with_trait start.edition))
 
   -- ---- a widened pattern matches what it matched
 

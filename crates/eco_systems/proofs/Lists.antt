@@ -3,6 +3,8 @@ use Rattle.std.proofs.Common.{◌≡◌, Bool, true, false, cond, ◌&&◌, ◌|
 use Rattle.std.specs.Prelude.{flat_map}
 use Rattle.std.specs.List.{list_any, AllByRecursion}
 use Rattle.std.proofs.lemmas.List.{map-append}
+use Rattle.std.proofs.Common.{true≢false, ◌↔◌}
+use Rattle.std.proofs.lemmas.Bool.Decides.{Decides-or}
 use Rattle.eco_ids.specs.declared.id.Id.{Id}
 use Rattle.eco_ids.specs.Order.{id_cmp, id_eq, has_item, is_ascending}
 use Rattle.eco_ids.proofs.Ascending.{ascending_filter}
@@ -105,3 +107,9 @@ some_left P (x ∷ xs) ys (inr h) = inr (some_left P xs ys h)
 pub some_right : {A : Type 0} (P : A → Type 0) (xs ys : List A) → SomeOf P ys → SomeOf P (xs ++ ys)
 some_right P [] ys h = h
 some_right P (x ∷ xs) ys h = inr (some_right P xs ys h)
+
+-- a test finds one exactly where one of those that it is exact for is so
+pub some_exact : {A B : Type 0} (test : A → Bool) (P : B → Type 0) (f : A → B) → ((x : A) → IsTrue (test x) ↔ P (f x)) → (xs : List A) →
+    IsTrue (list_any test xs) ↔ SomeOf P (map f xs)
+some_exact test P f exact [] = (λ t. absurd (true≢false (sym t)), λ x. absurd x)
+some_exact test P f exact (x ∷ xs) = Decides-or (test x) (list_any test xs) (exact x) (some_exact test P f exact xs)

@@ -8,6 +8,7 @@ use Rattle.std.proofs.lemmas.Bool.{cases_eq}
 use Rattle.std.proofs.lemmas.Grind.{flat_map-append}
 use Rattle.std.proofs.lemmas.List.{map-append, take_more}
 use Rattle.std.proofs.lemmas.Option.{same_Some, none-some}
+use Rattle.eco_ids.proofs.Facts.{neither}
 use Rattle.eco_ids.specs.declared.entity.Entity.{Entity}
 use Rattle.eco_ids.specs.declared.entity.TheConstants.{WITH}
 use Rattle.eco_ids.specs.declared.id.Id.{Id}
@@ -92,13 +93,9 @@ has_shown w e ids shown own is x = has_listed (record_of w e) (id.Two WITH x) id
 none_brought : (p : Pattern) (ids : List Id) → list_any is_with ids ≡ false → brought p ids ≡ []
 none_brought p [] h = refl
 none_brought p (id.One e ∷ ids) h = none_brought p ids h
-none_brought p (id.Two r x ∷ ids) h = by (none_brought p ids) (entity_eq r WITH) refl
-  where
-    by : (list_any is_with ids ≡ false → brought p ids ≡ []) → (b : Bool) → entity_eq r WITH ≡ b → brought p (id.Two r x ∷ ids) ≡ []
-    by rest true e = absurd (true≢false (sym (ap (λ c. c || list_any is_with ids) e) ∙ h))
-    by rest false e =
-        ap (λ c. option_to_list (if c then Some (pattern_with_head p x) else None) ++ brought p ids) e
-        ∙ rest (sym (ap (λ c. c || list_any is_with ids) e) ∙ h)
+none_brought p (id.Two r x ∷ ids) h =
+    let parts = neither (entity_eq r WITH) (list_any is_with ids) h in
+    ap (λ c. option_to_list (if c then Some (pattern_with_head p x) else None) ++ brought p ids) parts.0 ∙ none_brought p ids parts.1
 
 pub nothing_by : (w : WorldState) (p : Pattern) (ids : List Id) → list_any is_with ids ≡ false
     → ((q : Pattern) → BringsPattern w p q ↔ Member q (brought p ids))

@@ -5,6 +5,7 @@ use Rattle.std.specs.List.{AllZip, list_any}
 use Rattle.std.proofs.lemmas.Bool.Decides.{Decides-or}
 use Rattle.std.proofs.lemmas.List.{map-append}
 use Rattle.std.proofs.lemmas.Option.{same_Some, none-some}
+use Rattle.eco_systems.proofs.Lists.{some_exact}
 use Rattle.eco_ids.specs.Matching.{pattern_overlaps}
 use Rattle.eco_ids.specs.World.{WorldState}
 use Rattle.eco_ids.proofs.Further.{found_at}
@@ -44,10 +45,9 @@ module _ (w : WorldState) where
   traits_exact _ _ h = absurd h
 
   module _ (ds : List Declared) (os : List OutlineModel) (all : AllZip (IsOutline w) ds os) where
-    some_exact : (ks : List ℕ) → IsTrue (list_any (λ k. traits_in (slice_get os k)) ks) ↔ SomeOf (IsTraitWriter w) (map (system_at ds) ks)
-    some_exact [] = (λ t. absurd (true≢false (sym t)), λ x. absurd x)
-    some_exact (k ∷ ks) = Decides-or (traits_in (slice_get os k)) (list_any (λ k. traits_in (slice_get os k)) ks)
-        (traits_exact (slice_get ds k) (slice_get os k) (outlined_at ds os all k)) (some_exact ks)
+    some_write : (ks : List ℕ) → IsTrue (list_any (λ k. traits_in (slice_get os k)) ks) ↔ SomeOf (IsTraitWriter w) (map (system_at ds) ks)
+    some_write = some_exact (λ k. traits_in (slice_get os k)) (IsTraitWriter w) (system_at ds)
+        (λ k. traits_exact (slice_get ds k) (slice_get os k) (outlined_at ds os all k))
 
   no_disturbance : (t : SystemModel) → Disturbs w no_system t → ⊥
   no_disturbance t x = nothing_closed w (x.1).1
@@ -87,7 +87,7 @@ module _ (w : WorldState) where
       IsTrue (clash_at os ds before s t) ↔ Conflict w (map (system_at ds) before ++ system_at ds t ∷ []) (system_at ds s) (system_at ds t)
   clash_exact ds os all before s t =
       pair_exact (late_at os before t) (map (system_at ds) before ++ system_at ds t ∷ [])
-      (subst (λ until. IsTrue (late_at os before t) ↔ SomeOf (IsTraitWriter w) until) (map-append (system_at ds) before (t ∷ [])) (some_exact ds os all (before ++ t ∷ [])))
+      (subst (λ until. IsTrue (late_at os before t) ↔ SomeOf (IsTraitWriter w) until) (map-append (system_at ds) before (t ∷ [])) (some_write ds os all (before ++ t ∷ [])))
       (slice_get ds s) (slice_get ds t) (slice_get os s) (outlined_at ds os all s)
 
 -- ---- the systems in their order

@@ -5,6 +5,7 @@ use Rattle.std.specs.Ordering.{eq_by_cmp}
 use Rattle.std.proofs.Math.Bool.{or-false}
 use Rattle.std.proofs.lemmas.List.Folds.{list_any-append}
 use Rattle.indexmap.specs.IndexSet.{insert_key}
+use Rattle.eco_ids.proofs.Facts.{same_tests}
 use Rattle.eco_ids.specs.declared.entity.Entity.{Entity}
 use Rattle.eco_ids.specs.declared.id.Id.{Id}
 use Rattle.eco_ids.specs.Order.{entity_cmp, has_item, id_cmp}
@@ -25,13 +26,11 @@ some_where test [] h = absurd (true≢false (sym h))
 some_where test (x ∷ xs) h = refl
 
 module _ {K : Type 0} (R : K → K → Ordering) (is : (a b : K) → IsTrue (eq_by_cmp R a b) → a ≡ b) where
+  back : (a b : K) → IsTrue (eq_by_cmp R a b) → IsTrue (eq_by_cmp R b a)
+  back a b h = let e = is a b h in subst (λ c. IsTrue (eq_by_cmp R b c)) (sym e) (subst (λ c. IsTrue (eq_by_cmp R c b)) e h)
+
   turned : (a b : K) → eq_by_cmp R a b ≡ eq_by_cmp R b a
-  turned a b = by (eq_by_cmp R a b) (eq_by_cmp R b a) refl refl
-    where
-      by : (x y : Bool) → eq_by_cmp R a b ≡ x → eq_by_cmp R b a ≡ y → eq_by_cmp R a b ≡ eq_by_cmp R b a
-      by true y p q = subst (λ c. eq_by_cmp R a c ≡ eq_by_cmp R c a) (is a b p) refl
-      by false true p q = sym (subst (λ c. eq_by_cmp R b c ≡ eq_by_cmp R c b) (is b a q) refl)
-      by false false p q = p ∙ sym q
+  turned a b = same_tests (eq_by_cmp R a b) (eq_by_cmp R b a) (back a b) (back b a)
 
   module _ (test : K → Bool) (x : K) (same : (y : K) → test y ≡ eq_by_cmp R x y) where
     found : (keys : List K) → list_any test keys ≡ has_item R keys x

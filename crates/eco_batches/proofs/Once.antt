@@ -6,6 +6,7 @@ use Rattle.std.specs.List.{AllByRecursion, IsDistinct, list_any}
 use Rattle.std.proofs.lemmas.List.Folds.{list_any-append}
 use Rattle.std.proofs.lemmas.Map.Keys.{IsDistinct-cons, IsDistinct-head, IsDistinct-tail}
 use Rattle.indexmap.specs.IndexSet.{insert_all, insert_key}
+use Rattle.eco_ids.proofs.Facts.{neither, off}
 use Rattle.eco_ids.specs.declared.pattern.Pattern.{Pattern}
 use Rattle.eco_ids.specs.World.{WorldState}
 use Rattle.eco_systems.specs.Closing.{ListsClosed}
@@ -60,20 +61,12 @@ lists_closed w writes members listed closed made test = (
 -- ---- each once
 
 turned : (p q : Pattern) → same_pattern p q ≡ false → same_pattern q p ≡ false
-turned p q h = by (same_pattern q p) refl
-  where
-    by : (b : Bool) → same_pattern q p ≡ b → same_pattern q p ≡ false
-    by true e = absurd (true≢false (sym ((pattern_eq-Decides p p).1 refl) ∙ subst (λ r. same_pattern p r ≡ false) ((pattern_eq-Decides q p).0 e) h))
-    by false e = e
+turned p q h = off (same_pattern q p) (λ e.
+    true≢false (sym ((pattern_eq-Decides p p).1 refl) ∙ subst (λ r. same_pattern p r ≡ false) ((pattern_eq-Decides q p).0 e) h))
 
 apart_from_all : (x : Pattern) (ks : List Pattern) → list_any (same_pattern x) ks ≡ false → AllByRecursion (λ y. same_pattern y x ≡ false) ks
 apart_from_all x [] h = tt
-apart_from_all x (k ∷ ks) h = by (apart_from_all x ks) (same_pattern x k) refl
-  where
-    by : (list_any (same_pattern x) ks ≡ false → AllByRecursion (λ y. same_pattern y x ≡ false) ks) → (b : Bool) → same_pattern x k ≡ b
-        → AllByRecursion (λ y. same_pattern y x ≡ false) (k ∷ ks)
-    by rest true e = absurd (true≢false (sym (ap (λ c. c || list_any (same_pattern x) ks) e) ∙ h))
-    by rest false e = (turned x k e, rest (sym (ap (λ c. c || list_any (same_pattern x) ks) e) ∙ h))
+apart_from_all x (k ∷ ks) h = let parts = neither (same_pattern x k) _ h in (turned x k parts.0, apart_from_all x ks parts.1)
 
 distinct_push : (ks : List Pattern) (x : Pattern) → IsDistinct same_pattern ks → AllByRecursion (λ y. same_pattern y x ≡ false) ks
     → IsDistinct same_pattern (ks ++ x ∷ [])

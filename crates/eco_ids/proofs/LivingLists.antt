@@ -1,12 +1,10 @@
 -- The living entities and what each of them has, as lists to search.
+use Rattle.eco_ids.proofs.Passing.{handle}
 use Rattle.eco_ids.proofs.Common.{◌≡◌, ℕ, zero, suc, ◌+◌, true, false, cond, List, [], ◌∷◌, map, is_some, IsTrue, slice_get, Some, None, Option, option_map}
 use Rattle.eco_ids.proofs.Common.{unwrap_or, sym, refl, subst, inl, inr, true≢false, arith, eqb-true, find, common_steps, Entity, Id, Value, Living, IndexState}
 use Rattle.eco_ids.proofs.Common.{record_in, living_from, id_cmp, id_eq, WorldState, Record, has, record_of, is_alive, living, held_by}
 use Rattle.eco_ids.proofs.Facts.{id_eq_is}
 use Rattle.eco_ids.proofs.Listable.{In, Decided, decide_as, decide_bool, decide_both, some_of}
-
-abbrev handle : ℕ → ℕ → Entity
-handle n g = record { index = n; generation = g }
 
 abbrev handles_from : ℕ → List (IndexState Record) → List Entity
 handles_from n xs = map (λ p. p.0) (living_from n xs)

@@ -23,7 +23,7 @@ use Rattle.eco_ids.proofs.States.{record_at}
 twice_kept : (p q : Id → Bool) (es : List (Id × Value)) →
     where_key id_cmp (λ i. not (q i)) (where_key id_cmp (λ i. not (p i)) es) ≡ where_key id_cmp (λ i. not (p i || q i)) es
 twice_kept p q [] = refl
-twice_kept p q (e ∷ es) = by (twice_kept p q es) (p e.0) refl (q e.0) refl
+twice_kept p q (e ∷ es) = by (twice_kept p q es) (p e.0)
   where
     rest : List (Id × Value)
     rest = where_key id_cmp (λ i. not (p i)) es
@@ -31,19 +31,10 @@ twice_kept p q (e ∷ es) = by (twice_kept p q es) (p e.0) refl (q e.0) refl
     both : List (Id × Value)
     both = where_key id_cmp (λ i. not (p i || q i)) es
 
-    by : where_key id_cmp (λ i. not (q i)) rest ≡ both → (b : Bool) → p e.0 ≡ b → (c : Bool) → q e.0 ≡ c →
-        where_key id_cmp (λ i. not (q i)) (cond (not (p e.0)) (e ∷ rest) rest) ≡ cond (not (p e.0 || q e.0)) (e ∷ both) both
-    by again true h c k =
-        ap (λ x. where_key id_cmp (λ i. not (q i)) (cond (not x) (e ∷ rest) rest)) h ∙ again ∙ sym (ap (λ x. cond (not (x || q e.0)) (e ∷ both) both) h)
-    by again false h true k =
-        ap (λ x. where_key id_cmp (λ i. not (q i)) (cond (not x) (e ∷ rest) rest)) h
-        ∙ ap (λ x. cond (not x) (e ∷ where_key id_cmp (λ i. not (q i)) rest) (where_key id_cmp (λ i. not (q i)) rest)) k ∙ again
-        ∙ sym (ap (λ x. cond (not (x || q e.0)) (e ∷ both) both) h ∙ ap (λ x. cond (not x) (e ∷ both) both) k)
-    by again false h false k =
-        ap (λ x. where_key id_cmp (λ i. not (q i)) (cond (not x) (e ∷ rest) rest)) h
-        ∙ ap (λ x. cond (not x) (e ∷ where_key id_cmp (λ i. not (q i)) rest) (where_key id_cmp (λ i. not (q i)) rest)) k
-        ∙ ap (λ xs. e ∷ xs) (again)
-        ∙ sym (ap (λ x. cond (not (x || q e.0)) (e ∷ both) both) h ∙ ap (λ x. cond (not x) (e ∷ both) both) k)
+    by : where_key id_cmp (λ i. not (q i)) rest ≡ both → (b : Bool) →
+        where_key id_cmp (λ i. not (q i)) (cond (not b) (e ∷ rest) rest) ≡ cond (not (b || q e.0)) (e ∷ both) both
+    by again true = again
+    by again false = λ t. cond (not (q e.0)) (e ∷ again t) (again t)
 
 states_twice : (g h : Entity → Id → Bool) (n : ℕ) (xs : List (IndexState Record)) →
     map_from (left_at nobody h) n (map_from (left_at nobody g) n xs) ≡ map_from (left_at nobody (λ x i. g x i || h x i)) n xs

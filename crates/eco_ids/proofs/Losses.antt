@@ -39,7 +39,7 @@ raised_proper g = grind (arith, common_steps, ltb-true, le-leb)
 raised_dead : (g h : ℕ) → record_in {A = Record} (Some (raised g)) h ≡ None
 raised_dead g h = elim (nat_lt g 65535) as (λ b. record_in {A = Record} (Some (cond b (Free (g + 1)) Retired)) h ≡ None) [ true ↦ refl | false ↦ refl ]
 
-nothing_left : (b : Bool) → ◌≡◌ {A = Option Record} None (cond b None None)
+pub nothing_left : {A : Type 0} (b : Bool) → ◌≡◌ {A = Option A} None (cond b None None)
 nothing_left true = refl
 nothing_left false = refl
 

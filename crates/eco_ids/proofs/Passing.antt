@@ -9,7 +9,7 @@ use Rattle.eco_ids.proofs.Facts.{or_parts, or_right, or_left}
 use Rattle.eco_ids.proofs.Overlaps.{entity_eq_is, entity_eq_itself}
 use Rattle.eco_ids.proofs.States.{living_at, record_at}
 
-abbrev handle : ℕ → ℕ → Entity
+abbrev pub handle : ℕ → ℕ → Entity
 handle n g = record { index = n; generation = g }
 
 -- a test of the living, by their handles and what is kept of them

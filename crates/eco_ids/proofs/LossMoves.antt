@@ -2,7 +2,7 @@
 use Rattle.eco_ids.proofs.Facts.{entity_eq_sym, neither, off}
 use Rattle.eco_ids.proofs.Common.{◌≡◌, ℕ, suc, ◌+◌, arith, Bool, true, false, cond, not, ◌&&◌, ◌||◌, List, [], ◌∷◌, is_some, IsTrue, IsFalse, fold, sym, refl}
 use Rattle.eco_ids.proofs.Common.{ap, ◌∙◌, subst}
-use Rattle.eco_ids.proofs.Common.{Some, None, Option, true≢false, find, where_key, Entity, Id, Value, Living, IndexState, Free, Retired, nobody, without}
+use Rattle.eco_ids.proofs.Common.{Some, None, Option, true≢false, find, where_key, Entity, Id, Value, Living, IndexState, nobody, without}
 use Rattle.eco_ids.proofs.Common.{keeping}
 use Rattle.eco_ids.proofs.Common.{id_cmp, id_eq, entity_eq, has_item, entity_cmp, changed, WorldState, Record, has, record_of, entities, slice_get, Two, One}
 use Rattle.eco_ids.proofs.Common.{IsLawful, mirror_of, at_mirror, goes_too}
@@ -39,13 +39,12 @@ twice_kept p q (e ∷ es) = by (twice_kept p q es) (p e.0)
 states_twice : (g h : Entity → Id → Bool) (n : ℕ) (xs : List (IndexState Record)) →
     map_from (left_at nobody h) n (map_from (left_at nobody g) n xs) ≡ map_from (left_at nobody (λ x i. g x i || h x i)) n xs
 states_twice g h n [] = refl
-states_twice g h n (Retired ∷ xs) = ap (λ ys. Retired ∷ ys) (states_twice g h (n + 1) xs)
-states_twice g h n (Free k ∷ xs) = ap (λ ys. Free k ∷ ys) (states_twice g h (n + 1) xs)
 states_twice g h n (Living k r ∷ xs) =
     let e : Entity = record { index = n; generation = k } in
     let here = twice_kept (g e) (h e) r.held in
     let rest = states_twice g h (n + 1) xs in
     λ t. Living k (record r { held = here t }) ∷ rest t
+states_twice g h n (x ∷ xs) = ap (λ ys. x ∷ ys) (states_twice g h (n + 1) xs)
 
 pub without_then : (w : WorldState) (g h : Entity → Id → Bool) → without (without w nobody g) nobody h ≡ without w nobody (λ x i. g x i || h x i)
 without_then w g h = ap (λ xs. record w { indices = xs }) (states_twice g h 0 w.indices)
@@ -79,8 +78,6 @@ states_alike : (g h : Entity → Id → Bool) (n : ℕ) (xs : List (IndexState R
     g (record { index = n + k; generation = m }) i ≡ h (record { index = n + k; generation = m }) i) →
     map_from (left_at nobody g) n xs ≡ map_from (left_at nobody h) n xs
 states_alike g h n [] same = refl
-states_alike g h n (Retired ∷ xs) same = ap (λ ys. Retired ∷ ys) (states_alike g h (n + 1) xs (one_on g h n Retired xs same))
-states_alike g h n (Free k ∷ xs) same = ap (λ ys. Free k ∷ ys) (states_alike g h (n + 1) xs (one_on g h n (Free k) xs same))
 states_alike g h n (Living m r ∷ xs) same =
     let e : Entity = record { index = n; generation = m } in
     let at : n + 0 ≡ n = omega arith in
@@ -88,6 +85,7 @@ states_alike g h n (Living m r ∷ xs) same =
     subst (λ k. g (record { index = k; generation = m }) i ≡ h (record { index = k; generation = m }) i) at (same 0 m r refl i there)) in
     let rest = states_alike g h (n + 1) xs (one_on g h n (Living m r) xs same) in
     λ t. Living m (record r { held = here t }) ∷ rest t
+states_alike g h n (x ∷ xs) same = ap (λ ys. x ∷ ys) (states_alike g h (n + 1) xs (one_on g h n x xs same))
 
 pub without_alike : (w : WorldState) (g h : Entity → Id → Bool) → ((x : Entity) (i : Id) → IsTrue (has w x i) → g x i ≡ h x i) →
     without w nobody g ≡ without w nobody h
@@ -103,9 +101,8 @@ without_nothing w = ap (λ xs. record w { indices = xs }) (go 0 w.indices)
   where
     go : (n : ℕ) (xs : List (IndexState Record)) → map_from (left_at nobody (λ x i. false)) n xs ≡ xs
     go n [] = refl
-    go n (Retired ∷ xs) = ap (λ ys. Retired ∷ ys) (go (n + 1) xs)
-    go n (Free k ∷ xs) = ap (λ ys. Free k ∷ ys) (go (n + 1) xs)
     go n (Living k r ∷ xs) = let here = keeps_all (λ i. false) r (λ i _. refl) in let rest = go (n + 1) xs in λ t. Living k (here t) ∷ rest t
+    go n (x ∷ xs) = ap (λ ys. x ∷ ys) (go (n + 1) xs)
 
 -- the entities lose what goes from each, one after another
 abbrev pub one_by_one : (Entity → Id → Bool) → WorldState → List Entity → WorldState

@@ -326,9 +326,8 @@ without_one w e goes = ap (λ xs. record w { indices = xs }) (one_left e goes 0 
 -- what goes from all goes from each record
 from_each : (goes : Id → Bool) (n : ℕ) (xs : List (IndexState Record)) → map_from (left_at nobody (λ x j. goes j)) n xs ≡ map (map_state (keeping goes)) xs
 from_each goes n [] = refl
-from_each goes n (Retired ∷ xs) = ap (λ ys. Retired ∷ ys) (from_each goes (n + 1) xs)
-from_each goes n (Free g ∷ xs) = ap (λ ys. Free g ∷ ys) (from_each goes (n + 1) xs)
 from_each goes n (Living g r ∷ xs) = ap (λ ys. Living g (keeping goes r) ∷ ys) (from_each goes (n + 1) xs)
+from_each goes n (x ∷ xs) = ap (λ ys. x ∷ ys) (from_each goes (n + 1) xs)
 
 pub without_from_all : (w : WorldState) (goes : Id → Bool) → without w nobody (λ x j. goes j) ≡ record w { indices = map (map_state (keeping goes)) w.indices }
 without_from_all w goes = ap (λ xs. record w { indices = xs }) (from_each goes 0 w.indices)

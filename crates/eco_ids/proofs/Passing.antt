@@ -119,8 +119,6 @@ module _ {A : Type 0} (test : A → Bool) where
   above_all : (n m g : ℕ) (xs : List (IndexState A)) → n < m →
       IsTrue (list_all (λ y. is_lt (entity_cmp (record { index = n; generation = g }) y)) (passed_from m xs))
   above_all n m g [] below = refl
-  above_all n m g (Retired ∷ xs) below = above_all n (m + 1) g xs (omega arith)
-  above_all n m g (Free f ∷ xs) below = above_all n (m + 1) g xs (omega arith)
   above_all n m g (Living f a ∷ xs) below = by (above_all n (m + 1) g xs (omega arith)) (test a)
     where
       by : IsTrue (list_all (λ y. is_lt (entity_cmp (record { index = n; generation = g }) y)) (passed_from (m + 1) xs)) → (c : Bool) →
@@ -130,11 +128,10 @@ module _ {A : Type 0} (test : A → Bool) where
           (filter (λ (p : Entity × A). test p.1) (living_from (m + 1) xs)))))
       by rest true = both _ _ (index_below n m g f below) rest
       by rest false = rest
+  above_all n m g (x ∷ xs) below = above_all n (m + 1) g xs (omega arith)
 
   pub passed_ascend : (n : ℕ) (xs : List (IndexState A)) → IsTrue (is_ascending entity_cmp (passed_from n xs))
   passed_ascend n [] = refl
-  passed_ascend n (Retired ∷ xs) = passed_ascend (n + 1) xs
-  passed_ascend n (Free f ∷ xs) = passed_ascend (n + 1) xs
   passed_ascend n (Living f a ∷ xs) = by (passed_ascend (n + 1) xs) (test a)
     where
       by : IsTrue (is_ascending entity_cmp (passed_from (n + 1) xs)) → (c : Bool) →
@@ -144,6 +141,7 @@ module _ {A : Type 0} (test : A → Bool) where
           (filter (λ (p : Entity × A). test p.1) (living_from (n + 1) xs)))))
       by rest true = both _ _ (above_all n (n + 1) f xs (omega arith)) rest
       by rest false = rest
+  passed_ascend n (x ∷ xs) = passed_ascend (n + 1) xs
 
   -- ---- by handle
 

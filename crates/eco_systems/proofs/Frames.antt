@@ -7,6 +7,7 @@ use Rattle.std.specs.Option.{option_and_then}
 use Rattle.std.specs.FinMap.Entries.{find}
 use Rattle.std.proofs.lemmas.List.{append-nil}
 use Rattle.std.proofs.lemmas.List.Folds.{list_any-append}
+use Rattle.eco_ids.proofs.Facts.{or_left}
 use Rattle.eco_ids.specs.declared.entity.Entity.{Entity}
 use Rattle.eco_ids.specs.declared.id.Id.{Id}
 use Rattle.eco_ids.specs.declared.refusal.Refusal.TheVariants.{NoMoreIds}
@@ -112,12 +113,8 @@ Ready start w (s ∷ t ∷ ss) = TraitsWithin start w
 -- ---- a batch
 
 sees_own : (s : SystemModel) → Sees (matches_one (system_reads s)) s.slots
-sees_own s = sees_reads (matches_one (system_reads s)) s.slots (λ i m. list_any-append (λ p. pattern_matches p i) (reads s.slots) s.body_reads
-    ∙ ap (λ b. or b (matches_one s.body_reads i)) m)
-  where
-    or : Bool → Bool → Bool
-    or true b = true
-    or false b = b
+sees_own s = sees_reads (matches_one (system_reads s)) s.slots
+    (λ i m. list_any-append (λ p. pattern_matches p i) (reads s.slots) s.body_reads ∙ or_left _ _ m)
 
 -- what is recorded on a world is recorded on one that looks the same
 records_same : (w new : WorldState) (s : SystemModel) (draws : List (List Entity)) (commands : List Command) → IsLawful w → IsLawful new → IsLawfulSystem s

@@ -1,6 +1,6 @@
 -- What each command leaves as it was, and what it may give.
 use Rattle.std.proofs.Common.{◌≡◌, ℕ, Bool, true, false, cond, not, ◌&&◌, ◌||◌, List, [], refl, sym, ap, ◌∙◌, subst, true≢false, IsTrue, ◌⊎◌, inl, inr}
-use Rattle.std.proofs.Common.{Option, Some, None, is_some, option_map, unwrap_or, slice_get, MatchOption, MatchBool, Result, Ok, Err, eqb-true}
+use Rattle.std.proofs.Common.{Option, Some, None, is_some, option_map, unwrap_or, slice_get, MatchOption, MatchBool, Result, Ok, Err}
 use Rattle.std.specs.List.{list_any}
 use Rattle.std.specs.Option.{option_or, option_and_then}
 use Rattle.std.specs.FinMap.Entries.{find, find-put}
@@ -8,6 +8,8 @@ use Rattle.std.proofs.Common.{arith}
 use Rattle.std.proofs.lemmas.Bool.{and_right}
 use Rattle.std.proofs.lemmas.Grind.{common_steps}
 use Rattle.std.proofs.lemmas.Option.{slice_get_within}
+use Rattle.eco_ids.proofs.Births.{free_state}
+use Rattle.eco_ids.proofs.Facts.{off}
 use Rattle.eco_ids.specs.World.{OnEntities}
 use Rattle.eco_ids.specs.Births.{MakesAliveWith}
 use Rattle.eco_ids.specs.Builtin.{is_builtin}
@@ -134,7 +136,7 @@ module _ {kills : Bool} {T G : Id → Type 0} where
 -- ---- ids go
 
 not_same : (i j : Id) → (j ≡ i → ⊥) → id_eq j i ≡ false
-not_same i j n = grind (arith, common_steps, id_eq_is)
+not_same i j n = off (id_eq j i) (λ e. n (id_eq_is j i e))
 
 keeping_gains : (goes : Id → Bool) (o : Option Record) (j : Id) → IsTrue (has_in (option_map (keeping goes) o) j) → IsTrue (has_in o j)
 keeping_gains goes None j h = h
@@ -213,12 +215,6 @@ module _ {kills : Bool} {T G : Id → Type 0} (w : WorldState) where
   makes_alive_effect e =
       in_world (λ v. MakesAliveWith v e (bare None)) (record { at = λ r v. by r v (is_free_at (entities w) e) refl })
     where
-      free_state : (o : Option (IndexState Record)) (g : ℕ) → IsTrue (is_free_in o g) → o ≡ Some (Free g)
-      free_state None g h = absurd (true≢false (sym h))
-      free_state (Some Retired) g h = absurd (true≢false (sym h))
-      free_state (Some (Free f)) g h = ap (λ n. Some (Free n)) (eqb-true f g h)
-      free_state (Some (Living f r)) g h = absurd (true≢false (sym h))
-
       effect : IsTrue (is_free_at (entities w) e) → Effect kills w (with_record w e (bare None)) T G
       effect free =
           let at : slice_get w.indices e.index ≡ Some (Free e.generation) = free_state (slice_get w.indices e.index) e.generation free in
@@ -246,8 +242,7 @@ pair_of r (Two q u) h = (u, ap (λ y. Two y u) (sym (entity_eq_is r q h)))
 
 module _ (w : WorldState) (i : Id) (s : List Id) (closure : IsClosure w i s) where
   not_in : (j : Id) → (Touches w i j → ⊥) → has_item id_cmp s j ≡ false
-  not_in j n = elim (has_item id_cmp s j) as (λ b. has_item id_cmp s j ≡ b → b ≡ false)
-      [ true ↦ λ e. absurd (n (inl ((closure.exact j).0 e))) | false ↦ λ e. refl ] refl
+  not_in j n = off (has_item id_cmp s j) (λ e. n (inl ((closure.exact j).0 e)))
 
   evicted : (j : Id) → IsTrue (is_replaced w s j) → IsEvicted w i j
   evicted (One e) h = absurd (true≢false (sym h))
@@ -261,8 +256,7 @@ module _ (w : WorldState) (i : Id) (s : List Id) (closure : IsClosure w i s) whe
       )
 
   not_replaced : (j : Id) → (Touches w i j → ⊥) → is_replaced w s j ≡ false
-  not_replaced j n = elim (is_replaced w s j) as (λ b. is_replaced w s j ≡ b → b ≡ false)
-      [ true ↦ λ e. absurd (n (inr (inl (evicted j e)))) | false ↦ λ e. refl ] refl
+  not_replaced j n = off (is_replaced w s j) (λ e. n (inr (inl (evicted j e))))
 
   closure_held : (d : Record) (j : Id) → (Touches w i j → ⊥) → find id_cmp j (with_closure w s d).held ≡ find id_cmp j d.held
   closure_held d j n =

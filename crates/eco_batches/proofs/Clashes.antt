@@ -87,7 +87,8 @@ module _ (w : WorldState) where
       IsTrue (clash_at os ds before s t) ↔ Conflict w (map (system_at ds) before ++ system_at ds t ∷ []) (system_at ds s) (system_at ds t)
   clash_exact ds os all before s t =
       pair_exact (late_at os before t) (map (system_at ds) before ++ system_at ds t ∷ [])
-      (subst (λ until. IsTrue (late_at os before t) ↔ SomeOf (IsTraitWriter w) until) (map-append (system_at ds) before (t ∷ [])) (some_write ds os all (before ++ t ∷ [])))
+      (subst (λ until. IsTrue (late_at os before t) ↔ SomeOf (IsTraitWriter w) until) (map-append (system_at ds) before (t ∷ []))
+      (some_write ds os all (before ++ t ∷ [])))
       (slice_get ds s) (slice_get ds t) (slice_get os s) (outlined_at ds os all s)
 
 -- ---- the systems in their order

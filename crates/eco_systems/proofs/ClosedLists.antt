@@ -99,7 +99,8 @@ module _ (w : WorldState) where
   one_brings (One c) a b h = h
   one_brings (Two r t) a b h = (h, refl)
 
-  reach_to_closed : (p : Pattern) (h : Entity) → pattern_head p ≡ Some h → {x : Entity} → Reaches w WITH h x → InClosedPatterns w (p ∷ []) (pattern_with_head p x)
+  reach_to_closed : (p : Pattern) (h : Entity) → pattern_head p ≡ Some h → {x : Entity} → Reaches w WITH h x →
+      InClosedPatterns w (p ∷ []) (pattern_with_head p x)
   reach_to_closed p h is (root e) = root (inl (sym (ap (pattern_with_head p) e ∙ own_head p h is)))
   reach_to_closed p h is (next {a = a} {b = b} member edge) = next (reach_to_closed p h is member) (one_brings p a b edge)
 

@@ -197,7 +197,8 @@ module _ (start : WorldState) (writes : List Pattern) where
   -- ---- what a system's command leads to
 
   -- what is touched is written, and what is given is no trait
-  wider : {kills : Bool} {w : WorldState} {T G : Id → Type 0} {Step : Result (Unit {0}) Refusal → WorldState → Type 0} → ((j : Id) → T j → Written j) → ((j : Id) → IsTraitId start.edition j → G j → ⊥) →
+  wider : {kills : Bool} {w : WorldState} {T G : Id → Type 0} {Step : Result (Unit {0}) Refusal → WorldState → Type 0}
+      → ((j : Id) → T j → Written j) → ((j : Id) → IsTraitId start.edition j → G j → ⊥) →
       Leads kills w T G Step → Leads kills w Written (λ j. IsTraitId start.edition j → ⊥) Step
   wider {w = w} {G = G} within plain effect = record {
     at = λ r new h. let x = effect.at r new h in record {

@@ -82,7 +82,8 @@ module _ (w : WorldState) where
   extends_ample : (e : Entity) (i : Id) (besides : Record → Record) → Follows IsAmple (Extends w e i besides)
   extends_ample e i besides = record {
     at = λ r new x.
-        (unless {P = IsAmple} w x.2 _ (judged_other w e x.0 (grown w e i x.0) x.2 x.3).is (from_answer (changed (grown w e i x.0) e besides) refl)).at r new x.4;
+        (unless {P = IsAmple} w x.2 _ (judged_other w e x.0 (grown w e i x.0) x.2 x.3).is
+        (from_answer (changed (grown w e i x.0) e besides) refl)).at r new x.4;
   }
 
   deletes_ample : (IsRoot : Entity → Type 0) → Follows IsAmple (Deletes w IsRoot)

@@ -340,7 +340,9 @@ module _ {kills : Bool} (w : WorldState) (e : Entity) (i : Id) where
 
 module _ {kills : Bool} (kill : IsTrue kills) {T G : Id → Type 0} (w : WorldState) where
   pub clears_effect : (e : Entity) → Leads kills w T G (Clears w e)
-  clears_effect e = unless w (unfit_actor w e) _ (λ why is. effect_itself) (from_answer _ (loses_effect w (goes_too w (λ x j. entity_eq x e)) (λ tame. absurd (tame kill))))
+  clears_effect e =
+      unless w (unfit_actor w e) _ (λ why is. effect_itself)
+      (from_answer _ (loses_effect w (goes_too w (λ x j. entity_eq x e)) (λ tame. absurd (tame kill))))
 
   deletes_effect : (IsRoot : Entity → Type 0) → Leads kills w T G (Deletes w IsRoot)
   deletes_effect IsRoot = record { at = λ r new h. ends h.0 r new h.2 }
